@@ -1,0 +1,78 @@
+-- Frames without messages, and plans without a delay.
+use Rattle.std.proofs.Common.{◌≡◌, ℕ, zero, suc, ◌+◌, ◌<◌, ◌≤◌, length, slice_index, sum, map, max, arith, inl, inr, ap, add-one, refl, ◌-◌}
+use Rattle.std.specs.List.{range_with_len}
+use Rattle.std.proofs.lemmas.List.FromFn.{sum_by-map-range_with_len_more, map-range_with_len_more}
+use Rattle.std.proofs.lemmas.List.Sums.{fold_push}
+use Rattle.std.proofs.lemmas.Bool.{cases_order}
+use Rattle.std.proofs.lemmas.Bool.Decides.{eqb_tells}
+use Rattle.ttp_model.specs.declared.plan.Plan.{Plan}
+use Rattle.ttp_model.specs.Problem.{Problem, source_of}
+use Rattle.ttp_model.specs.Rules.{IsInstance}
+use Rattle.ttp_model.specs.Lists.{greatest}
+use Rattle.ttp_model.specs.Plans.{IsValid, end_of, load_of, bytes_in, round_of}
+use Rattle.ttp_model.specs.Delays.{IsLowerBound, HasNoPlan}
+
+-- a sum above 0 has a term above 0
+positive_term : (f : ℕ → ℕ) (count : ℕ) → 0 < sum (map f (range_with_len 0 count)) → (m : ℕ) × (m < count) × (0 < f m)
+positive_term f zero h = absurd (omega arith)
+positive_term f (suc count) h =
+    let more = sum_by-map-range_with_len_more (λ x. x) f 0 count count (omega arith) in
+    let total : 0 < sum (map f (range_with_len 0 count)) + f count = rw (← more, add-one) h in
+    elim (cases_order (f count) 0) [
+      | inl none ↦ (let rest = positive_term f count (omega (arith, total, none)) in (rest.0, omega (arith, rest.1), rest.2))
+      | inr other ↦ elim other [ inl below ↦ absurd (omega (arith, below)) | inr above ↦ (count, omega arith, above) ]
+    ]
+
+-- a message that puts bytes into a frame is sent in it
+sent_there : (i : Problem) (plan : Plan) (n r m : ℕ) → 0 < bytes_in i plan n r m → (source_of i m ≡ n) × (round_of plan m ≡ r)
+sent_there i plan n r m h = elim (eqb_tells (source_of i m) n) [
+  | inl here ↦ elim (eqb_tells (round_of plan m) r) [
+    | inl then ↦ (here.1, then.1)
+    | inr not_then ↦ absurd (let z = rw (here.0, not_then.0) at h in omega (arith, z))
+  ]
+  | inr not_here ↦ absurd (let z = rw not_here.0 at h in omega (arith, z))
+]
+
+pub frames_fit_lem : (i : Problem) (plan : Plan) (n r : ℕ) → IsValid i plan → load_of i plan n r ≤ slice_index plan.caps n
+frames_fit_lem i plan n r v = elim (cases_order (load_of i plan n r) 0) [
+  | inl none ↦ omega (arith, none)
+  | inr other ↦ elim other [
+    | inl below ↦ absurd (omega (arith, below))
+    | inr above ↦
+        let m = positive_term (bytes_in i plan n r) (length i.messages) above in
+        let there = sent_there i plan n r m.0 m.2 in
+        rw there.0 at (rw there.1 at (v.frames m.0 m.1))
+  ]
+]
+
+-- the greatest of one number more
+greatest_more : (f : ℕ → ℕ) (count : ℕ) → greatest (map f (range_with_len 0 (count + 1))) ≡ max (greatest (map f (range_with_len 0 count))) (f count)
+greatest_more f count = rw (map-range_with_len_more f 0 count count (omega arith)) (fold_push max 0 (map f (range_with_len 0 count)) (f count))
+
+pub greatest_each : (f : ℕ → ℕ) (count : ℕ) → (p : ℕ) → p < count → f p ≤ greatest (map f (range_with_len 0 count))
+greatest_each f zero p h = absurd (omega arith)
+greatest_each f (suc count) p h =
+    let more = rw add-one at (greatest_more f count) in
+    elim (cases_order p count) [
+      | inl is ↦ omega (arith, more, ap f is)
+      | inr other ↦ elim other [ inl below ↦ omega (arith, more, greatest_each f count p below) | inr above ↦ absurd (omega (arith, above, h)) ]
+    ]
+
+pub greatest_reached : (f : ℕ → ℕ) (count : ℕ) → 0 < count → (p : ℕ) × (p < count) × (f p ≡ greatest (map f (range_with_len 0 count)))
+greatest_reached f zero h = absurd (omega arith)
+greatest_reached f (suc zero) h = (0, omega arith, omega (arith, greatest_more f 0))
+greatest_reached f (suc (suc count)) h =
+    let more = rw add-one at (greatest_more f (suc count)) in
+    let rest = greatest_reached f (suc count) (omega arith) in
+    elim (cases_order (f (suc count)) (f rest.0)) [
+      | inl same ↦ (suc count, omega arith, omega (arith, more, same, rest.2))
+      | inr other ↦ elim other [
+        | inl below ↦ (rest.0, omega (arith, rest.1), omega (arith, more, below, rest.2))
+        | inr above ↦ (suc count, omega arith, omega (arith, more, above, rest.2))
+      ]
+    ]
+
+pub bound_is_none : (i : Problem) → IsInstance i → IsLowerBound i (i.cluster.horizon + 1) → HasNoPlan i
+bound_is_none i w bound plan v =
+    let last = greatest_reached (end_of i plan) (length i.processes) (omega (arith, w.limits.processes_least)) in
+    omega (arith, bound plan v, last.2, (v.in_time last.0 last.1).1)

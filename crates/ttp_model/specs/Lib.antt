@@ -1,0 +1,15 @@
+pub mod Lists
+pub mod Problem
+pub mod Graph
+pub mod Rules
+pub mod Refusals
+pub mod Parts
+pub mod Searches
+pub mod Turns
+pub mod Slots
+pub mod Plans
+pub mod Delays
+pub mod Faults
+pub mod Chains
+pub mod Twins
+pub mod Moves

@@ -1,0 +1,48 @@
+//! Which rule a plan breaks.
+
+use thiserror::Error;
+
+/// One of the four lists of a plan.
+#[derive(Clone, Copy, Debug, PartialEq, Eq)]
+pub enum PlanPart {
+    Order,
+    Capacities,
+    Starts,
+    Rounds,
+}
+
+/// The first rule that a plan breaks, in the order of these variants, at the first place by the indices, which
+/// begin at 0.
+#[derive(Clone, Copy, Debug, PartialEq, Eq, Error)]
+pub enum PlanFault {
+    /// When a list has not one entry for each node, process or message.
+    #[error("the list of {0:?} has a wrong length")]
+    WrongLength(PlanPart),
+    /// When a position of the order has no node, or one that stands before it.
+    #[error("position {0} of the order is no node, or one that stood before")]
+    WrongOrder(u32),
+    /// When a node's capacity is none of its options.
+    #[error("node {0} has no such capacity")]
+    WrongCapacity(u32),
+    /// When a process starts before its release.
+    #[error("process {0} starts before its release")]
+    TooEarly(u32),
+    /// When a process ends after its deadline or the horizon.
+    #[error("process {0} ends after its deadline or the horizon")]
+    TooLate(u32),
+    /// When two processes of one node overlap, the first with the lesser index.
+    #[error("processes {0} and {1} overlap")]
+    Overlap(u32, u32),
+    /// When a link's second process starts before its first has ended.
+    #[error("link {0} is broken")]
+    BrokenLink(u32),
+    /// When a message is not copied out as its slot begins.
+    #[error("message {0} is not ready at its slot")]
+    NotReady(u32),
+    /// When a receiver, the process named second, starts before a message is copied in.
+    #[error("message {0} arrives after the start of process {1}")]
+    NotArrived(u32, u32),
+    /// When the messages of a frame, by node and round, exceed its capacity.
+    #[error("the frame of node {0} in round {1} is overfull")]
+    Overfull(u32, u32),
+}

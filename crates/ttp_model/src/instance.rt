@@ -1,0 +1,148 @@
+//! What an instance is: tables that keep all rules.
+
+ghost use Rattle.std.specs.Prelude.{◌≡◌, ◌<◌, ◌≤◌, All, IfOk, IfErr, IsOkUnless, length};
+ghost use Rattle.ttp_model.specs.declared.limits.TheConstants.{MOST_BYTES};
+ghost use Rattle.ttp_model.specs.Problem.{problem, process_at, link_at, message_at, node_of, source_of};
+ghost use Rattle.ttp_model.specs.Rules.{IsInstance, IsProcessInRange};
+ghost use Rattle.ttp_model.specs.Refusals.{IsRefusal};
+ghost use Rattle.ttp_model.specs.declared.error.ModelError.TheVariants.{OutOfMemory};
+
+use crate::error::ModelError;
+use crate::parts::{Cluster, Link, Message, Node, Parts, Process};
+use crate::rules;
+use std::alloc::Global;
+use std::marker::Model;
+
+/// A cluster with what is to be scheduled on it. Limits, ranges and indices are kept, names are unique in
+/// their list, and no process waits for itself.
+#[derive(Debug, Drop)]
+pub struct Instance {
+    parts: Parts,
+}
+
+impl Model for Instance {
+    ghost use Rattle.ttp_model.specs.Problem.{Problem};
+    ghost use Rattle.ttp_model.specs.Parts.{problem_of};
+    ghost use Rattle.ttp_model.specs.Rules.{IsInstance};
+
+    ghost Value = { Problem };
+
+    ghost view = { λ s. problem_of s.parts };
+
+    ghost invariant = { λ s. IsInstance (problem_of s.parts) };
+}
+
+impl Instance {
+    /// The instance that the tables are, or the first rule that they break, at its first place: lengths, then
+    /// receivers, names, indices, ranges, capacities, the bus, deadlines, links, and cycles last. Memory is taken
+    /// for the search for cycles alone.
+    pub fn build(
+        alloc: Global,
+        cluster: Cluster,
+        nodes: Vec<Node>,
+        processes: Vec<Process>,
+        links: Vec<Link>,
+        messages: Vec<Message>,
+    ) -> Result<Self, ModelError>
+        ensures ok { IfOk result (λ i. IsInstance i
+            × (i ≡ problem cluster nodes.items processes.items links.items messages.items)) }
+        ensures err { IfErr result
+            (IsRefusal (problem cluster nodes.items processes.items links.items messages.items)) }
+        ensures only { IsInstance (problem cluster nodes.items processes.items links.items messages.items)
+            → IsOkUnless result OutOfMemory }
+    {
+        let parts = Parts {
+            cluster,
+            nodes,
+            processes,
+            links,
+            messages,
+        };
+        rules::judge(alloc, &parts)?;
+        Ok(Instance { parts })
+    }
+
+    pub fn cluster(&self) -> &Cluster
+        ensures value { result.now ≡ self.now.cluster }
+        ensures instance { IsInstance self.now }
+    {
+        &self.parts.cluster
+    }
+
+    pub fn nodes(&self) -> &[Node]
+        ensures value { result.now ≡ self.now.nodes }
+        ensures instance { IsInstance self.now }
+    {
+        self.parts.nodes.as_slice()
+    }
+
+    pub fn processes(&self) -> &[Process]
+        ensures value { result.now ≡ self.now.processes }
+        ensures instance { IsInstance self.now }
+    {
+        self.parts.processes.as_slice()
+    }
+
+    pub fn links(&self) -> &[Link]
+        ensures value { result.now ≡ self.now.links }
+        ensures instance { IsInstance self.now }
+    {
+        self.parts.links.as_slice()
+    }
+
+    pub fn messages(&self) -> &[Message]
+        ensures value { result.now ≡ self.now.messages }
+        ensures instance { IsInstance self.now }
+    {
+        self.parts.messages.as_slice()
+    }
+
+    /// The process of an index.
+    pub fn process_at(&self, p: usize) -> &Process
+        requires { p < length self.now.processes }
+        ensures value { result.now ≡ process_at self.now p }
+        ensures node { result.now.node < length self.now.nodes }
+        ensures times { IsProcessInRange result.now }
+    {
+        &self.processes()[p]
+    }
+
+    /// The link of an index.
+    pub fn link_at(&self, l: usize) -> Link
+        requires { l < length self.now.links }
+        ensures value { result ≡ link_at self.now l }
+        ensures before { result.before < length self.now.processes }
+        ensures after { result.after < length self.now.processes }
+    {
+        self.links()[l]
+    }
+
+    /// The message of an index.
+    pub fn message_at(&self, m: usize) -> &Message
+        requires { m < length self.now.messages }
+        ensures value { result.now ≡ message_at self.now m }
+        ensures sender { result.now.sender < length self.now.processes }
+        ensures receivers { All (λ q. q < length self.now.processes) result.now.receivers }
+        ensures bytes { result.now.bytes ≤ MOST_BYTES }
+    {
+        &self.messages()[m]
+    }
+
+    /// The node that a process is on.
+    pub fn node_of(&self, p: usize) -> u32
+        requires { p < length self.now.processes }
+        ensures value { result ≡ node_of self.now p }
+        ensures inside { result < length self.now.nodes }
+    {
+        self.process_at(p).node
+    }
+
+    /// The node that a message is sent from.
+    pub fn source_of(&self, m: usize) -> u32
+        requires { m < length self.now.messages }
+        ensures value { result ≡ source_of self.now m }
+        ensures inside { result < length self.now.nodes }
+    {
+        self.node_of(self.message_at(m).sender as usize)
+    }
+}

@@ -1,0 +1,29 @@
+//! Clusters, process graphs and plans: what they are, and what makes them lawful.
+#![tactic(auto)]
+
+mod error;
+mod fault;
+mod graph;
+mod instance;
+mod laws;
+mod limits;
+mod name;
+mod numbers;
+mod parts;
+mod plan;
+mod rules;
+mod step;
+
+pub use error::{MemoryFault, ModelError, Part, Place};
+pub use fault::{PlanFault, PlanPart};
+pub use instance::Instance;
+pub use laws::{delay_is_an_end, every_node_has_a_slot, frames_fit, lower_bound_past_horizon};
+pub use limits::{
+    MOST_BUS_TICKS, MOST_BYTES, MOST_CAPACITIES, MOST_HEAD, MOST_LINKS, MOST_MESSAGES,
+    MOST_NAME_BYTES, MOST_NODES, MOST_PER_BYTE, MOST_PROCESSES, MOST_TICKS,
+};
+pub use name::{Name, is_name};
+pub use numbers::Numbers;
+pub use parts::{Cluster, Link, Message, Node, Process};
+pub use plan::Plan;
+pub use step::{Kind, Leaf, Ring, Step, Steps};
