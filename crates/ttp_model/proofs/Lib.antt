@@ -4,4 +4,7 @@ pub mod ClosedWalks
 pub mod RuleOrder
 pub mod Elements
 pub mod ValidPlans
+pub mod Times
+pub mod PlanNumbers
+pub mod FaultyPlans
 pub mod Orders

@@ -1,11 +1,15 @@
 //! What follows from the definitions alone. These functions do nothing: their contracts are the laws.
 
-ghost use Rattle.std.specs.Prelude.{◌≡◌, ◌+◌, ◌<◌, ◌≤◌, ◌↔◌, ℕ, Contains, List, length, slice_index};
+ghost use Rattle.std.specs.Prelude.{◌≡◌, ◌+◌, ◌<◌, ◌≤◌, ◌↔◌, ℕ, All, Contains, List, length, slice_index};
+ghost use Rattle.ttp_model.specs.declared.limits.TheConstants.{MOST_BYTES};
+ghost use Rattle.ttp_model.specs.declared.fault.PlanFault.{PlanFault};
 ghost use Rattle.ttp_model.specs.Lists.{EachBelow};
 ghost use Rattle.ttp_model.specs.Problem.{Problem};
 ghost use Rattle.ttp_model.specs.Rules.{IsInstance};
 ghost use Rattle.ttp_model.specs.Plans.{IsValid, IsNodeOrder, end_of, load_of};
 ghost use Rattle.ttp_model.specs.Delays.{IsLowerBound, HasNoPlan, delay};
+ghost use Rattle.ttp_model.specs.Chains.{ChainEnds, IsPathBound};
+ghost use Rattle.ttp_model.specs.Faults.{IsFirstFault};
 ghost use Rattle.ttp_model.specs.declared.plan.Plan.{Plan};
 
 /// The delay is at least each end, and some process ends just then.
@@ -31,4 +35,32 @@ pub fn lower_bound_past_horizon()
 pub fn every_node_has_a_slot()
     ensures { (count : ℕ) (order : List ℕ) (n : ℕ) → IsNodeOrder count order → n < count
         → Contains order n }
+{}
+
+/// The numbers of a valid plan are small: nodes in the order, options as capacities, starts and rounds below the
+/// horizon. So each fits 32 bits.
+pub fn valid_numbers_are_small()
+    ensures order { (i : Problem) (plan : Plan) → IsValid i plan → All (λ n. n < length i.nodes) plan.order }
+    ensures capacities { (i : Problem) (plan : Plan) → IsInstance i → IsValid i plan
+        → All (λ capacity. capacity ≤ MOST_BYTES) plan.caps }
+    ensures starts { (i : Problem) (plan : Plan) → IsInstance i → IsValid i plan
+        → All (λ start. start < i.cluster.horizon) plan.starts }
+    ensures rounds { (i : Problem) (plan : Plan) → IsInstance i → IsValid i plan
+        → All (λ round. round < i.cluster.horizon) plan.rounds }
+    ensures delay { (i : Problem) (plan : Plan) → IsInstance i → IsValid i plan
+        → delay i plan ≤ i.cluster.horizon }
+{}
+
+/// No chain of links and messages ends before its last process does in any valid plan, so the path bound is a
+/// lower bound.
+pub fn path_bound_is_lower_bound()
+    ensures chains { (i : Problem) (plan : Plan) (p time : ℕ) → IsInstance i → IsValid i plan
+        → ChainEnds i p time → time ≤ end_of i plan p }
+    ensures bound { (i : Problem) (bound : ℕ) → IsInstance i → IsPathBound i bound → IsLowerBound i bound }
+    ensures one { (i : Problem) (a b : ℕ) → IsPathBound i a → IsPathBound i b → a ≡ b }
+{}
+
+/// A plan that has a fault is not valid.
+pub fn faulty_plans_are_not_valid()
+    ensures { (i : Problem) (plan : Plan) (fault : PlanFault) → IsFirstFault i plan fault → ¬ IsValid i plan }
 {}

@@ -17,7 +17,10 @@ mod step;
 pub use error::{MemoryFault, ModelError, Part, Place};
 pub use fault::{PlanFault, PlanPart};
 pub use instance::Instance;
-pub use laws::{delay_is_an_end, every_node_has_a_slot, frames_fit, lower_bound_past_horizon};
+pub use laws::{
+    delay_is_an_end, every_node_has_a_slot, faulty_plans_are_not_valid, frames_fit,
+    lower_bound_past_horizon, path_bound_is_lower_bound, valid_numbers_are_small,
+};
 pub use limits::{
     MOST_BUS_TICKS, MOST_BYTES, MOST_CAPACITIES, MOST_HEAD, MOST_LINKS, MOST_MESSAGES,
     MOST_NAME_BYTES, MOST_NODES, MOST_PER_BYTE, MOST_PROCESSES, MOST_TICKS,
