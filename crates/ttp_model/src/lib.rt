@@ -13,6 +13,8 @@ mod parts;
 mod plan;
 mod rules;
 mod step;
+#[cfg(test)]
+mod tests;
 
 pub use error::{MemoryFault, ModelError, Part, Place};
 pub use fault::{PlanFault, PlanPart};
