@@ -1,0 +1,63 @@
+-- Which keys each table of an instance's text has, of which kind, and what a missing one means:
+-- this project's own profile of TOML.
+use Rattle.std.specs.Prelude.{ℕ, List, [], ◌∷◌, Option, None, Some}
+use Rattle.toml.specs.Data.{Members}
+use Rattle.instance_text.specs.declared.error.Key.{Key}
+use Rattle.instance_text.specs.declared.error.Key.TheVariants as key
+use Rattle.instance_text.specs.declared.error.Place.{Place}
+use Rattle.instance_text.specs.declared.error.Place.TheVariants.{Top, Cluster, Node, Process, Link, Message}
+
+-- The kinds of values: a table, an array of tables, a whole number, an array of whole numbers, a
+-- text, the name of a node, the name of a process, an array of names of processes.
+pub data Kind : Type 0 where
+  one_table : Kind
+  tables : Kind
+  number : Kind
+  numbers : Kind
+  text : Kind
+  node : Kind
+  process : Kind
+  processes : Kind
+
+-- What a value of the kind states: a name states the index of what it names.
+abbrev pub Value : Kind → Type 0
+Value one_table = Members
+Value tables = List Members
+Value number = ℕ
+Value numbers = List ℕ
+Value text = List ℕ
+Value node = ℕ
+Value process = ℕ
+Value processes = List ℕ
+
+-- A key with the kind of its value and, where it may be missing, what then stands in its place.
+pub record Row : Type 0 where
+  pub key : Key
+  pub kind : Kind
+  pub default : Option (Value kind)
+
+-- a key that has to be there
+abbrev pub needed : Key → Kind → Row
+needed k kind = record { key = k; kind = kind; default = None }
+
+-- a key that may be missing
+abbrev pub optional : Key → (kind : Kind) → Value kind → Row
+optional k kind value = record { key = k; kind = kind; default = Some value }
+
+-- The keys of each table, in the order of checks. Times are in ticks.
+abbrev pub rows : Place → List Row
+rows Top =
+    needed key.Cluster one_table ∷ needed key.Node tables ∷ needed key.Process tables
+    ∷ optional key.Link tables [] ∷ optional key.Message tables [] ∷ []
+rows Cluster =
+    needed key.Precision number ∷ needed key.Lead number ∷ needed key.Trail number
+    ∷ needed key.Head number ∷ needed key.PerByte number ∷ needed key.CopyOut number
+    ∷ needed key.CopyIn number ∷ needed key.Horizon number ∷ []
+rows (Node n) = needed key.Name text ∷ needed key.Capacities numbers ∷ []
+rows (Process p) =
+    needed key.Name text ∷ needed key.Node node ∷ needed key.Wcet number
+    ∷ optional key.Release number 0 ∷ optional key.Deadline number 1000000 ∷ []
+rows (Link l) = needed key.From process ∷ needed key.To process ∷ []
+rows (Message m) =
+    needed key.Name text ∷ needed key.From process ∷ needed key.To processes
+    ∷ needed key.Bytes number ∷ []

@@ -1,0 +1,142 @@
+-- The instance that a TOML table states, or its first fault.
+use Rattle.std.specs.Prelude.{ℕ, List, map, None, Ok}
+use Rattle.toml.specs.Data.{Members}
+use Rattle.ttp_model.specs.declared.parts.Cluster.{Cluster}
+use Rattle.ttp_model.specs.declared.parts.Node.{Node}
+use Rattle.ttp_model.specs.declared.parts.Process.{Process}
+use Rattle.ttp_model.specs.declared.parts.Link.{Link}
+use Rattle.ttp_model.specs.declared.parts.Message.{Message}
+use Rattle.ttp_model.specs.Problem.{Problem, problem}
+use Rattle.instance_text.specs.declared.error.Place.TheVariants as at
+use Rattle.instance_text.specs.Kinds.{Stated, ◌>>=◌, each, Index, Known, index_in}
+use Rattle.instance_text.specs.Tables.{table_at}
+
+-- the tables of a text, those of each array in their order
+pub record Tables : Type 0 where
+  pub cluster : Members
+  pub nodes : List Members
+  pub processes : List Members
+  pub links : List Members
+  pub messages : List Members
+
+-- The next six take what the rows of a table state, in their order.
+abbrev pub the_tables : Members → List Members → List Members → List Members → List Members → Tables
+the_tables cluster nodes processes links messages = record {
+  cluster = cluster;
+  nodes = nodes;
+  processes = processes;
+  links = links;
+  messages = messages;
+}
+
+-- the numbers of a cluster
+abbrev pub the_cluster : ℕ → ℕ → ℕ → ℕ → ℕ → ℕ → ℕ → ℕ → Cluster
+the_cluster precision lead trail head per_byte copy_out copy_in horizon = record {
+  precision = precision;
+  lead = lead;
+  trail = trail;
+  head = head;
+  per_byte = per_byte;
+  copy_out = copy_out;
+  copy_in = copy_in;
+  horizon = horizon;
+}
+
+-- a node
+abbrev pub the_node : List ℕ → List ℕ → Node
+the_node name capacities = record { name = name; capacities = capacities }
+
+-- a process, on the node of this index
+abbrev pub the_process : List ℕ → ℕ → ℕ → ℕ → ℕ → Process
+the_process name node wcet release deadline = record {
+  name = name;
+  node = node;
+  wcet = wcet;
+  release = release;
+  deadline = deadline;
+}
+
+-- a link from one process to another, by their indices
+abbrev pub the_link : ℕ → ℕ → Link
+the_link from to = record { before = from; after = to }
+
+-- a message from one process to others, by their indices
+abbrev pub the_message : List ℕ → ℕ → List ℕ → ℕ → Message
+the_message name from to bytes = record {
+  name = name;
+  sender = from;
+  receivers = to;
+  bytes = bytes;
+}
+
+-- no name is known
+abbrev pub none_known : Known
+none_known = record { nodes = λ _. None; processes = λ _. None }
+
+-- the names of nodes are known, as a process may name them
+abbrev pub knows_nodes : Index → Known
+knows_nodes index = record none_known { nodes = index }
+
+-- the names of processes are known, as a link or a message may name them
+abbrev pub knows_processes : Index → Known
+knows_processes index = record none_known { processes = index }
+
+-- the top table, with the items of its arrays
+abbrev pub tables_of : Members → Stated Tables
+tables_of = table_at at.Top none_known the_tables
+
+-- the table [cluster]
+abbrev pub cluster_of : Members → Stated Cluster
+cluster_of = table_at at.Cluster none_known the_cluster
+
+-- the table [[node]] of this index
+abbrev pub node_of : ℕ → Members → Stated Node
+node_of n = table_at (at.Node n) none_known the_node
+
+-- the tables [[node]]
+abbrev pub nodes_of : List Members → Stated (List Node)
+nodes_of = each node_of 0
+
+-- the table [[process]] of this index, where these are the names of nodes
+abbrev pub process_of : Index → ℕ → Members → Stated Process
+process_of nodes p = table_at (at.Process p) (knows_nodes nodes) the_process
+
+-- the tables [[process]]
+abbrev pub processes_of : Index → List Members → Stated (List Process)
+processes_of nodes = each (process_of nodes) 0
+
+-- the table [[link]] of this index, where these are the names of processes
+abbrev pub link_of : Index → ℕ → Members → Stated Link
+link_of processes l = table_at (at.Link l) (knows_processes processes) the_link
+
+-- the tables [[link]]
+abbrev pub links_of : Index → List Members → Stated (List Link)
+links_of processes = each (link_of processes) 0
+
+-- the table [[message]] of this index, where these are the names of processes
+abbrev pub message_of : Index → ℕ → Members → Stated Message
+message_of processes m = table_at (at.Message m) (knows_processes processes) the_message
+
+-- the tables [[message]]
+abbrev pub messages_of : Index → List Members → Stated (List Message)
+messages_of processes = each (message_of processes) 0
+
+-- what the names of these nodes state
+abbrev pub index_of_nodes : List Node → Index
+index_of_nodes nodes = index_in (map (λ n. n.name) nodes)
+
+-- what the names of these processes state
+abbrev pub index_of_processes : List Process → Index
+index_of_processes processes = index_in (map (λ p. p.name) processes)
+
+-- The whole instance: the top table first, then each table in order. A process may name any node,
+-- and a link or a message any process.
+abbrev pub stated : Members → Stated Problem
+stated ms =
+    tables_of ms >>= (λ tables.
+    cluster_of tables.cluster >>= (λ cluster.
+    nodes_of tables.nodes >>= (λ nodes.
+    processes_of (index_of_nodes nodes) tables.processes >>= (λ processes.
+    links_of (index_of_processes processes) tables.links >>= (λ links.
+    messages_of (index_of_processes processes) tables.messages >>= (λ messages.
+    Ok (problem cluster nodes processes links messages)))))))

@@ -1,0 +1,21 @@
+//! Reads the instance that a TOML text states, or names its first fault.
+#![tactic(auto)]
+
+mod cluster;
+mod error;
+mod fields;
+mod keys;
+mod links;
+mod messages;
+mod names;
+mod nodes;
+mod processes;
+mod text;
+mod top;
+mod values;
+
+pub use error::{Key, Place, TextError};
+pub use text::read;
+
+#[cfg(test)]
+mod tests;

@@ -1,0 +1,229 @@
+//! Which faults of values are found, and how a fault is told.
+
+use super::{changed, extended, fault, fronted, out_of_range, unknown_name, wrong_kind};
+use crate::{Key, Place, TextError};
+use std::test::Fail;
+use ttp_model::{ModelError, Place as At};
+
+#[test]
+fn a_value_of_another_kind_is_refused(rt: HostRuntime) -> Result<(), Fail> {
+    let alloc = rt.alloc();
+    let rows = [
+        ("head = 1", "head = 1.0", Place::Cluster, Key::Head),
+        (
+            "copy_in = 0",
+            "copy_in = \"0\"",
+            Place::Cluster,
+            Key::CopyIn,
+        ),
+        ("name = \"A\"", "name = 1", Place::Node(0), Key::Name),
+        (
+            "capacities = [0]",
+            "capacities = 0",
+            Place::Node(1),
+            Key::Capacities,
+        ),
+        (
+            "capacities = [0]",
+            "capacities = [0, true]",
+            Place::Node(1),
+            Key::Capacities,
+        ),
+        ("node = \"B\"", "node = 1", Place::Process(1), Key::Node),
+        (
+            "wcet = 3",
+            "wcet = 1979-05-27",
+            Place::Process(0),
+            Key::Wcet,
+        ),
+        (
+            "wcet = 3",
+            "wcet = 3\nrelease = []",
+            Place::Process(0),
+            Key::Release,
+        ),
+        (
+            "wcet = 3",
+            "wcet = 3\ndeadline = {}",
+            Place::Process(0),
+            Key::Deadline,
+        ),
+        ("from = \"p\"", "from = 0", Place::Message(0), Key::From),
+        ("to = [\"q\"]", "to = \"q\"", Place::Message(0), Key::To),
+        (
+            "to = [\"q\"]",
+            "to = [1, \"nowhere\"]",
+            Place::Message(0),
+            Key::To,
+        ),
+    ];
+    for (old, new, place, key) in rows {
+        let text = changed(&rt, alloc, old, new)?;
+        assert_eq!(rt;
+            fault(alloc, text.as_str()),
+            wrong_kind(place, key),
+            "at {new}"
+        );
+    }
+    assert_eq!(rt;
+        fault(alloc, "cluster = 1"),
+        wrong_kind(Place::Top, Key::Cluster)
+    );
+    assert_eq!(rt;
+        fault(alloc, "[cluster]\n[node]"),
+        wrong_kind(Place::Top, Key::Node)
+    );
+    let text = fronted(alloc, "link = [1]")?;
+    assert_eq!(rt;
+        fault(alloc, text.as_str()),
+        wrong_kind(Place::Top, Key::Link)
+    );
+    Ok(())
+}
+
+#[test]
+fn whole_numbers_are_within_u32(rt: HostRuntime) -> Result<(), Fail> {
+    let alloc = rt.alloc();
+    let rows = [
+        (
+            "horizon = 100",
+            "horizon = 4294967296",
+            Place::Cluster,
+            Key::Horizon,
+        ),
+        (
+            "precision = 0",
+            "precision = -1",
+            Place::Cluster,
+            Key::Precision,
+        ),
+        (
+            "capacities = [2]",
+            "capacities = [4294967296, \"x\"]",
+            Place::Node(0),
+            Key::Capacities,
+        ),
+        (
+            "wcet = 2",
+            "wcet = 9223372036854775807",
+            Place::Process(1),
+            Key::Wcet,
+        ),
+        (
+            "wcet = 2",
+            "wcet = 2\nrelease = 4294967296",
+            Place::Process(1),
+            Key::Release,
+        ),
+        (
+            "wcet = 2",
+            "wcet = 2\ndeadline = -1",
+            Place::Process(1),
+            Key::Deadline,
+        ),
+        (
+            "bytes = 2",
+            "bytes = 4294967298",
+            Place::Message(0),
+            Key::Bytes,
+        ),
+    ];
+    for (old, new, place, key) in rows {
+        let text = changed(&rt, alloc, old, new)?;
+        assert_eq!(rt;
+            fault(alloc, text.as_str()),
+            out_of_range(place, key),
+            "at {new}"
+        );
+    }
+    let text = changed(&rt, alloc, "horizon = 100", "horizon = 4294967295")?;
+    let wanted = TextError::Model(ModelError::OutOfRange(At::AtCluster));
+    assert_eq!(rt; fault(alloc, text.as_str()), Some(wanted));
+    Ok(())
+}
+
+#[test]
+fn names_name_what_the_text_has(rt: HostRuntime) -> Result<(), Fail> {
+    let alloc = rt.alloc();
+    let rows = [
+        ("node = \"A\"", "node = \"p\"", Place::Process(0), Key::Node),
+        ("node = \"B\"", "node = \"b\"", Place::Process(1), Key::Node),
+        ("from = \"p\"", "from = \"A\"", Place::Message(0), Key::From),
+        (
+            "to = [\"q\"]",
+            "to = [\"nowhere\", 1]",
+            Place::Message(0),
+            Key::To,
+        ),
+        (
+            "to = [\"q\"]",
+            "to = [\"q\", \"\"]",
+            Place::Message(0),
+            Key::To,
+        ),
+    ];
+    for (old, new, place, key) in rows {
+        let text = changed(&rt, alloc, old, new)?;
+        assert_eq!(rt;
+            fault(alloc, text.as_str()),
+            unknown_name(place, key),
+            "at {new}"
+        );
+    }
+    let text = extended(alloc, "[[link]]\nfrom = \"p\"\nto = \"m\"\n")?;
+    assert_eq!(rt;
+        fault(alloc, text.as_str()),
+        unknown_name(Place::Link(0), Key::To)
+    );
+    Ok(())
+}
+
+#[test]
+fn a_fault_is_told_with_its_place_and_key(rt: HostRuntime) -> Result<(), Fail> {
+    let alloc = rt.alloc();
+    let rows = [
+        (TextError::NotToml, "not TOML"),
+        (
+            TextError::UnknownKey { place: Place::Top },
+            "the top table has an unknown key",
+        ),
+        (
+            TextError::MissingKey {
+                place: Place::Cluster,
+                key: Key::PerByte,
+            },
+            "[cluster] lacks `per_byte`",
+        ),
+        (
+            TextError::WrongKind {
+                place: Place::Node(3),
+                key: Key::Name,
+            },
+            "`name` of [[node]] 3 is of another kind",
+        ),
+        (
+            TextError::OutOfRange {
+                place: Place::Process(0),
+                key: Key::Wcet,
+            },
+            "`wcet` of [[process]] 0 is outside 0 to 4294967295",
+        ),
+        (
+            TextError::UnknownName {
+                place: Place::Message(1),
+                key: Key::To,
+            },
+            "`to` of [[message]] 1 names what is not there",
+        ),
+        (
+            TextError::Model(ModelError::NoReceiver(2)),
+            "message 2 has no receiver",
+        ),
+        (TextError::OutOfMemory, "out of memory"),
+    ];
+    for (error, wanted) in rows {
+        let told = error.to_string(alloc)?;
+        assert_eq!(rt; told.as_str(), wanted);
+    }
+    Ok(())
+}

@@ -1,0 +1,94 @@
+//! Which instance a text states.
+
+ghost use Rattle.std.specs.Prelude.{◌≡◌, ◌≢◌, Ok, IfOk, IfErr, IsOkUnless};
+ghost use Rattle.toml.specs.Data.{Members};
+ghost use Rattle.toml.specs.View.{table_view};
+ghost use Rattle.ttp_model.specs.Problem.{Problem};
+ghost use Rattle.ttp_model.specs.Rules.{IsInstance};
+ghost use Rattle.instance_text.specs.Faults.{IsFaultOf, IsDocument, IsTextFault, States, IsFirstFault};
+ghost use Rattle.instance_text.specs.Stated.{stated};
+ghost use Rattle.instance_text.specs.Views.{problem_of};
+ghost use Rattle.instance_text.specs.declared.error.TextError.TheVariants.{OutOfMemory};
+
+use crate::error::TextError;
+use crate::names::Names;
+use crate::{cluster, links, messages, nodes, processes, top};
+use std::alloc::Global;
+use toml::Table;
+use ttp_model::{Cluster, Instance, Link, Message, Node, Process};
+
+/// The parts of an instance, before they are judged.
+#[derive(Drop)]
+struct Parts {
+    cluster: Cluster,
+    nodes: Vec<Node>,
+    processes: Vec<Process>,
+    links: Vec<Link>,
+    messages: Vec<Message>,
+}
+
+/// The top table that the bytes are.
+fn document(alloc: Global, bytes: &[u8]) -> Result<Table, TextError>
+    ensures ok { IfOk result (λ table. IsDocument bytes.now (table_view table)) }
+    ensures err { IfErr result (IsTextFault bytes.now) }
+{
+    match toml::table_from_slice(alloc, bytes) {
+        Ok(table) => Ok(table),
+        Err(e) => {
+            if e.is_memory() {
+                Err(TextError::OutOfMemory)
+            } else {
+                Err(TextError::NotToml)
+            }
+        }
+    }
+}
+
+/// The parts that a top table states.
+fn stated_parts(alloc: Global, table: &Table) -> Result<Parts, TextError>
+    ensures ok { IfOk result (λ ps. stated (table_view table.now) ≡ Ok (problem_of ps)) }
+    ensures err { IfErr result (IsFaultOf (stated (table_view table.now))) }
+{
+    let tables = top::tables_of(alloc, table)?;
+    let cluster = cluster::cluster(tables.cluster)?;
+    let nodes = nodes::nodes(alloc, &tables.nodes)?;
+    let names = Names::of(alloc, &nodes)?;
+    let processes = processes::processes(alloc, &tables.processes, &names)?;
+    drop(names);
+    let names = Names::of(alloc, &processes)?;
+    let links = links::links(alloc, &tables.links, &names)?;
+    let messages = messages::messages(alloc, &tables.messages, &names)?;
+    drop(names);
+    Ok(Parts {
+        cluster,
+        nodes,
+        processes,
+        links,
+        messages,
+    })
+}
+
+/// The instance that the bytes state, or the first fault: bytes that are no TOML, then the top
+/// table with the items of its arrays, the cluster, the nodes, the processes, the links and the messages,
+/// and last what `Instance::build` refuses. In a table an unknown key goes first, and then each key
+/// in turn: missing, of another kind, a number outside `u32`, a name that isn't there. An array's
+/// items are judged one after another, each by all its kinds of fault. Takes time in proportion to
+/// the bytes, as far as names spread over their hashes.
+pub fn read(alloc: Global, bytes: &[u8]) -> Result<Instance, TextError>
+    ensures ok { IfOk result (λ i. States bytes.now (Ok i)) }
+    ensures instance { IfOk result IsInstance }
+    ensures err { IfErr result (IsFirstFault bytes.now) }
+    ensures only { (i : Problem) → States bytes.now (Ok i) → IsInstance i
+        → IsOkUnless result OutOfMemory }
+{
+    let table = document(alloc, bytes)?;
+    let parts = stated_parts(alloc, &table)?;
+    let Parts {
+        cluster,
+        nodes,
+        processes,
+        links,
+        messages,
+    } = parts;
+    Ok(Instance::build(alloc, cluster, nodes, processes, links, messages)?)
+}

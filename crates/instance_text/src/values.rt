@@ -1,0 +1,114 @@
+//! What one value of a text states.
+
+ghost use Rattle.std.specs.Prelude.{◌≡◌, IfOk, IfErr};
+ghost use Rattle.toml.specs.View.{table_view, view};
+ghost use Rattle.instance_text.specs.Kinds.{table_of, tables_in, number_of, numbers_of, bytes_of, index_of, indices_of};
+ghost use Rattle.instance_text.specs.Faults.{IsFaultOf};
+ghost use Rattle.instance_text.specs.Index.{index_by};
+ghost use Rattle.instance_text.specs.Views.{table_views};
+
+use crate::error::{Key, Place, TextError};
+use crate::names::Names;
+use std::alloc::Global;
+use toml::{Table, Value};
+use ttp_model::{Name, Numbers};
+
+/// A table.
+pub fn table<'a>(value: &'a Value, place: Place, key: Key) -> Result<&'a Table, TextError>
+    ensures ok { IfOk result (λ t. table_of place key (view value.now) ≡ Ok (table_view t.now)) }
+    ensures err { IfErr result (λ e. table_of place key (view value.now) ≡ Err e) }
+{
+    value.as_table().ok_or(TextError::WrongKind { place, key })
+}
+
+/// An array of tables.
+pub fn tables<'a>(
+    alloc: Global,
+    value: &'a Value,
+    place: Place,
+    key: Key,
+) -> Result<Vec<&'a Table>, TextError>
+    ensures ok { IfOk result (λ ts. tables_in place key (view value.now)
+        ≡ Ok (table_views ts.items)) }
+    ensures err { IfErr result (IsFaultOf (tables_in place key (view value.now))) }
+{
+    let Some(items) = value.as_array() else {
+        return Err(TextError::WrongKind { place, key });
+    };
+    let mut tables = Vec::new(alloc);
+    for item in items {
+        tables.push(table(item, place, key)?)?;
+    }
+    Ok(tables)
+}
+
+/// A whole number that fits.
+pub fn number(value: &Value, place: Place, key: Key) -> Result<u32, TextError>
+    ensures { result ≡ number_of place key (view value.now) }
+{
+    match value.as_integer() {
+        None => Err(TextError::WrongKind { place, key }),
+        Some(z) => u32::try_from(z).map_err(|_| TextError::OutOfRange { place, key }),
+    }
+}
+
+/// An array of whole numbers that fit.
+pub fn numbers(alloc: Global, value: &Value, place: Place, key: Key) -> Result<Numbers, TextError>
+    ensures ok { IfOk result (λ ns. numbers_of place key (view value.now) ≡ Ok ns) }
+    ensures err { IfErr result (IsFaultOf (numbers_of place key (view value.now))) }
+{
+    let Some(items) = value.as_array() else {
+        return Err(TextError::WrongKind { place, key });
+    };
+    let mut numbers = Vec::new(alloc);
+    for item in items {
+        numbers.push(number(item, place, key)?)?;
+    }
+    Ok(Numbers::new(numbers))
+}
+
+/// A text, as a name.
+pub fn name(alloc: Global, value: &Value, place: Place, key: Key) -> Result<Name, TextError>
+    ensures ok { IfOk result (λ name. bytes_of place key (view value.now) ≡ Ok name) }
+    ensures err { IfErr result (IsFaultOf (bytes_of place key (view value.now))) }
+{
+    let Some(text) = value.as_str() else {
+        return Err(TextError::WrongKind { place, key });
+    };
+    Ok(Name::new(String::from_str(alloc, text)?))
+}
+
+/// The index of what a text names.
+pub fn index(value: &Value, place: Place, key: Key, names: &Names) -> Result<u32, TextError>
+    ensures { result ≡ index_of place key (index_by names.now) (view value.now) }
+{
+    let Some(text) = value.as_str() else {
+        return Err(TextError::WrongKind { place, key });
+    };
+    names
+        .index_of(text)
+        .ok_or(TextError::UnknownName { place, key })
+}
+
+/// The indices of what the texts of an array name.
+pub fn indices(
+    alloc: Global,
+    value: &Value,
+    place: Place,
+    key: Key,
+    names: &Names,
+) -> Result<Numbers, TextError>
+    ensures ok { IfOk result (λ ns. indices_of place key (index_by names.now)
+        (view value.now) ≡ Ok ns) }
+    ensures err { IfErr result (IsFaultOf (indices_of place key (index_by names.now)
+        (view value.now))) }
+{
+    let Some(items) = value.as_array() else {
+        return Err(TextError::WrongKind { place, key });
+    };
+    let mut indices = Vec::new(alloc);
+    for item in items {
+        indices.push(index(item, place, key, names)?)?;
+    }
+    Ok(Numbers::new(indices))
+}

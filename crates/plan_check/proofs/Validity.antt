@@ -1,0 +1,41 @@
+-- A plan that keeps all rules is valid, and has no fault.
+use Rattle.std.proofs.Common.{◌<◌, length, arith}
+use Rattle.ttp_model.specs.declared.plan.Plan.{Plan}
+use Rattle.ttp_model.specs.declared.fault.PlanPart.TheVariants as part
+use Rattle.ttp_model.specs.declared.fault.PlanFault.{PlanFault}
+use Rattle.ttp_model.specs.declared.fault.PlanFault.TheVariants.{WrongLength, WrongOrder, WrongCapacity, TooEarly, TooLate, Overlap, BrokenLink, NotReady, NotArrived, Overfull}
+use Rattle.ttp_model.specs.Problem.{Problem}
+use Rattle.ttp_model.specs.Plans.{Lengths, Order, Capacities, Releases, Ends, Overlaps, Links, Readiness, Arrivals, Frames, IsValid, Keeps}
+use Rattle.ttp_model.specs.Faults.{IsFirstFault, KeepsBefore}
+
+-- all ten, from those on lists and processes and the three on messages
+pub IsValid_from : (i : Problem) (plan : Plan) → KeepsBefore i plan Readiness → Keeps i plan Readiness → Keeps i plan Arrivals → Keeps i plan Frames → IsValid i plan
+IsValid_from i plan before ready arrived frames = record {
+  lengths = before.each Lengths (omega arith);
+  order = before.each Order (omega arith);
+  capacities = before.each Capacities (omega arith);
+  released = before.each Releases (omega arith);
+  in_time = before.each Ends (omega arith);
+  apart = before.each Overlaps (omega arith);
+  links = before.each Links (omega arith);
+  ready = ready;
+  arrived = arrived;
+  frames = frames;
+}
+
+pub IsValid-without_fault : (i : Problem) (plan : Plan) (fault : PlanFault) → IsValid i plan → ¬ IsFirstFault i plan fault
+IsValid-without_fault i plan (WrongLength part.Order) v f = f.1 v.lengths.order
+IsValid-without_fault i plan (WrongLength part.Capacities) v f = f.1.1 v.lengths.capacities
+IsValid-without_fault i plan (WrongLength part.Starts) v f = f.1.2 v.lengths.starts
+IsValid-without_fault i plan (WrongLength part.Rounds) v f = f.1.3 v.lengths.rounds
+IsValid-without_fault i plan (WrongOrder k) v f = f.1.fails (v.order.each k f.1.within)
+IsValid-without_fault i plan (WrongCapacity n) v f = f.1.fails (v.capacities n f.1.within)
+IsValid-without_fault i plan (TooEarly p) v f = f.1.fails (v.released p f.1.within)
+IsValid-without_fault i plan (TooLate p) v f = f.1.fails (v.in_time p f.1.within)
+IsValid-without_fault i plan (Overlap p q) v f =
+    let inside : p < length i.processes = omega (arith, f.1.in_order, f.1.within) in
+    f.1.overlap (v.apart p inside q f.1.in_order f.1.within)
+IsValid-without_fault i plan (BrokenLink l) v f = f.1.fails (v.links l f.1.within)
+IsValid-without_fault i plan (NotReady m) v f = f.1.fails (v.ready m f.1.within)
+IsValid-without_fault i plan (NotArrived m q) v f = f.1.first.fails (v.arrived m f.1.within f.1.place f.1.first.within)
+IsValid-without_fault i plan (Overfull n r) v f = f.1.first.fails (v.frames f.1.message f.1.first.within)

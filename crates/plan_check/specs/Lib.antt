@@ -1,0 +1,6 @@
+pub use Rattle.tt_layout.specs.Problem
+pub use Rattle.tt_layout.specs.Rules
+pub use Rattle.tt_layout.specs.Plans
+pub use Rattle.ttp_model.specs.Lists
+pub use Rattle.ttp_model.specs.Delays
+pub use Rattle.ttp_model.specs.Faults

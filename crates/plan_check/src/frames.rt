@@ -1,0 +1,54 @@
+//! Do the messages of each frame fit into its capacity?
+
+ghost use Rattle.std.specs.Prelude.{◌≡◌, ◌<◌, ◌≤◌, MatchOption, length};
+ghost use Rattle.ttp_model.specs.Lists.{EachBelow};
+ghost use Rattle.ttp_model.specs.Plans.{FitsFrame, HasLengths, bytes_in, load_of};
+ghost use Rattle.ttp_model.specs.Faults.{IsFirstOverfull};
+
+use ttp_model::{Instance, MOST_BYTES, Plan};
+
+/// The frame, by node and round, of the first message in an overfull one.
+pub fn first_overfull(instance: &Instance, plan: &Plan) -> Option<(u32, u32)>
+    requires { HasLengths instance.now plan.now }
+    ensures { MatchOption result
+        (EachBelow (length instance.now.messages) (FitsFrame instance.now plan.now))
+        (λ frame. IsFirstOverfull instance.now plan.now frame.0 frame.1) }
+{
+    let caps = plan.caps.as_slice();
+    let rounds = plan.rounds.as_slice();
+    for m in 0..instance.messages().len() {
+        let n = instance.source_of(m);
+        let r = rounds[m];
+        if load_of(instance, plan, n, r) > u64::from(caps[n as usize]) {
+            return Some((n, r));
+        }
+    }
+    None
+}
+
+/// The bytes of all messages of a frame.
+fn load_of(instance: &Instance, plan: &Plan, n: u32, r: u32) -> u64
+    requires { HasLengths instance.now plan.now }
+    ensures { result ≡ load_of instance.now plan.now n r }
+{
+    let mut load = 0;
+    for m in 0..instance.messages().len() {
+        load += bytes_in(instance, plan, n, r, m);
+    }
+    load
+}
+
+/// The bytes that a message puts into a frame: none where it isn't sent in it.
+fn bytes_in(instance: &Instance, plan: &Plan, n: u32, r: u32, m: usize) -> u64
+    requires lengths { HasLengths instance.now plan.now }
+    requires inside { m < length instance.now.messages }
+    ensures value { result ≡ bytes_in instance.now plan.now n r m }
+    ensures bound { result ≤ MOST_BYTES }
+{
+    let round = plan.rounds.as_slice()[m];
+    if instance.source_of(m) == n && round == r {
+        u64::from(instance.message_at(m).bytes)
+    } else {
+        0
+    }
+}

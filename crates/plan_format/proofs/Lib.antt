@@ -1,0 +1,10 @@
+pub mod Heads
+pub mod Lines
+pub mod NameForm
+pub mod NumberLoop
+pub mod OrderLine
+pub mod Spaced
+pub mod TwoNodes
+pub mod ValidPlans
+pub mod WholeText
+pub mod WordLoop

@@ -1,0 +1,5 @@
+pub mod Names
+pub mod Spelling
+pub mod Reading
+pub mod Words
+pub mod TwoNodes

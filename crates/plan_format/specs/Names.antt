@@ -1,0 +1,27 @@
+-- The names of an instance's parts, and which words have the form of a name. Own profile.
+use Rattle.std.specs.Prelude.{ℕ, List, [], length, map, slice_index, Bool, ◌&&◌, not, ◌==◌, nat_le, codes}
+use Rattle.std.specs.List.{list_all}
+use Rattle.ttp_model.specs.declared.limits.TheConstants.{MOST_NAME_BYTES}
+use Rattle.ttp_model.specs.Problem.{Problem}
+use Rattle.ttp_model.specs.Rules.{begins_name, continues_name}
+use Rattle.ttp_model.specs.declared.error.Part.{Part}
+use Rattle.ttp_model.specs.declared.error.Part.TheVariants.{Nodes, Processes, Messages}
+
+-- Whether a word has the form of a name, as a test: a law says that it is the model's `IsName`.
+abbrev pub is_name : List ℕ → Bool
+is_name word =
+    not (length word == 0) && nat_le (length word) MOST_NAME_BYTES
+    && begins_name (slice_index word 0) && list_all continues_name word
+
+-- the names in a list of the instance, in its order; links have none
+abbrev pub names_in : Problem → Part → List (List ℕ)
+names_in i Nodes = map (λ n. n.name) i.nodes
+names_in i Processes = map (λ p. p.name) i.processes
+names_in i Messages = map (λ m. m.name) i.messages
+names_in i _ = []
+
+-- what a line for one of a list begins with: capacities for nodes, starts for processes, and rounds
+abbrev pub keyword_of : Part → List ℕ
+keyword_of Nodes = codes "cap "
+keyword_of Processes = codes "start "
+keyword_of _ = codes "round "

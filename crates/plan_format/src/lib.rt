@@ -1,0 +1,18 @@
+//! Plans as text, both ways.
+#![tactic(auto)]
+
+mod fault;
+mod laws;
+mod line;
+mod order;
+mod part;
+mod printing;
+mod reading;
+
+pub use fault::{LineFault, PlanTextError};
+pub use laws::{spelling_is_of_one_plan, word_is_a_name_by_the_model};
+pub use printing::print;
+pub use reading::read;
+
+#[cfg(test)]
+mod tests;

@@ -1,0 +1,44 @@
+//! Which names and which keyword do the lines of one of the instance's lists have?
+
+ghost use Rattle.std.specs.Prelude.{◌≡◌, ◌<◌, ◌≤◌, length, slice_index_or, []};
+ghost use Rattle.ttp_model.specs.declared.limits.TheConstants.{MOST_MESSAGES};
+ghost use Rattle.plan_format.specs.Names.{names_in, keyword_of};
+
+use ttp_model::{Instance, Part};
+
+/// How many names the list has.
+pub fn count_of(instance: &Instance, part: Part) -> usize
+    ensures value { result ≡ length (names_in instance.now part) }
+    ensures few { result ≤ MOST_MESSAGES }
+{
+    match part {
+        Part::Nodes => instance.nodes().len(),
+        Part::Processes => instance.processes().len(),
+        Part::Links => 0,
+        Part::Messages => instance.messages().len(),
+    }
+}
+
+/// The name at this place of the list.
+pub fn name_of(instance: &Instance, part: Part, k: usize) -> &[u8]
+    requires { k < length (names_in instance.now part) }
+    ensures { result.now ≡ slice_index_or (names_in instance.now part) k [] }
+{
+    match part {
+        Part::Nodes => instance.nodes()[k].name.as_bytes(),
+        Part::Processes => instance.processes()[k].name.as_bytes(),
+        Part::Links => b"",
+        Part::Messages => instance.messages()[k].name.as_bytes(),
+    }
+}
+
+/// What each of the list's lines begins with.
+pub fn keyword_of(part: Part) -> &'static [u8]
+    ensures { result.now ≡ keyword_of part }
+{
+    match part {
+        Part::Nodes => b"cap ",
+        Part::Processes => b"start ",
+        _ => b"round ",
+    }
+}

@@ -1,0 +1,103 @@
+//! Which plan and which delay does a text spell, or what is its first fault?
+
+ghost use Rattle.std.specs.Prelude.{◌≡◌, ◌≢◌, ◌≤◌, ℕ, IfOk};
+ghost use Rattle.ttp_model.specs.Rules.{IsInstance};
+ghost use Rattle.plan_format.specs.Spelling.{IsSpelled};
+ghost use Rattle.plan_format.specs.Reading.{IsAnswer, head_at, delay_at, part_at, plan_at};
+
+use crate::fault::{LineFault, PlanTextError};
+use crate::line::{line_of, number_in, number_of};
+use crate::order::order_of;
+use crate::part::{count_of, keyword_of, name_of};
+use line_text::after_keyword;
+use std::alloc::Global;
+use ttp_model::{Instance, Numbers, Part, Plan};
+
+#[tactic(auto, unfolding(crate::specs::Reading::head_at))]
+fn after_head(text: &[u8]) -> Result<&[u8], PlanTextError>
+    ensures { IsAnswer (λ x. x.now) result (head_at text.now) }
+{
+    let (first, after) = line_of(1, text)?;
+    if first != b"ttplan 1".as_slice() {
+        return Err(LineFault::Form.at(1));
+    }
+    Ok(after)
+}
+
+#[tactic(auto, unfolding(crate::specs::Reading::delay_at))]
+fn delay_of(text: &[u8]) -> Result<(u32, &[u8]), PlanTextError>
+    ensures { IsAnswer (λ x. (x.0, x.1.now)) result (delay_at text.now) }
+{
+    let (first, after) = line_of(2, text)?;
+    let Some(word) = after_keyword(b"delay ", first) else {
+        return Err(LineFault::Form.at(2));
+    };
+    let delay = number_in(2, word)?;
+    Ok((delay, after))
+}
+
+/// The numbers of one of the lists, whose first line has this number, and the text after them.
+fn numbers_of<'a>(
+    alloc: Global,
+    instance: &Instance,
+    part: Part,
+    line: u32,
+    text: &'a [u8],
+) -> Result<(Vec<u32>, &'a [u8]), PlanTextError>
+    requires { line ≤ 1000 }
+    ensures { IsAnswer (λ x. (x.0.items, x.1.now)) result
+        (part_at instance.now part line text.now) }
+{
+    let keyword = keyword_of(part);
+    let mut numbers = Vec::new(alloc);
+    let mut rest = text;
+    for k in 0..count_of(instance, part) {
+        let name = name_of(instance, part, k);
+        let (number, after) = number_of(line + k as u32, keyword, name, rest)?;
+        numbers.push(number)?;
+        rest = after;
+    }
+    Ok((numbers, rest))
+}
+
+/// What the lines of a text give, the first fault first.
+#[tactic(auto, unfolding(crate::specs::Reading::plan_at))]
+fn plan_of(alloc: Global, instance: &Instance, text: &[u8]) -> Result<(Plan, u32), PlanTextError>
+    ensures exact { IsAnswer (λ x. x) result (plan_at instance.now text.now) }
+    ensures instance { IsInstance instance.now }
+{
+    let nodes = instance.nodes().len() as u32;
+    let processes = instance.processes().len() as u32;
+    let messages = instance.messages().len() as u32;
+    let rest = after_head(text)?;
+    let (delay, rest) = delay_of(rest)?;
+    let (order, rest) = order_of(alloc, instance, rest)?;
+    let (caps, rest) = numbers_of(alloc, instance, Part::Nodes, 4, rest)?;
+    let (starts, rest) = numbers_of(alloc, instance, Part::Processes, 4 + nodes, rest)?;
+    let (rounds, rest) = numbers_of(alloc, instance, Part::Messages, 4 + nodes + processes, rest)?;
+    if !rest.is_empty() {
+        return Err(LineFault::Trailing.at(4 + nodes + processes + messages));
+    }
+    let plan = Plan {
+        order: Numbers::new(order),
+        caps: Numbers::new(caps),
+        starts: Numbers::new(starts),
+        rounds: Numbers::new(rounds),
+    };
+    Ok((plan, delay))
+}
+
+/// The plan that a text spells for the instance, and the delay that it states, in ticks, which is
+/// not judged. Lines are judged from the top, each as `LineFault` says. The text may have any
+/// length, and the cost is linear in it.
+pub fn read(alloc: Global, instance: &Instance, text: &[u8]) -> Result<(Plan, u32), PlanTextError>
+    // The plan and its stated delay, or the first fault with its line.
+    ensures exact { IsAnswer (λ x. x) result (plan_at instance.now text.now) }
+    // What is read has a text, and this is it.
+    ensures found { IfOk result (λ r. IsSpelled instance.now text.now r.0 r.1) }
+    // A text that spells a plan is read as that plan, unless memory is refused.
+    ensures only { (plan : Plan) (delay : ℕ) → IsSpelled instance.now text.now plan delay →
+        result ≢ Err PlanTextError.OutOfMemory → result ≡ Ok (plan, delay) }
+{
+    plan_of(alloc, instance, text)
+}

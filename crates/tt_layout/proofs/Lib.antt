@@ -1,0 +1,6 @@
+pub mod Bounds
+pub mod FirstRounds
+pub mod SlotsBefore
+pub mod NodeSums
+pub mod SlotTimes
+pub mod CycleBounds

@@ -1,0 +1,31 @@
+use Rattle.std.proofs.Common.{◌≡◌, ◌+◌, ◌∙◌, ap, drop, rules, arith}
+use Rattle.std.proofs.lemmas.List.{drop-drop}
+use Rattle.ttplan.specs.declared.input.Stop.TheVariants.{AtEnd}
+use Rattle.ttplan.proofs.Splits.{mark_within, refused_front, unread_plan, outcome_all}
+use Rattle.ttplan.proofs.bundle.delay_of_taken.Goals as goal
+
+pub split_at-requires-2 : goal.split_at-requires-2
+split_at-requires-2 c =
+    let first = rw c.as_slice-bytes.ensures.value at c.in-Some.ensures in
+    omega (arith, mark_within _ _ first.is, c.split_at.ensures.back_len, c.as_slice-bytes.ensures.len, c.args.taken.now.bytes.ok.0)
+
+pub returns-in-Err : goal.returns-in-Err
+returns-in-Err c = λ bundle is_taken.
+    let first = rw c.as_slice-bytes.ensures.value at c.in-Some.ensures in
+    let refused = rw (c.split_at.ensures.front, c.as_slice-bytes.ensures.value) at c.in-Err.ensures in
+    refused_front _ c.args.taken.now bundle _ is_taken first _ refused
+
+pub returns-then-ne : goal.returns-then-ne
+returns-then-ne c = λ bundle is_taken.
+    let first = rw c.as_slice-bytes.ensures.value at c.in-Some.ensures in
+    let instance = rw (c.split_at.ensures.front, c.as_slice-bytes.ensures.value) at c.in-Ok.ensures in
+    unread_plan _ c.args.taken.now bundle _ is_taken first _ instance
+
+pub returns : goal.returns
+returns c = λ bundle is_taken.
+    let first = rw c.as_slice-bytes.ensures.value at c.in-Some.ensures in
+    let instance = rw (c.split_at.ensures.front, c.as_slice-bytes.ensures.value) at c.in-Ok.ensures in
+    let ended : c.args.taken.now.stop ≡ AtEnd = search rules in
+    let rest : c.split_at.result.1.now ≡ drop c.in-Some.at c.args.taken.now.bytes.items = c.split_at.ensures.back ∙ ap (drop c.in-Some.at) c.as_slice-bytes.ensures.value in
+    let plan : c.split_at-2.result.1.now ≡ drop (c.in-Some.at + 3) c.args.taken.now.bytes.items = c.split_at-2.ensures.back ∙ ap (drop 3) rest ∙ drop-drop 3 c.in-Some.at c.args.taken.now.bytes.items in
+    outcome_all _ c.args.taken.now bundle _ is_taken ended first _ instance _ (rw plan at c.delay_of_text.ensures)

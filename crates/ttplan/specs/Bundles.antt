@@ -1,0 +1,67 @@
+-- How a bundle is split: the instance stands before the first line `%%`, and the plan behind it.
+use Rattle.std.specs.Prelude.{◌≡◌, ℕ, ◌+◌, ◌-◌, ◌<◌, ◌≤◌, List, [], ◌∷◌, ◌++◌, length, take, drop, slice_index, codes, Option, None, Some, ◌≤◌}
+use Rattle.ttplan.specs.declared.verify.TheConstants.{INSTANCE_LIMIT}
+use Rattle.ttplan.specs.declared.ending.Source.TheVariants as source
+use Rattle.ttplan.specs.declared.ending.Fault.{Fault}
+use Rattle.ttplan.specs.declared.ending.Fault.TheVariants.{NoMark, Memory, Unread}
+use Rattle.ttplan.specs.declared.ending.End.{End}
+use Rattle.ttplan.specs.Verdicts.{IsVerified, IsRefused, IsOutcome}
+
+-- the bytes of the line, with its end
+abbrev pub mark : List ℕ
+mark = codes "%%\n"
+
+-- a line begins at this byte: it is the first, or one behind the end of a line
+abbrev pub BeginsLine : List ℕ → ℕ → Type 0
+BeginsLine bytes at = 0 < at → slice_index bytes (at - 1) ≡ 10
+
+-- a line `%%` begins at this byte, and has its end
+pub record IsMark (bytes : List ℕ) (at : ℕ) : Type 0 where
+  pub line : BeginsLine bytes at
+  pub text : take 3 (drop at bytes) ≡ mark
+
+-- and none begins before
+pub record IsFirstMark (bytes : List ℕ) (at : ℕ) : Type 0 where
+  pub is : IsMark bytes at
+  pub first : (earlier : ℕ) → earlier < at → ¬ IsMark bytes earlier
+
+-- there is no such line
+abbrev pub HasNoMark : List ℕ → Type 0
+HasNoMark bytes = (at : ℕ) → ¬ IsMark bytes at
+
+-- the first such line, or none
+abbrev pub FindsMark : List ℕ → Option ℕ → Type 0
+FindsMark bytes None = HasNoMark bytes
+FindsMark bytes (Some at) = IsFirstMark bytes at
+
+-- a bundle's instance and plan
+pub record IsSplit (bundle instance plan : List ℕ) : Type 0 where
+  pub at : ℕ
+  pub first : IsFirstMark bundle at
+  pub front : instance ≡ take at bundle
+  pub behind : plan ≡ drop (at + 3) bundle
+
+-- the parts of a bundle are an instance and a valid plan of it that states its own delay
+pub record IsVerifiedBundle (bundle : List ℕ) (d : ℕ) : Type 0 where
+  pub instance : List ℕ
+  pub plan : List ℕ
+  pub split : IsSplit bundle instance plan
+  pub verified : IsVerified instance plan d
+
+-- the parts of a bundle are at this fault
+pub record IsRefusedSplit (bundle : List ℕ) (fault : Fault) : Type 0 where
+  pub instance : List ℕ
+  pub plan : List ℕ
+  pub split : IsSplit bundle instance plan
+  pub refused : IsRefused instance plan fault
+
+-- why a bundle is refused: it has no line `%%`, or for one of its parts
+abbrev pub IsRefusedBundle : List ℕ → Fault → Type 0
+IsRefusedBundle bundle NoMark = HasNoMark bundle × (length bundle ≤ INSTANCE_LIMIT)
+IsRefusedBundle bundle Memory = Unit {0}
+IsRefusedBundle bundle (Unread source.Instance) = Unit {0}
+IsRefusedBundle bundle fault = IsRefusedSplit bundle fault
+
+-- what `verify_bundle` answers of the bytes of a bundle, and what it writes
+abbrev pub IsBundleVerdict : List ℕ → Option (List ℕ) → Option (List ℕ) → End → Type 0
+IsBundleVerdict bundle = IsOutcome (IsVerifiedBundle bundle) (IsRefusedBundle bundle)

@@ -1,0 +1,102 @@
+//! What `verify` says of an instance and a plan in one stream.
+
+ghost use Rattle.std.specs.Prelude.{◌≡◌, ◌⊎◌, ◌≤◌, ◌<◌, ◌↔◌, ℕ, List, IsTrue, IfSome, MatchResult, length};
+ghost use Rattle.ttplan.specs.Streams.{IsTaken};
+ghost use Rattle.ttplan.specs.Bundles.{IsMark, FindsMark, IsVerifiedBundle, IsRefusedBundle, IsBundleVerdict};
+
+use crate::ending::{End, Fault, Source};
+use crate::input::{Stop, Taken, take_input};
+use crate::verify::{INSTANCE_LIMIT, PLAN_LIMIT, delay_of_text, instance_of_text, write_verdict};
+use std::alloc::Global;
+use std::io::{Read, Write};
+
+/// The bytes of the line that parts an instance from a plan.
+const MARK_LENGTH: usize = 3;
+
+/// That line, with its end.
+const MARK: &[u8; MARK_LENGTH] = b"%%\n";
+
+/// Whether such a line begins at this byte: it stands at the front or behind the end of a line.
+fn is_mark(bytes: &[u8], at: usize) -> bool
+    requires { at < length bytes.now }
+    ensures { IsTrue result ↔ IsMark bytes.now at }
+{
+    (at == 0 || bytes[at - 1] == b'\n') && bytes[at..].starts_with(MARK)
+}
+
+/// The first byte at which such a line begins.
+pub fn mark_at(bytes: &[u8]) -> Option<usize>
+    ensures { FindsMark bytes.now result }
+{
+    for at in 0..bytes.len() {
+        if is_mark(bytes, at) {
+            return Some(at);
+        }
+    }
+    None
+}
+
+/// The bytes of a bundle, at most: an instance, the line between, and a plan.
+const BUNDLE_LIMIT: usize = INSTANCE_LIMIT + MARK_LENGTH + PLAN_LIMIT;
+
+/// Why a bundle without the line is refused.
+fn unsplit(taken: &Taken) -> Fault
+    ensures { ((result ≡ Fault.NoMark) × (taken.now.stop ≡ Stop.AtEnd) × (length taken.now.bytes.items ≤ INSTANCE_LIMIT))
+        ⊎ (result ≡ Fault.Unread Source.Instance) }
+{
+    if taken.stop == Stop::AtEnd && taken.bytes.len() <= INSTANCE_LIMIT {
+        Fault::NoMark
+    } else {
+        Fault::Unread(Source::Instance)
+    }
+}
+
+/// The delay of the plan behind the line, for the instance before it. The instance is judged before the plan's
+/// part, its length included.
+fn delay_of_taken(alloc: Global, taken: &Taken) -> Result<u64, Fault>
+    ensures { (bundle : List ℕ) → IsTaken BUNDLE_LIMIT taken.now bundle → MatchResult result
+        (IsVerifiedBundle bundle)
+        (IsRefusedBundle bundle) }
+{
+    let bytes = taken.bytes.as_slice();
+    let Some(at) = mark_at(bytes) else {
+        return Err(unsplit(taken));
+    };
+    if at > INSTANCE_LIMIT {
+        return Err(Fault::Unread(Source::Instance));
+    }
+    let (front, rest) = bytes.split_at(at);
+    let instance = match instance_of_text(alloc, front) {
+        Ok(instance) => instance,
+        Err(fault) => return Err(fault),
+    };
+    let (_, plan) = rest.split_at(MARK_LENGTH);
+    if taken.stop != Stop::AtEnd || plan.len() > PLAN_LIMIT {
+        return Err(Fault::Unread(Source::Plan));
+    }
+    delay_of_text(alloc, &instance, plan)
+}
+
+/// The same of what a reader gives.
+fn delay_of_bundle<R: Read>(alloc: Global, input: &mut R) -> Result<u64, Fault>
+    ensures { IfSome (R.remaining input.old) (λ bundle. MatchResult result
+        (IsVerifiedBundle bundle)
+        (IsRefusedBundle bundle)) }
+{
+    match take_input(alloc, input, BUNDLE_LIMIT) {
+        Ok(taken) => delay_of_taken(alloc, &taken),
+        Err(_) => Err(Fault::Memory),
+    }
+}
+
+/// As `verify`, of one reader that gives the instance, a line `%%` and the plan. Each part has its own limit. A read
+/// that fails is the instance's up to the end of that line, and then the plan's.
+pub fn verify_bundle<R: Read, W: Write>(alloc: Global, input: &mut R, out: &mut W) -> End
+    ensures { IfSome (R.remaining input.old) (λ bundle.
+        IsBundleVerdict bundle (W.contents out.old) (W.contents out.new) result) }
+{
+    match delay_of_bundle(alloc, input) {
+        Ok(delay) => write_verdict(alloc, delay, out),
+        Err(fault) => End::Refused(fault),
+    }
+}

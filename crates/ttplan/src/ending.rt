@@ -1,0 +1,85 @@
+//! How a command ends, and with which status.
+
+ghost use Rattle.std.specs.Prelude.{◌≡◌};
+ghost use Rattle.ttplan.specs.Endings.{fault_status, status_of};
+
+use instance_text::TextError;
+use plan_format::PlanTextError;
+use ttp_model::{ModelError, PlanFault};
+
+/// Where a command reads from.
+#[derive(Clone, Copy, Debug, PartialEq, Eq)]
+pub enum Source {
+    Instance,
+    Plan,
+}
+
+/// Where it writes to.
+#[derive(Clone, Copy, Debug, PartialEq, Eq)]
+pub enum Sink {
+    Out,
+}
+
+/// Why a command was refused.
+#[derive(Debug, Drop)]
+pub enum Fault {
+    /// When a bundle has no line `%%`.
+    NoMark,
+    /// When the instance's text states none.
+    Instance(TextError),
+    /// When memory was wanted, and refused.
+    Memory,
+    /// When the plan's text spells none.
+    PlanText(PlanTextError),
+    /// When the plan is not valid.
+    Plan(PlanFault),
+    /// When the plan is valid, and its delay, in ticks, is this and not the stated one.
+    StatedDelay(u64),
+    /// When a reader failed, or had more bytes than its limit, or a file could not be opened.
+    Unread(Source),
+    /// When a writer failed, or took no byte.
+    Unwritten(Sink),
+}
+
+/// How a command ends.
+#[derive(Debug, Drop)]
+pub enum End {
+    /// It did what it is for.
+    Done,
+    /// There is no plan.
+    Absent,
+    /// The search was stopped by its budget, or for want of memory.
+    Stopped,
+    Refused(Fault),
+}
+
+/// The status of a refusal.
+fn status_of_fault(fault: &Fault) -> u8
+    ensures { result ≡ fault_status fault.now }
+{
+    match fault {
+        Fault::NoMark => 2,
+        Fault::Instance(TextError::OutOfMemory) => 4,
+        Fault::Instance(TextError::Model(ModelError::OutOfMemory)) => 4,
+        Fault::Instance(_) => 3,
+        Fault::Memory => 4,
+        Fault::PlanText(PlanTextError::OutOfMemory) => 4,
+        Fault::PlanText(PlanTextError::At { .. }) => 5,
+        Fault::Plan(_) => 5,
+        Fault::StatedDelay(_) => 5,
+        Fault::Unread(_) => 6,
+        Fault::Unwritten(_) => 6,
+    }
+}
+
+/// The program's exit status.
+pub fn status(end: &End) -> u8
+    ensures { result ≡ status_of end.now }
+{
+    match end {
+        End::Done => 0,
+        End::Absent => 10,
+        End::Stopped => 11,
+        End::Refused(fault) => status_of_fault(fault),
+    }
+}
