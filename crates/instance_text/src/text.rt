@@ -69,11 +69,11 @@ fn stated_parts(alloc: Global, table: &Table) -> Result<Parts, TextError>
 }
 
 /// The instance that the bytes state, or the first fault: bytes that are no TOML, then the top
-/// table with the items of its arrays, the cluster, the nodes, the processes, the links and the messages,
-/// and last what `Instance::build` refuses. In a table an unknown key goes first, and then each key
-/// in turn: missing, of another kind, a number outside `u32`, a name that isn't there. An array's
-/// items are judged one after another, each by all its kinds of fault. Takes time in proportion to
-/// the bytes, as far as names spread over their hashes.
+/// table with the items of its arrays, the cluster, the nodes, the processes, the links and the
+/// messages, and last what `Instance::build` refuses. In a table an unknown key goes first, and then
+/// each key in turn: missing, of another kind, a number outside `u32`, a name that isn't there. An
+/// array's items are judged one after another, each by all its kinds of fault. Takes time in
+/// proportion to the bytes, as far as names spread over their hashes.
 pub fn read(alloc: Global, bytes: &[u8]) -> Result<Instance, TextError>
     ensures ok { IfOk result (λ i. States bytes.now (Ok i)) }
     ensures instance { IfOk result IsInstance }

@@ -1,9 +1,9 @@
 -- Numerals: reading digits one after another, and the words that `decimal` writes.
-use Rattle.std.proofs.Common.{◌≡◌, ◌≢◌, ℕ, zero, suc, ◌+◌, ◌-◌, ◌*◌, ◌^◌, ◌<◌, ◌≤◌, Bool, true, false, cond, List, [], ◌∷◌, ◌++◌, length, get_or, take, min, refl, sym, ap, ◌∙◌, arith, ◌&&◌, ◌||◌, not, Option, Some, None, eqb, ltb, ◌↔◌}
+use Rattle.std.proofs.Common.{◌≡◌, ◌≢◌, ℕ, zero, suc, ◌+◌, ◌-◌, ◌*◌, ◌^◌, ◌<◌, Bool, true, false, cond, List, [], ◌∷◌, ◌++◌, length, get_or, take, refl, sym, ap, ◌∙◌, arith, ◌&&◌, ◌||◌, not, ltb, ◌↔◌}
 use Rattle.std.specs.Prelude.{decimal, ◌==◌}
 use Rattle.std.specs.Char.{is_ascii_digit}
 use Rattle.std.specs.List.{list_all}
-use Rattle.std.proofs.lemmas.Str.Parse.{IsNumeralModel, IsDigitsTest, FoldsDigits, numerals_by_fold}
+use Rattle.std.proofs.lemmas.Str.Parse.{IsNumeralModel, IsDigitsTest, numerals_by_fold}
 use Rattle.std.proofs.lemmas.Fmt.{decimal-digits_value, digits_decimal, digits_value-decimal, decimal_nonempty, first_decimal, decimal_digit}
 use Rattle.std.proofs.lemmas.List.{take_more}
 use Rattle.std.proofs.Common.{rules}

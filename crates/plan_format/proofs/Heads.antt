@@ -1,11 +1,11 @@
 -- The two laws of the first line and of the line of the delay.
-use Rattle.std.proofs.Common.{◌≡◌, ℕ, ◌<◌, ◌^◌, List, [], ◌∷◌, ◌++◌, length, Result, Ok, Err, lit<, refl, sym, ap, subst, ◌∙◌, arith, Some}
+use Rattle.std.proofs.Common.{◌≡◌, ℕ, ◌<◌, ◌^◌, List, ◌∷◌, ◌++◌, Ok, lit<, refl, ap, ◌∙◌, arith, Some}
 use Rattle.std.specs.Prelude.{bytes_eq, decimal, codes}
 use Rattle.std.proofs.lemmas.Slice.Eq.{bytes_eq-Decides}
 use Rattle.line_text.specs.Parts.{Lacks, after_keyword}
 use Rattle.line_text.specs.Numbers.{number_word}
 use Rattle.line_text.specs.declared.number.NumberWord.TheVariants as word
-use Rattle.line_text.specs.Results.{◌>>=◌, or_fault, check}
+use Rattle.line_text.specs.Results.{or_fault, check}
 use Rattle.line_text.proofs.Cuts.{after_takes, after_again, Lacks-append, Lacks-from_test}
 use Rattle.line_text.proofs.Digits.{number_takes, number_again, decimal_lacks}
 use Rattle.line_text.proofs.Results.{bind_ok, ok_is, or_fault_ok, check_ok}

@@ -1,18 +1,18 @@
 -- The two laws of a numbered line, and of lines one after another.
-use Rattle.std.proofs.Common.{◌≡◌, ℕ, suc, zero, ◌+◌, ◌<◌, ◌^◌, Bool, true, false, List, [], ◌∷◌, ◌++◌, length, All, Option, None, Some, Result, Ok, Err, lit<, refl, sym, ap, subst, ◌∙◌, append_assoc, arith}
-use Rattle.std.specs.Prelude.{bytes_eq, decimal, ◌==◌}
+use Rattle.std.proofs.Common.{◌≡◌, ℕ, suc, ◌+◌, ◌<◌, ◌^◌, true, List, [], ◌∷◌, ◌++◌, length, All, Some, Ok, lit<, refl, sym, ap, subst, ◌∙◌, append_assoc, arith}
+use Rattle.std.specs.Prelude.{bytes_eq, decimal}
 use Rattle.std.proofs.lemmas.Slice.Eq.{bytes_eq-Decides}
 use Rattle.line_text.specs.Parts.{cut, after_keyword}
 use Rattle.line_text.specs.Numbers.{number_word}
 use Rattle.line_text.specs.declared.number.NumberWord.{NumberWord}
 use Rattle.line_text.specs.declared.number.NumberWord.TheVariants as word
-use Rattle.line_text.specs.Results.{◌>>=◌, or_fault, check}
+use Rattle.line_text.specs.Results.{or_fault, check}
 use Rattle.line_text.specs.Parts.{Lacks}
 use Rattle.line_text.proofs.Cuts.{cut_takes, cut_again, after_takes, after_again, Lacks-append, Lacks-from_test}
 use Rattle.line_text.proofs.Digits.{number_takes, number_again, decimal_lacks}
 use Rattle.line_text.proofs.Results.{bind_ok, ok_is, or_fault_ok, check_ok}
 use Rattle.std.proofs.lemmas.List.Elements.{All-nil, All-cons, All-head, All-tail}
-use Rattle.plan_format.specs.declared.fault.LineFault.TheVariants.{Form, Name, Number, EarlyEnd}
+use Rattle.plan_format.specs.declared.fault.LineFault.TheVariants.{Form, Name, EarlyEnd}
 use Rattle.plan_format.specs.declared.fault.PlanTextError.TheVariants.{At}
 use Rattle.plan_format.specs.Spelling.{numbered}
 use Rattle.plan_format.specs.Names.{is_name}

@@ -1,11 +1,11 @@
 -- The test for the form of a name is the model's rule for a name.
-use Rattle.std.proofs.Common.{◌≡◌, ℕ, ◌<◌, ◌≤◌, Bool, true, false, List, length, slice_index, IsTrue, ◌↔◌, ◌&&◌, refl, sym, ap, ◌∙◌, ◌≢◌, arith}
+use Rattle.std.proofs.Common.{◌≡◌, ℕ, Bool, true, false, List, IsTrue, ◌↔◌, refl, sym, ap, ◌∙◌, ◌≢◌, arith}
 use Rattle.std.proofs.lemmas.List.Sums.{AllPass-from_list_all, list_all-from_AllPass}
 use Rattle.std.specs.List.{list_all}
 use Rattle.std.proofs.lemmas.List.{get_or_default}
 use Rattle.std.proofs.lemmas.List.Elements.{All-weaker}
 use Rattle.line_text.specs.Parts.{Lacks}
-use Rattle.ttp_model.specs.Rules.{IsName, begins_name, continues_name}
+use Rattle.ttp_model.specs.Rules.{IsName, continues_name}
 use Rattle.plan_format.specs.Names.{is_name}
 
 IsName-from_test : (word : List ℕ) → is_name word ≡ true → IsName word

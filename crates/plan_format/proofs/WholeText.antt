@@ -1,11 +1,11 @@
 -- The two laws of the whole text: what is read is spelled so, and what is spelled so is read.
-use Rattle.std.proofs.Common.{◌≡◌, ◌≢◌, ℕ, ◌+◌, ◌<◌, ◌^◌, List, [], ◌∷◌, ◌++◌, length, get_or, map, All, Ok, Err, IfOk, true, refl, sym, ap, subst, ◌∙◌, arith, append_assoc}
+use Rattle.std.proofs.Common.{◌≡◌, ◌≢◌, ℕ, ◌+◌, ◌<◌, ◌^◌, List, [], ◌∷◌, ◌++◌, length, get_or, map, All, Ok, Err, IfOk, true, refl, sym, ap, subst, ◌∙◌, arith}
 use Rattle.std.specs.Prelude.{codes, ◌==◌}
 use Rattle.std.proofs.Math.ListN.{get_or-map}
 use Rattle.std.proofs.lemmas.List.{length-map, append-nil}
 use Rattle.std.proofs.lemmas.List.Elements.{All-map, All-from_get_or}
 use Rattle.line_text.specs.Parts.{Lacks}
-use Rattle.line_text.specs.Results.{◌>>=◌, check}
+use Rattle.line_text.specs.Results.{check}
 use Rattle.line_text.proofs.Cuts.{Lacks-from_test}
 use Rattle.line_text.proofs.Results.{bind_ok, ok_is, check_ok}
 use Rattle.ttp_model.specs.declared.plan.Plan.{Plan}
@@ -13,13 +13,13 @@ use Rattle.ttp_model.specs.declared.error.Part.{Part}
 use Rattle.ttp_model.specs.declared.error.Part.TheVariants.{Nodes, Processes, Links, Messages}
 use Rattle.ttp_model.specs.declared.error.Place.TheVariants.{AtNode, AtProcess, AtMessage}
 use Rattle.ttp_model.specs.Problem.{Problem, node_at, no_node, no_process, no_message}
-use Rattle.ttp_model.specs.Plans.{HasLengths, IsNodeOrder}
+use Rattle.ttp_model.specs.Plans.{IsNodeOrder}
 use Rattle.ttp_model.specs.Rules.{IsInstance}
 use Rattle.plan_format.specs.declared.fault.LineFault.TheVariants.{Trailing}
 use Rattle.plan_format.specs.declared.fault.PlanTextError.TheVariants.{At, OutOfMemory}
 use Rattle.plan_format.specs.Names.{is_name, names_in, keyword_of}
 use Rattle.plan_format.specs.Spelling.{numbered, plan_lines, delay_line, order_line, plan_text, HasText, IsSpelled}
-use Rattle.plan_format.specs.Reading.{Reading, IsAnswer, head_at, delay_at, order_at, numbers_at, part_at, end_line, plan_at}
+use Rattle.plan_format.specs.Reading.{Reading, IsAnswer, head_at, delay_at, order_at, part_at, end_line, plan_at}
 use Rattle.plan_format.proofs.Heads.{head_takes, head_again, delay_takes, delay_again}
 use Rattle.plan_format.proofs.Lines.{numbers_take, numbers_again}
 use Rattle.plan_format.proofs.NameForm.{test-from_IsName}

@@ -61,6 +61,8 @@ place_last all front text word k total e h so_far =
     let one : before front (places all (words_of text)) ≡ Some (front ++ k ∷ []) = rw (e, ← h) refl in
     sym one ∙ so_far
 
+pub ruleset places_steps = (place_more, place_none, place_last)
+
 -- ---- the words are names
 
 pub names_more : (text word more : List ℕ) (total : Bool) → words_of text ≡ word ∷ words_of more → is_name word ≡ true → list_all is_name (words_of text) ≡ total → list_all is_name (words_of more) ≡ total
@@ -78,3 +80,5 @@ pub names_last : (text word : List ℕ) (total : Bool) → words_of text ≡ wor
 names_last text word total e h so_far =
     let one : list_all is_name (words_of text) ≡ true = rw (e, h) refl in
     sym one ∙ so_far
+
+pub ruleset names_steps = (names_more, names_stop, names_last)

@@ -1,6 +1,6 @@
 -- Reading a plan text line by line: the plan and its stated delay, or the first fault and its
 -- line. The steps stand in the order in which faults are judged. Own profile.
-use Rattle.std.specs.Prelude.{◌≡◌, ℕ, ◌+◌, List, [], ◌∷◌, ◌++◌, length, Option, Some, None, Result, Ok, Err, Bool, true, ◌==◌, ◌&&◌, not, bytes_eq, codes, position}
+use Rattle.std.specs.Prelude.{◌≡◌, ℕ, ◌+◌, List, [], ◌∷◌, length, Option, Some, None, Result, Ok, Err, Bool, true, ◌==◌, ◌&&◌, not, bytes_eq, codes, position}
 use Rattle.std.specs.List.{list_all, list_any, slice_split}
 use Rattle.line_text.specs.Parts.{cut, after_keyword}
 use Rattle.line_text.specs.Numbers.{number_word}
@@ -12,7 +12,6 @@ use Rattle.ttp_model.specs.declared.plan.Plan.{Plan}
 use Rattle.ttp_model.specs.declared.error.Part.{Part}
 use Rattle.ttp_model.specs.declared.error.Part.TheVariants.{Nodes, Processes, Messages}
 use Rattle.plan_format.specs.Names.{is_name, names_in, keyword_of}
-use Rattle.plan_format.specs.declared.fault.LineFault.{LineFault}
 use Rattle.plan_format.specs.declared.fault.LineFault.TheVariants.{Form, Number, Name, Order, EarlyEnd, Trailing}
 use Rattle.plan_format.specs.declared.fault.PlanTextError.{PlanTextError}
 use Rattle.plan_format.specs.declared.fault.PlanTextError.TheVariants.{At, OutOfMemory}

@@ -29,7 +29,7 @@ fn first_word(text: &[u8]) -> (&[u8], Option<&[u8]>)
     }
 }
 
-#[tactic(auto, using(crate::proofs::WordLoop::names_more, crate::proofs::WordLoop::names_stop, crate::proofs::WordLoop::names_last))]
+#[tactic(auto, using(crate::proofs::WordLoop::names_steps))]
 fn are_names(text: &[u8]) -> bool
     ensures { result ≡ list_all is_name (words_of text.now) }
 {
@@ -58,7 +58,7 @@ fn place_of(instance: &Instance, name: &[u8]) -> Option<u32>
 }
 
 /// The place of each word among the nodes, where each is a node's name.
-#[tactic(auto, using(crate::proofs::WordLoop::place_more, crate::proofs::WordLoop::place_none, crate::proofs::WordLoop::place_last))]
+#[tactic(auto, using(crate::proofs::WordLoop::places_steps))]
 fn places_of(
     alloc: Global,
     instance: &Instance,

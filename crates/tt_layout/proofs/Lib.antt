@@ -4,3 +4,4 @@ pub mod SlotsBefore
 pub mod NodeSums
 pub mod SlotTimes
 pub mod CycleBounds
+pub mod Ranges

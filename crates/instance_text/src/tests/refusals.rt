@@ -88,7 +88,7 @@ fn too_many_links_are_counted_once_all_are_read(rt: HostRuntime) -> Result<(), F
     Ok(())
 }
 
-/// For runs in which an allocation is refused: `rt try --test --fail-alloc 1..`.
+/// Holds in a run in which any one allocation is refused, as by `rt try --test --fail-alloc N`.
 #[test]
 fn a_refused_allocation_is_told_as_such(rt: HostRuntime) {
     let alloc = rt.alloc();

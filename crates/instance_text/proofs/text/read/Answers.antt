@@ -1,4 +1,4 @@
-use Rattle.std.proofs.Common.{◌≡◌, ap, subst, Ok}
+use Rattle.std.proofs.Common.{◌≡◌, ap, subst}
 use Rattle.ttp_model.specs.Rules.{IsInstance}
 use Rattle.instance_text.specs.declared.error.TextError.TheVariants.{OutOfMemory}
 use Rattle.instance_text.specs.Faults.{IsFirstFault}

@@ -1,5 +1,4 @@
-use Rattle.std.proofs.Common.{sym, IfNone}
-use Rattle.line_text.specs.Parts.{Lacks}
+use Rattle.std.proofs.Common.{sym}
 use Rattle.line_text.proofs.Cuts.{parts_at, Lacks-from_none}
 use Rattle.line_text.proofs.parts.cut.Goals as goal
 

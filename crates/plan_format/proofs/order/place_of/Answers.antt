@@ -1,4 +1,4 @@
-use Rattle.std.proofs.Common.{◌<◌, ◌≤◌, ◌≡◌, [], length, get_or, arith, sym, ap, true}
+use Rattle.std.proofs.Common.{◌<◌, ◌≤◌, ◌≡◌, [], length, get_or, sym, true}
 use Rattle.std.specs.Prelude.{bytes_eq}
 use Rattle.ttp_model.specs.declared.error.Part.TheVariants.{Nodes}
 use Rattle.plan_format.specs.Names.{names_in}

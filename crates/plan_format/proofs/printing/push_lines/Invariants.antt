@@ -1,4 +1,4 @@
-use Rattle.std.proofs.Common.{◌≡◌, ◌++◌, take, drop}
+use Rattle.std.proofs.Common.{◌≡◌, ◌++◌, drop}
 use Rattle.plan_format.specs.Names.{names_in, keyword_of}
 use Rattle.plan_format.specs.Spelling.{numbered}
 use Rattle.plan_format.proofs.printing.push_lines.Given as goal
