@@ -8,3 +8,4 @@ pub mod Times
 pub mod PlanNumbers
 pub mod FaultyPlans
 pub mod Orders
+pub mod OneMessage

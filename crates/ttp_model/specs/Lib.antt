@@ -13,3 +13,4 @@ pub mod Faults
 pub mod Chains
 pub mod Twins
 pub mod Moves
+pub mod Worked

@@ -15,6 +15,7 @@ mod rules;
 mod step;
 #[cfg(test)]
 mod tests;
+mod worked;
 
 pub use error::{MemoryFault, ModelError, Part, Place};
 pub use fault::{PlanFault, PlanPart};
@@ -32,3 +33,6 @@ pub use numbers::Numbers;
 pub use parts::{Cluster, Link, Message, Node, Process};
 pub use plan::Plan;
 pub use step::{Kind, Leaf, Ring, Step, Steps};
+pub use worked::{
+    figures_of_one_message, moves_of_three_alike, path_bound_of_one_message, slots_of_one_message,
+};

@@ -1,0 +1,64 @@
+-- The bytes of a node's frames, as its messages are counted up.
+use Rattle.std.proofs.Common.{◌≡◌, ◌≢◌, ℕ, ◌+◌, ◌*◌, ◌<◌, ◌≤◌, length, nat_eq, unwrap_or, Option, Some, arith, inl, inr, refl, sym, ap, ◌∙◌}
+use Rattle.std.specs.HashMap.{HashMap, get, Updates}
+use Rattle.std.proofs.lemmas.Bool.{cases_eq, eq-eqb, ne_eqb}
+use Rattle.ttp_model.specs.declared.limits.TheConstants.{MOST_BYTES}
+use Rattle.ttp_model.specs.Problem.{Problem, message_at, source_of}
+use Rattle.tt_choice.specs.Totals.{total}
+use Rattle.tt_choice.specs.Choices.{Chosen, lo_of}
+use Rattle.tt_choice.proofs.Totals.{total_next}
+use Rattle.earliest_starts.specs.Fixed.{fixed_bytes}
+
+-- the map has the bytes of each frame of node n, of the messages below m; none is overfull
+pub record AreCounted {S : Type 0} (i : Problem) (c : Chosen) (n m capacity : ℕ) (loads : HashMap ℕ ℕ S) : Type 0 where
+  pub counted : (r : ℕ) → unwrap_or (get nat_eq loads r) 0 ≡ total (fixed_bytes i c n r) m
+  pub fits : (r : ℕ) → total (fixed_bytes i c n r) m ≤ capacity
+  pub small : (r : ℕ) → total (fixed_bytes i c n r) m ≤ m * MOST_BYTES
+
+module _ (i : Problem) (c : Chosen) (n m : ℕ) where
+  -- a message of the frame adds its bytes
+  pub load_more : (r : ℕ) → source_of i m ≡ n → lo_of c m ≡ r → total (fixed_bytes i c n r) (m + 1) ≡ total (fixed_bytes i c n r) m + (message_at i m).bytes
+  load_more r node round =
+      let bytes : fixed_bytes i c n r m ≡ (message_at i m).bytes = rw (eq-eqb _ _ node, eq-eqb _ _ round) refl in
+      omega (arith, bytes, total_next (fixed_bytes i c n r) m)
+
+  -- one of another round, or of another node, adds nothing
+  load_same_round : (r : ℕ) → source_of i m ≡ n → lo_of c m ≢ r → total (fixed_bytes i c n r) (m + 1) ≡ total (fixed_bytes i c n r) m
+  load_same_round r node differ =
+      let none : fixed_bytes i c n r m ≡ 0 = rw (eq-eqb _ _ node, ne_eqb _ _ differ) refl in
+      omega (arith, none, total_next (fixed_bytes i c n r) m)
+
+  load_same_node : (r : ℕ) → source_of i m ≢ n → total (fixed_bytes i c n r) (m + 1) ≡ total (fixed_bytes i c n r) m
+  load_same_node r differ =
+      let none : fixed_bytes i c n r m ≡ 0 = rw (ne_eqb _ _ differ) refl in
+      omega (arith, none, total_next (fixed_bytes i c n r) m)
+
+  module _ (round load : ℕ) (node : source_of i m ≡ n) (at : lo_of c m ≡ round) (is : load ≡ total (fixed_bytes i c n round) m + (message_at i m).bytes) where
+    -- the count of the message's round is written anew
+    counted_more : {S : Type 0} (old new : HashMap ℕ ℕ S) → ((r : ℕ) → unwrap_or (get nat_eq old r) 0 ≡ total (fixed_bytes i c n r) m) → Updates nat_eq old new round (Some load) → (r : ℕ) → unwrap_or (get nat_eq new r) 0 ≡ total (fixed_bytes i c n r) (m + 1)
+    counted_more old new counted updates r = elim (cases_eq round r) [
+      | inl same ↦ ap (λ (o : Option ℕ). unwrap_or o 0) (ap (get nat_eq new) (sym same) ∙ updates.1) ∙ is ∙ ap (λ (x : ℕ). total (fixed_bytes i c n x) m + (message_at i m).bytes) same ∙ sym (load_more r node (at ∙ same))
+      | inr differ ↦ ap (λ (o : Option ℕ). unwrap_or o 0) (updates.2 r (ne_eqb _ _ differ)) ∙ counted r ∙ sym (load_same_round r node (λ same. differ (sym at ∙ same)))
+    ]
+
+    -- the counts stay below a bound
+    bound_more : (bound : ℕ) → load ≤ bound → ((r : ℕ) → total (fixed_bytes i c n r) m ≤ bound) → (r : ℕ) → total (fixed_bytes i c n r) (m + 1) ≤ bound
+    bound_more bound fits all r = elim (cases_eq round r) [
+      | inl same ↦ omega (arith, fits, is, load_more r node (at ∙ same), ap (λ (x : ℕ). total (fixed_bytes i c n x) m) same)
+      | inr differ ↦ omega (arith, all r, load_same_round r node (λ same. differ (sym at ∙ same)))
+    ]
+
+    pub AreCounted-more : {S : Type 0} (capacity : ℕ) (old new : HashMap ℕ ℕ S) → AreCounted i c n m capacity old → load ≤ capacity → (message_at i m).bytes ≤ MOST_BYTES → Updates nat_eq old new round (Some load) → AreCounted i c n (m + 1) capacity new
+    AreCounted-more capacity old new before fits few updates = record {
+      counted = counted_more old new before.counted updates;
+      fits = bound_more capacity fits before.fits;
+      small = bound_more ((m + 1) * MOST_BYTES) (omega (arith, is, few, before.small round)) (λ r. omega (arith, before.small r));
+    }
+
+  -- a message of another node changes nothing
+  pub AreCounted-same : {S : Type 0} (capacity : ℕ) (loads : HashMap ℕ ℕ S) → source_of i m ≢ n → AreCounted i c n m capacity loads → AreCounted i c n (m + 1) capacity loads
+  AreCounted-same capacity loads differ before = record {
+    counted = λ r. before.counted r ∙ sym (load_same_node r differ);
+    fits = λ r. omega (arith, before.fits r, load_same_node r differ);
+    small = λ r. omega (arith, before.small r, load_same_node r differ);
+  }

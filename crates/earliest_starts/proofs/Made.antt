@@ -1,0 +1,112 @@
+-- The plan that is made of settled starts: valid, in the choice, and earliest.
+use Rattle.std.proofs.Common.{◌≡◌, ◌≢◌, ℕ, ◌+◌, ◌-◌, ◌<◌, ◌≤◌, ◌⊎◌, List, length, slice_index, slice_index_or, unwrap_or, Option, None, Some, IsSome, IsTrue, Contains, map, max, arith, inl, inr, refl, subst, sym, ap, ◌∙◌}
+use Rattle.std.proofs.lemmas.Bool.{false≢true, both_ways}
+use Rattle.std.specs.List.{range_with_len}
+use Rattle.std.proofs.lemmas.List.Elements.{Contains-get_or}
+use Rattle.std.proofs.lemmas.List.FromFn.{map-range_with_len_more}
+use Rattle.std.proofs.lemmas.List.Sums.{fold_push}
+use Rattle.ttp_model.specs.declared.plan.Plan.{Plan}
+use Rattle.ttp_model.specs.Lists.{EachBelow, greatest}
+use Rattle.ttp_model.specs.Problem.{Problem, node_at, process_at, message_at, link_at, node_of, source_of}
+use Rattle.ttp_model.specs.Rules.{IsInstance}
+use Rattle.ttp_model.specs.Graph.{HasLink}
+use Rattle.ttp_model.specs.Plans.{IsValid, IsNodeOrder, HasOwnCapacity, AreApart, start_of, end_of, round_of, load_of, bytes_in}
+use Rattle.ttp_model.specs.declared.error.Place.TheVariants.{AtProcess, AtLink, AtMessage}
+use Rattle.tt_choice.specs.Totals.{total}
+use Rattle.tt_choice.specs.Choices.{Chosen, fixed_cap, is_before, lo_of, hi_of, IsFixedTo, IsOption, IsIn, ArePair, IsChoice, IsComplete}
+use Rattle.tt_choice.proofs.Extend.{from_parts, order_of}
+use Rattle.earliest_starts.specs.Fixed.{fixed_caps, plan_of, copied_out, sends_from, sends_until, fixed_bytes}
+use Rattle.earliest_starts.specs.Clashes.{MissesSlot}
+use Rattle.earliest_starts.specs.Ranks.{TurnsNoLink}
+use Rattle.earliest_starts.specs.Starts.{AreFloors, IsSettled, AreSettled}
+use Rattle.earliest_starts.specs.Answers.{IsEarliest}
+use Rattle.earliest_starts.proofs.Rings.{one_before}
+use Rattle.earliest_starts.proofs.Sound.{fixed_at, length-fixed_caps, waits_le}
+
+own_option : (i : Problem) (n : ℕ) (o : Option ℕ) → IsSome o → IsOption i n o → Contains (node_at i n).capacities (unwrap_or o 0)
+own_option i n None some is = absurd (false≢true some)
+own_option i n (Some fixed) some is = is
+
+fixed_to : (o : Option ℕ) → IsFixedTo o (unwrap_or o 0)
+fixed_to None = tt
+fixed_to (Some fixed) = refl
+
+module _ (i : Problem) (c : Chosen) (w : IsInstance i) (ok : IsChoice i c) (done : IsComplete i c) where
+  -- the prefix is an order of all nodes
+  pub order_fits : IsNodeOrder (length i.nodes) c.prefix
+  order_fits = order_of (length i.nodes) c.prefix (from_parts (length i.nodes) c.prefix ok.nodes ok.once) done.placed
+
+  pub caps_fit : length (fixed_caps c) ≡ length i.nodes
+  caps_fit = length-fixed_caps c ∙ ok.fixed_length
+
+  pub own_caps : EachBelow (length i.nodes) (HasOwnCapacity i (fixed_caps c))
+  own_caps n h = record { own = subst (Contains (node_at i n).capacities) (sym (fixed_at c n (omega (arith, h, ok.fixed_length)))) (own_option i n (fixed_cap c n) (done.fixed n h) (ok.options n h)) }
+
+  -- a link that isn't turned is chosen
+  link_chosen : TurnsNoLink i c → (l : ℕ) → l < length i.links → IsTrue (is_before c (link_at i l).before (link_at i l).after)
+  link_chosen none l h =
+      let ends = w.indices (AtLink l) h in
+      let stays = w.links l h in
+      elim (one_before i c (link_at i l).before (link_at i l).after done (record { first = ends.0; second = ends.1; two = stays.two; one_node = stays.one_node })) [
+        | inl forth ↦ forth
+        | inr back ↦ absurd (both_ways _ (none l h) back)
+      ]
+
+module _ (i : Problem) (c : Chosen) (floors starts : List ℕ) (w : IsInstance i) (ok : IsChoice i c) (done : IsComplete i c) (none : TurnsNoLink i c) (f : AreFloors i c (length i.messages) floors) (all : length starts ≡ length i.processes) (s : AreSettled i c floors starts) where
+  apart : (p q : ℕ) → p < q → q < length i.processes → AreApart i (plan_of c starts) p q
+  apart p q up h same = elim (one_before i c p q done (record { first = omega (arith, up, h); second = h; two = λ equal. omega (arith, equal, up); one_node = same })) [
+    | inl forth ↦ inl ((s q h).after p forth)
+    | inr back ↦ inr ((s p (omega (arith, up, h))).after q back)
+  ]
+
+  IsValid-made : ((m : ℕ) → m < length i.messages → copied_out i starts m ≤ sends_from i c m) → ((m : ℕ) → m < length i.messages → total (fixed_bytes i c (source_of i m) (lo_of c m)) (length i.messages) ≤ slice_index (fixed_caps c) (source_of i m)) → IsValid i (plan_of c starts)
+  IsValid-made ready frames = record {
+    lengths = record { order = done.placed; capacities = caps_fit i c w ok done; starts = all; rounds = ok.lo_length };
+    order = order_fits i c w ok done;
+    capacities = own_caps i c w ok done;
+    released = λ p h. omega (arith, f.released p h, (s p h).floor);
+    in_time = λ p h. ((s p h).deadline, (s p h).horizon);
+    apart = λ p h q. apart p q;
+    links = λ l h. (s (link_at i l).after (w.indices (AtLink l) h).1).after (link_at i l).before (link_chosen i c w ok done none l h);
+    ready = ready;
+    arrived = λ m h k inside.
+        let q = slice_index (message_at i m).receivers k in
+        let there : q < length i.processes = (w.indices (AtMessage m) h).1 k 0 inside in
+        omega (arith, f.arrived m q h (Contains-get_or (message_at i m).receivers k 0 inside), (s q there).floor);
+    frames = frames;
+  }
+
+  IsIn-made : IsIn i c (plan_of c starts)
+  IsIn-made = record {
+    prefix = λ k h. refl;
+    fixed = λ n h. subst (IsFixedTo (fixed_cap c n)) (sym (fixed_at c n (omega (arith, h, ok.fixed_length)))) (fixed_to (fixed_cap c n));
+    pairs = λ p q holds. (s q (ok.pairs p q holds).second).after p holds;
+    ranges = λ m h. (omega arith, ok.ranges m h);
+  }
+
+  -- no valid plan of the choice starts any process earlier
+  IsEarliest-made : IsValid i (plan_of c starts) → IsEarliest i c (plan_of c starts)
+  IsEarliest-made valid = record {
+    valid = valid;
+    chosen = IsIn-made;
+    least = λ other v is p h. waits_le i c other w ok done v is p (slice_index starts p) (s p h).waits;
+  }
+
+  -- where each message is ready and each frame fits
+  pub IsEarliest-found : ((m : ℕ) → m < length i.messages → copied_out i starts m ≤ sends_from i c m) → ((n r : ℕ) → n < length i.nodes → total (fixed_bytes i c n r) (length i.messages) ≤ slice_index (fixed_caps c) n) → IsEarliest i c (plan_of c starts)
+  IsEarliest-found ready frames =
+      let source = λ (m : ℕ) (h : m < length i.messages). w.indices (AtProcess (message_at i m).sender) (w.indices (AtMessage m) h).0 in
+      IsEarliest-made (IsValid-made ready (λ m h. frames (source_of i m) (lo_of c m) (source m h)))
+
+  -- a message that misses its slot
+  pub MissesSlot-late : (m : ℕ) → m < length i.messages → sends_from i c m < copied_out i starts m → MissesSlot i c m
+  MissesSlot-late m h late = record {
+    message = h;
+    time = slice_index starts (message_at i m).sender;
+    waits = (s (message_at i m).sender (w.indices (AtMessage m) h).0).waits;
+    late = late;
+  }
+
+-- the greatest of one number more
+pub greatest-more : (f : ℕ → ℕ) (count : ℕ) → greatest (map f (range_with_len 0 (count + 1))) ≡ max (greatest (map f (range_with_len 0 count))) (f count)
+greatest-more f count = rw (map-range_with_len_more f 0 count count (omega arith)) (fold_push max 0 (map f (range_with_len 0 count)) (f count))

@@ -1,0 +1,139 @@
+//! Which plan of a complete choice is the earliest?
+
+ghost use Rattle.std.specs.Prelude.{◌≡◌, ◌+◌, length, map, slice_index, IfOk};
+ghost use Rattle.std.specs.List.{range_with_len};
+ghost use Rattle.ttp_model.specs.Lists.{greatest};
+ghost use Rattle.ttp_model.specs.Problem.{process_at};
+ghost use Rattle.ttp_model.specs.Delays.{delay};
+ghost use Rattle.tt_choice.specs.Choices.{IsChoice, IsComplete};
+ghost use Rattle.earliest_starts.specs.Answers.{IsAnswer};
+ghost use Rattle.earliest_starts.specs.Fixed.{fixed_caps, plan_of};
+ghost use Rattle.earliest_starts.specs.Ranks.{AreRanks, Rise, TurnsNoLink};
+
+use crate::answer::Earliest;
+use crate::clash::Clash;
+use crate::floors::floors;
+use crate::frames::{fixed_caps, late_message};
+use crate::loads::overfull;
+use crate::ranks::{disorder, ranks, ring, turned_link};
+use crate::starts::{end, settle};
+use std::alloc::Global;
+use tt_choice::Choice;
+use tt_layout::Layout;
+use ttp_model::{Instance, MemoryFault, Numbers, Plan};
+
+/// The plan of a complete choice in which each process starts as early as it can, or why the
+/// choice has no valid plan. Rings are looked for first, then starts are found rank by rank, then
+/// slots and frames are judged.
+///
+/// A pass over the links, three over the pairs of processes, one over the messages and their
+/// receivers, and one over the messages for each node.
+pub fn earliest(
+    alloc: Global,
+    instance: &Instance,
+    choice: &Choice,
+) -> Result<Earliest, MemoryFault>
+    requires of { IsChoice instance.now choice.now }
+    requires complete { IsComplete instance.now choice.now }
+    ensures { IfOk result (IsAnswer instance.now choice.now) }
+{
+    let _processes = instance.processes();
+    if let Some(link) = turned_link(instance, choice) {
+        let two = vec![in alloc; link.before, link.after]?;
+        return Ok(Earliest::Clash(Clash::Cycle(Numbers::new(two))));
+    }
+    let ranks = ranks(alloc, instance, choice)?;
+    if let Some((first, second)) = disorder(instance, choice, ranks.as_slice()) {
+        let ring = ring(alloc, instance, choice, first, second)?;
+        return Ok(Earliest::Clash(Clash::Cycle(ring)));
+    }
+    let answer = timed(alloc, instance, choice, ranks.as_slice())?;
+    Ok(answer)
+}
+
+/// The answer for a choice without rings.
+fn timed(
+    alloc: Global,
+    instance: &Instance,
+    choice: &Choice,
+    ranks: &[u32],
+) -> Result<Earliest, MemoryFault>
+    requires of { IsChoice instance.now choice.now }
+    requires complete { IsComplete instance.now choice.now }
+    requires links { TurnsNoLink instance.now choice.now }
+    requires ranks { AreRanks instance.now choice.now ranks.now }
+    requires rise { Rise instance.now choice.now ranks.now }
+    ensures { IfOk result (IsAnswer instance.now choice.now) }
+{
+    let count = instance.processes().len();
+    let caps = fixed_caps(alloc, instance, choice)?;
+    let layout = Layout::of(instance, choice.prefix(), caps.as_slice());
+    let floors = floors(alloc, instance, choice, &layout)?;
+    let mut starts = vec![in alloc; 0u32; count]?;
+    if let Some(p) = settle(instance, choice, ranks, floors.as_slice(), &mut starts) {
+        return Ok(Earliest::Clash(Clash::Window(p)));
+    }
+    if let Some(m) = late_message(instance, choice, &layout, starts.as_slice()) {
+        return Ok(Earliest::Clash(Clash::Round(m)));
+    }
+    if let Some((n, r)) = overfull(alloc, instance, choice, caps.as_slice())? {
+        return Ok(Earliest::Clash(Clash::Frame(n, r)));
+    }
+    let (plan, ticks) = made(alloc, instance, choice, caps, starts)?;
+    Ok(Earliest::Plan(plan, ticks))
+}
+
+/// The plan of these capacities and starts, with its delay in ticks.
+fn made(
+    alloc: Global,
+    instance: &Instance,
+    choice: &Choice,
+    caps: Vec<u32>,
+    starts: Vec<u32>,
+) -> Result<(Plan, u64), MemoryFault>
+    requires of { IsChoice instance.now choice.now }
+    requires caps { caps.items ≡ fixed_caps choice.now }
+    requires all { length starts.items ≡ length instance.now.processes }
+    ensures plan { IfOk result (λ made. made.0 ≡ plan_of choice.now starts.items) }
+    ensures ticks { IfOk result
+        (λ made. made.1 ≡ delay instance.now (plan_of choice.now starts.items)) }
+{
+    let ticks = greatest_end(instance, starts.as_slice());
+    let plan = Plan {
+        order: Numbers::new(Vec::from_slice(alloc, choice.prefix())?),
+        caps: Numbers::new(caps),
+        starts: Numbers::new(starts),
+        rounds: rounds(alloc, instance, choice)?,
+    };
+    Ok((plan, ticks))
+}
+
+/// The greatest end, in ticks.
+fn greatest_end(instance: &Instance, starts: &[u32]) -> u64
+    requires { length starts.now ≡ length instance.now.processes }
+    ensures { result ≡ greatest
+        (map (λ p. slice_index starts.now p + (process_at instance.now p).wcet)
+        (range_with_len 0 (length instance.now.processes))) }
+{
+    let mut greatest = 0u64;
+    for p in 0..instance.processes().len() {
+        greatest = greatest.max(end(instance, starts, p));
+    }
+    greatest
+}
+
+/// The round of each message.
+fn rounds(alloc: Global, instance: &Instance, choice: &Choice) -> Result<Numbers, MemoryFault>
+    requires { IsChoice instance.now choice.now }
+    ensures { IfOk result (λ rounds. rounds ≡ choice.now.lo) }
+{
+    let count = instance.messages().len() as u32;
+    let mut rounds = Vec::new(alloc);
+    for m in 0..count {
+        rounds.push(choice.lo(m))?;
+    }
+    Ok(Numbers::new(rounds))
+}
+
+#[cfg(test)]
+mod complete_choices;

@@ -1,0 +1,79 @@
+//! Which frames are overfull?
+
+ghost use Rattle.std.specs.Prelude.{◌≡◌, ℕ, ◌<◌, ◌≤◌, IfOk, IfSome, IfNone, length, nat_eq, slice_index, unwrap_or};
+ghost use Rattle.std.specs.HashMap.{get};
+ghost use Rattle.ttp_model.specs.Lists.{EachBelow};
+ghost use Rattle.ttp_model.specs.Problem.{source_of};
+ghost use Rattle.tt_choice.specs.Totals.{total};
+ghost use Rattle.tt_choice.specs.Choices.{IsChoice, lo_of};
+ghost use Rattle.earliest_starts.specs.Fixed.{fixed_caps, fixed_bytes};
+ghost use Rattle.earliest_starts.specs.Clashes.{IsOverfull};
+
+use std::alloc::Global;
+use std::collections::HashMap;
+use tt_choice::Choice;
+use ttp_model::{Instance, MemoryFault};
+
+/// A node and a round whose messages don't fit into the frame. A pass over the messages for each
+/// node.
+pub fn overfull(
+    alloc: Global,
+    instance: &Instance,
+    choice: &Choice,
+    caps: &[u32],
+) -> Result<Option<(u32, u32)>, MemoryFault>
+    requires of { IsChoice instance.now choice.now }
+    requires caps { caps.now ≡ fixed_caps choice.now }
+    ensures found { IfOk result (λ frame. IfSome frame
+        (λ at. IsOverfull instance.now choice.now at.0 at.1)) }
+    ensures none { IfOk result (λ frame. IfNone frame ((n r : ℕ) → n < length instance.now.nodes
+        → total (fixed_bytes instance.now choice.now n r) (length instance.now.messages)
+        ≤ slice_index (fixed_caps choice.now) n)) }
+{
+    let count = instance.nodes().len() as u32;
+    for n in 0..count {
+        if let Some(r) = overfull_round(alloc, instance, choice, n, caps[n as usize])? {
+            return Ok(Some((n, r)));
+        }
+    }
+    Ok(None)
+}
+
+/// A round in which the messages of node `n` have more bytes than its capacity. The bytes of each
+/// round are counted up as its messages come.
+fn overfull_round(
+    alloc: Global,
+    instance: &Instance,
+    choice: &Choice,
+    n: u32,
+    capacity: u32,
+) -> Result<Option<u32>, MemoryFault>
+    requires { IsChoice instance.now choice.now }
+    ensures found { IfOk result (λ round. IfSome round (λ r. capacity
+        < total (fixed_bytes instance.now choice.now n r) (length instance.now.messages))) }
+    ensures none { IfOk result (λ round. IfNone round ((r : ℕ)
+        → total (fixed_bytes instance.now choice.now n r) (length instance.now.messages)
+        ≤ capacity)) }
+{
+    let count = instance.messages().len() as u32;
+    let mut loads = HashMap::new(alloc);
+    for m in 0..count {
+        if instance.source_of(m as usize) == n {
+            let r = choice.lo(m);
+            let before = load_in(&loads, r);
+            let load = before + instance.message_at(m as usize).bytes;
+            if capacity < load {
+                return Ok(Some(r));
+            }
+            loads.insert(r, load)?;
+        }
+    }
+    Ok(None)
+}
+
+/// The bytes that were counted up for round `r`.
+fn load_in(loads: &HashMap<u32, u32>, r: u32) -> u32
+    ensures { result ≡ unwrap_or (get nat_eq loads.now r) 0 }
+{
+    loads.get(&r).copied().unwrap_or(0)
+}

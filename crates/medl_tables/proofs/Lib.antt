@@ -1,0 +1,2 @@
+pub mod FrameEntries
+pub mod TableParts

@@ -1,0 +1,13 @@
+use Rattle.std.proofs.Common.{◌≡◌, codes, arith}
+use Rattle.std.proofs.lemmas.Grind.{common_steps}
+use Rattle.ttp_model.specs.Problem.{message_at}
+use Rattle.spaced_words.proofs.CallerLemmas.{spaced-append, three_pieces}
+use Rattle.medl_tables.specs.Text.{entry_text}
+use Rattle.medl_tables.proofs.text.push_entry.Goals as goal
+
+pub returns : goal.returns
+unfolding entry_text
+returns c =
+    let name : c.as_bytes.result.now ≡ (message_at c.args.instance.now c.args.entry.now.message).name = grind (arith, common_steps) in
+    let named = rw name at c.in_ok-push_word.ensures in
+    rw (spaced-append, spaced-append) (three_pieces c.args.text.now.items _ _ _ _ (codes ":") _ named c.in_ok-push.ensures.items c.in_ok-push_number.ensures.ok)

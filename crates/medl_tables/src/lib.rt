@@ -1,0 +1,15 @@
+//! What each node is told of a plan: who sends in each slot, and what the frames carry for it.
+#![tactic(auto)]
+
+mod medl;
+mod row;
+mod rows;
+mod text;
+
+pub use medl::Medl;
+pub use row::{Entries, Entry, Row};
+pub use text::print;
+pub use ttp_model::MemoryFault;
+
+#[cfg(test)]
+mod tests;

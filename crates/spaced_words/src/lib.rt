@@ -1,0 +1,42 @@
+//! How is a line written word by word, with a space before each word?
+#![tactic(auto)]
+
+ghost use Rattle.std.specs.Prelude.{◌≡◌, ◌++◌, OnOk, decimal};
+ghost use Rattle.spaced_words.specs.Words.{spaced};
+
+use line_text::push_number;
+use std::alloc::AllocError;
+
+/// Adds a space and a word. After an error the space may have been added.
+#[tactic(auto, unfolding(crate::specs::Words::spaced))]
+pub fn push_word(text: &mut Vec<u8>, word: &[u8]) -> Result<(), AllocError>
+    ensures { OnOk result (text.new.items ≡ text.old.items ++ spaced word.now) }
+{
+    text.push(b' ')?;
+    text.extend_from_slice(word)
+}
+
+/// Adds a space and a number's digits. After an error the space may have been added.
+#[tactic(auto, unfolding(crate::specs::Words::spaced))]
+pub fn push_number_word(text: &mut Vec<u8>, number: u64) -> Result<(), AllocError>
+    ensures { OnOk result (text.new.items ≡ text.old.items ++ spaced (decimal number)) }
+{
+    text.push(b' ')?;
+    push_number(text, number)
+}
+
+#[cfg(test)]
+mod tests {
+    use super::*;
+    use std::test::Fail;
+
+    #[test]
+    fn each_word_has_a_space_before_it(rt: HostRuntime) -> Result<(), Fail> {
+        let mut text = Vec::from_slice(rt.alloc(), b"slot")?;
+        push_number_word(&mut text, 0)?;
+        push_number_word(&mut text, 17)?;
+        push_word(&mut text, b"A")?;
+        assert_eq!(rt; text.as_slice(), b"slot 0 17 A".as_slice());
+        Ok(())
+    }
+}

@@ -1,0 +1,15 @@
+pub mod Totals
+pub mod Digits
+pub mod Before
+pub mod Pairs
+pub mod Changes
+pub mod Root
+pub mod Members
+pub mod Completes
+pub mod Unplaced
+pub mod Children
+pub mod Smaller
+pub mod Bounds
+pub mod Extend
+pub mod Exact
+pub mod Places

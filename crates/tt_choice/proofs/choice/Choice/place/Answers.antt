@@ -1,0 +1,12 @@
+use Rattle.tt_choice.proofs.Changes.{IsChoice-place}
+use Rattle.tt_choice.proofs.Members.{IsIn-place}
+use Rattle.tt_choice.proofs.choice.Choice.place.Goals as goal
+
+pub returns-clause-choice : goal.returns-clause-choice
+returns-clause-choice c =
+    let ok = rw (← c.self.view_is) at c.requires.of in
+    let is = rw (← c.self.view_is) at c.requires.unplaced in
+    rw c.in_ok-push.ensures.items (IsChoice-place _ _ c.args.n ok is)
+
+pub returns-clause-plans : goal.returns-clause-plans
+returns-clause-plans c = rw (c.in_ok-push.ensures.items, ← c.self.view_is) (λ plan. IsIn-place _ _ plan c.args.n)

@@ -1,0 +1,9 @@
+use Rattle.std.proofs.Common.{arith}
+use Rattle.tt_choice.proofs.Members.{IsIn-at_least}
+use Rattle.tt_choice.proofs.choice.Choice.rounds_at_least.Goals as goal
+
+pub returns-clause-plans : goal.returns-clause-plans
+returns-clause-plans c =
+    let message = rw (← c.self.view_is) at c.requires.message in
+    let above = rw (← c.self.view_is) at c.requires.above in
+    rw (← c.self.view_is) (λ i plan ok. IsIn-at_least i _ plan c.args.m c.args.r ok (omega (arith, message, ok.lo_length)) above)

@@ -1,0 +1,10 @@
+pub mod Totals
+pub mod Before
+pub mod Choices
+pub mod Extremes
+pub mod Branches
+pub mod Sizes
+pub use Rattle.ttp_model.specs.Problem
+pub use Rattle.ttp_model.specs.Rules
+pub use Rattle.ttp_model.specs.Slots
+pub use Rattle.ttp_model.specs.Plans

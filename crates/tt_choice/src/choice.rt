@@ -1,0 +1,176 @@
+//! What of a plan is chosen so far?
+
+ghost use Rattle.std.specs.Prelude.{◌≡◌, ◌-◌, ◌<◌, ◌≤◌, length, IfOk};
+ghost use Rattle.ttp_model.specs.declared.limits.TheConstants.{MOST_PROCESSES};
+ghost use Rattle.ttp_model.specs.Plans.{IsValid};
+ghost use Rattle.ttp_model.specs.declared.plan.Plan.{Plan};
+ghost use Rattle.tt_choice.specs.Choices.{IsChoice, IsIn, fixed_cap, is_before, lo_of, hi_of, unordered_below, unordered_pairs};
+ghost use Rattle.tt_choice.specs.Branches.{open_choice, root_choice};
+
+mod changes;
+mod extremes;
+mod questions;
+
+use crate::precedence::Precedence;
+use std::alloc::Global;
+use std::marker::Model;
+use ttp_model::{Instance, MemoryFault};
+
+/// A set of plans: those whose slot order begins with given nodes, whose capacities are the ones
+/// that are fixed, in which some processes of one node go before others, and whose messages are
+/// sent in given ranges of rounds.
+///
+/// A choice is one of an instance, which each call that needs it is handed again.
+#[derive(Debug, Drop)]
+pub struct Choice {
+    /// The first nodes of the slot order.
+    prefix: Vec<u32>,
+    /// The fixed capacity of each node in bytes, or none.
+    fixed: Vec<Option<u32>>,
+    /// Which processes go before which.
+    before: Precedence,
+    /// How many pairs of processes of one node are in neither order.
+    unordered: u32,
+    /// The least round of each message.
+    lo: Vec<u32>,
+    /// The greatest round of each message.
+    hi: Vec<u32>,
+}
+
+impl Model for Choice {
+    ghost use Rattle.tt_choice.specs.Choices.{Chosen};
+
+    ghost Value = { Chosen };
+
+    ghost view = { λ s. record {
+      prefix = s.prefix.items;
+      fixed = s.fixed.items;
+      before = s.before;
+      unordered = s.unordered;
+      lo = s.lo.items;
+      hi = s.hi.items;
+    } };
+}
+
+impl Choice {
+    /// The choice in which nothing is chosen, with rounds from 0 to one below the horizon. Each
+    /// valid plan is in it. Takes time for each two processes.
+    pub fn root(alloc: Global, instance: &Instance) -> Result<Self, MemoryFault>
+        ensures value { IfOk result (λ c. c ≡ root_choice instance.now) }
+        ensures choice { IfOk result (IsChoice instance.now) }
+        ensures plans { IfOk result (λ c. (plan : Plan)
+            → IsValid instance.now plan → IsIn instance.now c plan) }
+    {
+        let _nodes = instance.nodes();
+        let choice = Self::open(alloc, instance)?;
+        Ok(choice)
+    }
+
+    /// The parts of the choice in which nothing is chosen.
+    fn open(alloc: Global, instance: &Instance) -> Result<Self, MemoryFault>
+        ensures { IfOk result (λ c. c ≡ root_choice instance.now) }
+    {
+        let nodes = instance.nodes().len();
+        let messages = instance.messages().len();
+        let processes = instance.processes().len() as u32;
+        Ok(Choice {
+            prefix: Vec::new(alloc),
+            fixed: vec![in alloc; None; nodes]?,
+            before: Precedence::none(alloc, processes)?,
+            unordered: pairs_of_one_node(instance),
+            lo: vec![in alloc; 0u32; messages]?,
+            hi: vec![in alloc; instance.cluster().horizon - 1; messages]?,
+        })
+    }
+
+    /// The same choice in memory of its own.
+    pub fn copy(&self, alloc: Global) -> Result<Self, MemoryFault>
+        ensures { IfOk result (λ c. c ≡ self.now) }
+    {
+        Ok(Choice {
+            prefix: Vec::from_slice(alloc, self.prefix.as_slice())?,
+            fixed: Vec::from_slice(alloc, self.fixed.as_slice())?,
+            before: self.before.copy(alloc)?,
+            unordered: self.unordered,
+            lo: Vec::from_slice(alloc, self.lo.as_slice())?,
+            hi: Vec::from_slice(alloc, self.hi.as_slice())?,
+        })
+    }
+
+    /// The nodes that are placed, in their order.
+    pub fn prefix(&self) -> &[u32]
+        ensures { result.now ≡ self.now.prefix }
+    {
+        self.prefix.as_slice()
+    }
+
+    /// The capacity in bytes that is fixed for node `n`, if one is.
+    pub fn fixed_cap(&self, n: u32) -> Option<u32>
+        requires { n < length self.now.fixed }
+        ensures { result ≡ fixed_cap self.now n }
+    {
+        self.fixed[n as usize]
+    }
+
+    /// Whether process `p` is chosen to go before `q`. Looks at one test.
+    pub fn is_before(&self, p: u32, q: u32) -> bool
+        ensures { result ≡ is_before self.now p q }
+    {
+        self.before.goes_before(p, q)
+    }
+
+    /// All pairs of processes of which the first is chosen to go before the second.
+    pub fn precedence(&self) -> &Precedence
+        ensures { result.now ≡ self.now.before }
+    {
+        &self.before
+    }
+
+    /// The least round that message `m` may be sent in.
+    pub fn lo(&self, m: u32) -> u32
+        requires { m < length self.now.lo }
+        ensures { result ≡ lo_of self.now m }
+    {
+        self.lo[m as usize]
+    }
+
+    /// The greatest round that message `m` may be sent in.
+    pub fn hi(&self, m: u32) -> u32
+        requires { m < length self.now.hi }
+        ensures { result ≡ hi_of self.now m }
+    {
+        self.hi[m as usize]
+    }
+}
+
+/// How many processes before `p` stand on its node.
+fn earlier_on_node(instance: &Instance, p: u32) -> u32
+    requires { p < length instance.now.processes }
+    ensures count { result ≡ unordered_below instance.now (open_choice instance.now 0) p }
+    ensures few { result ≤ MOST_PROCESSES }
+{
+    let _processes = instance.processes();
+    let node = instance.node_of(p as usize);
+    let mut earlier = 0;
+    for q in 0..p {
+        if instance.node_of(q as usize) == node {
+            earlier += 1;
+        }
+    }
+    earlier
+}
+
+/// How many pairs of processes stand on one node.
+fn pairs_of_one_node(instance: &Instance) -> u32
+    ensures { result ≡ unordered_pairs instance.now (open_choice instance.now 0) }
+{
+    let count = instance.processes().len() as u32;
+    let mut pairs = 0;
+    for p in 0..count {
+        pairs += earlier_on_node(instance, p);
+    }
+    pairs
+}
+
+#[cfg(test)]
+mod tests;

@@ -1,0 +1,110 @@
+//! What does one more decision change?
+
+ghost use Rattle.std.specs.Prelude.{◌≡◌, ◌<◌, ◌≤◌, ◌↔◌, length, slice_index, IsOk, OnOk, OnErr};
+ghost use Rattle.ttp_model.specs.Problem.{Problem, node_at};
+ghost use Rattle.ttp_model.specs.Plans.{EndsBefore, round_of};
+ghost use Rattle.ttp_model.specs.declared.plan.Plan.{Plan};
+ghost use Rattle.tt_choice.specs.Choices.{IsChoice, IsIn, lo_of, hi_of};
+ghost use Rattle.tt_choice.specs.Branches.{IsUnplaced, IsOpen, place_next, fix_option, order_pair, at_most, at_least};
+
+use crate::choice::Choice;
+use std::alloc::Global;
+use ttp_model::{Instance, Kind, MemoryFault};
+
+/// The option of node `n` at place `k`.
+fn option_at(instance: &Instance, n: u32, k: u32) -> u32
+    requires node { n < length instance.now.nodes }
+    requires option { k < length (node_at instance.now n).capacities }
+    ensures { result ≡ slice_index (node_at instance.now n).capacities k }
+{
+    instance.nodes()[n as usize].capacities.as_slice()[k as usize]
+}
+
+impl Choice {
+    /// Puts node `n` next in the slot order. Unchanged after a refusal.
+    pub fn place(&mut self, _alloc: Global, instance: &Instance, n: u32) -> Result<(), MemoryFault>
+        requires of { IsChoice instance.now self.old }
+        requires unplaced { IsUnplaced instance.now self.old n }
+        ensures ok { OnOk result (self.new ≡ place_next self.old n) }
+        ensures choice { OnOk result (IsChoice instance.now self.new) }
+        ensures plans { OnOk result ((plan : Plan) → IsIn instance.now self.new plan
+            ↔ (IsIn instance.now self.old plan
+            × (slice_index plan.order (length self.old.prefix) ≡ n))) }
+        ensures err { OnErr result (self.new ≡ self.old) }
+    {
+        let _nodes = instance.nodes();
+        self.prefix.push(n)?;
+        Ok(())
+    }
+
+    /// Fixes the capacity of node `n` to the one at place `k` of its options. Takes no memory, so
+    /// the answer is always `Ok`.
+    pub fn fix_cap(
+        &mut self,
+        _alloc: Global,
+        instance: &Instance,
+        n: u32,
+        k: u32,
+    ) -> Result<(), MemoryFault>
+        requires of { IsChoice instance.now self.old }
+        requires open { IsOpen instance.now self.old (Kind.Cap n) }
+        requires option { k < length (node_at instance.now n).capacities }
+        ensures done { IsOk result }
+        ensures ok { OnOk result (self.new ≡ fix_option instance.now self.old n k) }
+        ensures choice { OnOk result (IsChoice instance.now self.new) }
+        ensures plans { OnOk result ((plan : Plan) → IsIn instance.now self.new plan
+            ↔ (IsIn instance.now self.old plan
+            × (slice_index plan.caps n ≡ slice_index (node_at instance.now n).capacities k))) }
+    {
+        self.fixed[n as usize] = Some(option_at(instance, n, k));
+        Ok(())
+    }
+
+    /// Lets process `p` go before `q`. Takes no memory, so the answer is always `Ok`.
+    pub fn before(
+        &mut self,
+        _alloc: Global,
+        instance: &Instance,
+        p: u32,
+        q: u32,
+    ) -> Result<(), MemoryFault>
+        requires of { IsChoice instance.now self.old }
+        requires open { IsOpen instance.now self.old (Kind.Pair p q) }
+        ensures done { IsOk result }
+        ensures ok { OnOk result (self.new ≡ order_pair self.old p q) }
+        ensures choice { OnOk result (IsChoice instance.now self.new) }
+        ensures plans { OnOk result ((plan : Plan) → IsIn instance.now self.new plan
+            ↔ (IsIn instance.now self.old plan × EndsBefore instance.now plan p q)) }
+    {
+        let _processes = instance.processes();
+        self.before.put(p, q);
+        self.unordered -= 1;
+        Ok(())
+    }
+
+    /// Lets message `m` be sent in round `r` at most. Takes no memory.
+    pub fn rounds_at_most(&mut self, m: u32, r: u32)
+        requires message { m < length self.old.hi }
+        requires from { lo_of self.old m ≤ r }
+        requires below { r < hi_of self.old m }
+        ensures value { self.new ≡ at_most self.old m r }
+        ensures choice { (i : Problem) → IsChoice i self.old → IsChoice i self.new }
+        ensures plans { (i : Problem) (plan : Plan) → IsChoice i self.old
+            → IsIn i self.new plan ↔ (IsIn i self.old plan × (round_of plan m ≤ r)) }
+    {
+        self.hi[m as usize] = r;
+    }
+
+    /// Lets message `m` be sent in round `r` at least. Takes no memory.
+    pub fn rounds_at_least(&mut self, m: u32, r: u32)
+        requires message { m < length self.old.lo }
+        requires above { lo_of self.old m < r }
+        requires to { r ≤ hi_of self.old m }
+        ensures value { self.new ≡ at_least self.old m r }
+        ensures choice { (i : Problem) → IsChoice i self.old → IsChoice i self.new }
+        ensures plans { (i : Problem) (plan : Plan) → IsChoice i self.old
+            → IsIn i self.new plan ↔ (IsIn i self.old plan × (r ≤ round_of plan m)) }
+    {
+        self.lo[m as usize] = r;
+    }
+}

@@ -1,0 +1,151 @@
+//! What of a choice is still open?
+
+ghost use Rattle.std.specs.Prelude.{◌≡◌, ℕ, ◌<◌, ◌≤◌, ◌↔◌, IsTrue, IsSome, length, count_by, is_none, Some, None};
+ghost use Rattle.tt_choice.specs.Totals.{total};
+ghost use Rattle.tt_choice.specs.Choices.{IsChoice, IsComplete, fixed_cap, lo_of, hi_of};
+ghost use Rattle.tt_choice.specs.Branches.{IsOpen, IsUnorderedPair, CutsRange};
+ghost use Rattle.tt_choice.specs.Sizes.{size_left, range_size, binary_digits};
+
+use crate::choice::Choice;
+use ttp_model::{Instance, Kind};
+
+/// How many binary digits a number has.
+fn binary_digits(n: u32) -> usize
+    ensures value { result ≡ binary_digits n }
+    ensures few { result ≤ 32 }
+{
+    (32 - n.leading_zeros()) as usize
+}
+
+impl Choice {
+    /// Whether a branch is open: what it decides is there and isn't decided yet. Costs the same
+    /// for each choice.
+    pub fn is_open(&self, instance: &Instance, kind: &Kind) -> bool
+        requires of { IsChoice instance.now self.now }
+        ensures { IsTrue result ↔ IsOpen instance.now self.now kind.now }
+    {
+        match *kind {
+            Kind::Place => self.prefix.len() < instance.nodes().len(),
+            Kind::Cap(n) => self.is_free(n),
+            Kind::Pair(p, q) => self.is_unordered_pair(instance, p, q),
+            Kind::Round(m, r) => self.cuts_range(m, r),
+        }
+    }
+
+    /// Whether node `n` is there and its capacity is free.
+    fn is_free(&self, n: u32) -> bool
+        ensures { IsTrue result ↔ ((n < length self.now.fixed) × (fixed_cap self.now n ≡ None)) }
+    {
+        (n as usize) < self.fixed.len() && self.fixed[n as usize].is_none()
+    }
+
+    /// Whether two processes stand on one node and are in neither order.
+    fn is_unordered_pair(&self, instance: &Instance, p: u32, q: u32) -> bool
+        requires of { IsChoice instance.now self.now }
+        ensures { IsTrue result ↔ IsUnorderedPair instance.now self.now p q }
+    {
+        let count = instance.processes().len();
+        if (p as usize) >= count || (q as usize) >= count || p == q {
+            return false;
+        }
+        if instance.node_of(p as usize) != instance.node_of(q as usize) {
+            return false;
+        }
+        !self.is_before(p, q) && !self.is_before(q, p)
+    }
+
+    /// Whether message `m` is there and round `r` cuts its range in two.
+    fn cuts_range(&self, m: u32, r: u32) -> bool
+        requires { length self.now.lo ≡ length self.now.hi }
+        ensures { IsTrue result
+            ↔ ((m < length self.now.hi) × (lo_of self.now m ≤ r) × (r < hi_of self.now m)) }
+    {
+        (m as usize) < self.hi.len() && self.lo[m as usize] <= r && r < self.hi[m as usize]
+    }
+
+    /// Whether nothing but the starts is left to choose. One pass over the nodes and one over the
+    /// messages.
+    pub fn is_complete(&self, instance: &Instance) -> bool
+        requires of { IsChoice instance.now self.now }
+        ensures { IsTrue result ↔ IsComplete instance.now self.now }
+    {
+        if self.prefix().len() < instance.nodes().len() {
+            return false;
+        }
+        if self.unordered > 0 {
+            return false;
+        }
+        if !self.all_fixed() {
+            return false;
+        }
+        self.all_rounds()
+    }
+
+    /// Whether each capacity is fixed.
+    fn all_fixed(&self) -> bool
+        ensures { IsTrue result
+            ↔ ((n : ℕ) → n < length self.now.fixed → IsSome (fixed_cap self.now n)) }
+    {
+        for n in 0..self.fixed.len() {
+            if self.fixed[n].is_none() {
+                return false;
+            }
+        }
+        true
+    }
+
+    /// Whether each range is one round.
+    fn all_rounds(&self) -> bool
+        requires { length self.now.lo ≡ length self.now.hi }
+        ensures { IsTrue result
+            ↔ ((m : ℕ) → m < length self.now.hi → lo_of self.now m ≡ hi_of self.now m) }
+    {
+        for m in 0..self.hi.len() {
+            if self.lo[m] != self.hi[m] {
+                return false;
+            }
+        }
+        true
+    }
+
+    /// How much is left to choose: unplaced nodes, free capacities, pairs of one node in neither
+    /// order, and for each message the binary digits of how far its range goes. One pass over the
+    /// nodes and one over the messages; the pairs are counted as they are ordered.
+    pub fn size_left(&self, instance: &Instance) -> usize
+        requires of { IsChoice instance.now self.now }
+        ensures { result ≡ size_left instance.now self.now }
+    {
+        let unplaced = instance.nodes().len() - self.prefix.len();
+        unplaced + self.free_caps(instance) + self.unordered as usize + self.range_sizes(instance)
+    }
+
+    /// How many capacities are free.
+    fn free_caps(&self, instance: &Instance) -> usize
+        requires of { IsChoice instance.now self.now }
+        ensures value { result ≡ count_by is_none self.now.fixed }
+        ensures few { result ≤ 16 }
+    {
+        let _nodes = instance.nodes();
+        let mut free = 0;
+        for fixed in self.fixed.as_slice() {
+            if fixed.is_none() {
+                free += 1;
+            }
+        }
+        free
+    }
+
+    /// The sizes of all ranges.
+    fn range_sizes(&self, instance: &Instance) -> usize
+        requires of { IsChoice instance.now self.now }
+        ensures value { result ≡ total (range_size self.now) (length instance.now.messages) }
+        ensures few { result ≤ 4096 }
+    {
+        let mut sizes = 0;
+        let count = instance.messages().len() as u32;
+        for m in 0..count {
+            sizes += binary_digits(self.hi(m) - self.lo(m));
+        }
+        sizes
+    }
+}

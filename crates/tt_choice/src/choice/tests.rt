@@ -1,0 +1,203 @@
+//! Choices of small instances: what is left open, and how far the slots can move.
+
+ghost use Rattle.std.specs.Prelude.{◌≡◌, ◌<◌, length, IfOk};
+ghost use Rattle.ttp_model.specs.Problem.{node_at};
+
+use crate::Choice;
+use std::alloc::Global;
+use std::test::Fail;
+use ttp_model::{Cluster, Instance, Kind, Link, Message, Name, Node, Numbers, Process};
+
+/// A name.
+fn name(alloc: Global, text: &str) -> Result<Name, Fail> {
+    Ok(Name::new(String::from_str(alloc, text)?))
+}
+
+/// A node of this name with these capacities.
+fn node(alloc: Global, text: &str, capacities: &[u32]) -> Result<Node, Fail>
+    ensures { IfOk result (λ node. node.capacities ≡ capacities.now) }
+{
+    let name = name(alloc, text)?;
+    let capacities = Numbers::new(Vec::from_slice(alloc, capacities)?);
+    Ok(Node { name, capacities })
+}
+
+/// A process of this name that has until tick 100.
+fn process(alloc: Global, text: &str, node: u32, wcet: u32) -> Result<Process, Fail> {
+    Ok(Process {
+        name: name(alloc, text)?,
+        node,
+        wcet,
+        release: 0,
+        deadline: 100,
+    })
+}
+
+/// Frames of 1 tick and 1 more for each byte, nothing before or after a frame, 100 ticks.
+fn cluster() -> Cluster {
+    Cluster {
+        precision: 0,
+        lead: 0,
+        trail: 0,
+        head: 1,
+        per_byte: 1,
+        copy_out: 0,
+        copy_in: 0,
+        horizon: 100,
+    }
+}
+
+/// Process p of 3 ticks on A sends 2 bytes to process q of 2 ticks on B.
+fn sender_and_receiver(alloc: Global, a: &[u32], b: &[u32]) -> Result<Instance, Fail>
+    ensures nodes { IfOk result (λ i. length i.nodes ≡ 2) }
+    ensures first { IfOk result (λ i. (node_at i 0).capacities ≡ a.now) }
+    ensures second { IfOk result (λ i. (node_at i 1).capacities ≡ b.now) }
+    ensures processes { IfOk result (λ i. length i.processes ≡ 2) }
+    ensures messages { IfOk result (λ i. length i.messages ≡ 1) }
+{
+    let nodes = vec![in alloc; node(alloc, "A", a)?, node(alloc, "B", b)?]?;
+    let processes = vec![in alloc; process(alloc, "p", 0, 3)?, process(alloc, "q", 1, 2)?]?;
+    let message = Message {
+        name: name(alloc, "m")?,
+        sender: 0,
+        receivers: Numbers::new(vec![in alloc; 1]?),
+        bytes: 2,
+    };
+    let messages = vec![in alloc; message]?;
+    Ok(Instance::build(
+        alloc,
+        cluster(),
+        nodes,
+        processes,
+        Vec::new(alloc),
+        messages,
+    )?)
+}
+
+/// Processes a of 3 ticks, b of 2 and c of 1 on one node, with a link from a to c.
+fn three_on_one_node(alloc: Global) -> Result<Instance, Fail>
+    ensures nodes { IfOk result (λ i. length i.nodes ≡ 1) }
+    ensures processes { IfOk result (λ i. length i.processes ≡ 3) }
+{
+    let nodes = vec![in alloc; node(alloc, "A", &[0])?]?;
+    let processes = vec![in alloc;
+        process(alloc, "a", 0, 3)?,
+        process(alloc, "b", 0, 2)?,
+        process(alloc, "c", 0, 1)?,
+    ]?;
+    let links = vec![in alloc;
+        Link {
+            before: 0,
+            after: 2
+        },
+    ]?;
+    Ok(Instance::build(alloc, cluster(), nodes, processes, links, Vec::new(alloc))?)
+}
+
+#[test]
+fn at_the_root_eleven_halvings_are_left(rt: HostRuntime) -> Result<(), Fail> {
+    let instance = sender_and_receiver(rt.alloc(), &[2], &[0])?;
+    let root = Choice::root(rt.alloc(), &instance)?;
+    assert_eq!(rt; root.size_left(&instance), 11);
+    assert!(rt; !root.is_complete(&instance));
+    assert_eq!(rt; root.start_least(&instance, 0, 0), 0);
+    assert_eq!(rt; root.start_most(&instance, 0, 0), 1);
+    assert_eq!(rt; root.end_least(&instance, 0, 1), 7);
+    assert_eq!(rt; root.end_most(&instance, 0, 1), 8);
+    Ok(())
+}
+
+#[test]
+fn a_free_capacity_moves_the_end_of_a_slot(rt: HostRuntime) -> Result<(), Fail> {
+    let instance = sender_and_receiver(rt.alloc(), &[2, 4], &[0])?;
+    let root = Choice::root(rt.alloc(), &instance)?;
+    assert_eq!(rt;
+        (root.cap_least(&instance, 0), root.cap_most(&instance, 0)),
+        (2, 4)
+    );
+    assert_eq!(rt; root.dur_least(&instance, 0), 3);
+    assert_eq!(rt; root.end_least(&instance, 0, 1), 7);
+    assert_eq!(rt; root.end_most(&instance, 0, 1), 12);
+    Ok(())
+}
+
+#[test]
+fn a_node_that_comes_first_delays_the_slot_of_the_other(rt: HostRuntime) -> Result<(), Fail> {
+    let instance = sender_and_receiver(rt.alloc(), &[2], &[0])?;
+    let mut choice = Choice::root(rt.alloc(), &instance)?;
+    assert!(rt; !choice.prefix().contains(&1));
+    choice.place(rt.alloc(), &instance, 1)?;
+    assert_eq!(rt; choice.prefix(), [1].as_slice());
+    assert_eq!(rt; choice.start_least(&instance, 0, 0), 1);
+    assert_eq!(rt; choice.size_left(&instance), 10);
+    Ok(())
+}
+
+#[test]
+fn a_capacity_and_a_range_are_open_until_they_are_fixed(rt: HostRuntime) -> Result<(), Fail> {
+    let instance = sender_and_receiver(rt.alloc(), &[2, 4], &[0])?;
+    let mut choice = Choice::root(rt.alloc(), &instance)?;
+    assert!(rt; choice.is_open(&instance, &Kind::Place));
+    assert!(rt; choice.is_open(&instance, &Kind::Cap(0)));
+    choice.fix_cap(rt.alloc(), &instance, 0, 1)?;
+    assert_eq!(rt; choice.fixed_cap(0), Some(4));
+    assert_eq!(rt; choice.cap_least(&instance, 0), 4);
+    assert!(rt; !choice.is_open(&instance, &Kind::Cap(0)));
+    assert!(rt; !choice.is_open(&instance, &Kind::Cap(2)));
+    assert_eq!(rt; (choice.lo(0), choice.hi(0)), (0, 99));
+    assert!(rt; choice.is_open(&instance, &Kind::Round(0, 98)));
+    assert!(rt; !choice.is_open(&instance, &Kind::Round(0, 99)));
+    assert!(rt; !choice.is_open(&instance, &Kind::Round(1, 0)));
+    choice.rounds_at_most(0, 1);
+    assert_eq!(rt; (choice.lo(0), choice.hi(0)), (0, 1));
+    choice.rounds_at_least(0, 1);
+    assert_eq!(rt; (choice.lo(0), choice.hi(0)), (1, 1));
+    assert!(rt; !choice.is_open(&instance, &Kind::Round(0, 1)));
+    assert_eq!(rt; choice.size_left(&instance), 3);
+    Ok(())
+}
+
+#[test]
+fn a_pair_that_is_ordered_one_way_is_open_neither_way(rt: HostRuntime) -> Result<(), Fail> {
+    let instance = three_on_one_node(rt.alloc())?;
+    let mut choice = Choice::root(rt.alloc(), &instance)?;
+    assert_eq!(rt; choice.size_left(&instance), 5);
+    assert!(rt;
+        choice.is_open(&instance, &Kind::Pair(0, 2)),
+        "a link orders no pair"
+    );
+    assert!(rt; !choice.is_open(&instance, &Kind::Pair(1, 1)));
+    assert!(rt; !choice.is_open(&instance, &Kind::Pair(1, 3)));
+    assert!(rt; choice.is_open(&instance, &Kind::Pair(1, 0)));
+    choice.before(rt.alloc(), &instance, 1, 0)?;
+    assert!(rt; choice.is_before(1, 0));
+    assert!(rt; choice.precedence().goes_before(1, 0));
+    assert!(rt; !choice.is_before(0, 1));
+    assert!(rt; !choice.is_open(&instance, &Kind::Pair(1, 0)));
+    assert!(rt; !choice.is_open(&instance, &Kind::Pair(0, 1)));
+    assert_eq!(rt; choice.size_left(&instance), 4);
+    Ok(())
+}
+
+#[test]
+fn a_choice_is_complete_when_nothing_is_open(rt: HostRuntime) -> Result<(), Fail> {
+    let instance = sender_and_receiver(rt.alloc(), &[2], &[0])?;
+    let mut choice = Choice::root(rt.alloc(), &instance)?;
+    assert!(rt; choice.lo(0) < choice.hi(0));
+    choice.rounds_at_most(0, 0);
+    assert!(rt; !choice.prefix().contains(&0));
+    choice.place(rt.alloc(), &instance, 0)?;
+    assert!(rt; !choice.prefix().contains(&1));
+    choice.place(rt.alloc(), &instance, 1)?;
+    assert!(rt; choice.is_open(&instance, &Kind::Cap(0)));
+    choice.fix_cap(rt.alloc(), &instance, 0, 0)?;
+    assert!(rt; choice.is_open(&instance, &Kind::Cap(1)));
+    choice.fix_cap(rt.alloc(), &instance, 1, 0)?;
+    assert_eq!(rt; choice.size_left(&instance), 0);
+    assert!(rt; choice.is_complete(&instance));
+    let copy = choice.copy(rt.alloc())?;
+    assert!(rt; copy.is_complete(&instance));
+    assert_eq!(rt; copy.prefix(), [0, 1].as_slice());
+    assert_eq!(rt; (copy.fixed_cap(0), copy.fixed_cap(1)), (Some(2), Some(0)));
+    Ok(())
+}

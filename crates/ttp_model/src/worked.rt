@@ -1,0 +1,43 @@
+//! The definitions on worked examples. These functions do nothing: their contracts are the figures.
+
+ghost use Rattle.std.specs.Prelude.{◌≡◌, ◌∷◌, []};
+ghost use Rattle.ttp_model.specs.Slots.{duration, round_length, slot_start, slot_end};
+ghost use Rattle.ttp_model.specs.Plans.{end_of, load_of, sent_from, sent_until};
+ghost use Rattle.ttp_model.specs.Delays.{delay};
+ghost use Rattle.ttp_model.specs.Chains.{IsPathBound};
+ghost use Rattle.ttp_model.specs.Twins.{AreTwins};
+ghost use Rattle.ttp_model.specs.Moves.{Move, weight};
+ghost use Rattle.ttp_model.specs.Worked.{plain_cluster, one_message, one_message_plan, three_alike, three_alike_plan};
+
+/// Slots of three ticks and one: rounds of four, and m on the bus from 4 to 7.
+pub fn slots_of_one_message()
+    ensures first { duration plain_cluster (2 ∷ 0 ∷ []) 0 ≡ 3 }
+    ensures second { duration plain_cluster (2 ∷ 0 ∷ []) 1 ≡ 1 }
+    ensures round { round_length plain_cluster (2 ∷ 0 ∷ []) ≡ 4 }
+    ensures other_order { slot_start plain_cluster (1 ∷ 0 ∷ []) (2 ∷ 0 ∷ []) 0 2 ≡ 9 }
+    ensures from { sent_from one_message (one_message_plan 0) 0 ≡ 4 }
+    ensures until { sent_until one_message (one_message_plan 0) 0 ≡ 7 }
+{}
+
+/// The delay of its plan is 9, its frame in round 1 holds two bytes, and its weight is 8 and 94.
+pub fn figures_of_one_message()
+    ensures end { end_of one_message (one_message_plan 0) 0 ≡ 3 }
+    ensures delay { delay one_message (one_message_plan 0) ≡ 9 }
+    ensures load { load_of one_message (one_message_plan 0) 0 1 ≡ 2 }
+    ensures empty { load_of one_message (one_message_plan 0) 0 0 ≡ 0 }
+    ensures weight { weight one_message (one_message_plan 0) ≡ (8, 94) }
+{}
+
+/// No chain takes more than 8 ticks: p's three, the slot's three and q's two.
+pub fn path_bound_of_one_message()
+    ensures { IsPathBound one_message 8 }
+{}
+
+/// Three processes that are alike are twins; starting one of them earlier, or exchanging two, is a move.
+pub fn moves_of_three_alike()
+    ensures twins { AreTwins three_alike 0 2 }
+    ensures earlier { Move three_alike (three_alike_plan (4 ∷ 2 ∷ 1 ∷ [])) (three_alike_plan (4 ∷ 2 ∷ 0 ∷ [])) }
+    ensures exchange { Move three_alike (three_alike_plan (4 ∷ 2 ∷ 0 ∷ [])) (three_alike_plan (0 ∷ 2 ∷ 4 ∷ [])) }
+    ensures heavier { weight three_alike (three_alike_plan (4 ∷ 2 ∷ 0 ∷ [])) ≡ (6, 298) }
+    ensures lighter { weight three_alike (three_alike_plan (0 ∷ 2 ∷ 4 ∷ [])) ≡ (6, 290) }
+{}
