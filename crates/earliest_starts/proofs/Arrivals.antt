@@ -6,7 +6,7 @@ use Rattle.ttp_model.specs.Problem.{Problem, process_at, message_at}
 use Rattle.ttp_model.specs.Rules.{IsInstance}
 use Rattle.tt_choice.specs.Choices.{Chosen}
 use Rattle.earliest_starts.specs.Fixed.{sends_until}
-use Rattle.earliest_starts.specs.Clashes.{WaitsUntil, released, arrived, after}
+use Rattle.earliest_starts.specs.Clashes.{WaitsUntil, released, arrived}
 use Rattle.earliest_starts.specs.Starts.{AreFloors}
 
 pub AreFloors-releases : (i : Problem) (c : Chosen) (times : List ℕ) → IsInstance i → length times ≡ length i.processes → ((p : ℕ) → p < length i.processes → slice_index times p ≡ (process_at i p).release) → AreFloors i c 0 times

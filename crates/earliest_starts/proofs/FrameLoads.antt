@@ -1,5 +1,5 @@
 -- The bytes of a node's frames, as its messages are counted up.
-use Rattle.std.proofs.Common.{◌≡◌, ◌≢◌, ℕ, ◌+◌, ◌*◌, ◌<◌, ◌≤◌, length, nat_eq, unwrap_or, Option, Some, arith, inl, inr, refl, sym, ap, ◌∙◌}
+use Rattle.std.proofs.Common.{◌≡◌, ◌≢◌, ℕ, ◌+◌, ◌*◌, ◌≤◌, nat_eq, unwrap_or, Option, Some, arith, inl, inr, refl, sym, ap, ◌∙◌}
 use Rattle.std.specs.HashMap.{HashMap, get, Updates}
 use Rattle.std.proofs.lemmas.Bool.{cases_eq, eq-eqb, ne_eqb}
 use Rattle.ttp_model.specs.declared.limits.TheConstants.{MOST_BYTES}

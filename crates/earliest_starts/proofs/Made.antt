@@ -1,24 +1,19 @@
 -- The plan that is made of settled starts: valid, in the choice, and earliest.
-use Rattle.std.proofs.Common.{◌≡◌, ◌≢◌, ℕ, ◌+◌, ◌-◌, ◌<◌, ◌≤◌, ◌⊎◌, List, length, slice_index, slice_index_or, unwrap_or, Option, None, Some, IsSome, IsTrue, Contains, map, max, arith, inl, inr, refl, subst, sym, ap, ◌∙◌}
+use Rattle.std.proofs.Common.{◌≡◌, ℕ, ◌<◌, ◌≤◌, List, length, slice_index, unwrap_or, Option, None, Some, IsSome, IsTrue, Contains, arith, inl, inr, refl, subst, sym, ◌∙◌}
 use Rattle.std.proofs.lemmas.Bool.{false≢true, both_ways}
-use Rattle.std.specs.List.{range_with_len}
 use Rattle.std.proofs.lemmas.List.Elements.{Contains-get_or}
-use Rattle.std.proofs.lemmas.List.FromFn.{map-range_with_len_more}
-use Rattle.std.proofs.lemmas.List.Sums.{fold_push}
-use Rattle.ttp_model.specs.declared.plan.Plan.{Plan}
-use Rattle.ttp_model.specs.Lists.{EachBelow, greatest}
-use Rattle.ttp_model.specs.Problem.{Problem, node_at, process_at, message_at, link_at, node_of, source_of}
+use Rattle.ttp_model.specs.Lists.{EachBelow}
+use Rattle.ttp_model.specs.Problem.{Problem, node_at, message_at, link_at, source_of}
 use Rattle.ttp_model.specs.Rules.{IsInstance}
-use Rattle.ttp_model.specs.Graph.{HasLink}
-use Rattle.ttp_model.specs.Plans.{IsValid, IsNodeOrder, HasOwnCapacity, AreApart, start_of, end_of, round_of, load_of, bytes_in}
+use Rattle.ttp_model.specs.Plans.{IsValid, IsNodeOrder, HasOwnCapacity, AreApart}
 use Rattle.ttp_model.specs.declared.error.Place.TheVariants.{AtProcess, AtLink, AtMessage}
 use Rattle.tt_choice.specs.Totals.{total}
-use Rattle.tt_choice.specs.Choices.{Chosen, fixed_cap, is_before, lo_of, hi_of, IsFixedTo, IsOption, IsIn, ArePair, IsChoice, IsComplete}
+use Rattle.tt_choice.specs.Choices.{Chosen, fixed_cap, is_before, lo_of, IsFixedTo, IsOption, IsIn, IsChoice, IsComplete}
 use Rattle.tt_choice.proofs.Extend.{from_parts, order_of}
-use Rattle.earliest_starts.specs.Fixed.{fixed_caps, plan_of, copied_out, sends_from, sends_until, fixed_bytes}
+use Rattle.earliest_starts.specs.Fixed.{fixed_caps, plan_of, copied_out, sends_from, fixed_bytes}
 use Rattle.earliest_starts.specs.Clashes.{MissesSlot}
 use Rattle.earliest_starts.specs.Ranks.{TurnsNoLink}
-use Rattle.earliest_starts.specs.Starts.{AreFloors, IsSettled, AreSettled}
+use Rattle.earliest_starts.specs.Starts.{AreFloors, AreSettled}
 use Rattle.earliest_starts.specs.Answers.{IsEarliest}
 use Rattle.earliest_starts.proofs.Rings.{one_before}
 use Rattle.earliest_starts.proofs.Sound.{fixed_at, length-fixed_caps, waits_le}
@@ -106,7 +101,3 @@ module _ (i : Problem) (c : Chosen) (floors starts : List ℕ) (w : IsInstance i
     waits = (s (message_at i m).sender (w.indices (AtMessage m) h).0).waits;
     late = late;
   }
-
--- the greatest of one number more
-pub greatest-more : (f : ℕ → ℕ) (count : ℕ) → greatest (map f (range_with_len 0 (count + 1))) ≡ max (greatest (map f (range_with_len 0 count))) (f count)
-greatest-more f count = rw (map-range_with_len_more f 0 count count (omega arith)) (fold_push max 0 (map f (range_with_len 0 count)) (f count))

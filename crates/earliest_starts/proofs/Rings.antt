@@ -1,8 +1,7 @@
 -- A process that goes before another and has no lower rank is in a ring.
-use Rattle.std.proofs.Common.{◌≡◌, ◌≢◌, ℕ, zero, suc, ◌+◌, ◌-◌, ◌<◌, ◌≤◌, ◌⊎◌, if◌then◌else◌, [], ◌∷◌, length, slice_index, Bool, true, false, IsTrue, IsFalse, Option, None, Some, IsSome, IfNone, arith, inl, inr, refl, sym, ◌∙◌}
+use Rattle.std.proofs.Common.{◌≡◌, ◌≢◌, ℕ, zero, suc, ◌+◌, ◌<◌, ◌≤◌, ◌⊎◌, if◌then◌else◌, [], ◌∷◌, length, slice_index, true, false, IsTrue, IsFalse, Option, None, Some, IsSome, IfNone, arith, inl, inr, refl, sym, ◌∙◌}
 use Rattle.std.proofs.lemmas.Bool.{cases_Bool, cases_order, both_ways}
-use Rattle.ttp_model.specs.Problem.{Problem, node_of, link_at}
-use Rattle.ttp_model.specs.Graph.{HasLink}
+use Rattle.ttp_model.specs.Problem.{Problem, link_at}
 use Rattle.tt_choice.specs.Totals.{total}
 use Rattle.tt_choice.specs.Choices.{Chosen, is_before, ArePair, IsChoice, IsComplete}
 use Rattle.tt_choice.proofs.Totals.{total_less, total_next}

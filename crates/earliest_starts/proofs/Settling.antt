@@ -1,11 +1,10 @@
 -- One more start, after those of all processes that go before it.
-use Rattle.std.proofs.Common.{◌≡◌, ◌≢◌, ℕ, ◌+◌, ◌*◌, ◌^◌, ◌<◌, ◌≤◌, ◌⊎◌, max, false, List, length, slice_index, slice_set, IsTrue, arith, inl, inr, refl, subst, sym, ap, ◌∙◌, get_or-set_other, get_or-set_same}
+use Rattle.std.proofs.Common.{◌≡◌, ◌≢◌, ℕ, ◌+◌, ◌^◌, ◌<◌, ◌≤◌, ◌⊎◌, max, false, List, length, slice_index, slice_set, IsTrue, arith, inl, inr, subst, sym, ap, ◌∙◌, get_or-set_other, get_or-set_same}
 use Rattle.std.proofs.lemmas.Bool.{cases_eq, cases_lt, both_ways}
 use Rattle.ttp_model.specs.Problem.{Problem, process_at}
-use Rattle.tt_choice.specs.Totals.{total}
 use Rattle.tt_choice.specs.Choices.{Chosen, is_before, IsChoice}
 use Rattle.tt_choice.proofs.Totals.{total_less, total_bound}
-use Rattle.earliest_starts.specs.Clashes.{WaitsUntil, released, arrived, after, MissesWindow}
+use Rattle.earliest_starts.specs.Clashes.{WaitsUntil, after, MissesWindow}
 use Rattle.earliest_starts.specs.Ranks.{rank, Rise}
 use Rattle.earliest_starts.specs.Starts.{AreFloors, IsSettled, IsReason}
 use Rattle.earliest_starts.proofs.Rings.{counted, not_itself, counted_one}

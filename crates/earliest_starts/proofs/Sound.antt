@@ -1,17 +1,16 @@
 -- What holds of each valid plan of a complete choice, and why a clash leaves none.
-use Rattle.std.proofs.Common.{◌≡◌, ◌≢◌, ℕ, zero, suc, ◌+◌, ◌-◌, ◌<◌, ◌≤◌, ◌⊎◌, List, length, slice_index, slice_index_or, map, unwrap_or, Option, None, Some, IsSome, Contains, arith, inl, inr, refl, subst, sym, ap, ◌∙◌, add-one}
+use Rattle.std.proofs.Common.{◌≡◌, ℕ, zero, suc, ◌+◌, ◌-◌, ◌<◌, ◌≤◌, ◌⊎◌, List, length, slice_index, unwrap_or, Option, None, Some, IsSome, arith, inl, inr, refl, sym, ap, ◌∙◌, add-one}
 use Rattle.std.proofs.lemmas.Bool.{false≢true}
 use Rattle.std.proofs.lemmas.List.{get_or-map, length-map}
 use Rattle.std.proofs.lemmas.Grind.{same_number_lists, get_or_default_zero}
 use Rattle.ttp_model.specs.declared.plan.Plan.{Plan}
 use Rattle.ttp_model.specs.declared.error.Place.TheVariants.{AtProcess, AtLink}
-use Rattle.ttp_model.specs.Problem.{Problem, process_at, message_at, link_at, source_of}
+use Rattle.ttp_model.specs.Problem.{Problem, process_at, message_at}
 use Rattle.ttp_model.specs.Rules.{IsInstance}
-use Rattle.ttp_model.specs.Slots.{slot_start, slot_end}
 use Rattle.ttp_model.specs.Plans.{IsValid, start_of, end_of, round_of, sent_from, sent_until, bytes_in, load_of}
 use Rattle.ttp_model.proofs.ValidPlans.{frames_fit_lem}
 use Rattle.tt_choice.specs.Totals.{total}
-use Rattle.tt_choice.specs.Choices.{Chosen, fixed_cap, is_before, lo_of, hi_of, IsFixedTo, IsIn, IsChoice, IsComplete}
+use Rattle.tt_choice.specs.Choices.{Chosen, fixed_cap, lo_of, IsFixedTo, IsIn, IsChoice, IsComplete}
 use Rattle.tt_choice.proofs.Totals.{total_same}
 use Rattle.earliest_starts.specs.declared.clash.Clash.{Clash}
 use Rattle.earliest_starts.specs.declared.clash.Clash.TheVariants.{Cycle, Round, Window, Frame}

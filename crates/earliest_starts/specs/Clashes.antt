@@ -1,5 +1,5 @@
 -- Why a complete choice has no valid plan. Own profile.
-use Rattle.std.specs.Prelude.{◌≡◌, ℕ, ◌+◌, ◌-◌, ◌<◌, ◌≤◌, ◌⊎◌, List, length, slice_index, Contains}
+use Rattle.std.specs.Prelude.{ℕ, ◌+◌, ◌-◌, ◌<◌, ◌≤◌, ◌⊎◌, List, length, slice_index, Contains}
 use Rattle.ttp_model.specs.Problem.{Problem, process_at, message_at}
 use Rattle.tt_choice.specs.Totals.{total}
 use Rattle.tt_choice.specs.Choices.{Chosen}

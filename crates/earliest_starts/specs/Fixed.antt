@@ -1,10 +1,9 @@
 -- What a complete choice fixes of each of its plans: everything but the starts. Times are ticks.
-use Rattle.std.specs.Prelude.{◌≡◌, ℕ, ◌+◌, ◌==◌, ◌&&◌, if◌then◌else◌, List, map, unwrap_or, Option, slice_index, IsTrue, ◌⊎◌}
+use Rattle.std.specs.Prelude.{ℕ, ◌+◌, ◌==◌, ◌&&◌, if◌then◌else◌, List, map, unwrap_or, Option, slice_index, IsTrue, ◌⊎◌}
 use Rattle.ttp_model.specs.declared.plan.Plan.{Plan}
 use Rattle.ttp_model.specs.Problem.{Problem, process_at, message_at, source_of}
 use Rattle.ttp_model.specs.Slots.{slot_start, slot_end}
 use Rattle.ttp_model.specs.Graph.{HasLink}
-use Rattle.tt_choice.specs.Totals.{total}
 use Rattle.tt_choice.specs.Choices.{Chosen, is_before, lo_of}
 
 -- the capacity of each node in bytes

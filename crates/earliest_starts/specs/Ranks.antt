@@ -1,5 +1,5 @@
 -- How the processes of a node are ranked by a choice. Only private contracts ask for it.
-use Rattle.std.specs.Prelude.{◌≡◌, ℕ, ◌<◌, ◌≤◌, if◌then◌else◌, List, length, slice_index, IsTrue, IsFalse}
+use Rattle.std.specs.Prelude.{◌≡◌, ℕ, ◌<◌, if◌then◌else◌, List, length, slice_index, IsTrue, IsFalse}
 use Rattle.ttp_model.specs.Lists.{EachBelow}
 use Rattle.ttp_model.specs.Problem.{Problem, link_at}
 use Rattle.tt_choice.specs.Totals.{total}

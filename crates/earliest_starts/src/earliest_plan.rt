@@ -1,9 +1,6 @@
 //! Which plan of a complete choice is the earliest?
 
-ghost use Rattle.std.specs.Prelude.{◌≡◌, ◌+◌, length, map, slice_index, IfOk};
-ghost use Rattle.std.specs.List.{range_with_len};
-ghost use Rattle.ttp_model.specs.Lists.{greatest};
-ghost use Rattle.ttp_model.specs.Problem.{process_at};
+ghost use Rattle.std.specs.Prelude.{◌≡◌, length, IfOk};
 ghost use Rattle.ttp_model.specs.Delays.{delay};
 ghost use Rattle.tt_choice.specs.Choices.{IsChoice, IsComplete};
 ghost use Rattle.earliest_starts.specs.Answers.{IsAnswer};
@@ -16,11 +13,11 @@ use crate::floors::floors;
 use crate::frames::{fixed_caps, late_message};
 use crate::loads::overfull;
 use crate::ranks::{disorder, ranks, ring, turned_link};
-use crate::starts::{end, settle};
+use crate::starts::settle;
 use std::alloc::Global;
 use tt_choice::Choice;
 use tt_layout::Layout;
-use ttp_model::{Instance, MemoryFault, Numbers, Plan};
+use ttp_model::{Instance, MemoryFault, Numbers, Plan, delay};
 
 /// The plan of a complete choice in which each process starts as early as it can, or why the
 /// choice has no valid plan. Rings are looked for first, then starts are found rank by rank, then
@@ -98,28 +95,14 @@ fn made(
     ensures ticks { IfOk result
         (λ made. made.1 ≡ delay instance.now (plan_of choice.now starts.items)) }
 {
-    let ticks = greatest_end(instance, starts.as_slice());
     let plan = Plan {
         order: Numbers::new(Vec::from_slice(alloc, choice.prefix())?),
         caps: Numbers::new(caps),
         starts: Numbers::new(starts),
         rounds: rounds(alloc, instance, choice)?,
     };
+    let ticks = delay(instance, &plan);
     Ok((plan, ticks))
-}
-
-/// The greatest end, in ticks.
-fn greatest_end(instance: &Instance, starts: &[u32]) -> u64
-    requires { length starts.now ≡ length instance.now.processes }
-    ensures { result ≡ greatest
-        (map (λ p. slice_index starts.now p + (process_at instance.now p).wcet)
-        (range_with_len 0 (length instance.now.processes))) }
-{
-    let mut greatest = 0u64;
-    for p in 0..instance.processes().len() {
-        greatest = greatest.max(end(instance, starts, p));
-    }
-    greatest
 }
 
 /// The round of each message.

@@ -1,7 +1,6 @@
 -- One window more, in a round.
-use Rattle.std.proofs.Common.{◌≡◌, ℕ, zero, suc, ◌+◌, ◌-◌, ◌<◌, List, [], ◌∷◌, ◌++◌, take, length, slice_index, map, arith, refl, ap, add-one, zero-add, append_assoc}
-use Rattle.std.specs.List.{flat_map, range_with_len}
-use Rattle.std.proofs.lemmas.List.{map_more, flat_map_more}
+use Rattle.std.proofs.Common.{◌≡◌, ℕ, ◌+◌, ◌-◌, ◌<◌, List, [], ◌∷◌, ◌++◌, take, length, slice_index, map, arith, refl, append_assoc}
+use Rattle.std.proofs.lemmas.List.{map_more}
 use Rattle.ttp_model.specs.declared.plan.Plan.{Plan}
 use Rattle.ttp_model.specs.Problem.{Problem}
 use Rattle.ttp_model.specs.Slots.{duration, slot_start}

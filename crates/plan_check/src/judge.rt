@@ -6,8 +6,8 @@ ghost use Rattle.ttp_model.specs.Delays.{delay};
 ghost use Rattle.ttp_model.specs.Faults.{IsFirstFault, KeepsBefore};
 
 use crate::{frames, lists, messages, processes};
-use tt_layout::{Layout, delay};
-use ttp_model::{Instance, Plan, PlanFault};
+use tt_layout::Layout;
+use ttp_model::{Instance, Plan, PlanFault, delay};
 
 /// The delay of a valid plan in ticks, or else the first rule that the plan breaks, at its first
 /// place. Any table of numbers may be handed in as a plan: lists of other lengths, nodes that

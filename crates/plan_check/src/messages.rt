@@ -7,8 +7,8 @@ ghost use Rattle.ttp_model.specs.Plans.{HasArrivedAt, HasArrivedEverywhere, HasL
 ghost use Rattle.ttp_model.specs.Faults.{IsFirstLate};
 ghost use Rattle.tt_layout.specs.Timing.{timing};
 
-use tt_layout::{Layout, end_of};
-use ttp_model::{Instance, Plan};
+use tt_layout::Layout;
+use ttp_model::{Instance, Plan, end_of};
 
 /// The first message that isn't copied out when its slot begins.
 pub fn first_not_ready(instance: &Instance, plan: &Plan, layout: &Layout) -> Option<u32>

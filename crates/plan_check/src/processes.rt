@@ -5,8 +5,7 @@ ghost use Rattle.ttp_model.specs.Lists.{EachBelow, FindsFailure};
 ghost use Rattle.ttp_model.specs.Plans.{AreApart, EndsBefore, EndsInTime, HasLengths, IsApartFromLater, IsReleased, KeepsLink};
 ghost use Rattle.ttp_model.specs.Faults.{IsFirstOverlap};
 
-use tt_layout::end_of;
-use ttp_model::{Instance, Plan};
+use ttp_model::{Instance, Plan, end_of};
 
 /// The first process that starts before its release.
 pub fn first_too_early(instance: &Instance, plan: &Plan) -> Option<u32>

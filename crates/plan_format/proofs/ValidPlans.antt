@@ -1,22 +1,15 @@
--- A valid plan has a text, and its delay is found by going through the processes.
-use Rattle.std.proofs.Common.{◌≡◌, ℕ, ◌+◌, ◌<◌, ◌≤◌, ◌^◌, map, max, arith}
-use Rattle.std.specs.List.{range_with_len}
+-- A valid plan has a text.
+use Rattle.std.proofs.Common.{◌<◌, ◌≤◌, ◌^◌, arith}
 use Rattle.std.proofs.lemmas.List.Elements.{All-weaker}
-use Rattle.std.proofs.lemmas.List.FromFn.{map-range_with_len_more}
-use Rattle.std.proofs.lemmas.List.Sums.{fold_push}
 use Rattle.ttp_model.specs.declared.limits.TheConstants.{MOST_BYTES}
 use Rattle.ttp_model.specs.declared.plan.Plan.{Plan}
 use Rattle.ttp_model.specs.declared.error.Place.TheVariants.{AtCluster}
-use Rattle.ttp_model.specs.Lists.{greatest}
 use Rattle.ttp_model.specs.Problem.{Problem}
 use Rattle.ttp_model.specs.Rules.{IsInstance}
 use Rattle.ttp_model.specs.Plans.{IsValid}
 use Rattle.ttp_model.specs.Delays.{delay}
 use Rattle.ttp_model.proofs.PlanNumbers.{capacities_small, starts_small, rounds_small, delay_small}
 use Rattle.plan_format.specs.Spelling.{HasText}
-
-pub greatest-more : (f : ℕ → ℕ) (count : ℕ) → greatest (map f (range_with_len 0 (count + 1))) ≡ max (greatest (map f (range_with_len 0 count))) (f count)
-greatest-more f count = rw (map-range_with_len_more f 0 count count (omega arith)) (fold_push max 0 (map f (range_with_len 0 count)) (f count))
 
 pub HasText-from_valid : (i : Problem) (plan : Plan) → IsInstance i → IsValid i plan → HasText i plan (delay i plan)
 HasText-from_valid i plan w v =

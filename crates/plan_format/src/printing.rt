@@ -1,7 +1,6 @@
 //! How is a plan written?
 
 ghost use Rattle.std.specs.Prelude.{◌≡◌, ◌++◌, ◌∷◌, [], ◌<◌, ◌≤◌, length, decimal, codes, All, IfOk, OnOk};
-ghost use Rattle.ttp_model.specs.Rules.{IsInstance};
 ghost use Rattle.ttp_model.specs.Plans.{IsValid};
 ghost use Rattle.ttp_model.specs.Delays.{delay};
 ghost use Rattle.plan_format.specs.Names.{names_in, keyword_of};
@@ -10,27 +9,14 @@ ghost use Rattle.plan_format.specs.Spelling.{numbered, delay_line, order_line, I
 use crate::part::{keyword_of, name_of};
 use line_text::push_number;
 use std::alloc::{AllocError, Global};
-use ttp_model::{Instance, MemoryFault, Part, Plan};
+use ttp_model::{Instance, MemoryFault, Part, Plan, delay};
 
-fn delay_of(instance: &Instance, plan: &Plan) -> u32
-    requires { IsValid instance.now plan.now }
-    ensures value { result ≡ delay instance.now plan.now }
-    ensures instance { IsInstance instance.now }
-{
-    let starts = plan.starts.as_slice();
-    let mut latest = 0;
-    for p in 0..instance.processes().len() {
-        latest = latest.max(starts[p] + instance.process_at(p).wcet);
-    }
-    latest
-}
-
-fn push_head(text: &mut Vec<u8>, delay: u32) -> Result<(), AllocError>
+fn push_head(text: &mut Vec<u8>, delay: u64) -> Result<(), AllocError>
     ensures { OnOk result (text.new.items ≡
         text.old.items ++ (codes "ttplan 1" ++ 10 ∷ (delay_line delay ++ 10 ∷ []))) }
 {
     text.extend_from_slice(b"ttplan 1\ndelay ")?;
-    push_number(text, delay as u64)?;
+    push_number(text, delay)?;
     text.push(b'\n')?;
     Ok(())
 }
@@ -85,8 +71,9 @@ pub fn print(alloc: Global, instance: &Instance, plan: &Plan) -> Result<Vec<u8>,
     ensures { IfOk result (λ text.
         IsSpelled instance.now text.items plan.now (delay instance.now plan.now)) }
 {
+    let _nodes = instance.nodes();
     let mut text = Vec::new(alloc);
-    push_head(&mut text, delay_of(instance, plan))?;
+    push_head(&mut text, delay(instance, plan))?;
     push_order(&mut text, instance, plan.order.as_slice())?;
     push_lines(&mut text, instance, Part::Nodes, plan.caps.as_slice())?;
     push_lines(&mut text, instance, Part::Processes, plan.starts.as_slice())?;

@@ -1,6 +1,6 @@
 -- One more test in a table of which processes go before which.
-use Rattle.std.proofs.Common.{◌≡◌, ◌≢◌, ℕ, ◌+◌, ◌*◌, ◌<◌, ◌≤◌, ◌⊎◌, ◌&&◌, nat_lt, List, length, slice_index_or, slice_set, Bool, true, false, IsTrue, IsFalse, arith, inl, inr, refl, sym, ◌∙◌, get_or-set_other, get_or-set_same}
-use Rattle.std.proofs.lemmas.Bool.{cases_lt, cases_eq, lt-ltb, le-ltb, and_parts, ltb-true, and_left, and_right, cases_Bool, both_ways}
+use Rattle.std.proofs.Common.{◌≡◌, ◌≢◌, ℕ, ◌+◌, ◌*◌, ◌<◌, ◌≤◌, ◌⊎◌, ◌&&◌, nat_lt, length, slice_index_or, Bool, true, false, IsTrue, IsFalse, arith, inl, inr, refl, sym, ◌∙◌, get_or-set_other, get_or-set_same}
+use Rattle.std.proofs.lemmas.Bool.{cases_lt, cases_eq, lt-ltb, le-ltb, and_parts, ltb-true, and_left, and_right}
 use Rattle.std.proofs.lemmas.Nat.{mul-add-lt, same_from_place}
 use Rattle.std.proofs.lemmas.List.{get_or-replicate}
 use Rattle.tt_choice.specs.Before.{Before, place_in, goes_before, nothing_before, put_before}

@@ -1,12 +1,12 @@
 -- A choice that is changed by one decision is still one of its instance.
-use Rattle.std.proofs.Common.{◌≡◌, ◌≢◌, ℕ, ◌+◌, ◌-◌, ◌*◌, ◌<◌, ◌≤◌, ◌⊎◌, List, [], ◌∷◌, ◌++◌, length, length-append, slice_index, slice_index_or, slice_set, Bool, true, false, IsTrue, IsFalse, Option, None, Some, Contains, arith, inl, inr, refl, subst, sym, ap, ◌∙◌, get_or-set_other, get_or-set_same, length-set}
-use Rattle.std.proofs.lemmas.Bool.{cases_eq, cases_Bool}
+use Rattle.std.proofs.Common.{ℕ, ◌+◌, ◌*◌, ◌<◌, ◌≤◌, [], ◌∷◌, ◌++◌, length, slice_index, true, IsTrue, None, Some, arith, inl, inr, sym, ◌∙◌, get_or-set_other, get_or-set_same, length-set}
+use Rattle.std.proofs.lemmas.Bool.{cases_eq}
 use Rattle.std.proofs.lemmas.List.Elements.{Contains-get_or}
-use Rattle.ttp_model.specs.Problem.{Problem, node_at, node_of}
-use Rattle.tt_choice.specs.Choices.{Chosen, fixed_cap, is_before, lo_of, hi_of, IsOption, ArePair, IsChoice}
-use Rattle.tt_choice.specs.Branches.{place_next, fix_option, order_pair, at_most, at_least, is_placed, IsUnplaced, IsUnorderedPair, CutsRange}
+use Rattle.ttp_model.specs.Problem.{Problem, node_at}
+use Rattle.tt_choice.specs.Choices.{Chosen, fixed_cap, is_before, hi_of, IsOption, ArePair, IsChoice}
+use Rattle.tt_choice.specs.Branches.{place_next, fix_option, order_pair, at_most, at_least, IsUnplaced, IsUnorderedPair, CutsRange}
 use Rattle.tt_choice.proofs.Extend.{AreNodes, one_more, off, length_le}
-use Rattle.tt_choice.proofs.Pairs.{pair_now, pair_then, order_pair_left}
+use Rattle.tt_choice.proofs.Pairs.{pair_then, order_pair_left}
 
 -- a pair of the new choice is the new one or an old one
 new_pairs : (i : Problem) (c : Chosen) (p q : ℕ) → IsChoice i c → ArePair i p q → (j k : ℕ) → IsTrue (is_before (order_pair c p q) j k) → ArePair i j k

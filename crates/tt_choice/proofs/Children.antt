@@ -1,13 +1,13 @@
 -- The children of an open branch have all the valid plans of the choice, and no others.
-use Rattle.std.proofs.Common.{◌≡◌, ℕ, zero, suc, ◌+◌, ◌-◌, ◌<◌, ◌≤◌, ◌⊎◌, List, length, slice_index, Option, None, arith, inl, inr, refl, sym, ◌∙◌}
+use Rattle.std.proofs.Common.{ℕ, zero, suc, ◌+◌, ◌<◌, ◌⊎◌, length, slice_index, arith, inl, inr, sym, ◌∙◌}
 use Rattle.std.proofs.lemmas.Bool.{cases_lt, cases_order}
 use Rattle.std.proofs.lemmas.Grind.{get_or_default_zero}
 use Rattle.ttp_model.specs.declared.plan.Plan.{Plan}
 use Rattle.ttp_model.specs.declared.step.Kind.{Kind}
 use Rattle.ttp_model.specs.declared.step.Kind.TheVariants.{Place, Cap, Pair, Round}
-use Rattle.ttp_model.specs.Problem.{Problem, node_at, node_of}
+use Rattle.ttp_model.specs.Problem.{Problem, node_at}
 use Rattle.ttp_model.specs.Plans.{IsValid, EndsBefore, round_of}
-use Rattle.tt_choice.specs.Choices.{Chosen, lo_of, hi_of, IsIn, ArePair, IsChoice}
+use Rattle.tt_choice.specs.Choices.{Chosen, IsIn, ArePair, IsChoice}
 use Rattle.tt_choice.specs.Branches.{unplaced, IsUnorderedPair, IsOpen, children, child}
 use Rattle.tt_choice.proofs.Unplaced.{IsUnplaced-listed, unplaced_place, IsUnplaced-next}
 use Rattle.tt_choice.proofs.Members.{IsIn-place, IsIn-fix, IsIn-order, IsIn-at_most, IsIn-at_least}

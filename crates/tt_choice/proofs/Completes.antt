@@ -1,5 +1,5 @@
 -- A choice is complete where nothing is left to choose.
-use Rattle.std.proofs.Common.{◌≡◌, ℕ, ◌+◌, ◌<◌, ◌≤◌, ◌⊎◌, ◌==◌, ◌&&◌, ◌||◌, not, if◌then◌else◌, length, Bool, true, false, IsTrue, IsSome, arith, inl, inr, refl, sym, ◌∙◌}
+use Rattle.std.proofs.Common.{◌≡◌, ℕ, ◌<◌, ◌==◌, length, IsSome, arith, inl, inr, sym, ◌∙◌}
 use Rattle.std.proofs.lemmas.Bool.{cases_Bool, eqb-true, or_left, or_right}
 use Rattle.ttp_model.specs.Problem.{Problem, node_of}
 use Rattle.tt_choice.specs.Choices.{Chosen, fixed_cap, is_before, lo_of, hi_of, unordered_below, unordered_pairs, IsOrdered, IsChoice, IsComplete}

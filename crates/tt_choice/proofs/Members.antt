@@ -1,12 +1,11 @@
 -- Which plans are in a choice after one more decision: those of the old one that agree with it.
-use Rattle.std.proofs.Common.{◌≡◌, ◌≢◌, ℕ, ◌+◌, ◌-◌, ◌*◌, ◌<◌, ◌≤◌, ◌⊎◌, ◌↔◌, List, [], ◌∷◌, ◌++◌, length, length-append, slice_index, slice_index_or, slice_set, Bool, true, false, IsTrue, IsFalse, Option, None, Some, arith, inl, inr, refl, subst, sym, ap, ◌∙◌, get_or-set_other, get_or-set_same, length-set}
+use Rattle.std.proofs.Common.{◌≡◌, ◌≢◌, ℕ, ◌+◌, ◌<◌, ◌≤◌, ◌↔◌, [], ◌∷◌, ◌++◌, length, length-append, slice_index, IsTrue, Option, None, Some, arith, inl, inr, refl, sym, ap, ◌∙◌, get_or-set_other, get_or-set_same}
 use Rattle.std.proofs.lemmas.Bool.{cases_eq, cases_lt}
-use Rattle.std.proofs.lemmas.Grind.{common_steps}
 use Rattle.ttp_model.specs.declared.plan.Plan.{Plan}
-use Rattle.ttp_model.specs.Problem.{Problem, node_at, node_of}
+use Rattle.ttp_model.specs.Problem.{Problem, node_at}
 use Rattle.ttp_model.specs.Plans.{EndsBefore, round_of}
-use Rattle.tt_choice.specs.Choices.{Chosen, fixed_cap, is_before, lo_of, hi_of, BeginsWith, IsFixedTo, IsInRange, IsIn, ArePair, IsChoice}
-use Rattle.tt_choice.specs.Branches.{place_next, fix_option, order_pair, at_most, at_least, IsUnorderedPair, CutsRange}
+use Rattle.tt_choice.specs.Choices.{Chosen, fixed_cap, is_before, lo_of, hi_of, IsIn, IsChoice}
+use Rattle.tt_choice.specs.Branches.{place_next, fix_option, order_pair, at_most, at_least, IsUnorderedPair}
 use Rattle.tt_choice.proofs.Extend.{first_part, last_part}
 use Rattle.tt_choice.proofs.Pairs.{pair_now, pair_then}
 

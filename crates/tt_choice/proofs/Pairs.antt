@@ -1,6 +1,6 @@
 -- How many pairs of one node are in neither order, after one of them is ordered.
-use Rattle.std.proofs.Common.{◌≡◌, ◌≢◌, ℕ, ◌+◌, ◌*◌, ◌<◌, ◌≤◌, ◌⊎◌, ◌==◌, ◌&&◌, ◌||◌, not, if◌then◌else◌, List, length, Bool, true, false, IsTrue, IsFalse, arith, inl, inr, refl, ap, sym, ◌∙◌}
-use Rattle.std.proofs.lemmas.Bool.{cases_lt, cases_eq, cases_order, eq-eqb, ne_eqb, or_left, or_right, cases_Bool, and_right}
+use Rattle.std.proofs.Common.{◌≡◌, ◌≢◌, ℕ, ◌+◌, ◌*◌, ◌<◌, ◌⊎◌, ◌==◌, ◌||◌, if◌then◌else◌, length, true, false, arith, inl, inr, refl, ap, sym, ◌∙◌}
+use Rattle.std.proofs.lemmas.Bool.{cases_eq, cases_order, eq-eqb, ne_eqb, or_left, or_right, and_right}
 use Rattle.ttp_model.specs.Problem.{Problem, node_of}
 use Rattle.tt_choice.specs.Totals.{total}
 use Rattle.tt_choice.specs.Choices.{Chosen, is_before, is_unordered, unordered_below, unordered_pairs, ArePair, IsChoice}

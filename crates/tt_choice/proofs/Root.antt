@@ -1,5 +1,5 @@
 -- The choice in which nothing is chosen: it has each valid plan.
-use Rattle.std.proofs.Common.{◌≡◌, ◌≢◌, ℕ, ◌+◌, ◌-◌, ◌*◌, ◌<◌, ◌≤◌, List, [], length, slice_index, Option, None, Some, arith, inl, inr, refl, sym, ap, ◌∙◌, get_or-set_other, sum_by}
+use Rattle.std.proofs.Common.{◌≡◌, ℕ, ◌-◌, ◌*◌, ◌<◌, ◌≤◌, length, slice_index, None, arith, refl}
 use Rattle.std.proofs.lemmas.Bool.{both_ways}
 use Rattle.std.proofs.lemmas.List.{length-replicate, get_or-replicate}
 use Rattle.ttp_model.specs.declared.plan.Plan.{Plan}
@@ -7,8 +7,7 @@ use Rattle.ttp_model.specs.declared.error.Place.TheVariants.{AtCluster}
 use Rattle.ttp_model.specs.Problem.{Problem}
 use Rattle.ttp_model.specs.Rules.{IsInstance}
 use Rattle.ttp_model.specs.Plans.{IsValid}
-use Rattle.tt_choice.specs.Before.{nothing_before}
-use Rattle.tt_choice.specs.Choices.{Chosen, fixed_cap, is_before, IsFixedTo, IsOption, IsIn, IsChoice}
+use Rattle.tt_choice.specs.Choices.{fixed_cap, IsIn, IsChoice}
 use Rattle.tt_choice.specs.Branches.{root_choice}
 use Rattle.ttp_model.proofs.PlanNumbers.{round_below_horizon}
 use Rattle.tt_choice.proofs.Before.{nothing_goes}

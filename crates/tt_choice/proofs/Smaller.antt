@@ -1,14 +1,13 @@
 -- A child leaves less to choose than its choice.
-use Rattle.std.proofs.Common.{◌≡◌, ◌≢◌, ℕ, zero, suc, ◌+◌, ◌-◌, ◌*◌, ◌<◌, ◌≤◌, ◌∷◌, [], List, length, length-append, slice_index, slice_set, count_by, is_none, Option, None, Some, cond, arith, inl, inr, refl, ap, sym, get_or-set_other, get_or-set_same}
+use Rattle.std.proofs.Common.{◌≡◌, ℕ, zero, suc, ◌+◌, ◌-◌, ◌*◌, ◌<◌, ◌≤◌, ◌∷◌, [], length, length-append, slice_index, count_by, is_none, Option, None, Some, cond, arith, inl, inr, ap, get_or-set_other, get_or-set_same}
 use Rattle.std.proofs.lemmas.Bool.{cases_eq}
 use Rattle.std.proofs.lemmas.List.Sums.{sum_by-set}
 use Rattle.ttp_model.specs.declared.step.Kind.{Kind}
 use Rattle.ttp_model.specs.declared.step.Kind.TheVariants.{Place, Cap, Pair, Round}
 use Rattle.ttp_model.specs.Problem.{Problem, node_at}
-use Rattle.tt_choice.specs.Totals.{total}
-use Rattle.tt_choice.specs.Choices.{Chosen, fixed_cap, lo_of, hi_of, unordered_pairs, IsChoice}
-use Rattle.tt_choice.specs.Branches.{unplaced, fix_option, order_pair, at_most, at_least, IsUnorderedPair, CutsRange, IsOpen, children, child}
-use Rattle.tt_choice.specs.Sizes.{binary_digits, range_size, size_left, Halves}
+use Rattle.tt_choice.specs.Choices.{Chosen, fixed_cap, lo_of, hi_of, IsChoice}
+use Rattle.tt_choice.specs.Branches.{unplaced, fix_option, at_most, at_least, CutsRange, IsOpen, child}
+use Rattle.tt_choice.specs.Sizes.{range_size, size_left, Halves}
 use Rattle.tt_choice.proofs.Totals.{total_le, total_less}
 use Rattle.tt_choice.proofs.Digits.{half_digits, digits_le}
 use Rattle.tt_choice.proofs.Pairs.{order_pair_left}

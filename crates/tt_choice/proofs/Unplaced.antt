@@ -1,8 +1,8 @@
 -- The nodes that aren't placed: which they are, and how many.
-use Rattle.std.proofs.Common.{◌≡◌, ◌≢◌, ℕ, zero, suc, ◌+◌, ◌-◌, ◌<◌, ◌≤◌, ◌==◌, not, if◌then◌else◌, List, [], ◌∷◌, length, slice_index, slice_index_or, filter, count_by, sum_by, Contains, Bool, true, false, IsTrue, IsFalse, arith, inl, inr, refl, sym, ap, ◌∙◌}
+use Rattle.std.proofs.Common.{◌≡◌, ℕ, zero, suc, ◌-◌, ◌<◌, ◌==◌, not, if◌then◌else◌, List, [], ◌∷◌, length, slice_index, slice_index_or, filter, sum_by, Contains, Bool, true, arith, inl, inr, refl, sym, ap, ◌∙◌}
 use Rattle.std.specs.List.{range_with_len, list_any}
-use Rattle.std.proofs.lemmas.Bool.{false≢true, cases_Bool, not-true, not_from_false, false_from_ne_true, or_cases, eqb-true, eq-eqb, or_left, or_right}
-use Rattle.std.proofs.lemmas.List.Elements.{filter_passes, All-filter, Contains-get_or}
+use Rattle.std.proofs.lemmas.Bool.{false≢true, cases_Bool, not-true, not_from_false, false_from_ne_true, or_cases, eqb-true, eq-eqb}
+use Rattle.std.proofs.lemmas.List.Elements.{filter_passes, All-filter}
 use Rattle.std.proofs.lemmas.List.Filters.{length-filter_both}
 use Rattle.std.proofs.lemmas.List.Sums.{length-filter, sum-map, sum_by-cons}
 use Rattle.std.proofs.lemmas.List.Folds.{list_any_at}

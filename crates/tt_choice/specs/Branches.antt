@@ -1,5 +1,5 @@
 -- The branches of a choice: which are open, and the choices that they lead to. Own profile.
-use Rattle.std.specs.Prelude.{◌≡◌, ◌≢◌, ℕ, zero, suc, ◌+◌, ◌-◌, ◌*◌, ◌<◌, ◌≤◌, ◌==◌, not, List, [], ◌∷◌, ◌++◌, length, slice_index, slice_index_or, slice_set, filter, replicate, Option, None, Some, Bool, IsFalse}
+use Rattle.std.specs.Prelude.{◌≡◌, ℕ, zero, suc, ◌+◌, ◌-◌, ◌<◌, ◌≤◌, ◌==◌, not, List, [], ◌∷◌, ◌++◌, length, slice_index, slice_index_or, slice_set, filter, replicate, None, Some, Bool, IsFalse}
 use Rattle.std.specs.List.{range_with_len, list_any}
 use Rattle.ttp_model.specs.declared.step.Kind.{Kind}
 use Rattle.ttp_model.specs.declared.step.Kind.TheVariants.{Place, Cap, Pair, Round}

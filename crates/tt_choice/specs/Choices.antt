@@ -1,5 +1,5 @@
 -- What is chosen so far, and which plans agree with it: a choice stands for a set of plans.
-use Rattle.std.specs.Prelude.{◌≡◌, ◌≢◌, ℕ, ◌+◌, ◌*◌, ◌<◌, ◌≤◌, ◌⊎◌, ◌==◌, ◌&&◌, ◌||◌, not, if◌then◌else◌, List, length, slice_index, slice_index_or, Option, None, Some, IsSome, Bool, IsTrue, Contains}
+use Rattle.std.specs.Prelude.{◌≡◌, ◌≢◌, ℕ, ◌*◌, ◌<◌, ◌≤◌, ◌⊎◌, ◌==◌, ◌&&◌, ◌||◌, not, if◌then◌else◌, List, length, slice_index, slice_index_or, Option, None, Some, IsSome, Bool, IsTrue, Contains}
 use Rattle.ttp_model.specs.declared.plan.Plan.{Plan}
 use Rattle.ttp_model.specs.Problem.{Problem, node_at, node_of}
 use Rattle.ttp_model.specs.Lists.{HasNoRepeats}

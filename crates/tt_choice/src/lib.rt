@@ -3,10 +3,8 @@
 
 mod choice;
 mod laws;
-mod limits;
 mod precedence;
 
 pub use choice::Choice;
 pub use laws::{children_share_the_plans, unplaced_nodes_are_the_rest};
-pub use limits::{MOST_DURATION, MOST_ROUND};
 pub use precedence::Precedence;

@@ -10,7 +10,7 @@ use Rattle.ttp_model.specs.Plans.{IsNodeOrder, HasOwnCapacity}
 use Rattle.ttp_model.specs.Rules.{IsClusterInRange, IsInstance}
 use Rattle.ttp_model.specs.Slots.{slot_duration, round_length}
 use Rattle.ttp_model.specs.declared.error.Place.TheVariants.{AtCluster}
-use Rattle.tt_layout.specs.declared.limits.TheConstants.{MOST_ROUND}
+use Rattle.ttp_model.specs.declared.limits.TheConstants.{MOST_ROUND}
 use Rattle.tt_layout.specs.Bounds.{IsBounded}
 
 -- so many rounds as a plan can name stay below 2^56 ticks

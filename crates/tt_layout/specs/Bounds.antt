@@ -4,7 +4,7 @@ use Rattle.ttp_model.specs.declared.limits.TheConstants.{MOST_NODES, MOST_BYTES}
 use Rattle.ttp_model.specs.declared.parts.Cluster.{Cluster}
 use Rattle.ttp_model.specs.Rules.{IsClusterInRange}
 use Rattle.ttp_model.specs.Slots.{round_length}
-use Rattle.tt_layout.specs.declared.limits.TheConstants.{MOST_ROUND}
+use Rattle.ttp_model.specs.declared.limits.TheConstants.{MOST_ROUND}
 
 -- the cluster's numbers are in range, there is a node, and nodes and capacities are within the limits
 pub record IsBounded (cluster : Cluster) (order caps : List ℕ) : Type 0 where

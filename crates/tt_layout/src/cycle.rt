@@ -4,9 +4,8 @@ ghost use Rattle.std.specs.Prelude.{◌≡◌, ◌≤◌};
 ghost use Rattle.ttp_model.specs.Plans.{IsValid};
 ghost use Rattle.tt_layout.specs.Cycle.{cycle_rounds};
 
-use crate::ends::delay;
 use crate::layout::Layout;
-use ttp_model::{Instance, MOST_TICKS, Plan};
+use ttp_model::{Instance, MOST_TICKS, Plan, delay};
 
 /// How many rounds the cycle of a valid plan has, which then repeats: those that begin before its
 /// delay. Takes no memory; a pass over the nodes and one over the processes.

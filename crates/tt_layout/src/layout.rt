@@ -7,9 +7,10 @@ ghost use Rattle.ttp_model.specs.Plans.{IsNodeOrder, HasOwnCapacity};
 ghost use Rattle.ttp_model.specs.Rules.{IsClusterInRange};
 ghost use Rattle.ttp_model.specs.Slots.{duration, offset, round_length, slot_duration, slot_start, slot_end};
 
-use crate::limits::{MOST_DURATION, MOST_ROUND};
 use std::marker::Model;
-use ttp_model::{Cluster, Instance, MOST_BYTES, MOST_NODES};
+use ttp_model::{
+    Cluster, Instance, MOST_BYTES, MOST_DURATION, MOST_NODES, MOST_ROUND, slot_duration,
+};
 
 /// The slots of an order of the nodes and of a capacity for each node: one slot for each node in
 /// every round, one slot after another without a gap.
@@ -108,17 +109,6 @@ impl<'a> Layout<'a> {
             (t - offset - 1) / self.round + 1
         }
     }
-}
-
-/// How long a slot of this capacity in bytes is, in ticks.
-fn slot_duration(c: &Cluster, capacity: u32) -> u64
-    requires ranges { IsClusterInRange c.now }
-    requires small { capacity ≤ MOST_BYTES }
-    ensures length { result ≡ slot_duration c.now capacity }
-    ensures bound { result ≤ MOST_DURATION }
-{
-    let frame = u64::from(c.head) + u64::from(c.per_byte) * u64::from(capacity);
-    u64::from(c.lead) + frame + u64::from(c.trail)
 }
 
 /// How long all slots together are, in ticks.

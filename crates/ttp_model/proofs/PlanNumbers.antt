@@ -1,16 +1,15 @@
 -- How large the numbers of a valid plan can be, and how early it can end.
-use Rattle.std.proofs.Common.{◌≡◌, ℕ, ◌+◌, ◌<◌, ◌≤◌, List, length, slice_index, All, arith, ◌⊎◌, inl, inr, ap}
+use Rattle.std.proofs.Common.{◌≡◌, ℕ, ◌+◌, ◌<◌, ◌≤◌, length, slice_index, All, arith}
 use Rattle.std.proofs.lemmas.Grind.{common_steps}
 use Rattle.ttp_model.specs.declared.limits.TheConstants.{MOST_BYTES}
 use Rattle.ttp_model.specs.declared.plan.Plan.{Plan}
 use Rattle.ttp_model.specs.declared.error.Place.TheVariants.{AtCluster, AtProcess, AtLink, AtMessage}
-use Rattle.ttp_model.specs.Problem.{Problem, message_at, process_at, node_of, source_of}
+use Rattle.ttp_model.specs.Problem.{Problem, message_at, node_of, source_of}
 use Rattle.ttp_model.specs.Rules.{IsInstance}
 use Rattle.ttp_model.specs.Graph.{HasLink, HasMessage}
-use Rattle.ttp_model.specs.Slots.{round_length, slot_start, slot_end, duration}
-use Rattle.ttp_model.specs.Plans.{IsValid, start_of, end_of, round_of, sent_from, sent_until, HasArrived}
-use Rattle.ttp_model.specs.Delays.{delay, IsLowerBound}
-use Rattle.ttp_model.specs.Chains.{ChainEnds, one, by_link, by_message, least_transfer, least_duration, IsPathBound}
+use Rattle.ttp_model.specs.Plans.{IsValid, start_of, end_of, round_of, HasArrived}
+use Rattle.ttp_model.specs.Delays.{delay}
+use Rattle.ttp_model.specs.Chains.{ChainEnds, one, by_link, by_message, least_transfer, IsPathBound}
 use Rattle.ttp_model.proofs.ValidPlans.{greatest_each, greatest_reached}
 use Rattle.ttp_model.proofs.Times.{round_length-positive, least_duration-le, round-le-slot_start}
 

@@ -1,5 +1,5 @@
 -- How long slots and rounds are at least, whatever the plan.
-use Rattle.std.proofs.Common.{◌≡◌, ℕ, zero, suc, ◌+◌, ◌*◌, ◌<◌, ◌≤◌, List, length, slice_index, slice_index_or, sum_by, arith, add-one, Contains}
+use Rattle.std.proofs.Common.{◌≡◌, ℕ, zero, suc, ◌+◌, ◌<◌, ◌≤◌, List, length, slice_index, arith, add-one}
 use Rattle.std.proofs.Math.Nat.{mul-le-mul_left, le-mul_of_pos_right}
 use Rattle.std.specs.List.Sorted.{IsStrictlyIncreasing}
 use Rattle.std.proofs.lemmas.List.Sums.{get_or-le-sum_by}
@@ -7,7 +7,7 @@ use Rattle.std.proofs.lemmas.Grind.{common_steps}
 use Rattle.ttp_model.specs.declared.parts.Cluster.{Cluster}
 use Rattle.ttp_model.specs.Problem.{Problem, node_at}
 use Rattle.ttp_model.specs.Rules.{IsClusterInRange}
-use Rattle.ttp_model.specs.Slots.{slot_duration, round_length, slot_start, slot_end, duration}
+use Rattle.ttp_model.specs.Slots.{slot_duration, round_length, slot_start, duration}
 use Rattle.ttp_model.specs.Plans.{HasOwnCapacity}
 use Rattle.ttp_model.specs.Chains.{least_duration}
 

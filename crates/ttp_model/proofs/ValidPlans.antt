@@ -1,16 +1,18 @@
 -- Frames without messages, and plans without a delay.
-use Rattle.std.proofs.Common.{◌≡◌, ℕ, zero, suc, ◌+◌, ◌<◌, ◌≤◌, length, slice_index, sum, map, max, arith, inl, inr, ap, add-one, refl, ◌-◌}
+use Rattle.std.proofs.Common.{◌≡◌, ℕ, zero, suc, ◌+◌, ◌<◌, ◌≤◌, length, slice_index, sum, map, max, arith, inl, inr, ap, add-one}
 use Rattle.std.specs.List.{range_with_len}
 use Rattle.std.proofs.lemmas.List.FromFn.{sum_by-map-range_with_len_more, map-range_with_len_more}
 use Rattle.std.proofs.lemmas.List.Sums.{fold_push}
 use Rattle.std.proofs.lemmas.Bool.{cases_order}
 use Rattle.std.proofs.lemmas.Bool.Decides.{eqb_tells}
+use Rattle.ttp_model.specs.declared.limits.TheConstants.{MOST_TICKS}
+use Rattle.ttp_model.specs.declared.error.Place.TheVariants.{AtCluster}
 use Rattle.ttp_model.specs.declared.plan.Plan.{Plan}
 use Rattle.ttp_model.specs.Problem.{Problem, source_of}
 use Rattle.ttp_model.specs.Rules.{IsInstance}
 use Rattle.ttp_model.specs.Lists.{greatest}
 use Rattle.ttp_model.specs.Plans.{IsValid, end_of, load_of, bytes_in, round_of}
-use Rattle.ttp_model.specs.Delays.{IsLowerBound, HasNoPlan}
+use Rattle.ttp_model.specs.Delays.{delay, IsLowerBound, HasNoPlan}
 
 -- a sum above 0 has a term above 0
 positive_term : (f : ℕ → ℕ) (count : ℕ) → 0 < sum (map f (range_with_len 0 count)) → (m : ℕ) × (m < count) × (0 < f m)
@@ -46,7 +48,7 @@ frames_fit_lem i plan n r v = elim (cases_order (load_of i plan n r) 0) [
 ]
 
 -- the greatest of one number more
-greatest_more : (f : ℕ → ℕ) (count : ℕ) → greatest (map f (range_with_len 0 (count + 1))) ≡ max (greatest (map f (range_with_len 0 count))) (f count)
+pub greatest_more : (f : ℕ → ℕ) (count : ℕ) → greatest (map f (range_with_len 0 (count + 1))) ≡ max (greatest (map f (range_with_len 0 count))) (f count)
 greatest_more f count = rw (map-range_with_len_more f 0 count count (omega arith)) (fold_push max 0 (map f (range_with_len 0 count)) (f count))
 
 pub greatest_each : (f : ℕ → ℕ) (count : ℕ) → (p : ℕ) → p < count → f p ≤ greatest (map f (range_with_len 0 count))
@@ -76,3 +78,9 @@ pub bound_is_none : (i : Problem) → IsInstance i → IsLowerBound i (i.cluster
 bound_is_none i w bound plan v =
     let last = greatest_reached (end_of i plan) (length i.processes) (omega (arith, w.limits.processes_least)) in
     omega (arith, bound plan v, last.2, (v.in_time last.0 last.1).1)
+
+-- the delay of a valid plan is a time within the limits
+pub delay-le : (i : Problem) (plan : Plan) → IsInstance i → IsValid i plan → delay i plan ≤ MOST_TICKS
+delay-le i plan w v =
+    let last = greatest_reached (end_of i plan) (length i.processes) (omega (arith, w.limits.processes_least)) in
+    omega (arith, last.2, (v.in_time last.0 last.1).1, (w.ranges AtCluster).horizon)

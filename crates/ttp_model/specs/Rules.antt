@@ -1,5 +1,5 @@
 -- What each part of an instance has to keep: the limits and conditions of our own profile.
-use Rattle.std.specs.Prelude.{◌≡◌, ◌≢◌, ℕ, ◌+◌, ◌*◌, ◌<◌, ◌≤◌, ◌⊎◌, List, length, slice_index, Bool, ◌||◌, ◌==◌, IsTrue, All, EachIndex}
+use Rattle.std.specs.Prelude.{◌≡◌, ◌≢◌, ℕ, ◌+◌, ◌*◌, ◌<◌, ◌≤◌, List, length, slice_index, Bool, ◌||◌, ◌==◌, IsTrue, All, EachIndex}
 use Rattle.std.specs.Char.{is_ascii_alphabetic, is_ascii_alphanumeric}
 use Rattle.std.specs.List.Sorted.{IsStrictlyIncreasing}
 use Rattle.ttp_model.specs.declared.limits.TheConstants.{MOST_NODES, MOST_PROCESSES, MOST_LINKS, MOST_MESSAGES, MOST_CAPACITIES, MOST_NAME_BYTES, MOST_TICKS, MOST_BUS_TICKS, MOST_HEAD, MOST_PER_BYTE, MOST_BYTES}

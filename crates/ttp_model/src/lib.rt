@@ -1,6 +1,7 @@
 //! Clusters, process graphs and plans: what they are, and what makes them lawful.
 #![tactic(auto)]
 
+mod ends;
 mod error;
 mod fault;
 mod graph;
@@ -12,11 +13,13 @@ mod numbers;
 mod parts;
 mod plan;
 mod rules;
+mod slots;
 mod step;
 #[cfg(test)]
 mod tests;
 mod worked;
 
+pub use ends::{delay, end_of};
 pub use error::{MemoryFault, ModelError, Part, Place};
 pub use fault::{PlanFault, PlanPart};
 pub use instance::Instance;
@@ -25,13 +28,15 @@ pub use laws::{
     lower_bound_past_horizon, path_bound_is_lower_bound, valid_numbers_are_small,
 };
 pub use limits::{
-    MOST_BUS_TICKS, MOST_BYTES, MOST_CAPACITIES, MOST_HEAD, MOST_LINKS, MOST_MESSAGES,
-    MOST_NAME_BYTES, MOST_NODES, MOST_PER_BYTE, MOST_PROCESSES, MOST_TICKS,
+    MOST_BUS_TICKS, MOST_BYTES, MOST_CAPACITIES, MOST_DURATION, MOST_HEAD, MOST_LINKS,
+    MOST_MESSAGES, MOST_NAME_BYTES, MOST_NODES, MOST_PER_BYTE, MOST_PROCESSES, MOST_ROUND,
+    MOST_TICKS,
 };
 pub use name::{Name, is_name};
 pub use numbers::Numbers;
 pub use parts::{Cluster, Link, Message, Node, Process};
 pub use plan::Plan;
+pub use slots::slot_duration;
 pub use step::{Kind, Leaf, Ring, Step, Steps};
 pub use worked::{
     figures_of_one_message, moves_of_three_alike, path_bound_of_one_message, slots_of_one_message,

@@ -32,3 +32,11 @@ pub const MOST_PER_BYTE: u32 = 1_000;
 
 /// The bytes of a capacity or of a message.
 pub const MOST_BYTES: u32 = 1_000;
+
+/// The ticks of a slot: the frame between lead and trail.
+pub const MOST_DURATION: u64 = 2 * MOST_BUS_TICKS as u64
+    + MOST_HEAD as u64
+    + MOST_PER_BYTE as u64 * MOST_BYTES as u64;
+
+/// The ticks of a round: a slot for each node.
+pub const MOST_ROUND: u64 = MOST_NODES as u64 * MOST_DURATION;

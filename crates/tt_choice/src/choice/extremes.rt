@@ -8,8 +8,7 @@ ghost use Rattle.tt_choice.specs.Choices.{IsChoice, IsOption};
 ghost use Rattle.tt_choice.specs.Extremes.{IsLeastOf, IsMostOf, start_at, end_at, cap_at, dur_at, least_option, most_option, cap_least, cap_most, dur_least, dur_most, offset_least, offset_most, start_least, start_most, end_least, end_most};
 
 use crate::choice::Choice;
-use crate::limits::{MOST_DURATION, MOST_ROUND};
-use ttp_model::{Cluster, Instance, MOST_BYTES};
+use ttp_model::{Instance, MOST_BYTES, MOST_DURATION, MOST_ROUND, slot_duration};
 
 impl Choice {
     /// The least capacity of node `n` in bytes, over all orders and capacities that agree.
@@ -174,17 +173,6 @@ impl Choice {
         }
         round - own
     }
-}
-
-/// How long a slot of this capacity in bytes is, in ticks.
-fn slot_duration(c: &Cluster, capacity: u32) -> u64
-    requires ranges { IsClusterInRange c.now }
-    requires small { capacity ≤ MOST_BYTES }
-    ensures length { result ≡ slot_duration c.now capacity }
-    ensures bound { result ≤ MOST_DURATION }
-{
-    let frame = u64::from(c.head) + u64::from(c.per_byte) * u64::from(capacity);
-    u64::from(c.lead) + frame + u64::from(c.trail)
 }
 
 /// The capacity that is fixed, or the least option of node `n`.

@@ -1,4 +1,3 @@
-use Rattle.ttp_model.specs.Problem.{Problem}
 use Rattle.earliest_starts.specs.declared.clash.Clash.TheVariants.{Cycle}
 use Rattle.earliest_starts.proofs.Sound.{IsBarren-clash}
 use Rattle.earliest_starts.proofs.earliest_plan.earliest.Goals as goal

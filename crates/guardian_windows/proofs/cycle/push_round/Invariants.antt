@@ -1,6 +1,6 @@
 use Rattle.std.proofs.Common.{◌≡◌, ◌+◌, ◌*◌, ◌≤◌, ◌++◌, take, map, sum_by}
 use Rattle.ttp_model.specs.Slots.{duration, round_length}
-use Rattle.tt_layout.specs.declared.limits.TheConstants.{MOST_DURATION, MOST_ROUND}
+use Rattle.ttp_model.specs.declared.limits.TheConstants.{MOST_DURATION, MOST_ROUND}
 use Rattle.guardian_windows.specs.Windows.{window_of}
 use Rattle.guardian_windows.proofs.cycle.push_round.Given as goal
 

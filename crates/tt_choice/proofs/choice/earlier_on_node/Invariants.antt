@@ -1,4 +1,4 @@
-use Rattle.std.proofs.Common.{◌≡◌, ◌≤◌, ◌==◌, if◌then◌else◌}
+use Rattle.std.proofs.Common.{◌≡◌, ◌≤◌, if◌then◌else◌}
 use Rattle.tt_choice.specs.Totals.{total}
 use Rattle.tt_choice.specs.Choices.{is_unordered}
 use Rattle.tt_choice.specs.Branches.{open_choice}

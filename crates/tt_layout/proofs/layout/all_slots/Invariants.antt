@@ -1,6 +1,6 @@
 use Rattle.std.proofs.Common.{◌≡◌, ◌*◌, ◌≤◌, sum_by, take}
 use Rattle.ttp_model.specs.Slots.{slot_duration}
-use Rattle.tt_layout.specs.declared.limits.TheConstants.{MOST_DURATION}
+use Rattle.ttp_model.specs.declared.limits.TheConstants.{MOST_DURATION}
 use Rattle.tt_layout.proofs.layout.all_slots.Given as goal
 
 abbrev pub invariant-loop-capacity : goal.invariant-loop-capacity

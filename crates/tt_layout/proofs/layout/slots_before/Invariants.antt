@@ -1,6 +1,6 @@
 use Rattle.std.proofs.Common.{◌≡◌, ◌+◌, ◌*◌, ◌≤◌, sum_by, drop}
 use Rattle.ttp_model.specs.Slots.{duration, nodes_before, offset}
-use Rattle.tt_layout.specs.declared.limits.TheConstants.{MOST_DURATION}
+use Rattle.ttp_model.specs.declared.limits.TheConstants.{MOST_DURATION}
 use Rattle.tt_layout.proofs.layout.slots_before.Given as goal
 
 abbrev pub invariant-loop-m : goal.invariant-loop-m

@@ -1,4 +1,4 @@
-use Rattle.std.proofs.Common.{◌≡◌, ◌<◌, ◌≤◌, length, arith, ap}
+use Rattle.std.proofs.Common.{◌≡◌, length, arith, ap}
 use Rattle.std.proofs.lemmas.Bool.{false≢true}
 use Rattle.tt_choice.specs.Choices.{Chosen}
 use Rattle.tt_choice.proofs.Completes.{IsComplete-from, unordered-IsComplete}

@@ -1,6 +1,6 @@
 use Rattle.std.proofs.Common.{◌≡◌, ◌+◌, ◌*◌, ◌≤◌, sum_by, drop}
 use Rattle.ttp_model.specs.Slots.{nodes_before}
-use Rattle.tt_choice.specs.declared.limits.TheConstants.{MOST_DURATION}
+use Rattle.ttp_model.specs.declared.limits.TheConstants.{MOST_DURATION}
 use Rattle.tt_choice.specs.Extremes.{dur_least, offset_least}
 use Rattle.tt_choice.proofs.choice.Choice.offset_least.Given as goal
 

@@ -1,5 +1,5 @@
 use Rattle.std.proofs.Common.{◌≡◌, ◌≢◌, ℕ, ◌<◌, ◌*◌, ◌≤◌, slice_index, sum_by, take}
-use Rattle.tt_choice.specs.declared.limits.TheConstants.{MOST_DURATION}
+use Rattle.ttp_model.specs.declared.limits.TheConstants.{MOST_DURATION}
 use Rattle.tt_choice.specs.Extremes.{dur_most}
 use Rattle.tt_choice.proofs.choice.Choice.offset_most.Given as goal
 

@@ -4,7 +4,9 @@ ghost use Rattle.std.specs.Prelude.{◌≡◌, ◌^◌, ◌<◌, ◌≤◌, leng
 ghost use Rattle.ttp_model.specs.Plans.{HasStartsLength, IsValid, end_of};
 ghost use Rattle.ttp_model.specs.Delays.{delay};
 
-use ttp_model::{Instance, MOST_TICKS, Plan};
+use crate::instance::Instance;
+use crate::limits::MOST_TICKS;
+use crate::plan::Plan;
 
 /// When process `p` ends, in ticks: the first one after it. One step.
 pub fn end_of(instance: &Instance, plan: &Plan, p: usize) -> u64

@@ -3,8 +3,8 @@ use Rattle.std.specs.List.{range_with_len}
 use Rattle.std.proofs.lemmas.List.FromFn.{map-range_with_len_more}
 use Rattle.std.proofs.lemmas.List.Sums.{fold_push}
 use Rattle.ttp_model.specs.Plans.{end_of}
-use Rattle.tt_layout.proofs.CycleBounds.{delay-le}
-use Rattle.tt_layout.proofs.ends.delay.Goals as goal
+use Rattle.ttp_model.proofs.ValidPlans.{delay-le}
+use Rattle.ttp_model.proofs.ends.delay.Goals as goal
 
 pub loop-p-preserved : goal.loop-p-preserved
 loop-p-preserved c =
