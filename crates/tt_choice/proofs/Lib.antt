@@ -7,6 +7,7 @@ pub mod Root
 pub mod Members
 pub mod Completes
 pub mod Unplaced
+pub mod ChildLists
 pub mod Children
 pub mod Smaller
 pub mod Bounds

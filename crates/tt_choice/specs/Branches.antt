@@ -1,5 +1,5 @@
 -- The branches of a choice: which are open, and the choices that they lead to. Own profile.
-use Rattle.std.specs.Prelude.{◌≡◌, ℕ, zero, suc, ◌+◌, ◌-◌, ◌<◌, ◌≤◌, ◌==◌, not, List, [], ◌∷◌, ◌++◌, length, slice_index, slice_index_or, slice_set, filter, replicate, None, Some, Bool, IsFalse}
+use Rattle.std.specs.Prelude.{◌≡◌, ℕ, zero, suc, ◌+◌, ◌-◌, ◌<◌, ◌≤◌, ◌==◌, not, List, [], ◌∷◌, ◌++◌, length, slice_index, slice_index_or, slice_set, filter, map, replicate, None, Some, Bool, IsFalse}
 use Rattle.std.specs.List.{range_with_len, list_any}
 use Rattle.ttp_model.specs.declared.step.Kind.{Kind}
 use Rattle.ttp_model.specs.declared.step.Kind.TheVariants.{Place, Cap, Pair, Round}
@@ -94,6 +94,10 @@ child i c (Pair p q) zero = order_pair c p q
 child i c (Pair p q) (suc k) = order_pair c q p
 child i c (Round m r) zero = at_most c m r
 child i c (Round m r) (suc k) = at_least c m (r + 1)
+
+-- all children of a branch, in order
+abbrev pub child_choices : Problem → Chosen → Kind → List Chosen
+child_choices i c kind = map (child i c kind) (range_with_len 0 (children i c kind))
 
 -- an open branch with just its children, in order
 pub record IsBranch (i : Problem) (c : Chosen) (kind : Kind) (cs : List Chosen) : Type 0 where

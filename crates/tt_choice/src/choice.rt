@@ -8,6 +8,7 @@ ghost use Rattle.tt_choice.specs.Choices.{IsChoice, IsIn, fixed_cap, is_before, 
 ghost use Rattle.tt_choice.specs.Branches.{open_choice, root_choice};
 
 mod changes;
+mod children;
 mod extremes;
 mod questions;
 

@@ -201,3 +201,37 @@ fn a_choice_is_complete_when_nothing_is_open(rt: HostRuntime) -> Result<(), Fail
     assert_eq!(rt; (copy.fixed_cap(0), copy.fixed_cap(1)), (Some(2), Some(0)));
     Ok(())
 }
+
+#[test]
+fn the_children_of_a_branch_come_in_order(rt: HostRuntime) -> Result<(), Fail> {
+    let instance = sender_and_receiver(rt.alloc(), &[2, 4], &[0])?;
+    let root = Choice::root(rt.alloc(), &instance)?;
+    assert!(rt; root.is_open(&instance, &Kind::Place));
+    let placed = root.children(rt.alloc(), &instance, &Kind::Place)?;
+    assert_eq!(rt; placed.len(), 2);
+    assert_eq!(rt; placed[0].prefix(), [0].as_slice());
+    assert_eq!(rt; placed[1].prefix(), [1].as_slice());
+    assert!(rt; root.is_open(&instance, &Kind::Cap(0)));
+    let fixed = root.children(rt.alloc(), &instance, &Kind::Cap(0))?;
+    assert_eq!(rt; fixed.len(), 2);
+    assert_eq!(rt;
+        (fixed[0].fixed_cap(0), fixed[1].fixed_cap(0)),
+        (Some(2), Some(4))
+    );
+    assert!(rt; root.is_open(&instance, &Kind::Round(0, 4)));
+    let sides = root.children(rt.alloc(), &instance, &Kind::Round(0, 4))?;
+    assert_eq!(rt; sides.len(), 2);
+    Ok(())
+}
+
+#[test]
+fn the_children_of_a_pair_are_its_two_orders(rt: HostRuntime) -> Result<(), Fail> {
+    let instance = three_on_one_node(rt.alloc())?;
+    let root = Choice::root(rt.alloc(), &instance)?;
+    assert!(rt; root.is_open(&instance, &Kind::Pair(1, 0)));
+    let ordered = root.children(rt.alloc(), &instance, &Kind::Pair(1, 0))?;
+    assert_eq!(rt; ordered.len(), 2);
+    assert!(rt; ordered[0].is_before(1, 0) && !ordered[0].is_before(0, 1));
+    assert!(rt; ordered[1].is_before(0, 1) && !ordered[1].is_before(1, 0));
+    Ok(())
+}
