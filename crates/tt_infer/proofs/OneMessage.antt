@@ -1,0 +1,100 @@
+-- Five steps on the worked example with one message: they close the root choice at 9, and not at 10.
+use Rattle.std.proofs.Common.{◌≡◌, ℕ, zero, suc, ◌-◌, ◌<◌, ◌≤◌, min, List, [], ◌∷◌, arith, inl, inr, refl, lit<}
+use Rattle.std.proofs.lemmas.Bool.{cases_order}
+use Rattle.ttp_model.specs.declared.step.Step.{Step}
+use Rattle.ttp_model.specs.declared.step.Step.TheVariants.{EsRelease, EsArrive, LoSend, LeOwn, XWindow}
+use Rattle.ttp_model.specs.Worked.{one_message}
+use Rattle.ttp_model.specs.Delays.{IsLowerBound, delay}
+use Rattle.tt_choice.specs.Branches.{root_choice}
+use Rattle.tt_choice.specs.Extremes.{start_most}
+use Rattle.tt_choice.proofs.Root.{IsChoice-root, IsIn-root}
+use Rattle.tt_infer.specs.Facts.{Known, first_facts, le_of}
+use Rattle.tt_infer.specs.Conclusions.{StartsFrom, SentFrom, EndsUntil, NothingLeft, sharpened}
+use Rattle.tt_infer.specs.Premises.{IsFirstChance, least_end}
+use Rattle.tt_infer.specs.Table.{IsLawful}
+use Rattle.tt_infer.specs.Leaves.{Lead, ClosesLeaf}
+use Rattle.tt_infer.proofs.OneMessageRules.{one_message_is_instance}
+use Rattle.tt_infer.proofs.Determined.{Lead-determined}
+use Rattle.tt_infer.proofs.Leaves.{leaf_leaves_none, Lead-append, Lead-split}
+
+-- What is known at first, and after each step but the last: p starts at 0, m is sent in round 1, q
+-- starts at 7, and ends a tick below the goal.
+at_first : Known
+at_first = first_facts one_message (root_choice one_message)
+
+released : Known
+released = sharpened one_message at_first (StartsFrom 0 0)
+
+sent : Known
+sent = sharpened one_message released (SentFrom 0 1)
+
+arrived : Known
+arrived = sharpened one_message sent (StartsFrom 1 7)
+
+ended : ℕ → Known
+ended goal = sharpened one_message arrived (EndsUntil 1 (min (min 1000000 100) (goal - 1)))
+
+-- m is ready at 3, and the slot begins at 1 or earlier in round 0, at 5 or earlier in round 1
+first_is : IsFirstChance one_message (root_choice one_message) released 0 1
+unfolding at_first released
+first_is = record { late_enough = lit< tt; least = least }
+  where
+    least : (s : ℕ) → 3 ≤ start_most one_message (root_choice one_message) 0 s → 1 ≤ s
+    least zero h = absurd (omega (arith, h))
+    least (suc s) h = omega arith
+
+-- Each of these steps is lawful where the one before it leads, at each goal.
+p_is_released : (goal : ℕ) → IsLawful one_message (root_choice one_message) goal at_first (EsRelease 0) released
+unfolding released
+p_is_released goal = record { there = lit< tt; premise = tt; conclusion = StartsFrom 0 0; concludes = refl; known = refl }
+
+m_is_sent : (goal : ℕ) → IsLawful one_message (root_choice one_message) goal released (LoSend 0) sent
+unfolding sent
+m_is_sent goal = record { there = lit< tt; premise = tt; conclusion = SentFrom 0 1; concludes = (1, first_is, refl); known = refl }
+
+m_arrives : (goal : ℕ) → IsLawful one_message (root_choice one_message) goal sent (EsArrive 0 1) arrived
+unfolding at_first released sent arrived
+m_arrives goal = record { there = (lit< tt, (0, lit< tt, refl)); premise = tt; conclusion = StartsFrom 1 7; concludes = refl; known = refl }
+
+q_ends : (goal : ℕ) → IsLawful one_message (root_choice one_message) goal arrived (LeOwn 1) (ended goal)
+unfolding ended
+q_ends goal = record { there = lit< tt; premise = tt; conclusion = EndsUntil 1 (min (min 1000000 100) (goal - 1)); concludes = refl; known = refl }
+
+four_steps : List Step
+four_steps = EsRelease 0 ∷ LoSend 0 ∷ EsArrive 0 1 ∷ LeOwn 1 ∷ []
+
+lead : (goal : ℕ) → Lead one_message (root_choice one_message) goal at_first four_steps (ended goal)
+unfolding at_first released sent arrived four_steps
+lead goal = (refl, (released, p_is_released goal, (refl, (sent, m_is_sent goal, (refl, (arrived, m_arrives goal, (refl, (ended goal, q_ends goal, refl))))))))
+
+-- at 9 the window of q is too narrow
+closed : Known
+closed = sharpened one_message (ended 9) NothingLeft
+
+window_closes : IsLawful one_message (root_choice one_message) 9 (ended 9) (XWindow 1) closed
+unfolding at_first released sent arrived ended closed
+window_closes = record { there = lit< tt; premise = lit< tt; conclusion = NothingLeft; concludes = refl; known = refl }
+
+pub closes_at_9 : ClosesLeaf one_message (root_choice one_message) (record { goal = 9; steps = EsRelease 0 ∷ LoSend 0 ∷ EsArrive 0 1 ∷ LeOwn 1 ∷ XWindow 1 ∷ [] })
+unfolding at_first released sent arrived ended four_steps closed
+closes_at_9 =
+    let last : Lead one_message (root_choice one_message) 9 (ended 9) (XWindow 1 ∷ []) closed = (refl, (closed, window_closes, refl)) in
+    (closed, Lead-append one_message (root_choice one_message) 9 at_first four_steps (XWindow 1 ∷ []) (ended 9) closed (lead 9) last, refl)
+
+-- and at 10 it isn't
+pub open_at_10 : ¬ ClosesLeaf one_message (root_choice one_message) (record { goal = 10; steps = EsRelease 0 ∷ LoSend 0 ∷ EsArrive 0 1 ∷ LeOwn 1 ∷ XWindow 1 ∷ [] })
+unfolding at_first released sent arrived ended four_steps
+open_at_10 closes =
+    let cut = Lead-split one_message (root_choice one_message) 10 at_first four_steps (XWindow 1 ∷ []) closes.0 closes.1 in
+    let same : cut.0 ≡ ended 10 = Lead-determined one_message (root_choice one_message) 10 at_first four_steps cut.0 (ended 10) cut.1 (lead 10) in
+    let narrow : le_of (ended 10) 1 < least_end one_message (ended 10) 1 = rw same at cut.2.1.1.premise in
+    omega (arith, narrow)
+
+pub bound_is_9 : IsLowerBound one_message 9
+bound_is_9 plan v = elim (cases_order (delay one_message plan) 9) [
+  | inl is ↦ omega (arith, is)
+  | inr apart ↦ elim apart [
+    | inl better ↦ absurd (leaf_leaves_none one_message (root_choice one_message) (record { goal = 9; steps = EsRelease 0 ∷ LoSend 0 ∷ EsArrive 0 1 ∷ LeOwn 1 ∷ XWindow 1 ∷ [] }) one_message_is_instance (IsChoice-root one_message one_message_is_instance) closes_at_9 plan (record { valid = v; chosen = IsIn-root one_message plan one_message_is_instance v; better = better }))
+    | inr above ↦ omega (arith, above)
+  ]
+]

@@ -1,0 +1,13 @@
+pub mod Facts
+pub mod Conclusions
+pub mod Premises
+pub mod Table
+pub mod Leaves
+pub mod Answers
+pub mod Inference
+pub mod Sought
+pub use Rattle.ttp_model.specs.Problem
+pub use Rattle.ttp_model.specs.Rules
+pub use Rattle.ttp_model.specs.Plans
+pub use Rattle.tt_choice.specs.Choices
+pub use Rattle.tt_choice.specs.Extremes

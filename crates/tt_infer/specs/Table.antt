@@ -1,0 +1,84 @@
+-- The steps of inference as a table: what each names, what it asks for, and what it concludes. Own profile.
+use Rattle.std.specs.Prelude.{◌≡◌, ℕ, ◌+◌, ◌-◌, ◌<◌, ◌≤◌, IsTrue, List, length, slice_index, min}
+use Rattle.ttp_model.specs.declared.step.Step.{Step}
+use Rattle.ttp_model.specs.declared.step.Step.TheVariants.{EsRelease, EsLink, EsBefore, EsArrive, EsMessage, LoSend, LeOwn, LeLink, LeBefore, LeMessage, LeSend, HiArrive, OrdWindow, OrdTwin, UsSettled, XWindow, XRound, XCycle, XLoad, XFrame, XFrames, XLate, XSilent}
+use Rattle.ttp_model.specs.Lists.{EachBelow}
+use Rattle.ttp_model.specs.Problem.{Problem, process_at, message_at, link_at, source_of}
+use Rattle.tt_choice.specs.Choices.{Chosen, ArePair}
+use Rattle.tt_choice.specs.Extremes.{start_most, end_least, cap_most, dur_least}
+use Rattle.tt_infer.specs.Facts.{Known, le_of, lo_of, top_of, bef_of}
+use Rattle.tt_infer.specs.Conclusions.{Conclusion, StartsFrom, EndsUntil, SentFrom, SentBefore, GoesFirst, NothingLeft, sharpened}
+use Rattle.tt_infer.specs.Premises.{Receives, wcet_of, sender_of, least_end, most_start, least_ready, IsFirstChance, AreChances, IsRing, IsOverloaded, AreOverfull}
+
+-- a row: what the step names is there, its premise, and what it concludes
+pub record Row : Type 1 where
+  pub there : Type 0
+  pub premise : Type 0
+  pub concludes : Conclusion → Type 0
+
+abbrev pub row : Type 0 → Type 0 → (Conclusion → Type 0) → Row
+row there premise concludes = record { there = there; premise = premise; concludes = concludes }
+
+-- the index is one of a process, a link, a message, a node
+abbrev pub IsProcess : Problem → ℕ → Type 0
+IsProcess i p = p < length i.processes
+
+abbrev pub IsLink : Problem → ℕ → Type 0
+IsLink i l = l < length i.links
+
+abbrev pub IsMessage : Problem → ℕ → Type 0
+IsMessage i m = m < length i.messages
+
+abbrev pub IsNode : Problem → ℕ → Type 0
+IsNode i n = n < length i.nodes
+
+-- two processes or more, which are there
+abbrev pub AreProcesses : Problem → List ℕ → Type 0
+AreProcesses i ps = (2 ≤ length ps) × EachBelow (length ps) (λ k. IsProcess i (slice_index ps k))
+
+-- a step that asks for nothing more
+abbrev pub Always : Type 0
+Always = Unit {0}
+
+-- a step that is refused wherever what it names is there
+abbrev pub refused : Type 0 → Row
+refused there = row there ⊥ (λ k. ⊥)
+
+-- just this conclusion
+abbrev pub Just : Conclusion → Conclusion → Type 0
+Just this other = other ≡ this
+
+-- The table.
+abbrev pub rule : Problem → Chosen → ℕ → Known → Step → Row
+rule i c goal f (EsRelease p) = row (IsProcess i p) Always (Just (StartsFrom p (process_at i p).release))
+rule i c goal f (EsLink l) = row (IsLink i l) Always (Just (StartsFrom (link_at i l).after (least_end i f (link_at i l).before)))
+rule i c goal f (EsBefore p q) = row (ArePair i p q) (IsTrue (bef_of f p q)) (Just (StartsFrom q (least_end i f p)))
+rule i c goal f (EsArrive m q) = row (Receives i m q) Always (Just (StartsFrom q (end_least i c (source_of i m) (lo_of f m) + i.cluster.copy_in)))
+rule i c goal f (EsMessage m q) = row (Receives i m q) Always (Just (StartsFrom q (least_ready i f m + dur_least i c (source_of i m) + i.cluster.copy_in)))
+rule i c goal f (LoSend m) = row (IsMessage i m) Always (λ k. (r : ℕ) × IsFirstChance i c f m r × (k ≡ SentFrom m r))
+rule i c goal f (LeOwn p) = row (IsProcess i p) Always (Just (EndsUntil p (min (min (process_at i p).deadline i.cluster.horizon) (goal - 1))))
+rule i c goal f (LeLink l) = row (IsLink i l) Always (Just (EndsUntil (link_at i l).before (most_start i f (link_at i l).after)))
+rule i c goal f (LeBefore p q) = row (ArePair i p q) (IsTrue (bef_of f p q)) (Just (EndsUntil p (most_start i f q)))
+rule i c goal f (LeMessage m q) = row (Receives i m q) Always (Just (EndsUntil (sender_of i m) (most_start i f q - i.cluster.copy_in - dur_least i c (source_of i m) - i.cluster.copy_out)))
+rule i c goal f (LeSend m) = row (IsMessage i m) (1 ≤ top_of f m) (Just (EndsUntil (sender_of i m) (start_most i c (source_of i m) (top_of f m - 1) - i.cluster.copy_out)))
+rule i c goal f (HiArrive m q) = row (Receives i m q) Always (λ k. (r : ℕ) × AreChances i c f m q r × (k ≡ SentBefore m r))
+rule i c goal f (OrdWindow p q) = row (ArePair i p q) (le_of f p < least_end i f q + wcet_of i p) (Just (GoesFirst p q))
+rule i c goal f (OrdTwin p q) = refused (ArePair i p q)
+rule i c goal f (UsSettled p) = refused (IsProcess i p)
+rule i c goal f (XWindow p) = row (IsProcess i p) (le_of f p < least_end i f p) (Just NothingLeft)
+rule i c goal f (XRound m) = row (IsMessage i m) (top_of f m ≤ lo_of f m) (Just NothingLeft)
+rule i c goal f (XCycle ps) = row (AreProcesses i ps) (IsRing i f ps) (Just NothingLeft)
+rule i c goal f (XLoad n a b) = row (IsNode i n) (IsOverloaded i f n a b) (Just NothingLeft)
+rule i c goal f (XFrame m) = row (IsMessage i m) (cap_most i c (source_of i m) < (message_at i m).bytes) (Just NothingLeft)
+rule i c goal f (XFrames n a b) = row (IsNode i n) (AreOverfull i c f n a b) (Just NothingLeft)
+rule i c goal f (XLate m r) = refused (IsMessage i m)
+rule i c goal f (XSilent u v) = refused (IsNode i u × IsNode i v)
+
+-- a step of the table: what it names is there, its premise holds, and what is known after it is what
+-- was known before, sharpened by its conclusion
+pub record IsLawful (i : Problem) (c : Chosen) (goal : ℕ) (f : Known) (step : Step) (g : Known) : Type 0 where
+  pub there : (rule i c goal f step).there
+  pub premise : (rule i c goal f step).premise
+  pub conclusion : Conclusion
+  pub concludes : (rule i c goal f step).concludes conclusion
+  pub known : g ≡ sharpened i f conclusion

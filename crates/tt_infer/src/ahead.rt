@@ -1,0 +1,42 @@
+//! Does a process wait for another?
+
+ghost use Rattle.std.specs.Prelude.{◌↔◌, IsTrue};
+ghost use Rattle.ttp_model.specs.Graph.{HasLink, HasMessage};
+ghost use Rattle.tt_infer.specs.Premises.{IsAhead};
+
+use crate::indices::has;
+use crate::known::Bounds;
+use ttp_model::Instance;
+
+/// Whether a link leads from `p` to `q`.
+fn has_link(instance: &Instance, p: u32, q: u32) -> bool
+    ensures { IsTrue result ↔ HasLink instance.now p q }
+{
+    for l in 0..instance.links().len() {
+        let link = instance.link_at(l);
+        if link.before == p && link.after == q {
+            return true;
+        }
+    }
+    false
+}
+
+/// Whether `p` sends a message to `q`.
+fn has_message(instance: &Instance, p: u32, q: u32) -> bool
+    ensures { IsTrue result ↔ HasMessage instance.now p q }
+{
+    for m in 0..instance.messages().len() {
+        let message = instance.message_at(m);
+        if message.sender == p && has(message.receivers.as_slice(), q) {
+            return true;
+        }
+    }
+    false
+}
+
+/// Whether `p` is known to go before `q`, or a link or a message leads from `p` to `q`.
+pub fn is_ahead(known: &Bounds, instance: &Instance, p: u32, q: u32) -> bool
+    ensures { IsTrue result ↔ IsAhead instance.now known.now p q }
+{
+    known.bef(p, q) || has_link(instance, p, q) || has_message(instance, p, q)
+}

@@ -1,0 +1,144 @@
+//! What is known of the plans that are sought, and what is it about?
+
+ghost use Rattle.std.specs.Prelude.{◌≡◌, ◌<◌, IfOk, IsTrue, length};
+ghost use Rattle.ttp_model.specs.declared.plan.Plan.{Plan};
+ghost use Rattle.tt_choice.specs.Choices.{IsChoice};
+ghost use Rattle.tt_infer.specs.Facts.{IsSought, es_of, le_of, lo_of, top_of, bef_of, first_facts};
+ghost use Rattle.tt_infer.specs.Inference.{IsInference, after};
+ghost use Rattle.tt_infer.specs.Answers.{Takes};
+
+use crate::fault::StepFault;
+use crate::known::Bounds;
+use crate::rules;
+use crate::setting::Setting;
+use std::alloc::Global;
+use std::marker::Model;
+use tt_choice::Choice;
+use ttp_model::{Instance, MemoryFault, Step};
+
+/// What is known of the plans of a choice with a delay below a goal: when each process starts at
+/// least and ends at most, in which rounds each message can be sent, which processes go before
+/// which, and whether no plan is left. It is true of each valid plan among them.
+#[derive(Drop)]
+pub struct Facts<'a> {
+    setting: Setting<'a>,
+    known: Bounds,
+}
+
+impl<'a> Model for Facts<'a> {
+    ghost use Rattle.tt_infer.specs.Inference.{Inference, IsInference};
+    ghost use Rattle.tt_infer.specs.Sought.{inference};
+
+    ghost Value = { Inference };
+
+    ghost view = { λ s. inference s.setting s.known };
+
+    ghost invariant = { λ s. IsInference (inference s.setting s.known) };
+}
+
+impl<'a> Facts<'a> {
+    /// What is known at first of the plans of the choice with a delay below `goal` ticks. Takes
+    /// memory for all that is known later too, and a pass over the nodes for each of them.
+    pub fn new(
+        alloc: Global,
+        instance: &'a Instance,
+        choice: &Choice,
+        goal: u32,
+    ) -> Result<Facts<'a>, MemoryFault>
+        requires { IsChoice instance.now choice.now }
+        ensures { IfOk result (λ f. f ≡ record {
+          instance = instance.now;
+          choice = choice.now;
+          goal = goal;
+          known = first_facts instance.now choice.now;
+        }) }
+    {
+        let _nodes = instance.nodes();
+        let setting = Setting::new(alloc, instance, choice, goal)?;
+        let known = Bounds::first(alloc, instance, choice)?;
+        Ok(Facts { setting, known })
+    }
+
+    /// Takes a step, or refuses it: then nothing has changed. A step of loads takes a pass over the
+    /// processes or the messages, `XCycle` a pass over the links and one over the messages for each
+    /// two neighbours, a step that names a receiver a pass over the message's receivers, and each
+    /// other step a few look-ups. Takes no memory.
+    pub fn apply(&mut self, step: &Step) -> Result<(), StepFault>
+        ensures others { self.new ≡ after self.old self.new.known }
+        ensures step { Takes self.old.instance self.old.choice self.old.goal self.old.known
+            step.now self.new.known result }
+    {
+        rules::take(&mut self.known, &self.setting, step)
+    }
+
+    /// Whether no plan is left.
+    pub fn closed(&self) -> bool
+        ensures value { result ≡ self.now.known.closed }
+        ensures none { IsTrue result → (plan : Plan)
+            → ¬ IsSought self.now.instance self.now.choice self.now.goal plan }
+    {
+        self.known.is_closed()
+    }
+
+    /// Process `p` starts at this tick or later.
+    pub fn es(&self, p: u32) -> u32
+        requires { p < length self.now.instance.processes }
+        ensures { result ≡ es_of self.now.known p }
+    {
+        self.known.es(p)
+    }
+
+    /// Process `p` ends at this tick or earlier.
+    pub fn le(&self, p: u32) -> u32
+        requires { p < length self.now.instance.processes }
+        ensures { result ≡ le_of self.now.known p }
+    {
+        self.known.le(p)
+    }
+
+    /// Message `m` is sent in this round or later.
+    pub fn lo(&self, m: u32) -> u32
+        requires { m < length self.now.instance.messages }
+        ensures { result ≡ lo_of self.now.known m }
+    {
+        self.known.lo(m)
+    }
+
+    /// Message `m` is sent in an earlier round than this.
+    pub fn top(&self, m: u32) -> u32
+        requires { m < length self.now.instance.messages }
+        ensures { result ≡ top_of self.now.known m }
+    {
+        self.known.top(m)
+    }
+
+    /// Whether process `p` is known to end before `q` starts: never where one of them isn't there.
+    pub fn bef(&self, p: u32, q: u32) -> bool
+        ensures { result ≡ bef_of self.now.known p q }
+    {
+        self.known.bef(p, q)
+    }
+
+    /// The instance whose plans are sought.
+    pub fn instance(&self) -> &'a Instance
+        ensures value { result.now ≡ self.now.instance }
+        ensures inference { IsInference self.now }
+    {
+        self.setting.instance()
+    }
+
+    /// The choice that they are in.
+    pub fn choice(&self) -> &Choice
+        ensures value { result.now ≡ self.now.choice }
+        ensures inference { IsInference self.now }
+    {
+        self.setting.choice()
+    }
+
+    /// Their delays are below this tick.
+    pub fn goal(&self) -> u32
+        ensures { result ≡ self.now.goal }
+    {
+        self.setting.goal()
+    }
+}

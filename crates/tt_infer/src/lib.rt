@@ -1,0 +1,25 @@
+//! Inference: steps that sharpen what is known of the plans that are sought.
+#![tactic(auto)]
+
+mod ahead;
+mod facts;
+mod fault;
+mod indices;
+mod known;
+mod laws;
+mod rules;
+mod setting;
+mod slots;
+mod times;
+mod worked;
+
+pub use facts::Facts;
+pub use fault::StepFault;
+pub use laws::{
+    first_facts_hold, leaves_rule_out, rules_are_sound, rules_conclude, steps_are_determined,
+    steps_are_sound, steps_only_sharpen,
+};
+pub use worked::{one_message_closes_at_9, three_alike_close_at_6};
+
+#[cfg(test)]
+mod tests;

@@ -1,0 +1,120 @@
+//! Do more processes run in a span, or more bytes go in some rounds, than there is room for?
+
+ghost use Rattle.std.specs.Prelude.{◌≡◌, ◌≤◌, ◌<◌, length, IsFalse};
+ghost use Rattle.ttp_model.specs.declared.step.Step.TheVariants.{XLoad, XFrames};
+ghost use Rattle.ttp_model.specs.declared.limits.TheConstants.{MOST_TICKS, MOST_BYTES};
+ghost use Rattle.tt_choice.specs.Totals.{total};
+ghost use Rattle.tt_infer.specs.Premises.{load_within, bytes_within};
+ghost use Rattle.tt_infer.specs.Sought.{TakesOf};
+ghost use Rattle.tt_infer.specs.Facts.{Fits};
+
+use crate::fault::StepFault;
+use crate::known::Bounds;
+use crate::setting::Setting;
+use ttp_model::Instance;
+
+/// How long process `p` runs on node `n` from `a` to `b`: 0 where it is another's, starts earlier or
+/// ends later.
+fn load_within(known: &Bounds, instance: &Instance, n: u32, a: u32, b: u32, p: u32) -> u64
+    requires fits { Fits instance.now known.now }
+    requires process { p < length instance.now.processes }
+    ensures value { result ≡ load_within instance.now known.now n a b p }
+    ensures bound { result ≤ MOST_TICKS }
+{
+    let process = instance.process_at(p as usize);
+    if process.node == n && a <= known.es(p) && known.le(p) <= b {
+        u64::from(process.wcet)
+    } else {
+        0
+    }
+}
+
+/// How long processes run on node `n` from `a` to `b`. One pass over the processes.
+fn load_of(known: &Bounds, instance: &Instance, n: u32, a: u32, b: u32) -> u64
+    requires { Fits instance.now known.now }
+    ensures { result ≡ total (load_within instance.now known.now n a b) (length instance.now.processes) }
+{
+    let count = instance.processes().len() as u32;
+    let mut sum = 0;
+    for p in 0..count {
+        sum += load_within(known, instance, n, a, b, p);
+    }
+    sum
+}
+
+/// The processes that run on a node in a span run longer than it.
+pub fn x_load(
+    known: &mut Bounds,
+    setting: &Setting,
+    n: u32,
+    a: u32,
+    b: u32,
+) -> Result<(), StepFault>
+    requires fits { Fits setting.now.instance known.old }
+    requires open { IsFalse known.old.closed }
+    ensures { TakesOf setting.now known.old (XLoad n a b) known.new result }
+{
+    if n as usize >= setting.instance().nodes().len() {
+        return Err(StepFault::NoSuchIndex);
+    }
+    if b < a || load_of(known, setting.instance(), n, a, b) <= u64::from(b - a) {
+        return Err(StepFault::NoPremise);
+    }
+    known.close(setting.instance());
+    Ok(())
+}
+
+/// How many bytes message `m` puts into frames of node `n` from round `a` on and before `b`: 0 where
+/// it is another's, or may be sent earlier or later.
+fn bytes_within(known: &Bounds, instance: &Instance, n: u32, a: u32, b: u32, m: u32) -> u64
+    requires fits { Fits instance.now known.now }
+    requires message { m < length instance.now.messages }
+    ensures value { result ≡ bytes_within instance.now known.now n a b m }
+    ensures bound { result ≤ MOST_BYTES }
+{
+    if instance.source_of(m as usize) == n && a <= known.lo(m) && known.top(m) <= b {
+        u64::from(instance.message_at(m as usize).bytes)
+    } else {
+        0
+    }
+}
+
+/// How many bytes go into frames of node `n` from round `a` on and before `b`. One pass over the
+/// messages.
+fn bytes_of(known: &Bounds, instance: &Instance, n: u32, a: u32, b: u32) -> u64
+    requires { Fits instance.now known.now }
+    ensures { result ≡ total (bytes_within instance.now known.now n a b) (length instance.now.messages) }
+{
+    let count = instance.messages().len() as u32;
+    let mut sum = 0;
+    for m in 0..count {
+        sum += bytes_within(known, instance, n, a, b, m);
+    }
+    sum
+}
+
+/// The messages that a node sends in some rounds are more than its frames can carry.
+pub fn x_frames(
+    known: &mut Bounds,
+    setting: &Setting,
+    n: u32,
+    a: u32,
+    b: u32,
+) -> Result<(), StepFault>
+    requires fits { Fits setting.now.instance known.old }
+    requires open { IsFalse known.old.closed }
+    ensures { TakesOf setting.now known.old (XFrames n a b) known.new result }
+{
+    if n as usize >= setting.instance().nodes().len() {
+        return Err(StepFault::NoSuchIndex);
+    }
+    if b < a {
+        return Err(StepFault::NoPremise);
+    }
+    let room = u64::from(b - a) * u64::from(setting.cap_most(n));
+    if bytes_of(known, setting.instance(), n, a, b) <= room {
+        return Err(StepFault::NoPremise);
+    }
+    known.close(setting.instance());
+    Ok(())
+}

@@ -1,0 +1,64 @@
+//! How far does each slot move in the plans of a choice?
+
+ghost use Rattle.std.specs.Prelude.{◌≡◌, ◌<◌, IfOk, length};
+ghost use Rattle.tt_choice.specs.Choices.{IsChoice};
+ghost use Rattle.tt_infer.specs.Sought.{AreSlotTimes, AreShort, AreSlots};
+
+use std::alloc::Global;
+use tt_choice::Choice;
+use ttp_model::{Instance, MemoryFault};
+
+/// The slot of one node, over all plans of a choice, with what its times are reckoned from. Times
+/// are ticks.
+#[derive(Clone, Copy, Debug)]
+pub struct SlotTimes {
+    /// The least duration of a round.
+    pub round_least: u64,
+    /// The greatest duration of a round.
+    pub round_most: u64,
+    /// How far into a round the slot begins at least.
+    pub offset_least: u64,
+    /// How far into a round it begins at most.
+    pub offset_most: u64,
+    /// The least duration of the slot.
+    pub dur_least: u64,
+    /// The bytes that it carries at most.
+    pub cap_most: u32,
+}
+
+/// The slot of node `n`. A few passes over the nodes.
+fn times_of(instance: &Instance, choice: &Choice, n: u32) -> SlotTimes
+    requires of { IsChoice instance.now choice.now }
+    requires node { n < length instance.now.nodes }
+    ensures times { AreSlotTimes instance.now choice.now n result }
+    ensures short { AreShort result }
+{
+    let _nodes = instance.nodes();
+    let offset_least = choice.start_least(instance, n, 0);
+    let offset_most = choice.start_most(instance, n, 0);
+    SlotTimes {
+        round_least: choice.start_least(instance, n, 1) - offset_least,
+        round_most: choice.start_most(instance, n, 1) - offset_most,
+        offset_least,
+        offset_most,
+        dur_least: choice.dur_least(instance, n),
+        cap_most: choice.cap_most(instance, n),
+    }
+}
+
+/// The slots of all nodes.
+pub fn slots_of(
+    alloc: Global,
+    instance: &Instance,
+    choice: &Choice,
+) -> Result<Vec<SlotTimes>, MemoryFault>
+    requires of { IsChoice instance.now choice.now }
+    ensures { IfOk result (λ slots. AreSlots instance.now choice.now slots.items) }
+{
+    let count = instance.nodes().len() as u32;
+    let mut slots = Vec::new(alloc);
+    for n in 0..count {
+        slots.push(times_of(instance, choice, n))?;
+    }
+    Ok(slots)
+}
