@@ -1,0 +1,5 @@
+pub mod Bounds
+pub mod Walks
+pub mod LeafSteps
+pub mod NodeSteps
+pub mod NoFaults

@@ -1,0 +1,10 @@
+use Rattle.std.proofs.Common.{◌≡◌, take}
+use Rattle.tt_infer.specs.Facts.{first_facts}
+use Rattle.tt_infer.specs.Leaves.{Lead}
+use Rattle.cert_check.proofs.leaf.judge_leaf.Given as goal
+
+abbrev pub invariant-loop-place : goal.invariant-loop-place
+invariant-loop-place l = record {
+  about : l.facts ≡ record { instance = l.instance; choice = l.choice; goal = l.leaf.goal; known = l.facts.known };
+  lead : Lead l.instance l.choice l.leaf.goal (first_facts l.instance l.choice) (take l.place l.leaf.steps) l.facts.known;
+}

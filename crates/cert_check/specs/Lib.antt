@@ -1,0 +1,6 @@
+pub mod Proofs
+pub mod Faults
+pub mod Walks
+pub use Rattle.ttp_model.specs.Delays
+pub use Rattle.tt_infer.specs.Leaves
+pub use Rattle.certificate.specs.Certificate

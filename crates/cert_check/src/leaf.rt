@@ -1,0 +1,56 @@
+//! Does a leaf close the choice that it stands at?
+
+ghost use Rattle.std.specs.Prelude.{◌≤◌, IfErr, OnOk};
+ghost use Rattle.certificate.specs.declared.node.Node.TheVariants as node;
+ghost use Rattle.tt_choice.specs.Choices.{IsChoice};
+ghost use Rattle.tt_infer.specs.Leaves.{ClosesLeaf};
+ghost use Rattle.cert_check.specs.Walks.{TellsNode};
+
+use crate::fault::{CertFault, NodeFault};
+use std::alloc::Global;
+use tt_choice::Choice;
+use tt_infer::Facts;
+use ttp_model::{Instance, Leaf};
+
+/// Judges a leaf that stands on this line: its goal, then its steps one after another, then whether
+/// the last of them leaves no plan.
+pub fn judge_leaf(
+    alloc: Global,
+    instance: &Instance,
+    low: u32,
+    choice: &Choice,
+    leaf: &Leaf,
+    line: u64,
+) -> Result<(), CertFault>
+    requires { IsChoice instance.now choice.now }
+    ensures goal { OnOk result (low ≤ leaf.now.goal) }
+    ensures closes { OnOk result (ClosesLeaf instance.now choice.now leaf.now) }
+    ensures err { IfErr result
+        (TellsNode instance.now low choice.now (node.Leaf leaf.now) line) }
+{
+    if leaf.goal < low {
+        let fault = NodeFault::LowGoal;
+        return Err(CertFault::At { line, fault });
+    }
+    let mut facts = match Facts::new(alloc, instance, choice, leaf.goal) {
+        Ok(facts) => facts,
+        Err(_) => return Err(CertFault::OutOfMemory),
+    };
+    let steps = leaf.steps.as_slice();
+    for place in 0..steps.len() {
+        match facts.apply(&steps[place]) {
+            Ok(()) => {}
+            Err(_) => {
+                let line = line.saturating_add(1 + place as u64);
+                let fault = NodeFault::RefusedStep;
+                return Err(CertFault::At { line, fault });
+            }
+        }
+    }
+    if facts.closed() {
+        Ok(())
+    } else {
+        let fault = NodeFault::NotClosed;
+        Err(CertFault::At { line, fault })
+    }
+}

@@ -1,0 +1,12 @@
+pub mod Heads
+pub mod NodeLaws
+pub mod NodeLoop
+pub mod Pushed
+pub mod Rings
+pub mod Said
+pub mod StepLoop
+pub mod Tables
+pub mod TreeLaws
+pub mod TreeLists
+pub mod WholeText
+pub mod WordLists

@@ -1,0 +1,48 @@
+-- Reading the steps of a leaf one after another, as a loop does.
+use Rattle.std.proofs.Common.{◌≡◌, ℕ, suc, ◌-◌, ◌+◌, ◌≤◌, ◌<◌, List, [], ◌∷◌, ◌++◌, length, Ok, Err, refl, sym, ap, ◌∙◌, append_assoc, arith}
+use Rattle.std.proofs.lemmas.List.{append-nil}
+use Rattle.line_text.specs.Results.{◌>>=◌}
+use Rattle.ttp_model.specs.declared.step.Step.{Step}
+use Rattle.certificate.specs.declared.fault.CertTextError.{CertTextError}
+use Rattle.certificate.specs.declared.fault.CertTextError.TheVariants.{At, OutOfMemory}
+use Rattle.certificate.specs.Reading.{Reading, IsFaultOf, step_at, steps_at}
+
+-- the steps after these ones are read
+abbrev pub with_steps : List Step → Reading (List Step × List ℕ) → Reading (List Step × List ℕ)
+with_steps front read = read >>= λ x. Ok (front ++ x.0, x.1)
+
+regroup : (front : List Step) (step : Step) (read : Reading (List Step × List ℕ)) → with_steps front (read >>= λ x. Ok (step ∷ x.0, x.1)) ≡ with_steps (front ++ step ∷ []) read
+regroup front step (Ok x) = ap (λ (steps : List Step). Ok (steps, x.1)) (simp append_assoc)
+regroup front step (Err f) = refl
+
+-- how far the loop is
+pub record IsReadSoFar (count line : ℕ) (text : List ℕ) (k : ℕ) (front : List Step) (rest : List ℕ) : Type 0 where
+  pub same : with_steps front (steps_at (count - k) (line + k) rest) ≡ steps_at count line text
+  pub all : length front ≡ k
+  pub shorter : length rest + k ≤ length text
+
+pub goes_on : (count line : ℕ) (text : List ℕ) (k : ℕ) (front : List Step) (rest : List ℕ) (step : Step) (after : List ℕ) → k < count → step_at (line + k) rest ≡ Ok (step, after)
+    → with_steps front (steps_at (count - k) (line + k) rest) ≡ steps_at count line text → with_steps (front ++ step ∷ []) (steps_at (count - (k + 1)) (line + (k + 1)) after) ≡ steps_at count line text
+unfolding steps_at
+goes_on count line text k front rest step after lt h so_far =
+    let m : count - k ≡ suc (count - (k + 1)) = omega arith in
+    let next : line + k + 1 ≡ line + (k + 1) = omega arith in
+    let one : with_steps front (steps_at (count - k) (line + k) rest) ≡ with_steps (front ++ step ∷ []) (steps_at (count - (k + 1)) (line + k + 1) after) = rw (m, h) (regroup front step (steps_at (count - (k + 1)) (line + k + 1) after)) in
+    ap (λ (l : ℕ). with_steps (front ++ step ∷ []) (steps_at (count - (k + 1)) l after)) (sym next) ∙ (sym one ∙ so_far)
+
+pub ends : (e : CertTextError) (count line : ℕ) (text : List ℕ) (k : ℕ) (front : List Step) (rest : List ℕ) → k < count → IsFaultOf e (step_at (line + k) rest)
+    → with_steps front (steps_at (count - k) (line + k) rest) ≡ steps_at count line text → IsFaultOf e (steps_at count line text)
+unfolding steps_at
+ends OutOfMemory count line text k front rest lt h so_far = tt
+ends (At at fault) count line text k front rest lt h so_far =
+    let m : count - k ≡ suc (count - (k + 1)) = omega arith in
+    let one : with_steps front (steps_at (count - k) (line + k) rest) ≡ Err (At at fault) = rw (m, h) refl in
+    sym so_far ∙ one
+
+pub is_done : (count line : ℕ) (text : List ℕ) (k : ℕ) (front : List Step) (rest : List ℕ) → count ≤ k
+    → with_steps front (steps_at (count - k) (line + k) rest) ≡ steps_at count line text → steps_at count line text ≡ Ok (front, rest)
+unfolding steps_at
+is_done count line text k front rest le so_far =
+    let m : count - k ≡ 0 = omega arith in
+    let one : with_steps front (steps_at (count - k) (line + k) rest) ≡ Ok (front, rest) = rw m (ap (λ (steps : List Step). Ok (steps, rest)) (append-nil front)) in
+    sym so_far ∙ one

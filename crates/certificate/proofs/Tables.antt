@@ -1,0 +1,109 @@
+-- What has a keyword, of all that can be said with some numbers; and what can be said of each line.
+use Rattle.std.proofs.Common.{◌≡◌, ℕ, ◌<◌, ◌≤◌, Bool, true, false, cond, List, [], ◌∷◌, length, Option, Some, refl, subst, arith}
+use Rattle.std.specs.Prelude.{bytes_eq, nat_lt}
+use Rattle.std.specs.List.{list_all}
+use Rattle.std.proofs.lemmas.Slice.Eq.{bytes_eq-Decides}
+use Rattle.ttp_model.specs.declared.step.Step.{Step}
+use Rattle.ttp_model.specs.declared.step.Step.TheVariants.{EsRelease, EsLink, EsBefore, EsArrive, EsMessage, LoSend, LeOwn, LeLink, LeBefore, LeMessage, LeSend, HiArrive, OrdWindow, OrdTwin, UsSettled, XWindow, XRound, XCycle, XLoad, XFrame, XFrames, XLate, XSilent}
+use Rattle.certificate.specs.declared.head.Head.{Head}
+use Rattle.certificate.specs.declared.head.Head.TheVariants.{OfPlace, OfCap, OfPair, OfRound, OfLeaf}
+use Rattle.certificate.specs.Words.{Words, low_words, lows_with, head_words, heads_with, step_words, steps_with}
+use Rattle.certificate.specs.Spelling.{IsLong}
+use Rattle.certificate.specs.Reading.{with_keyword}
+
+-- a fact of each, one after another
+abbrev pub Each : {A : Type 0} → (A → Type 0) → List A → Type 0
+Each P [] = Unit {0}
+Each P (x ∷ xs) = P x × Each P xs
+
+module _ {A : Type 0} (words : A → Words) (P : A → Type 0) (keyword : List ℕ) where
+  picked : (y : A) (b : Bool) (others : Option A) (x : A) → bytes_eq keyword (words y).0 ≡ b → P y → (others ≡ Some x → (keyword ≡ (words x).0) × P x) → cond b (Some y) others ≡ Some x → (keyword ≡ (words x).0) × P x
+  picked y true others x test p more e =
+      let is : y ≡ x = cc in
+      subst (λ (z : A). (keyword ≡ (words z).0) × P z) is ((bytes_eq-Decides keyword (words y).0).0 test, p)
+  picked y false others x test p more e = more e
+
+  -- what was found has the keyword, and the fact of each
+  pub found_by : (all : List A) (x : A) → Each P all → with_keyword words keyword all ≡ Some x → (keyword ≡ (words x).0) × P x
+  found_by [] x each e = absurd cc
+  found_by (y ∷ ys) x each e = picked y (bytes_eq keyword (words y).0) (with_keyword words keyword ys) x refl each.0 (found_by ys x each.1) e
+
+-- each byte comes behind the space
+abbrev pub is_keyword : List ℕ → Bool
+is_keyword keyword = list_all (λ c. nat_lt 32 c) keyword
+
+-- what is needed of a line that is to be read again
+pub record IsSayable {A : Type 0} (words : A → Words) (all_with : List ℕ → List A) (x : A) : Type 0 where
+  pub keyword : is_keyword (words x).0 ≡ true
+  pub some : 0 < length (words x).1
+  pub again : with_keyword words (words x).0 (all_with (words x).1) ≡ Some x
+
+some_of : (n : ℕ) (ns : List ℕ) → 0 < length (n ∷ ns)
+some_of n ns = omega arith
+
+-- ---- the line of the bound
+
+pub lows_said : (ns : List ℕ) → Each (λ low. ((low_words low).1 ≡ ns) × Unit {0}) (lows_with ns)
+lows_said [] = tt
+lows_said (n ∷ []) = ((refl, tt), tt)
+lows_said (n ∷ m ∷ ns) = tt
+
+pub low_sayable : (low : ℕ) → IsSayable low_words lows_with low
+low_sayable low = record { keyword = refl; some = some_of low []; again = refl }
+
+-- ---- the lines of nodes
+
+pub heads_said : (ns : List ℕ) → Each (λ head. ((head_words head).1 ≡ ns) × Unit {0}) (heads_with ns)
+heads_said [] = tt
+heads_said (k ∷ []) = ((refl, tt), tt)
+heads_said (a ∷ b ∷ []) = ((refl, tt), ((refl, tt), ((refl, tt), ((refl, tt), tt))))
+heads_said (a ∷ b ∷ c ∷ ns) = tt
+
+pub head_sayable : (head : Head) → IsSayable head_words heads_with head
+head_sayable (OfPlace k) = record { keyword = refl; some = some_of k []; again = refl }
+head_sayable (OfCap n k) = record { keyword = refl; some = some_of n (k ∷ []); again = refl }
+head_sayable (OfPair p q) = record { keyword = refl; some = some_of p (q ∷ []); again = refl }
+head_sayable (OfRound m r) = record { keyword = refl; some = some_of m (r ∷ []); again = refl }
+head_sayable (OfLeaf g k) = record { keyword = refl; some = some_of g (k ∷ []); again = refl }
+
+-- ---- the lines of steps
+
+two : (a b : ℕ) (more : List ℕ) → 2 ≤ length (a ∷ b ∷ more)
+two a b more = omega arith
+
+pub steps_said : (ns : List ℕ) → Each (λ step. ((step_words step).1 ≡ ns) × IsLong step) (steps_with ns)
+steps_said [] = tt
+steps_said (a ∷ []) = ((refl, tt), ((refl, tt), ((refl, tt), ((refl, tt), ((refl, tt), ((refl, tt), ((refl, tt), ((refl, tt), ((refl, tt), ((refl, tt), tt))))))))))
+steps_said (a ∷ b ∷ []) =
+    ((refl, tt), ((refl, tt), ((refl, tt), ((refl, tt), ((refl, tt), ((refl, tt), ((refl, tt), ((refl, tt), ((refl, tt), ((refl, tt), ((refl, two a b []), tt)))))))))))
+steps_said (a ∷ b ∷ c ∷ []) = ((refl, tt), ((refl, tt), ((refl, two a b (c ∷ [])), tt)))
+steps_said (a ∷ b ∷ c ∷ d ∷ ns) = ((refl, two a b (c ∷ d ∷ ns)), tt)
+
+pub step_sayable : (step : Step) → IsLong step → IsSayable step_words steps_with step
+step_sayable (EsRelease p) long = record { keyword = refl; some = some_of p []; again = refl }
+step_sayable (EsLink l) long = record { keyword = refl; some = some_of l []; again = refl }
+step_sayable (EsBefore p q) long = record { keyword = refl; some = some_of p (q ∷ []); again = refl }
+step_sayable (EsArrive m q) long = record { keyword = refl; some = some_of m (q ∷ []); again = refl }
+step_sayable (EsMessage m q) long = record { keyword = refl; some = some_of m (q ∷ []); again = refl }
+step_sayable (LoSend m) long = record { keyword = refl; some = some_of m []; again = refl }
+step_sayable (LeOwn p) long = record { keyword = refl; some = some_of p []; again = refl }
+step_sayable (LeLink l) long = record { keyword = refl; some = some_of l []; again = refl }
+step_sayable (LeBefore p q) long = record { keyword = refl; some = some_of p (q ∷ []); again = refl }
+step_sayable (LeMessage m q) long = record { keyword = refl; some = some_of m (q ∷ []); again = refl }
+step_sayable (LeSend m) long = record { keyword = refl; some = some_of m []; again = refl }
+step_sayable (HiArrive m q) long = record { keyword = refl; some = some_of m (q ∷ []); again = refl }
+step_sayable (OrdWindow p q) long = record { keyword = refl; some = some_of p (q ∷ []); again = refl }
+step_sayable (OrdTwin p q) long = record { keyword = refl; some = some_of p (q ∷ []); again = refl }
+step_sayable (UsSettled p) long = record { keyword = refl; some = some_of p []; again = refl }
+step_sayable (XWindow p) long = record { keyword = refl; some = some_of p []; again = refl }
+step_sayable (XRound m) long = record { keyword = refl; some = some_of m []; again = refl }
+step_sayable (XCycle []) long = absurd (omega arith)
+step_sayable (XCycle (p ∷ [])) long = absurd (omega arith)
+step_sayable (XCycle (p ∷ q ∷ [])) long = record { keyword = refl; some = some_of p (q ∷ []); again = refl }
+step_sayable (XCycle (p ∷ q ∷ r ∷ [])) long = record { keyword = refl; some = some_of p (q ∷ r ∷ []); again = refl }
+step_sayable (XCycle (p ∷ q ∷ r ∷ s ∷ ps)) long = record { keyword = refl; some = some_of p (q ∷ r ∷ s ∷ ps); again = refl }
+step_sayable (XLoad n a b) long = record { keyword = refl; some = some_of n (a ∷ b ∷ []); again = refl }
+step_sayable (XFrame m) long = record { keyword = refl; some = some_of m []; again = refl }
+step_sayable (XFrames n a b) long = record { keyword = refl; some = some_of n (a ∷ b ∷ []); again = refl }
+step_sayable (XLate m r) long = record { keyword = refl; some = some_of m (r ∷ []); again = refl }
+step_sayable (XSilent u v) long = record { keyword = refl; some = some_of u (v ∷ []); again = refl }

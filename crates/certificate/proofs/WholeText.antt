@@ -1,0 +1,148 @@
+-- The laws of the whole text: what is read is spelled so, what is spelled so is read, and reading gives
+-- one answer.
+use Rattle.std.proofs.Common.{◌≡◌, ◌≢◌, ℕ, ◌+◌, ◌<◌, ◌^◌, true, List, [], ◌∷◌, ◌++◌, length, Ok, Err, IfOk, refl, sym, ap, subst, ◌∙◌, arith}
+use Rattle.std.specs.Prelude.{codes, bytes_eq, ◌==◌}
+use Rattle.std.specs.List.{flat_map}
+use Rattle.std.proofs.lemmas.List.{append-nil}
+use Rattle.std.proofs.lemmas.List.Elements.{All-nil, All-cons, All-head}
+use Rattle.line_text.specs.Results.{check}
+use Rattle.line_text.proofs.Cuts.{Lacks-from_test}
+use Rattle.line_text.proofs.Results.{bind_ok, ok_is, check_ok}
+use Rattle.certificate.specs.declared.fault.LineFault.TheVariants.{FirstLine, Trailing}
+use Rattle.certificate.specs.declared.fault.CertTextError.TheVariants.{At, OutOfMemory}
+use Rattle.certificate.specs.declared.node.Node.{Node}
+use Rattle.certificate.specs.Certificate.{Certificate}
+use Rattle.certificate.specs.Lines.{lines}
+use Rattle.certificate.specs.Trees.{Trees, preorder, trees_of, IsTree}
+use Rattle.certificate.specs.Words.{low_words, lows_with}
+use Rattle.certificate.specs.Spelling.{line_with, node_text, cert_text, HasText, IsSpelled}
+use Rattle.certificate.specs.Reading.{Reading, IsAnswerIn, line_at, said_in, low_at, ReadsTrees, certificate_of, GoesOn, Reads}
+use Rattle.certificate.specs.Nodes.{nodes_in, ReadsNodes}
+use Rattle.certificate.proofs.Heads.{line_takes, line_again, version_takes}
+use Rattle.certificate.proofs.Said.{said_takes, said_again, line_lacks}
+use Rattle.certificate.proofs.Tables.{lows_said, low_sayable}
+use Rattle.certificate.proofs.TreeLists.{trees_of-preorder}
+use Rattle.certificate.proofs.TreeLaws.{trees_text, IsTaken, trees_take, trees_again, one_reading}
+
+-- ---- the first two lines
+
+low_joined : (text after first rest : List ℕ) (low : ℕ) → text ≡ codes "ttcert 1" ++ 10 ∷ after → after ≡ first ++ 10 ∷ rest → first ≡ line_with (low_words low) → text ≡ codes "ttcert 1" ++ 10 ∷ (line_with (low_words low) ++ 10 ∷ rest)
+low_joined text after first rest low a b c = rw (a, b, c) refl
+
+low_takes : (text : List ℕ) (x : ℕ × List ℕ) → low_at text ≡ Ok x → (text ≡ codes "ttcert 1" ++ 10 ∷ (line_with (low_words x.0) ++ 10 ∷ x.1)) × (x.0 < 2 ^ 32)
+unfolding low_at
+low_takes text x e =
+    let first = bind_ok (line_at 1 text) _ x e in
+    let version = bind_ok (check (At 1 FirstLine) (bytes_eq first.0.0 (codes "ttcert 1"))) _ x first.2 in
+    let second = bind_ok (line_at 2 first.0.1) _ x version.2 in
+    let low = bind_ok (said_in low_words lows_with 2 second.0.0) _ x second.2 in
+    let is : (low.0, second.0.1) ≡ x = ok_is (low.0, second.0.1) x low.2 in
+    let said = said_takes low_words lows_with (λ low. Unit {0}) lows_said 2 second.0.0 low.0 low.1 in
+    let one = version_takes text first.0.0 first.0.1 first.1 (check_ok (At 1 FirstLine) (bytes_eq first.0.0 (codes "ttcert 1")) version.0 version.1) in
+    subst (λ (y : ℕ × List ℕ). (text ≡ codes "ttcert 1" ++ 10 ∷ (line_with (low_words y.0) ++ 10 ∷ y.1)) × (y.0 < 2 ^ 32)) is (
+      low_joined text first.0.1 second.0.0 second.0.1 low.0 one (line_takes 2 first.0.1 second.0.0 second.0.1 second.1) said.0,
+      All-head (λ n. n < 2 ^ 32) low.0 [] said.1,
+    )
+
+low_steps : (text after first rest : List ℕ) (low : ℕ) → line_at 1 text ≡ Ok (codes "ttcert 1", after) → line_at 2 after ≡ Ok (first, rest) → said_in low_words lows_with 2 first ≡ Ok low → low_at text ≡ Ok (low, rest)
+unfolding low_at
+low_steps text after first rest low a b c = rw (a, b, c) refl
+
+low_again : (low : ℕ) (rest : List ℕ) → low < 2 ^ 32 → low_at (codes "ttcert 1" ++ 10 ∷ (line_with (low_words low) ++ 10 ∷ rest)) ≡ Ok (low, rest)
+low_again low rest lt =
+    let fit = All-cons (λ n. n < 2 ^ 32) low [] lt (All-nil (λ n. n < 2 ^ 32)) in
+    low_steps (codes "ttcert 1" ++ 10 ∷ (line_with (low_words low) ++ 10 ∷ rest)) (line_with (low_words low) ++ 10 ∷ rest) (line_with (low_words low)) rest low
+    (line_again 1 (codes "ttcert 1") (line_with (low_words low) ++ 10 ∷ rest) (Lacks-from_test 10 (codes "ttcert 1") refl))
+    (line_again 2 (line_with (low_words low)) rest (line_lacks low_words lows_with low (low_sayable low) fit))
+    (said_again low_words lows_with 2 low (low_sayable low) fit)
+
+-- ---- the nodes that were read are a tree
+
+nodes_of : (read : Reading (Trees × List ℕ)) (nodes : List Node) (rest : List ℕ) → Ok (nodes, rest) ≡ nodes_in read → (trees : Trees) × ((read ≡ Ok (trees, rest)) × (nodes ≡ preorder trees))
+nodes_of (Err fault) nodes rest e = absurd cc
+nodes_of (Ok trees) nodes rest e =
+    let same : (nodes, rest) ≡ (preorder trees.0, trees.1) = ok_is (nodes, rest) (preorder trees.0, trees.1) e in
+    let rest_is : rest ≡ trees.1 = ap (λ (x : List Node × List ℕ). x.1) same in
+    (trees.0, (ap (λ (r : List ℕ). Ok (trees.0, r)) (sym rest_is), ap (λ (x : List Node × List ℕ). x.0) same))
+
+-- the tree that was read
+read_tree : (text : List ℕ) (nodes : List Node) (rest : List ℕ) → ReadsNodes text (Ok (nodes, rest)) → ReadsTrees 0 1 3 text (Ok (trees_of nodes, rest)) × IsTree (trees_of nodes)
+read_tree text nodes rest h =
+    let t = nodes_of h.0 nodes rest h.1.1 in
+    let r : ReadsTrees 0 1 3 text (Ok (t.0, rest)) = subst (ReadsTrees 0 1 3 text) t.1.0 h.1.0 in
+    let taken : IsTaken 0 1 text t.0 rest = trees_take r (omega arith) in
+    let is : trees_of nodes ≡ t.0 = ap trees_of t.1.1 ∙ trees_of-preorder 1 t.0 taken.trees in
+    (subst (λ (x : Trees). ReadsTrees 0 1 3 text (Ok (x, rest))) (sym is) r, subst IsTree (sym is) (record { one = taken.trees; shallow = omega (arith, taken.shallow) }))
+
+pub is_tree : (text : List ℕ) (nodes : List Node) (rest : List ℕ) → ReadsNodes text (Ok (nodes, rest)) → IsTree (trees_of nodes)
+is_tree text nodes rest h = (read_tree text nodes rest h).1
+
+pub nothing_left : (rest : List ℕ) → (length rest == 0) ≡ true → rest ≡ []
+nothing_left [] e = refl
+nothing_left (x ∷ xs) e = absurd (grind arith)
+
+pub read_by : (text body : List ℕ) (low : ℕ) (nodes : List Node) (rest : List ℕ) → low_at text ≡ Ok (low, body) → ReadsNodes body (Ok (nodes, rest)) → rest ≡ [] → Reads text (Ok (record { low = low; tree = trees_of nodes }))
+read_by text body low nodes rest e h none =
+    let r = (read_tree body nodes rest h).0 in
+    rw e (Ok (trees_of nodes, rest), (r, rw none refl))
+
+-- ---- what is read is spelled so
+
+certificate_takes : (low : ℕ) (read : Reading (Trees × List ℕ)) (c : Certificate) → Ok c ≡ certificate_of low read → (trees : Trees) × ((read ≡ Ok (trees, [])) × (record { low = low; tree = trees } ≡ c))
+certificate_takes low (Err fault) c e = absurd cc
+certificate_takes low (Ok trees) c e =
+    let end = bind_ok (check (At (3 + lines trees.0) Trailing) (length trees.1 == 0)) _ c (sym e) in
+    let none = nothing_left trees.1 (check_ok (At (3 + lines trees.0) Trailing) (length trees.1 == 0) end.0 end.1) in
+    (trees.0, (ap (λ (r : List ℕ). Ok (trees.0, r)) none, ok_is (record { low = low; tree = trees.0 }) c end.2))
+
+spelled_by : (text : List ℕ) (first : Reading (ℕ × List ℕ)) (c : Certificate) → low_at text ≡ first → GoesOn first (Ok c) → IsSpelled text c
+spelled_by text (Err fault) c e h = absurd cc
+spelled_by text (Ok first) c e h =
+    let t = certificate_takes first.0 h.0 c h.1.1 in
+    let head = low_takes text first e in
+    let r : ReadsTrees 0 1 3 first.1 (Ok (t.0, [])) = subst (ReadsTrees 0 1 3 first.1) t.1.0 h.1.0 in
+    let taken : IsTaken 0 1 first.1 t.0 [] = trees_take r (omega arith) in
+    subst (IsSpelled text) t.1.1
+    (record {
+      value = record { low = head.1; tree = record { one = taken.trees; shallow = omega (arith, taken.shallow) }; nodes = taken.nodes };
+      spelled =
+          head.0
+          ∙ ap (λ (b : List ℕ). codes "ttcert 1" ++ 10 ∷ (line_with (low_words first.0) ++ 10 ∷ b)) (taken.spelled ∙ append-nil (trees_text t.0));
+    })
+
+pub takes : (text : List ℕ) (c : Certificate) → Reads text (Ok c) → IsSpelled text c
+takes text c h = spelled_by text (low_at text) c refl h
+
+-- ---- what is spelled so is read
+
+pub again : (text : List ℕ) (c : Certificate) → IsSpelled text c → Reads text (Ok c)
+again text c s =
+    let head = ap low_at s.spelled ∙ low_again c.low (flat_map node_text (preorder c.tree)) s.value.low in
+    let tree = trees_again 0 1 3 c.tree [] s.value.tree.one (omega (arith, s.value.tree.shallow)) s.value.nodes in
+    rw head (Ok (c.tree, []), (subst (λ (t : List ℕ). ReadsTrees 0 1 3 t (Ok (c.tree, []))) (append-nil (trees_text c.tree)) tree, refl))
+
+-- ---- reading gives one answer
+
+one_answer_after : (first : Reading (ℕ × List ℕ)) (a b : Reading Certificate) → GoesOn first a → GoesOn first b → a ≡ b
+one_answer_after (Err fault) a b ha hb = ha ∙ sym hb
+one_answer_after (Ok first) a b ha hb = ha.1.1 ∙ ap (certificate_of first.0) (one_reading ha.1.0 hb.0 hb.1.0) ∙ sym hb.1.1
+
+pub one_answer : (text : List ℕ) (a b : Reading Certificate) → Reads text a → Reads text b → a ≡ b
+one_answer text a b ha hb = one_answer_after (low_at text) a b ha hb
+
+-- ---- what an answer says
+
+pub found_by : (text : List ℕ) (r : Reading Certificate) → IsAnswerIn (λ x. x) r (Reads text) → IfOk r (λ c. IsSpelled text c)
+found_by text (Ok c) answer = takes text c answer
+found_by text (Err e) answer = tt
+
+pub only_by : (text : List ℕ) (r : Reading Certificate) → IsAnswerIn (λ x. x) r (Reads text) → (c : Certificate) → IsSpelled text c → r ≢ Err OutOfMemory → r ≡ Ok c
+only_by text (Ok d) answer c s memory = one_answer text (Ok d) (Ok c) answer (again text c s)
+only_by text (Err OutOfMemory) answer c s memory = absurd (memory refl)
+only_by text (Err (At line fault)) answer c s memory = one_answer text (Err (At line fault)) (Ok c) answer (again text c s)
+
+-- ---- no two certificates have one spelling
+
+pub spelled_once : (c d : Certificate) → HasText c → HasText d → cert_text c ≡ cert_text d → c ≡ d
+spelled_once c d hc hd same =
+    ok_is c d (one_answer (cert_text c) (Ok c) (Ok d) (again (cert_text c) c (record { value = hc; spelled = refl })) (again (cert_text c) d (record { value = hd; spelled = same })))

@@ -1,0 +1,9 @@
+pub mod Trees
+pub mod TreeCode
+pub mod Lines
+pub mod Certificate
+pub mod Words
+pub mod Spelling
+pub mod Reading
+pub mod Numbers
+pub mod Nodes

@@ -1,0 +1,164 @@
+-- Reading a certificate line by line: what it states, or the first fault and its line. The steps
+-- stand in the order in which faults are judged. Own profile.
+use Rattle.std.specs.Prelude.{◌≡◌, ℕ, zero, suc, ◌+◌, List, [], ◌∷◌, length, map, Option, Result, Ok, Err, Bool, true, false, ◌==◌, nat_le, bytes_eq, find, codes}
+use Rattle.std.specs.List.{list_all, slice_split}
+use Rattle.line_text.specs.Parts.{cut}
+use Rattle.line_text.specs.Numbers.{number_word}
+use Rattle.line_text.specs.declared.number.NumberWord.{NumberWord}
+use Rattle.line_text.specs.declared.number.NumberWord.TheVariants as word
+use Rattle.line_text.specs.Results.{◌>>=◌, or_fault, check}
+use Rattle.ttp_model.specs.declared.step.Step.{Step}
+use Rattle.certificate.specs.declared.fault.LineFault.TheVariants.{FirstLine, Form, Number, Depth, EarlyEnd, Trailing}
+use Rattle.certificate.specs.declared.fault.CertTextError.{CertTextError}
+use Rattle.certificate.specs.declared.fault.CertTextError.TheVariants.{At, OutOfMemory}
+use Rattle.certificate.specs.declared.limits.TheConstants.{MOST_BRANCHES_ABOVE}
+use Rattle.certificate.specs.declared.node.Node.{Node}
+use Rattle.certificate.specs.Certificate.{Certificate}
+use Rattle.certificate.specs.Lines.{node_lines, lines}
+use Rattle.certificate.specs.Trees.{Trees, none, grow, children}
+use Rattle.certificate.specs.Words.{Words, low_words, lows_with, head_words, heads_with, step_words, steps_with, count_of, node_with}
+
+-- what reading gives: a value, or the first fault
+abbrev pub Reading : Type 0 → Type 0
+Reading A = Result A CertTextError
+
+-- the line in front, and the text behind its end
+abbrev pub line_at : ℕ → List ℕ → Reading (List ℕ × List ℕ)
+line_at line text = or_fault (At line EarlyEnd) (cut 10 text)
+
+-- ---- a line of a keyword and numbers
+
+-- what the words of a text are as numbers: a word is what stands between spaces
+abbrev pub numbers_of : List ℕ → List NumberWord
+numbers_of text = map number_word (slice_split (λ b. b == 32) text)
+
+abbrev pub is_numeral : NumberWord → Bool
+is_numeral word.Malformed = false
+is_numeral _ = true
+
+abbrev pub fits : NumberWord → Bool
+fits (word.Number n) = true
+fits _ = false
+
+-- the number, or 0 where it does not fit
+abbrev pub value_of : NumberWord → ℕ
+value_of (word.Number n) = n
+value_of _ = 0
+
+-- what has this keyword, of all that can be said
+abbrev pub with_keyword : {A : Type 0} → (A → Words) → List ℕ → List A → Option A
+with_keyword words keyword all = find (λ x. bytes_eq keyword (words x).0) all
+
+-- What a line says, of all that can be said with its numbers. Its form, which is the keyword, the
+-- count of its numbers and the form of each, is judged before their size.
+unfoldable pub said_in : {A : Type 0} → (A → Words) → (List ℕ → List A) → ℕ → List ℕ → Reading A
+said_in words all_with line text = do
+  parts ← or_fault (At line Form) (cut 32 text)
+  form ← check (At line Form) (list_all is_numeral (numbers_of parts.1))
+  said ← or_fault (At line Form) (with_keyword words parts.0 (all_with (map value_of (numbers_of parts.1))))
+  size ← check (At line Number) (list_all fits (numbers_of parts.1))
+  Ok said
+
+-- ---- the first two lines
+
+-- the bound, in ticks, and the text behind its line
+unfoldable pub low_at : List ℕ → Reading (ℕ × List ℕ)
+low_at text = do
+  first ← line_at 1 text
+  version ← check (At 1 FirstLine) (bytes_eq first.0 (codes "ttcert 1"))
+  second ← line_at 2 first.1
+  low ← said_in low_words lows_with 2 second.0
+  Ok (low, second.1)
+
+-- ---- a node
+
+-- a step, and the text behind its line
+unfoldable pub step_at : ℕ → List ℕ → Reading (Step × List ℕ)
+step_at line text = do
+  first ← line_at line text
+  step ← said_in step_words steps_with line first.0
+  Ok (step, first.1)
+
+-- so many steps, and the text behind their lines
+unfoldable pub steps_at : ℕ → ℕ → List ℕ → Reading (List Step × List ℕ)
+steps_at zero line text = Ok ([], text)
+steps_at (suc k) line text = do
+  first ← step_at line text
+  others ← steps_at k (line + 1) first.1
+  Ok (first.0 ∷ others.0, others.1)
+
+-- a node below so many branches, and the text behind its lines
+unfoldable pub node_at : ℕ → ℕ → List ℕ → Reading (Node × List ℕ)
+node_at above line text = do
+  first ← line_at line text
+  head ← said_in head_words heads_with line first.0
+  place ← check (At line Depth) (nat_le above MOST_BRANCHES_ABOVE)
+  steps ← steps_at (count_of head) (line + 1) first.1
+  Ok (node_with head steps.0, steps.1)
+
+-- ---- trees
+
+-- What reading so many trees gives, below so many branches, from this line on: the trees and the text
+-- behind them, or a fault of the first node, of the trees below it, or of those beside it.
+pub data ReadsTrees : ℕ → ℕ → ℕ → List ℕ → Reading (Trees × List ℕ) → Type 0 where
+  ends : (above line : ℕ) (text : List ℕ) → ReadsTrees above zero line text (Ok (none, text))
+  wrong_node : (above k line : ℕ) (text : List ℕ) (fault : CertTextError)
+      → node_at above line text ≡ Err fault
+      → ReadsTrees above (suc k) line text (Err fault)
+  wrong_below : (above k line : ℕ) (text : List ℕ)
+      (node : Node) (after : List ℕ) (fault : CertTextError)
+      → node_at above line text ≡ Ok (node, after)
+      → ReadsTrees (suc above) (children node) (line + node_lines node) after (Err fault)
+      → ReadsTrees above (suc k) line text (Err fault)
+  wrong_beside : (above k line : ℕ) (text : List ℕ)
+      (node : Node) (after : List ℕ) (below : Trees) (rest : List ℕ) (fault : CertTextError)
+      → node_at above line text ≡ Ok (node, after)
+      → ReadsTrees (suc above) (children node) (line + node_lines node) after (Ok (below, rest))
+      → ReadsTrees above k (line + node_lines node + lines below) rest (Err fault)
+      → ReadsTrees above (suc k) line text (Err fault)
+  goes_on : (above k line : ℕ) (text : List ℕ)
+      (node : Node) (after : List ℕ) (below : Trees) (rest : List ℕ) (beside : Trees) (end : List ℕ)
+      → node_at above line text ≡ Ok (node, after)
+      → ReadsTrees (suc above) (children node) (line + node_lines node) after (Ok (below, rest))
+      → ReadsTrees above k (line + node_lines node + lines below) rest (Ok (beside, end))
+      → ReadsTrees above (suc k) line text (Ok (grow node below beside, end))
+
+-- ---- the whole text
+
+-- the certificate of a bound and of what reading its tree gives: nothing stands behind the tree
+abbrev pub certificate_of : ℕ → Reading (Trees × List ℕ) → Reading Certificate
+certificate_of low trees = do
+  tree ← trees
+  end ← check (At (3 + lines tree.0) Trailing) (length tree.1 == 0)
+  Ok (record { low = low; tree = tree.0 })
+
+-- what reading gives behind the first two lines: one tree, below no branch, from line 3 on
+abbrev pub GoesOn : Reading (ℕ × List ℕ) → Reading Certificate → Type 0
+GoesOn (Err fault) reading = reading ≡ Err fault
+GoesOn (Ok first) reading =
+    (trees : Reading (Trees × List ℕ)) × (ReadsTrees 0 1 3 first.1 trees × (reading ≡ certificate_of first.0 trees))
+
+-- what reading the whole text gives
+abbrev pub Reads : List ℕ → Reading Certificate → Type 0
+Reads text reading = GoesOn (low_at text) reading
+
+-- ---- what an answer says
+
+-- An error that was answered is the fault that reading gives. Nothing is said of a want of memory.
+abbrev pub IsFaultOf : {A : Type 0} → CertTextError → Reading A → Type 0
+IsFaultOf OutOfMemory reading = Unit {0}
+IsFaultOf (At line fault) reading = reading ≡ Err (At line fault)
+
+-- What was answered, seen as a value of the definitions, is what reading gives.
+abbrev pub IsAnswer : {X A : Type 0} → (X → A) → Reading X → Reading A → Type 0
+IsAnswer view (Ok x) reading = reading ≡ Ok (view x)
+IsAnswer view (Err e) reading = IsFaultOf e reading
+
+-- the same where reading is a relation
+abbrev pub IsFaultIn : {A : Type 0} → CertTextError → (Reading A → Type 0) → Type 0
+IsFaultIn OutOfMemory Gives = Unit {0}
+IsFaultIn (At line fault) Gives = Gives (Err (At line fault))
+
+abbrev pub IsAnswerIn : {X A : Type 0} → (X → A) → Reading X → (Reading A → Type 0) → Type 0
+IsAnswerIn view (Ok x) Gives = Gives (Ok (view x))
+IsAnswerIn view (Err e) Gives = IsFaultIn e Gives

@@ -1,0 +1,100 @@
+-- What the lines of a certificate say: a keyword and numbers, each after a space. Own profile.
+use Rattle.std.specs.Prelude.{ℕ, List, [], ◌∷◌, length, codes}
+use Rattle.ttp_model.specs.declared.step.Step.{Step}
+use Rattle.ttp_model.specs.declared.step.Step.TheVariants.{EsRelease, EsLink, EsBefore, EsArrive, EsMessage, LoSend, LeOwn, LeLink, LeBefore, LeMessage, LeSend, HiArrive, OrdWindow, OrdTwin, UsSettled, XWindow, XRound, XCycle, XLoad, XFrame, XFrames, XLate, XSilent}
+use Rattle.certificate.specs.declared.head.Head.{Head}
+use Rattle.certificate.specs.declared.head.Head.TheVariants.{OfPlace, OfCap, OfPair, OfRound, OfLeaf}
+use Rattle.certificate.specs.declared.node.Node.{Node}
+use Rattle.certificate.specs.declared.node.Node.TheVariants.{Place, Cap, Pair, Round, Leaf}
+
+-- a keyword, and the numbers behind it
+abbrev pub Words : Type 0
+Words = List ℕ × List ℕ
+
+-- the line of the bound
+abbrev pub low_words : ℕ → Words
+low_words low = (codes "low", low ∷ [])
+
+-- the line of a node: indices come before counts of children, a leaf's goal before its count of steps
+abbrev pub head_words : Head → Words
+head_words (OfPlace k) = (codes "place", k ∷ [])
+head_words (OfCap n k) = (codes "cap", n ∷ k ∷ [])
+head_words (OfPair p q) = (codes "pair", p ∷ q ∷ [])
+head_words (OfRound m r) = (codes "round", m ∷ r ∷ [])
+head_words (OfLeaf goal count) = (codes "leaf", goal ∷ count ∷ [])
+
+-- The line of a step: p and q are processes, l is a link, m a message, n, u and v are nodes, r is a
+-- round, and a and b are the ends of a range.
+abbrev pub step_words : Step → Words
+step_words (EsRelease p) = (codes "es-release", p ∷ [])
+step_words (EsLink l) = (codes "es-link", l ∷ [])
+step_words (EsBefore p q) = (codes "es-before", p ∷ q ∷ [])
+step_words (EsArrive m q) = (codes "es-arrive", m ∷ q ∷ [])
+step_words (EsMessage m q) = (codes "es-message", m ∷ q ∷ [])
+step_words (LoSend m) = (codes "lo-send", m ∷ [])
+step_words (LeOwn p) = (codes "le-own", p ∷ [])
+step_words (LeLink l) = (codes "le-link", l ∷ [])
+step_words (LeBefore p q) = (codes "le-before", p ∷ q ∷ [])
+step_words (LeMessage m q) = (codes "le-message", m ∷ q ∷ [])
+step_words (LeSend m) = (codes "le-send", m ∷ [])
+step_words (HiArrive m q) = (codes "hi-arrive", m ∷ q ∷ [])
+step_words (OrdWindow p q) = (codes "ord-window", p ∷ q ∷ [])
+step_words (OrdTwin p q) = (codes "ord-twin", p ∷ q ∷ [])
+step_words (UsSettled p) = (codes "us-settled", p ∷ [])
+step_words (XWindow p) = (codes "x-window", p ∷ [])
+step_words (XRound m) = (codes "x-round", m ∷ [])
+step_words (XCycle ps) = (codes "x-cycle", ps)
+step_words (XLoad n a b) = (codes "x-load", n ∷ a ∷ b ∷ [])
+step_words (XFrame m) = (codes "x-frame", m ∷ [])
+step_words (XFrames n a b) = (codes "x-frames", n ∷ a ∷ b ∷ [])
+step_words (XLate m r) = (codes "x-late", m ∷ r ∷ [])
+step_words (XSilent u v) = (codes "x-silent", u ∷ v ∷ [])
+
+-- ---- what can be said with so many numbers
+
+abbrev pub lows_with : List ℕ → List ℕ
+lows_with (n ∷ []) = n ∷ []
+lows_with _ = []
+
+abbrev pub heads_with : List ℕ → List Head
+heads_with (k ∷ []) = OfPlace k ∷ []
+heads_with (a ∷ b ∷ []) = OfCap a b ∷ OfPair a b ∷ OfRound a b ∷ OfLeaf a b ∷ []
+heads_with _ = []
+
+-- a cycle has two or more processes
+abbrev pub steps_with : List ℕ → List Step
+steps_with [] = []
+steps_with (a ∷ []) =
+    EsRelease a ∷ EsLink a ∷ LoSend a ∷ LeOwn a ∷ LeLink a ∷ LeSend a
+    ∷ UsSettled a ∷ XWindow a ∷ XRound a ∷ XFrame a ∷ []
+steps_with (a ∷ b ∷ []) =
+    EsBefore a b ∷ EsArrive a b ∷ EsMessage a b ∷ LeBefore a b ∷ LeMessage a b ∷ HiArrive a b
+    ∷ OrdWindow a b ∷ OrdTwin a b ∷ XLate a b ∷ XSilent a b ∷ XCycle (a ∷ b ∷ []) ∷ []
+steps_with (a ∷ b ∷ c ∷ []) = XLoad a b c ∷ XFrames a b c ∷ XCycle (a ∷ b ∷ c ∷ []) ∷ []
+steps_with more = XCycle more ∷ []
+
+-- ---- what a node is beside its steps
+
+abbrev pub head_of : Node → Head
+head_of (Place k) = OfPlace k
+head_of (Cap n k) = OfCap n k
+head_of (Pair p q) = OfPair p q
+head_of (Round m r) = OfRound m r
+head_of (Leaf leaf) = OfLeaf leaf.goal (length leaf.steps)
+
+abbrev pub steps_of : Node → List Step
+steps_of (Leaf leaf) = leaf.steps
+steps_of _ = []
+
+-- how many steps follow a node's line
+abbrev pub count_of : Head → ℕ
+count_of (OfLeaf goal count) = count
+count_of _ = 0
+
+-- the node of a line and the steps that follow it
+abbrev pub node_with : Head → List Step → Node
+node_with (OfPlace k) steps = Place k
+node_with (OfCap n k) steps = Cap n k
+node_with (OfPair p q) steps = Pair p q
+node_with (OfRound m r) steps = Round m r
+node_with (OfLeaf goal count) steps = Leaf (record { goal = goal; steps = steps })

@@ -1,0 +1,57 @@
+//! What is a certificate?
+
+ghost use Rattle.std.specs.Prelude.{◌≡◌};
+
+use crate::node::Node;
+use std::marker::Model;
+
+/// A bound, and a tree that is to show that no plan has a delay below it. Contracts see the tree;
+/// its nodes stand in one list, each in front of those below it, so nothing here goes down the tree
+/// by calls.
+#[derive(Debug, Drop)]
+pub struct Cert {
+    low: u32,
+    nodes: Vec<Node>,
+}
+
+impl Model for Cert {
+    ghost use Rattle.certificate.specs.Certificate.{Certificate, certificate_code};
+
+    ghost Value = { Certificate };
+
+    ghost coded = { certificate_code };
+
+    ghost use Rattle.certificate.specs.Trees.{IsTree, trees_of};
+
+    ghost view = { λ s. record { low = s.low; tree = trees_of s.nodes.items } };
+
+    ghost invariant = { λ s. IsTree (trees_of s.nodes.items) };
+}
+
+impl Cert {
+    ghost use Rattle.certificate.specs.Trees.{IsTree, trees_of, preorder};
+
+    /// The certificate of a tree, whose nodes are given each in front of those below it. Takes no
+    /// memory.
+    pub fn new(low: u32, nodes: Vec<Node>) -> Self
+        requires { IsTree (trees_of nodes.items) }
+        ensures { result ≡ record { low = low; tree = trees_of nodes.items } }
+    {
+        Cert { low, nodes }
+    }
+
+    /// The bound, in ticks.
+    pub fn low(&self) -> u32
+        ensures { result ≡ self.now.low }
+    {
+        self.low
+    }
+
+    /// The nodes of the tree, each in front of those below it.
+    pub fn nodes(&self) -> &[Node]
+        ensures nodes { result.now ≡ preorder self.now.tree }
+        ensures tree { IsTree self.now.tree }
+    {
+        self.nodes.as_slice()
+    }
+}

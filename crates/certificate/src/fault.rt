@@ -1,0 +1,67 @@
+//! Why is a text no certificate?
+
+ghost use Rattle.std.specs.Prelude.{◌≡◌};
+ghost use Rattle.certificate.specs.declared.fault.CertTextError.TheVariants.{OutOfMemory};
+
+use std::alloc::{AllocError, AllocFailed};
+use thiserror::Error;
+
+/// What is wrong with a line. Within a line the form is judged first, then the size of its numbers,
+/// then its place in the tree.
+#[derive(Clone, Copy, Debug, PartialEq, Eq, Error)]
+pub enum LineFault {
+    /// When the first line does not name this version of the text.
+    #[error("the first line is not `ttcert 1`")]
+    FirstLine,
+    /// When its keyword, its count of words or the form of a number is another than may stand there.
+    #[error("it has another form")]
+    Form,
+    /// When a number is above 4,294,967,295.
+    #[error("a number is too large")]
+    Number,
+    /// When a node stands below more than 4,608 branches.
+    #[error("it stands too deep")]
+    Depth,
+    /// When the text ends before the line's end.
+    #[error("the text ends too early")]
+    EarlyEnd,
+    /// When there are bytes behind the last line, of which this is the next one.
+    #[error("the text goes on")]
+    Trailing,
+}
+
+impl LineFault {
+    /// The error of a line with this number that has this fault.
+    pub(crate) fn at(self, line: u64) -> CertTextError
+        ensures { result ≡ CertTextError.At line self }
+    {
+        CertTextError::At { line, fault: self }
+    }
+}
+
+/// The first fault of a text that spells no certificate.
+#[derive(Clone, Copy, Debug, PartialEq, Eq, Error)]
+pub enum CertTextError {
+    /// When a line is at fault and the lines before it are not. Lines are numbered from 1.
+    #[error("line {line}: {fault}")]
+    At { line: u64, fault: LineFault },
+    /// When memory is refused.
+    #[error("out of memory")]
+    OutOfMemory,
+}
+
+impl From<AllocError> for CertTextError {
+    ghost from_gives = { λ _ e. e ≡ OutOfMemory };
+
+    fn from(_error: AllocError) -> CertTextError {
+        CertTextError::OutOfMemory
+    }
+}
+
+impl<T: Drop> From<AllocFailed<T>> for CertTextError {
+    ghost from_gives = { λ _ e. e ≡ OutOfMemory };
+
+    fn from(_error: AllocFailed<T>) -> CertTextError {
+        CertTextError::OutOfMemory
+    }
+}

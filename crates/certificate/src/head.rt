@@ -1,0 +1,66 @@
+//! What does the line of a node say?
+
+ghost use Rattle.std.specs.Prelude.{◌≡◌, ◌∷◌, []};
+ghost use Rattle.certificate.specs.Words.{head_words, heads_with};
+ghost use Rattle.certificate.specs.Reading.{IsAnswer, said_in, with_keyword};
+ghost use Rattle.certificate.specs.Numbers.{numbers_in};
+
+use crate::fault::{CertTextError, LineFault};
+use crate::numbers::{FewNumbers, words_of};
+use line_text::cut;
+
+/// What a node's line says: all of a branch, and of a leaf its goal and how many steps follow.
+#[derive(Clone, Copy, Debug, PartialEq, Eq)]
+pub enum Head {
+    OfPlace(u32),
+    OfCap(u32, u32),
+    OfPair(u32, u32),
+    OfRound(u32, u32),
+    OfLeaf(u32, u32),
+}
+
+fn with_two(keyword: &[u8], a: u32, b: u32) -> Option<Head>
+    ensures { result ≡ with_keyword head_words keyword.now (heads_with (a ∷ b ∷ [])) }
+{
+    if keyword == b"cap".as_slice() {
+        return Some(Head::OfCap(a, b));
+    }
+    if keyword == b"pair".as_slice() {
+        return Some(Head::OfPair(a, b));
+    }
+    if keyword == b"round".as_slice() {
+        return Some(Head::OfRound(a, b));
+    }
+    if keyword == b"leaf".as_slice() {
+        return Some(Head::OfLeaf(a, b));
+    }
+    None
+}
+
+fn with_few(keyword: &[u8], numbers: FewNumbers) -> Option<Head>
+    ensures { result ≡ with_keyword head_words keyword.now (heads_with (numbers_in numbers)) }
+{
+    match numbers {
+        FewNumbers::One(k) if keyword == b"place".as_slice() => Some(Head::OfPlace(k)),
+        FewNumbers::Two(a, b) => with_two(keyword, a, b),
+        _ => None,
+    }
+}
+
+/// What the line of a node says.
+#[tactic(auto, unfolding(crate::specs::Reading::said_in))]
+pub fn head_in(line: u64, text: &[u8]) -> Result<Head, CertTextError>
+    ensures { IsAnswer (λ x. x) result (said_in head_words heads_with line text.now) }
+{
+    let Some((keyword, rest)) = cut(b' ', text) else {
+        return Err(LineFault::Form.at(line));
+    };
+    let words = words_of(line, rest)?;
+    let Some(head) = with_few(keyword, words.numbers()) else {
+        return Err(LineFault::Form.at(line));
+    };
+    if !words.fit() {
+        return Err(LineFault::Number.at(line));
+    }
+    Ok(head)
+}

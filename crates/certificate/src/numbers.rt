@@ -1,0 +1,139 @@
+//! Which numbers stand behind a line's keyword?
+
+ghost use Rattle.std.specs.Prelude.{◌≡◌, ◌<◌, length, map, true, IfOk, IfErr, IfSome, MatchOption};
+ghost use Rattle.std.specs.List.{list_all};
+ghost use Rattle.line_text.specs.Parts.{seen_rest};
+ghost use Rattle.certificate.specs.declared.fault.LineFault.TheVariants.{Form};
+ghost use Rattle.certificate.specs.Reading.{numbers_of, is_numeral, fits, value_of};
+ghost use Rattle.certificate.specs.Numbers.{words_in, numbers_in, words_with};
+
+use crate::fault::{CertTextError, LineFault};
+use line_text::{NumberWord, cut, number_word};
+
+/// One to three words, as numbers.
+#[derive(Clone, Copy, Debug, PartialEq, Eq)]
+pub enum FewWords {
+    One(NumberWord),
+    Two(NumberWord, NumberWord),
+    Three(NumberWord, NumberWord, NumberWord),
+}
+
+/// One to three numbers.
+#[derive(Clone, Copy, Debug, PartialEq, Eq)]
+pub enum FewNumbers {
+    One(u32),
+    Two(u32, u32),
+    Three(u32, u32, u32),
+}
+
+/// Whether the word has a number's form.
+pub fn is_numeral(word: NumberWord) -> bool
+    ensures { result ≡ is_numeral word }
+{
+    match word {
+        NumberWord::Malformed => false,
+        _ => true,
+    }
+}
+
+/// Whether the word is a number that fits.
+pub fn fits(word: NumberWord) -> bool
+    ensures { result ≡ fits word }
+{
+    match word {
+        NumberWord::Number(_) => true,
+        _ => false,
+    }
+}
+
+/// The number, or 0 where it does not fit.
+pub fn value_of(word: NumberWord) -> u32
+    ensures { result ≡ value_of word }
+{
+    match word {
+        NumberWord::Number(number) => number,
+        _ => 0,
+    }
+}
+
+/// The first word as a number, and the text behind the space after it, if there is one.
+pub fn next_word(text: &[u8]) -> (NumberWord, Option<&[u8]>)
+    ensures words { numbers_of text.now ≡ words_with result.0 (seen_rest result.1) }
+    ensures shorter { IfSome result.1 (λ more. length more.now < length text.now) }
+{
+    match cut(b' ', text) {
+        None => (number_word(text), None),
+        Some((word, more)) => (number_word(word), Some(more)),
+    }
+}
+
+impl FewWords {
+    /// The words of a text, where there are at most three.
+    fn of(text: &[u8]) -> Option<FewWords>
+        ensures { MatchOption result (3 < length (numbers_of text.now))
+            (λ words. numbers_of text.now ≡ words_in words) }
+    {
+        let (a, more) = next_word(text);
+        let Some(text) = more else {
+            return Some(FewWords::One(a));
+        };
+        let (b, more) = next_word(text);
+        let Some(text) = more else {
+            return Some(FewWords::Two(a, b));
+        };
+        let (c, more) = next_word(text);
+        if more.is_some() {
+            return None;
+        }
+        Some(FewWords::Three(a, b, c))
+    }
+
+    fn are_numerals(self) -> bool
+        ensures { result ≡ list_all is_numeral (words_in self) }
+    {
+        match self {
+            FewWords::One(a) => is_numeral(a),
+            FewWords::Two(a, b) => is_numeral(a) && is_numeral(b),
+            FewWords::Three(a, b, c) => is_numeral(a) && is_numeral(b) && is_numeral(c),
+        }
+    }
+
+    /// Whether each of the numbers fits.
+    pub fn fit(self) -> bool
+        ensures { result ≡ list_all fits (words_in self) }
+    {
+        match self {
+            FewWords::One(a) => fits(a),
+            FewWords::Two(a, b) => fits(a) && fits(b),
+            FewWords::Three(a, b, c) => fits(a) && fits(b) && fits(c),
+        }
+    }
+
+    /// The numbers, with 0 for each that does not fit.
+    pub fn numbers(self) -> FewNumbers
+        ensures { numbers_in result ≡ map value_of (words_in self) }
+    {
+        match self {
+            FewWords::One(a) => FewNumbers::One(value_of(a)),
+            FewWords::Two(a, b) => FewNumbers::Two(value_of(a), value_of(b)),
+            FewWords::Three(a, b, c) => FewNumbers::Three(value_of(a), value_of(b), value_of(c)),
+        }
+    }
+}
+
+/// The words behind a keyword in this line: at most three, each with a number's form.
+pub fn words_of(line: u64, text: &[u8]) -> Result<FewWords, CertTextError>
+    ensures words { IfOk result (λ words. numbers_of text.now ≡ words_in words) }
+    ensures numerals { IfOk result (λ _. list_all is_numeral (numbers_of text.now) ≡ true) }
+    ensures fault { IfErr result (λ e. e ≡ CertTextError.At line Form) }
+    ensures many { IfErr result (λ _. list_all is_numeral (numbers_of text.now) ≡ true →
+        3 < length (numbers_of text.now)) }
+{
+    let Some(words) = FewWords::of(text) else {
+        return Err(LineFault::Form.at(line));
+    };
+    if !words.are_numerals() {
+        return Err(LineFault::Form.at(line));
+    }
+    Ok(words)
+}

@@ -1,0 +1,116 @@
+//! How is a certificate written?
+
+ghost use Rattle.std.specs.Prelude.{◌≡◌, ◌++◌, ◌∷◌, [], All, IfOk, OnOk};
+ghost use Rattle.std.specs.List.{flat_map};
+ghost use Rattle.certificate.specs.Words.{step_words, head_words, head_of};
+ghost use Rattle.certificate.specs.Spelling.{Fit, spaced, line_with, step_text, node_text, StepHasText, NodeHasText, IsSpelled};
+
+use crate::cert::Cert;
+use crate::node::Node;
+use line_text::push_number;
+use std::alloc::{AllocError, Global};
+use ttp_model::{MemoryFault, Step};
+
+#[tactic(auto, unfolding(crate::specs::Spelling::spaced))]
+fn push_spaced(text: &mut Vec<u8>, number: u32) -> Result<(), AllocError>
+    ensures { OnOk result (text.new.items ≡ text.old.items ++ spaced number) }
+{
+    text.push(b' ')?;
+    push_number(text, number as u64)
+}
+
+fn push_line(text: &mut Vec<u8>, keyword: &[u8], numbers: &[u32]) -> Result<(), AllocError>
+    ensures line { OnOk result (text.new.items ≡
+        text.old.items ++ ((keyword.now ++ flat_map spaced numbers.now) ++ 10 ∷ [])) }
+    ensures fit { Fit numbers.now }
+{
+    text.extend_from_slice(keyword)?;
+    for number in numbers {
+        push_spaced(text, *number)?;
+    }
+    text.push(b'\n')?;
+    Ok(())
+}
+
+#[tactic(auto, unfolding(crate::specs::Spelling::step_text))]
+fn push_step(text: &mut Vec<u8>, step: &Step) -> Result<(), AllocError>
+    ensures text { OnOk result (text.new.items ≡ text.old.items ++ step_text step.now) }
+    ensures fits { StepHasText step.now }
+{
+    match step {
+        Step::EsRelease(p) => push_line(text, b"es-release", &[*p]),
+        Step::EsLink(l) => push_line(text, b"es-link", &[*l]),
+        Step::EsBefore(p, q) => push_line(text, b"es-before", &[*p, *q]),
+        Step::EsArrive(m, q) => push_line(text, b"es-arrive", &[*m, *q]),
+        Step::EsMessage(m, q) => push_line(text, b"es-message", &[*m, *q]),
+        Step::LoSend(m) => push_line(text, b"lo-send", &[*m]),
+        Step::LeOwn(p) => push_line(text, b"le-own", &[*p]),
+        Step::LeLink(l) => push_line(text, b"le-link", &[*l]),
+        Step::LeBefore(p, q) => push_line(text, b"le-before", &[*p, *q]),
+        Step::LeMessage(m, q) => push_line(text, b"le-message", &[*m, *q]),
+        Step::LeSend(m) => push_line(text, b"le-send", &[*m]),
+        Step::HiArrive(m, q) => push_line(text, b"hi-arrive", &[*m, *q]),
+        Step::OrdWindow(p, q) => push_line(text, b"ord-window", &[*p, *q]),
+        Step::OrdTwin(p, q) => push_line(text, b"ord-twin", &[*p, *q]),
+        Step::UsSettled(p) => push_line(text, b"us-settled", &[*p]),
+        Step::XWindow(p) => push_line(text, b"x-window", &[*p]),
+        Step::XRound(m) => push_line(text, b"x-round", &[*m]),
+        Step::XCycle(ring) => push_line(text, b"x-cycle", ring.as_slice()),
+        Step::XLoad(n, a, b) => push_line(text, b"x-load", &[*n, *a, *b]),
+        Step::XFrame(m) => push_line(text, b"x-frame", &[*m]),
+        Step::XFrames(n, a, b) => push_line(text, b"x-frames", &[*n, *a, *b]),
+        Step::XLate(m, r) => push_line(text, b"x-late", &[*m, *r]),
+        Step::XSilent(u, v) => push_line(text, b"x-silent", &[*u, *v]),
+    }
+}
+
+fn push_steps(text: &mut Vec<u8>, steps: &[Step]) -> Result<(), AllocError>
+    ensures text { OnOk result (text.new.items ≡
+        text.old.items ++ flat_map step_text steps.now) }
+    ensures fits { OnOk result (All StepHasText steps.now) }
+{
+    for step in steps {
+        push_step(text, step)?;
+    }
+    Ok(())
+}
+
+#[tactic(auto, unfolding(crate::specs::Spelling::node_text))]
+fn push_node(text: &mut Vec<u8>, node: &Node) -> Result<(), AllocError>
+    ensures text { OnOk result (text.new.items ≡ text.old.items ++ node_text node.now) }
+    ensures fits { OnOk result (NodeHasText node.now) }
+{
+    match node {
+        Node::Place { children } => push_line(text, b"place", &[*children]),
+        Node::Cap { node, children } => push_line(text, b"cap", &[*node, *children]),
+        Node::Pair { first, second } => push_line(text, b"pair", &[*first, *second]),
+        Node::Round { message, round } => push_line(text, b"round", &[*message, *round]),
+        Node::Leaf(leaf) => {
+            let steps = leaf.steps.as_slice();
+            push_line(text, b"leaf", &[leaf.goal, steps.len() as u32])?;
+            push_steps(text, steps)
+        }
+    }
+}
+
+fn push_nodes(text: &mut Vec<u8>, nodes: &[Node]) -> Result<(), AllocError>
+    ensures text { OnOk result (text.new.items ≡
+        text.old.items ++ flat_map node_text nodes.now) }
+    ensures fits { OnOk result (All NodeHasText nodes.now) }
+{
+    for node in nodes {
+        push_node(text, node)?;
+    }
+    Ok(())
+}
+
+/// The text of a certificate. Linear in the text.
+pub fn print(alloc: Global, cert: &Cert) -> Result<Vec<u8>, MemoryFault>
+    ensures { IfOk result (λ text. IsSpelled text.items cert.now) }
+{
+    let mut text = Vec::new(alloc);
+    text.extend_from_slice(b"ttcert 1\n")?;
+    push_line(&mut text, b"low", &[cert.low()])?;
+    push_nodes(&mut text, cert.nodes())?;
+    Ok(text)
+}
