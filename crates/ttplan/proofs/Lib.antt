@@ -1,2 +1,7 @@
 pub mod Written
+pub mod Tellings
 pub mod Splits
+pub mod LossSpelling
+pub mod LossPlaces
+pub mod LossLists
+pub mod Traced

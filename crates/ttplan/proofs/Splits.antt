@@ -1,16 +1,16 @@
 -- What was taken from a bundle's reader is split as the bundle is, and its parts' answers are the bundle's.
-use Rattle.std.proofs.Common.{◌≡◌, ℕ, ◌+◌, ◌-◌, ◌<◌, ◌≤◌, List, [], ◌++◌, length, take, drop, slice_index, Some, None, Ok, Err, Option, Result, IfSome, MatchResult, arith, ap, sym, ◌∙◌, refl, length-take, length-drop, append-nil, subst}
+use Rattle.std.proofs.Common.{◌≡◌, ℕ, ◌+◌, ◌-◌, ◌≤◌, List, ◌++◌, length, take, drop, Ok, Err, Result, MatchResult, arith, ap, sym, ◌∙◌, refl, length-take, length-drop, append-nil, subst}
 use Rattle.std.proofs.lemmas.List.{get_or_append_left, take-append-le, drop-append-le}
-use Rattle.std.proofs.lemmas.Grind.{common_steps}
 use Rattle.ttplan.specs.declared.input.Taken.{Taken}
 use Rattle.ttplan.specs.declared.input.Stop.TheVariants.{AtEnd}
 use Rattle.ttplan.specs.declared.ending.Fault.{Fault}
-use Rattle.ttplan.specs.declared.ending.Fault.TheVariants.{NoMark, Instance, Memory, PlanText, Plan, StatedDelay, Unread, Unwritten}
+use Rattle.ttplan.specs.declared.ending.Fault.TheVariants.{NoMark, LossForm, Instance, Memory, PlanText, Plan, StatedDelay, TooFewNodes, WrongLoss, Unread, Unwritten}
 use Rattle.ttplan.specs.declared.ending.Source.TheVariants as source
 use Rattle.ttp_model.specs.Problem.{Problem}
 use Rattle.ttplan.specs.Streams.{IsTaken}
-use Rattle.ttplan.specs.Verdicts.{HasInstance, IsInstanceFault, IsPlanDelay, IsPlanFault}
-use Rattle.ttplan.specs.Bundles.{mark, IsMark, IsFirstMark, IsSplit, IsVerifiedBundle, IsRefusedBundle}
+use Rattle.ttplan.specs.declared.verify.Verified.{Verified}
+use Rattle.ttplan.specs.Verdicts.{HasInstance, IsInstanceFault, IsPlanFault, IsVerifiedPlan}
+use Rattle.ttplan.specs.Bundles.{IsMark, IsFirstMark, IsSplit, IsVerifiedBundle, IsRefusedBundle}
 
 -- a mark has all its bytes
 pub mark_within : (bytes : List ℕ) (at : ℕ) → IsMark bytes at → at + 3 ≤ length bytes
@@ -60,6 +60,9 @@ split_at bytes rest all at is first =
 module _ (limit : ℕ) (taken : Taken) (all : List ℕ) (at : ℕ) (is_taken : IsTaken limit taken all) (first : IsFirstMark taken.bytes.items at) where
   pub refused_front : (fault : Fault) → IsInstanceFault (take at taken.bytes.items) fault → IsRefusedBundle all fault
   refused_front NoMark refused = absurd refused
+  refused_front (LossForm k) refused = absurd refused
+  refused_front TooFewNodes refused = absurd refused
+  refused_front (WrongLoss k) refused = absurd refused
   refused_front Memory refused = tt
   refused_front (Unread source.Instance) refused = tt
   refused_front (Unread source.Plan) refused = absurd refused
@@ -98,16 +101,19 @@ module _ (limit : ℕ) (taken : Taken) (all : List ℕ) (at : ℕ) (is_taken : I
   }
 
   module _ (i : Problem) (has_instance : HasInstance (take at taken.bytes.items) i) where
-    verified_all : (d : ℕ) → IsPlanDelay i (drop (at + 3) taken.bytes.items) d → IsVerifiedBundle all d
-    verified_all d verified = record {
+    verified_all : (v : Verified) → IsVerifiedPlan i (drop (at + 3) taken.bytes.items) v → IsVerifiedBundle all v
+    verified_all v verified = record {
       instance = take at taken.bytes.items;
       plan = drop (at + 3) taken.bytes.items;
       split = split_all;
-      verified = record { problem = i; has_instance = has_instance; has_delay = verified };
+      verified = record { has_instance = rw verified.of has_instance; has_plan = rw verified.of verified.has_plan };
     }
 
     refused_all : (fault : Fault) → IsPlanFault i (drop (at + 3) taken.bytes.items) fault → IsRefusedBundle all fault
     refused_all NoMark refused = absurd refused
+    refused_all (LossForm k) refused = absurd refused
+    refused_all TooFewNodes refused = absurd refused
+    refused_all (WrongLoss k) refused = absurd refused
     refused_all Memory refused = tt
     refused_all (Unread source.Instance) refused = absurd refused
     refused_all (Unread source.Plan) refused = absurd refused
@@ -132,6 +138,6 @@ module _ (limit : ℕ) (taken : Taken) (all : List ℕ) (at : ℕ) (is_taken : I
       refused = record { problem = i; has_instance = has_instance; refused = refused };
     }
 
-    pub outcome_all : (result : Result ℕ Fault) → MatchResult result (IsPlanDelay i (drop (at + 3) taken.bytes.items)) (IsPlanFault i (drop (at + 3) taken.bytes.items)) → MatchResult result (IsVerifiedBundle all) (IsRefusedBundle all)
-    outcome_all (Ok d) verified = verified_all d verified
+    pub outcome_all : (result : Result Verified Fault) → MatchResult result (IsVerifiedPlan i (drop (at + 3) taken.bytes.items)) (IsPlanFault i (drop (at + 3) taken.bytes.items)) → MatchResult result (IsVerifiedBundle all) (IsRefusedBundle all)
+    outcome_all (Ok v) verified = verified_all v verified
     outcome_all (Err fault) refused = refused_all fault refused

@@ -1,11 +1,13 @@
 -- How a bundle is split: the instance stands before the first line `%%`, and the plan behind it.
-use Rattle.std.specs.Prelude.{◌≡◌, ℕ, ◌+◌, ◌-◌, ◌<◌, ◌≤◌, List, [], ◌∷◌, ◌++◌, length, take, drop, slice_index, codes, Option, None, Some, ◌≤◌}
+use Rattle.std.specs.Prelude.{◌≡◌, ℕ, ◌+◌, ◌-◌, ◌<◌, ◌≤◌, List, length, take, drop, slice_index, codes, Option, None, Some, ◌≤◌}
 use Rattle.ttplan.specs.declared.verify.TheConstants.{INSTANCE_LIMIT}
 use Rattle.ttplan.specs.declared.ending.Source.TheVariants as source
 use Rattle.ttplan.specs.declared.ending.Fault.{Fault}
 use Rattle.ttplan.specs.declared.ending.Fault.TheVariants.{NoMark, Memory, Unread}
 use Rattle.ttplan.specs.declared.ending.End.{End}
-use Rattle.ttplan.specs.Verdicts.{IsVerified, IsRefused, IsOutcome}
+use Rattle.ttplan.specs.declared.verify.Verified.{Verified}
+use Rattle.ttplan.specs.Outcomes.{IsOutcome, IsTold, OnDone}
+use Rattle.ttplan.specs.Verdicts.{IsVerified, IsRefused, IsValidLine}
 
 -- the bytes of the line, with its end
 abbrev pub mark : List ℕ
@@ -42,11 +44,11 @@ pub record IsSplit (bundle instance plan : List ℕ) : Type 0 where
   pub behind : plan ≡ drop (at + 3) bundle
 
 -- the parts of a bundle are an instance and a valid plan of it that states its own delay
-pub record IsVerifiedBundle (bundle : List ℕ) (d : ℕ) : Type 0 where
+pub record IsVerifiedBundle (bundle : List ℕ) (v : Verified) : Type 0 where
   pub instance : List ℕ
   pub plan : List ℕ
   pub split : IsSplit bundle instance plan
-  pub verified : IsVerified instance plan d
+  pub verified : IsVerified instance plan v
 
 -- the parts of a bundle are at this fault
 pub record IsRefusedSplit (bundle : List ℕ) (fault : Fault) : Type 0 where
@@ -64,4 +66,4 @@ IsRefusedBundle bundle fault = IsRefusedSplit bundle fault
 
 -- what `verify_bundle` answers of the bytes of a bundle, and what it writes
 abbrev pub IsBundleVerdict : List ℕ → Option (List ℕ) → Option (List ℕ) → End → Type 0
-IsBundleVerdict bundle = IsOutcome (IsVerifiedBundle bundle) (IsRefusedBundle bundle)
+IsBundleVerdict bundle = IsOutcome (OnDone (IsTold (IsVerifiedBundle bundle) IsValidLine)) (IsRefusedBundle bundle)

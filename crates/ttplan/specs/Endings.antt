@@ -4,13 +4,14 @@ use Rattle.ttp_model.specs.declared.error.ModelError.TheVariants as model
 use Rattle.instance_text.specs.declared.error.TextError.TheVariants as text
 use Rattle.plan_format.specs.declared.fault.PlanTextError.TheVariants as plan_text
 use Rattle.ttplan.specs.declared.ending.Fault.{Fault}
-use Rattle.ttplan.specs.declared.ending.Fault.TheVariants.{NoMark, Instance, Memory, PlanText, Plan, StatedDelay, Unread, Unwritten}
+use Rattle.ttplan.specs.declared.ending.Fault.TheVariants.{NoMark, LossForm, Instance, Memory, PlanText, Plan, StatedDelay, TooFewNodes, WrongLoss, Unread, Unwritten}
 use Rattle.ttplan.specs.declared.ending.End.{End}
 use Rattle.ttplan.specs.declared.ending.End.TheVariants.{Done, Absent, Stopped, Refused}
 
--- of a refusal: 2 usage, 3 the instance, 4 memory, 5 the plan, 6 a file
+-- of a refusal: 2 usage, 3 the instance, 4 memory, 5 the plan or a loss, 6 a file
 abbrev pub fault_status : Fault → ℕ
 fault_status NoMark = 2
+fault_status (LossForm k) = 2
 fault_status (Instance text.OutOfMemory) = 4
 fault_status (Instance (text.Model model.OutOfMemory)) = 4
 fault_status (Instance _) = 3
@@ -19,6 +20,8 @@ fault_status (PlanText plan_text.OutOfMemory) = 4
 fault_status (PlanText (plan_text.At line fault)) = 5
 fault_status (Plan fault) = 5
 fault_status (StatedDelay delay) = 5
+fault_status TooFewNodes = 5
+fault_status (WrongLoss k) = 5
 fault_status (Unread source) = 6
 fault_status (Unwritten sink) = 6
 

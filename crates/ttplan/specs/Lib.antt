@@ -2,4 +2,8 @@ pub mod Streams
 pub mod Endings
 pub mod Lines
 pub mod Bundles
+pub mod NodeTables
+pub mod LossWords
+pub mod Traces
+pub mod Outcomes
 pub mod Verdicts

@@ -25,7 +25,7 @@ use Rattle.ttplan.specs.declared.ending.Source.TheVariants as source
 use Rattle.ttplan.specs.declared.ending.Sink.{Sink}
 use Rattle.ttplan.specs.declared.ending.Sink.TheVariants as sink
 use Rattle.ttplan.specs.declared.ending.Fault.{Fault}
-use Rattle.ttplan.specs.declared.ending.Fault.TheVariants.{NoMark, Instance, Memory, PlanText, Plan, StatedDelay, Unread, Unwritten}
+use Rattle.ttplan.specs.declared.ending.Fault.TheVariants.{NoMark, LossForm, Instance, Memory, PlanText, Plan, StatedDelay, TooFewNodes, WrongLoss, Unread, Unwritten}
 use Rattle.ttplan.specs.declared.ending.End.{End}
 use Rattle.ttplan.specs.declared.ending.End.TheVariants.{Done, Absent, Stopped, Refused}
 
@@ -132,11 +132,14 @@ sink_word sink.Out = codes "out"
 -- the line of every fault, without its end
 abbrev pub fault_line : Fault → List ℕ
 fault_line NoMark = codes "usage bundle"
+fault_line (LossForm k) = codes "usage loss " ++ decimal k
 fault_line (Instance error) = text_line error
 fault_line Memory = codes "memory"
 fault_line (PlanText error) = plan_text_line error
 fault_line (Plan fault) = plan_line fault
 fault_line (StatedDelay delay) = codes "plan D1 " ++ decimal delay
+fault_line TooFewNodes = codes "replay N1"
+fault_line (WrongLoss k) = codes "replay N2 " ++ decimal k
 fault_line (Unread source) = codes "read " ++ source_word source
 fault_line (Unwritten sink) = codes "write " ++ sink_word sink
 

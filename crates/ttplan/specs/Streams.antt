@@ -1,5 +1,5 @@
 -- What a reader gave, and what a writer took.
-use Rattle.std.specs.Prelude.{◌≡◌, ℕ, ◌+◌, ◌<◌, ◌≤◌, List, [], ◌++◌, length, take, Option}
+use Rattle.std.specs.Prelude.{◌≡◌, ℕ, ◌+◌, ◌≤◌, List, [], ◌++◌, length, take, Option}
 use Rattle.std.specs.Io.KnownBytes.{Appends}
 use Rattle.ttplan.specs.declared.input.Taken.{Taken}
 use Rattle.ttplan.specs.declared.input.Stop.{Stop}

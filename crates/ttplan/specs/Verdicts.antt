@@ -1,6 +1,5 @@
--- What `verify` answers of the bytes of an instance and of a plan, and what it writes.
+-- What the bytes of an instance and of a plan are judged to be, and what `verify` writes of them.
 use Rattle.std.specs.Prelude.{◌≡◌, ◌≢◌, ℕ, ◌≤◌, List, [], ◌∷◌, ◌++◌, length, codes, decimal, Option, Ok}
-use Rattle.std.specs.Io.KnownBytes.{Appends, Keeps}
 use Rattle.ttp_model.specs.Problem.{Problem}
 use Rattle.ttp_model.specs.Rules.{IsInstance}
 use Rattle.ttp_model.specs.Plans.{IsValid}
@@ -12,14 +11,13 @@ use Rattle.instance_text.specs.Faults as text_faults
 use Rattle.plan_format.specs.Spelling.{IsSpelled}
 use Rattle.plan_format.specs.Reading.{IsFaultOf, plan_at}
 use Rattle.ttplan.specs.declared.verify.TheConstants.{INSTANCE_LIMIT, PLAN_LIMIT}
+use Rattle.ttplan.specs.declared.verify.Verified.{Verified}
 use Rattle.ttplan.specs.declared.ending.Source.{Source}
 use Rattle.ttplan.specs.declared.ending.Source.TheVariants as source
-use Rattle.ttplan.specs.declared.ending.Sink.TheVariants.{Out}
 use Rattle.ttplan.specs.declared.ending.Fault.{Fault}
-use Rattle.ttplan.specs.declared.ending.Fault.TheVariants.{NoMark, Instance, Memory, PlanText, Plan, StatedDelay, Unread, Unwritten}
+use Rattle.ttplan.specs.declared.ending.Fault.TheVariants.{NoMark, LossForm, Instance, Memory, PlanText, Plan, StatedDelay, TooFewNodes, WrongLoss, Unread, Unwritten}
 use Rattle.ttplan.specs.declared.ending.End.{End}
-use Rattle.ttplan.specs.declared.ending.End.TheVariants.{Done, Absent, Stopped, Refused}
-use Rattle.ttplan.specs.Streams.{AppendsPart}
+use Rattle.ttplan.specs.Outcomes.{IsOutcome, IsTold, OnDone}
 
 -- the bytes are within their limit, and state this instance
 pub record HasInstance (bytes : List ℕ) (i : Problem) : Type 0 where
@@ -32,9 +30,8 @@ pub record HasPlan (i : Problem) (bytes : List ℕ) (plan : Table) (stated : ℕ
   pub within : length bytes ≤ PLAN_LIMIT
   pub spelled : IsSpelled i bytes plan stated
 
--- the bytes spell a valid plan of the instance, which has the delay that it states
-pub record IsPlanDelay (i : Problem) (bytes : List ℕ) (d : ℕ) : Type 0 where
-  pub plan : Table
+-- the bytes spell this plan of the instance, which is valid, and state its own delay: so many ticks
+pub record HasValidPlan (i : Problem) (bytes : List ℕ) (plan : Table) (d : ℕ) : Type 0 where
   pub has_plan : HasPlan i bytes plan d
   pub valid : IsValid i plan
   pub has_delay : delay i plan ≡ d
@@ -68,18 +65,22 @@ IsInstanceFault bytes (Unread source.Instance) = Unit {0}
 IsInstanceFault bytes (Instance error) = (length bytes ≤ INSTANCE_LIMIT) × text_faults.IsFirstFault bytes error
 IsInstanceFault bytes _ = ⊥
 
--- why bytes within their limit give no delay of the instance
+-- why bytes within their limit give no valid plan of the instance that states its own delay
 abbrev pub IsPlanFault : Problem → List ℕ → Fault → Type 0
 IsPlanFault i bytes (PlanText error) = (length bytes ≤ PLAN_LIMIT) × IsFaultOf error (plan_at i bytes)
 IsPlanFault i bytes (Plan fault) = IsBroken i bytes fault
 IsPlanFault i bytes (StatedDelay d) = IsMisstated i bytes d
 IsPlanFault i bytes _ = ⊥
 
+-- this instance, and a valid plan of it that the bytes spell with its own delay
+pub record IsVerifiedPlan (i : Problem) (bytes : List ℕ) (v : Verified) : Type 0 where
+  pub of : v.instance ≡ i
+  pub has_plan : HasValidPlan i bytes v.plan v.delay
+
 -- the bytes of an instance and of a valid plan of it that states its own delay
-pub record IsVerified (instance plan : List ℕ) (d : ℕ) : Type 0 where
-  pub problem : Problem
-  pub has_instance : HasInstance instance problem
-  pub has_delay : IsPlanDelay problem plan d
+pub record IsVerified (instance plan : List ℕ) (v : Verified) : Type 0 where
+  pub has_instance : HasInstance instance v.instance
+  pub has_plan : HasValidPlan v.instance plan v.plan v.delay
 
 -- the instance is stated, and the plan's bytes are at this fault
 pub record IsPlanRefused (instance plan : List ℕ) (fault : Fault) : Type 0 where
@@ -95,38 +96,24 @@ pub record StatesSome (instance : List ℕ) : Type 0 where
 -- why the bytes of an instance and of a plan are refused: for the instance, or else for the plan
 abbrev pub IsRefused : List ℕ → List ℕ → Fault → Type 0
 IsRefused instance plan NoMark = ⊥
+IsRefused instance plan (LossForm k) = ⊥
 IsRefused instance plan (Instance error) = IsInstanceFault instance (Instance error)
 IsRefused instance plan Memory = Unit {0}
 IsRefused instance plan (Unread source.Instance) = Unit {0}
 IsRefused instance plan (Unread source.Plan) = StatesSome instance
+IsRefused instance plan TooFewNodes = ⊥
+IsRefused instance plan (WrongLoss k) = ⊥
 IsRefused instance plan (Unwritten sink) = ⊥
 IsRefused instance plan fault = IsPlanRefused instance plan fault
 
--- the line of a valid plan
+-- the line of a valid plan, with its delay
 abbrev pub valid_line : ℕ → List ℕ
 valid_line d = codes "valid " ++ (decimal d ++ 10 ∷ [])
 
--- what is written for a valid plan: the line, or nothing for want of memory, or a prefix after a failed write
-abbrev pub IsWritten : ℕ → Option (List ℕ) → Option (List ℕ) → End → Type 0
-IsWritten d old new Done = Appends old new (valid_line d)
-IsWritten d old new (Refused Memory) = Keeps old new
-IsWritten d old new (Refused (Unwritten Out)) = AppendsPart old new (valid_line d)
-IsWritten d old new _ = ⊥
+-- what `verify` tells of a valid plan
+abbrev pub IsValidLine : Problem → Table → List ℕ → Type 0
+IsValidLine i plan text = text ≡ valid_line (delay i plan)
 
--- a delay that is verified, and what is written for it
-pub record IsAcceptance (IsVerifiedAs : ℕ → Type 0) (old new : Option (List ℕ)) (end : End) : Type 0 where
-  pub d : ℕ
-  pub verified : IsVerifiedAs d
-  pub written : IsWritten d old new end
-
--- The whole answer: the line of a delay that is verified, or why there is none, and then nothing is written.
-abbrev pub IsOutcome : (ℕ → Type 0) → (Fault → Type 0) → Option (List ℕ) → Option (List ℕ) → End → Type 0
-IsOutcome IsVerifiedAs IsRefusedBy old new Done = IsAcceptance IsVerifiedAs old new Done
-IsOutcome IsVerifiedAs IsRefusedBy old new Absent = ⊥
-IsOutcome IsVerifiedAs IsRefusedBy old new Stopped = ⊥
-IsOutcome IsVerifiedAs IsRefusedBy old new (Refused (Unwritten sink)) = IsAcceptance IsVerifiedAs old new (Refused (Unwritten sink))
-IsOutcome IsVerifiedAs IsRefusedBy old new (Refused fault) = IsRefusedBy fault × Keeps old new
-
--- of `verify`, from the bytes of an instance and of a plan
+-- what `verify` answers of the bytes of an instance and of a plan, and what it writes
 abbrev pub IsVerdict : List ℕ → List ℕ → Option (List ℕ) → Option (List ℕ) → End → Type 0
-IsVerdict instance plan = IsOutcome (IsVerified instance plan) (IsRefused instance plan)
+IsVerdict instance plan = IsOutcome (OnDone (IsTold (IsVerified instance plan) IsValidLine)) (IsRefused instance plan)

@@ -6,7 +6,9 @@ ghost use Rattle.ttplan.specs.Bundles.{IsMark, FindsMark, IsVerifiedBundle, IsRe
 
 use crate::ending::{End, Fault, Source};
 use crate::input::{Stop, Taken, take_input};
-use crate::verify::{INSTANCE_LIMIT, PLAN_LIMIT, delay_of_text, instance_of_text, write_verdict};
+use crate::verify::{
+    INSTANCE_LIMIT, PLAN_LIMIT, Verified, instance_of_text, verified_of_text, write_verdict,
+};
 use std::alloc::Global;
 use std::io::{Read, Write};
 
@@ -51,9 +53,9 @@ fn unsplit(taken: &Taken) -> Fault
     }
 }
 
-/// The delay of the plan behind the line, for the instance before it. The instance is judged before the plan's
-/// part, its length included.
-fn delay_of_taken(alloc: Global, taken: &Taken) -> Result<u64, Fault>
+/// The instance before the line with the plan behind it. The instance is judged before the plan's part, its length
+/// included.
+fn verified_of_taken(alloc: Global, taken: &Taken) -> Result<Verified, Fault>
     ensures { (bundle : List ℕ) → IsTaken BUNDLE_LIMIT taken.now bundle → MatchResult result
         (IsVerifiedBundle bundle)
         (IsRefusedBundle bundle) }
@@ -74,17 +76,17 @@ fn delay_of_taken(alloc: Global, taken: &Taken) -> Result<u64, Fault>
     if taken.stop != Stop::AtEnd || plan.len() > PLAN_LIMIT {
         return Err(Fault::Unread(Source::Plan));
     }
-    delay_of_text(alloc, &instance, plan)
+    verified_of_text(alloc, instance, plan)
 }
 
 /// The same of what a reader gives.
-fn delay_of_bundle<R: Read>(alloc: Global, input: &mut R) -> Result<u64, Fault>
+fn verified_of_bundle<R: Read>(alloc: Global, input: &mut R) -> Result<Verified, Fault>
     ensures { IfSome (R.remaining input.old) (λ bundle. MatchResult result
         (IsVerifiedBundle bundle)
         (IsRefusedBundle bundle)) }
 {
     match take_input(alloc, input, BUNDLE_LIMIT) {
-        Ok(taken) => delay_of_taken(alloc, &taken),
+        Ok(taken) => verified_of_taken(alloc, &taken),
         Err(_) => Err(Fault::Memory),
     }
 }
@@ -95,8 +97,8 @@ pub fn verify_bundle<R: Read, W: Write>(alloc: Global, input: &mut R, out: &mut 
     ensures { IfSome (R.remaining input.old) (λ bundle.
         IsBundleVerdict bundle (W.contents out.old) (W.contents out.new) result) }
 {
-    match delay_of_bundle(alloc, input) {
-        Ok(delay) => write_verdict(alloc, delay, out),
+    match verified_of_bundle(alloc, input) {
+        Ok(verified) => write_verdict(alloc, verified.delay, out),
         Err(fault) => End::Refused(fault),
     }
 }

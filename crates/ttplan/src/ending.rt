@@ -2,10 +2,12 @@
 
 ghost use Rattle.std.specs.Prelude.{◌≡◌};
 ghost use Rattle.ttplan.specs.Endings.{fault_status, status_of};
+ghost use Rattle.ttplan.specs.declared.ending.Fault.TheVariants.{Memory};
 
 use instance_text::TextError;
 use plan_format::PlanTextError;
-use ttp_model::{ModelError, PlanFault};
+use std::alloc::{AllocError, AllocFailed};
+use ttp_model::{MemoryFault, ModelError, PlanFault};
 
 /// Where a command reads from.
 #[derive(Clone, Copy, Debug, PartialEq, Eq)]
@@ -25,6 +27,8 @@ pub enum Sink {
 pub enum Fault {
     /// When a bundle has no line `%%`.
     NoMark,
+    /// When the loss word of this index is malformed.
+    LossForm(usize),
     /// When the instance's text states none.
     Instance(TextError),
     /// When memory was wanted, and refused.
@@ -35,10 +39,39 @@ pub enum Fault {
     Plan(PlanFault),
     /// When the plan is valid, and its delay, in ticks, is this and not the stated one.
     StatedDelay(u64),
+    /// When there are fewer nodes than a replay needs: three.
+    TooFewNodes,
+    /// When the loss word of this index stands for a loss that is outside the cycle, or at a node that isn't
+    /// there or is the sender, and no word before it does.
+    WrongLoss(usize),
     /// When a reader failed, or had more bytes than its limit, or a file could not be opened.
     Unread(Source),
     /// When a writer failed, or took no byte.
     Unwritten(Sink),
+}
+
+impl From<MemoryFault> for Fault {
+    ghost from_gives = { λ _ e. e ≡ Memory };
+
+    fn from(_fault: MemoryFault) -> Fault {
+        Fault::Memory
+    }
+}
+
+impl From<AllocError> for Fault {
+    ghost from_gives = { λ _ e. e ≡ Memory };
+
+    fn from(_error: AllocError) -> Fault {
+        Fault::Memory
+    }
+}
+
+impl<T: Drop> From<AllocFailed<T>> for Fault {
+    ghost from_gives = { λ _ e. e ≡ Memory };
+
+    fn from(_error: AllocFailed<T>) -> Fault {
+        Fault::Memory
+    }
 }
 
 /// How a command ends.
@@ -59,6 +92,7 @@ fn status_of_fault(fault: &Fault) -> u8
 {
     match fault {
         Fault::NoMark => 2,
+        Fault::LossForm(_) => 2,
         Fault::Instance(TextError::OutOfMemory) => 4,
         Fault::Instance(TextError::Model(ModelError::OutOfMemory)) => 4,
         Fault::Instance(_) => 3,
@@ -67,6 +101,8 @@ fn status_of_fault(fault: &Fault) -> u8
         Fault::PlanText(PlanTextError::At { .. }) => 5,
         Fault::Plan(_) => 5,
         Fault::StatedDelay(_) => 5,
+        Fault::TooFewNodes => 5,
+        Fault::WrongLoss(_) => 5,
         Fault::Unread(_) => 6,
         Fault::Unwritten(_) => 6,
     }

@@ -232,11 +232,14 @@ impl fmt::Display for Fault {
     fn fmt<W: fmt::Write>(&self, f: &mut fmt::Formatter<W>) -> fmt::Result {
         match self {
             Fault::NoMark => write!(f, "usage bundle"),
+            Fault::LossForm(k) => write!(f, "usage loss {k}"),
             Fault::Instance(error) => write!(f, "{}", TextLine(error)),
             Fault::Memory => write!(f, "memory"),
             Fault::PlanText(error) => write!(f, "{}", PlanTextLine(*error)),
             Fault::Plan(fault) => write!(f, "{}", PlanLine(*fault)),
             Fault::StatedDelay(delay) => write!(f, "plan D1 {delay}"),
+            Fault::TooFewNodes => write!(f, "replay N1"),
+            Fault::WrongLoss(k) => write!(f, "replay N2 {k}"),
             Fault::Unread(source) => write!(f, "read {}", SourceWord(*source)),
             Fault::Unwritten(sink) => write!(f, "write {}", SinkWord(*sink)),
         }

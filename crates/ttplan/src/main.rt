@@ -5,7 +5,10 @@ mod bundle;
 mod ending;
 mod input;
 mod lines;
+mod losses;
 mod output;
+mod replay;
+mod tables;
 mod verify;
 mod words;
 
@@ -14,23 +17,47 @@ use clap::error::ErrorKind;
 use std::fs::File;
 use std::io;
 use std::process::ExitCode;
-use words::Request;
+use words::{Request, Task};
 
-/// Opens both files before either is read, in the order of the words.
-fn verify_files(rt: &HostRuntime, instance: &str, plan: &str) -> End {
-    let Ok(mut instance) = File::open(rt, instance) else {
-        return End::Refused(Fault::Unread(Source::Instance));
+/// An instance's file and a plan's, both opened, in the order of the words.
+fn open_both(rt: &HostRuntime, instance: &str, plan: &str) -> Result<(File, File), Source> {
+    let Ok(instance) = File::open(rt, instance) else {
+        return Err(Source::Instance);
     };
-    let Ok(mut plan) = File::open(rt, plan) else {
-        return End::Refused(Fault::Unread(Source::Plan));
+    let Ok(plan) = File::open(rt, plan) else {
+        return Err(Source::Plan);
     };
-    verify::verify(rt.alloc(), &mut instance, &mut plan, &mut rt.stdout())
+    Ok((instance, plan))
+}
+
+/// Does what is asked for on two files: both are open before either is read.
+fn run_on_files(rt: &HostRuntime, instance: &str, plan: &str, task: Task) -> End {
+    let (mut instance, mut plan) = match open_both(rt, instance, plan) {
+        Ok(files) => files,
+        Err(source) => return End::Refused(Fault::Unread(source)),
+    };
+    let mut out = rt.stdout();
+    match task {
+        Task::Verify => verify::verify(rt.alloc(), &mut instance, &mut plan, &mut out),
+        Task::Tables => tables::tables(rt.alloc(), &mut instance, &mut plan, &mut out),
+        Task::Replay(losses) => replay::replay_run(
+            rt.alloc(),
+            &mut instance,
+            &mut plan,
+            losses.as_slice(),
+            &mut out,
+        ),
+    }
 }
 
 /// Does what is asked for.
 fn run(rt: &HostRuntime, request: Request) -> End {
     match request {
-        Request::Verify { instance, plan } => verify_files(rt, instance, plan),
+        Request::OnFiles {
+            instance,
+            plan,
+            task,
+        } => run_on_files(rt, instance, plan, task),
         Request::VerifyBundle => {
             bundle::verify_bundle(rt.alloc(), &mut rt.stdin(), &mut rt.stdout())
         }

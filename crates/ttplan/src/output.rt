@@ -3,7 +3,9 @@
 ghost use Rattle.std.specs.Prelude.{OnOk, OnErr};
 ghost use Rattle.std.specs.Io.KnownBytes.{Appends};
 ghost use Rattle.ttplan.specs.Streams.{AppendsPart};
+ghost use Rattle.ttplan.specs.Outcomes.{IsWriting};
 
+use crate::ending::{End, Fault, Sink};
 use std::io::Write;
 
 /// When a write failed, or took no byte.
@@ -24,4 +26,14 @@ pub fn write_text<W: Write>(out: &mut W, text: &[u8]) -> Result<(), WriteFault>
         }
     }
     Ok(())
+}
+
+/// Writes a text, which ends a command.
+pub fn end_with<W: Write>(out: &mut W, text: &[u8]) -> End
+    ensures { IsWriting text.now (W.contents out.old) (W.contents out.new) result }
+{
+    match write_text(out, text) {
+        Ok(()) => End::Done,
+        Err(_) => End::Refused(Fault::Unwritten(Sink::Out)),
+    }
 }

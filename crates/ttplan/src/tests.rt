@@ -1,3 +1,6 @@
+mod replays;
+mod table_texts;
+
 use crate::bundle::verify_bundle;
 use crate::ending::{End, status};
 use crate::lines::report;

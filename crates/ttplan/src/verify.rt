@@ -1,20 +1,31 @@
 //! What `verify` says of an instance and a plan.
 
-ghost use Rattle.std.specs.Prelude.{◌≡◌, ◌≤◌, length, IfOk, IfErr, IfSome, MatchResult};
-ghost use Rattle.ttplan.specs.Verdicts.{HasInstance, IsInstanceFault, IsPlanDelay, IsPlanFault, IsReadFault, IsRefused, IsVerdict, IsVerified, IsWritten};
+ghost use Rattle.std.specs.Prelude.{◌≡◌, ◌≤◌, length, string_bytes, IfOk, IfErr, IfSome, MatchResult};
+ghost use Rattle.ttp_model.specs.Plans.{IsValid};
+ghost use Rattle.ttplan.specs.Verdicts.{HasInstance, IsInstanceFault, IsPlanFault, IsReadFault, IsRefused, IsVerdict, IsVerified, IsVerifiedPlan, valid_line};
+ghost use Rattle.ttplan.specs.Outcomes.{IsWritingUnlessMemory};
 
-use crate::ending::{End, Fault, Sink, Source};
+use crate::ending::{End, Fault, Source};
 use crate::input::{Stop, take_input};
-use crate::output::write_text;
-use std::alloc::Global;
+use crate::output::end_with;
+use std::alloc::{AllocError, Global};
 use std::io::{Read, Write};
-use ttp_model::Instance;
+use ttp_model::{Instance, Plan};
 
 /// The bytes of an instance's text, at most.
 pub const INSTANCE_LIMIT: usize = 1_048_576;
 
 /// The bytes of a plan's text, at most.
 pub const PLAN_LIMIT: usize = 65_536;
+
+/// An instance, and a valid plan of it that states its own delay.
+#[derive(Debug, Drop)]
+pub struct Verified {
+    pub instance: Instance,
+    pub plan: Plan,
+    /// The plan's delay, in ticks.
+    pub delay: u64,
+}
 
 /// All bytes of a reader, which are within a limit.
 fn read_all<R: Read>(
@@ -60,52 +71,64 @@ fn read_instance<R: Read>(alloc: Global, reader: &mut R) -> Result<Instance, Fau
     instance_of_text(alloc, bytes.as_slice())
 }
 
-/// The delay of the plan that the bytes spell for the instance, where it is valid and states that delay.
-pub fn delay_of_text(alloc: Global, instance: &Instance, bytes: &[u8]) -> Result<u64, Fault>
+/// The instance with the plan that the bytes spell for it, where the plan is valid and states its own delay.
+pub fn verified_of_text(alloc: Global, instance: Instance, bytes: &[u8]) -> Result<Verified, Fault>
     requires { length bytes.now ≤ PLAN_LIMIT }
-    ensures { MatchResult result
-        (IsPlanDelay instance.now bytes.now)
-        (IsPlanFault instance.now bytes.now) }
+    ensures judged { MatchResult result
+        (IsVerifiedPlan instance bytes.now)
+        (IsPlanFault instance bytes.now) }
+    ensures valid { IfOk result (λ v. IsValid v.instance v.plan) }
 {
-    match plan_format::read(alloc, instance, bytes) {
-        Err(error) => Err(Fault::PlanText(error)),
-        Ok((plan, stated)) => match plan_check::check(instance, &plan) {
-            Err(fault) => Err(Fault::Plan(fault)),
-            Ok(delay) => {
-                if delay == u64::from(stated) {
-                    Ok(delay)
-                } else {
-                    Err(Fault::StatedDelay(delay))
-                }
-            }
-        },
-    }
-}
-
-/// Writes that a plan with this delay is valid.
-pub fn write_verdict<W: Write>(alloc: Global, delay: u64, out: &mut W) -> End
-    ensures { IsWritten delay (W.contents out.old) (W.contents out.new) result }
-{
-    let line = match format!(in alloc; "valid {delay}\n") {
-        Ok(line) => line,
-        Err(_) => return End::Refused(Fault::Memory),
+    let (plan, stated) = match plan_format::read(alloc, &instance, bytes) {
+        Ok(read) => read,
+        Err(error) => return Err(Fault::PlanText(error)),
     };
-    match write_text(out, line.as_bytes()) {
-        Ok(()) => End::Done,
-        Err(_) => End::Refused(Fault::Unwritten(Sink::Out)),
+    let delay = match plan_check::check(&instance, &plan) {
+        Ok(delay) => delay,
+        Err(fault) => return Err(Fault::Plan(fault)),
+    };
+    if delay != u64::from(stated) {
+        return Err(Fault::StatedDelay(delay));
     }
+    Ok(Verified {
+        instance,
+        plan,
+        delay,
+    })
 }
 
-/// The delay of the plan that the second reader's bytes spell for the instance that the first one's state. The
-/// instance is read and judged before the second reader is read.
-fn delay_of<I: Read, P: Read>(alloc: Global, instance: &mut I, plan: &mut P) -> Result<u64, Fault>
-    ensures { IfSome (I.remaining instance.old) (λ i. IfSome (P.remaining plan.old) (λ p. MatchResult result
+/// The instance that the first reader's bytes state, with the valid plan of it that the second one's spell. The
+/// instance is read and judged first, then the plan's text, then the plan, then its stated delay.
+pub fn verified_of_readers<I: Read, P: Read>(
+    alloc: Global,
+    instance: &mut I,
+    plan: &mut P,
+) -> Result<Verified, Fault>
+    ensures judged { IfSome (I.remaining instance.old) (λ i. IfSome (P.remaining plan.old) (λ p. MatchResult result
         (IsVerified i p)
         (IsRefused i p))) }
+    ensures valid { IfOk result (λ v. IsValid v.instance v.plan) }
 {
     let instance = read_instance(alloc, instance)?;
     let bytes = read_all(alloc, plan, PLAN_LIMIT, Source::Plan)?;
-    delay_of_text(alloc, &instance, bytes.as_slice())
+    verified_of_text(alloc, instance, bytes.as_slice())
+}
+
+/// The line of a valid plan with this delay, in ticks.
+fn valid_line(alloc: Global, delay: u64) -> Result<String, AllocError>
+    ensures { IfOk result (λ line. string_bytes line ≡ valid_line delay) }
+{
+    format!(in alloc; "valid {delay}\n")
+}
+
+/// Writes that a plan is valid.
+pub fn write_verdict<W: Write>(alloc: Global, delay: u64, out: &mut W) -> End
+    ensures { IsWritingUnlessMemory (valid_line delay) (W.contents out.old) (W.contents out.new) result }
+{
+    match valid_line(alloc, delay) {
+        Ok(line) => end_with(out, line.as_bytes()),
+        Err(_) => End::Refused(Fault::Memory),
+    }
 }
 
 /// Reads an instance and a plan, and writes `valid` with the delay, in ticks, of a plan that is valid and states
@@ -120,8 +143,8 @@ pub fn verify<I: Read, P: Read, W: Write>(
     ensures { IfSome (I.remaining instance.old) (λ i. IfSome (P.remaining plan.old) (λ p.
         IsVerdict i p (W.contents out.old) (W.contents out.new) result)) }
 {
-    match delay_of(alloc, instance, plan) {
-        Ok(delay) => write_verdict(alloc, delay, out),
+    match verified_of_readers(alloc, instance, plan) {
+        Ok(verified) => write_verdict(alloc, verified.delay, out),
         Err(fault) => End::Refused(fault),
     }
 }

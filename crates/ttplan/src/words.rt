@@ -5,11 +5,26 @@ use std::alloc::{AllocError, Global};
 use std::io;
 use std::rt::Env;
 
+/// What to do with an instance and a plan.
+#[derive(Debug, Drop)]
+pub enum Task<'a> {
+    /// Verify the plan for the instance.
+    Verify,
+    /// Write its node tables and guardian windows.
+    Tables,
+    /// Replay its cycle, in which the frames that these words name are lost.
+    Replay(Vec<&'a str>),
+}
+
 /// A command, with the files that it names.
-#[derive(Clone, Copy, Debug, PartialEq, Eq)]
+#[derive(Debug, Drop)]
 pub enum Request<'a> {
-    /// Verify the plan of one file for the instance of another.
-    Verify { instance: &'a str, plan: &'a str },
+    /// Do something with the plan of one file for the instance of another.
+    OnFiles {
+        instance: &'a str,
+        plan: &'a str,
+        task: Task<'a>,
+    },
     /// Verify an instance and a plan in one stream: no words were given.
     VerifyBundle,
 }
@@ -25,11 +40,44 @@ fn file<'a>(alloc: Global, name: &'a str, help: &'a str) -> Arg<'a> {
     Arg::new(alloc, name).required(true).help(help)
 }
 
-fn verify_command<'a>(alloc: Global) -> Result<Command<'a>, AllocError> {
-    Command::new(alloc, "verify")
-        .about("Checks a plan, and prints `valid` with its delay in ticks")
+/// A command of this name, which names an instance's file and a plan's.
+fn command_on_files<'a>(
+    alloc: Global,
+    name: &'a str,
+    about: &'a str,
+) -> Result<Command<'a>, AllocError> {
+    Command::new(alloc, name)
+        .about(about)
         .arg(file(alloc, "INSTANCE", "The cluster and its processes, in TOML"))?
         .arg(file(alloc, "PLAN", "The plan's text"))
+}
+
+fn verify_command<'a>(alloc: Global) -> Result<Command<'a>, AllocError> {
+    command_on_files(
+        alloc,
+        "verify",
+        "Checks a plan, and prints `valid` with its delay in ticks",
+    )
+}
+
+fn tables_command<'a>(alloc: Global) -> Result<Command<'a>, AllocError> {
+    command_on_files(
+        alloc,
+        "tables",
+        "Prints the node tables of a valid plan, and its guardian windows",
+    )
+}
+
+fn replay_command<'a>(alloc: Global) -> Result<Command<'a>, AllocError> {
+    let losses = Arg::new(alloc, "LOSS").num_args(0..).help(
+        "A lost frame, ROUND/SLOT/NODE from 0, or ROUND/SLOT/* for all receivers",
+    );
+    command_on_files(
+        alloc,
+        "replay",
+        "Prints what membership does in one cycle of a valid plan",
+    )?
+    .arg(losses)
 }
 
 /// The command line that is understood.
@@ -39,17 +87,45 @@ pub fn command<'a>(alloc: Global) -> Result<Command<'a>, AllocError> {
         .after_help(
             "Without words it reads an instance, a line `%%` and a plan from standard input, and verifies the plan.",
         )
-        .subcommand(verify_command(alloc)?)
+        .subcommand(verify_command(alloc)?)?
+        .subcommand(tables_command(alloc)?)?
+        .subcommand(replay_command(alloc)?)
+}
+
+/// What a subcommand of this name does, where there is one.
+fn task_of<'a>(
+    alloc: Global,
+    name: &str,
+    matches: &ArgMatches<'a>,
+) -> Result<Option<Task<'a>>, AllocError> {
+    match name {
+        "verify" => Ok(Some(Task::Verify)),
+        "tables" => Ok(Some(Task::Tables)),
+        "replay" => {
+            let losses = Vec::from_slice(alloc, matches.get_strs("LOSS").unwrap_or(&[]))?;
+            Ok(Some(Task::Replay(losses)))
+        }
+        _ => Ok(None),
+    }
 }
 
 /// The request of a subcommand's words.
-fn request_of<'a>(name: &str, matches: &ArgMatches<'a>) -> Option<Request<'a>> {
-    if name != "verify" {
-        return None;
+fn request_of<'a>(
+    alloc: Global,
+    name: &str,
+    matches: &ArgMatches<'a>,
+) -> Result<Option<Request<'a>>, AllocError> {
+    let (Some(instance), Some(plan)) = (matches.get_str("INSTANCE"), matches.get_str("PLAN")) else {
+        return Ok(None);
+    };
+    match task_of(alloc, name, matches)? {
+        Some(task) => Ok(Some(Request::OnFiles {
+            instance,
+            plan,
+            task,
+        })),
+        None => Ok(None),
     }
-    let instance = matches.get_str("INSTANCE")?;
-    let plan = matches.get_str("PLAN")?;
-    Some(Request::Verify { instance, plan })
 }
 
 /// What the words ask for, of which the first is the program's own name.
@@ -57,6 +133,9 @@ pub fn request_in<'a>(alloc: Global, words: &'a [String]) -> Result<Request<'a>,
     let matches = command(alloc)?.try_get_matches_from(words)?;
     match matches.subcommand() {
         None => Ok(Request::VerifyBundle),
-        Some((name, matches)) => Ok(request_of(name, matches).unwrap_or(Request::VerifyBundle)),
+        Some((name, matches)) => {
+            let request = request_of(alloc, name, matches)?;
+            Ok(request.unwrap_or(Request::VerifyBundle))
+        }
     }
 }

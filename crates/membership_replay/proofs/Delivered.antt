@@ -1,0 +1,77 @@
+-- Where no frame is lost, each node delivers what its table shows, and all stay members.
+use Rattle.std.proofs.Common.{◌≡◌, ◌≢◌, ℕ, zero, suc, ◌<◌, ◌≤◌, List, [], ◌∷◌, Bool, true, Contains, length, get_or, arith, refl, inl, inr, zero-add, ◌∙◌}
+use Rattle.std.specs.List.{flat_map, range_with_len}
+use Rattle.std.proofs.lemmas.Bool.Decides.{eqb_tells}
+use Rattle.std.proofs.lemmas.List.{get_or-map, length-map}
+use Rattle.std.proofs.lemmas.List.Elements.{Contains-append_left, Contains-append_right}
+use Rattle.std.proofs.lemmas.List.FromFn.{get_or-map-range_with_len, get_or-range_with_len, length-range_with_len}
+use Rattle.ttp_model.specs.Lists.{EachBelow}
+use Rattle.ttp_model.specs.declared.limits.TheConstants.{MOST_NODES}
+use Rattle.medl_tables.specs.declared.row.Entry.{Entry}
+use Rattle.medl_tables.specs.declared.row.Row.{Row}
+use Rattle.ttp_model.specs.Problem.{Problem}
+use Rattle.ttp_model.specs.Rules.{IsInstance}
+use Rattle.medl_tables.specs.Tables.{AreTables, Tables}
+use Rattle.medl_tables.proofs.TableParts.{tables-length}
+use Rattle.membership_replay.specs.declared.loss.Loss.{Loss}
+use Rattle.membership_replay.specs.declared.state.NodeState.{NodeState}
+use Rattle.membership_replay.specs.declared.trace.Event.TheVariants.{Deliver}
+use Rattle.membership_replay.specs.Machine.{has_member}
+use Rattle.membership_replay.specs.Replay.{Replay, deliveries, first_state, node_events, replay_of, row_at, slot_count, slot_of, state_at, states_before, step_at, step_events}
+use Rattle.membership_replay.specs.Undisturbed.{AllEntriesArrive, AllStayMembers, no_slot}
+use Rattle.membership_replay.proofs.Calm.{AreCalm, first_state-members, is_active-calm, states_before-calm, takes_messages-calm}
+use Rattle.membership_replay.proofs.TableSlots.{senders_inside}
+
+Contains-flat_map : {X Y : Type 0} (f : X → List Y) (xs : List X) (k : ℕ) (d : X) (y : Y) → k < length xs → Contains (f (get_or xs k d)) y → Contains (flat_map f xs) y
+Contains-flat_map f [] k d y inside there = absurd (omega arith)
+Contains-flat_map f (x ∷ xs) zero d y inside there = Contains-append_left (f x) (flat_map f xs) y there
+Contains-flat_map f (x ∷ xs) (suc k) d y inside there =
+    Contains-append_right (f x) (flat_map f xs) y (Contains-flat_map f xs k d y (omega (arith, inside)) there)
+
+Contains-flat_map-range : {Y : Type 0} (f : ℕ → List Y) (n i : ℕ) (y : Y) → i < n → Contains (f i) y → Contains (flat_map f (range_with_len 0 n)) y
+Contains-flat_map-range f n i y inside there =
+    let place : get_or (range_with_len 0 n) i 0 ≡ i = get_or-range_with_len 0 n i 0 inside ∙ zero-add i in
+    Contains-flat_map f (range_with_len 0 n) i 0 y (omega (arith, inside, length-range_with_len 0 n)) (rw place there)
+
+-- each of the messages is told as delivered
+Contains-deliveries : (i : ℕ) (messages : List Entry) (k : ℕ) (d : Entry) → k < length messages → Contains (deliveries i messages) (Deliver (get_or messages k d).message i)
+Contains-deliveries i messages k d inside =
+    let told = λ (e : Entry). Deliver e.message i in
+    (k, omega (arith, inside, length-map messages told), get_or-map told messages k d (told (get_or messages k d)) inside)
+
+node_delivers : (count : ℕ) (full : List Bool) (members : EachBelow count (λ i. has_member full i ≡ true)) (row : Row) (states : List NodeState) (calm : AreCalm count full states) → row.sender < count → (messages : List Entry) (i : ℕ) → i < count → i ≢ row.sender → (k : ℕ) (d : Entry) → k < length messages → Contains (node_events row [] messages states i) (Deliver (get_or messages k d).message i)
+unfolding node_events
+node_delivers count full members row states calm sender messages i inside other k d there = elim (eqb_tells i row.sender) [
+  | inl same ↦ absurd (other same.1)
+  | inr differ ↦ rw (is_active-calm count full members [] row (λ j. refl) states calm sender i inside, differ.0, takes_messages-calm count full members [] row (λ j. refl) states calm sender i inside) (Contains-append_right (step_events (step_at row [] states i) i row.sender (state_at states i).vector) (deliveries i messages) (Deliver (get_or messages k d).message i) (Contains-deliveries i messages k d there))
+]
+
+module _ (t : Tables) (few : length t.rows ≤ MOST_NODES) (senders : EachBelow (slot_count t) (λ k. (row_at t 0 k).sender < length t.rows)) where
+  calm_before : (slot : ℕ) → slot ≤ slot_count t → AreCalm (length t.rows) (first_state (length t.rows)).vector (states_before t [] slot)
+  calm_before slot inside = states_before-calm t [] (first_state (length t.rows)).vector (first_state-members (length t.rows) few) refl slot (λ k h. senders k (omega (arith, h, inside))) (λ k h i. refl)
+
+  pub all_stay_members : AllStayMembers (length t.rows) (replay_of t [])
+  all_stay_members = λ i inside n other.
+      let calm = (calm_before (slot_count t) (omega arith)).each i inside in
+      rw calm.vector (first_state-members (length t.rows) few n other)
+
+  pub all_entries_arrive : AllEntriesArrive t (replay_of t [])
+  unfolding slot_of
+  all_entries_arrive = λ slot i inside node other k d there.
+      let row = row_at t 0 slot in
+      let states = states_before t [] slot in
+      let calm = calm_before slot (omega (arith, inside)) in
+      let full = (first_state (length t.rows)).vector in
+      let told = λ (j : ℕ). node_events row [] (row_at t j slot).messages states j in
+      let here = node_delivers (length t.rows) full (first_state-members (length t.rows) few) row states calm (senders slot inside) (row_at t i slot).messages i node other k d there in
+      rw (get_or-map-range_with_len (slot_of t []) 0 (slot_count t) slot slot no_slot inside (omega arith)) (Contains-flat_map-range told (length states) i (Deliver (get_or (row_at t i slot).messages k d).message i) (omega (arith, node, calm.all)) here)
+
+module _ (i : Problem) (t : Tables) (losses : List Loss) (replay : Replay) (w : IsInstance i) (tables : AreTables i t) (is : replay ≡ replay_of t losses) (none : losses ≡ []) where
+  few_nodes : length t.rows ≤ MOST_NODES
+  few_nodes = omega (arith, tables-length i t tables, w.limits.nodes)
+
+  pub all_stay : AllStayMembers (length i.nodes) replay
+  all_stay = rw (is, none, ← tables-length i t tables) (all_stay_members t few_nodes (senders_inside i t tables w.limits.nodes_least))
+
+  pub all_arrive : AllEntriesArrive t replay
+  all_arrive = rw (is, none) (all_entries_arrive t few_nodes (senders_inside i t tables w.limits.nodes_least))

@@ -1,0 +1,8 @@
+use Rattle.tt_layout.proofs.Ranges.{append-flat_map-range_with_len_more}
+use Rattle.membership_replay.specs.Text.{member_word}
+use Rattle.membership_replay.proofs.text.push_member_words.Goals as goal
+
+pub loop-n-preserved : goal.loop-n-preserved
+loop-n-preserved c =
+    let more = append-flat_map-range_with_len_more c.args.text.now.items (member_word c.args.instance.now c.args.vector.now) c.loop-n.n in
+    rw (c.in_ok-push_member_word.ensures, c.loop-n.invariant) more

@@ -1,0 +1,22 @@
+//! What membership does in one cycle when frames are lost.
+#![tactic(auto)]
+
+mod cycle;
+mod events;
+mod fault;
+mod loss;
+mod losses;
+mod node;
+mod state;
+mod text;
+mod trace;
+
+pub use cycle::replay;
+pub use fault::ReplayFault;
+pub use loss::Loss;
+pub use state::{NodeState, Phase, Step};
+pub use text::print;
+pub use trace::{Event, Events, Slot, Trace};
+
+#[cfg(test)]
+mod tests;
