@@ -5,3 +5,4 @@ pub mod LossSpelling
 pub mod LossPlaces
 pub mod LossLists
 pub mod Traced
+pub mod Certificates

@@ -4,7 +4,7 @@ use Rattle.std.proofs.lemmas.List.{get_or_append_left, take-append-le, drop-appe
 use Rattle.ttplan.specs.declared.input.Taken.{Taken}
 use Rattle.ttplan.specs.declared.input.Stop.TheVariants.{AtEnd}
 use Rattle.ttplan.specs.declared.ending.Fault.{Fault}
-use Rattle.ttplan.specs.declared.ending.Fault.TheVariants.{NoMark, LossForm, Instance, Memory, PlanText, Plan, StatedDelay, TooFewNodes, WrongLoss, Unread, Unwritten}
+use Rattle.ttplan.specs.declared.ending.Fault.TheVariants.{NoMark, LossForm, Instance, Memory, PlanText, Plan, StatedDelay, CertificateText, Certificate, TooFewNodes, WrongLoss, Unread, Unwritten}
 use Rattle.ttplan.specs.declared.ending.Source.TheVariants as source
 use Rattle.ttp_model.specs.Problem.{Problem}
 use Rattle.ttplan.specs.Streams.{IsTaken}
@@ -62,10 +62,13 @@ module _ (limit : ℕ) (taken : Taken) (all : List ℕ) (at : ℕ) (is_taken : I
   refused_front NoMark refused = absurd refused
   refused_front (LossForm k) refused = absurd refused
   refused_front TooFewNodes refused = absurd refused
+  refused_front (CertificateText error) refused = absurd refused
+  refused_front (Certificate fault) refused = absurd refused
   refused_front (WrongLoss k) refused = absurd refused
   refused_front Memory refused = tt
   refused_front (Unread source.Instance) refused = tt
   refused_front (Unread source.Plan) refused = absurd refused
+  refused_front (Unread source.Certificate) refused = absurd refused
   refused_front (Unwritten sink) refused = absurd refused
   refused_front (PlanText error) refused = absurd refused
   refused_front (Plan fault) refused = absurd refused
@@ -113,10 +116,13 @@ module _ (limit : ℕ) (taken : Taken) (all : List ℕ) (at : ℕ) (is_taken : I
     refused_all NoMark refused = absurd refused
     refused_all (LossForm k) refused = absurd refused
     refused_all TooFewNodes refused = absurd refused
+    refused_all (CertificateText error) refused = absurd refused
+    refused_all (Certificate fault) refused = absurd refused
     refused_all (WrongLoss k) refused = absurd refused
     refused_all Memory refused = tt
     refused_all (Unread source.Instance) refused = absurd refused
     refused_all (Unread source.Plan) refused = absurd refused
+    refused_all (Unread source.Certificate) refused = absurd refused
     refused_all (Unwritten sink) refused = absurd refused
     refused_all (Instance error) refused = absurd refused
     refused_all (PlanText error) refused = record {

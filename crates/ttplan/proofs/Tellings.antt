@@ -6,7 +6,7 @@ use Rattle.ttp_model.specs.Delays.{delay}
 use Rattle.ttplan.specs.declared.verify.Verified.{Verified}
 use Rattle.ttplan.specs.declared.ending.Sink.TheVariants.{Out}
 use Rattle.ttplan.specs.declared.ending.Fault.{Fault}
-use Rattle.ttplan.specs.declared.ending.Fault.TheVariants.{NoMark, LossForm, Instance, Memory, PlanText, Plan, StatedDelay, TooFewNodes, WrongLoss, Unread, Unwritten}
+use Rattle.ttplan.specs.declared.ending.Fault.TheVariants.{NoMark, LossForm, Instance, Memory, PlanText, Plan, StatedDelay, CertificateText, Certificate, TooFewNodes, WrongLoss, Unread, Unwritten}
 use Rattle.ttplan.specs.declared.ending.End.{End}
 use Rattle.ttplan.specs.declared.ending.End.TheVariants.{Done, Absent, Stopped, Refused}
 use Rattle.ttplan.specs.Outcomes.{IsOutcome, IsTold, IsWriting, IsWritingUnlessMemory, OnDone}
@@ -26,6 +26,8 @@ module _ (IsText : List ℕ → Type 0) (IsRefusedBy : Fault → Type 0) (text :
   written_outcome (Refused (Plan fault)) gains = absurd gains
   written_outcome (Refused (StatedDelay d)) gains = absurd gains
   written_outcome (Refused TooFewNodes) gains = absurd gains
+  written_outcome (Refused (CertificateText error)) gains = absurd gains
+  written_outcome (Refused (Certificate fault)) gains = absurd gains
   written_outcome (Refused (WrongLoss k)) gains = absurd gains
   written_outcome (Refused (Unread source)) gains = absurd gains
 
@@ -43,6 +45,8 @@ module _ (IsText : List ℕ → Type 0) (IsRefusedBy : Fault → Type 0) (text :
     made_outcome (Refused (Plan fault)) gains = absurd gains
     made_outcome (Refused (StatedDelay d)) gains = absurd gains
     made_outcome (Refused TooFewNodes) gains = absurd gains
+    made_outcome (Refused (CertificateText error)) gains = absurd gains
+    made_outcome (Refused (Certificate fault)) gains = absurd gains
     made_outcome (Refused (WrongLoss k)) gains = absurd gains
     made_outcome (Refused (Unread source)) gains = absurd gains
 
@@ -60,6 +64,8 @@ module _ (instance plan : List ℕ) (i : Problem) (has_instance : HasInstance in
   refused_with (LossForm k) refused = absurd refused
   refused_with Memory refused = tt
   refused_with TooFewNodes refused = absurd refused
+  refused_with (CertificateText error) refused = absurd refused
+  refused_with (Certificate fault) refused = absurd refused
   refused_with (WrongLoss k) refused = absurd refused
   refused_with (Unread source) refused = absurd refused
   refused_with (Unwritten sink) refused = absurd refused

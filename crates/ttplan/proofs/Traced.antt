@@ -13,7 +13,7 @@ use Rattle.ttplan.specs.declared.losses.LossWord.{LossWord}
 use Rattle.ttplan.specs.declared.verify.Verified.{Verified}
 use Rattle.ttplan.specs.declared.ending.Source.TheVariants as source
 use Rattle.ttplan.specs.declared.ending.Fault.{Fault}
-use Rattle.ttplan.specs.declared.ending.Fault.TheVariants.{NoMark, LossForm, Instance, Memory, PlanText, Plan, StatedDelay, TooFewNodes, WrongLoss, Unread, Unwritten}
+use Rattle.ttplan.specs.declared.ending.Fault.TheVariants.{NoMark, LossForm, Instance, Memory, PlanText, Plan, StatedDelay, CertificateText, Certificate, TooFewNodes, WrongLoss, Unread, Unwritten}
 use Rattle.ttplan.specs.declared.ending.End.TheVariants.{Refused}
 use Rattle.ttplan.specs.LossWords.{AllSpell, AreLossWords, HasNodes, IsWordOfLoss, losses_of_words}
 use Rattle.ttplan.specs.Traces.{IsReplayAnswer, IsTraceFault}
@@ -34,7 +34,7 @@ module _ (i : Problem) (plan : Table) (t : Tables) (w : IsInstance i) (tables : 
   wrong_word of words losses loss k are wrong from =
       (omega (arith, tables-length i t tables, wrong.0), rw (← of) (first_wrong_word t words losses are loss k wrong.1 from))
 
-keeps : (old : Option (List ℕ)) → Keeps old old
+pub keeps : (old : Option (List ℕ)) → Keeps old old
 keeps None = tt
 keeps (Some bytes) = refl
 
@@ -43,11 +43,14 @@ module _ (words : List (List ℕ)) (instance plan : List ℕ) (old : Option (Lis
   as_verdict NoMark are refused = absurd refused
   as_verdict (LossForm k) are refused = absurd refused
   as_verdict TooFewNodes are refused = absurd refused
+  as_verdict (CertificateText error) are refused = absurd refused
+  as_verdict (Certificate fault) are refused = absurd refused
   as_verdict (WrongLoss k) are refused = absurd refused
   as_verdict (Unwritten sink) are refused = absurd refused
   as_verdict Memory are refused = (tt, keeps old)
   as_verdict (Unread source.Instance) are refused = ((are, refused), keeps old)
   as_verdict (Unread source.Plan) are refused = ((are, refused), keeps old)
+  as_verdict (Unread source.Certificate) are refused = absurd refused
   as_verdict (Instance error) are refused = ((are, refused), keeps old)
   as_verdict (PlanText error) are refused = ((are, refused), keeps old)
   as_verdict (Plan fault) are refused = ((are, refused), keeps old)
@@ -62,6 +65,8 @@ module _ (words : List (List ℕ)) (instance plan : List ℕ) (old : Option (Lis
   as_trace losses v (PlanText error) all is refused = absurd refused
   as_trace losses v (Plan fault) all is refused = absurd refused
   as_trace losses v (StatedDelay d) all is refused = absurd refused
+  as_trace losses v (CertificateText error) all is refused = absurd refused
+  as_trace losses v (Certificate fault) all is refused = absurd refused
   as_trace losses v Memory all is refused = (tt, keeps old)
   as_trace losses v TooFewNodes all is refused =
       (record { losses = losses; spelled = all; verified = v; is = is; refused = refused }, keeps old)

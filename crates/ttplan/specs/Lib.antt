@@ -7,3 +7,4 @@ pub mod LossWords
 pub mod Traces
 pub mod Outcomes
 pub mod Verdicts
+pub mod Certified

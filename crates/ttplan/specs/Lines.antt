@@ -20,12 +20,20 @@ use Rattle.plan_format.specs.declared.fault.LineFault.{LineFault}
 use Rattle.plan_format.specs.declared.fault.LineFault.TheVariants as line
 use Rattle.plan_format.specs.declared.fault.PlanTextError.{PlanTextError}
 use Rattle.plan_format.specs.declared.fault.PlanTextError.TheVariants as plan_text
+use Rattle.certificate.specs.declared.fault.LineFault as certificate_lines
+use Rattle.certificate.specs.declared.fault.LineFault.TheVariants as spelt
+use Rattle.certificate.specs.declared.fault.CertTextError.{CertTextError}
+use Rattle.certificate.specs.declared.fault.CertTextError.TheVariants as certificate_text
+use Rattle.cert_check.specs.declared.fault.NodeFault.{NodeFault}
+use Rattle.cert_check.specs.declared.fault.NodeFault.TheVariants.{ChildCount, NotOpen, LowGoal, RefusedStep, NotClosed}
+use Rattle.cert_check.specs.declared.fault.CertFault.{CertFault}
+use Rattle.cert_check.specs.declared.fault.CertFault.TheVariants as certificate
 use Rattle.ttplan.specs.declared.ending.Source.{Source}
 use Rattle.ttplan.specs.declared.ending.Source.TheVariants as source
 use Rattle.ttplan.specs.declared.ending.Sink.{Sink}
 use Rattle.ttplan.specs.declared.ending.Sink.TheVariants as sink
 use Rattle.ttplan.specs.declared.ending.Fault.{Fault}
-use Rattle.ttplan.specs.declared.ending.Fault.TheVariants.{NoMark, LossForm, Instance, Memory, PlanText, Plan, StatedDelay, TooFewNodes, WrongLoss, Unread, Unwritten}
+use Rattle.ttplan.specs.declared.ending.Fault.TheVariants.{NoMark, LossForm, Instance, Memory, PlanText, Plan, StatedDelay, CertificateText, Certificate, TooFewNodes, WrongLoss, Unread, Unwritten}
 use Rattle.ttplan.specs.declared.ending.End.{End}
 use Rattle.ttplan.specs.declared.ending.End.TheVariants.{Done, Absent, Stopped, Refused}
 
@@ -120,10 +128,39 @@ plan_line (broken.NotReady m) = codes "plan V8 " ++ decimal m
 plan_line (broken.NotArrived m q) = (codes "plan V9 " ++ decimal m) ++ (codes " " ++ decimal q)
 plan_line (broken.Overfull n r) = (codes "plan V10 " ++ decimal n) ++ (codes " " ++ decimal r)
 
+-- the code of what is wrong with a line of a certificate's text
+abbrev pub certificate_line_code : certificate_lines.LineFault → List ℕ
+certificate_line_code spelt.FirstLine = codes "G1"
+certificate_line_code spelt.Form = codes "G2"
+certificate_line_code spelt.Number = codes "G3"
+certificate_line_code spelt.Depth = codes "G4"
+certificate_line_code spelt.EarlyEnd = codes "G5"
+certificate_line_code spelt.Trailing = codes "G6"
+
+-- the line of a text that spells no certificate, with the number of its line from 1
+abbrev pub certificate_text_line : CertTextError → List ℕ
+certificate_text_line (certificate_text.At line fault) = (codes "certificate " ++ certificate_line_code fault) ++ (codes " " ++ decimal line)
+certificate_text_line certificate_text.OutOfMemory = codes "memory"
+
+-- the code of what is wrong with a node of a certificate
+abbrev pub node_code : NodeFault → List ℕ
+node_code ChildCount = codes "C1"
+node_code NotOpen = codes "C2"
+node_code LowGoal = codes "C3"
+node_code RefusedStep = codes "C4"
+node_code NotClosed = codes "C5"
+
+-- the line of a certificate that does not prove its bound, which stands on line 2 of its text
+abbrev pub certificate_line : CertFault → List ℕ
+certificate_line certificate.LowTooGreat = codes "certificate C6 2"
+certificate_line (certificate.At line fault) = (codes "certificate " ++ node_code fault) ++ (codes " " ++ decimal line)
+certificate_line certificate.OutOfMemory = codes "memory"
+
 -- the word for what could not be read
 abbrev pub source_word : Source → List ℕ
 source_word source.Instance = codes "instance"
 source_word source.Plan = codes "plan"
+source_word source.Certificate = codes "certificate"
 
 -- the word for what could not be written
 abbrev pub sink_word : Sink → List ℕ
@@ -138,6 +175,8 @@ fault_line Memory = codes "memory"
 fault_line (PlanText error) = plan_text_line error
 fault_line (Plan fault) = plan_line fault
 fault_line (StatedDelay delay) = codes "plan D1 " ++ decimal delay
+fault_line (CertificateText error) = certificate_text_line error
+fault_line (Certificate fault) = certificate_line fault
 fault_line TooFewNodes = codes "replay N1"
 fault_line (WrongLoss k) = codes "replay N2 " ++ decimal k
 fault_line (Unread source) = codes "read " ++ source_word source

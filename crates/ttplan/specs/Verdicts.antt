@@ -15,7 +15,7 @@ use Rattle.ttplan.specs.declared.verify.Verified.{Verified}
 use Rattle.ttplan.specs.declared.ending.Source.{Source}
 use Rattle.ttplan.specs.declared.ending.Source.TheVariants as source
 use Rattle.ttplan.specs.declared.ending.Fault.{Fault}
-use Rattle.ttplan.specs.declared.ending.Fault.TheVariants.{NoMark, LossForm, Instance, Memory, PlanText, Plan, StatedDelay, TooFewNodes, WrongLoss, Unread, Unwritten}
+use Rattle.ttplan.specs.declared.ending.Fault.TheVariants.{NoMark, LossForm, Instance, Memory, PlanText, Plan, StatedDelay, CertificateText, Certificate, TooFewNodes, WrongLoss, Unread, Unwritten}
 use Rattle.ttplan.specs.declared.ending.End.{End}
 use Rattle.ttplan.specs.Outcomes.{IsOutcome, IsTold, OnDone}
 
@@ -101,6 +101,9 @@ IsRefused instance plan (Instance error) = IsInstanceFault instance (Instance er
 IsRefused instance plan Memory = Unit {0}
 IsRefused instance plan (Unread source.Instance) = Unit {0}
 IsRefused instance plan (Unread source.Plan) = StatesSome instance
+IsRefused instance plan (Unread source.Certificate) = ⊥
+IsRefused instance plan (CertificateText error) = ⊥
+IsRefused instance plan (Certificate fault) = ⊥
 IsRefused instance plan TooFewNodes = ⊥
 IsRefused instance plan (WrongLoss k) = ⊥
 IsRefused instance plan (Unwritten sink) = ⊥

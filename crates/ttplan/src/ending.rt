@@ -4,6 +4,8 @@ ghost use Rattle.std.specs.Prelude.{◌≡◌};
 ghost use Rattle.ttplan.specs.Endings.{fault_status, status_of};
 ghost use Rattle.ttplan.specs.declared.ending.Fault.TheVariants.{Memory};
 
+use cert_check::CertFault;
+use certificate::CertTextError;
 use instance_text::TextError;
 use plan_format::PlanTextError;
 use std::alloc::{AllocError, AllocFailed};
@@ -14,6 +16,7 @@ use ttp_model::{MemoryFault, ModelError, PlanFault};
 pub enum Source {
     Instance,
     Plan,
+    Certificate,
 }
 
 /// Where it writes to.
@@ -39,6 +42,10 @@ pub enum Fault {
     Plan(PlanFault),
     /// When the plan is valid, and its delay, in ticks, is this and not the stated one.
     StatedDelay(u64),
+    /// When the certificate's text spells none.
+    CertificateText(CertTextError),
+    /// When the certificate does not prove its bound.
+    Certificate(CertFault),
     /// When there are fewer nodes than a replay needs: three.
     TooFewNodes,
     /// When the loss word of this index stands for a loss that is outside the cycle, or at a node that isn't
@@ -101,6 +108,10 @@ fn status_of_fault(fault: &Fault) -> u8
         Fault::PlanText(PlanTextError::At { .. }) => 5,
         Fault::Plan(_) => 5,
         Fault::StatedDelay(_) => 5,
+        Fault::CertificateText(CertTextError::OutOfMemory) => 4,
+        Fault::CertificateText(CertTextError::At { .. }) => 5,
+        Fault::Certificate(CertFault::OutOfMemory) => 4,
+        Fault::Certificate(_) => 5,
         Fault::TooFewNodes => 5,
         Fault::WrongLoss(_) => 5,
         Fault::Unread(_) => 6,

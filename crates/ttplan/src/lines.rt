@@ -3,9 +3,11 @@
 ghost use Rattle.std.specs.Prelude.{◌≡◌, Some, OnOk};
 ghost use Rattle.std.specs.List.{flat_map};
 ghost use Rattle.std.specs.Io.KnownBytes.{Appends};
-ghost use Rattle.ttplan.specs.Lines.{spaced, report_of, list_number, part_word, place_words, table_words, line_code, model_line, text_line, plan_text_line, plan_line, source_word, sink_word, fault_line};
+ghost use Rattle.ttplan.specs.Lines.{spaced, report_of, list_number, part_word, place_words, table_words, line_code, certificate_line_code, certificate_text_line, node_code, certificate_line, model_line, text_line, plan_text_line, plan_line, source_word, sink_word, fault_line};
 
 use crate::ending::{End, Fault, Sink, Source};
+use cert_check::{CertFault, NodeFault};
+use certificate::CertTextError;
 use instance_text::TextError;
 use plan_format::{LineFault, PlanTextError};
 use std::io::Write;
@@ -200,6 +202,72 @@ impl fmt::Display for PlanLine {
 }
 
 #[derive(Drop)]
+struct CertificateLineCode(certificate::LineFault);
+
+impl fmt::Display for CertificateLineCode {
+    ghost output = { λ x. Some (certificate_line_code x.0) };
+
+    fn fmt<W: fmt::Write>(&self, f: &mut fmt::Formatter<W>) -> fmt::Result {
+        match self.0 {
+            certificate::LineFault::FirstLine => write!(f, "G1"),
+            certificate::LineFault::Form => write!(f, "G2"),
+            certificate::LineFault::Number => write!(f, "G3"),
+            certificate::LineFault::Depth => write!(f, "G4"),
+            certificate::LineFault::EarlyEnd => write!(f, "G5"),
+            certificate::LineFault::Trailing => write!(f, "G6"),
+        }
+    }
+}
+
+#[derive(Drop)]
+struct CertificateTextLine(CertTextError);
+
+impl fmt::Display for CertificateTextLine {
+    ghost output = { λ x. Some (certificate_text_line x.0) };
+
+    fn fmt<W: fmt::Write>(&self, f: &mut fmt::Formatter<W>) -> fmt::Result {
+        match self.0 {
+            CertTextError::At { line, fault } => {
+                write!(f, "certificate {} {line}", CertificateLineCode(fault))
+            }
+            CertTextError::OutOfMemory => write!(f, "memory"),
+        }
+    }
+}
+
+#[derive(Drop)]
+struct NodeCode(NodeFault);
+
+impl fmt::Display for NodeCode {
+    ghost output = { λ x. Some (node_code x.0) };
+
+    fn fmt<W: fmt::Write>(&self, f: &mut fmt::Formatter<W>) -> fmt::Result {
+        match self.0 {
+            NodeFault::ChildCount => write!(f, "C1"),
+            NodeFault::NotOpen => write!(f, "C2"),
+            NodeFault::LowGoal => write!(f, "C3"),
+            NodeFault::RefusedStep => write!(f, "C4"),
+            NodeFault::NotClosed => write!(f, "C5"),
+        }
+    }
+}
+
+#[derive(Drop)]
+struct CertificateLine(CertFault);
+
+impl fmt::Display for CertificateLine {
+    ghost output = { λ x. Some (certificate_line x.0) };
+
+    fn fmt<W: fmt::Write>(&self, f: &mut fmt::Formatter<W>) -> fmt::Result {
+        match self.0 {
+            CertFault::LowTooGreat => write!(f, "certificate C6 2"),
+            CertFault::At { line, fault } => write!(f, "certificate {} {line}", NodeCode(fault)),
+            CertFault::OutOfMemory => write!(f, "memory"),
+        }
+    }
+}
+
+#[derive(Drop)]
 struct SourceWord(Source);
 
 impl fmt::Display for SourceWord {
@@ -209,6 +277,7 @@ impl fmt::Display for SourceWord {
         match self.0 {
             Source::Instance => write!(f, "instance"),
             Source::Plan => write!(f, "plan"),
+            Source::Certificate => write!(f, "certificate"),
         }
     }
 }
@@ -238,6 +307,8 @@ impl fmt::Display for Fault {
             Fault::PlanText(error) => write!(f, "{}", PlanTextLine(*error)),
             Fault::Plan(fault) => write!(f, "{}", PlanLine(*fault)),
             Fault::StatedDelay(delay) => write!(f, "plan D1 {delay}"),
+            Fault::CertificateText(error) => write!(f, "{}", CertificateTextLine(*error)),
+            Fault::Certificate(fault) => write!(f, "{}", CertificateLine(*fault)),
             Fault::TooFewNodes => write!(f, "replay N1"),
             Fault::WrongLoss(k) => write!(f, "replay N2 {k}"),
             Fault::Unread(source) => write!(f, "read {}", SourceWord(*source)),

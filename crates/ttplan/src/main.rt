@@ -2,6 +2,7 @@
 #![tactic(auto)]
 
 mod bundle;
+mod certified;
 mod ending;
 mod input;
 mod lines;
@@ -19,20 +20,25 @@ use std::io;
 use std::process::ExitCode;
 use words::{Request, Task};
 
-/// An instance's file and a plan's, both opened, in the order of the words.
-fn open_both(rt: &HostRuntime, instance: &str, plan: &str) -> Result<(File, File), Source> {
+/// An instance's file and a second one, both opened, in the order of the words.
+fn open_both(
+    rt: &HostRuntime,
+    instance: &str,
+    name: &str,
+    source: Source,
+) -> Result<(File, File), Source> {
     let Ok(instance) = File::open(rt, instance) else {
         return Err(Source::Instance);
     };
-    let Ok(plan) = File::open(rt, plan) else {
-        return Err(Source::Plan);
+    let Ok(second) = File::open(rt, name) else {
+        return Err(source);
     };
-    Ok((instance, plan))
+    Ok((instance, second))
 }
 
 /// Does what is asked for on two files: both are open before either is read.
 fn run_on_files(rt: &HostRuntime, instance: &str, plan: &str, task: Task) -> End {
-    let (mut instance, mut plan) = match open_both(rt, instance, plan) {
+    let (mut instance, mut plan) = match open_both(rt, instance, plan, Source::Plan) {
         Ok(files) => files,
         Err(source) => return End::Refused(Fault::Unread(source)),
     };
@@ -50,6 +56,21 @@ fn run_on_files(rt: &HostRuntime, instance: &str, plan: &str, task: Task) -> End
     }
 }
 
+/// Checks a certificate: both files are open before either is read.
+fn run_check(rt: &HostRuntime, instance: &str, certificate: &str) -> End {
+    let files = open_both(rt, instance, certificate, Source::Certificate);
+    let (mut instance, mut certificate) = match files {
+        Ok(files) => files,
+        Err(source) => return End::Refused(Fault::Unread(source)),
+    };
+    certified::check_run(
+        rt.alloc(),
+        &mut instance,
+        &mut certificate,
+        &mut rt.stdout(),
+    )
+}
+
 /// Does what is asked for.
 fn run(rt: &HostRuntime, request: Request) -> End {
     match request {
@@ -58,6 +79,10 @@ fn run(rt: &HostRuntime, request: Request) -> End {
             plan,
             task,
         } => run_on_files(rt, instance, plan, task),
+        Request::Check {
+            instance,
+            certificate,
+        } => run_check(rt, instance, certificate),
         Request::VerifyBundle => {
             bundle::verify_bundle(rt.alloc(), &mut rt.stdin(), &mut rt.stdout())
         }

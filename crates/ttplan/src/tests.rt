@@ -1,3 +1,4 @@
+mod checks;
 mod replays;
 mod table_texts;
 

@@ -1,6 +1,6 @@
 //! What `verify` says of an instance and a plan.
 
-ghost use Rattle.std.specs.Prelude.{◌≡◌, ◌≤◌, length, string_bytes, IfOk, IfErr, IfSome, MatchResult};
+ghost use Rattle.std.specs.Prelude.{◌≡◌, ◌≤◌, ◌<◌, ◌^◌, length, string_bytes, IfOk, IfErr, IfSome, MatchResult};
 ghost use Rattle.ttp_model.specs.Plans.{IsValid};
 ghost use Rattle.ttplan.specs.Verdicts.{HasInstance, IsInstanceFault, IsPlanFault, IsReadFault, IsRefused, IsVerdict, IsVerified, IsVerifiedPlan, valid_line};
 ghost use Rattle.ttplan.specs.Outcomes.{IsWritingUnlessMemory};
@@ -28,13 +28,13 @@ pub struct Verified {
 }
 
 /// All bytes of a reader, which are within a limit.
-fn read_all<R: Read>(
+pub fn read_all<R: Read>(
     alloc: Global,
     reader: &mut R,
     limit: usize,
     source: Source,
 ) -> Result<Vec<u8>, Fault>
-    requires { limit ≤ INSTANCE_LIMIT }
+    requires { limit < 2 ^ 40 }
     ensures read { IfOk result (λ read. IfSome (R.remaining reader.old) (λ bytes. read.items ≡ bytes)) }
     ensures within { IfOk result (λ read. length read.items ≤ limit) }
     ensures err { IfErr result (IsReadFault source) }
@@ -62,7 +62,7 @@ pub fn instance_of_text(alloc: Global, bytes: &[u8]) -> Result<Instance, Fault>
 }
 
 /// The instance that a reader's bytes state.
-fn read_instance<R: Read>(alloc: Global, reader: &mut R) -> Result<Instance, Fault>
+pub fn read_instance<R: Read>(alloc: Global, reader: &mut R) -> Result<Instance, Fault>
     ensures { IfSome (R.remaining reader.old) (λ bytes. MatchResult result
         (HasInstance bytes)
         (IsInstanceFault bytes)) }

@@ -25,6 +25,11 @@ pub enum Request<'a> {
         plan: &'a str,
         task: Task<'a>,
     },
+    /// Check the certificate of one file for the instance of another.
+    Check {
+        instance: &'a str,
+        certificate: &'a str,
+    },
     /// Verify an instance and a plan in one stream: no words were given.
     VerifyBundle,
 }
@@ -34,6 +39,9 @@ pub fn all(rt: &(impl Env + AllocGlobal)) -> io::Result<Vec<String>> {
     let words = std::env::args(rt)?.collect(rt.alloc())?;
     Ok(words)
 }
+
+/// What an instance's file holds.
+const INSTANCE_HELP: &str = "The cluster and its processes, in TOML";
 
 /// A file that has to be named.
 fn file<'a>(alloc: Global, name: &'a str, help: &'a str) -> Arg<'a> {
@@ -48,7 +56,7 @@ fn command_on_files<'a>(
 ) -> Result<Command<'a>, AllocError> {
     Command::new(alloc, name)
         .about(about)
-        .arg(file(alloc, "INSTANCE", "The cluster and its processes, in TOML"))?
+        .arg(file(alloc, "INSTANCE", INSTANCE_HELP))?
         .arg(file(alloc, "PLAN", "The plan's text"))
 }
 
@@ -80,6 +88,13 @@ fn replay_command<'a>(alloc: Global) -> Result<Command<'a>, AllocError> {
     .arg(losses)
 }
 
+fn check_command<'a>(alloc: Global) -> Result<Command<'a>, AllocError> {
+    Command::new(alloc, "check")
+        .about("Checks a certificate, and prints `bound` with the delay that no plan is below")
+        .arg(file(alloc, "INSTANCE", INSTANCE_HELP))?
+        .arg(file(alloc, "CERT", "The certificate's text"))
+}
+
 /// The command line that is understood.
 pub fn command<'a>(alloc: Global) -> Result<Command<'a>, AllocError> {
     Command::new(alloc, "ttplan")
@@ -88,6 +103,7 @@ pub fn command<'a>(alloc: Global) -> Result<Command<'a>, AllocError> {
             "Without words it reads an instance, a line `%%` and a plan from standard input, and verifies the plan.",
         )
         .subcommand(verify_command(alloc)?)?
+        .subcommand(check_command(alloc)?)?
         .subcommand(tables_command(alloc)?)?
         .subcommand(replay_command(alloc)?)
 }
@@ -115,7 +131,16 @@ fn request_of<'a>(
     name: &str,
     matches: &ArgMatches<'a>,
 ) -> Result<Option<Request<'a>>, AllocError> {
-    let (Some(instance), Some(plan)) = (matches.get_str("INSTANCE"), matches.get_str("PLAN")) else {
+    let Some(instance) = matches.get_str("INSTANCE") else {
+        return Ok(None);
+    };
+    if let Some(certificate) = matches.get_str("CERT") {
+        return Ok(Some(Request::Check {
+            instance,
+            certificate,
+        }));
+    }
+    let Some(plan) = matches.get_str("PLAN") else {
         return Ok(None);
     };
     match task_of(alloc, name, matches)? {
