@@ -16,7 +16,7 @@ const TWO_ORDERS: &str =
 
 /// The same for round 1 at most and for a later one.
 const TWO_RANGES: &str =
-    "ttcert 1\nlow 9\nround 0 1\nleaf 9 5\nes-release 0\nlo-send 0\nes-arrive 0 1\nle-own 1\nx-window 1\nleaf 101 5\nes-release 0\nlo-send 0\nes-arrive 0 1\nle-own 1\nx-window 1\n";
+    "ttcert 1\nlow 9\nround 0 1\nleaf 9 5\nes-release 0\nlo-send 0\nes-arrive 0 1\nle-own 1\nx-window 1\nleaf 9 5\nes-release 0\nlo-send 0\nes-arrive 0 1\nle-own 1\nx-window 1\n";
 
 /// A name.
 fn name(alloc: Global, text: &str) -> Result<Name, Fail> {

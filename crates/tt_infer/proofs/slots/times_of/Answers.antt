@@ -8,12 +8,12 @@ returns-clause-short c =
     let least = round_least_short _ _ instance c.requires.of in
     let most = round_most_short _ _ instance c.requires.of in
     record {
-      some_least = omega (arith, least.0, c.start_least.ensures.value, c.start_least-offset_least.ensures.value);
-      some_most = omega (arith, most.0, c.start_most.ensures.value, c.start_most-offset_most.ensures.value);
-      round_least = omega (arith, least.1, c.start_least.ensures.value, c.start_least-offset_least.ensures.value);
-      round_most = omega (arith, most.1, c.start_most.ensures.value, c.start_most-offset_most.ensures.value);
-      offset_least = c.start_least-offset_least.ensures.bound;
-      offset_most = c.start_most-offset_most.ensures.bound;
-      dur_least = c.dur_least.ensures.bound;
-      cap_most = c.cap_most.ensures.small;
+      some_least = omega (arith, least.0);
+      some_most = omega (arith, most.0);
+      round_least = omega (arith, least.1);
+      round_most = omega (arith, most.1);
+      offset_least = omega arith;
+      offset_most = omega arith;
+      dur_least = omega arith;
+      cap_most = omega arith;
     }
