@@ -126,3 +126,167 @@ fn failing_streams_are_told_and_leave_a_prefix_of_the_bound(rt: HostRuntime) -> 
     }
     Ok(())
 }
+
+/// Processes p and r on A, q on B; a link from p to r, and a message from p to q.
+const LINKED: &str =
+    "[[node]]\nname = \"A\"\ncapacities = [2]\n[[node]]\nname = \"B\"\ncapacities = [0]\n[[process]]\nname = \"p\"\nnode = \"A\"\nwcet = 3\n[[process]]\nname = \"r\"\nnode = \"A\"\nwcet = 2\n[[process]]\nname = \"q\"\nnode = \"B\"\nwcet = 2\n[[link]]\nfrom = \"p\"\nto = \"r\"\n[[message]]\nname = \"m\"\nfrom = \"p\"\nto = [\"q\"]\nbytes = 2\n";
+
+/// A leaf at goal 0 that is closed behind these lines, so many of them.
+fn closed_behind(alloc: Global, count: &str, lines: &str) -> Result<String, Fail> {
+    let mut text = String::from_str(alloc, "ttcert 1\nlow 0\nleaf 0 ")?;
+    text.push_str(count)?;
+    text.push_str("\n")?;
+    text.push_str(lines)?;
+    text.push_str("le-own 0\nx-window 0\n")?;
+    Ok(text)
+}
+
+/// A leaf at goal 0 with these lines alone, so many of them.
+fn leaf_of(alloc: Global, count: &str, lines: &str) -> Result<String, Fail> {
+    let mut text = String::from_str(alloc, "ttcert 1\nlow 0\nleaf 0 ")?;
+    text.push_str(count)?;
+    text.push_str("\n")?;
+    text.push_str(lines)?;
+    Ok(text)
+}
+
+#[test]
+fn each_step_is_taken_where_it_is_lawful(rt: HostRuntime) -> Result<(), Fail> {
+    let alloc = rt.alloc();
+    let instance = joined(alloc, CLUSTER, LINKED)?;
+    let instance = instance.as_str();
+    let single = [
+        "es-release 1\n",
+        "es-link 0\n",
+        "es-arrive 0 2\n",
+        "es-message 0 2\n",
+        "lo-send 0\n",
+        "le-own 2\n",
+        "le-link 0\n",
+        "le-message 0 2\n",
+        "le-send 0\n",
+        "hi-arrive 0 2\n",
+    ];
+    for line in single {
+        let text = closed_behind(alloc, "3", line)?;
+        assert!(rt;
+            told_of_check(alloc, instance, text.as_str()).is("bound 0\n", "", 0),
+            "{line}"
+        );
+    }
+    let pairs = closed_behind(
+        alloc,
+        "6",
+        "le-own 0\nord-window 0 1\nes-before 0 1\nle-before 0 1\n",
+    )?;
+    assert!(rt; told_of_check(alloc, instance, pairs.as_str()).is("bound 0\n", "", 0));
+    let closers = [
+        "3\nle-own 2\nhi-arrive 0 2\nx-round 0\n",
+        "3\nle-own 2\nhi-arrive 0 2\nx-frames 0 0 0\n",
+        "3\nle-own 0\nle-own 1\nx-load 0 0 0\n",
+        "3\nle-own 1\nord-window 1 0\nx-cycle 0 1\n",
+    ];
+    for lines in closers {
+        let text = joined(alloc, "ttcert 1\nlow 0\nleaf 0 ", lines)?;
+        assert!(rt;
+            told_of_check(alloc, instance, text.as_str()).is("bound 0\n", "", 0),
+            "{lines}"
+        );
+    }
+    Ok(())
+}
+
+#[test]
+fn each_step_is_refused_for_each_cause(rt: HostRuntime) -> Result<(), Fail> {
+    let alloc = rt.alloc();
+    let instance = joined(alloc, CLUSTER, LINKED)?;
+    let instance = instance.as_str();
+    let absent = [
+        "es-release 3\n",
+        "es-link 1\n",
+        "es-before 0 2\n",
+        "es-arrive 0 1\n",
+        "es-message 1 2\n",
+        "lo-send 1\n",
+        "le-own 3\n",
+        "le-link 1\n",
+        "le-before 1 1\n",
+        "le-message 0 0\n",
+        "le-send 1\n",
+        "hi-arrive 0 1\n",
+        "ord-window 0 2\n",
+        "ord-twin 0 2\n",
+        "us-settled 3\n",
+        "x-window 3\n",
+        "x-round 1\n",
+        "x-cycle 0 3\n",
+        "x-load 2 0 0\n",
+        "x-frame 1\n",
+        "x-frames 2 0 0\n",
+        "x-late 1 0\n",
+        "x-silent 0 2\n",
+    ];
+    for line in absent {
+        let text = leaf_of(alloc, "1", line)?;
+        assert!(rt;
+            told_of_check(alloc, instance, text.as_str()).is("", "certificate C4 4\n", 5),
+            "{line}"
+        );
+        let after = joined(alloc, "le-own 0\nx-window 0\n", line)?;
+        let text = leaf_of(alloc, "3", after.as_str())?;
+        assert!(rt;
+            told_of_check(alloc, instance, text.as_str()).is("", "certificate C4 6\n", 5),
+            "{line}"
+        );
+    }
+    let wanting = [
+        "es-before 0 1\n",
+        "le-before 0 1\n",
+        "ord-window 0 1\n",
+        "ord-twin 0 1\n",
+        "us-settled 0\n",
+        "x-window 0\n",
+        "x-round 0\n",
+        "x-cycle 0 1\n",
+        "x-load 0 0 5\n",
+        "x-load 0 1 0\n",
+        "x-frame 0\n",
+        "x-frames 0 0 1\n",
+        "x-frames 0 1 0\n",
+        "x-late 0 0\n",
+        "x-silent 0 1\n",
+    ];
+    for line in wanting {
+        let text = leaf_of(alloc, "1", line)?;
+        assert!(rt;
+            told_of_check(alloc, instance, text.as_str()).is("", "certificate C4 4\n", 5),
+            "{line}"
+        );
+    }
+    let late = leaf_of(alloc, "3", "le-own 2\nhi-arrive 0 2\nle-send 0\n")?;
+    assert!(rt; told_of_check(alloc, instance, late.as_str()).is("", "certificate C4 6\n", 5));
+    Ok(())
+}
+
+#[test]
+fn nothing_follows_a_closer(rt: HostRuntime) -> Result<(), Fail> {
+    let alloc = rt.alloc();
+    let instance = joined(alloc, CLUSTER, LINKED)?;
+    let instance = instance.as_str();
+    let lawful = [
+        "es-release 0\n",
+        "le-own 0\n",
+        "x-window 0\n",
+        "lo-send 0\n",
+        "es-link 0\n",
+    ];
+    for line in lawful {
+        let after = joined(alloc, "le-own 0\nx-window 0\n", line)?;
+        let text = leaf_of(alloc, "3", after.as_str())?;
+        assert!(rt;
+            told_of_check(alloc, instance, text.as_str()).is("", "certificate C4 6\n", 5),
+            "{line}"
+        );
+    }
+    Ok(())
+}
