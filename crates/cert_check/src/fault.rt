@@ -1,5 +1,8 @@
 //! Why does a certificate not prove its bound?
 
+ghost use Rattle.std.specs.Prelude.{◌≡◌};
+ghost use Rattle.cert_check.specs.declared.fault.CertFault.TheVariants.{OutOfMemory};
+
 use thiserror::Error;
 use ttp_model::MemoryFault;
 
@@ -40,6 +43,8 @@ pub enum CertFault {
 }
 
 impl From<MemoryFault> for CertFault {
+    ghost from_gives = { λ _ e. e ≡ OutOfMemory };
+
     fn from(_: MemoryFault) -> Self {
         CertFault::OutOfMemory
     }

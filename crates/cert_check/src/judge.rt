@@ -35,10 +35,7 @@ fn judge_branch(
         let fault = NodeFault::NotOpen;
         return Err(CertFault::At { line, fault });
     }
-    let below = match choice.children(alloc, instance, kind) {
-        Ok(below) => below,
-        Err(_) => return Err(CertFault::OutOfMemory),
-    };
+    let below = choice.children(alloc, instance, kind)?;
     if below.len() != count as usize {
         let fault = NodeFault::ChildCount;
         return Err(CertFault::At { line, fault });
