@@ -32,10 +32,7 @@ pub fn judge_leaf(
         let fault = NodeFault::LowGoal;
         return Err(CertFault::At { line, fault });
     }
-    let mut facts = match Facts::new(alloc, instance, choice, leaf.goal) {
-        Ok(facts) => facts,
-        Err(_) => return Err(CertFault::OutOfMemory),
-    };
+    let mut facts = Facts::new(alloc, instance, choice, leaf.goal)?;
     let steps = leaf.steps.as_slice();
     for place in 0..steps.len() {
         match facts.apply(&steps[place]) {

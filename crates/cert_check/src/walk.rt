@@ -48,10 +48,7 @@ fn go_through(alloc: Global, instance: &Instance, cert: &Cert) -> Result<(), Cer
     let _processes = instance.processes();
     let nodes = cert.nodes();
     let low = cert.low();
-    let mut pending = match all_plans(alloc, instance) {
-        Ok(pending) => pending,
-        Err(_) => return Err(CertFault::OutOfMemory),
-    };
+    let mut pending = all_plans(alloc, instance)?;
     let mut line = 3u64;
     for k in 0..nodes.len() {
         let node = &nodes[k];
@@ -63,10 +60,7 @@ fn go_through(alloc: Global, instance: &Instance, cert: &Cert) -> Result<(), Cer
             Ok(below) => below,
             Err(fault) => return Err(fault),
         };
-        match push_turned(&mut pending, below) {
-            Ok(()) => {}
-            Err(_) => return Err(CertFault::OutOfMemory),
-        }
+        push_turned(&mut pending, below)?;
         line = line.saturating_add(node.lines());
     }
     Ok(())

@@ -13,7 +13,7 @@ loop-k-init c =
     let i = c.args.instance.now in
     let cert = c.args.cert.now in
     record {
-      walk = rw c.in-Ok.ensures (walk_begins i cert (preorder cert.tree) (IsChoice-root i c.processes-processes.ensures.instance) c.nodes-nodes.ensures.tree refl);
+      walk = rw c.in_ok-pending.ensures (walk_begins i cert (preorder cert.tree) (IsChoice-root i c.processes-processes.ensures.instance) c.nodes-nodes.ensures.tree refl);
       line = refl;
     }
 
@@ -28,13 +28,13 @@ unreachable-requires c =
 pub judge-requires : goal.judge-requires
 judge-requires c = walk_choice c.args.instance.now c.args.cert.now (drop c.loop-k.k (preorder c.args.cert.now.tree)) c.pop.new.self.items c.in-Some.choice (line_of (preorder c.args.cert.now.tree) c.loop-k.k) (rw c.in-Some.ensures.items at c.loop-k.invariant.walk)
 
-pub returns-in-Err-judge-clause-err : goal.returns-in-Err-judge-clause-err
-returns-in-Err-judge-clause-err c =
+pub returns-in-Err-clause-err : goal.returns-in-Err-clause-err
+returns-in-Err-clause-err c =
     let cert = c.args.cert.now in
     let nodes = preorder cert.tree in
     let inside = rw c.nodes-nodes.ensures.nodes at c.loop-k-test.true in
     let here = rw c.nodes-nodes.ensures.nodes at c.index-nodes-k.is in
-    tells_first c.args.instance.now cert nodes c.loop-k.k c.index-nodes-k.result c.pop.new.self.items c.in-Some.choice c.loop-k.line c.in-Err-judge.fault inside here (rw c.in-Some.ensures.items at c.loop-k.invariant.walk) c.loop-k.invariant.line (rw c.low-low.ensures at c.in-Err-judge.ensures.err)
+    tells_first c.args.instance.now cert nodes c.loop-k.k c.index-nodes-k.result c.pop.new.self.items c.in-Some.choice c.loop-k.line c.in-Err.fault inside here (rw c.in-Some.ensures.items at c.loop-k.invariant.walk) c.loop-k.invariant.line (rw c.low-low.ensures at c.in-Err.ensures.err)
 
 pub loop-k-preserved : goal.loop-k-preserved
 loop-k-preserved c =
@@ -43,7 +43,7 @@ loop-k-preserved c =
     let inside = rw c.nodes-nodes.ensures.nodes at c.loop-k-test.true in
     let here = rw c.nodes-nodes.ensures.nodes at c.index-nodes-k.is in
     record {
-      walk = walk_on c.args.instance.now cert nodes c.loop-k.k c.index-nodes-k.result c.pop.new.self.items c.push_turned.new.pending.items c.in-Some.choice inside here (rw c.in-Some.ensures.items at c.loop-k.invariant.walk) (rw c.low-low.ensures at c.in-Ok-judge.ensures.suits) (rw c.in-Ok-judge.ensures.below at c.in-Ok-push_turned.ensures);
+      walk = walk_on c.args.instance.now cert nodes c.loop-k.k c.index-nodes-k.result c.pop.new.self.items c.push_turned.new.pending.items c.in-Some.choice inside here (rw c.in-Some.ensures.items at c.loop-k.invariant.walk) (rw c.low-low.ensures at c.in-Ok.ensures.suits) (rw c.in-Ok.ensures.below at c.in_ok-push_turned.ensures);
       line = rw (line_more nodes c.loop-k.k c.index-nodes-k.result inside here) (c.saturating_add-line.ensures ∙ rw c.lines.ensures (told_on c.loop-k.line (line_of nodes c.loop-k.k) (node_lines c.index-nodes-k.result) c.loop-k.invariant.line));
     }
 
