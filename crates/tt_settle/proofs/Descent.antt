@@ -1,0 +1,35 @@
+-- Pairs can't fall for ever when the first component is compared first.
+use Rattle.std.proofs.Common.{◌≡◌, ℕ, zero, suc, ◌+◌, ◌<◌, arith, inl, inr, refl, subst}
+use Rattle.ttp_model.specs.declared.plan.Plan.{Plan}
+use Rattle.ttp_model.specs.Problem.{Problem}
+use Rattle.ttp_model.specs.Moves.{IsLighter, weight}
+
+module _ (A : Type 0) (of : A → ℕ × ℕ) (P : A → Type 0) (step : (x : A) → ((y : A) → IsLighter (of y) (of x) → P y) → P x) where
+  inner : (n : ℕ) → ((y : A) → (of y).0 < n → P y) → (m : ℕ) (x : A) → (of x).0 < suc n → (of x).1 < m → P x
+  inner n before zero x h k = absurd (omega (arith, k))
+  inner n before (suc m) x h k = step x (λ y lighter. elim lighter [
+    | inl less ↦ before y (omega (arith, h, less))
+    | inr level ↦ inner n before m y (omega (arith, h, level.0)) (omega (arith, k, level.1))
+  ])
+
+  outer : (n : ℕ) (x : A) → (of x).0 < n → P x
+  outer zero x h = absurd (omega (arith, h))
+  outer (suc n) x h = inner n (outer n) (suc (of x).1) x h (omega arith)
+
+  -- what follows for each from all that are lighter holds of all
+  pub by_pairs : (x : A) → P x
+  by_pairs x = outer (suc (of x).0) x (omega arith)
+
+pub by_weight : (i : Problem) (P : Plan → Type 0) → ((plan : Plan) → ((lighter : Plan) → IsLighter (weight i lighter) (weight i plan) → P lighter) → P plan) → (plan : Plan) → P plan
+by_weight i P step plan = by_pairs Plan (weight i) P step plan
+
+StartsNoFall : Problem → Plan → Type 0
+StartsNoFall i plan = (plans : ℕ → Plan) → plans 0 ≡ plan → ¬ ((k : ℕ) → IsLighter (weight i (plans (k + 1))) (weight i (plans k)))
+
+-- no sequence of plans grows lighter for ever
+pub weights_end_lem : (i : Problem) (plans : ℕ → Plan) → ¬ ((k : ℕ) → IsLighter (weight i (plans (k + 1))) (weight i (plans k)))
+unfolding StartsNoFall
+weights_end_lem i plans = by_weight i (StartsNoFall i) step (plans 0) plans refl
+  where
+    step : (plan : Plan) → ((lighter : Plan) → IsLighter (weight i lighter) (weight i plan) → StartsNoFall i lighter) → StartsNoFall i plan
+    step plan rest others first falls = rest (others 1) (subst (λ p. IsLighter (weight i (others 1)) (weight i p)) first (falls 0)) (λ k. others (k + 1)) refl (λ k. falls (k + 1))

@@ -1,0 +1,12 @@
+pub mod Decide
+pub mod Validity
+pub mod Alike
+pub mod Descent
+pub mod NextMoves
+pub mod Delays
+pub mod TwoPlaces
+pub mod Positions
+pub mod Lighter
+pub mod Reached
+pub mod Agreeing
+pub mod OneNumber

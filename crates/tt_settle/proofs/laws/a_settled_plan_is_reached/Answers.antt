@@ -1,0 +1,5 @@
+use Rattle.tt_settle.proofs.Reached.{settled_reached}
+use Rattle.tt_settle.proofs.laws.a_settled_plan_is_reached.Goals as goal
+
+pub returns : goal.returns
+returns c = settled_reached

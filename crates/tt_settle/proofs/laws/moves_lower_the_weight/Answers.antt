@@ -1,0 +1,5 @@
+use Rattle.tt_settle.proofs.Lighter.{lowers_weight}
+use Rattle.tt_settle.proofs.laws.moves_lower_the_weight.Goals as goal
+
+pub returns : goal.returns
+returns c = lowers_weight
