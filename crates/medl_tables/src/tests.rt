@@ -4,99 +4,27 @@ use super::*;
 use plan_check::check;
 use std::alloc::Global;
 use std::test::Fail;
-use ttp_model::{Cluster, Instance, Message, Name, Node, Numbers, Plan, Process};
-
-/// A horizon of 100 ticks, frames of 1 tick and 1 more for each byte, and nothing else that takes
-/// time on the bus.
-const PLAIN: Cluster = Cluster {
-    precision: 0,
-    lead: 0,
-    trail: 0,
-    head: 1,
-    per_byte: 1,
-    copy_out: 0,
-    copy_in: 0,
-    horizon: 100,
-};
-
-fn name(alloc: Global, text: &str) -> Result<Name, Fail> {
-    Ok(Name::new(String::from_str(alloc, text)?))
-}
-
-fn numbers(alloc: Global, numbers: &[u32]) -> Result<Numbers, Fail> {
-    Ok(Numbers::new(Vec::from_slice(alloc, numbers)?))
-}
-
-fn node(alloc: Global, text: &str, capacity: u32) -> Result<Node, Fail> {
-    Ok(Node {
-        name: name(alloc, text)?,
-        capacities: numbers(alloc, &[capacity])?,
-    })
-}
-
-fn process(alloc: Global, text: &str, node: u32, wcet: u32) -> Result<Process, Fail> {
-    Ok(Process {
-        name: name(alloc, text)?,
-        node,
-        wcet,
-        release: 0,
-        deadline: 100,
-    })
-}
-
-/// A message from process 0.
-fn message(alloc: Global, text: &str, receiver: u32, bytes: u32) -> Result<Message, Fail> {
-    Ok(Message {
-        name: name(alloc, text)?,
-        sender: 0,
-        receivers: numbers(alloc, &[receiver])?,
-        bytes,
-    })
-}
-
-fn plan(
-    alloc: Global,
-    order: &[u32],
-    caps: &[u32],
-    starts: &[u32],
-    rounds: &[u32],
-) -> Result<Plan, Fail> {
-    Ok(Plan {
-        order: numbers(alloc, order)?,
-        caps: numbers(alloc, caps)?,
-        starts: numbers(alloc, starts)?,
-        rounds: numbers(alloc, rounds)?,
-    })
-}
-
-/// Process p of 3 ticks on node A sends 2 bytes to process q of 2 ticks on node B.
-fn one_message(alloc: Global) -> Result<Instance, Fail> {
-    let nodes = vec![in alloc; node(alloc, "A", 2)?, node(alloc, "B", 0)?]?;
-    let processes = vec![in alloc; process(alloc, "p", 0, 3)?, process(alloc, "q", 1, 2)?]?;
-    let messages = vec![in alloc; message(alloc, "m", 1, 2)?]?;
-    Ok(Instance::build(alloc, PLAIN, nodes, processes, Vec::new(alloc), messages)?)
-}
+use ttp_model::{Instance, ModelError};
+use worked_instances::{Draft, PLAIN, one_message, plan};
 
 /// Process p on node A sends 2 bytes to process q on node B and 3 bytes to process s on node C.
-fn two_receivers(alloc: Global) -> Result<Instance, Fail> {
-    let nodes = vec![in alloc;
-        node(alloc, "A", 5)?,
-        node(alloc, "B", 0)?,
-        node(alloc, "C", 0)?,
-    ]?;
-    let processes = vec![in alloc;
-        process(alloc, "p", 0, 1)?,
-        process(alloc, "q", 1, 1)?,
-        process(alloc, "s", 2, 1)?,
-    ]?;
-    let messages = vec![in alloc; message(alloc, "m", 1, 2)?, message(alloc, "n", 2, 3)?]?;
-    Ok(Instance::build(alloc, PLAIN, nodes, processes, Vec::new(alloc), messages)?)
+fn two_receivers(alloc: Global) -> Result<Instance, ModelError> {
+    Draft::of(alloc, PLAIN)
+        .node("A", &[5])?
+        .node("B", &[0])?
+        .node("C", &[0])?
+        .process("p", 0, 1)?
+        .process("q", 1, 1)?
+        .process("s", 2, 1)?
+        .message("m", 0, 1, 2)?
+        .message("n", 0, 2, 3)?
+        .build()
 }
 
 #[test]
 fn tables_are_written_node_by_node(rt: HostRuntime) -> Result<(), Fail> {
     let alloc = rt.alloc();
-    let instance = one_message(alloc)?;
+    let instance = one_message(alloc, PLAIN)?;
     let plan = plan(alloc, &[0, 1], &[2, 0], &[0, 7], &[1])?;
     assert_eq!(rt; check(&instance, &plan)?, 9);
     let medl = Medl::of(alloc, &instance, &plan)?;

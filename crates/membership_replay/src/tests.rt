@@ -5,118 +5,39 @@ use medl_tables::Medl;
 use plan_check::check;
 use std::alloc::Global;
 use std::test::Fail;
-use ttp_model::{Cluster, Instance, Message, Name, Node, Numbers, Plan, Process};
-
-/// A horizon of 100 ticks, frames of 1 tick and 1 more for each byte, and nothing else that takes
-/// time on the bus.
-const PLAIN: Cluster = Cluster {
-    precision: 0,
-    lead: 0,
-    trail: 0,
-    head: 1,
-    per_byte: 1,
-    copy_out: 0,
-    copy_in: 0,
-    horizon: 100,
-};
-
-fn name(alloc: Global, text: &str) -> Result<Name, Fail> {
-    Ok(Name::new(String::from_str(alloc, text)?))
-}
-
-fn numbers(alloc: Global, numbers: &[u32]) -> Result<Numbers, Fail> {
-    Ok(Numbers::new(Vec::from_slice(alloc, numbers)?))
-}
-
-fn node(alloc: Global, text: &str) -> Result<Node, Fail> {
-    Ok(Node {
-        name: name(alloc, text)?,
-        capacities: numbers(alloc, &[0])?,
-    })
-}
-
-/// A process of 3 ticks on node 0.
-fn process(alloc: Global) -> Result<Process, Fail> {
-    Ok(Process {
-        name: name(alloc, "p")?,
-        node: 0,
-        wcet: 3,
-        release: 0,
-        deadline: 100,
-    })
-}
-
-fn plan(alloc: Global, order: &[u32], caps: &[u32]) -> Result<Plan, Fail> {
-    Ok(Plan {
-        order: numbers(alloc, order)?,
-        caps: numbers(alloc, caps)?,
-        starts: numbers(alloc, &[0])?,
-        rounds: numbers(alloc, &[])?,
-    })
-}
+use ttp_model::{Instance, ModelError};
+use worked_instances::{Draft, PLAIN, plan};
 
 /// Nodes A, B and C with frames of 1 tick, and a process of 3 ticks: one round.
-fn three_nodes(alloc: Global) -> Result<Instance, Fail> {
-    let nodes = vec![in alloc; node(alloc, "A")?, node(alloc, "B")?, node(alloc, "C")?]?;
-    let processes = vec![in alloc; process(alloc)?]?;
-    Ok(Instance::build(
-        alloc,
-        PLAIN,
-        nodes,
-        processes,
-        Vec::new(alloc),
-        Vec::new(alloc),
-    )?)
+fn three_nodes(alloc: Global) -> Result<Instance, ModelError> {
+    Draft::of(alloc, PLAIN)
+        .node("A", &[0])?
+        .node("B", &[0])?
+        .node("C", &[0])?
+        .process("p", 0, 3)?
+        .build()
 }
 
 /// Nodes A, B and C, where A's frame may have 2 bytes, and a message of p on A to q on B: p takes 3
 /// ticks, A's slot of round 1 is from 5 to 8, and q takes 2 ticks.
-fn one_message(alloc: Global) -> Result<Instance, Fail> {
-    let sender = Node {
-        name: name(alloc, "A")?,
-        capacities: numbers(alloc, &[2])?,
-    };
-    let receiver = Process {
-        name: name(alloc, "q")?,
-        node: 1,
-        wcet: 2,
-        release: 0,
-        deadline: 100,
-    };
-    let message = Message {
-        name: name(alloc, "m")?,
-        sender: 0,
-        receivers: numbers(alloc, &[1])?,
-        bytes: 2,
-    };
-    let nodes = vec![in alloc; sender, node(alloc, "B")?, node(alloc, "C")?]?;
-    let processes = vec![in alloc; process(alloc)?, receiver]?;
-    let messages = vec![in alloc; message]?;
-    Ok(Instance::build(alloc, PLAIN, nodes, processes, Vec::new(alloc), messages)?)
-}
-
-/// Its earliest plan: two rounds of 5 ticks.
-fn one_message_plan(alloc: Global) -> Result<Plan, Fail> {
-    Ok(Plan {
-        order: numbers(alloc, &[0, 1, 2])?,
-        caps: numbers(alloc, &[2, 0, 0])?,
-        starts: numbers(alloc, &[0, 8])?,
-        rounds: numbers(alloc, &[1])?,
-    })
+fn delivery(alloc: Global) -> Result<Instance, ModelError> {
+    Draft::of(alloc, PLAIN)
+        .node("A", &[2])?
+        .node("B", &[0])?
+        .node("C", &[0])?
+        .process("p", 0, 3)?
+        .process("q", 1, 2)?
+        .message("m", 0, 1, 2)?
+        .build()
 }
 
 /// Nodes A and B with frames of 1 tick.
-fn two_nodes(alloc: Global) -> Result<Instance, Fail> {
-    let nodes = vec![in alloc; node(alloc, "A")?, node(alloc, "B")?]?;
-    let processes = vec![in alloc; process(alloc)?]?;
-    Ok(Instance::build(
-        alloc,
-        PLAIN,
-        nodes,
-        processes,
-        Vec::new(alloc),
-        Vec::new(alloc),
-    )?)
+fn two_nodes(alloc: Global) -> Result<Instance, ModelError> {
+    Draft::of(alloc, PLAIN)
+        .node("A", &[0])?
+        .node("B", &[0])?
+        .process("p", 0, 3)?
+        .build()
 }
 
 /// A loss at this node of the frame at position 0 in a round.
@@ -132,7 +53,7 @@ fn loss(round: u32, receiver: u32) -> Loss {
 fn a_node_whose_frame_is_lost_everywhere_leaves(rt: HostRuntime) -> Result<(), Fail> {
     let alloc = rt.alloc();
     let instance = three_nodes(alloc)?;
-    let plan = plan(alloc, &[0, 1, 2], &[0, 0, 0])?;
+    let plan = plan(alloc, &[0, 1, 2], &[0, 0, 0], &[0], &[])?;
     assert_eq!(rt; check(&instance, &plan)?, 3);
     let medl = Medl::of(alloc, &instance, &plan)?;
     let trace = replay(alloc, &instance, &medl, &[loss(0, 1), loss(0, 2)])?;
@@ -150,7 +71,7 @@ fn a_node_whose_frame_is_lost_everywhere_leaves(rt: HostRuntime) -> Result<(), F
 fn without_losses_each_node_stays_a_member(rt: HostRuntime) -> Result<(), Fail> {
     let alloc = rt.alloc();
     let instance = three_nodes(alloc)?;
-    let plan = plan(alloc, &[0, 1, 2], &[0, 0, 0])?;
+    let plan = plan(alloc, &[0, 1, 2], &[0, 0, 0], &[0], &[])?;
     assert_eq!(rt; check(&instance, &plan)?, 3);
     let medl = Medl::of(alloc, &instance, &plan)?;
     let trace = replay(alloc, &instance, &medl, &[])?;
@@ -167,8 +88,8 @@ fn a_message_is_delivered_in_its_round_where_its_frame_is_not_lost(
     rt: HostRuntime,
 ) -> Result<(), Fail> {
     let alloc = rt.alloc();
-    let instance = one_message(alloc)?;
-    let plan = one_message_plan(alloc)?;
+    let instance = delivery(alloc)?;
+    let plan = plan(alloc, &[0, 1, 2], &[2, 0, 0], &[0, 8], &[1])?;
     assert_eq!(rt; check(&instance, &plan)?, 10);
     let medl = Medl::of(alloc, &instance, &plan)?;
     let trace = replay(alloc, &instance, &medl, &[])?;
@@ -195,7 +116,7 @@ fn a_message_is_delivered_in_its_round_where_its_frame_is_not_lost(
 fn a_loss_is_of_the_cycle_and_not_at_the_sender(rt: HostRuntime) -> Result<(), Fail> {
     let alloc = rt.alloc();
     let instance = three_nodes(alloc)?;
-    let plan = plan(alloc, &[0, 1, 2], &[0, 0, 0])?;
+    let plan = plan(alloc, &[0, 1, 2], &[0, 0, 0], &[0], &[])?;
     assert_eq!(rt; check(&instance, &plan)?, 3);
     let medl = Medl::of(alloc, &instance, &plan)?;
     for (losses, k) in [([loss(1, 1), loss(0, 1)], 0), ([loss(0, 1), loss(0, 0)], 1)] {
@@ -209,7 +130,7 @@ fn a_loss_is_of_the_cycle_and_not_at_the_sender(rt: HostRuntime) -> Result<(), F
 fn two_nodes_are_too_few(rt: HostRuntime) -> Result<(), Fail> {
     let alloc = rt.alloc();
     let instance = two_nodes(alloc)?;
-    let plan = plan(alloc, &[0, 1], &[0, 0])?;
+    let plan = plan(alloc, &[0, 1], &[0, 0], &[0], &[])?;
     assert_eq!(rt; check(&instance, &plan)?, 3);
     let medl = Medl::of(alloc, &instance, &plan)?;
     let fault = replay(alloc, &instance, &medl, &[loss(7, 7)]).err();

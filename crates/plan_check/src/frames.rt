@@ -1,11 +1,11 @@
 //! Do the messages of each frame fit into its capacity?
 
-ghost use Rattle.std.specs.Prelude.{◌≡◌, ◌<◌, ◌≤◌, MatchOption, length};
+ghost use Rattle.std.specs.Prelude.{◌≡◌, ◌*◌, ◌<◌, ◌≤◌, MatchOption, length};
 ghost use Rattle.ttp_model.specs.Lists.{EachBelow};
 ghost use Rattle.ttp_model.specs.Plans.{FitsFrame, HasLengths, bytes_in, load_of};
 ghost use Rattle.ttp_model.specs.Faults.{IsFirstOverfull};
 
-use ttp_model::{Instance, MOST_BYTES, Plan};
+use ttp_model::{Instance, MOST_BYTES, MOST_MESSAGES, Plan};
 
 /// The frame, by node and round, of the first message in an overfull one.
 pub fn first_overfull(instance: &Instance, plan: &Plan) -> Option<(u32, u32)>
@@ -26,10 +26,12 @@ pub fn first_overfull(instance: &Instance, plan: &Plan) -> Option<(u32, u32)>
     None
 }
 
-/// The bytes of all messages of a frame.
-fn load_of(instance: &Instance, plan: &Plan, n: u32, r: u32) -> u64
+/// The bytes of all messages of the frame of a node and a round. Takes no memory; one pass over
+/// the messages.
+pub fn load_of(instance: &Instance, plan: &Plan, n: u32, r: u32) -> u64
     requires { HasLengths instance.now plan.now }
-    ensures { result ≡ load_of instance.now plan.now n r }
+    ensures value { result ≡ load_of instance.now plan.now n r }
+    ensures bound { result ≤ MOST_MESSAGES * MOST_BYTES }
 {
     let mut load = 0;
     for m in 0..instance.messages().len() {

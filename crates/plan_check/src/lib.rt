@@ -7,6 +7,7 @@ mod lists;
 mod messages;
 mod processes;
 
+pub use frames::load_of;
 pub use judge::check;
 pub use ttp_model::{PlanFault, PlanPart};
 

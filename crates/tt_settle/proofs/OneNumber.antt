@@ -4,7 +4,7 @@ use Rattle.ttp_model.specs.declared.plan.Plan.{Plan}
 use Rattle.ttp_model.specs.Problem.{Problem}
 use Rattle.ttp_model.specs.Plans.{start_of}
 use Rattle.ttp_model.specs.Moves.{IsLighter, weight, position_of}
-use Rattle.tt_settle.proofs.TwoPlaces.{below_sum, one_more}
+use Rattle.ttp_model.proofs.TwoPlaces.{below_sum, one_more}
 
 -- a sum of products with indices below a count
 product_sum-le : (f : ℕ → ℕ) (n m count : ℕ) → ((k : ℕ) → f k ≤ m) → n ≤ count → below_sum (λ k. k * f k) n ≤ n * (count * m)

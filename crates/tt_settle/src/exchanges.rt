@@ -2,11 +2,10 @@
 
 ghost use Rattle.std.specs.Prelude.{◌≢◌, ◌<◌, ◌↔◌, Contains, IsTrue, ℕ, length};
 ghost use Rattle.ttp_model.specs.Problem.{source_of};
-ghost use Rattle.ttp_model.specs.Graph.{HasLink};
 ghost use Rattle.ttp_model.specs.Twins.{AreTwins, AreSilentTwins};
-ghost use Rattle.tt_settle.specs.Alike.{Agree, AreLike, AreUnlinked, HasNoMessages, HaveSameLinks, Involves, SharesPredecessors, SharesSuccessors};
+ghost use Rattle.ttp_model.specs.Alike.{Agree, AreLike, AreUnlinked, HasNoMessages, HaveSameLinks, Involves, SharesPredecessors, SharesSuccessors};
 
-use ttp_model::Instance;
+use ttp_model::{Instance, has_link};
 
 /// Whether two processes are twins, by their indices: not so where one isn't there. Costs at most
 /// a step for each two links and one for each message and receiver.
@@ -46,19 +45,6 @@ fn are_like(instance: &Instance, p: u32, q: u32) -> bool
         && one.wcet == other.wcet
         && one.release == other.release
         && one.deadline == other.deadline
-}
-
-/// Whether a link leads from `p` to `q`.
-fn has_link(instance: &Instance, p: u32, q: u32) -> bool
-    ensures { IsTrue result ↔ HasLink instance.now p q }
-{
-    for l in 0..instance.links().len() {
-        let link = instance.link_at(l);
-        if link.before == p && link.after == q {
-            return true;
-        }
-    }
-    false
 }
 
 /// Whether each process that links to `p` links to `q` too.
@@ -126,7 +112,7 @@ fn involves(instance: &Instance, m: usize, p: u32) -> bool
 }
 
 /// Whether a number is one of these.
-fn contains(numbers: &[u32], number: u32) -> bool
+pub fn contains(numbers: &[u32], number: u32) -> bool
     ensures { IsTrue result ↔ Contains numbers.now number }
 {
     numbers.contains(&number)

@@ -1,13 +1,20 @@
 //! Settled plans: those that no small change makes earlier or tidier.
 #![tactic(auto)]
 
+mod changes;
 mod exchanges;
 mod laws;
+mod passes;
+mod rounds;
+mod settling;
+mod starts;
+mod swaps;
 
 pub use exchanges::{silent_twins, twins};
 pub use laws::{
     a_settled_plan_is_reached, moves_keep_the_delay, moves_lower_the_weight, weights_end,
 };
+pub use settling::settle;
 
 #[cfg(test)]
 mod tests;

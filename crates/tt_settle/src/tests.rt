@@ -3,88 +3,26 @@
 use super::*;
 use std::alloc::Global;
 use std::test::Fail;
-use ttp_model::{Cluster, Instance, Link, Message, Name, Node, Numbers, Process};
-
-/// A horizon of 100 ticks, frames of 1 tick and 1 more for each byte, and nothing else that takes
-/// time on the bus.
-const PLAIN: Cluster = Cluster {
-    precision: 0,
-    lead: 0,
-    trail: 0,
-    head: 1,
-    per_byte: 1,
-    copy_out: 0,
-    copy_in: 0,
-    horizon: 100,
-};
-
-fn name(alloc: Global, text: &str) -> Result<Name, Fail> {
-    Ok(Name::new(String::from_str(alloc, text)?))
-}
-
-fn numbers(alloc: Global, numbers: &[u32]) -> Result<Numbers, Fail> {
-    Ok(Numbers::new(Vec::from_slice(alloc, numbers)?))
-}
-
-fn node(alloc: Global, text: &str, capacities: &[u32]) -> Result<Node, Fail> {
-    Ok(Node {
-        name: name(alloc, text)?,
-        capacities: numbers(alloc, capacities)?,
-    })
-}
-
-/// A process that may start at once and end at the horizon.
-fn process(alloc: Global, text: &str, node: u32, wcet: u32) -> Result<Process, Fail> {
-    Ok(Process {
-        name: name(alloc, text)?,
-        node,
-        wcet,
-        release: 0,
-        deadline: 100,
-    })
-}
-
-/// A message of 2 bytes from process 0 to process 1.
-fn message(alloc: Global) -> Result<Message, Fail> {
-    Ok(Message {
-        name: name(alloc, "m")?,
-        sender: 0,
-        receivers: numbers(alloc, &[1])?,
-        bytes: 2,
-    })
-}
+use ttp_model::{Instance, ModelError};
+use worked_instances::{Draft, PLAIN};
 
 /// Process p on node A sends a message to process q on node B; r, s and t follow q there, of which
 /// t is longer.
-fn three_after_one(alloc: Global) -> Result<Instance, Fail> {
-    let nodes = vec![in alloc;
-        node(alloc, "A", &[2])?,
-        node(alloc, "B", &[0])?,
-        node(alloc, "C", &[0])?,
-    ]?;
-    let processes = vec![in alloc;
-        process(alloc, "p", 0, 3)?,
-        process(alloc, "q", 1, 2)?,
-        process(alloc, "r", 1, 2)?,
-        process(alloc, "s", 1, 2)?,
-        process(alloc, "t", 1, 3)?,
-    ]?;
-    let links = vec![in alloc;
-        Link {
-            before: 1,
-            after: 2
-        },
-        Link {
-            before: 1,
-            after: 3
-        },
-        Link {
-            before: 1,
-            after: 4
-        },
-    ]?;
-    let messages = vec![in alloc; message(alloc)?]?;
-    Ok(Instance::build(alloc, PLAIN, nodes, processes, links, messages)?)
+fn three_after_one(alloc: Global) -> Result<Instance, ModelError> {
+    Draft::of(alloc, PLAIN)
+        .node("A", &[2])?
+        .node("B", &[0])?
+        .node("C", &[0])?
+        .process("p", 0, 3)?
+        .process("q", 1, 2)?
+        .process("r", 1, 2)?
+        .process("s", 1, 2)?
+        .process("t", 1, 3)?
+        .link(1, 2)?
+        .link(1, 3)?
+        .link(1, 4)?
+        .message("m", 0, 1, 2)?
+        .build()
 }
 
 #[test]

@@ -9,3 +9,14 @@ pub mod PlanNumbers
 pub mod FaultyPlans
 pub mod Orders
 pub mod OneMessage
+pub mod Decide
+pub mod Validity
+pub mod Alike
+pub mod Descent
+pub mod NextMoves
+pub mod Delays
+pub mod TwoPlaces
+pub mod Positions
+pub mod Lighter
+pub mod Reached
+pub mod Agreeing

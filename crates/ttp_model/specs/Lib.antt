@@ -12,5 +12,6 @@ pub mod Delays
 pub mod Faults
 pub mod Chains
 pub mod Twins
+pub mod Alike
 pub mod Moves
 pub mod Worked

@@ -1,6 +1,6 @@
 //! What an instance is: tables that keep all rules.
 
-ghost use Rattle.std.specs.Prelude.{◌≡◌, ◌<◌, ◌≤◌, All, IfOk, IfErr, IsOkUnless, length};
+ghost use Rattle.std.specs.Prelude.{◌≡◌, ◌+◌, ◌<◌, ◌≤◌, All, IfOk, IfErr, IsOkUnless, length};
 ghost use Rattle.ttp_model.specs.declared.limits.TheConstants.{MOST_BYTES};
 ghost use Rattle.ttp_model.specs.Problem.{problem, process_at, link_at, message_at, node_of, source_of};
 ghost use Rattle.ttp_model.specs.Rules.{IsInstance, IsProcessInRange};
@@ -67,6 +67,14 @@ impl Instance {
         ensures instance { IsInstance self.now }
     {
         &self.parts.cluster
+    }
+
+    /// The first tick, and the first round, past the horizon.
+    pub fn past_horizon(&self) -> u32
+        ensures value { result ≡ self.now.cluster.horizon + 1 }
+        ensures instance { IsInstance self.now }
+    {
+        self.cluster().horizon + 1
     }
 
     pub fn nodes(&self) -> &[Node]

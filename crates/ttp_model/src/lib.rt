@@ -8,6 +8,7 @@ mod graph;
 mod instance;
 mod laws;
 mod limits;
+mod links;
 mod name;
 mod numbers;
 mod parts;
@@ -32,6 +33,7 @@ pub use limits::{
     MOST_MESSAGES, MOST_NAME_BYTES, MOST_NODES, MOST_PER_BYTE, MOST_PROCESSES, MOST_ROUND,
     MOST_TICKS,
 };
+pub use links::has_link;
 pub use name::{Name, is_name};
 pub use numbers::Numbers;
 pub use parts::{Cluster, Link, Message, Node, Process};

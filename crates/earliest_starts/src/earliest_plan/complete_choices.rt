@@ -10,131 +10,8 @@ use std::alloc::Global;
 use std::process::Abort;
 use std::test::Fail;
 use tt_choice::Choice;
-use ttp_model::{Cluster, Instance, Kind, Link, Message, Name, Node, Numbers, Process};
-
-/// A name.
-fn name(alloc: Global, text: &str) -> Result<Name, Fail> {
-    Ok(Name::new(String::from_str(alloc, text)?))
-}
-
-/// A node of this name with one capacity.
-fn node(alloc: Global, text: &str, capacity: u32) -> Result<Node, Fail> {
-    Ok(Node {
-        name: name(alloc, text)?,
-        capacities: Numbers::new(vec![in alloc; capacity]?),
-    })
-}
-
-/// A process of this name.
-fn process(
-    alloc: Global,
-    text: &str,
-    node: u32,
-    wcet: u32,
-    deadline: u32,
-) -> Result<Process, Fail> {
-    Ok(Process {
-        name: name(alloc, text)?,
-        node,
-        wcet,
-        release: 0,
-        deadline,
-    })
-}
-
-/// A message of this name from process 0 to process 1.
-fn message(alloc: Global, text: &str, bytes: u32) -> Result<Message, Fail> {
-    Ok(Message {
-        name: name(alloc, text)?,
-        sender: 0,
-        receivers: Numbers::new(vec![in alloc; 1]?),
-        bytes,
-    })
-}
-
-/// Frames of 1 tick and 1 more for each byte, nothing before or after a frame, 100 ticks.
-fn cluster() -> Cluster {
-    Cluster {
-        precision: 0,
-        lead: 0,
-        trail: 0,
-        head: 1,
-        per_byte: 1,
-        copy_out: 0,
-        copy_in: 0,
-        horizon: 100,
-    }
-}
-
-/// Process p of 3 ticks on A sends 2 bytes to process q of 2 ticks on B, which has no capacity.
-fn sender_and_receiver(alloc: Global) -> Result<Instance, Fail> {
-    let nodes = vec![in alloc; node(alloc, "A", 2)?, node(alloc, "B", 0)?]?;
-    let processes = vec![in alloc;
-        process(alloc, "p", 0, 3, 100)?,
-        process(alloc, "q", 1, 2, 100)?,
-    ]?;
-    let messages = vec![in alloc; message(alloc, "m", 2)?]?;
-    Ok(Instance::build(
-        alloc,
-        cluster(),
-        nodes,
-        processes,
-        Vec::new(alloc),
-        messages,
-    )?)
-}
-
-/// Process p of 1 tick on A sends 2 and 3 bytes to process q of 1 tick on B.
-fn two_messages(alloc: Global) -> Result<Instance, Fail> {
-    let nodes = vec![in alloc; node(alloc, "A", 4)?, node(alloc, "B", 0)?]?;
-    let processes = vec![in alloc;
-        process(alloc, "p", 0, 1, 100)?,
-        process(alloc, "q", 1, 1, 100)?,
-    ]?;
-    let messages = vec![in alloc; message(alloc, "m1", 2)?, message(alloc, "m2", 3)?]?;
-    Ok(Instance::build(
-        alloc,
-        cluster(),
-        nodes,
-        processes,
-        Vec::new(alloc),
-        messages,
-    )?)
-}
-
-/// Process p of 3 ticks and process q of 2 ticks, which has to end by tick 2, on one node.
-fn one_in_a_hurry(alloc: Global) -> Result<Instance, Fail> {
-    let nodes = vec![in alloc; node(alloc, "A", 0)?]?;
-    let processes = vec![in alloc;
-        process(alloc, "p", 0, 3, 100)?,
-        process(alloc, "q", 0, 2, 2)?,
-    ]?;
-    Ok(Instance::build(
-        alloc,
-        cluster(),
-        nodes,
-        processes,
-        Vec::new(alloc),
-        Vec::new(alloc),
-    )?)
-}
-
-/// Processes a, b and c of 2 ticks on one node, with a link from a to c.
-fn three_on_one_node(alloc: Global) -> Result<Instance, Fail> {
-    let nodes = vec![in alloc; node(alloc, "A", 0)?]?;
-    let processes = vec![in alloc;
-        process(alloc, "a", 0, 2, 100)?,
-        process(alloc, "b", 0, 2, 100)?,
-        process(alloc, "c", 0, 2, 100)?,
-    ]?;
-    let links = vec![in alloc;
-        Link {
-            before: 0,
-            after: 2
-        },
-    ]?;
-    Ok(Instance::build(alloc, cluster(), nodes, processes, links, Vec::new(alloc))?)
-}
+use ttp_model::{Instance, Kind};
+use worked_instances::{PLAIN, deadline, one_message, overfull, three_linked};
 
 /// Puts node `n` next, with its one capacity.
 fn place<R: Abort>(
@@ -200,7 +77,7 @@ fn expect_plan<R: Abort>(rt: &R, answer: Earliest, starts: &[u32], ticks: u64) {
 #[test]
 fn a_receiver_starts_when_its_slot_has_ended(rt: HostRuntime) -> Result<(), Fail> {
     let alloc = rt.alloc();
-    let i = sender_and_receiver(alloc)?;
+    let i = one_message(alloc, PLAIN)?;
     let mut choice = Choice::root(alloc, &i)?;
     place(&rt, alloc, &i, &mut choice, 0)?;
     place(&rt, alloc, &i, &mut choice, 1)?;
@@ -213,7 +90,7 @@ fn a_receiver_starts_when_its_slot_has_ended(rt: HostRuntime) -> Result<(), Fail
 #[test]
 fn a_message_misses_a_slot_that_begins_before_its_sender_ends(rt: HostRuntime) -> Result<(), Fail> {
     let alloc = rt.alloc();
-    let i = sender_and_receiver(alloc)?;
+    let i = one_message(alloc, PLAIN)?;
     let mut choice = Choice::root(alloc, &i)?;
     place(&rt, alloc, &i, &mut choice, 0)?;
     place(&rt, alloc, &i, &mut choice, 1)?;
@@ -229,7 +106,7 @@ fn a_message_misses_a_slot_that_begins_before_its_sender_ends(rt: HostRuntime) -
 #[test]
 fn two_messages_do_not_fit_into_one_frame(rt: HostRuntime) -> Result<(), Fail> {
     let alloc = rt.alloc();
-    let i = two_messages(alloc)?;
+    let i = overfull(alloc)?;
     let mut choice = Choice::root(alloc, &i)?;
     place(&rt, alloc, &i, &mut choice, 1)?;
     place(&rt, alloc, &i, &mut choice, 0)?;
@@ -246,7 +123,7 @@ fn two_messages_do_not_fit_into_one_frame(rt: HostRuntime) -> Result<(), Fail> {
 #[test]
 fn a_process_that_goes_second_ends_too_late(rt: HostRuntime) -> Result<(), Fail> {
     let alloc = rt.alloc();
-    let i = one_in_a_hurry(alloc)?;
+    let i = deadline(alloc)?;
     let mut first = Choice::root(alloc, &i)?;
     place(&rt, alloc, &i, &mut first, 0)?;
     order(&rt, alloc, &i, &mut first, 1, 0)?;
@@ -266,7 +143,7 @@ fn a_process_that_goes_second_ends_too_late(rt: HostRuntime) -> Result<(), Fail>
 #[test]
 fn processes_run_in_the_order_that_is_chosen(rt: HostRuntime) -> Result<(), Fail> {
     let alloc = rt.alloc();
-    let i = three_on_one_node(alloc)?;
+    let i = three_linked(alloc)?;
     let mut choice = Choice::root(alloc, &i)?;
     place(&rt, alloc, &i, &mut choice, 0)?;
     order(&rt, alloc, &i, &mut choice, 1, 0)?;
@@ -280,7 +157,7 @@ fn processes_run_in_the_order_that_is_chosen(rt: HostRuntime) -> Result<(), Fail
 #[test]
 fn processes_that_go_before_one_another_are_a_cycle(rt: HostRuntime) -> Result<(), Fail> {
     let alloc = rt.alloc();
-    let i = three_on_one_node(alloc)?;
+    let i = three_linked(alloc)?;
     let mut choice = Choice::root(alloc, &i)?;
     place(&rt, alloc, &i, &mut choice, 0)?;
     order(&rt, alloc, &i, &mut choice, 0, 2)?;
@@ -297,7 +174,7 @@ fn processes_that_go_before_one_another_are_a_cycle(rt: HostRuntime) -> Result<(
 #[test]
 fn a_link_that_is_turned_is_a_cycle(rt: HostRuntime) -> Result<(), Fail> {
     let alloc = rt.alloc();
-    let i = three_on_one_node(alloc)?;
+    let i = three_linked(alloc)?;
     let mut choice = Choice::root(alloc, &i)?;
     place(&rt, alloc, &i, &mut choice, 0)?;
     order(&rt, alloc, &i, &mut choice, 2, 0)?;

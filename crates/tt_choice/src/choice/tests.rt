@@ -6,92 +6,38 @@ ghost use Rattle.ttp_model.specs.Problem.{node_at};
 use crate::Choice;
 use std::alloc::Global;
 use std::test::Fail;
-use ttp_model::{Cluster, Instance, Kind, Link, Message, Name, Node, Numbers, Process};
-
-/// A name.
-fn name(alloc: Global, text: &str) -> Result<Name, Fail> {
-    Ok(Name::new(String::from_str(alloc, text)?))
-}
-
-/// A node of this name with these capacities.
-fn node(alloc: Global, text: &str, capacities: &[u32]) -> Result<Node, Fail>
-    ensures { IfOk result (λ node. node.capacities ≡ capacities.now) }
-{
-    let name = name(alloc, text)?;
-    let capacities = Numbers::new(Vec::from_slice(alloc, capacities)?);
-    Ok(Node { name, capacities })
-}
-
-/// A process of this name that has until tick 100.
-fn process(alloc: Global, text: &str, node: u32, wcet: u32) -> Result<Process, Fail> {
-    Ok(Process {
-        name: name(alloc, text)?,
-        node,
-        wcet,
-        release: 0,
-        deadline: 100,
-    })
-}
-
-/// Frames of 1 tick and 1 more for each byte, nothing before or after a frame, 100 ticks.
-fn cluster() -> Cluster {
-    Cluster {
-        precision: 0,
-        lead: 0,
-        trail: 0,
-        head: 1,
-        per_byte: 1,
-        copy_out: 0,
-        copy_in: 0,
-        horizon: 100,
-    }
-}
+use ttp_model::{Instance, Kind, ModelError};
+use worked_instances::{Draft, PLAIN};
 
 /// Process p of 3 ticks on A sends 2 bytes to process q of 2 ticks on B.
-fn sender_and_receiver(alloc: Global, a: &[u32], b: &[u32]) -> Result<Instance, Fail>
+fn sender_and_receiver(alloc: Global, a: &[u32], b: &[u32]) -> Result<Instance, ModelError>
     ensures nodes { IfOk result (λ i. length i.nodes ≡ 2) }
     ensures first { IfOk result (λ i. (node_at i 0).capacities ≡ a.now) }
     ensures second { IfOk result (λ i. (node_at i 1).capacities ≡ b.now) }
     ensures processes { IfOk result (λ i. length i.processes ≡ 2) }
     ensures messages { IfOk result (λ i. length i.messages ≡ 1) }
 {
-    let nodes = vec![in alloc; node(alloc, "A", a)?, node(alloc, "B", b)?]?;
-    let processes = vec![in alloc; process(alloc, "p", 0, 3)?, process(alloc, "q", 1, 2)?]?;
-    let message = Message {
-        name: name(alloc, "m")?,
-        sender: 0,
-        receivers: Numbers::new(vec![in alloc; 1]?),
-        bytes: 2,
-    };
-    let messages = vec![in alloc; message]?;
-    Ok(Instance::build(
-        alloc,
-        cluster(),
-        nodes,
-        processes,
-        Vec::new(alloc),
-        messages,
-    )?)
+    Draft::of(alloc, PLAIN)
+        .node("A", a)?
+        .node("B", b)?
+        .process("p", 0, 3)?
+        .process("q", 1, 2)?
+        .message("m", 0, 1, 2)?
+        .build()
 }
 
 /// Processes a of 3 ticks, b of 2 and c of 1 on one node, with a link from a to c.
-fn three_on_one_node(alloc: Global) -> Result<Instance, Fail>
+fn three_on_one_node(alloc: Global) -> Result<Instance, ModelError>
     ensures nodes { IfOk result (λ i. length i.nodes ≡ 1) }
     ensures processes { IfOk result (λ i. length i.processes ≡ 3) }
 {
-    let nodes = vec![in alloc; node(alloc, "A", &[0])?]?;
-    let processes = vec![in alloc;
-        process(alloc, "a", 0, 3)?,
-        process(alloc, "b", 0, 2)?,
-        process(alloc, "c", 0, 1)?,
-    ]?;
-    let links = vec![in alloc;
-        Link {
-            before: 0,
-            after: 2
-        },
-    ]?;
-    Ok(Instance::build(alloc, cluster(), nodes, processes, links, Vec::new(alloc))?)
+    Draft::of(alloc, PLAIN)
+        .node("A", &[0])?
+        .process("a", 0, 3)?
+        .process("b", 0, 2)?
+        .process("c", 0, 1)?
+        .link(0, 2)?
+        .build()
 }
 
 #[test]

@@ -6,51 +6,20 @@ ghost use Rattle.ttp_model.specs.Problem.{node_at};
 use super::*;
 use std::alloc::Global;
 use std::test::Fail;
-use ttp_model::{Name, Node, Numbers, Process};
+use ttp_model::ModelError;
+use worked_instances::{Draft, PLAIN};
 
-/// A node of this name with these capacities.
-fn node(alloc: Global, name: &str, capacities: &[u32]) -> Result<Node, Fail>
-    ensures { IfOk result (λ node. node.capacities ≡ capacities.now) }
-{
-    let name = Name::new(String::from_str(alloc, name)?);
-    let capacities = Numbers::new(Vec::from_slice(alloc, capacities)?);
-    Ok(Node { name, capacities })
-}
-
-/// Nodes A and B with these capacities, frames of 1 tick and 1 more for each byte, nothing before
-/// or after a frame, and one process on A.
-fn two_nodes(alloc: Global, a: &[u32], b: &[u32]) -> Result<Instance, Fail>
+/// Nodes A and B with these capacities, and one process on A.
+fn two_nodes(alloc: Global, a: &[u32], b: &[u32]) -> Result<Instance, ModelError>
     ensures nodes { IfOk result (λ i. length i.nodes ≡ 2) }
     ensures first { IfOk result (λ i. (node_at i 0).capacities ≡ a.now) }
     ensures second { IfOk result (λ i. (node_at i 1).capacities ≡ b.now) }
 {
-    let cluster = Cluster {
-        precision: 0,
-        lead: 0,
-        trail: 0,
-        head: 1,
-        per_byte: 1,
-        copy_out: 0,
-        copy_in: 0,
-        horizon: 100,
-    };
-    let nodes = vec![in alloc; node(alloc, "A", a)?, node(alloc, "B", b)?]?;
-    let process = Process {
-        name: Name::new(String::from_str(alloc, "p")?),
-        node: 0,
-        wcet: 1,
-        release: 0,
-        deadline: 100,
-    };
-    let processes = vec![in alloc; process]?;
-    Ok(Instance::build(
-        alloc,
-        cluster,
-        nodes,
-        processes,
-        Vec::new(alloc),
-        Vec::new(alloc),
-    )?)
+    Draft::of(alloc, PLAIN)
+        .node("A", a)?
+        .node("B", b)?
+        .process("p", 0, 1)?
+        .build()
 }
 
 #[test]

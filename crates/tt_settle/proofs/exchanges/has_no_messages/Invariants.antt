@@ -1,5 +1,5 @@
 use Rattle.std.proofs.Common.{ℕ, ◌<◌}
-use Rattle.tt_settle.specs.Alike.{Involves}
+use Rattle.ttp_model.specs.Alike.{Involves}
 use Rattle.tt_settle.proofs.exchanges.has_no_messages.Given as goal
 
 abbrev pub invariant-loop-m : goal.invariant-loop-m

@@ -1,5 +1,5 @@
 use Rattle.std.proofs.Common.{arith, length, ap}
-use Rattle.tt_settle.proofs.Agreeing.{twins_from_agree, agree_from_twins}
+use Rattle.ttp_model.proofs.Agreeing.{twins_from_agree, agree_from_twins}
 use Rattle.tt_settle.proofs.exchanges.twins.Goals as goal
 
 pub returns : goal.returns

@@ -1,4 +1,4 @@
-use Rattle.tt_settle.proofs.Reached.{settled_reached}
+use Rattle.ttp_model.proofs.Reached.{settled_reached}
 use Rattle.tt_settle.proofs.laws.a_settled_plan_is_reached.Goals as goal
 
 pub returns : goal.returns

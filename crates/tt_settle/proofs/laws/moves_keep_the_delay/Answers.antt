@@ -1,4 +1,4 @@
-use Rattle.tt_settle.proofs.Delays.{keeps_delay}
+use Rattle.ttp_model.proofs.Delays.{keeps_delay}
 use Rattle.tt_settle.proofs.laws.moves_keep_the_delay.Goals as goal
 
 pub returns : goal.returns

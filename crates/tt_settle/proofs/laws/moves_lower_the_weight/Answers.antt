@@ -1,4 +1,4 @@
-use Rattle.tt_settle.proofs.Lighter.{lowers_weight}
+use Rattle.ttp_model.proofs.Lighter.{lowers_weight}
 use Rattle.tt_settle.proofs.laws.moves_lower_the_weight.Goals as goal
 
 pub returns : goal.returns

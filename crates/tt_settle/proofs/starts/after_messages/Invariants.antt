@@ -1,0 +1,5 @@
+use Rattle.tt_settle.specs.Reasons.{IsRaised, Receives, arrival}
+use Rattle.tt_settle.proofs.starts.after_messages.Given as goal
+
+abbrev pub invariant-loop-m : goal.invariant-loop-m
+invariant-loop-m l = IsRaised l.m (Receives l.instance l.p) (arrival l.instance l.plan) l.floor l.time

@@ -1,0 +1,6 @@
+use Rattle.ttp_model.specs.Plans.{end_of}
+use Rattle.tt_settle.specs.Reasons.{IsRaised, GoesBefore}
+use Rattle.tt_settle.proofs.starts.after_others.Given as goal
+
+abbrev pub invariant-loop-q : goal.invariant-loop-q
+invariant-loop-q l = IsRaised l.q (GoesBefore l.instance l.plan l.p) (end_of l.instance l.plan) l.floor l.time
