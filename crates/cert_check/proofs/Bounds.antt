@@ -9,8 +9,10 @@ use Rattle.ttp_model.specs.declared.step.Kind.TheVariants as kind
 use Rattle.ttp_model.specs.Problem.{Problem}
 use Rattle.ttp_model.specs.Rules.{IsInstance}
 use Rattle.ttp_model.specs.Plans.{IsValid}
+use Rattle.ttp_model.specs.Moves.{IsSettled}
 use Rattle.ttp_model.specs.Delays.{delay, IsLowerBound, IsLeastDelay, HasNoPlan}
 use Rattle.ttp_model.proofs.ValidPlans.{bound_is_none}
+use Rattle.ttp_model.proofs.Reached.{settled_reached}
 use Rattle.tt_choice.specs.Choices.{Chosen, IsChoice, IsIn}
 use Rattle.tt_choice.specs.Branches.{IsOpen, children, child, child_choices, root_choice}
 use Rattle.tt_choice.proofs.ChildLists.{children_are}
@@ -23,17 +25,17 @@ use Rattle.certificate.specs.Trees.{Trees, none, grow}
 use Rattle.certificate.specs.Certificate.{Certificate}
 use Rattle.cert_check.specs.Proofs.{choices_below, Suits, AreProofs, Proves}
 
--- every valid plan of the choice has at least this delay
+-- every settled plan of the choice has at least this delay
 abbrev pub BoundsBelow : Problem → ℕ → Chosen → Type 0
-BoundsBelow i low c = (plan : Plan) → IsValid i plan → IsIn i c plan → low ≤ delay i plan
+BoundsBelow i low c = (plan : Plan) → IsSettled i plan → IsIn i c plan → low ≤ delay i plan
 
 -- what bounds all children bounds the choice
 from_children : (i : Problem) (low : ℕ) (c : Chosen) (k : Kind) → IsChoice i c → IsOpen i c k → All (BoundsBelow i low) (child_choices i c k) → BoundsBelow i low c
-from_children i low c k ok is_open each plan valid chosen =
-    let there = child-IsIn i c k plan ok is_open valid chosen in
+from_children i low c k ok is_open each plan settled chosen =
+    let there = child-IsIn i c k plan ok is_open settled.valid chosen in
     let same = get_or-map-range_with_len (child i c k) 0 (children i c k) there.0 there.0 c there.1 (zero-add there.0) in
     let inside : there.0 < length (child_choices i c k) = rw (length-map-range_with_len (child i c k) 0 (children i c k)) there.1 in
-    (rw same at (each there.0 c inside)) plan valid there.2
+    (rw same at (each there.0 c inside)) plan settled there.2
 
 -- the choices below a node are choices of the instance
 pub below_are : (i : Problem) (low : ℕ) (c : Chosen) (node : Node) → IsChoice i c → Suits i low c node → All (IsChoice i) (choices_below i c node)
@@ -49,10 +51,10 @@ node_bounds i low c (Place k) w ok suits each = from_children i low c kind.Place
 node_bounds i low c (Cap n k) w ok suits each = from_children i low c (kind.Cap n) ok suits.is_open each
 node_bounds i low c (Pair p q) w ok suits each = from_children i low c (kind.Pair p q) ok suits.is_open each
 node_bounds i low c (Round m r) w ok suits each = from_children i low c (kind.Round m r) ok suits.is_open each
-node_bounds i low c (Leaf leaf) w ok suits each = λ plan valid chosen. elim (cases_order (delay i plan) leaf.goal) [
+node_bounds i low c (Leaf leaf) w ok suits each = λ plan settled chosen. elim (cases_order (delay i plan) leaf.goal) [
   | inl same ↦ omega (arith, same, suits.goal)
   | inr other ↦ elim other [
-    | inl below ↦ absurd (leaf_leaves_none i c leaf w ok suits.closes plan (record { valid = valid; chosen = chosen; better = below }))
+    | inl below ↦ absurd (leaf_leaves_none i c leaf w ok suits.closes plan (record { settled = settled; chosen = chosen; better = below }))
     | inr above ↦ omega (arith, above, suits.goal)
   ]
 ]
@@ -68,11 +70,13 @@ proofs_bound i low (c ∷ cs) (grow node below beside) w ok are =
     (node_bounds i low c node w first are.0 (proofs_bound i low (choices_below i c node) below w (below_are i low c node first are.0) are.1.0))
     (proofs_bound i low cs beside w others are.1.1)
 
--- a certificate that proves its bound
+-- a certificate that proves its bound: each valid plan leads to a settled one that ends no later
 pub proved_bound : (i : Problem) (cert : Certificate) → IsInstance i → Proves i cert → IsLowerBound i cert.low
 proved_bound i cert w proves plan valid =
     let alone = All-cons (IsChoice i) (root_choice i) [] (IsChoice-root i w) (λ k d h. absurd (omega (arith, h))) in
-    proofs_bound i cert.low (root_choice i ∷ []) cert.tree w alone proves.tree 0 (root_choice i) (omega arith) plan valid (IsIn-root i plan w valid)
+    let reached = settled_reached i plan w valid in
+    let low = proofs_bound i cert.low (root_choice i ∷ []) cert.tree w alone proves.tree 0 (root_choice i) (omega arith) reached.0 reached.1 (IsIn-root i reached.0 w reached.1.valid) in
+    omega (arith, low, reached.2)
 
 -- with a bound past the horizon
 pub proved_none : (i : Problem) (cert : Certificate) → IsInstance i → Proves i cert → cert.low ≡ i.cluster.horizon + 1 → HasNoPlan i

@@ -4,7 +4,8 @@ use super::*;
 use certificate::read;
 use std::alloc::Global;
 use std::test::Fail;
-use ttp_model::{Cluster, Instance, Message, Name, Node, Numbers, Process};
+use ttp_model::{Instance, ModelError};
+use worked_instances::{Draft, PLAIN, no_frame, one_message, two_alike};
 
 /// No plan of `one_message` has a delay below 9.
 const ONE_LEAF: &str =
@@ -18,95 +19,22 @@ const TWO_ORDERS: &str =
 const TWO_RANGES: &str =
     "ttcert 1\nlow 9\nround 0 1\nleaf 9 5\nes-release 0\nlo-send 0\nes-arrive 0 1\nle-own 1\nx-window 1\nleaf 9 5\nes-release 0\nlo-send 0\nes-arrive 0 1\nle-own 1\nx-window 1\n";
 
-/// A name.
-fn name(alloc: Global, text: &str) -> Result<Name, Fail> {
-    Ok(Name::new(String::from_str(alloc, text)?))
-}
+/// Of two alike on one node the first goes first, so the second ends at 4 or later.
+const TWINS_IN_ORDER: &str =
+    "ttcert 1\nlow 4\nleaf 4 4\nord-twin 0 1\nes-before 0 1\nle-own 1\nx-window 1\n";
 
-/// A node of this name with these capacities.
-fn node(alloc: Global, text: &str, capacities: &[u32]) -> Result<Node, Fail> {
-    Ok(Node {
-        name: name(alloc, text)?,
-        capacities: Numbers::new(Vec::from_slice(alloc, capacities)?),
-    })
-}
+/// Round 1 at most, and a later one, in which no settled plan sends: p ends by 3, and the slot of
+/// round 1 begins at 4 or later.
+const SENT_EARLY: &str =
+    "ttcert 1\nlow 9\nround 0 1\nleaf 9 5\nes-release 0\nlo-send 0\nes-arrive 0 1\nle-own 1\nx-window 1\nleaf 101 2\nus-settled 0\nx-late 0 1\n";
 
-/// A process of this name.
-fn process(alloc: Global, text: &str, node: u32, wcet: u32) -> Result<Process, Fail> {
-    Ok(Process {
-        name: name(alloc, text)?,
-        node,
-        wcet,
-        release: 0,
-        deadline: 1_000_000,
-    })
-}
-
-/// Frames of 1 tick and 1 more for each byte, nothing before or after a frame, 100 ticks.
-fn cluster() -> Cluster {
-    Cluster {
-        precision: 0,
-        lead: 0,
-        trail: 0,
-        head: 1,
-        per_byte: 1,
-        copy_out: 0,
-        copy_in: 0,
-        horizon: 100,
-    }
-}
-
-/// Process p on A sends a message of so many bytes to process q on B, which has no capacity.
-fn sender_and_receiver(
-    alloc: Global,
-    capacities: &[u32],
-    wcets: (u32, u32),
-    bytes: u32,
-) -> Result<Instance, Fail> {
-    let nodes = vec![in alloc; node(alloc, "A", capacities)?, node(alloc, "B", &[0])?]?;
-    let processes = vec![in alloc;
-        process(alloc, "p", 0, wcets.0)?,
-        process(alloc, "q", 1, wcets.1)?,
-    ]?;
-    let message = Message {
-        name: name(alloc, "m")?,
-        sender: 0,
-        receivers: Numbers::new(vec![in alloc; 1]?),
-        bytes,
-    };
-    let messages = vec![in alloc; message]?;
-    Ok(Instance::build(
-        alloc,
-        cluster(),
-        nodes,
-        processes,
-        Vec::new(alloc),
-        messages,
-    )?)
-}
-
-/// Slots of 3 ticks and 1: p of 3 ticks sends 2 bytes to q of 2 ticks.
-fn one_message(alloc: Global) -> Result<Instance, Fail> {
-    sender_and_receiver(alloc, &[2], (3, 2), 2)
-}
-
-/// A message of 6 bytes, and frames of 4 bytes at most.
-fn large_message(alloc: Global) -> Result<Instance, Fail> {
-    sender_and_receiver(alloc, &[2, 4], (1, 1), 6)
-}
-
-/// Two processes of 2 ticks on one node.
-fn two_on_one_node(alloc: Global) -> Result<Instance, Fail> {
-    let nodes = vec![in alloc; node(alloc, "A", &[0])?]?;
-    let processes = vec![in alloc; process(alloc, "a", 0, 2)?, process(alloc, "b", 0, 2)?]?;
-    Ok(Instance::build(
-        alloc,
-        cluster(),
-        nodes,
-        processes,
-        Vec::new(alloc),
-        Vec::new(alloc),
-    )?)
+/// Two nodes that send nothing, with the same capacity, and a process of 3 ticks on the first.
+fn two_silent(alloc: Global) -> Result<Instance, ModelError> {
+    Draft::of(alloc, PLAIN)
+        .node("A", &[0])?
+        .node("B", &[0])?
+        .process("p", 0, 3)?
+        .build()
 }
 
 /// What the check says of the certificate in a text.
@@ -126,7 +54,7 @@ fn at(line: u64, fault: NodeFault) -> Result<u32, CertFault> {
 #[test]
 fn a_leaf_proves_its_bound(rt: HostRuntime) -> Result<(), Fail> {
     let alloc = rt.alloc();
-    let i = one_message(alloc)?;
+    let i = one_message(alloc, PLAIN)?;
     assert_eq!(rt; answer(alloc, &i, ONE_LEAF)?, Ok(9));
     let nothing = "ttcert 1\nlow 0\nleaf 0 2\nle-own 0\nx-window 0\n";
     assert_eq!(rt; answer(alloc, &i, nothing)?, Ok(0));
@@ -136,7 +64,7 @@ fn a_leaf_proves_its_bound(rt: HostRuntime) -> Result<(), Fail> {
 #[test]
 fn a_bound_past_the_horizon_says_that_no_plan_is_valid(rt: HostRuntime) -> Result<(), Fail> {
     let alloc = rt.alloc();
-    let i = large_message(alloc)?;
+    let i = no_frame(alloc)?;
     let text = "ttcert 1\nlow 101\nleaf 101 1\nx-frame 0\n";
     assert_eq!(rt; answer(alloc, &i, text)?, Ok(101));
     Ok(())
@@ -145,7 +73,7 @@ fn a_bound_past_the_horizon_says_that_no_plan_is_valid(rt: HostRuntime) -> Resul
 #[test]
 fn processes_of_one_node_share_its_time(rt: HostRuntime) -> Result<(), Fail> {
     let alloc = rt.alloc();
-    let i = two_on_one_node(alloc)?;
+    let i = two_alike(alloc)?;
     let text = "ttcert 1\nlow 4\nleaf 4 3\nle-own 0\nle-own 1\nx-load 0 0 3\n";
     assert_eq!(rt; answer(alloc, &i, text)?, Ok(4));
     Ok(())
@@ -154,7 +82,7 @@ fn processes_of_one_node_share_its_time(rt: HostRuntime) -> Result<(), Fail> {
 #[test]
 fn a_tree_proves_its_bound(rt: HostRuntime) -> Result<(), Fail> {
     let alloc = rt.alloc();
-    let i = one_message(alloc)?;
+    let i = one_message(alloc, PLAIN)?;
     assert_eq!(rt; answer(alloc, &i, TWO_ORDERS)?, Ok(9));
     assert_eq!(rt; answer(alloc, &i, TWO_RANGES)?, Ok(9));
     Ok(())
@@ -163,7 +91,7 @@ fn a_tree_proves_its_bound(rt: HostRuntime) -> Result<(), Fail> {
 #[test]
 fn either_process_of_a_pair_goes_first(rt: HostRuntime) -> Result<(), Fail> {
     let alloc = rt.alloc();
-    let i = two_on_one_node(alloc)?;
+    let i = two_alike(alloc)?;
     let text =
         "ttcert 1\nlow 4\npair 0 1\nleaf 4 3\nes-before 0 1\nle-own 1\nx-window 1\nleaf 4 3\nes-before 1 0\nle-own 0\nx-window 0\n";
     assert_eq!(rt; answer(alloc, &i, text)?, Ok(4));
@@ -176,7 +104,7 @@ fn either_process_of_a_pair_goes_first(rt: HostRuntime) -> Result<(), Fail> {
 #[test]
 fn a_bound_that_is_too_great_is_refused(rt: HostRuntime) -> Result<(), Fail> {
     let alloc = rt.alloc();
-    let i = one_message(alloc)?;
+    let i = one_message(alloc, PLAIN)?;
     let one_more =
         "ttcert 1\nlow 10\nleaf 10 5\nes-release 0\nlo-send 0\nes-arrive 0 1\nle-own 1\nx-window 1\n";
     assert_eq!(rt; answer(alloc, &i, one_more)?, at(8, NodeFault::RefusedStep));
@@ -192,7 +120,7 @@ fn a_bound_that_is_too_great_is_refused(rt: HostRuntime) -> Result<(), Fail> {
 #[test]
 fn a_goal_below_the_bound_is_refused(rt: HostRuntime) -> Result<(), Fail> {
     let alloc = rt.alloc();
-    let i = one_message(alloc)?;
+    let i = one_message(alloc, PLAIN)?;
     let low =
         "ttcert 1\nlow 9\nleaf 8 5\nes-release 0\nlo-send 0\nes-arrive 0 1\nle-own 1\nx-window 1\n";
     assert_eq!(rt; answer(alloc, &i, low)?, at(3, NodeFault::LowGoal));
@@ -205,7 +133,7 @@ fn a_goal_below_the_bound_is_refused(rt: HostRuntime) -> Result<(), Fail> {
 #[test]
 fn a_leaf_has_to_close(rt: HostRuntime) -> Result<(), Fail> {
     let alloc = rt.alloc();
-    let i = one_message(alloc)?;
+    let i = one_message(alloc, PLAIN)?;
     let empty = "ttcert 1\nlow 0\nleaf 0 0\n";
     assert_eq!(rt; answer(alloc, &i, empty)?, at(3, NodeFault::NotClosed));
     let second =
@@ -217,21 +145,52 @@ fn a_leaf_has_to_close(rt: HostRuntime) -> Result<(), Fail> {
 #[test]
 fn a_step_that_does_not_hold_is_refused_at_its_line(rt: HostRuntime) -> Result<(), Fail> {
     let alloc = rt.alloc();
-    let i = large_message(alloc)?;
+    let i = no_frame(alloc)?;
     let frames = "ttcert 1\nlow 101\nleaf 101 1\nx-frames 0 0 4294967295\n";
     assert_eq!(rt; answer(alloc, &i, frames)?, at(4, NodeFault::RefusedStep));
     let goes_on = "ttcert 1\nlow 101\nleaf 101 2\nx-frame 0\nes-release 0\n";
     assert_eq!(rt; answer(alloc, &i, goes_on)?, at(5, NodeFault::RefusedStep));
-    let twins = two_on_one_node(alloc)?;
-    let text = "ttcert 1\nlow 4\nleaf 4 4\nord-twin 0 1\nes-before 0 1\nle-own 1\nx-window 1\n";
-    assert_eq!(rt; answer(alloc, &twins, text)?, at(4, NodeFault::RefusedStep));
+    Ok(())
+}
+
+#[test]
+fn dominance_rows(rt: HostRuntime) -> Result<(), Fail> {
+    let alloc = rt.alloc();
+    let twins = two_alike(alloc)?;
+    assert_eq!(rt; answer(alloc, &twins, TWINS_IN_ORDER)?, Ok(4));
+    let turned = "ttcert 1\nlow 4\nleaf 4 4\nord-twin 1 0\nes-before 1 0\nle-own 0\nx-window 0\n";
+    assert_eq!(rt;
+        answer(alloc, &twins, turned)?,
+        at(4, NodeFault::RefusedStep)
+    );
+    let i = one_message(alloc, PLAIN)?;
+    assert_eq!(rt; answer(alloc, &i, SENT_EARLY)?, Ok(9));
+    let too_late =
+        "ttcert 1\nlow 9\nround 0 1\nleaf 9 5\nes-release 0\nlo-send 0\nes-arrive 0 1\nle-own 1\nx-window 1\nleaf 101 2\nus-settled 0\nx-late 0 2\n";
+    assert_eq!(rt;
+        answer(alloc, &i, too_late)?,
+        at(12, NodeFault::RefusedStep)
+    );
+    Ok(())
+}
+
+#[test]
+fn a_choice_without_settled_plans_is_closed_at_each_goal(rt: HostRuntime) -> Result<(), Fail> {
+    let alloc = rt.alloc();
+    let i = two_silent(alloc)?;
+    let text =
+        "ttcert 1\nlow 3\nplace 2\nleaf 3 2\nle-own 0\nx-window 0\nleaf 101 1\nx-silent 0 1\n";
+    assert_eq!(rt; answer(alloc, &i, text)?, Ok(3));
+    let in_order =
+        "ttcert 1\nlow 3\nplace 2\nleaf 101 1\nx-silent 0 1\nleaf 3 2\nle-own 0\nx-window 0\n";
+    assert_eq!(rt; answer(alloc, &i, in_order)?, at(5, NodeFault::RefusedStep));
     Ok(())
 }
 
 #[test]
 fn a_branch_has_just_its_children(rt: HostRuntime) -> Result<(), Fail> {
     let alloc = rt.alloc();
-    let i = one_message(alloc)?;
+    let i = one_message(alloc, PLAIN)?;
     let none = "ttcert 1\nlow 0\nplace 0\n";
     assert_eq!(rt; answer(alloc, &i, none)?, at(3, NodeFault::ChildCount));
     let last_is_missing =
@@ -253,7 +212,7 @@ fn a_branch_has_just_its_children(rt: HostRuntime) -> Result<(), Fail> {
 #[test]
 fn what_is_not_there_is_not_open(rt: HostRuntime) -> Result<(), Fail> {
     let alloc = rt.alloc();
-    let i = one_message(alloc)?;
+    let i = one_message(alloc, PLAIN)?;
     let texts = [
         "ttcert 1\nlow 9\ncap 2 1\nleaf 9 0\n",
         "ttcert 1\nlow 9\npair 0 1\nleaf 9 0\nleaf 9 0\n",
@@ -270,12 +229,12 @@ fn what_is_not_there_is_not_open(rt: HostRuntime) -> Result<(), Fail> {
 #[test]
 fn what_is_decided_above_is_not_open(rt: HostRuntime) -> Result<(), Fail> {
     let alloc = rt.alloc();
-    let i = one_message(alloc)?;
+    let i = one_message(alloc, PLAIN)?;
     let capacity = "ttcert 1\nlow 9\ncap 0 1\ncap 0 1\nleaf 9 0\n";
     assert_eq!(rt; answer(alloc, &i, capacity)?, at(4, NodeFault::NotOpen));
     let place = "ttcert 1\nlow 9\nplace 2\nplace 1\nplace 0\nleaf 9 0\n";
     assert_eq!(rt; answer(alloc, &i, place)?, at(5, NodeFault::NotOpen));
-    let pairs = two_on_one_node(alloc)?;
+    let pairs = two_alike(alloc)?;
     let texts = [
         "ttcert 1\nlow 4\npair 0 1\npair 0 1\nleaf 4 0\nleaf 4 0\nleaf 4 0\n",
         "ttcert 1\nlow 4\npair 0 1\npair 1 0\nleaf 4 0\nleaf 4 0\nleaf 4 0\n",

@@ -29,7 +29,7 @@ pub fn check(alloc: Global, instance: &Instance, cert: &Cert) -> Result<u32, Cer
     ensures none { IfOk result
         (λ low. low ≡ instance.now.cluster.horizon + 1 → HasNoPlan instance.now) }
 {
-    if cert.low() > instance.cluster().horizon + 1 {
+    if cert.low() > instance.past_horizon() {
         return Err(CertFault::LowTooGreat);
     }
     match go_through(alloc, instance, cert) {

@@ -1,4 +1,5 @@
--- A step whose premise holds concludes something: there is a first chance, and chances can be counted.
+-- A step whose premise holds concludes something: there is a first chance, chances can be counted, and there is a
+-- greatest wait.
 use Rattle.std.proofs.Common.{◌≡◌, ℕ, zero, suc, ◌+◌, ◌<◌, ◌≤◌, nat_le, length, Bool, true, false, arith, inl, inr, ◌⊎◌, refl}
 use Rattle.std.proofs.lemmas.Bool.{cases_Bool, cases_order, leb-true, leb-false, le-leb, both_ways}
 use Rattle.std.proofs.Math.Nat.{mul-le-mul_left}
@@ -16,6 +17,7 @@ use Rattle.tt_infer.specs.Facts.{Known, le_of}
 use Rattle.tt_infer.specs.Conclusions.{Conclusion}
 use Rattle.tt_infer.specs.Premises.{IsFirstChance, AreChances, least_ready, wcet_of}
 use Rattle.tt_infer.specs.Table.{rule}
+use Rattle.tt_infer.proofs.GreatestWaits.{greatest_wait}
 
 -- the least number that passes a test, where one does
 pub record LeastOf (test : ℕ → Bool) : Type 0 where
@@ -110,13 +112,13 @@ concludes_some i c goal f (LeMessage m q) w premise = (_, refl)
 concludes_some i c goal f (LeSend m) w premise = (_, refl)
 concludes_some i c goal f (HiArrive m q) w premise = (let is = chances i c f m q w in (_, (is.0, is.1, refl)))
 concludes_some i c goal f (OrdWindow p q) w premise = (_, refl)
-concludes_some i c goal f (OrdTwin p q) w premise = absurd premise
-concludes_some i c goal f (UsSettled p) w premise = absurd premise
+concludes_some i c goal f (OrdTwin p q) w premise = (_, refl)
+concludes_some i c goal f (UsSettled p) w premise = (let is = greatest_wait i c f p in (_, (is.0, is.1, refl)))
 concludes_some i c goal f (XWindow p) w premise = (_, refl)
 concludes_some i c goal f (XRound m) w premise = (_, refl)
 concludes_some i c goal f (XCycle ps) w premise = (_, refl)
 concludes_some i c goal f (XLoad n a b) w premise = (_, refl)
 concludes_some i c goal f (XFrame m) w premise = (_, refl)
 concludes_some i c goal f (XFrames n a b) w premise = (_, refl)
-concludes_some i c goal f (XLate m r) w premise = absurd premise
-concludes_some i c goal f (XSilent a b) w premise = absurd premise
+concludes_some i c goal f (XLate m r) w premise = (_, refl)
+concludes_some i c goal f (XSilent a b) w premise = (_, refl)

@@ -65,13 +65,13 @@ bytes_le i plan m h =
 pub x_frame_sound : (i : Problem) (c : Chosen) (goal : ℕ) (f : Known) (plan : Plan) (m : ℕ) → IsInstance i → IsSought i c goal plan → IsSoundFor i c goal f plan (XFrame m)
 x_frame_sound i c goal f plan m w sought k there premise is =
     let own = bytes_le i plan m there in
-    let fit = sought.valid.frames m there in
+    let fit = sought.settled.valid.frames m there in
     let capacity = capacity_most i c goal plan m w sought there in
     absurd (omega (arith, own, fit, capacity, premise))
 
 -- a node has a frame a round
 pub x_frames_sound : (i : Problem) (c : Chosen) (goal : ℕ) (f : Known) (plan : Plan) (n a b : ℕ) → IsInstance i → IsSought i c goal plan → AreTrueOf i plan f → IsSoundFor i c goal f plan (XFrames n a b)
 x_frames_sound i c goal f plan n a b w sought t k there premise is =
-    let capacity = (capacity_between i c plan.order plan.caps n w (agrees i c plan sought.valid sought.chosen) there).1 in
-    let fit = bytes_fit i plan f n a b sought.valid t premise.span in
+    let capacity = (capacity_between i c plan.order plan.caps n w (agrees i c plan sought.settled.valid sought.chosen) there).1 in
+    let fit = bytes_fit i plan f n a b sought.settled.valid t premise.span in
     absurd (omega (arith, fit, mul-le-mul_left (b - a) capacity, premise.bytes))

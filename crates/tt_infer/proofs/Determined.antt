@@ -1,5 +1,5 @@
 -- What a step gives, and so where steps lead, is determined.
-use Rattle.std.proofs.Common.{IsFalse, Result, Ok, Err, refl, ◌≡◌, ℕ, List, [], ◌∷◌, arith, inl, inr, ◌∙◌, sym, ap}
+use Rattle.std.proofs.Common.{IsFalse, Result, Ok, Err, refl, ◌≡◌, ℕ, ◌+◌, List, [], ◌∷◌, arith, inl, inr, ◌∙◌, sym, ap}
 use Rattle.std.proofs.lemmas.Bool.{cases_order, both_ways}
 use Rattle.std.proofs.Math.Nat.{le_antisymm}
 use Rattle.ttp_model.specs.declared.step.Step.{Step}
@@ -7,8 +7,9 @@ use Rattle.ttp_model.specs.declared.step.Step.TheVariants.{EsRelease, EsLink, Es
 use Rattle.ttp_model.specs.Problem.{Problem}
 use Rattle.tt_choice.specs.Choices.{Chosen}
 use Rattle.tt_infer.specs.Facts.{Known}
-use Rattle.tt_infer.specs.Conclusions.{Conclusion, SentFrom, SentBefore, sharpened}
-use Rattle.tt_infer.specs.Premises.{IsFirstChance, AreChances}
+use Rattle.tt_infer.specs.Conclusions.{Conclusion, EndsUntil, SentFrom, SentBefore, sharpened}
+use Rattle.tt_infer.specs.Premises.{IsFirstChance, AreChances, wcet_of}
+use Rattle.tt_infer.specs.Dominance.{IsGreatestWait}
 use Rattle.tt_infer.specs.Table.{rule, IsLawful}
 use Rattle.tt_infer.specs.Leaves.{Lead}
 use Rattle.tt_infer.specs.declared.fault.StepFault.{StepFault}
@@ -27,6 +28,9 @@ chances_are_one i c f m q r s one other = elim (cases_order r s) [
   ]
 ]
 
+pub greatest_wait_is_one : (i : Problem) (c : Chosen) (f : Known) (p time other : ℕ) → IsGreatestWait i c f p time → IsGreatestWait i c f p other → time ≡ other
+greatest_wait_is_one i c f p time other one also = le_antisymm (one.least other also.wait) (also.least time one.wait)
+
 pub concludes_one : (i : Problem) (c : Chosen) (goal : ℕ) (f : Known) (step : Step) (j k : Conclusion) → (rule i c goal f step).concludes j → (rule i c goal f step).concludes k → j ≡ k
 concludes_one i c goal f (EsRelease p) j k one other = one ∙ sym other
 concludes_one i c goal f (EsLink l) j k one other = one ∙ sym other
@@ -41,16 +45,16 @@ concludes_one i c goal f (LeMessage m q) j k one other = one ∙ sym other
 concludes_one i c goal f (LeSend m) j k one other = one ∙ sym other
 concludes_one i c goal f (HiArrive m q) j k one other = one.2 ∙ ap (SentBefore m) (chances_are_one i c f m q one.0 other.0 one.1 other.1) ∙ sym other.2
 concludes_one i c goal f (OrdWindow p q) j k one other = one ∙ sym other
-concludes_one i c goal f (OrdTwin p q) j k one other = absurd one
-concludes_one i c goal f (UsSettled p) j k one other = absurd one
+concludes_one i c goal f (OrdTwin p q) j k one other = one ∙ sym other
+concludes_one i c goal f (UsSettled p) j k one other = one.2 ∙ ap (λ time. EndsUntil p (wcet_of i p + time)) (greatest_wait_is_one i c f p one.0 other.0 one.1 other.1) ∙ sym other.2
 concludes_one i c goal f (XWindow p) j k one other = one ∙ sym other
 concludes_one i c goal f (XRound m) j k one other = one ∙ sym other
 concludes_one i c goal f (XCycle ps) j k one other = one ∙ sym other
 concludes_one i c goal f (XLoad n a b) j k one other = one ∙ sym other
 concludes_one i c goal f (XFrame m) j k one other = one ∙ sym other
 concludes_one i c goal f (XFrames n a b) j k one other = one ∙ sym other
-concludes_one i c goal f (XLate m r) j k one other = absurd one
-concludes_one i c goal f (XSilent a b) j k one other = absurd one
+concludes_one i c goal f (XLate m r) j k one other = one ∙ sym other
+concludes_one i c goal f (XSilent a b) j k one other = one ∙ sym other
 
 pub IsLawful-determined : (i : Problem) (c : Chosen) (goal : ℕ) (f : Known) (step : Step) (g h : Known) → IsLawful i c goal f step g → IsLawful i c goal f step h → g ≡ h
 IsLawful-determined i c goal f step g h one other =

@@ -16,7 +16,7 @@ use Rattle.tt_infer.proofs.Sending.{receiver_is, comes, sent_for_least, sent_fro
 -- its deadline, the horizon, and the plan's delay, which is below the goal
 pub le_own_sound : (i : Problem) (c : Chosen) (goal : ℕ) (f : Known) (plan : Plan) (p : ℕ) → IsSought i c goal plan → IsSoundFor i c goal f plan (LeOwn p)
 le_own_sound i c goal f plan p sought k there premise is =
-    let limit = sought.valid.in_time p there in
+    let limit = sought.settled.valid.in_time p there in
     let delay = greatest_each (end_of i plan) _ p there in
     rw is (omega (arith, limit, delay, sought.better))
 
@@ -38,8 +38,8 @@ le_before_sound i c goal f plan p q t k there premise is =
 -- its message has to reach a receiver
 pub le_message_sound : (i : Problem) (c : Chosen) (goal : ℕ) (f : Known) (plan : Plan) (m q : ℕ) → IsInstance i → IsSought i c goal plan → AreTrueOf i plan f → IsSoundFor i c goal f plan (LeMessage m q)
 le_message_sound i c goal f plan m q w sought t k there premise is =
-    let come = comes i plan m q sought.valid there in
-    let ready = sought.valid.ready m there.0 in
+    let come = comes i plan m q sought.settled.valid there in
+    let ready = sought.settled.valid.ready m there.0 in
     let last = t.le q (receiver_is i m q w there) in
     let long = sent_for_least i c goal plan m w sought there.0 in
     rw is (omega (arith, come, ready, last, long))
@@ -47,7 +47,7 @@ le_message_sound i c goal f plan m q w sought t k there premise is =
 -- its message has to be ready when the slot of its last round begins
 pub le_send_sound : (i : Problem) (c : Chosen) (goal : ℕ) (f : Known) (plan : Plan) (m : ℕ) → IsInstance i → IsChoice i c → IsSought i c goal plan → AreTrueOf i plan f → IsSoundFor i c goal f plan (LeSend m)
 le_send_sound i c goal f plan m w ok sought t k there premise is =
-    let ready = sought.valid.ready m there in
+    let ready = sought.settled.valid.ready m there in
     let high = sent_from_most i c goal plan m w sought there ok in
     let below = t.top m there in
     let later = start_most_later i c (source_of i m) (round_of plan m) (top_of f m - 1) (omega (arith, below)) in

@@ -20,7 +20,7 @@ first_facts_fit i c ok = record {
 pub first_facts_hold : (i : Problem) (c : Chosen) (goal : ℕ) → IsChoice i c → Hold i c goal (first_facts i c)
 first_facts_hold i c goal ok plan sought = record {
   es = λ p h. omega (arith, get_or-replicate {A = ℕ} (length i.processes) p 0 0 h);
-  le = λ p h. omega (arith, get_or-replicate {A = ℕ} (length i.processes) p i.cluster.horizon 0 h, sought.valid.in_time p h);
+  le = λ p h. omega (arith, get_or-replicate {A = ℕ} (length i.processes) p i.cluster.horizon 0 h, sought.settled.valid.in_time p h);
   lo = λ m h. (sought.chosen.ranges m h).0;
   top = λ m h. omega (arith, get_or-map (λ r. r + 1) c.hi m 0 0 (omega (arith, ok.hi_length, h)), sought.chosen.ranges m h);
   bef = sought.chosen.pairs;

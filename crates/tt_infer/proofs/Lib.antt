@@ -7,6 +7,11 @@ pub mod Ends
 pub mod Rounds
 pub mod Orders
 pub mod Closers
+pub mod Changed
+pub mod Twins
+pub mod Waits
+pub mod LateMessages
+pub mod SilentTwins
 pub mod Keeps
 pub mod Sound
 pub mod Sharper
@@ -14,8 +19,12 @@ pub mod Kept
 pub mod FirstFacts
 pub mod Leaves
 pub mod Determined
+pub mod GreatestWaits
 pub mod Chances
 pub mod OneMessage
 pub mod ThreeAlike
+pub mod ThreeInOrder
+pub mod LateExample
+pub mod TwoSilent
 pub mod OneMessageRules
 pub mod CodeSlots

@@ -1,12 +1,15 @@
 -- Five steps on the worked example with one message: they close the root choice at 9, and not at 10.
-use Rattle.std.proofs.Common.{◌≡◌, ℕ, zero, suc, ◌-◌, ◌<◌, ◌≤◌, min, List, [], ◌∷◌, arith, inl, inr, refl, lit<}
+use Rattle.std.proofs.Common.{◌≡◌, ℕ, zero, suc, ◌-◌, ◌<◌, ◌≤◌, min, List, [], ◌∷◌, length, arith, inl, inr, refl, ap, lit<}
 use Rattle.std.proofs.lemmas.Bool.{cases_order}
 use Rattle.ttp_model.specs.declared.step.Step.{Step}
 use Rattle.ttp_model.specs.declared.step.Step.TheVariants.{EsRelease, EsArrive, LoSend, LeOwn, XWindow}
 use Rattle.ttp_model.specs.Worked.{one_message}
+use Rattle.ttp_model.specs.Plans.{start_of, end_of, round_of, sent_from, sent_until}
 use Rattle.ttp_model.specs.Delays.{IsLowerBound, delay}
+use Rattle.ttp_model.proofs.ValidPlans.{greatest_each}
 use Rattle.tt_choice.specs.Branches.{root_choice}
-use Rattle.tt_choice.specs.Extremes.{start_most}
+use Rattle.tt_choice.specs.Extremes.{start_most, end_least}
+use Rattle.tt_choice.proofs.Bounds.{start_between, end_between, end_least_later}
 use Rattle.tt_choice.proofs.Root.{IsChoice-root, IsIn-root}
 use Rattle.tt_infer.specs.Facts.{Known, first_facts, le_of}
 use Rattle.tt_infer.specs.Conclusions.{StartsFrom, SentFrom, EndsUntil, NothingLeft, sharpened}
@@ -15,7 +18,8 @@ use Rattle.tt_infer.specs.Table.{IsLawful}
 use Rattle.tt_infer.specs.Leaves.{Lead, ClosesLeaf}
 use Rattle.tt_infer.proofs.OneMessageRules.{one_message_is_instance}
 use Rattle.tt_infer.proofs.Determined.{Lead-determined}
-use Rattle.tt_infer.proofs.Leaves.{leaf_leaves_none, Lead-append, Lead-split}
+use Rattle.tt_infer.proofs.Leaves.{Lead-append, Lead-split}
+use Rattle.tt_infer.proofs.Sending.{agrees}
 
 -- What is known at first, and after each step but the last: p starts at 0, m is sent in round 1, q
 -- starts at 7, and ends a tick below the goal.
@@ -90,11 +94,22 @@ open_at_10 closes =
     let narrow : le_of (ended 10) 1 < least_end one_message (ended 10) 1 = rw same at cut.2.1.1.premise in
     omega (arith, narrow)
 
+-- Whatever the plan, settled or not: p ends at 3 or later, so m isn't sent in round 0, whose slot begins by 1.
 pub bound_is_9 : IsLowerBound one_message 9
-bound_is_9 plan v = elim (cases_order (delay one_message plan) 9) [
-  | inl is ↦ omega (arith, is)
-  | inr apart ↦ elim apart [
-    | inl better ↦ absurd (leaf_leaves_none one_message (root_choice one_message) (record { goal = 9; steps = EsRelease 0 ∷ LoSend 0 ∷ EsArrive 0 1 ∷ LeOwn 1 ∷ XWindow 1 ∷ [] }) one_message_is_instance (IsChoice-root one_message one_message_is_instance) closes_at_9 plan (record { valid = v; chosen = IsIn-root one_message plan one_message_is_instance v; better = better }))
-    | inr above ↦ omega (arith, above)
-  ]
-]
+bound_is_9 plan v =
+    let w = one_message_is_instance in
+    let ok = IsChoice-root one_message w in
+    let fits = agrees one_message (root_choice one_message) plan v (IsIn-root one_message plan w v) in
+    let from = (start_between one_message (root_choice one_message) plan.order plan.caps 0 (round_of plan 0) w ok fits (lit< tt)).1 in
+    let until = (end_between one_message (root_choice one_message) plan.order plan.caps 0 (round_of plan 0) w ok fits (lit< tt)).0 in
+    let ready : 3 ≤ sent_from one_message plan 0 = omega (arith, v.ready 0 (lit< tt)) in
+    let arrived : sent_until one_message plan 0 ≤ start_of plan 1 = omega (arith, v.arrived 0 (lit< tt) 0 (lit< tt)) in
+    let late : 1 ≤ round_of plan 0 = elim (cases_order (round_of plan 0) 0) [
+      | inl is ↦
+          let early : start_most one_message (root_choice one_message) 0 (round_of plan 0) ≡ 1 = ap (start_most one_message (root_choice one_message) 0) is in
+          absurd (omega (arith, from, ready, early))
+      | inr apart ↦ elim apart [ inl below ↦ absurd (omega (arith, below)) | inr above ↦ omega (arith, above) ]
+    ] in
+    let again : 7 ≤ end_least one_message (root_choice one_message) 0 (round_of plan 0) = end_least_later one_message (root_choice one_message) 0 1 (round_of plan 0) late in
+    let end : end_of one_message plan 1 ≤ delay one_message plan = greatest_each (end_of one_message plan) (length one_message.processes) 1 (lit< tt) in
+    omega (arith, until, arrived, again, end)

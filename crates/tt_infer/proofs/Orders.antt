@@ -25,7 +25,7 @@ ord_window_sound i c goal f plan p q v t k there premise is =
     ]
 
 -- a link keeps its processes one after the other
-link_kept : (i : Problem) (plan : Plan) (p q : ℕ) → IsValid i plan → HasLink i p q → EndsBefore i plan p q
+pub link_kept : (i : Problem) (plan : Plan) (p q : ℕ) → IsValid i plan → HasLink i p q → EndsBefore i plan p q
 link_kept i plan p q v link = omega (arith, v.links link.link link.is_there, ap (end_of i plan) link.before, ap (start_of plan) link.after)
 
 -- what goes ahead starts strictly earlier

@@ -36,15 +36,15 @@ agrees i c plan v inside = record { nodes = v.order; prefix = inside.prefix; cap
 -- The four bounds of a message of a sought plan.
 module _ (i : Problem) (c : Chosen) (goal : ℕ) (plan : Plan) (m : ℕ) (w : IsInstance i) (sought : IsSought i c goal plan) (there : m < length i.messages) where
   pub capacity_most : slice_index plan.caps (source_of i m) ≤ cap_most i c (source_of i m)
-  capacity_most = (capacity_between i c plan.order plan.caps (source_of i m) w (agrees i c plan sought.valid sought.chosen) (source_is i m w there)).1
+  capacity_most = (capacity_between i c plan.order plan.caps (source_of i m) w (agrees i c plan sought.settled.valid sought.chosen) (source_is i m w there)).1
 
   pub sent_for_least : sent_from i plan m + dur_least i c (source_of i m) ≤ sent_until i plan m
   sent_for_least =
-      let low = (duration_between i c plan.order plan.caps (source_of i m) w (agrees i c plan sought.valid sought.chosen) (source_is i m w there)).0 in
+      let low = (duration_between i c plan.order plan.caps (source_of i m) w (agrees i c plan sought.settled.valid sought.chosen) (source_is i m w there)).0 in
       omega (arith, low)
 
   pub sent_from_most : IsChoice i c → sent_from i plan m ≤ start_most i c (source_of i m) (round_of plan m)
-  sent_from_most ok = (start_between i c plan.order plan.caps (source_of i m) (round_of plan m) w ok (agrees i c plan sought.valid sought.chosen) (source_is i m w there)).1
+  sent_from_most ok = (start_between i c plan.order plan.caps (source_of i m) (round_of plan m) w ok (agrees i c plan sought.settled.valid sought.chosen) (source_is i m w there)).1
 
   pub sent_until_least : IsChoice i c → end_least i c (source_of i m) (round_of plan m) ≤ sent_until i plan m
-  sent_until_least ok = (end_between i c plan.order plan.caps (source_of i m) (round_of plan m) w ok (agrees i c plan sought.valid sought.chosen) (source_is i m w there)).0
+  sent_until_least ok = (end_between i c plan.order plan.caps (source_of i m) (round_of plan m) w ok (agrees i c plan sought.settled.valid sought.chosen) (source_is i m w there)).0

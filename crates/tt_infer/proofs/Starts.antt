@@ -35,7 +35,7 @@ es_before_sound i c goal f plan p q t k there premise is =
 -- a message was sent in its least round, or later
 pub es_arrive_sound : (i : Problem) (c : Chosen) (goal : ℕ) (f : Known) (plan : Plan) (m q : ℕ) → IsInstance i → IsChoice i c → IsSought i c goal plan → AreTrueOf i plan f → IsSoundFor i c goal f plan (EsArrive m q)
 es_arrive_sound i c goal f plan m q w ok sought t k there premise is =
-    let come = comes i plan m q sought.valid there in
+    let come = comes i plan m q sought.settled.valid there in
     let low = sent_until_least i c goal plan m w sought there.0 ok in
     let later = end_least_later i c (source_of i m) (lo_of f m) (round_of plan m) (t.lo m there.0) in
     rw is (omega (arith, come, low, later))
@@ -43,8 +43,8 @@ es_arrive_sound i c goal f plan m q w ok sought t k there premise is =
 -- a message was ready, and was sent in a slot of the least duration or a longer one
 pub es_message_sound : (i : Problem) (c : Chosen) (goal : ℕ) (f : Known) (plan : Plan) (m q : ℕ) → IsInstance i → IsSought i c goal plan → AreTrueOf i plan f → IsSoundFor i c goal f plan (EsMessage m q)
 es_message_sound i c goal f plan m q w sought t k there premise is =
-    let come = comes i plan m q sought.valid there in
-    let ready = sought.valid.ready m there.0 in
+    let come = comes i plan m q sought.settled.valid there in
+    let ready = sought.settled.valid.ready m there.0 in
     let first = t.es (sender_of i m) (sender_is i m w there.0) in
     let long = sent_for_least i c goal plan m w sought there.0 in
     rw is (omega (arith, come, ready, first, long))

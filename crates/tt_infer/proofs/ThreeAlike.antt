@@ -1,13 +1,11 @@
 -- Four steps on the worked example with three processes of one node: they close the root choice at 6, and not at 7.
 use Rattle.std.proofs.Common.{◌≡◌, ℕ, ◌-◌, ◌<◌, min, List, [], ◌∷◌, arith, refl, lit<}
 use Rattle.ttp_model.specs.declared.step.Step.{Step}
-use Rattle.ttp_model.specs.declared.step.Step.TheVariants.{LeOwn, XLoad, OrdTwin}
+use Rattle.ttp_model.specs.declared.step.Step.TheVariants.{LeOwn, XLoad}
 use Rattle.ttp_model.specs.Problem.{process_at}
 use Rattle.ttp_model.specs.Worked.{three_alike}
 use Rattle.tt_choice.specs.Branches.{root_choice}
 use Rattle.tt_choice.specs.Totals.{total}
-use Rattle.tt_infer.specs.declared.fault.StepFault.TheVariants.{NoPremise}
-use Rattle.tt_infer.specs.Answers.{IsStepFault}
 use Rattle.tt_infer.specs.Facts.{Known, first_facts}
 use Rattle.tt_infer.specs.Conclusions.{EndsUntil, NothingLeft, sharpened}
 use Rattle.tt_infer.specs.Premises.{load_within}
@@ -65,7 +63,3 @@ open_at_7 closes =
     let same : cut.0 ≡ c_ended 7 = Lead-determined three_alike (root_choice three_alike) 7 at_first three_steps cut.0 (c_ended 7) cut.1 (lead 7) in
     let load : 5 - 0 < total (load_within three_alike (c_ended 7) 0 0 5) 3 = rw same at cut.2.1.1.premise.load in
     omega (arith, load)
-
--- a step of dominance is refused
-pub twins_are_refused : IsStepFault three_alike (root_choice three_alike) 6 (first_facts three_alike (root_choice three_alike)) (OrdTwin 0 1) NoPremise
-twins_are_refused = (refl, (record { first = lit< tt; second = lit< tt; two = λ same. omega (arith, same); one_node = refl }, λ is. is))

@@ -2,7 +2,8 @@
 use Rattle.std.specs.Prelude.{◌≡◌, ℕ, ◌+◌, ◌*◌, ◌<◌, ◌≤◌, List, length, slice_index, map, replicate, Bool, false, IsTrue, IsFalse}
 use Rattle.ttp_model.specs.declared.plan.Plan.{Plan}
 use Rattle.ttp_model.specs.Problem.{Problem}
-use Rattle.ttp_model.specs.Plans.{IsValid, EndsBefore, start_of, end_of, round_of}
+use Rattle.ttp_model.specs.Plans.{EndsBefore, start_of, end_of, round_of}
+use Rattle.ttp_model.specs.Moves.{IsSettled}
 use Rattle.ttp_model.specs.Delays.{delay}
 use Rattle.tt_choice.specs.Before.{Before, goes_before}
 use Rattle.tt_choice.specs.Choices.{Chosen, IsIn}
@@ -57,9 +58,9 @@ pub record Fits (i : Problem) (f : Known) : Type 0 where
   pub processes : f.bef.processes ≡ length i.processes
   pub tests : length f.bef.tests ≡ length i.processes * length i.processes
 
--- a plan that is sought: a valid one in the choice, with a delay below the goal
+-- a plan that is sought: a settled one in the choice, with a delay below the goal
 pub record IsSought (i : Problem) (c : Chosen) (goal : ℕ) (plan : Plan) : Type 0 where
-  pub valid : IsValid i plan
+  pub settled : IsSettled i plan
   pub chosen : IsIn i c plan
   pub better : delay i plan < goal
 

@@ -5,8 +5,8 @@ use Rattle.ttp_model.specs.Rules.{IsInstance}
 use Rattle.tt_choice.specs.Choices.{Chosen, IsChoice}
 use Rattle.tt_infer.specs.Facts.{Known, Fits, Hold}
 
--- an instance, a choice of it, a goal in ticks, and what is known of the plans of the choice with a
--- delay below the goal
+-- an instance, a choice of it, a goal in ticks, and what is known of the settled plans of the choice
+-- with a delay below the goal
 pub record Inference : Type 0 where
   pub instance : Problem
   pub choice : Chosen

@@ -1,8 +1,10 @@
 pub mod Facts
 pub mod Conclusions
 pub mod Premises
+pub mod Dominance
 pub mod Table
 pub mod Leaves
+pub mod Worked
 pub mod Answers
 pub mod Inference
 pub mod Sought

@@ -6,7 +6,7 @@ use Rattle.ttp_model.specs.Problem.{Problem}
 use Rattle.ttp_model.specs.Rules.{IsInstance}
 use Rattle.tt_choice.specs.Totals.{total}
 use Rattle.tt_choice.specs.Choices.{Chosen, IsChoice}
-use Rattle.tt_choice.specs.Extremes.{cap_most, dur_least, dur_most, offset_least, offset_most}
+use Rattle.tt_choice.specs.Extremes.{cap_least, cap_most, dur_least, dur_most, offset_least, offset_most}
 use Rattle.ttp_model.specs.declared.step.Step.{Step}
 use Rattle.tt_infer.specs.declared.fault.StepFault.{StepFault}
 use Rattle.tt_infer.specs.declared.slots.SlotTimes.{SlotTimes}
@@ -14,7 +14,7 @@ use Rattle.tt_infer.specs.Facts.{Known}
 use Rattle.tt_infer.specs.Answers.{Takes}
 use Rattle.tt_infer.specs.Inference.{Inference}
 
--- the plans of a choice of an instance with a delay below a goal
+-- the settled plans of a choice of an instance with a delay below a goal
 pub record Sought : Type 0 where
   pub instance : Problem
   pub choice : Chosen
@@ -28,13 +28,15 @@ inference s known = record { instance = s.instance; choice = s.choice; goal = s.
 abbrev pub TakesOf : Sought → Known → Step → Known → Result Unit StepFault → Type 0
 TakesOf s f step g result = Takes s.instance s.choice s.goal f step g result
 
--- the least and the greatest times of the slot of node n, and its greatest capacity
+-- the least and the greatest times and capacities of the slot of node n
 pub record AreSlotTimes (i : Problem) (c : Chosen) (n : ℕ) (s : SlotTimes) : Type 0 where
   pub round_least : s.round_least ≡ total (dur_least i c) (length i.nodes)
   pub round_most : s.round_most ≡ total (dur_most i c) (length i.nodes)
   pub offset_least : s.offset_least ≡ offset_least i c n
   pub offset_most : s.offset_most ≡ offset_most i c n
   pub dur_least : s.dur_least ≡ dur_least i c n
+  pub dur_most : s.dur_most ≡ dur_most i c n
+  pub cap_least : s.cap_least ≡ cap_least i c n
   pub cap_most : s.cap_most ≡ cap_most i c n
 
 -- no time is so long that sums of them don't fit, and no round is nothing
@@ -46,6 +48,8 @@ pub record AreShort (s : SlotTimes) : Type 0 where
   pub offset_least : s.offset_least < 2 ^ 57
   pub offset_most : s.offset_most < 2 ^ 57
   pub dur_least : s.dur_least ≤ MOST_DURATION
+  pub dur_most : s.dur_most ≤ MOST_DURATION
+  pub cap_least : s.cap_least ≤ MOST_BYTES
   pub cap_most : s.cap_most ≤ MOST_BYTES
 
 -- no slot, which is read past the last one
@@ -56,6 +60,8 @@ no_slot = record {
   offset_least = 0;
   offset_most = 0;
   dur_least = 0;
+  dur_most = 0;
+  cap_least = 0;
   cap_most = 0;
 }
 
@@ -74,3 +80,9 @@ pub record IsSetting (s : Sought) (all : List SlotTimes) : Type 0 where
   pub instance : IsInstance s.instance
   pub choice : IsChoice s.instance s.choice
   pub slots : AreSlots s.instance s.choice all
+
+-- the greatest of a time and of the values of those below a count that P picks
+pub record IsGreatestOf (P : ℕ → Type 0) (value : ℕ → ℕ) (base count time : ℕ) : Type 0 where
+  pub base_is : base ≤ time
+  pub each : (k : ℕ) → k < count → P k → value k ≤ time
+  pub least : (other : ℕ) → base ≤ other → ((k : ℕ) → k < count → P k → value k ≤ other) → time ≤ other

@@ -8,6 +8,7 @@ use Rattle.tt_choice.specs.Choices.{Chosen, ArePair}
 use Rattle.tt_choice.specs.Extremes.{start_most, end_least, cap_most, dur_least}
 use Rattle.tt_infer.specs.Facts.{Known, le_of, lo_of, top_of, bef_of}
 use Rattle.tt_infer.specs.Conclusions.{Conclusion, StartsFrom, EndsUntil, SentFrom, SentBefore, GoesFirst, NothingLeft, sharpened}
+use Rattle.tt_infer.specs.Dominance.{AreTwinsInOrder, HasRounds, IsGreatestWait, CouldBeEarlier, StandTurned}
 use Rattle.tt_infer.specs.Premises.{Receives, wcet_of, sender_of, least_end, most_start, least_ready, IsFirstChance, AreChances, IsRing, IsOverloaded, AreOverfull}
 
 -- a row: what the step names is there, its premise, and what it concludes
@@ -40,10 +41,6 @@ AreProcesses i ps = (2 ≤ length ps) × EachBelow (length ps) (λ k. IsProcess 
 abbrev pub Always : Type 0
 Always = Unit {0}
 
--- a step that is refused wherever what it names is there
-abbrev pub refused : Type 0 → Row
-refused there = row there ⊥ (λ k. ⊥)
-
 -- just this conclusion
 abbrev pub Just : Conclusion → Conclusion → Type 0
 Just this other = other ≡ this
@@ -63,16 +60,16 @@ rule i c goal f (LeMessage m q) = row (Receives i m q) Always (Just (EndsUntil (
 rule i c goal f (LeSend m) = row (IsMessage i m) (1 ≤ top_of f m) (Just (EndsUntil (sender_of i m) (start_most i c (source_of i m) (top_of f m - 1) - i.cluster.copy_out)))
 rule i c goal f (HiArrive m q) = row (Receives i m q) Always (λ k. (r : ℕ) × AreChances i c f m q r × (k ≡ SentBefore m r))
 rule i c goal f (OrdWindow p q) = row (ArePair i p q) (le_of f p < least_end i f q + wcet_of i p) (Just (GoesFirst p q))
-rule i c goal f (OrdTwin p q) = refused (ArePair i p q)
-rule i c goal f (UsSettled p) = refused (IsProcess i p)
+rule i c goal f (OrdTwin p q) = row (ArePair i p q) (AreTwinsInOrder i p q) (Just (GoesFirst p q))
+rule i c goal f (UsSettled p) = row (IsProcess i p) (HasRounds i f p) (λ k. (time : ℕ) × IsGreatestWait i c f p time × (k ≡ EndsUntil p (wcet_of i p + time)))
 rule i c goal f (XWindow p) = row (IsProcess i p) (le_of f p < least_end i f p) (Just NothingLeft)
 rule i c goal f (XRound m) = row (IsMessage i m) (top_of f m ≤ lo_of f m) (Just NothingLeft)
 rule i c goal f (XCycle ps) = row (AreProcesses i ps) (IsRing i f ps) (Just NothingLeft)
 rule i c goal f (XLoad n a b) = row (IsNode i n) (IsOverloaded i f n a b) (Just NothingLeft)
 rule i c goal f (XFrame m) = row (IsMessage i m) (cap_most i c (source_of i m) < (message_at i m).bytes) (Just NothingLeft)
 rule i c goal f (XFrames n a b) = row (IsNode i n) (AreOverfull i c f n a b) (Just NothingLeft)
-rule i c goal f (XLate m r) = refused (IsMessage i m)
-rule i c goal f (XSilent u v) = refused (IsNode i u × IsNode i v)
+rule i c goal f (XLate m r) = row (IsMessage i m) (CouldBeEarlier i c f m r) (Just NothingLeft)
+rule i c goal f (XSilent u v) = row (IsNode i u × IsNode i v) (StandTurned i c u v) (Just NothingLeft)
 
 -- a step of the table: what it names is there, its premise holds, and what is known after it is what
 -- was known before, sharpened by its conclusion

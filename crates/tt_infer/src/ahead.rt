@@ -1,25 +1,12 @@
 //! Does a process wait for another?
 
 ghost use Rattle.std.specs.Prelude.{◌↔◌, IsTrue};
-ghost use Rattle.ttp_model.specs.Graph.{HasLink, HasMessage};
+ghost use Rattle.ttp_model.specs.Graph.{HasMessage};
 ghost use Rattle.tt_infer.specs.Premises.{IsAhead};
 
 use crate::indices::has;
 use crate::known::Bounds;
-use ttp_model::Instance;
-
-/// Whether a link leads from `p` to `q`.
-fn has_link(instance: &Instance, p: u32, q: u32) -> bool
-    ensures { IsTrue result ↔ HasLink instance.now p q }
-{
-    for l in 0..instance.links().len() {
-        let link = instance.link_at(l);
-        if link.before == p && link.after == q {
-            return true;
-        }
-    }
-    false
-}
+use ttp_model::{Instance, has_link};
 
 /// Whether `p` sends a message to `q`.
 fn has_message(instance: &Instance, p: u32, q: u32) -> bool

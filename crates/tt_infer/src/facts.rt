@@ -18,7 +18,7 @@ use ttp_model::{Instance, MemoryFault, Step};
 
 /// What is known of the plans of a choice with a delay below a goal: when each process starts at
 /// least and ends at most, in which rounds each message can be sent, which processes go before
-/// which, and whether no plan is left. It is true of each valid plan among them.
+/// which, and whether no plan is left. It is true of each settled plan among them.
 #[derive(Drop)]
 pub struct Facts<'a> {
     setting: Setting<'a>,
@@ -60,9 +60,10 @@ impl<'a> Facts<'a> {
     }
 
     /// Takes a step, or refuses it: then nothing has changed. A step of loads takes a pass over the
-    /// processes or the messages, `XCycle` a pass over the links and one over the messages for each
-    /// two neighbours, a step that names a receiver a pass over the message's receivers, and each
-    /// other step a few look-ups. Takes no memory.
+    /// processes or the messages, `XLate` one over the messages, `UsSettled` one over both, `XCycle` a
+    /// pass over the links and one over the messages for each two neighbours, `OrdTwin` at most a pass
+    /// over the links for each link, `XSilent` one over the messages, a step that names a receiver a
+    /// pass over the message's receivers, and each other step a few look-ups. Takes no memory.
     pub fn apply(&mut self, step: &Step) -> Result<(), StepFault>
         ensures others { self.new ≡ after self.old self.new.known }
         ensures step { Takes self.old.instance self.old.choice self.old.goal self.old.known

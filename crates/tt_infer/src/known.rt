@@ -41,13 +41,6 @@ fn lesser(a: u32, b: u64) -> u32
     if u64::from(a) <= b { a } else { b as u32 }
 }
 
-/// The first tick and the first round past the horizon.
-fn past_horizon(instance: &Instance) -> u32
-    ensures { result ≡ instance.now.cluster.horizon + 1 }
-{
-    instance.cluster().horizon + 1
-}
-
 /// The least round of each message.
 fn least_rounds(alloc: Global, choice: &Choice, messages: u32) -> Result<Vec<u32>, MemoryFault>
     requires { length choice.now.lo ≡ messages }
@@ -142,7 +135,7 @@ impl Bounds {
         requires { p < length self.old.es }
         ensures { self.new ≡ sharpened instance.now self.old (StartsFrom p time) }
     {
-        let new = self.es[p as usize].max(lesser(past_horizon(instance), time));
+        let new = self.es[p as usize].max(lesser(instance.past_horizon(), time));
         self.es[p as usize] = new;
     }
 
@@ -160,7 +153,7 @@ impl Bounds {
         requires { m < length self.old.lo }
         ensures { self.new ≡ sharpened instance.now self.old (SentFrom m r) }
     {
-        let new = self.lo[m as usize].max(lesser(past_horizon(instance), r));
+        let new = self.lo[m as usize].max(lesser(instance.past_horizon(), r));
         self.lo[m as usize] = new;
     }
 

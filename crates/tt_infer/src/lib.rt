@@ -2,15 +2,18 @@
 #![tactic(auto)]
 
 mod ahead;
+mod exchanges;
 mod facts;
 mod fault;
 mod indices;
 mod known;
+mod late;
 mod laws;
 mod rules;
 mod setting;
 mod slots;
 mod times;
+mod wait;
 mod worked;
 
 pub use facts::Facts;
@@ -19,7 +22,10 @@ pub use laws::{
     first_facts_hold, leaves_rule_out, rules_are_sound, rules_conclude, steps_are_determined,
     steps_are_sound, steps_only_sharpen,
 };
-pub use worked::{one_message_closes_at_9, three_alike_close_at_6};
+pub use worked::{
+    one_message_closes_at_9, one_message_is_not_sent_late, silent_twins_stand_in_order,
+    three_alike_close_at_6, three_alike_end_by_2_4_6,
+};
 
 #[cfg(test)]
 mod tests;

@@ -3,7 +3,7 @@
 ghost use Rattle.std.specs.Prelude.{◌≡◌, ℕ, ◌+◌, ◌^◌, ◌<◌, ◌≤◌, ◌↔◌, IfOk, length};
 ghost use Rattle.ttp_model.specs.declared.limits.TheConstants.{MOST_BYTES, MOST_DURATION};
 ghost use Rattle.tt_choice.specs.Choices.{IsChoice};
-ghost use Rattle.tt_choice.specs.Extremes.{start_most, end_least, cap_most, dur_least};
+ghost use Rattle.tt_choice.specs.Extremes.{start_least, start_most, end_least, end_most, cap_least, cap_most, dur_least};
 ghost use Rattle.tt_infer.specs.Sought.{AreSlotTimes, AreShort};
 
 use crate::slots::{self, SlotTimes};
@@ -90,6 +90,16 @@ impl<'a> Setting<'a> {
         &self.slots[n as usize]
     }
 
+    /// When the slot of node `n` begins in round `r` at least, in ticks.
+    pub fn start_least(&self, n: u32, r: u32) -> u64
+        requires { n < length self.now.instance.nodes }
+        ensures value { result ≡ start_least self.now.instance self.now.choice n r }
+        ensures bound { result < 2 ^ 58 }
+    {
+        let slot = self.slot(n);
+        u64::from(r) * slot.round_least + slot.offset_least
+    }
+
     /// When the slot of node `n` begins in round `r` at most, in ticks.
     pub fn start_most(&self, n: u32, r: u32) -> u64
         requires { n < length self.now.instance.nodes }
@@ -110,6 +120,15 @@ impl<'a> Setting<'a> {
         u64::from(r) * slot.round_least + slot.offset_least + slot.dur_least
     }
 
+    /// When the slot of node `n` ends in round `r` at most, in ticks.
+    pub fn end_most(&self, n: u32, r: u32) -> u64
+        requires { n < length self.now.instance.nodes }
+        ensures value { result ≡ end_most self.now.instance self.now.choice n r }
+        ensures bound { result < 2 ^ 59 }
+    {
+        self.start_most(n, r) + self.slot(n).dur_most
+    }
+
     /// The least duration of the slot of node `n`, in ticks.
     pub fn dur_least(&self, n: u32) -> u64
         requires { n < length self.now.instance.nodes }
@@ -117,6 +136,15 @@ impl<'a> Setting<'a> {
         ensures bound { result ≤ MOST_DURATION }
     {
         self.slot(n).dur_least
+    }
+
+    /// The bytes that the slot of node `n` carries at least.
+    pub fn cap_least(&self, n: u32) -> u32
+        requires { n < length self.now.instance.nodes }
+        ensures value { result ≡ cap_least self.now.instance self.now.choice n }
+        ensures bound { result ≤ MOST_BYTES }
+    {
+        self.slot(n).cap_least
     }
 
     /// The bytes that the slot of node `n` carries at most.

@@ -6,7 +6,7 @@ ghost use Rattle.tt_infer.specs.Sought.{AreSlotTimes, AreShort, AreSlots};
 
 use std::alloc::Global;
 use tt_choice::Choice;
-use ttp_model::{Instance, MemoryFault};
+use ttp_model::{Instance, MemoryFault, slot_duration};
 
 /// The slot of one node, over all plans of a choice, with what its times are reckoned from. Times
 /// are ticks.
@@ -22,6 +22,10 @@ pub struct SlotTimes {
     pub offset_most: u64,
     /// The least duration of the slot.
     pub dur_least: u64,
+    /// Its greatest duration.
+    pub dur_most: u64,
+    /// The bytes that it carries at least.
+    pub cap_least: u32,
     /// The bytes that it carries at most.
     pub cap_most: u32,
 }
@@ -36,13 +40,16 @@ fn times_of(instance: &Instance, choice: &Choice, n: u32) -> SlotTimes
     let _nodes = instance.nodes();
     let offset_least = choice.start_least(instance, n, 0);
     let offset_most = choice.start_most(instance, n, 0);
+    let cap_most = choice.cap_most(instance, n);
     SlotTimes {
         round_least: choice.start_least(instance, n, 1) - offset_least,
         round_most: choice.start_most(instance, n, 1) - offset_most,
         offset_least,
         offset_most,
         dur_least: choice.dur_least(instance, n),
-        cap_most: choice.cap_most(instance, n),
+        dur_most: slot_duration(instance.cluster(), cap_most),
+        cap_least: choice.cap_least(instance, n),
+        cap_most,
     }
 }
 

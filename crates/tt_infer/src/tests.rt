@@ -5,6 +5,7 @@ ghost use Rattle.tt_choice.specs.Choices.{IsChoice};
 
 mod chains;
 mod closers;
+mod dominance;
 mod instances;
 mod refusals;
 
@@ -102,6 +103,33 @@ fn order<R: Abort>(
     assert!(rt; choice.is_open(i, &Kind::Pair(p, q)));
     choice.before(alloc, i, p, q)?;
     Ok(())
+}
+
+/// Puts node `n` next in the order.
+fn put_next<R: Abort>(
+    rt: &R,
+    alloc: Global,
+    i: &Instance,
+    choice: &mut Choice,
+    n: u32,
+) -> Result<(), Fail>
+    requires { IsChoice i.now choice.old }
+    ensures { OnOk result (IsChoice i.now choice.new) }
+{
+    assert!(rt; (n as usize) < i.nodes().len());
+    assert!(rt; !choice.prefix().contains(&n));
+    choice.place(alloc, i, n)?;
+    Ok(())
+}
+
+/// Lets message `m` be sent in round `r` at least.
+fn send_from<R: Abort>(rt: &R, i: &Instance, choice: &mut Choice, m: u32, r: u32)
+    requires { IsChoice i.now choice.old }
+    ensures { IsChoice i.now choice.new }
+{
+    assert!(rt; (m as usize) < i.messages().len());
+    assert!(rt; choice.lo(m) < r && r <= choice.hi(m));
+    choice.rounds_at_least(m, r);
 }
 
 /// Lets message `m` be sent in round `r` at most.

@@ -1,17 +1,18 @@
 //! Steps on worked examples. These functions do nothing: their contracts are what the steps come to.
 
-ghost use Rattle.std.specs.Prelude.{◌∷◌, []};
-ghost use Rattle.ttp_model.specs.declared.step.Step.TheVariants.{EsRelease, LoSend, EsArrive, LeOwn, OrdTwin, XWindow, XLoad};
+ghost use Rattle.std.specs.Prelude.{◌≡◌, ◌∷◌, [], ℕ};
+ghost use Rattle.ttp_model.specs.declared.step.Step.TheVariants.{EsRelease, LoSend, EsArrive, LeOwn, OrdTwin, UsSettled, XWindow, XLoad, XLate, XSilent};
 ghost use Rattle.ttp_model.specs.Delays.{IsLowerBound};
 ghost use Rattle.ttp_model.specs.Worked.{one_message, three_alike};
-ghost use Rattle.tt_choice.specs.Branches.{root_choice};
+ghost use Rattle.tt_choice.specs.Branches.{root_choice, at_least, place_next};
 ghost use Rattle.tt_infer.specs.declared.fault.StepFault.TheVariants.{NoPremise};
-ghost use Rattle.tt_infer.specs.Facts.{first_facts};
-ghost use Rattle.tt_infer.specs.Leaves.{ClosesLeaf};
+ghost use Rattle.tt_infer.specs.Facts.{Known, first_facts};
+ghost use Rattle.tt_infer.specs.Leaves.{Lead, ClosesLeaf};
 ghost use Rattle.tt_infer.specs.Answers.{IsStepFault};
+ghost use Rattle.tt_infer.specs.Worked.{two_silent};
 
 /// Process p takes 3 ticks, so its message is sent in round 1, from 4 to 7, and q ends at 9: five
-/// steps close the root choice at 9, so that no plan has a smaller delay. At 10 they don't.
+/// steps close the root choice at 9. At 10 they don't. No plan has a smaller delay, settled or not.
 pub fn one_message_closes_at_9()
     ensures at_9 { ClosesLeaf one_message (root_choice one_message) (record {
       goal = 9;
@@ -24,8 +25,18 @@ pub fn one_message_closes_at_9()
     ensures bound { IsLowerBound one_message 9 }
 {}
 
+/// A settled plan sends the message in round 0 or 1: two steps close the choice in which it is sent in
+/// round 2 or later, at each goal, since process p ends by 3 and the slot of round 1 begins at 4 or
+/// later.
+pub fn one_message_is_not_sent_late()
+    ensures { (goal : ℕ) → ClosesLeaf one_message (at_least (root_choice one_message) 0 2) (record {
+      goal = goal;
+      steps = UsSettled 0 ∷ XLate 0 1 ∷ [];
+    }) }
+{}
+
 /// Three processes of two ticks each that end by 5 are a tick too many for one node: four steps
-/// close the root choice at 6. At 7 they don't. The step for twins is refused.
+/// close the root choice at 6. At 7 they don't.
 pub fn three_alike_close_at_6()
     ensures at_6 { ClosesLeaf three_alike (root_choice three_alike) (record {
       goal = 6;
@@ -35,5 +46,27 @@ pub fn three_alike_close_at_6()
       goal = 7;
       steps = LeOwn 0 ∷ LeOwn 1 ∷ LeOwn 2 ∷ XLoad 0 0 5 ∷ [];
     }) }
-    ensures twins { IsStepFault three_alike (root_choice three_alike) 6 (first_facts three_alike (root_choice three_alike)) (OrdTwin 0 1) NoPremise }
+{}
+
+/// The three are twins, two by two, so in a settled plan they go in their order, and none waits for
+/// what comes after it: six steps tell that they end by 2, 4 and 6. That the second goes before the
+/// first is refused.
+pub fn three_alike_end_by_2_4_6()
+    ensures ends { (goal : ℕ) → (g : Known)
+        × Lead three_alike (root_choice three_alike) goal (first_facts three_alike (root_choice three_alike))
+        (OrdTwin 0 1 ∷ OrdTwin 0 2 ∷ OrdTwin 1 2 ∷ UsSettled 0 ∷ UsSettled 1 ∷ UsSettled 2 ∷ []) g
+        × (g.le ≡ 2 ∷ 4 ∷ 6 ∷ []) }
+    ensures turned { (goal : ℕ) → IsStepFault three_alike (root_choice three_alike) goal (first_facts three_alike (root_choice three_alike)) (OrdTwin 1 0) NoPremise }
+{}
+
+/// A settled plan has two silent nodes with the same capacities in their order: one step closes the
+/// choice in which the second is placed first, at each goal. Where they are placed in their order it
+/// is refused.
+pub fn silent_twins_stand_in_order()
+    ensures turned { (goal : ℕ) → ClosesLeaf two_silent (place_next (root_choice two_silent) 1) (record {
+      goal = goal;
+      steps = XSilent 0 1 ∷ [];
+    }) }
+    ensures in_order { (goal : ℕ) → IsStepFault two_silent (place_next (place_next (root_choice two_silent) 0) 1) goal
+        (first_facts two_silent (place_next (place_next (root_choice two_silent) 0) 1)) (XSilent 0 1) NoPremise }
 {}

@@ -1,62 +1,104 @@
-//! What of settled plans alone can be said?
-//!
-//! These steps aren't built: each is refused as if its premise didn't hold.
+//! What is true of settled plans alone?
 
-ghost use Rattle.std.specs.Prelude.{IsFalse};
+ghost use Rattle.std.specs.Prelude.{◌↔◌, IsFalse, IsTrue};
 ghost use Rattle.ttp_model.specs.declared.step.Step.TheVariants.{OrdTwin, UsSettled, XLate, XSilent};
+ghost use Rattle.tt_infer.specs.Dominance.{StandsFirst};
 ghost use Rattle.tt_infer.specs.Sought.{TakesOf};
 ghost use Rattle.tt_infer.specs.Facts.{Fits};
 
+use crate::exchanges::{are_silent_twins, are_twins};
 use crate::fault::StepFault;
 use crate::indices::are_pair;
 use crate::known::Bounds;
+use crate::late::could_be_earlier;
 use crate::setting::Setting;
+use crate::wait::greatest_wait;
 
-/// Of twins the first goes first.
+/// Of twins the first goes first: else they would exchange their starts.
 pub fn ord_twin(known: &mut Bounds, setting: &Setting, p: u32, q: u32) -> Result<(), StepFault>
     requires fits { Fits setting.now.instance known.old }
     requires open { IsFalse known.old.closed }
     ensures { TakesOf setting.now known.old (OrdTwin p q) known.new result }
 {
-    if !are_pair(setting.instance(), p, q) {
+    let instance = setting.instance();
+    if !are_pair(instance, p, q) {
         return Err(StepFault::NoSuchIndex);
     }
-    Err(StepFault::NoPremise)
+    if p > q || !are_twins(instance, p, q) {
+        return Err(StepFault::NoPremise);
+    }
+    known.go_first(instance, p, q);
+    Ok(())
 }
 
-/// A process waits no longer than it has to.
+/// A process starts as soon as nothing is left that it may have to wait for: else it would start a
+/// tick earlier.
 pub fn us_settled(known: &mut Bounds, setting: &Setting, p: u32) -> Result<(), StepFault>
     requires fits { Fits setting.now.instance known.old }
     requires open { IsFalse known.old.closed }
     ensures { TakesOf setting.now known.old (UsSettled p) known.new result }
 {
-    if p as usize >= setting.instance().processes().len() {
+    let instance = setting.instance();
+    if p as usize >= instance.processes().len() {
         return Err(StepFault::NoSuchIndex);
     }
-    Err(StepFault::NoPremise)
+    let Some(time) = greatest_wait(known, setting, p) else {
+        return Err(StepFault::NoPremise);
+    };
+    let wcet = u64::from(instance.process_at(p as usize).wcet);
+    known.end_until(instance, p, wcet + time);
+    Ok(())
 }
 
-/// A message isn't sent later than it could be.
-pub fn x_late(known: &mut Bounds, setting: &Setting, m: u32, _r: u32) -> Result<(), StepFault>
+/// A message that could be sent in an earlier round is.
+pub fn x_late(known: &mut Bounds, setting: &Setting, m: u32, r: u32) -> Result<(), StepFault>
     requires fits { Fits setting.now.instance known.old }
     requires open { IsFalse known.old.closed }
-    ensures { TakesOf setting.now known.old (XLate m _r) known.new result }
+    ensures { TakesOf setting.now known.old (XLate m r) known.new result }
 {
     if m as usize >= setting.instance().messages().len() {
         return Err(StepFault::NoSuchIndex);
     }
-    Err(StepFault::NoPremise)
+    if !could_be_earlier(known, setting, m, r) {
+        return Err(StepFault::NoPremise);
+    }
+    known.close(setting.instance());
+    Ok(())
 }
 
-/// Of silent twins the first is placed first.
+/// Whether `v` stands in an order, and `u` doesn't stand before it.
+fn stands_first(order: &[u32], v: u32, u: u32) -> bool
+    ensures { IsTrue result ↔ StandsFirst order.now v u }
+{
+    for k in 0..order.len() {
+        if order[k] == v {
+            return true;
+        }
+        if order[k] == u {
+            return false;
+        }
+    }
+    false
+}
+
+/// Of silent twins the first is placed first: else they would exchange their positions and
+/// capacities.
 pub fn x_silent(known: &mut Bounds, setting: &Setting, u: u32, v: u32) -> Result<(), StepFault>
     requires fits { Fits setting.now.instance known.old }
     requires open { IsFalse known.old.closed }
     ensures { TakesOf setting.now known.old (XSilent u v) known.new result }
 {
-    let count = setting.instance().nodes().len();
+    let instance = setting.instance();
+    let count = instance.nodes().len();
     if u as usize >= count || v as usize >= count {
         return Err(StepFault::NoSuchIndex);
     }
-    Err(StepFault::NoPremise)
+    if u >= v
+        || !stands_first(setting.choice().prefix(), v, u)
+        || !are_silent_twins(instance, u, v)
+    {
+        return Err(StepFault::NoPremise);
+    }
+    known.close(instance);
+    Ok(())
 }

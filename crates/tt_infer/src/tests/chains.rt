@@ -1,16 +1,16 @@
 //! Steps one after another, and what is known after each.
 
-use super::instances::{cluster, sender_and_receiver, three_alike, two_alike};
 use super::{line, order, replay_at_root};
 use crate::Facts;
 use std::test::Fail;
 use tt_choice::Choice;
 use ttp_model::{Cluster, Step};
+use worked_instances::{PLAIN, one_message, three_linked, two_alike};
 
 #[test]
 fn at_first_all_is_open(rt: HostRuntime) -> Result<(), Fail> {
     let alloc = rt.alloc();
-    let i = three_alike(alloc)?;
+    let i = three_linked(alloc)?;
     let mut choice = Choice::root(alloc, &i)?;
     order(&rt, alloc, &i, &mut choice, 2, 1)?;
     let facts = Facts::new(alloc, &i, &choice, 7)?;
@@ -24,7 +24,7 @@ fn at_first_all_is_open(rt: HostRuntime) -> Result<(), Fail> {
 
 #[test]
 fn a_receiver_cannot_end_before_tick_nine(rt: HostRuntime) -> Result<(), Fail> {
-    let i = sender_and_receiver(rt.alloc(), cluster())?;
+    let i = one_message(rt.alloc(), PLAIN)?;
     let rows = [
         (Step::EsRelease(0), Ok(()), "0..100 0..100 m 0..100 open"),
         (Step::LoSend(0), Ok(()), "0..100 0..100 m 1..100 open"),
@@ -37,7 +37,7 @@ fn a_receiver_cannot_end_before_tick_nine(rt: HostRuntime) -> Result<(), Fail> {
 
 #[test]
 fn a_sender_has_to_end_before_its_slot(rt: HostRuntime) -> Result<(), Fail> {
-    let i = sender_and_receiver(rt.alloc(), cluster())?;
+    let i = one_message(rt.alloc(), PLAIN)?;
     let rows = [
         (Step::EsMessage(0, 1), Ok(()), "0..100 6..100 m 0..100 open"),
         (Step::LeOwn(1), Ok(()), "0..100 6..8 m 0..100 open"),
@@ -54,9 +54,9 @@ fn messages_are_copied_out_and_in(rt: HostRuntime) -> Result<(), Fail> {
     let copying = Cluster {
         copy_out: 1,
         copy_in: 2,
-        ..cluster()
+        ..PLAIN
     };
-    let i = sender_and_receiver(rt.alloc(), copying)?;
+    let i = one_message(rt.alloc(), copying)?;
     let rows = [
         (Step::LoSend(0), Ok(()), "0..100 0..100 m 1..100 open"),
         (Step::EsMessage(0, 1), Ok(()), "0..100 9..100 m 1..100 open"),
@@ -72,9 +72,9 @@ fn messages_are_copied_out_and_in(rt: HostRuntime) -> Result<(), Fail> {
 fn past_the_horizon_a_time_is_one_past_it(rt: HostRuntime) -> Result<(), Fail> {
     let short = Cluster {
         horizon: 5,
-        ..cluster()
+        ..PLAIN
     };
-    let i = sender_and_receiver(rt.alloc(), short)?;
+    let i = one_message(rt.alloc(), short)?;
     let rows = [
         (Step::EsArrive(0, 1), Ok(()), "0..5 3..5 m 0..5 open"),
         (Step::LoSend(0), Ok(()), "0..5 3..5 m 1..5 open"),
@@ -86,7 +86,7 @@ fn past_the_horizon_a_time_is_one_past_it(rt: HostRuntime) -> Result<(), Fail> {
 
 #[test]
 fn a_link_orders_its_processes(rt: HostRuntime) -> Result<(), Fail> {
-    let i = three_alike(rt.alloc())?;
+    let i = three_linked(rt.alloc())?;
     let rows = [
         (Step::EsLink(0), Ok(()), "0..100 0..100 2..100 open"),
         (Step::LeLink(0), Ok(()), "0..98 0..100 2..100 open"),

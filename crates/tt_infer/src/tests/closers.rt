@@ -1,18 +1,16 @@
 //! Steps after which no plan is left, and how close they come to not being taken.
 
-use super::instances::{
-    cluster, large_message, sender_and_receiver, there_and_back, three_alike, two_alike,
-    two_messages,
-};
+use super::instances::there_and_back;
 use super::{cycle, order, replay, replay_at_root, send_by};
 use crate::StepFault::NoPremise;
 use std::test::Fail;
 use tt_choice::Choice;
 use ttp_model::Step;
+use worked_instances::{PLAIN, no_frame, one_message, overfull, three_linked, two_alike};
 
 #[test]
 fn a_window_that_is_just_long_enough_is_left(rt: HostRuntime) -> Result<(), Fail> {
-    let i = sender_and_receiver(rt.alloc(), cluster())?;
+    let i = one_message(rt.alloc(), PLAIN)?;
     let rows = [
         (Step::LoSend(0), Ok(()), "0..100 0..100 m 1..100 open"),
         (Step::EsArrive(0, 1), Ok(()), "0..100 7..100 m 1..100 open"),
@@ -29,7 +27,7 @@ fn a_window_that_is_just_long_enough_is_left(rt: HostRuntime) -> Result<(), Fail
 #[test]
 fn a_message_without_a_round_leaves_no_plan(rt: HostRuntime) -> Result<(), Fail> {
     let alloc = rt.alloc();
-    let i = sender_and_receiver(alloc, cluster())?;
+    let i = one_message(alloc, PLAIN)?;
     let mut choice = Choice::root(alloc, &i)?;
     send_by(&rt, &i, &mut choice, 0, 0);
     let rows = [
@@ -42,7 +40,7 @@ fn a_message_without_a_round_leaves_no_plan(rt: HostRuntime) -> Result<(), Fail>
 
 #[test]
 fn a_message_that_fits_no_frame_leaves_no_plan(rt: HostRuntime) -> Result<(), Fail> {
-    let i = large_message(rt.alloc())?;
+    let i = no_frame(rt.alloc())?;
     let rows = [(Step::XFrame(0), Ok(()), "0..100 0..100 m 0..100 closed")];
     replay_at_root(&rt, rt.alloc(), &i, 101, &rows)
 }
@@ -50,7 +48,7 @@ fn a_message_that_fits_no_frame_leaves_no_plan(rt: HostRuntime) -> Result<(), Fa
 #[test]
 fn two_messages_that_share_one_frame_leave_no_plan(rt: HostRuntime) -> Result<(), Fail> {
     let alloc = rt.alloc();
-    let i = two_messages(alloc)?;
+    let i = overfull(alloc)?;
     let mut choice = Choice::root(alloc, &i)?;
     send_by(&rt, &i, &mut choice, 0, 0);
     send_by(&rt, &i, &mut choice, 1, 0);
@@ -85,7 +83,7 @@ fn two_processes_do_not_end_within_three_ticks(rt: HostRuntime) -> Result<(), Fa
 
 #[test]
 fn three_processes_fill_six_ticks(rt: HostRuntime) -> Result<(), Fail> {
-    let i = three_alike(rt.alloc())?;
+    let i = three_linked(rt.alloc())?;
     let too_few = [
         (Step::LeOwn(0), Ok(()), "0..5 0..100 0..100 open"),
         (Step::LeOwn(1), Ok(()), "0..5 0..5 0..100 open"),
@@ -105,7 +103,7 @@ fn three_processes_fill_six_ticks(rt: HostRuntime) -> Result<(), Fail> {
 #[test]
 fn a_link_and_a_choice_that_turns_it_are_a_cycle(rt: HostRuntime) -> Result<(), Fail> {
     let alloc = rt.alloc();
-    let i = three_alike(alloc)?;
+    let i = three_linked(alloc)?;
     let mut choice = Choice::root(alloc, &i)?;
     order(&rt, alloc, &i, &mut choice, 2, 0)?;
     let unclosed = cycle(&rt, alloc, &[2, 0, 1])?;

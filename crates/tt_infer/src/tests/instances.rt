@@ -1,156 +1,55 @@
-//! Small instances. Nodes are A and B, on a bus with frames of 1 tick and 1 more for each byte.
+//! Small instances that these tests alone use. They are on the plain cluster.
 
 use std::alloc::Global;
-use std::test::Fail;
-use ttp_model::{Cluster, Instance, Link, Message, Name, Node, Numbers, Process};
-
-/// A name.
-fn name(alloc: Global, text: &str) -> Result<Name, Fail> {
-    Ok(Name::new(String::from_str(alloc, text)?))
-}
-
-/// A node of this name with these capacities.
-fn node(alloc: Global, text: &str, capacities: &[u32]) -> Result<Node, Fail> {
-    Ok(Node {
-        name: name(alloc, text)?,
-        capacities: Numbers::new(Vec::from_slice(alloc, capacities)?),
-    })
-}
-
-/// A process of this name that has until tick 100.
-fn process(alloc: Global, text: &str, node: u32, wcet: u32) -> Result<Process, Fail> {
-    Ok(Process {
-        name: name(alloc, text)?,
-        node,
-        wcet,
-        release: 0,
-        deadline: 100,
-    })
-}
-
-/// A message of this name to one process.
-fn message(
-    alloc: Global,
-    text: &str,
-    sender: u32,
-    receiver: u32,
-    bytes: u32,
-) -> Result<Message, Fail> {
-    Ok(Message {
-        name: name(alloc, text)?,
-        sender,
-        receivers: Numbers::new(vec![in alloc; receiver]?),
-        bytes,
-    })
-}
-
-/// Nothing is before or after a frame.
-pub fn cluster() -> Cluster {
-    Cluster {
-        precision: 0,
-        lead: 0,
-        trail: 0,
-        head: 1,
-        per_byte: 1,
-        copy_out: 0,
-        copy_in: 0,
-        horizon: 100,
-    }
-}
-
-/// Process p of 3 ticks on A sends 2 bytes to process q of 2 ticks on B, which has no capacity. The
-/// slots take 3 ticks and 1.
-pub fn sender_and_receiver(alloc: Global, cluster: Cluster) -> Result<Instance, Fail> {
-    let nodes = vec![in alloc; node(alloc, "A", &[2])?, node(alloc, "B", &[0])?]?;
-    let processes = vec![in alloc; process(alloc, "p", 0, 3)?, process(alloc, "q", 1, 2)?]?;
-    let messages = vec![in alloc; message(alloc, "m", 0, 1, 2)?]?;
-    Ok(Instance::build(alloc, cluster, nodes, processes, Vec::new(alloc), messages)?)
-}
-
-/// Process p of 1 tick on A, whose frame holds 2 or 4 bytes, sends 6 to process q of 1 tick on B.
-pub fn large_message(alloc: Global) -> Result<Instance, Fail> {
-    let nodes = vec![in alloc; node(alloc, "A", &[2, 4])?, node(alloc, "B", &[0])?]?;
-    let processes = vec![in alloc; process(alloc, "p", 0, 1)?, process(alloc, "q", 1, 1)?]?;
-    let messages = vec![in alloc; message(alloc, "m", 0, 1, 6)?]?;
-    Ok(Instance::build(
-        alloc,
-        cluster(),
-        nodes,
-        processes,
-        Vec::new(alloc),
-        messages,
-    )?)
-}
-
-/// Process p of 1 tick on A, whose frame holds 4 bytes, sends 2 and 3 bytes to process q of 1 tick
-/// on B.
-pub fn two_messages(alloc: Global) -> Result<Instance, Fail> {
-    let nodes = vec![in alloc; node(alloc, "A", &[4])?, node(alloc, "B", &[0])?]?;
-    let processes = vec![in alloc; process(alloc, "p", 0, 1)?, process(alloc, "q", 1, 1)?]?;
-    let messages = vec![in alloc;
-        message(alloc, "m1", 0, 1, 2)?,
-        message(alloc, "m2", 0, 1, 3)?,
-    ]?;
-    Ok(Instance::build(
-        alloc,
-        cluster(),
-        nodes,
-        processes,
-        Vec::new(alloc),
-        messages,
-    )?)
-}
-
-/// Two processes of 2 ticks on one node.
-pub fn two_alike(alloc: Global) -> Result<Instance, Fail> {
-    let nodes = vec![in alloc; node(alloc, "A", &[0])?]?;
-    let processes = vec![in alloc; process(alloc, "p", 0, 2)?, process(alloc, "q", 0, 2)?]?;
-    Ok(Instance::build(
-        alloc,
-        cluster(),
-        nodes,
-        processes,
-        Vec::new(alloc),
-        Vec::new(alloc),
-    )?)
-}
-
-/// Three processes of 2 ticks on one node, with a link from the first to the third.
-pub fn three_alike(alloc: Global) -> Result<Instance, Fail> {
-    let nodes = vec![in alloc; node(alloc, "A", &[0])?]?;
-    let processes = vec![in alloc;
-        process(alloc, "a", 0, 2)?,
-        process(alloc, "b", 0, 2)?,
-        process(alloc, "c", 0, 2)?,
-    ]?;
-    let links = vec![in alloc;
-        Link {
-            before: 0,
-            after: 2
-        },
-    ]?;
-    Ok(Instance::build(alloc, cluster(), nodes, processes, links, Vec::new(alloc))?)
-}
+use ttp_model::{Instance, ModelError};
+use worked_instances::{Draft, PLAIN};
 
 /// Processes 0 and 1 on A, 2 and 3 on B; process 0 sends to 2, and 3 to 1.
-pub fn there_and_back(alloc: Global) -> Result<Instance, Fail> {
-    let nodes = vec![in alloc; node(alloc, "A", &[1])?, node(alloc, "B", &[1])?]?;
-    let processes = vec![in alloc;
-        process(alloc, "a", 0, 1)?,
-        process(alloc, "b", 0, 1)?,
-        process(alloc, "c", 1, 1)?,
-        process(alloc, "d", 1, 1)?,
-    ]?;
-    let messages = vec![in alloc;
-        message(alloc, "m1", 0, 2, 1)?,
-        message(alloc, "m2", 3, 1, 1)?,
-    ]?;
-    Ok(Instance::build(
-        alloc,
-        cluster(),
-        nodes,
-        processes,
-        Vec::new(alloc),
-        messages,
-    )?)
+pub fn there_and_back(alloc: Global) -> Result<Instance, ModelError> {
+    Draft::of(alloc, PLAIN)
+        .node("A", &[1])?
+        .node("B", &[1])?
+        .process("a", 0, 1)?
+        .process("b", 0, 1)?
+        .process("c", 1, 1)?
+        .process("d", 1, 1)?
+        .message("m1", 0, 2, 1)?
+        .message("m2", 3, 1, 1)?
+        .build()
+}
+
+/// The first two processes on A are alike. Each other one there differs from them in one thing: how
+/// long it takes, when it is released, when it has to end, a link from it or to it, a message that
+/// it sends or receives. The last process is on B.
+pub fn nearly_alike(alloc: Global) -> Result<Instance, ModelError> {
+    Draft::of(alloc, PLAIN)
+        .node("A", &[1])?
+        .node("B", &[1])?
+        .process("a", 0, 2)?
+        .process("b", 0, 2)?
+        .process("longer", 0, 3)?
+        .process_within("released", 0, 2, (1, 1_000_000))?
+        .process_within("hurried", 0, 2, (0, 99))?
+        .process("before", 0, 2)?
+        .process("after", 0, 2)?
+        .process("sends", 0, 2)?
+        .process("receives", 0, 2)?
+        .process("away", 1, 2)?
+        .link(5, 6)?
+        .message("m1", 7, 9, 1)?
+        .message("m2", 9, 8, 1)?
+        .build()
+}
+
+/// Nodes A and B send nothing and have the same capacities. C has other ones, and D sends.
+pub fn three_silent(alloc: Global) -> Result<Instance, ModelError> {
+    Draft::of(alloc, PLAIN)
+        .node("A", &[1])?
+        .node("B", &[1])?
+        .node("C", &[1, 2])?
+        .node("D", &[1])?
+        .process("p", 3, 1)?
+        .process("q", 0, 1)?
+        .message("m", 0, 1, 1)?
+        .build()
 }

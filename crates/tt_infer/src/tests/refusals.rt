@@ -1,6 +1,5 @@
 //! Steps that are refused, for each reason.
 
-use super::instances::{cluster, sender_and_receiver, three_alike, two_alike};
 use super::{cycle, replay_at_root};
 use crate::{Facts, StepFault};
 use std::alloc::Global;
@@ -8,6 +7,7 @@ use std::process::Abort;
 use std::test::Fail;
 use tt_choice::Choice;
 use ttp_model::{Instance, Step};
+use worked_instances::{PLAIN, one_message, three_linked, two_alike};
 
 /// Checks that each of the steps is refused for this reason after the first ones, where nothing is
 /// chosen.
@@ -33,13 +33,14 @@ fn refuse_all<R: Abort>(
 #[test]
 fn what_is_named_has_to_be_there(rt: HostRuntime) -> Result<(), Fail> {
     let alloc = rt.alloc();
-    let i = sender_and_receiver(alloc, cluster())?;
+    let i = one_message(alloc, PLAIN)?;
     let ring = cycle(&rt, alloc, &[0, 2])?;
     let steps = [
         ring,
         Step::EsRelease(2),
         Step::LeOwn(2),
         Step::UsSettled(2),
+        Step::OrdTwin(2, 3),
         Step::XWindow(4294967295),
         Step::EsLink(0),
         Step::LeLink(0),
@@ -58,7 +59,7 @@ fn what_is_named_has_to_be_there(rt: HostRuntime) -> Result<(), Fail> {
 
 #[test]
 fn a_message_step_names_a_receiver(rt: HostRuntime) -> Result<(), Fail> {
-    let i = sender_and_receiver(rt.alloc(), cluster())?;
+    let i = one_message(rt.alloc(), PLAIN)?;
     let steps = [
         Step::EsArrive(0, 0),
         Step::EsArrive(0, 2),
@@ -75,7 +76,7 @@ fn a_message_step_names_a_receiver(rt: HostRuntime) -> Result<(), Fail> {
 
 #[test]
 fn a_pair_is_two_processes_of_one_node(rt: HostRuntime) -> Result<(), Fail> {
-    let i = sender_and_receiver(rt.alloc(), cluster())?;
+    let i = one_message(rt.alloc(), PLAIN)?;
     let steps = [
         Step::EsBefore(0, 1),
         Step::EsBefore(0, 0),
@@ -86,7 +87,7 @@ fn a_pair_is_two_processes_of_one_node(rt: HostRuntime) -> Result<(), Fail> {
         Step::OrdWindow(0, 1),
         Step::OrdWindow(1, 1),
         Step::OrdTwin(0, 1),
-        Step::OrdTwin(2, 3),
+        Step::OrdTwin(1, 1),
     ];
     refuse_all(&rt, rt.alloc(), &i, &[], &steps, StepFault::NoSuchIndex)
 }
@@ -94,7 +95,7 @@ fn a_pair_is_two_processes_of_one_node(rt: HostRuntime) -> Result<(), Fail> {
 #[test]
 fn what_is_asked_for_has_to_be_known(rt: HostRuntime) -> Result<(), Fail> {
     let alloc = rt.alloc();
-    let i = sender_and_receiver(alloc, cluster())?;
+    let i = one_message(alloc, PLAIN)?;
     let ring = cycle(&rt, alloc, &[0, 1])?;
     let steps = [
         ring,
@@ -103,7 +104,6 @@ fn what_is_asked_for_has_to_be_known(rt: HostRuntime) -> Result<(), Fail> {
         Step::XFrame(0),
         Step::XFrames(0, 0, 1),
         Step::XLoad(0, 0, 3),
-        Step::UsSettled(0),
         Step::XLate(0, 0),
         Step::XSilent(0, 1),
     ];
@@ -112,7 +112,7 @@ fn what_is_asked_for_has_to_be_known(rt: HostRuntime) -> Result<(), Fail> {
 
 #[test]
 fn an_order_has_to_be_known(rt: HostRuntime) -> Result<(), Fail> {
-    let i = three_alike(rt.alloc())?;
+    let i = three_linked(rt.alloc())?;
     let steps = [
         Step::EsBefore(0, 2),
         Step::LeBefore(0, 2),
@@ -152,12 +152,17 @@ fn a_refused_step_changes_nothing(rt: HostRuntime) -> Result<(), Fail> {
 
 #[test]
 fn a_message_without_a_round_has_no_last_slot(rt: HostRuntime) -> Result<(), Fail> {
-    let i = sender_and_receiver(rt.alloc(), cluster())?;
+    let i = one_message(rt.alloc(), PLAIN)?;
     let rows = [
         (Step::LeOwn(1), Ok(()), "0..100 0..0 m 0..100 open"),
         (Step::HiArrive(0, 1), Ok(()), "0..100 0..0 m 0..0 open"),
         (
             Step::LeSend(0),
+            Err(StepFault::NoPremise),
+            "0..100 0..0 m 0..0 open",
+        ),
+        (
+            Step::UsSettled(1),
             Err(StepFault::NoPremise),
             "0..100 0..0 m 0..0 open",
         ),
@@ -167,7 +172,7 @@ fn a_message_without_a_round_has_no_last_slot(rt: HostRuntime) -> Result<(), Fai
 
 #[test]
 fn no_step_that_sharpens_follows_a_closer(rt: HostRuntime) -> Result<(), Fail> {
-    let i = sender_and_receiver(rt.alloc(), cluster())?;
+    let i = one_message(rt.alloc(), PLAIN)?;
     let closing = [Step::LeOwn(0), Step::XWindow(0)];
     let steps = [
         Step::EsRelease(0),
@@ -199,7 +204,7 @@ fn no_step_that_sharpens_follows_a_closer(rt: HostRuntime) -> Result<(), Fail> {
 #[test]
 fn no_closer_follows_a_closer(rt: HostRuntime) -> Result<(), Fail> {
     let alloc = rt.alloc();
-    let i = sender_and_receiver(alloc, cluster())?;
+    let i = one_message(alloc, PLAIN)?;
     let ring = cycle(&rt, alloc, &[0, 1])?;
     let closing = [Step::LeOwn(0), Step::XWindow(0)];
     let steps = [

@@ -1,6 +1,10 @@
 use Rattle.std.proofs.Common.{arith}
+use Rattle.ttp_model.specs.declared.error.Place.TheVariants.{AtCluster}
 use Rattle.tt_infer.proofs.CodeSlots.{round_least_short, round_most_short}
 use Rattle.tt_infer.proofs.slots.times_of.Goals as goal
+
+pub slot_duration-requires-clause-ranges : goal.slot_duration-requires-clause-ranges
+slot_duration-requires-clause-ranges c = rw c.cluster.ensures.value (c.cluster.ensures.instance.ranges AtCluster)
 
 pub returns-clause-short : goal.returns-clause-short
 returns-clause-short c =
@@ -15,5 +19,7 @@ returns-clause-short c =
       offset_least = omega arith;
       offset_most = omega arith;
       dur_least = omega arith;
+      dur_most = omega arith;
+      cap_least = omega arith;
       cap_most = omega arith;
     }
