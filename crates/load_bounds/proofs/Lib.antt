@@ -1,0 +1,3 @@
+pub mod Intervals
+pub mod Gathered
+pub mod Closing

@@ -1,0 +1,277 @@
+//! Which steps are tried next?
+
+use crate::consequences::add_consequences;
+use crate::fact::{Fact, value};
+use crate::fact_set::FactSet;
+use crate::network::Network;
+use crate::parts::{node, receivers, source};
+use crate::rings::ring_step;
+use load_bounds::{frame_load, node_load};
+use std::alloc::Global;
+use std::collections::VecDeque;
+use tt_infer::Facts;
+use ttp_model::{Instance, MemoryFault, Step};
+
+/// After so many facts for each process and message rings are looked for again.
+const FACTS_BETWEEN_RINGS: u32 = 4;
+
+/// Facts that were sharpened and whose consequences weren't tried since, and nodes whose loads
+/// weren't.
+#[derive(Drop)]
+pub struct Agenda {
+    network: Network,
+    /// The facts in the order in which they were sharpened.
+    changed: VecDeque<Fact>,
+    /// The same facts, to have each of them once.
+    waiting: FactSet,
+    /// By process, whether the rule on settled plans may say more of its end.
+    unsettled: Vec<bool>,
+    /// By node, whether its processes may have become too many for their times.
+    runs: Vec<bool>,
+    /// By node, whether its messages may have become too many for their rounds.
+    sendings: Vec<bool>,
+    /// How many facts are taken before rings are looked for.
+    until_ring: u32,
+}
+
+/// Sets a flag, where it is there.
+fn raise(flags: &mut Vec<bool>, at: u32) {
+    if let Some(flag) = flags.get_mut(at as usize) {
+        *flag = true;
+    }
+}
+
+/// Takes a flag down, where it is there. Whether it was up.
+fn lower(flags: &mut Vec<bool>, at: u32) -> bool {
+    match flags.get_mut(at as usize) {
+        Some(flag) => {
+            let up = *flag;
+            *flag = false;
+            up
+        }
+        None => false,
+    }
+}
+
+impl Agenda {
+    /// All that is known at first, as if it had just been sharpened, but for the orders: what they say
+    /// is tried with the starts and ends of their processes.
+    pub fn new(alloc: Global, facts: &Facts) -> Result<Self, MemoryFault> {
+        let instance = facts.instance();
+        let nodes = instance.nodes().len();
+        let mut agenda = Agenda {
+            network: Network::of(alloc, instance)?,
+            changed: VecDeque::new(alloc),
+            waiting: FactSet::none(alloc, instance)?,
+            unsettled: vec![in alloc; true; instance.processes().len()]?,
+            runs: vec![in alloc; true; nodes]?,
+            sendings: vec![in alloc; true; nodes]?,
+            until_ring: 0,
+        };
+        agenda.add_starts(instance)?;
+        agenda.add_ends(instance)?;
+        agenda.add_rounds(instance)?;
+        Ok(agenda)
+    }
+
+    /// Adds the starts of all processes.
+    fn add_starts(&mut self, instance: &Instance) -> Result<(), MemoryFault> {
+        let processes = instance.processes().len() as u32;
+        for p in 0..processes {
+            self.add(Fact::Start(p))?;
+        }
+        Ok(())
+    }
+
+    /// Adds the ends of all processes, the last first.
+    fn add_ends(&mut self, instance: &Instance) -> Result<(), MemoryFault> {
+        let processes = instance.processes().len() as u32;
+        for p in (0..processes).rev() {
+            self.add(Fact::End(p))?;
+        }
+        Ok(())
+    }
+
+    /// Adds the rounds of all messages.
+    fn add_rounds(&mut self, instance: &Instance) -> Result<(), MemoryFault> {
+        let messages = instance.messages().len() as u32;
+        for m in 0..messages {
+            self.add(Fact::FirstRound(m))?;
+            self.add(Fact::LateRound(m))?;
+        }
+        Ok(())
+    }
+
+    /// Adds a fact that isn't among them.
+    fn add(&mut self, fact: Fact) -> Result<(), MemoryFault> {
+        if !self.waiting.insert(fact) {
+            self.changed.push_back(fact)?;
+        }
+        Ok(())
+    }
+
+    /// Takes note of a fact that was sharpened.
+    pub fn note(&mut self, facts: &Facts, fact: Fact) -> Result<(), MemoryFault> {
+        let instance = facts.instance();
+        match fact {
+            Fact::Start(p) => raise(&mut self.runs, node(instance, p)),
+            Fact::End(p) => self.note_end(facts, p),
+            Fact::FirstRound(m) => raise(&mut self.sendings, source(instance, m)),
+            Fact::LateRound(m) => self.note_late_round(instance, m),
+            Fact::Order(p, _) => raise(&mut self.unsettled, p),
+            Fact::Closed => {}
+        }
+        self.add(fact)
+    }
+
+    /// Takes note of an earlier end of process `p`: its node may be too full, the others there that it
+    /// may go before may wait less long, and its messages may go out earlier.
+    fn note_end(&mut self, facts: &Facts, p: u32) {
+        let host = node(facts.instance(), p);
+        raise(&mut self.runs, host);
+        raise(&mut self.sendings, host);
+        for q in self.network.hosted(host) {
+            if *q != p && !facts.bef(*q, p) {
+                raise(&mut self.unsettled, *q);
+            }
+        }
+    }
+
+    /// Takes note of an earlier last round of message `m`: its frames may be too full, and its
+    /// receivers may wait less long.
+    fn note_late_round(&mut self, instance: &Instance, m: u32) {
+        raise(&mut self.sendings, source(instance, m));
+        for q in receivers(instance, m) {
+            raise(&mut self.unsettled, *q);
+        }
+    }
+
+    /// Adds the steps that are tried next, the one to be tried first last: the consequences of one
+    /// fact; where none waits those of settled plans; and where there are none either, those of loads.
+    /// Whether there is anything left.
+    pub fn next(
+        &mut self,
+        alloc: Global,
+        facts: &Facts,
+        steps: &mut Vec<Step>,
+    ) -> Result<bool, MemoryFault> {
+        match self.changed.pop_front() {
+            Some(fact) => {
+                self.waiting.remove(fact);
+                add_consequences(&self.network, facts, fact, steps)?;
+                self.add_ring(alloc, facts, steps)?;
+                Ok(true)
+            }
+            None => {
+                self.add_settled(facts, steps)?;
+                if steps.is_empty() {
+                    self.add_loads(alloc, facts, steps)?;
+                }
+                Ok(!steps.is_empty())
+            }
+        }
+    }
+
+    /// Adds the step that closes a ring, where it is time to look for one and there is one.
+    fn add_ring(
+        &mut self,
+        alloc: Global,
+        facts: &Facts,
+        steps: &mut Vec<Step>,
+    ) -> Result<(), MemoryFault> {
+        if self.until_ring > 0 {
+            self.until_ring -= 1;
+            return Ok(());
+        }
+        let instance = facts.instance();
+        let parts = instance.processes().len() as u32 + instance.messages().len() as u32;
+        self.until_ring = parts * FACTS_BETWEEN_RINGS;
+        if let Some(step) = ring_step(alloc, &self.network, facts)? {
+            steps.push(step)?;
+        }
+        Ok(())
+    }
+
+    /// Adds the rule on settled plans for each process of which more may be known.
+    fn add_settled(&mut self, facts: &Facts, steps: &mut Vec<Step>) -> Result<(), MemoryFault> {
+        let count = facts.instance().processes().len() as u32;
+        for p in 0..count {
+            if lower(&mut self.unsettled, p) {
+                steps.push(Step::UsSettled(p))?;
+            }
+        }
+        Ok(())
+    }
+
+    /// Adds the closers of loads, and of messages that could go out earlier, for each node of which
+    /// more may be known.
+    fn add_loads(
+        &mut self,
+        alloc: Global,
+        facts: &Facts,
+        steps: &mut Vec<Step>,
+    ) -> Result<(), MemoryFault> {
+        let count = facts.instance().nodes().len() as u32;
+        for n in 0..count {
+            if lower(&mut self.runs, n) {
+                if let Some(step) = node_load(facts, n) {
+                    steps.push(step)?;
+                }
+            }
+            if lower(&mut self.sendings, n) {
+                add_late(alloc, facts, n, steps)?;
+                if let Some(step) = frame_load(facts, n) {
+                    steps.push(step)?;
+                }
+            }
+        }
+        Ok(())
+    }
+}
+
+/// Adds the closers of the messages of node `n` that could go out earlier than they may. A message
+/// has most room just before the first round of one of them, so these rounds are tried alone.
+fn add_late(
+    alloc: Global,
+    facts: &Facts,
+    n: u32,
+    steps: &mut Vec<Step>,
+) -> Result<(), MemoryFault> {
+    let rounds = last_rounds_before(alloc, facts, n)?;
+    let count = facts.instance().messages().len() as u32;
+    for m in 0..count {
+        if source(facts.instance(), m) == n {
+            add_late_of(facts, m, rounds.as_slice(), steps)?;
+        }
+    }
+    Ok(())
+}
+
+/// The rounds just before the first ones of the messages of node `n`, each once.
+fn last_rounds_before(alloc: Global, facts: &Facts, n: u32) -> Result<Vec<u32>, MemoryFault> {
+    let mut rounds = Vec::new(alloc);
+    let count = facts.instance().messages().len() as u32;
+    for m in 0..count {
+        let first = value(facts, Fact::FirstRound(m));
+        if first > 0 && source(facts.instance(), m) == n && !rounds.contains(&(first - 1)) {
+            rounds.push(first - 1)?;
+        }
+    }
+    Ok(rounds)
+}
+
+/// Adds the closers of message `m` in those of the rounds that are before its first one.
+fn add_late_of(
+    facts: &Facts,
+    m: u32,
+    rounds: &[u32],
+    steps: &mut Vec<Step>,
+) -> Result<(), MemoryFault> {
+    let first = value(facts, Fact::FirstRound(m));
+    for round in rounds {
+        if *round < first {
+            steps.push(Step::XLate(m, *round))?;
+        }
+    }
+    Ok(())
+}

@@ -1,0 +1,155 @@
+//! Which steps may sharpen once a fact has been sharpened?
+
+use crate::fact::{Fact, value};
+use crate::network::Network;
+use crate::parts::{node, receivers, wcet};
+use tt_infer::Facts;
+use ttp_model::{MemoryFault, Step};
+
+/// Adds the steps that read a fact, the one to be tried first last.
+pub fn add_consequences(
+    network: &Network,
+    facts: &Facts,
+    fact: Fact,
+    steps: &mut Vec<Step>,
+) -> Result<(), MemoryFault> {
+    match fact {
+        Fact::Start(p) => add_after_start(network, facts, p, steps),
+        Fact::End(p) => add_after_end(network, facts, p, steps),
+        Fact::FirstRound(m) => add_after_first_round(facts, m, steps),
+        Fact::LateRound(m) => add_after_late_round(m, steps),
+        Fact::Order(p, q) => add_after_order(p, q, steps),
+        Fact::Closed => Ok(()),
+    }
+}
+
+/// What a later start of process `p` says: of those that go after it, of those that can't, and of
+/// those that have its messages.
+fn add_after_start(
+    network: &Network,
+    facts: &Facts,
+    p: u32,
+    steps: &mut Vec<Step>,
+) -> Result<(), MemoryFault> {
+    add_mates_after(network, facts, p, steps)?;
+    add_sent(network, facts, p, steps)?;
+    for l in network.links_from(p) {
+        steps.push(Step::EsLink(*l))?;
+    }
+    steps.push(Step::XWindow(p))?;
+    Ok(())
+}
+
+/// The orders of process `p` and the others of its node that a later start of it says more of.
+fn add_mates_after(
+    network: &Network,
+    facts: &Facts,
+    p: u32,
+    steps: &mut Vec<Step>,
+) -> Result<(), MemoryFault> {
+    for q in network.hosted(node(facts.instance(), p)) {
+        if facts.bef(p, *q) {
+            steps.push(Step::EsBefore(p, *q))?;
+        } else if is_too_late(facts, p, *q) {
+            steps.push(Step::OrdWindow(*q, p))?;
+        }
+    }
+    Ok(())
+}
+
+/// The steps from process `p` along the messages that it sends.
+fn add_sent(
+    network: &Network,
+    facts: &Facts,
+    p: u32,
+    steps: &mut Vec<Step>,
+) -> Result<(), MemoryFault> {
+    for m in network.sent(p) {
+        add_transfers(facts, *m, steps)?;
+    }
+    Ok(())
+}
+
+/// The steps from the sender of message `m` to its round and to its receivers.
+fn add_transfers(facts: &Facts, m: u32, steps: &mut Vec<Step>) -> Result<(), MemoryFault> {
+    for q in receivers(facts.instance(), m) {
+        steps.push(Step::EsMessage(m, *q))?;
+    }
+    steps.push(Step::LoSend(m))?;
+    Ok(())
+}
+
+/// What an earlier end of process `p` says: of those that go before it, of those that can't, and of
+/// those that send to it.
+fn add_after_end(
+    network: &Network,
+    facts: &Facts,
+    p: u32,
+    steps: &mut Vec<Step>,
+) -> Result<(), MemoryFault> {
+    add_mates_before(network, facts, p, steps)?;
+    add_received(network, p, steps)?;
+    for l in network.links_to(p) {
+        steps.push(Step::LeLink(*l))?;
+    }
+    steps.push(Step::XWindow(p))?;
+    Ok(())
+}
+
+/// The orders of process `p` and the others of its node that an earlier end of it says more of.
+fn add_mates_before(
+    network: &Network,
+    facts: &Facts,
+    p: u32,
+    steps: &mut Vec<Step>,
+) -> Result<(), MemoryFault> {
+    for q in network.hosted(node(facts.instance(), p)) {
+        if facts.bef(*q, p) {
+            steps.push(Step::LeBefore(*q, p))?;
+        } else if is_too_late(facts, *q, p) {
+            steps.push(Step::OrdWindow(p, *q))?;
+        }
+    }
+    Ok(())
+}
+
+/// The steps from process `p` back along the messages that it receives.
+fn add_received(network: &Network, p: u32, steps: &mut Vec<Step>) -> Result<(), MemoryFault> {
+    for m in network.received(p) {
+        steps.push(Step::LeMessage(*m, p))?;
+        steps.push(Step::HiArrive(*m, p))?;
+    }
+    Ok(())
+}
+
+/// Whether process `q` can't run after `p` has, and isn't known to go before it.
+fn is_too_late(facts: &Facts, p: u32, q: u32) -> bool {
+    let instance = facts.instance();
+    let start = value(facts, Fact::Start(p));
+    let length = u64::from(wcet(instance, p)) + u64::from(wcet(instance, q));
+    let late = u64::from(value(facts, Fact::End(q))) < u64::from(start) + length;
+    late && p != q && !facts.bef(q, p)
+}
+
+/// What a later round of message `m` says: its receivers start later.
+fn add_after_first_round(facts: &Facts, m: u32, steps: &mut Vec<Step>) -> Result<(), MemoryFault> {
+    for q in receivers(facts.instance(), m) {
+        steps.push(Step::EsArrive(m, *q))?;
+    }
+    steps.push(Step::XRound(m))?;
+    Ok(())
+}
+
+/// What an earlier last round of message `m` says: its sender ends earlier.
+fn add_after_late_round(m: u32, steps: &mut Vec<Step>) -> Result<(), MemoryFault> {
+    steps.push(Step::LeSend(m))?;
+    steps.push(Step::XRound(m))?;
+    Ok(())
+}
+
+/// What it says that process `p` goes before `q`.
+fn add_after_order(p: u32, q: u32, steps: &mut Vec<Step>) -> Result<(), MemoryFault> {
+    steps.push(Step::LeBefore(p, q))?;
+    steps.push(Step::EsBefore(p, q))?;
+    Ok(())
+}

@@ -1,0 +1,100 @@
+//! Which fact is a step about, and how far is it known?
+
+ghost use Rattle.std.specs.Prelude.{◌≡◌};
+ghost use Rattle.path_bounds.specs.Targets.{target, value_of};
+
+use tt_infer::Facts;
+use ttp_model::{Instance, Step};
+
+/// Something that is known of the plans that are sought.
+#[derive(Clone, Copy, Debug, PartialEq, Eq)]
+pub enum Fact {
+    /// When a process starts at least.
+    Start(u32),
+    /// When a process ends at most.
+    End(u32),
+    /// The least round of a message.
+    FirstRound(u32),
+    /// The first round that is too late for a message.
+    LateRound(u32),
+    /// That the first process ends before the second starts.
+    Order(u32, u32),
+    /// That no plan is left.
+    Closed,
+}
+
+/// The second process of a link: 0 where the link isn't there.
+pub fn link_after(instance: &Instance, l: u32) -> u32
+    ensures { Fact.Start result ≡ target instance.now (Step.EsLink l) }
+{
+    if (l as usize) < instance.links().len() {
+        instance.link_at(l as usize).after
+    } else {
+        0
+    }
+}
+
+/// The first process of a link: 0 where the link isn't there.
+pub fn link_before(instance: &Instance, l: u32) -> u32
+    ensures { Fact.End result ≡ target instance.now (Step.LeLink l) }
+{
+    if (l as usize) < instance.links().len() {
+        instance.link_at(l as usize).before
+    } else {
+        0
+    }
+}
+
+/// The process that sends a message: 0 where the message isn't there.
+pub fn sender(instance: &Instance, m: u32) -> u32
+    ensures { Fact.End result ≡ target instance.now (Step.LeSend m) }
+{
+    if (m as usize) < instance.messages().len() {
+        instance.message_at(m as usize).sender
+    } else {
+        0
+    }
+}
+
+/// The fact that a step sharpens.
+pub fn target(instance: &Instance, step: &Step) -> Fact
+    ensures { result ≡ target instance.now step.now }
+{
+    match step {
+        Step::EsRelease(p) => Fact::Start(*p),
+        Step::EsLink(l) => Fact::Start(link_after(instance, *l)),
+        Step::EsBefore(_, q) | Step::EsArrive(_, q) | Step::EsMessage(_, q) => Fact::Start(*q),
+        Step::LoSend(m) => Fact::FirstRound(*m),
+        Step::LeOwn(p) | Step::LeBefore(p, _) | Step::UsSettled(p) => Fact::End(*p),
+        Step::LeLink(l) => Fact::End(link_before(instance, *l)),
+        Step::LeMessage(m, _) | Step::LeSend(m) => Fact::End(sender(instance, *m)),
+        Step::HiArrive(m, _) => Fact::LateRound(*m),
+        Step::OrdWindow(p, q) | Step::OrdTwin(p, q) => Fact::Order(*p, *q),
+        Step::XWindow(_)
+        | Step::XRound(_)
+        | Step::XCycle(_)
+        | Step::XLoad(..)
+        | Step::XFrame(_)
+        | Step::XFrames(..)
+        | Step::XLate(..)
+        | Step::XSilent(..) => Fact::Closed,
+    }
+}
+
+/// How far a fact is known: a time in ticks, a round, or whether it is; 0 where what it is about
+/// isn't there.
+pub fn value(facts: &Facts, fact: Fact) -> u32
+    ensures { result ≡ value_of facts.now.known fact }
+{
+    let processes = facts.instance().processes().len();
+    let messages = facts.instance().messages().len();
+    match fact {
+        Fact::Start(p) if (p as usize) < processes => facts.es(p),
+        Fact::End(p) if (p as usize) < processes => facts.le(p),
+        Fact::FirstRound(m) if (m as usize) < messages => facts.lo(m),
+        Fact::LateRound(m) if (m as usize) < messages => facts.top(m),
+        Fact::Order(p, q) => u32::from(facts.bef(p, q)),
+        Fact::Closed => u32::from(facts.closed()),
+        _ => 0,
+    }
+}

@@ -1,0 +1,112 @@
+//! At which goal can a choice be closed?
+
+ghost use Rattle.std.specs.Prelude.{◌≡◌, ℕ, ◌^◌, ◌<◌, ◌≤◌, min, length, IfOk, IfSome, IsSome};
+ghost use Rattle.ttp_model.specs.Chains.{IsPathBound};
+ghost use Rattle.tt_choice.specs.Choices.{IsChoice};
+ghost use Rattle.tt_infer.specs.Leaves.{ClosesLeaf};
+
+use crate::chains::path_bound;
+use crate::propagation::propagate;
+use crate::reached::Reached;
+use crate::trim::closed_leaf;
+use std::alloc::Global;
+use tt_choice::Choice;
+use ttp_model::{Instance, Leaf, MemoryFault, Step};
+
+/// Steps that close the choice at a goal in ticks, where propagation finds them: always so at a goal
+/// of at most the path bound.
+fn closing_steps(
+    alloc: Global,
+    instance: &Instance,
+    choice: &Choice,
+    goal: u32,
+) -> Result<Option<Vec<Step>>, MemoryFault>
+    requires { IsChoice instance.now choice.now }
+    ensures closes { IfOk result (λ found. IfSome found (λ steps.
+        ClosesLeaf instance.now choice.now (record { goal = goal; steps = steps.items }))) }
+    ensures few { IfOk result (λ found. IfSome found (λ steps. length steps.items < 2 ^ 32)) }
+    ensures bound { (bound : ℕ) → IsPathBound instance.now bound → goal ≤ bound
+        → IfOk result (λ found. IsSome found) }
+{
+    let mut steps = Vec::new(alloc);
+    let reached = propagate(alloc, instance, choice, goal, &mut steps)?;
+    match reached {
+        Reached::Closed => Ok(Some(steps)),
+        Reached::At(_) => Ok(None),
+    }
+}
+
+/// The greatest goal between one at which the steps close the choice and one at which propagation
+/// doesn't, as far as halving finds it, with steps that close the choice there.
+fn raised(
+    alloc: Global,
+    instance: &Instance,
+    choice: &Choice,
+    low: u32,
+    steps: Vec<Step>,
+    top: u32,
+) -> Result<(u32, Vec<Step>), MemoryFault>
+    requires of { IsChoice instance.now choice.now }
+    requires closes { ClosesLeaf instance.now choice.now (record { goal = low; steps = steps.items }) }
+    requires few { length steps.items < 2 ^ 32 }
+    requires below { low < top }
+    ensures closes { IfOk result (λ found. ClosesLeaf instance.now choice.now
+        (record { goal = found.0; steps = found.1.items })) }
+    ensures few { IfOk result (λ found. length found.1.items < 2 ^ 32) }
+    ensures least { IfOk result (λ found. low ≤ found.0) }
+    ensures most { IfOk result (λ found. found.0 < top) }
+{
+    let mut best = (low, steps);
+    let mut high = top;
+    'halving: while high - best.0 > 1 {
+        let middle = best.0 + (high - best.0) / 2;
+        match closing_steps(alloc, instance, choice, middle)? {
+            Some(steps) => best = (middle, steps),
+            None => high = middle,
+        }
+    }
+    Ok(best)
+}
+
+/// A closed leaf at a goal below `top` ticks, which is above the path bound, and at least at the path
+/// bound.
+fn leaf_below(
+    alloc: Global,
+    instance: &Instance,
+    choice: &Choice,
+    top: u32,
+) -> Result<Leaf, MemoryFault>
+    requires of { IsChoice instance.now choice.now }
+    requires above { (bound : ℕ) → IsPathBound instance.now bound → bound < top }
+    ensures closes { IfOk result (ClosesLeaf instance.now choice.now) }
+    ensures top { IfOk result (λ leaf. leaf.goal < top) }
+    ensures bound { IfOk result (λ leaf. (bound : ℕ) → IsPathBound instance.now bound
+        → bound ≤ leaf.goal) }
+{
+    let bound = path_bound(alloc, instance)?;
+    let found = closing_steps(alloc, instance, choice, bound)?;
+    let steps = found.unwrap();
+    let best = raised(alloc, instance, choice, bound, steps, top)?;
+    closed_leaf(alloc, instance, choice, best.0, best.1)
+}
+
+/// A closed leaf at a goal of at most `top` ticks and at least the lesser of `top` and the path
+/// bound: the greatest that propagation closes, as far as halving finds it. Some twenty propagations.
+pub fn best_goal(
+    alloc: Global,
+    instance: &Instance,
+    choice: &Choice,
+    top: u32,
+) -> Result<Leaf, MemoryFault>
+    requires { IsChoice instance.now choice.now }
+    ensures closes { IfOk result (ClosesLeaf instance.now choice.now) }
+    ensures top { IfOk result (λ leaf. leaf.goal ≤ top) }
+    ensures bound { IfOk result (λ leaf. (bound : ℕ) → IsPathBound instance.now bound
+        → min top bound ≤ leaf.goal) }
+{
+    let found = closing_steps(alloc, instance, choice, top)?;
+    match found {
+        Some(steps) => closed_leaf(alloc, instance, choice, top, steps),
+        None => leaf_below(alloc, instance, choice, top),
+    }
+}

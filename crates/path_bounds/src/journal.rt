@@ -1,0 +1,122 @@
+//! What is known, and by which steps?
+
+ghost use Rattle.std.specs.Prelude.{◌≡◌, ◌<◌, ◌++◌, [], All, IfOk, IsTrue, IsFalse};
+ghost use Rattle.tt_choice.specs.Choices.{IsChoice};
+ghost use Rattle.tt_infer.specs.Facts.{first_facts};
+ghost use Rattle.tt_infer.specs.Inference.{after};
+ghost use Rattle.path_bounds.specs.Logs.{Advances, Sharpens, IsIdle, slack_of};
+
+use crate::copies::copied;
+use crate::fact::{target, value};
+use std::alloc::Global;
+use std::marker::Model;
+use tt_choice::Choice;
+use tt_infer::Facts;
+use ttp_model::{Instance, MemoryFault, Step};
+
+/// What is known of the plans that are sought, with a log of the steps that sharpened it.
+#[derive(Drop)]
+pub struct Journal<'a> {
+    facts: Facts<'a>,
+    steps: Vec<Step>,
+}
+
+impl<'a> Model for Journal<'a> {
+    ghost use Rattle.path_bounds.specs.Logs.{Log};
+
+    ghost Value = { Log };
+
+    ghost view = { λ s. record { facts = s.facts; steps = s.steps.items } };
+}
+
+/// Takes a step. Whether it sharpened what is known.
+fn sharpens(facts: &mut Facts, step: &Step) -> bool
+    ensures others { facts.new ≡ after facts.old facts.new.known }
+    ensures sharper { IsTrue result → Sharpens facts.old step.now facts.new.known }
+    ensures same { IsFalse result → facts.new ≡ facts.old }
+    ensures idle { IsFalse result → IsIdle facts.old step.now }
+{
+    let fact = target(facts.instance(), step);
+    let before = value(facts, fact);
+    match facts.apply(step) {
+        Ok(()) => value(facts, fact) != before,
+        Err(_) => false,
+    }
+}
+
+impl<'a> Journal<'a> {
+    /// Follows these steps, which may be of anything, with a log of its own.
+    pub fn new(facts: Facts<'a>, steps: Vec<Step>) -> Self
+        ensures { result ≡ record { facts = facts.entry; steps = steps.items } }
+    {
+        Journal { facts, steps }
+    }
+
+    /// What is known, and the steps.
+    pub fn into_parts(self) -> (Facts<'a>, Vec<Step>)
+        ensures facts { result.0 ≡ self.entry.facts }
+        ensures steps { result.1.items ≡ self.entry.steps }
+    {
+        let Journal { facts, steps } = self;
+        (facts, steps)
+    }
+
+    /// What is known.
+    pub fn facts(&self) -> &Facts<'a>
+        ensures { result.now ≡ self.now.facts }
+    {
+        &self.facts
+    }
+
+    /// Tries a step, and appends it where it sharpens what is known. Whether it does. Reserves room
+    /// for it first.
+    #[tactic(auto, using(crate::proofs::Logs::advances_refl, crate::proofs::Logs::advances_step))]
+    pub fn try_step(&mut self, step: Step) -> Result<bool, MemoryFault>
+        ensures advances { Advances self.old self.new }
+        ensures sharper { IfOk result (λ sharper.
+            IsTrue sharper → slack_of self.new.facts < slack_of self.old.facts) }
+        ensures same { IfOk result (λ sharper. IsFalse sharper → self.new ≡ self.old) }
+        ensures idle { IfOk result (λ sharper. IsFalse sharper → IsIdle self.old.facts step) }
+    {
+        self.steps.try_reserve(1)?;
+        if sharpens(&mut self.facts, &step) {
+            self.steps.push(step)?;
+            return Ok(true);
+        }
+        Ok(false)
+    }
+
+    /// Tries each of these steps once. Whether one sharpened what is known.
+    #[tactic(auto, using(crate::proofs::Logs::advances_refl, crate::proofs::Logs::advances_trans))]
+    pub fn sweep(&mut self, alloc: Global, steps: &[Step]) -> Result<bool, MemoryFault>
+        ensures advances { Advances self.old self.new }
+        ensures sharper { IfOk result (λ sharper.
+            IsTrue sharper → slack_of self.new.facts < slack_of self.old.facts) }
+        ensures same { IfOk result (λ sharper. IsFalse sharper → self.new ≡ self.old) }
+        ensures idle { IfOk result (λ sharper.
+            IsFalse sharper → All (IsIdle self.new.facts) steps.now) }
+    {
+        let mut sharper = false;
+        for step in steps {
+            let copy = copied(alloc, step)?;
+            let sharpens = self.try_step(copy)?;
+            if sharpens {
+                sharper = true;
+            }
+        }
+        Ok(sharper)
+    }
+
+    /// Tries these steps again and again, until none of them sharpens what is known.
+    #[tactic(auto, using(crate::proofs::Logs::advances_refl, crate::proofs::Logs::advances_trans))]
+    pub fn settle(&mut self, alloc: Global, steps: &[Step]) -> Result<(), MemoryFault>
+        ensures advances { Advances self.old self.new }
+        ensures idle { IfOk result (λ done. All (IsIdle self.new.facts) steps.now) }
+    {
+        'again: loop {
+            if !self.sweep(alloc, steps)? {
+                return Ok(());
+            }
+        }
+    }
+}

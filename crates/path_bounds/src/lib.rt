@@ -1,0 +1,30 @@
+//! Bounds on the plans of a choice, with the steps that lead to them.
+#![tactic(auto)]
+
+mod acceleration;
+mod agenda;
+mod chains;
+mod consequences;
+mod copies;
+mod fact;
+mod fact_set;
+mod goals;
+mod groups;
+mod journal;
+mod network;
+mod opening;
+mod parts;
+mod propagation;
+mod reached;
+mod reads;
+mod required;
+mod rings;
+#[cfg(test)]
+mod tests;
+mod trim;
+
+pub use chains::path_bound;
+pub use goals::best_goal;
+pub use propagation::propagate;
+pub use reached::Reached;
+pub use trim::closed_leaf;

@@ -1,0 +1,12 @@
+//! What does a propagation come to?
+
+use tt_infer::Facts;
+
+/// Where the steps of a propagation lead.
+#[derive(Drop)]
+pub enum Reached<'a> {
+    /// No plan of the choice has a delay below the goal.
+    Closed,
+    /// Some may: what is known of them.
+    At(Facts<'a>),
+}

@@ -1,0 +1,134 @@
+//! Which facts does a step read?
+
+use crate::fact::{Fact, link_after, link_before, sender};
+use crate::fact_set::FactSet;
+use tt_infer::Facts;
+use ttp_model::{Instance, Step};
+
+/// Adds the facts that a step reads, where these facts are known when the last step is taken.
+pub fn add_reads(wanted: &mut FactSet, facts: &Facts, step: &Step) {
+    let instance = facts.instance();
+    match step {
+        Step::XCycle(ring) => add_ring(wanted, ring.as_slice()),
+        Step::XLoad(n, a, b) => add_load(wanted, facts, *n, *a, *b),
+        Step::XFrames(n, a, b) => add_frames(wanted, facts, *n, *a, *b),
+        Step::XLate(m, _) => add_late(wanted, instance, *m),
+        Step::UsSettled(p) => add_settled(wanted, facts, *p),
+        other => {
+            let (first, second) = plain_reads(instance, other);
+            add(wanted, first);
+            add(wanted, second);
+        }
+    }
+}
+
+/// Adds a fact, where there is one.
+fn add(wanted: &mut FactSet, fact: Option<Fact>) {
+    if let Some(fact) = fact {
+        wanted.insert(fact);
+    }
+}
+
+/// The facts that a step reads which reads two at most.
+fn plain_reads(instance: &Instance, step: &Step) -> (Option<Fact>, Option<Fact>) {
+    match step {
+        Step::EsLink(l) => (Some(Fact::Start(link_before(instance, *l))), None),
+        Step::EsBefore(p, q) => (Some(Fact::Start(*p)), Some(Fact::Order(*p, *q))),
+        Step::EsArrive(m, _) => (Some(Fact::FirstRound(*m)), None),
+        Step::EsMessage(m, _) | Step::LoSend(m) => (Some(Fact::Start(sender(instance, *m))), None),
+        Step::LeLink(l) => (Some(Fact::End(link_after(instance, *l))), None),
+        Step::LeBefore(p, q) => (Some(Fact::End(*q)), Some(Fact::Order(*p, *q))),
+        Step::LeMessage(_, q) | Step::HiArrive(_, q) => (Some(Fact::End(*q)), None),
+        Step::LeSend(m) => (Some(Fact::LateRound(*m)), None),
+        Step::OrdWindow(p, q) => (Some(Fact::End(*p)), Some(Fact::Start(*q))),
+        Step::XWindow(p) => (Some(Fact::Start(*p)), Some(Fact::End(*p))),
+        Step::XRound(m) => (Some(Fact::FirstRound(*m)), Some(Fact::LateRound(*m))),
+        _ => (None, None),
+    }
+}
+
+/// Adds the orders of a ring: of each process before the next, and of the last before the first.
+fn add_ring(wanted: &mut FactSet, ring: &[u32]) {
+    let Some(last) = ring.last() else {
+        return;
+    };
+    let mut before = *last;
+    for p in ring {
+        wanted.insert(Fact::Order(before, *p));
+        before = *p;
+    }
+}
+
+/// Adds the bounds of the processes of node `n` that run from `a` to `b`. Those from 0 have no other.
+fn add_load(wanted: &mut FactSet, facts: &Facts, n: u32, a: u32, b: u32) {
+    let count = facts.instance().processes().len() as u32;
+    for p in 0..count {
+        let here = facts.instance().node_of(p as usize) == n;
+        if here && facts.es(p) >= a && facts.le(p) <= b {
+            wanted.insert(Fact::End(p));
+            if a > 0 {
+                wanted.insert(Fact::Start(p));
+            }
+        }
+    }
+}
+
+/// Adds the bounds of the messages of node `n` that are sent from round `a` on and before `b`.
+fn add_frames(wanted: &mut FactSet, facts: &Facts, n: u32, a: u32, b: u32) {
+    let count = facts.instance().messages().len() as u32;
+    for m in 0..count {
+        let here = facts.instance().source_of(m as usize) == n;
+        if here && facts.lo(m) >= a && facts.top(m) <= b {
+            wanted.insert(Fact::FirstRound(m));
+            wanted.insert(Fact::LateRound(m));
+        }
+    }
+}
+
+/// Adds when the sender of message `m` ends at most, and the rounds of all messages of its node.
+fn add_late(wanted: &mut FactSet, instance: &Instance, m: u32) {
+    wanted.insert(Fact::End(sender(instance, m)));
+    if m as usize >= instance.messages().len() {
+        return;
+    }
+    let node = instance.source_of(m as usize);
+    let count = instance.messages().len() as u32;
+    for other in 0..count {
+        if instance.source_of(other as usize) == node {
+            wanted.insert(Fact::FirstRound(other));
+            wanted.insert(Fact::LateRound(other));
+        }
+    }
+}
+
+/// Adds what keeps process `p` from running later: the ends of the other processes of its node, or
+/// that it goes before them, and the rounds of its messages.
+fn add_settled(wanted: &mut FactSet, facts: &Facts, p: u32) {
+    let instance = facts.instance();
+    if p as usize >= instance.processes().len() {
+        return;
+    }
+    let node = instance.node_of(p as usize);
+    let count = instance.processes().len() as u32;
+    for x in 0..count {
+        if x != p && instance.node_of(x as usize) == node {
+            if facts.bef(p, x) {
+                wanted.insert(Fact::Order(p, x));
+            } else {
+                wanted.insert(Fact::End(x));
+            }
+        }
+    }
+    add_received(wanted, instance, p);
+}
+
+/// Adds the first rounds that are too late for the messages to process `p`.
+fn add_received(wanted: &mut FactSet, instance: &Instance, p: u32) {
+    let count = instance.messages().len() as u32;
+    for m in 0..count {
+        let message = instance.message_at(m as usize);
+        if message.receivers.as_slice().contains(&p) {
+            wanted.insert(Fact::LateRound(m));
+        }
+    }
+}

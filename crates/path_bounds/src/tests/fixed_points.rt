@@ -1,0 +1,136 @@
+//! What propagation leaves open no step of the table sharpens, whether propagation tries it or not.
+
+use super::instances;
+use crate::{Reached, propagate};
+use load_bounds::{frame_load, node_load};
+use std::alloc::Global;
+use std::process::Abort;
+use std::test::Fail;
+use tt_choice::Choice;
+use tt_infer::Facts;
+use ttp_model::{Instance, Ring, Step};
+
+/// Adds the steps of each two processes.
+fn add_pairs(alloc: Global, i: &Instance, p: u32, steps: &mut Vec<Step>) -> Result<(), Fail> {
+    let count = i.processes().len() as u32;
+    for q in 0..count {
+        steps.push(Step::EsBefore(p, q))?;
+        steps.push(Step::LeBefore(p, q))?;
+        steps.push(Step::OrdWindow(p, q))?;
+        steps.push(Step::OrdTwin(p, q))?;
+        steps.push(Step::XCycle(Ring::new(vec![in alloc; p, q]?)))?;
+    }
+    Ok(())
+}
+
+/// Adds the steps of each process.
+fn add_processes(alloc: Global, i: &Instance, steps: &mut Vec<Step>) -> Result<(), Fail> {
+    let count = i.processes().len() as u32;
+    for p in 0..count {
+        steps.push(Step::EsRelease(p))?;
+        steps.push(Step::LeOwn(p))?;
+        steps.push(Step::UsSettled(p))?;
+        steps.push(Step::XWindow(p))?;
+        add_pairs(alloc, i, p, steps)?;
+    }
+    Ok(())
+}
+
+/// Adds the steps of message `m` and each process, and each of the first hundred rounds.
+fn add_message(i: &Instance, m: u32, steps: &mut Vec<Step>) -> Result<(), Fail> {
+    let count = i.processes().len() as u32;
+    for q in 0..count {
+        steps.push(Step::EsArrive(m, q))?;
+        steps.push(Step::EsMessage(m, q))?;
+        steps.push(Step::LeMessage(m, q))?;
+        steps.push(Step::HiArrive(m, q))?;
+    }
+    for r in 0..100 {
+        steps.push(Step::XLate(m, r))?;
+    }
+    Ok(())
+}
+
+/// Adds the steps of each message.
+fn add_messages(i: &Instance, steps: &mut Vec<Step>) -> Result<(), Fail> {
+    let count = i.messages().len() as u32;
+    for m in 0..count {
+        steps.push(Step::LoSend(m))?;
+        steps.push(Step::LeSend(m))?;
+        steps.push(Step::XRound(m))?;
+        steps.push(Step::XFrame(m))?;
+        add_message(i, m, steps)?;
+    }
+    Ok(())
+}
+
+/// All that is known, as numbers.
+fn known(alloc: Global, facts: &Facts) -> Result<Vec<u32>, Fail> {
+    let i = facts.instance();
+    let mut numbers = vec![in alloc; u32::from(facts.closed())]?;
+    let processes = i.processes().len() as u32;
+    for p in 0..processes {
+        numbers.push(facts.es(p))?;
+        numbers.push(facts.le(p))?;
+        for q in 0..processes {
+            numbers.push(u32::from(facts.bef(p, q)))?;
+        }
+    }
+    let messages = i.messages().len() as u32;
+    for m in 0..messages {
+        numbers.push(facts.lo(m))?;
+        numbers.push(facts.top(m))?;
+    }
+    Ok(numbers)
+}
+
+/// No step sharpens what is known, and no node has a closer of loads.
+fn expect_idle<R: Abort>(rt: &R, alloc: Global, facts: &mut Facts) -> Result<(), Fail> {
+    let before = known(alloc, facts)?;
+    let mut steps = Vec::new(alloc);
+    add_processes(alloc, facts.instance(), &mut steps)?;
+    add_messages(facts.instance(), &mut steps)?;
+    for step in &steps {
+        let _ = facts.apply(step);
+        let after = known(alloc, facts)?;
+        assert!(rt; before.as_slice() == after.as_slice(), "{step:?}");
+    }
+    let nodes = facts.instance().nodes().len() as u32;
+    for n in 0..nodes {
+        assert!(rt; node_load(facts, n).is_none());
+        assert!(rt; frame_load(facts, n).is_none());
+    }
+    Ok(())
+}
+
+/// Where propagation leaves the root open at one of these goals, nothing sharpens it. How often it
+/// does.
+fn open_goals<R: Abort>(rt: &R, alloc: Global, i: &Instance) -> Result<u32, Fail> {
+    let mut open: u32 = 0;
+    for goal in 0..102 {
+        let root = Choice::root(alloc, i)?;
+        let mut steps = Vec::new(alloc);
+        match propagate(alloc, i, &root, goal, &mut steps)? {
+            Reached::Closed => {}
+            Reached::At(mut facts) => {
+                expect_idle(rt, alloc, &mut facts)?;
+                open = open.saturating_add(1);
+            }
+        }
+    }
+    Ok(open)
+}
+
+#[test]
+fn no_step_sharpens_what_propagation_leaves_open(rt: HostRuntime) -> Result<(), Fail> {
+    let alloc = rt.alloc();
+    let one = instances::sender_and_receiver(alloc, instances::cluster())?;
+    assert!(rt; open_goals(&rt, alloc, &one)? > 80);
+    let alike = instances::three_alike(alloc)?;
+    assert!(rt; open_goals(&rt, alloc, &alike)? > 80);
+    let two = instances::two_messages(alloc)?;
+    assert!(rt; open_goals(&rt, alloc, &two)? > 80);
+    let senders = instances::two_senders(alloc)?;
+    assert!(rt; open_goals(&rt, alloc, &senders)? > 60);
+    Ok(())
+}

@@ -1,0 +1,144 @@
+//! Which steps does a closer need?
+
+ghost use Rattle.std.specs.Prelude.{◌≡◌, ◌^◌, ◌<◌, IfOk, IfSome, length};
+ghost use Rattle.tt_choice.specs.Choices.{IsChoice};
+ghost use Rattle.tt_infer.specs.Leaves.{ClosesLeaf};
+ghost use Rattle.path_bounds.specs.Logs.{Advances};
+
+use crate::copies::copied;
+use crate::fact::{Fact, target};
+use crate::fact_set::FactSet;
+use crate::journal::Journal;
+use crate::reads::add_reads;
+use std::alloc::Global;
+use tt_choice::Choice;
+use tt_infer::Facts;
+use ttp_model::{Instance, Leaf, MemoryFault, Step, Steps};
+
+/// A leaf of these steps, which close the choice at a goal in ticks, without those that its closer
+/// doesn't need.
+pub fn closed_leaf(
+    alloc: Global,
+    instance: &Instance,
+    choice: &Choice,
+    goal: u32,
+    steps: Vec<Step>,
+) -> Result<Leaf, MemoryFault>
+    requires of { IsChoice instance.now choice.now }
+    requires closes { ClosesLeaf instance.now choice.now (record { goal = goal; steps = steps.items }) }
+    requires few { length steps.items < 2 ^ 32 }
+    ensures closes { IfOk result (ClosesLeaf instance.now choice.now) }
+    ensures goal { IfOk result (λ leaf. leaf.goal ≡ goal) }
+{
+    let needed = needed(alloc, instance, choice, goal, steps.as_slice())?;
+    let trimmed = replayed(
+        alloc,
+        instance,
+        choice,
+        goal,
+        steps.as_slice(),
+        needed.as_slice(),
+    )?;
+    match trimmed {
+        Some(short) => Ok(leaf_of(goal, short)),
+        None => Ok(leaf_of(goal, steps)),
+    }
+}
+
+/// The leaf of these steps.
+fn leaf_of(goal: u32, steps: Vec<Step>) -> Leaf
+    requires { length steps.items < 2 ^ 32 }
+    ensures { result ≡ record { goal = goal; steps = steps.items } }
+{
+    Leaf {
+        goal,
+        steps: Steps::new(steps),
+    }
+}
+
+/// The steps that are marked, where they close the choice at the goal by themselves.
+fn replayed(
+    alloc: Global,
+    instance: &Instance,
+    choice: &Choice,
+    goal: u32,
+    steps: &[Step],
+    marks: &[bool],
+) -> Result<Option<Vec<Step>>, MemoryFault>
+    requires { IsChoice instance.now choice.now }
+    ensures closes { IfOk result (λ found. IfSome found (λ steps.
+        ClosesLeaf instance.now choice.now (record { goal = goal; steps = steps.items }))) }
+    ensures few { IfOk result (λ found. IfSome found (λ steps. length steps.items < 2 ^ 32)) }
+{
+    let _processes = instance.processes();
+    let first = Facts::new(alloc, instance, choice, goal)?;
+    let mut journal = Journal::new(first, Vec::new(alloc));
+    try_marked(alloc, &mut journal, steps, marks)?;
+    let (facts, kept) = journal.into_parts();
+    if facts.closed() {
+        return Ok(Some(kept));
+    }
+    Ok(None)
+}
+
+/// Tries the steps that are marked, one after another.
+#[tactic(auto, using(crate::proofs::Logs::advances_refl, crate::proofs::Logs::advances_trans))]
+fn try_marked(
+    alloc: Global,
+    journal: &mut Journal,
+    steps: &[Step],
+    marks: &[bool],
+) -> Result<(), MemoryFault>
+    ensures { Advances journal.old journal.new }
+{
+    'tries: for (k, step) in steps.iter().enumerate() {
+        if marks.get(k) == Some(&true) {
+            let copy = copied(alloc, step)?;
+            journal.try_step(copy)?;
+        }
+    }
+    Ok(())
+}
+
+/// For each step whether the close needs it: the step that closes, and each that was the last to
+/// sharpen a fact before a needed step read it.
+fn needed(
+    alloc: Global,
+    instance: &Instance,
+    choice: &Choice,
+    goal: u32,
+    steps: &[Step],
+) -> Result<Vec<bool>, MemoryFault>
+    requires { IsChoice instance.now choice.now }
+{
+    let facts = reached(alloc, instance, choice, goal, steps)?;
+    let mut wanted = FactSet::none(alloc, instance)?;
+    wanted.insert(Fact::Closed);
+    let mut marks = Vec::new(alloc);
+    for step in steps.iter().rev() {
+        let mark = wanted.remove(target(instance, step));
+        if mark {
+            add_reads(&mut wanted, &facts, step);
+        }
+        marks.push(mark)?;
+    }
+    marks.reverse();
+    Ok(marks)
+}
+
+/// What is known after these steps.
+fn reached<'a>(
+    alloc: Global,
+    instance: &'a Instance,
+    choice: &Choice,
+    goal: u32,
+    steps: &[Step],
+) -> Result<Facts<'a>, MemoryFault>
+    requires { IsChoice instance.now choice.now }
+{
+    let mut facts = Facts::new(alloc, instance, choice, goal)?;
+    for step in steps {
+        let _ = facts.apply(step);
+    }
+    Ok(facts)
+}
