@@ -1,0 +1,110 @@
+//! Which change is tried next.
+
+use crate::chance::Chance;
+use crate::draft::{Change, Draft};
+use crate::network::{Network, options_of};
+use crate::path::Path;
+use ttp_model::Instance;
+
+/// What changes are chosen by.
+#[derive(Clone, Copy, Debug)]
+pub struct Choice<'a> {
+    pub instance: &'a Instance,
+    pub network: &'a Network,
+    pub draft: &'a Draft,
+    pub path: &'a Path,
+    /// Whether messages may be made to wait.
+    pub holds: bool,
+}
+
+impl Choice<'_> {
+    /// A change by chance: of each five three of what makes the schedule long, where there is one.
+    pub fn next(&self, chance: &mut Chance) -> Change {
+        if chance.below(5) < 3
+            && let Some((before, after)) = self.path.link(chance)
+            && let Some(change) = self.urge(before, after, chance)
+        {
+            change
+        } else {
+            self.anywhere(chance)
+        }
+    }
+
+    /// A change that may let a process start earlier that waits for another one.
+    fn urge(&self, before: usize, after: usize, chance: &mut Chance) -> Option<Change> {
+        if !self.network.share_a_node(before, after) {
+            return Some(self.urge_message(before, chance));
+        }
+        let next = self.draft.neighbour_after(self.network, before) == Some(after);
+        let is_linked = self.network.followers.row(before).contains(&after);
+        if next && !is_linked {
+            let place = self.draft.places.place_at(before);
+            Some(Change::Line(place, place.saturating_add(1)))
+        } else {
+            None
+        }
+    }
+
+    /// A change that may bring a message of this process earlier.
+    fn urge_message(&self, sender: usize, chance: &mut Chance) -> Change {
+        let node = self.network.homes.place_at(sender);
+        let position = self.draft.order.find(node as u64);
+        if self.holds && chance.below(10) == 0 {
+            return self.hold(node, chance);
+        }
+        match chance.below(4) {
+            0 => self.option(node, chance),
+            1 => Change::Slots(position, chance.below(self.draft.order.len())),
+            2 => Change::Slot(position, chance.below(self.draft.order.len())),
+            _ => self.advance(sender, chance),
+        }
+    }
+
+    /// A message of this node waits for a later frame or, mostly, for none.
+    fn hold(&self, node: usize, chance: &mut Chance) -> Change {
+        let messages = self.network.sources.row(node);
+        let place = chance.below(messages.len());
+        let message = messages.get(place).copied().unwrap_or(0);
+        Change::Hold(message, u64::from(chance.below(4) == 0))
+    }
+
+    /// Another capacity of a node, which carries each of its messages.
+    fn option(&self, node: usize, chance: &mut Chance) -> Change {
+        let roomy = self.network.roomy.place_at(node);
+        let choices = options_of(self.instance, node).saturating_sub(roomy);
+        Change::Option(node, roomy.saturating_add(chance.below(choices)) as u64)
+    }
+
+    /// A process goes before the one that runs before it on its node.
+    fn advance(&self, p: usize, chance: &mut Chance) -> Change {
+        if self.draft.has_neighbour_before(self.network, p) {
+            let place = self.draft.places.place_at(p);
+            Change::Line(place, place.saturating_sub(1))
+        } else {
+            self.move_process(p, chance)
+        }
+    }
+
+    /// Any change.
+    fn anywhere(&self, chance: &mut Chance) -> Change {
+        let nodes = self.draft.order.len();
+        let p = chance.below(self.draft.line.len());
+        match chance.below(8) {
+            0 => Change::Slots(chance.below(nodes), chance.below(nodes)),
+            1 => Change::Slot(chance.below(nodes), chance.below(nodes)),
+            2 => self.option(chance.below(nodes), chance),
+            3 | 4 | 5 => self.advance(p, chance),
+            _ => self.move_process(p, chance),
+        }
+    }
+
+    /// A process goes to another place among those of its node.
+    fn move_process(&self, p: usize, chance: &mut Chance) -> Change {
+        let others = self.network.residents.row(self.network.homes.place_at(p));
+        let other = others.get(chance.below(others.len())).copied().unwrap_or(p);
+        Change::Line(
+            self.draft.places.place_at(p),
+            self.draft.places.place_at(other),
+        )
+    }
+}

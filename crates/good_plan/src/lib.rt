@@ -1,0 +1,20 @@
+//! A good plan before the search: many climbs to short schedules.
+#![tactic(auto)]
+
+mod best;
+mod chains;
+mod chance;
+mod change;
+mod climb;
+mod draft;
+mod finish;
+mod network;
+mod path;
+mod rows;
+mod table;
+mod timetable;
+
+pub use finish::good_plan;
+
+#[cfg(test)]
+mod tests;
