@@ -1,0 +1,76 @@
+-- How much the root's choice leaves to choose: no more branches than a certificate's tree may have above a node.
+use Rattle.std.proofs.Common.{◌≡◌, ℕ, zero, suc, List, [], ◌+◌, ◌-◌, ◌*◌, ◌^◌, ◌<◌, ◌≤◌, if◌then◌else◌, length, arith, refl, count_by, Bool, true, false, is_none, None}
+use Rattle.std.proofs.lemmas.List.{length-replicate, get_or-replicate}
+use Rattle.std.proofs.lemmas.List.Sums.{count_by-le-length}
+use Rattle.std.proofs.lemmas.Int.Digits.{length-digits_of-le}
+use Rattle.std.proofs.Math.Nat.{mul-le-mul_left}
+use Rattle.ttp_model.specs.declared.error.Place.TheVariants.{AtCluster}
+use Rattle.ttp_model.specs.Problem.{Problem}
+use Rattle.ttp_model.specs.Rules.{IsInstance}
+use Rattle.tt_choice.specs.Choices.{Chosen, is_unordered, unordered_below, unordered_pairs, lo_of, hi_of}
+use Rattle.tt_choice.specs.Branches.{root_choice}
+use Rattle.tt_choice.specs.Sizes.{size_left, range_size}
+use Rattle.tt_choice.specs.Totals.{total}
+use Rattle.tt_choice.proofs.Totals.{total_le, total_more, total_bound}
+
+-- no test counts more than one
+one_or_none : (b : Bool) → (if b then 1 else 0) ≤ 1
+one_or_none true = omega arith
+one_or_none false = omega arith
+
+below_few : (i : Problem) (c : Chosen) (p : ℕ) → unordered_below i c p ≤ p
+below_few i c p =
+    let most : unordered_below i c p ≤ p * 1 = total_bound (λ q. if is_unordered i c p q then 1 else 0) 1 p (λ q h. one_or_none (is_unordered i c p q)) in
+    omega (arith, most)
+
+-- twice the sum of the numbers below a count
+numbers_sum : (count : ℕ) → 2 * total (λ p. p) count + count ≡ count * count
+numbers_sum zero = refl
+numbers_sum (suc count) = omega (arith, numbers_sum count, total_more (λ p. p) count)
+
+pairs_bound : (count sum : ℕ) → 2 * sum + count ≡ count * count → count ≤ 64 → sum ≤ 2016
+pairs_bound count sum is few =
+    let square : count * count ≤ count * 64 = mul-le-mul_left count few in
+    omega (arith, is, square, few)
+
+pairs_few : (i : Problem) (c : Chosen) → length i.processes ≤ 64 → unordered_pairs i c ≤ 2016
+pairs_few i c few =
+    let below : unordered_pairs i c ≤ total (λ p. p) (length i.processes) = total_le (unordered_below i c) (λ p. p) (length i.processes) (λ p h. below_few i c p) in
+    let most = pairs_bound (length i.processes) (total (λ p. p) (length i.processes)) (numbers_sum (length i.processes)) few in
+    omega (arith, below, most)
+
+range_few : (i : Problem) (m : ℕ) → m < length i.messages → i.cluster.horizon ≤ 1000000 → range_size (root_choice i) m ≤ 20
+range_few i m inside short =
+    let last : hi_of (root_choice i) m ≡ i.cluster.horizon - 1 = get_or-replicate (length i.messages) m (i.cluster.horizon - 1) 0 inside in
+    let small : hi_of (root_choice i) m - lo_of (root_choice i) m < 2 ^ 20 = omega (arith, last, short) in
+    length-digits_of-le 2 20 (hi_of (root_choice i) m - lo_of (root_choice i) m) (omega arith) small
+
+ranges_few : (i : Problem) → length i.messages ≤ 128 → i.cluster.horizon ≤ 1000000 → total (range_size (root_choice i)) (length i.messages) ≤ 2560
+ranges_few i few short =
+    let most : total (range_size (root_choice i)) (length i.messages) ≤ length i.messages * 20 = total_bound (range_size (root_choice i)) 20 (length i.messages) (λ m inside. range_few i m inside short) in
+    omega (arith, most, few)
+
+caps_few : (i : Problem) → length i.nodes ≤ 16 → count_by is_none (root_choice i).fixed ≤ 16
+caps_few i few =
+    let all : count_by is_none (root_choice i).fixed ≤ length (root_choice i).fixed = count_by-le-length is_none (root_choice i).fixed in
+    let nodes : length (root_choice i).fixed ≡ length i.nodes = length-replicate (length i.nodes) None in
+    omega (arith, all, nodes, few)
+
+four : (a b c d : ℕ) → a ≤ 16 → b ≤ 16 → c ≤ 2016 → d ≤ 2560 → a + b + c + d ≤ 4608
+four a b c d ha hb hc hd = omega arith
+
+-- a branch for each of 16 nodes, one for each of their capacities, one for each two of 64 processes, and
+-- 20 for each of 128 messages
+pub size_left-root : (i : Problem) → IsInstance i → size_left i (root_choice i) ≤ 4608
+size_left-root i w =
+    four (length i.nodes - length (root_choice i).prefix) (count_by is_none (root_choice i).fixed) (unordered_pairs i (root_choice i)) (total (range_size (root_choice i)) (length i.messages))
+    (omega (arith, w.limits.nodes))
+    (caps_few i w.limits.nodes)
+    (pairs_few i (root_choice i) w.limits.processes)
+    (ranges_few i w.limits.messages (w.ranges AtCluster).horizon)
+
+pub shallow_at_root : (i : Problem) (name : List ℕ) (c : Chosen) → IsInstance i → name ≡ [] → c ≡ root_choice i → length name + size_left i c ≤ 4608
+shallow_at_root i name c w no_name root =
+    let size : size_left i c ≤ 4608 = rw root (size_left-root i w) in
+    let none : length name ≡ 0 = rw no_name refl in
+    omega (arith, size, none)

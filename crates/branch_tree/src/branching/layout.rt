@@ -1,0 +1,33 @@
+//! What of the layout is open?
+
+ghost use Rattle.std.specs.Prelude.{◌≡◌};
+ghost use Rattle.tt_choice.specs.Choices.{IsChoice};
+ghost use Rattle.branch_tree.specs.Branching.{MayBranch};
+
+use tt_choice::Choice;
+use ttp_model::{Instance, Kind};
+
+/// A free capacity with several options, or which node comes next, where several are left. A branch
+/// with one child tells nothing more of the slots, and can wait.
+pub fn layout(instance: &Instance, choice: &Choice) -> Option<Kind>
+    requires { IsChoice instance.now choice.now }
+    ensures { MayBranch instance.now choice.now result }
+{
+    let count = instance.nodes().len() as u32;
+    for n in 0..count {
+        let kind = Kind::Cap(n);
+        if choice.is_open(instance, &kind) && has_options(instance, n) {
+            return Some(kind);
+        }
+    }
+    if choice.prefix().len() + 1 < instance.nodes().len() {
+        return Some(Kind::Place);
+    }
+    None
+}
+
+/// Whether node `n` has several capacities to choose from.
+fn has_options(instance: &Instance, n: u32) -> bool {
+    let nodes = instance.nodes();
+    (n as usize) < nodes.len() && nodes[n as usize].capacities.len() > 1
+}

@@ -1,0 +1,305 @@
+//! Searches of small instances by a plain loop: the least delay, and the tree that was gone through.
+
+ghost use Rattle.std.specs.Prelude.{All, IfOk, OnOk};
+ghost use Rattle.branch_tree.specs.Tasks.{IsTask};
+ghost use Rattle.branch_tree.specs.Work.{IsWorked};
+
+use super::*;
+use certificate::Node;
+use std::alloc::Global;
+use std::process::Abort;
+use std::test::Fail;
+use ttp_model::{
+    Cluster, Instance, Kind, Message, Name as TextName, Node as Station, Numbers, Process,
+};
+
+/// A name.
+fn name(alloc: Global, text: &str) -> Result<TextName, Fail> {
+    Ok(TextName::new(String::from_str(alloc, text)?))
+}
+
+/// A node of this name with these capacities.
+fn node(alloc: Global, text: &str, capacities: &[u32]) -> Result<Station, Fail> {
+    Ok(Station {
+        name: name(alloc, text)?,
+        capacities: Numbers::new(Vec::from_slice(alloc, capacities)?),
+    })
+}
+
+/// A process of this name.
+fn process(alloc: Global, text: &str, node: u32, wcet: u32) -> Result<Process, Fail> {
+    Ok(Process {
+        name: name(alloc, text)?,
+        node,
+        wcet,
+        release: 0,
+        deadline: 1_000_000,
+    })
+}
+
+/// A message of this name from process 0.
+fn message(alloc: Global, text: &str, receiver: u32, bytes: u32) -> Result<Message, Fail> {
+    Ok(Message {
+        name: name(alloc, text)?,
+        sender: 0,
+        receivers: Numbers::new(vec![in alloc; receiver]?),
+        bytes,
+    })
+}
+
+/// Frames of 1 tick and 1 more for each byte, nothing before or after a frame.
+fn cluster(horizon: u32) -> Cluster {
+    Cluster {
+        precision: 0,
+        lead: 0,
+        trail: 0,
+        head: 1,
+        per_byte: 1,
+        copy_out: 0,
+        copy_in: 0,
+        horizon,
+    }
+}
+
+/// One node whose slot carries nothing, with these processes.
+fn one_node(alloc: Global, processes: Vec<Process>) -> Result<Instance, Fail> {
+    let nodes = vec![in alloc; node(alloc, "A", &[0])?]?;
+    Ok(Instance::build(
+        alloc,
+        cluster(100),
+        nodes,
+        processes,
+        Vec::new(alloc),
+        Vec::new(alloc),
+    )?)
+}
+
+/// Process p on A, whose capacities these are, sends a message of so many bytes to process q on B.
+fn sender_and_receiver(
+    alloc: Global,
+    horizon: u32,
+    capacities: &[u32],
+    others: &[u32],
+    bytes: u32,
+    wcets: (u32, u32),
+) -> Result<Instance, Fail> {
+    let nodes = vec![in alloc; node(alloc, "A", capacities)?, node(alloc, "B", others)?]?;
+    let processes = vec![in alloc;
+        process(alloc, "p", 0, wcets.0)?,
+        process(alloc, "q", 1, wcets.1)?,
+    ]?;
+    let messages = vec![in alloc; message(alloc, "m", 1, bytes)?]?;
+    Ok(Instance::build(
+        alloc,
+        cluster(horizon),
+        nodes,
+        processes,
+        Vec::new(alloc),
+        messages,
+    )?)
+}
+
+/// Process p of 1 tick on A, whose slot carries 2 or 4 bytes, sends 2 bytes to each of two processes
+/// of 1 tick on B.
+fn two_receivers(alloc: Global) -> Result<Instance, Fail> {
+    let nodes = vec![in alloc; node(alloc, "A", &[2, 4])?, node(alloc, "B", &[0])?]?;
+    let processes = vec![in alloc;
+        process(alloc, "p", 0, 1)?,
+        process(alloc, "q1", 1, 1)?,
+        process(alloc, "q2", 1, 1)?,
+    ]?;
+    let messages = vec![in alloc; message(alloc, "m1", 1, 2)?, message(alloc, "m2", 2, 2)?]?;
+    Ok(Instance::build(
+        alloc,
+        cluster(100),
+        nodes,
+        processes,
+        Vec::new(alloc),
+        messages,
+    )?)
+}
+
+/// What a search came to.
+#[derive(Debug, Drop)]
+struct Tree {
+    /// The least delay found, in ticks.
+    least: Option<u64>,
+    /// The branches, in the order worked.
+    branches: Vec<Kind>,
+    /// The goals of the leaves, in the order worked.
+    goals: Vec<u32>,
+}
+
+/// Works a task, or tells that memory was refused.
+fn worked(alloc: Global, instance: &Instance, task: Task, goal: u32) -> Result<Worked, Fail>
+    requires { IsTask instance.now task }
+    ensures { IfOk result (IsWorked instance.now task goal) }
+{
+    match work(alloc, instance, task, goal) {
+        Ok(worked) => Ok(worked),
+        Err(refused) => {
+            let (_task, fault) = refused;
+            Err(Fail::from(fault))
+        }
+    }
+}
+
+/// Works a task, and keeps what came of it. The goal from then on, in ticks.
+fn turn(
+    alloc: Global,
+    instance: &Instance,
+    task: Task,
+    goal: u32,
+    left: &mut Vec<Task>,
+    tree: &mut Tree,
+) -> Result<u32, Fail>
+    requires task { IsTask instance.now task }
+    requires left { All (IsTask instance.now) left.old.items }
+    ensures { OnOk result (All (IsTask instance.now) left.new.items) }
+{
+    match worked(alloc, instance, task, goal)? {
+        Worked::Split(kind, mut tasks) => {
+            tree.branches.push(kind)?;
+            left.append(&mut tasks)?;
+            Ok(goal)
+        }
+        Worked::Closed(leaf) => {
+            tree.goals.push(leaf.goal)?;
+            Ok(goal)
+        }
+        Worked::Found(_plan, ticks, leaf) => {
+            tree.least = Some(ticks);
+            tree.goals.push(leaf.goal)?;
+            Ok(ticks as u32)
+        }
+    }
+}
+
+/// Works one task after another, the newest first, each at the least delay found so far, at first at
+/// one tick past the horizon.
+fn searched(alloc: Global, instance: &Instance) -> Result<Tree, Fail> {
+    let mut tree = Tree {
+        least: None,
+        branches: Vec::new(alloc),
+        goals: Vec::new(alloc),
+    };
+    let mut goal = instance.cluster().horizon.saturating_add(1);
+    let mut left = vec![in alloc; Task::root(alloc, instance)?]?;
+    'turns: for _ in 0..10_000 {
+        match left.pop() {
+            Some(task) => goal = turn(alloc, instance, task, goal, &mut left, &mut tree)?,
+            None => break,
+        }
+    }
+    Ok(tree)
+}
+
+#[test]
+fn one_process_alone_ends_at_its_release_and_its_execution_time(
+    rt: HostRuntime,
+) -> Result<(), Fail> {
+    let alloc = rt.alloc();
+    let mut alone = process(alloc, "p", 0, 5)?;
+    alone.release = 2;
+    let instance = one_node(alloc, vec![in alloc; alone]?)?;
+    let tree = searched(alloc, &instance)?;
+    assert_eq!(rt; tree.least, Some(7));
+    assert_eq!(rt;
+        tree.branches.as_slice(),
+        [Kind::Place, Kind::Cap(0)].as_slice()
+    );
+    assert_eq!(rt; tree.goals.as_slice(), [7].as_slice());
+    Ok(())
+}
+
+#[test]
+fn three_alike_run_one_after_another(rt: HostRuntime) -> Result<(), Fail> {
+    let alloc = rt.alloc();
+    let processes = vec![in alloc;
+        process(alloc, "p", 0, 2)?,
+        process(alloc, "q", 0, 2)?,
+        process(alloc, "r", 0, 2)?,
+    ]?;
+    let instance = one_node(alloc, processes)?;
+    assert_eq!(rt; searched(alloc, &instance)?.least, Some(6));
+    Ok(())
+}
+
+#[test]
+fn one_in_a_hurry_goes_first(rt: HostRuntime) -> Result<(), Fail> {
+    let alloc = rt.alloc();
+    let mut hurried = process(alloc, "q", 0, 2)?;
+    hurried.deadline = 2;
+    let instance = one_node(alloc, vec![in alloc; process(alloc, "p", 0, 3)?, hurried]?)?;
+    assert_eq!(rt; searched(alloc, &instance)?.least, Some(5));
+    Ok(())
+}
+
+#[test]
+fn a_message_takes_its_senders_slot(rt: HostRuntime) -> Result<(), Fail> {
+    let alloc = rt.alloc();
+    let instance = sender_and_receiver(alloc, 100, &[2], &[0], 2, (3, 2))?;
+    let tree = searched(alloc, &instance)?;
+    assert_eq!(rt; tree.least, Some(9));
+    assert_eq!(rt;
+        tree.branches.as_slice().first().copied(),
+        Some(Kind::Place)
+    );
+    let tight = sender_and_receiver(alloc, 9, &[2], &[0], 2, (3, 2))?;
+    assert_eq!(rt; searched(alloc, &tight)?.least, Some(9));
+    let short = sender_and_receiver(alloc, 8, &[2], &[0], 2, (3, 2))?;
+    assert_eq!(rt; searched(alloc, &short)?.least, None);
+    Ok(())
+}
+
+#[test]
+fn the_layout_makes_the_delay(rt: HostRuntime) -> Result<(), Fail> {
+    let alloc = rt.alloc();
+    assert_eq!(rt; searched(alloc, &two_receivers(alloc)?)?.least, Some(8));
+    let longer = sender_and_receiver(alloc, 100, &[2], &[0, 1], 2, (2, 1))?;
+    assert_eq!(rt; searched(alloc, &longer)?.least, Some(6));
+    let in_time = sender_and_receiver(alloc, 100, &[2], &[0], 2, (1, 1))?;
+    assert_eq!(rt; searched(alloc, &in_time)?.least, Some(5));
+    let late = sender_and_receiver(alloc, 100, &[2], &[0], 2, (2, 1))?;
+    assert_eq!(rt; searched(alloc, &late)?.least, Some(8));
+    Ok(())
+}
+
+#[test]
+fn a_message_that_fits_no_frame_leaves_no_plan(rt: HostRuntime) -> Result<(), Fail> {
+    let alloc = rt.alloc();
+    let instance = sender_and_receiver(alloc, 100, &[2, 4], &[0], 6, (1, 1))?;
+    let tree = searched(alloc, &instance)?;
+    assert_eq!(rt; tree.least, None);
+    assert_eq!(rt; tree.goals.as_slice().iter().all(|goal| *goal == 101), true);
+    Ok(())
+}
+
+/// The goal of the leaf that the whole tree is closed by.
+fn closed_goal(alloc: Global, instance: &Instance, top: u32) -> Result<Option<u32>, Fail> {
+    match close_left(alloc, instance, Task::root(alloc, instance)?, top) {
+        Ok(piece) => Ok(leaf_goal(&piece)),
+        Err(refused) => {
+            let (_task, fault) = refused;
+            Err(Fail::from(fault))
+        }
+    }
+}
+
+/// The goal of a leaf.
+fn leaf_goal(piece: &Piece) -> Option<u32> {
+    match &piece.node {
+        Node::Leaf(leaf) => Some(leaf.goal),
+        _ => None,
+    }
+}
+
+#[test]
+fn what_is_left_is_closed_at_the_path_bound_at_least(rt: HostRuntime) -> Result<(), Fail> {
+    let alloc = rt.alloc();
+    let instance = sender_and_receiver(alloc, 100, &[2], &[0], 2, (3, 2))?;
+    let goal = closed_goal(alloc, &instance, 101)?;
+    assert_eq!(rt; goal == Some(8) || goal == Some(9), true);
+    assert_eq!(rt; closed_goal(alloc, &instance, 5)?, Some(5));
+    Ok(())
+}
