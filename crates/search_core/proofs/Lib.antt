@@ -1,0 +1,10 @@
+pub mod Turned
+pub mod Weights
+pub mod Once
+pub mod Effects
+pub mod Tree
+pub mod Known
+pub mod Standing
+pub mod Cover
+pub mod Ledger
+pub mod Right

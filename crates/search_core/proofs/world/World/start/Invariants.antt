@@ -1,0 +1,7 @@
+use Rattle.std.proofs.Common.{◌≡◌, ◌∷◌, [], ◌-◌, replicate}
+use Rattle.branch_tree.specs.Names.{root_name}
+use Rattle.search_core.specs.Moments.{idle_seat}
+use Rattle.search_core.proofs.world.World.start.Given as goal
+
+abbrev pub invariant-loop : goal.invariant-loop
+invariant-loop l = l.idle.items ≡ (record (idle_seat l.top) { deque = root_name ∷ [] }) ∷ replicate (l.counter - 1) (idle_seat l.top)

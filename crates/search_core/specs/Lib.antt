@@ -1,0 +1,6 @@
+pub mod Moments
+pub mod Turns
+pub mod Steps
+pub mod Once
+pub mod Bounds
+pub mod Ledger

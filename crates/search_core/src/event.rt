@@ -1,0 +1,91 @@
+//! What can happen in a search?
+
+ghost use Rattle.std.specs.Prelude.{◌≡◌, ℕ, ◌↔◌, IsTrue};
+ghost use Rattle.search_core.specs.Turns.{HasOwnCount, IsFitting, branch_node, node_made, hand_after};
+
+use crate::brood::Brood;
+use crate::hand::Hand;
+use branch_tree::Name;
+use certificate::Node;
+use ttp_model::{Kind, Leaf};
+
+/// What became of the task in a worker's hand.
+#[derive(Debug, Drop)]
+pub enum Worked {
+    /// A branch of this kind, with so many children.
+    Split(Kind, u32),
+    /// A leaf at the goal that the worker saw.
+    Closed(Leaf),
+    /// A plan with this delay in ticks, and a leaf that closes the task at a goal of at least this delay.
+    Found(Leaf, u32),
+}
+
+/// One thing that a worker does. Workers are named by number, from 0.
+#[derive(Debug, Drop)]
+pub enum Event {
+    /// Takes the last name of its own deque.
+    Pop(u32),
+    /// Takes the first name of another's deque: the worker, and the other.
+    Steal(u32, u32),
+    /// Reads the best delay.
+    Look(u32),
+    /// Works the task in its hand.
+    Work(u32, Worked),
+    /// Pushes the first child in its hand.
+    Push(u32),
+    /// Offers the delay in its hand.
+    Offer(u32),
+    /// Leaves the first name in its hand unworked.
+    Rest(u32),
+}
+
+/// Is this the kind's count of children, where it has one?
+fn has_own_count(kind: Kind, count: u32) -> bool
+    ensures { IsTrue result ↔ HasOwnCount kind count }
+{
+    match kind {
+        Kind::Place | Kind::Cap(_) => true,
+        Kind::Pair(_, _) | Kind::Round(_, _) => count == 2,
+    }
+}
+
+/// The node of a branch.
+fn branch_node(kind: Kind, children: u32) -> Node
+    ensures { result ≡ branch_node kind children }
+{
+    match kind {
+        Kind::Place => Node::Place { children },
+        Kind::Cap(node) => Node::Cap { node, children },
+        Kind::Pair(first, second) => Node::Pair { first, second },
+        Kind::Round(message, round) => Node::Round { message, round },
+    }
+}
+
+impl Worked {
+    /// Does its count, or its goal, fit a worker that saw this delay?
+    pub(crate) fn is_fitting(&self, seen: u32) -> bool
+        ensures { IsTrue result ↔ IsFitting seen self.now }
+    {
+        match self {
+            Worked::Split(kind, count) => 1 <= *count && has_own_count(*kind, *count),
+            Worked::Closed(leaf) => leaf.goal == seen,
+            Worked::Found(leaf, delay) => *delay <= leaf.goal && leaf.goal < seen,
+        }
+    }
+
+    /// The node that it makes, and what is in hand after it, for a task of this name.
+    pub(crate) fn outcome(self, name: Name) -> (Node, Hand)
+        requires { (seen : ℕ) × IsFitting seen self }
+        ensures node { result.0 ≡ node_made self }
+        ensures hand { result.1 ≡ hand_after name self }
+    {
+        match self {
+            Worked::Split(kind, count) => (
+                branch_node(kind, count),
+                Hand::Children(Brood::of(name, count)),
+            ),
+            Worked::Closed(leaf) => (Node::Leaf(leaf), Hand::Empty),
+            Worked::Found(leaf, delay) => (Node::Leaf(leaf), Hand::Value(delay)),
+        }
+    }
+}

@@ -1,0 +1,23 @@
+//! A search by several workers, as plain data and events one after another.
+#![tactic(auto)]
+
+mod brood;
+mod event;
+mod hand;
+mod laws;
+mod reply;
+mod worker;
+mod world;
+
+pub use brood::Brood;
+pub use event::{Event, Worked};
+pub use hand::Hand;
+pub use laws::{
+    accounts_balance, bounds_hold, names_are_a_tree, one_choice_stands, pieces_are_right,
+};
+pub use reply::{Illegal, Reply};
+pub use worker::Worker;
+pub use world::World;
+
+#[cfg(test)]
+mod tests;
