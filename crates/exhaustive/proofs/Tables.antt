@@ -1,0 +1,66 @@
+-- The table of a valid plan is a choice for the places, and tells the plan.
+use Rattle.std.proofs.Common.{◌≡◌, ◌∙◌, ℕ, zero, suc, ◌<◌, List, [], ◌∷◌, ◌++◌, length, get_or, slice_index, slice_index_or, map, replicate, take, drop, All, Contains, arith, ap, sym}
+use Rattle.std.specs.List.{range_with_len}
+use Rattle.std.proofs.lemmas.List.FromFn.{length-range_with_len, get_or-range_with_len}
+use Rattle.std.proofs.Math.Seq.{take-append_seam, drop-append_seam}
+use Rattle.ttp_model.specs.declared.parts.Node.{Node}
+use Rattle.ttp_model.specs.declared.plan.Plan.{Plan}
+use Rattle.ttp_model.specs.Problem.{Problem, no_node}
+use Rattle.ttp_model.specs.Rules.{IsInstance}
+use Rattle.ttp_model.specs.Plans.{IsValid, HasLengths}
+use Rattle.ttp_model.proofs.PlanNumbers.{order_small, starts_small, rounds_small}
+use Rattle.exhaustive.specs.Tables.{table_of, options_of, places_of, IsChoice}
+
+below_contains : (n x : ℕ) → x < n → Contains (range_with_len 0 n) x
+below_contains n x small = (x, omega (arith, small, length-range_with_len 0 n), get_or-range_with_len 0 n x x small ∙ omega arith)
+
+choice_append : (ps qs : List (List ℕ)) (xs ys : List ℕ) → IsChoice ps xs → IsChoice qs ys → IsChoice (ps ++ qs) (xs ++ ys)
+choice_append [] qs [] ys first second = second
+choice_append [] qs (x ∷ xs) ys first second = absurd first
+choice_append (p ∷ ps) qs [] ys first second = absurd first
+choice_append (p ∷ ps) qs (x ∷ xs) ys first second = (first.0, choice_append ps qs xs ys first.1 second)
+
+choice_alike : (numbers : List ℕ) (n : ℕ) (xs : List ℕ) → length xs ≡ n → All (Contains numbers) xs → IsChoice (replicate n numbers) xs
+choice_alike numbers zero [] long each = tt
+choice_alike numbers zero (x ∷ xs) long each = absurd (omega (arith, long))
+choice_alike numbers (suc n) [] long each = absurd (omega (arith, long))
+choice_alike numbers (suc n) (x ∷ xs) long each =
+    (each 0 0 (omega arith), choice_alike numbers n xs (omega (arith, long)) (λ k d h. each (suc k) d (omega (arith, h))))
+
+choice_options : (nodes : List Node) (caps : List ℕ) → length caps ≡ length nodes → ((n : ℕ) → n < length nodes → Contains (slice_index_or nodes n no_node).capacities (slice_index caps n)) → IsChoice (map options_of nodes) caps
+choice_options [] [] long each = tt
+choice_options [] (x ∷ xs) long each = absurd (omega (arith, long))
+choice_options (node ∷ nodes) [] long each = absurd (omega (arith, long))
+choice_options (node ∷ nodes) (x ∷ xs) long each =
+    (each 0 (omega arith), choice_options nodes xs (omega (arith, long)) (λ n h. each (suc n) (omega (arith, h))))
+
+pub valid_is_choice : (i : Problem) (plan : Plan) → IsInstance i → IsValid i plan → IsChoice (places_of i) (table_of plan)
+valid_is_choice i plan w v =
+    let horizon = i.cluster.horizon in
+    let count = length i.nodes in
+    let order = choice_alike (range_with_len 0 count) count plan.order v.lengths.order (λ k d h. below_contains count (get_or plan.order k d) (order_small i plan v k d h)) in
+    let caps = choice_options i.nodes plan.caps v.lengths.capacities (λ n h. (v.capacities n h).own) in
+    let starts = choice_alike (range_with_len 0 horizon) (length i.processes) plan.starts v.lengths.starts (λ k d h. below_contains horizon (get_or plan.starts k d) (starts_small i plan w v k d h)) in
+    let rounds = choice_alike (range_with_len 0 horizon) (length i.messages) plan.rounds v.lengths.rounds (λ k d h. below_contains horizon (get_or plan.rounds k d) (rounds_small i plan w v k d h)) in
+    choice_append _ _ plan.order (plan.caps ++ (plan.starts ++ plan.rounds)) order (choice_append _ _ plan.caps (plan.starts ++ plan.rounds) caps (choice_append _ _ plan.starts plan.rounds starts rounds))
+
+-- two lists that begin with parts of one length
+front_same : (xs xs' ys ys' : List ℕ) → length xs ≡ length xs' → xs ++ ys ≡ xs' ++ ys' → (xs ≡ xs') × (ys ≡ ys')
+front_same xs xs' ys ys' long same = (
+  sym (take-append_seam xs ys) ∙ (ap (take (length xs)) same ∙ (ap (λ n. take n (xs' ++ ys')) long ∙ take-append_seam xs' ys')),
+  sym (drop-append_seam xs ys) ∙ (ap (drop (length xs)) same ∙ (ap (λ n. drop n (xs' ++ ys')) long ∙ drop-append_seam xs' ys')),
+)
+
+abbrev plan_with : List ℕ → List ℕ → List ℕ → List ℕ → Plan
+plan_with order caps starts rounds = record { order = order; caps = caps; starts = starts; rounds = rounds }
+
+-- of the plans with these lengths a table belongs to one
+pub table_tells : (i : Problem) (a b : Plan) → HasLengths i a → HasLengths i b → table_of a ≡ table_of b → a ≡ b
+table_tells i a b of_a of_b same =
+    let first = front_same a.order b.order (a.caps ++ (a.starts ++ a.rounds)) (b.caps ++ (b.starts ++ b.rounds)) (of_a.order ∙ sym of_b.order) same in
+    let second = front_same a.caps b.caps (a.starts ++ a.rounds) (b.starts ++ b.rounds) (of_a.capacities ∙ sym of_b.capacities) first.1 in
+    let third = front_same a.starts b.starts a.rounds b.rounds (of_a.starts ∙ sym of_b.starts) second.1 in
+    ap (λ (order : List ℕ). plan_with order a.caps a.starts a.rounds) first.0
+    ∙ (ap (λ (caps : List ℕ). plan_with b.order caps a.starts a.rounds) second.0
+    ∙ (ap (λ (starts : List ℕ). plan_with b.order b.caps starts a.rounds) third.0
+    ∙ ap (λ (rounds : List ℕ). plan_with b.order b.caps b.starts rounds) third.1))
