@@ -1,0 +1,157 @@
+-- What a search comes to, once what it left is closed.
+use Rattle.std.proofs.Common.{◌≡◌, ℕ, zero, suc, ◌<◌, ◌≤◌, min, List, [], ◌∷◌, ◌++◌, Option, Ok, ◌⊎◌, inl, inr, refl, sym, ap, subst, ◌∙◌, arith, length, get_or, All, Contains}
+use Rattle.std.proofs.lemmas.List.{map-append}
+use Rattle.std.proofs.lemmas.List.Elements.{All-append, All-weaker, All-contains, Contains-append_left, Contains-get_or}
+use Rattle.ttp_model.specs.declared.plan.Plan.{Plan}
+use Rattle.ttp_model.specs.declared.step.Leaf.{Leaf}
+use Rattle.ttp_model.specs.Problem.{Problem}
+use Rattle.ttp_model.specs.Rules.{IsInstance}
+use Rattle.tt_choice.specs.Choices.{Chosen}
+use Rattle.certificate.specs.declared.limits.TheConstants.{MOST_BRANCHES_ABOVE}
+use Rattle.certificate.specs.declared.node.Node.{Node}
+use Rattle.certificate.specs.declared.node.Node.TheVariants as node
+use Rattle.cert_check.specs.Proofs.{HasGoal}
+use Rattle.branch_tree.specs.declared.piece.Piece.{Piece}
+use Rattle.branch_tree.specs.Names.{Way}
+use Rattle.branch_tree.specs.Tasks.{Subtree}
+use Rattle.branch_tree.specs.Pieces.{IsRight, StandsAt}
+use Rattle.branch_tree.specs.Account.{IsWholeTree}
+use Rattle.branch_tree.specs.Work.{IsLeftClosed}
+use Rattle.search_core.specs.Moments.{Moment, open_names, all_pieces}
+use Rattle.search_core.proofs.Cover.{bounded}
+use Rattle.search_core.proofs.Right.{pieces_right, stands_alone}
+use Rattle.planner.specs.Answers.{limit_of}
+use Rattle.planner.specs.Gathering.{HaveGoals, AreShallow}
+use Rattle.planner.specs.Searched.{IsSearched, IsClosedLeaf, IsLeafPiece, IsWorkedOut, ReachesGoal}
+use Rattle.planner.specs.Searching.{IsOpenTask, task_names, IsSearching, ClosesOne, AreClosed}
+use Rattle.planner.specs.declared.outcome.Why.{Why}
+use Rattle.planner.proofs.Searching.{last_there, one_only, whole_at}
+use Rattle.planner.proofs.Leaves.{closed_whole, closed_right}
+
+weaker_goal : (limit lower : ℕ) → lower ≤ limit → (n : Node) → HasGoal limit n → HasGoal lower n
+weaker_goal limit lower le (node.Place k) h = tt
+weaker_goal limit lower le (node.Cap n k) h = tt
+weaker_goal limit lower le (node.Pair p q) h = tt
+weaker_goal limit lower le (node.Round m r) h = tt
+weaker_goal limit lower le (node.Leaf leaf) h = omega (arith, h, le)
+
+pub end_low : (low limit : ℕ) (closed : List Piece) → (low ≡ limit) ⊎ ((low < limit) × ReachesGoal low closed) → low ≤ limit
+end_low low limit closed (inl e) = omega (arith, e)
+end_low low limit closed (inr h) = omega (arith, h.0)
+
+closes_leaf : (i : Problem) (limit low : ℕ) (tasks : List Subtree) (p : Piece) → ClosesOne i tasks limit p → HasGoal low p.node → IsClosedLeaf i limit low p
+closes_leaf i limit low tasks p one goal =
+    let above : low ≤ one.is.leaf.goal = subst (HasGoal low) one.is.node goal in
+    record { leaf = one.is.leaf; is = one.is.node; above = above; path = λ bound is. omega (arith, one.is.least bound is) }
+
+all_leaves : (i : Problem) (limit low : ℕ) (tasks : List Subtree) (closed : List Piece) → All (ClosesOne i tasks limit) closed → HaveGoals low closed → All (IsClosedLeaf i limit low) closed
+all_leaves i limit low tasks closed each goals = λ j d lt. closes_leaf i limit low tasks (get_or closed j d) (each j d lt) (goals j d lt)
+
+is_leaf_piece : (i : Problem) (limit : ℕ) (tasks : List Subtree) (p : Piece) → ClosesOne i tasks limit p → IsLeafPiece p
+is_leaf_piece i limit tasks p one = record { leaf = one.is.leaf; is = one.is.node }
+
+closed_leaves : (i : Problem) (limit : ℕ) (tasks : List Subtree) (closed : List Piece) → All (ClosesOne i tasks limit) closed → All IsLeafPiece closed
+closed_leaves i limit tasks closed each = All-weaker (ClosesOne i tasks limit) IsLeafPiece (is_leaf_piece i limit tasks) closed each
+
+-- ---- the pieces of a search, and those that close what it left
+
+module _ (i : Problem) (m : Moment) (tasks : List Subtree) (found : Option (Plan × ℕ)) (limit low : ℕ) (closed : List Piece) (s : IsSearching i m tasks found) (c : AreClosed i tasks limit closed low) where
+  closes_shallow : (p : Piece) → ClosesOne i tasks limit p → length p.name ≤ MOST_BRANCHES_ABOVE
+  closes_shallow p one =
+      let own : IsOpenTask i (all_pieces m) one.task = All-contains (IsOpenTask i (all_pieces m)) tasks one.task s.open_tasks one.there in
+      omega (arith, own.task.shallow, ap (λ (w : Way). length w) one.is.name)
+
+  pub end_shallow : AreShallow (all_pieces m ++ closed)
+  end_shallow =
+      All-append (λ (q : Piece). length q.name ≤ MOST_BRANCHES_ABOVE) (all_pieces m) closed s.shallow
+      (All-weaker (ClosesOne i tasks limit) (λ (q : Piece). length q.name ≤ MOST_BRANCHES_ABOVE) closes_shallow closed c.each)
+
+  -- by the core's law of names
+  pub end_whole : IsWholeTree (all_pieces m ++ closed) []
+  end_whole =
+      closed_whole (all_pieces m) closed (subst (IsWholeTree (all_pieces m)) (sym (c.names ∙ s.names)) (whole_at i m tasks found s)) (closed_leaves i limit tasks closed c.each)
+
+  -- by the core's law of bounds
+  worked_goal : IsInstance i → limit ≡ limit_of i found → (p : Piece) → Contains (all_pieces m) p → (n : Node) → p.node ≡ n → HasGoal limit n
+  worked_goal w is p there (node.Place k) same = tt
+  worked_goal w is p there (node.Cap n k) same = tt
+  worked_goal w is p there (node.Pair a b) same = tt
+  worked_goal w is p there (node.Round a b) same = tt
+  worked_goal w is p there (node.Leaf leaf) same =
+      let bounds = bounded i 1 s.reached.top s.reached.events (Ok tt) m w (omega arith) s.reached.is_top s.reached.honest s.reached.runs in
+      omega (arith, bounds.leaves p leaf there same, s.limit, is)
+
+  worked_goals : IsInstance i → limit ≡ limit_of i found → HaveGoals limit (all_pieces m)
+  worked_goals w is = λ j d lt. worked_goal w is (get_or (all_pieces m) j d) (Contains-get_or (all_pieces m) j d lt) (get_or (all_pieces m) j d).node refl
+
+  pub end_goals : IsInstance i → limit ≡ limit_of i found → HaveGoals low (all_pieces m ++ closed)
+  end_goals w is =
+      All-append (λ (q : Piece). HasGoal low q.node) (all_pieces m) closed
+      (All-weaker (λ (q : Piece). HasGoal limit q.node) (λ (q : Piece). HasGoal low q.node) (λ q. weaker_goal limit low (end_low low limit closed c.least) q.node) (all_pieces m) (worked_goals w is))
+      c.goals
+
+  closes_right : (p : Piece) (d : Chosen) → Contains closed p → StandsAt i (all_pieces m) p.name d → IsRight i d p.node
+  closes_right p d there stands =
+      let one : ClosesOne i tasks limit p = All-contains (ClosesOne i tasks limit) closed p c.each there in
+      let own : IsOpenTask i (all_pieces m) one.task = All-contains (IsOpenTask i (all_pieces m)) tasks one.task s.open_tasks one.there in
+      let here : StandsAt i (all_pieces m) one.task.name d = subst (λ (w : Way). StandsAt i (all_pieces m) w d) one.is.name stands in
+      let same : one.task.choice ≡ d = stands_alone i (all_pieces m) (open_names m) one.task.name one.task.choice d (whole_at i m tasks found s) own.stands here in
+      subst (λ (e : Chosen). IsRight i e p.node) same (subst (IsRight i one.task.choice) (sym one.is.node) one.is.closes)
+
+  pub ended : (budget : ℕ) (why : Why) → IsInstance i → limit ≡ limit_of i found → length (all_pieces m) ≤ budget → IsWorkedOut budget (all_pieces m) why → IsSearched i budget why found (all_pieces m) closed low
+  ended budget why w is within cause = record {
+    whole = end_whole;
+    right = closed_right i (all_pieces m) closed (closed_leaves i limit tasks closed c.each)
+        (pieces_right i 1 s.reached.top s.reached.events (Ok tt) m (omega arith) s.reached.honest s.reached.runs) closes_right;
+    found = s.found;
+    goals = subst (λ (l : ℕ). HaveGoals l (all_pieces m)) is (worked_goals w is);
+    leaves = subst (λ (l : ℕ). All (IsClosedLeaf i l low) closed) is (all_leaves i limit low tasks closed c.each c.goals);
+    least = subst (λ (l : ℕ). (low ≡ l) ⊎ ((low < l) × ReachesGoal low closed)) is c.least;
+    within = within;
+    cause = cause;
+  }
+
+-- ---- one task more is closed
+
+pub closes_more : (i : Problem) (done : List Subtree) (t : Subtree) (top : ℕ) (closed : List Piece) (low lower : ℕ) (p : Piece)
+    → AreClosed i done top closed low → IsLeftClosed i t top p
+    → ((leaf : Leaf) → p.node ≡ node.Leaf leaf → lower ≡ min low leaf.goal)
+    → AreClosed i (done ++ t ∷ []) top (closed ++ p ∷ []) lower
+closes_more i done t top closed low lower p c is lowers =
+    let lowered : lower ≡ min low is.leaf.goal = lowers is.leaf is.node in
+    let le : lower ≤ low = omega (arith, lowered) in
+    let own : HasGoal lower p.node = subst (HasGoal lower) (sym is.node) (omega (arith, lowered)) in
+    record {
+      names = map-append (λ (q : Piece). q.name) closed (p ∷ []) ∙ ap (λ (l : List Way). l ++ p.name ∷ []) c.names
+          ∙ ap (λ (w : Way). task_names done ++ w ∷ []) is.name ∙ sym (map-append (λ (x : Subtree). x.name) done (t ∷ []));
+      each = All-append (ClosesOne i (done ++ t ∷ []) top) closed (p ∷ [])
+          (All-weaker (ClosesOne i done top) (ClosesOne i (done ++ t ∷ []) top)
+          (λ q one. record { task = one.task; there = Contains-append_left done (t ∷ []) one.task one.there; is = one.is }) closed c.each)
+          (one_only (ClosesOne i (done ++ t ∷ []) top) p (record { task = t; there = last_there done t; is = is }));
+      goals = All-append (λ (q : Piece). HasGoal lower q.node) closed (p ∷ [])
+          (All-weaker (λ (q : Piece). HasGoal low q.node) (λ (q : Piece). HasGoal lower q.node) (λ q. weaker_goal low lower le q.node) closed c.goals)
+          (one_only (λ (q : Piece). HasGoal lower q.node) p own);
+      least = more_least (le_cases low is.leaf.goal) c.least;
+    }
+  where
+    own_goal : (lower : ℕ) → is.leaf.goal ≡ lower → ReachesGoal lower (closed ++ p ∷ [])
+    own_goal lower e = record { piece = p; there = last_there closed p; leaf = is.leaf; is = is.node; goal = e }
+
+    wider_goal : (low : ℕ) → ReachesGoal low closed → ReachesGoal low (closed ++ p ∷ [])
+    wider_goal low r = record { piece = r.piece; there = Contains-append_left closed (p ∷ []) r.piece r.there; leaf = r.leaf; is = r.is; goal = r.goal }
+
+    le_cases : (a b : ℕ) → (a ≤ b) ⊎ (b < a)
+    le_cases zero b = inl (omega arith)
+    le_cases (suc a) zero = inr (omega arith)
+    le_cases (suc a) (suc b) = elim (le_cases a b) [ inl h ↦ inl (omega (arith, h)) | inr h ↦ inr (omega (arith, h)) ]
+
+    more_least : (low ≤ is.leaf.goal) ⊎ (is.leaf.goal < low) → (low ≡ top) ⊎ ((low < top) × ReachesGoal low closed)
+        → (lower ≡ top) ⊎ ((lower < top) × ReachesGoal lower (closed ++ p ∷ []))
+    more_least (inl h) (inl e) = inl (omega (arith, lowers is.leaf is.node, h, e))
+    more_least (inl h) (inr r) =
+        let same : low ≡ lower = omega (arith, lowers is.leaf is.node, h) in
+        inr (omega (arith, same, r.0), subst (λ (l : ℕ). ReachesGoal l (closed ++ p ∷ [])) same (wider_goal low r.1))
+    more_least (inr h) (inl e) =
+        inr (omega (arith, lowers is.leaf is.node, h, e), own_goal lower (omega (arith, lowers is.leaf is.node, h)))
+    more_least (inr h) (inr r) =
+        inr (omega (arith, lowers is.leaf is.node, h, r.0), own_goal lower (omega (arith, lowers is.leaf is.node, h)))

@@ -1,0 +1,5 @@
+use Rattle.planner.specs.Searching.{AreClosed}
+use Rattle.planner.proofs.closing.close_all.Given as goal
+
+abbrev pub invariant-loop-task : goal.invariant-loop-task
+invariant-loop-task l = AreClosed l.instance l.yielded l.top l.closed.items l.low

@@ -1,0 +1,55 @@
+//! What a search leaves is closed.
+
+ghost use Rattle.std.specs.Prelude.{◌≡◌, IfOk, All, min};
+ghost use Rattle.ttp_model.specs.declared.step.Leaf.{Leaf};
+ghost use Rattle.certificate.specs.declared.node.Node.TheVariants as node;
+ghost use Rattle.branch_tree.specs.Tasks.{IsTask};
+ghost use Rattle.branch_tree.specs.Work.{IsLeftClosed};
+ghost use Rattle.planner.specs.Searching.{AreClosed};
+
+use branch_tree::{Piece, Task, close_left};
+use certificate::Node;
+use std::alloc::Global;
+use ttp_model::{Instance, MemoryFault};
+
+/// The lesser of a leaf's goal and a tick.
+fn lowered(piece: &Piece, low: u32) -> u32
+    ensures { (leaf : Leaf) → piece.now.node ≡ node.Leaf leaf → result ≡ min low leaf.goal }
+{
+    match &piece.node {
+        Node::Leaf(leaf) => low.min(leaf.goal),
+        _ => low,
+    }
+}
+
+/// Closes one task at a goal of at most `top` ticks.
+fn close(alloc: Global, instance: &Instance, task: Task, top: u32) -> Result<Piece, MemoryFault>
+    requires { IsTask instance.now task }
+    ensures { IfOk result (IsLeftClosed instance.now task top) }
+{
+    match close_left(alloc, instance, task, top) {
+        Ok(piece) => Ok(piece),
+        Err((_, fault)) => Err(fault),
+    }
+}
+
+/// Closes tasks at goals of at most `top` ticks, in order: their leaves, and the least of `top` and
+/// the leaves' goals.
+pub fn close_all(
+    alloc: Global,
+    instance: &Instance,
+    tasks: Vec<Task>,
+    top: u32,
+) -> Result<(Vec<Piece>, u32), MemoryFault>
+    requires { All (IsTask instance.now) tasks.items }
+    ensures { IfOk result (λ r. AreClosed instance.now tasks.items top r.0.items r.1) }
+{
+    let mut closed = Vec::with_capacity(alloc, tasks.len())?;
+    let mut low = top;
+    for task in tasks {
+        let piece = close(alloc, instance, task, top)?;
+        low = lowered(&piece, low);
+        closed.push(piece)?;
+    }
+    Ok((closed, low))
+}

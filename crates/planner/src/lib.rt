@@ -1,0 +1,26 @@
+//! The search for the shortest plan, and its tree as a certificate.
+#![tactic(auto)]
+
+mod closing;
+mod fault;
+mod gathering;
+mod laws;
+mod names;
+mod outcome;
+mod search;
+mod solving;
+
+pub use fault::GatherFault;
+pub use gathering::gather;
+pub use laws::{
+    answers_show, leaves_close_a_tree, names_make_one_tree, searches_answer, whole_trees_prove,
+};
+pub use outcome::{Options, Outcome, SolveFault, Why};
+pub use solving::solve;
+
+#[cfg(test)]
+mod reference_tests;
+#[cfg(test)]
+mod search_tests;
+#[cfg(test)]
+mod tests;

@@ -1,0 +1,332 @@
+//! Small instances, solved, and by trying every plan of them.
+
+ghost use Rattle.std.specs.Prelude.{◌<◌, ◌≤◌};
+
+use crate::{Options, Outcome, solve};
+use certificate::Cert;
+use exhaustive::least_delay;
+use std::alloc::Global;
+use std::process::Abort;
+use std::test::Fail;
+use ttp_model::{Cluster, Instance, Link, Message, Name, Node, Numbers, Process};
+
+/// A linear congruence: numbers that look like chance, the same in each run.
+#[derive(Debug, Drop)]
+struct Draws {
+    state: u32,
+}
+
+impl Draws {
+    /// The draws for the instance of this number.
+    fn new(number: u32) -> Self {
+        Draws {
+            state: number.wrapping_mul(48_271),
+        }
+    }
+
+    /// The next number from 0 to `most`.
+    fn up_to(&mut self, most: u32) -> u32
+        requires { most < 100 }
+        ensures { result ≤ most }
+    {
+        self.state = self
+            .state
+            .wrapping_mul(1_664_525)
+            .wrapping_add(1_013_904_223);
+        (self.state >> 16) % (most + 1)
+    }
+
+    /// Mostly 0, else 1.
+    fn rarely(&mut self) -> u32
+        ensures { result ≤ 1 }
+    {
+        self.up_to(3) / 3
+    }
+
+    /// Nearly always 0, else 1.
+    fn seldom(&mut self) -> u32
+        ensures { result ≤ 1 }
+    {
+        self.up_to(15) / 15
+    }
+}
+
+/// How many there are of each: few enough for every plan to be tried.
+#[derive(Clone, Copy, Debug)]
+struct Sizes {
+    nodes: u32,
+    processes: u32,
+    messages: u32,
+}
+
+fn cluster(draws: &mut Draws) -> Cluster {
+    let precision = draws.seldom();
+    Cluster {
+        precision,
+        lead: 2 * precision + draws.seldom(),
+        trail: precision + draws.seldom(),
+        head: 1,
+        per_byte: 1 + draws.seldom(),
+        copy_out: draws.rarely(),
+        copy_in: draws.rarely(),
+        horizon: 8 + draws.up_to(4),
+    }
+}
+
+/// The name of a letter and a number.
+fn name(alloc: Global, letter: &str, number: u32) -> Result<Name, Fail> {
+    Ok(Name::new(format!(in alloc; "{letter}{number}")?))
+}
+
+/// One or two capacities of at most 3 bytes.
+fn capacities(alloc: Global, draws: &mut Draws) -> Result<Numbers, Fail> {
+    let least = draws.up_to(7).div_ceil(4);
+    let mut capacities = vec![in alloc; least]?;
+    if draws.up_to(1) == 0 {
+        capacities.push(least + 1)?;
+    }
+    Ok(Numbers::new(capacities))
+}
+
+fn nodes(alloc: Global, draws: &mut Draws, count: u32) -> Result<Vec<Node>, Fail> {
+    let mut nodes = Vec::new(alloc);
+    for number in 0..count {
+        nodes.push(Node {
+            name: name(alloc, "n", number)?,
+            capacities: capacities(alloc, draws)?,
+        })?;
+    }
+    Ok(nodes)
+}
+
+/// A process that can end in time, some with a deadline of their own.
+fn process(alloc: Global, draws: &mut Draws, number: u32, nodes: u32) -> Result<Process, Fail> {
+    let node = (number % 100 + draws.seldom()) % nodes.max(1);
+    let wcet = 1 + draws.rarely() + draws.rarely();
+    let release = draws.rarely() * draws.up_to(3);
+    let deadline = match draws.rarely() {
+        0 => 1_000,
+        _ => release + wcet + draws.up_to(3),
+    };
+    Ok(Process {
+        name: name(alloc, "p", number)?,
+        node,
+        wcet,
+        release,
+        deadline,
+    })
+}
+
+fn processes(alloc: Global, draws: &mut Draws, sizes: Sizes) -> Result<Vec<Process>, Fail> {
+    let mut processes = Vec::new(alloc);
+    for number in 0..sizes.processes {
+        processes.push(process(alloc, draws, number, sizes.nodes)?)?;
+    }
+    Ok(processes)
+}
+
+/// Some of the processes after one in the list, or before it if the graph runs backwards: those of
+/// its node, or those of the others.
+fn followers(
+    alloc: Global,
+    draws: &mut Draws,
+    processes: &[Process],
+    backwards: bool,
+    from: usize,
+    on_its_node: bool,
+) -> Result<Vec<u32>, Fail> {
+    let mut followers = Vec::new(alloc);
+    let Some(first) = processes.get(from) else {
+        return Ok(followers);
+    };
+    for (to, process) in processes.iter().enumerate() {
+        let follows = if backwards { to < from } else { from < to };
+        if follows && (process.node == first.node) == on_its_node && draws.up_to(4) > 0 {
+            followers.push(u32::try_from(to)?)?;
+        }
+    }
+    Ok(followers)
+}
+
+/// At most one link from each process.
+fn links(
+    alloc: Global,
+    draws: &mut Draws,
+    processes: &[Process],
+    backwards: bool,
+) -> Result<Vec<Link>, Fail> {
+    let mut links = Vec::new(alloc);
+    for before in 0..processes.len() {
+        let followers = followers(alloc, draws, processes, backwards, before, true)?;
+        if let Some(after) = followers.as_slice().first() {
+            links.push(Link {
+                before: u32::try_from(before)?,
+                after: *after,
+            })?;
+        }
+    }
+    Ok(links)
+}
+
+/// At most `count` messages of 1 or 2 bytes.
+fn messages(
+    alloc: Global,
+    draws: &mut Draws,
+    processes: &[Process],
+    backwards: bool,
+    count: u32,
+) -> Result<Vec<Message>, Fail> {
+    let mut messages = Vec::new(alloc);
+    for number in 0..count {
+        let near = if processes.len() > 2 {
+            draws.up_to(1)
+        } else {
+            0
+        };
+        let sender = if backwards {
+            processes.len().saturating_sub(1 + near as usize)
+        } else {
+            near as usize
+        };
+        let receivers = followers(alloc, draws, processes, backwards, sender, false)?;
+        if !receivers.is_empty() {
+            messages.push(Message {
+                name: name(alloc, "m", number)?,
+                sender: u32::try_from(sender)?,
+                receivers: Numbers::new(receivers),
+                bytes: 1 + draws.rarely(),
+            })?;
+        }
+    }
+    Ok(messages)
+}
+
+/// The instance of a number.
+fn instance(alloc: Global, sizes: Sizes, number: u32) -> Result<Instance, Fail> {
+    let mut draws = Draws::new(number);
+    let cluster = cluster(&mut draws);
+    let nodes = nodes(alloc, &mut draws, sizes.nodes)?;
+    let processes = processes(alloc, &mut draws, sizes)?;
+    let backwards = draws.up_to(1) == 1;
+    let links = links(alloc, &mut draws, processes.as_slice(), backwards)?;
+    let messages = messages(
+        alloc,
+        &mut draws,
+        processes.as_slice(),
+        backwards,
+        sizes.messages,
+    )?;
+    Ok(Instance::build(alloc, cluster, nodes, processes, links, messages)?)
+}
+
+/// What is said of the least delay, if it is known: that it is this one, or that there is none.
+fn said(outcome: &Outcome) -> Option<Option<u64>> {
+    match outcome {
+        Outcome::Optimal { delay, .. } => Some(Some(*delay)),
+        Outcome::Infeasible { .. } => Some(None),
+        Outcome::Stopped { .. } => None,
+    }
+}
+
+/// The delay that the plan check finds, if there is a valid plan.
+fn judged(instance: &Instance, outcome: &Outcome) -> Option<u64> {
+    match outcome {
+        Outcome::Optimal { plan, .. } => plan_check::check(instance, plan).ok(),
+        _ => None,
+    }
+}
+
+fn cert_of(outcome: &Outcome) -> &Cert {
+    match outcome {
+        Outcome::Optimal { cert, .. } => cert,
+        Outcome::Infeasible { cert } => cert,
+        Outcome::Stopped { cert, .. } => cert,
+    }
+}
+
+/// Solves an instance, and tries every plan of it: whether there is one.
+fn compared(
+    rt: &impl Abort,
+    alloc: Global,
+    instance: &Instance,
+    number: u32,
+) -> Result<bool, Fail> {
+    let options = Options {
+        workers: 1,
+        budget: 100_000,
+    };
+    let least = least_delay(alloc, instance)?;
+    let outcome = solve(rt, alloc, instance, options)?;
+    assert_eq!(rt; said(&outcome), Some(least), "instance {number}");
+    assert_eq!(rt;
+        judged(instance, &outcome),
+        least,
+        "the plan of instance {number}"
+    );
+    let bound = cert_check::check(alloc, instance, cert_of(&outcome)).ok();
+    let low = least.unwrap_or(u64::from(instance.past_horizon()));
+    assert_eq!(rt;
+        bound.map(u64::from),
+        Some(low),
+        "the certificate of instance {number}"
+    );
+    Ok(least.is_some())
+}
+
+/// Compares this many instances, some of which have a plan and some have none.
+fn compare(rt: &impl Abort, alloc: Global, sizes: Sizes, count: u32) -> Result<(), Fail> {
+    let (mut with, mut without) = (0u32, 0u32);
+    for number in 0..count {
+        let instance = instance(alloc, sizes, number)?;
+        if compared(rt, alloc, &instance, number)? {
+            with = with.saturating_add(1);
+        } else {
+            without = without.saturating_add(1);
+        }
+    }
+    assert!(rt;
+        with >= 10 && without >= 3,
+        "{with} with a plan, {without} without"
+    );
+    Ok(())
+}
+
+#[test]
+fn on_one_node_every_plan_was_thought_of(rt: HostRuntime) -> Result<(), Fail> {
+    let sizes = Sizes {
+        nodes: 1,
+        processes: 3,
+        messages: 0,
+    };
+    compare(&rt, rt.alloc(), sizes, 40)
+}
+
+#[test]
+fn with_two_messages_every_plan_was_thought_of(rt: HostRuntime) -> Result<(), Fail> {
+    let sizes = Sizes {
+        nodes: 2,
+        processes: 2,
+        messages: 2,
+    };
+    compare(&rt, rt.alloc(), sizes, 40)
+}
+
+#[test]
+fn with_three_processes_every_plan_was_thought_of(rt: HostRuntime) -> Result<(), Fail> {
+    let sizes = Sizes {
+        nodes: 2,
+        processes: 3,
+        messages: 1,
+    };
+    compare(&rt, rt.alloc(), sizes, 40)
+}
+
+#[test]
+fn on_three_nodes_every_plan_was_thought_of(rt: HostRuntime) -> Result<(), Fail> {
+    let sizes = Sizes {
+        nodes: 3,
+        processes: 2,
+        messages: 1,
+    };
+    compare(&rt, rt.alloc(), sizes, 40)
+}

@@ -1,0 +1,147 @@
+//! The shortest plan of an instance, or how short it can be at best.
+
+ghost use Rattle.std.specs.Prelude.{◌≡◌, ◌≢◌, ◌≤◌, ◌+◌, ◌++◌, ℕ, IfOk, IfErr, IfSome, length, []};
+ghost use Rattle.ttp_model.specs.Problem.{Problem};
+ghost use Rattle.branch_tree.specs.Account.{IsWholeTree};
+ghost use Rattle.search_core.specs.Moments.{all_pieces};
+ghost use Rattle.planner.specs.declared.fault.GatherFault.TheVariants.{OutOfMemory};
+ghost use Rattle.planner.specs.declared.outcome.SolveFault.TheVariants as fault;
+ghost use Rattle.planner.specs.Answers.{IsOutcome, Shows, limit_of};
+ghost use Rattle.planner.specs.Gathering.{AreShallow, HaveGoals, IsGathered};
+ghost use Rattle.planner.specs.Searched.{IsFound, IsWorkedOut, IsAnswerOf};
+ghost use Rattle.planner.specs.Searching.{IsSearching};
+
+use crate::closing::close_all;
+use crate::fault::GatherFault;
+use crate::gathering::gather;
+use crate::outcome::{Options, Outcome, SolveFault, Why};
+use crate::search::{Search, limit};
+use branch_tree::Piece;
+use certificate::Cert;
+use good_plan::good_plan;
+use search_core::World;
+use std::alloc::Global;
+use ttp_model::{Instance, MemoryFault, Plan};
+
+/// A plan to begin with; none is looked for with a budget of 0.
+fn first_plan(
+    alloc: Global,
+    instance: &Instance,
+    budget: u64,
+) -> Result<Option<(Plan, u64)>, MemoryFault>
+    ensures { IfOk result (IsFound instance.now) }
+{
+    if budget == 0 {
+        return Ok(None);
+    }
+    good_plan(alloc, instance)
+}
+
+/// The pieces of all workers.
+fn pieces_of(alloc: Global, world: World) -> Result<Vec<Piece>, MemoryFault>
+    ensures { IfOk result (λ pieces. pieces.items ≡ all_pieces world) }
+{
+    let mut pieces = Vec::new(alloc);
+    for worker in world.into_workers() {
+        let (mut made, _left) = worker.into_results();
+        pieces.append(&mut made)?;
+    }
+    Ok(pieces)
+}
+
+/// Pieces and others after them.
+fn joined(pieces: Vec<Piece>, others: Vec<Piece>) -> Result<Vec<Piece>, MemoryFault>
+    ensures { IfOk result (λ all. all.items ≡ pieces.items ++ others.items) }
+{
+    let (mut all, mut others) = (pieces, others);
+    all.append(&mut others)?;
+    Ok(all)
+}
+
+/// Why there is no answer, where pieces give no certificate.
+fn fault_of(cause: GatherFault) -> SolveFault
+    ensures memory { cause ≡ OutOfMemory → result ≡ fault.Memory }
+    ensures other { cause ≢ OutOfMemory → result ≡ fault.Gather cause }
+{
+    match cause {
+        GatherFault::OutOfMemory => SolveFault::Memory,
+        cause => SolveFault::Gather(cause),
+    }
+}
+
+/// The certificate of a whole tree. Of such pieces no fault is told but a want of memory.
+fn certified(alloc: Global, pieces: Vec<Piece>, low: u32) -> Result<Cert, SolveFault>
+    requires shallow { AreShallow pieces.items }
+    requires whole { IsWholeTree pieces.items [] }
+    requires goals { HaveGoals low pieces.items }
+    ensures ok { IfOk result (IsGathered low pieces.items) }
+    ensures err { IfErr result (λ e. e ≡ fault.Memory) }
+{
+    match gather(alloc, pieces, low) {
+        Ok(cert) => Ok(cert),
+        Err(cause) => Err(fault_of(cause)),
+    }
+}
+
+/// What a bound says, where the best plan has a delay of `limit` ticks.
+fn answer(why: Why, best: Option<(Plan, u64)>, limit: u32, low: u32, cert: Cert) -> Outcome
+    ensures { (i : Problem) → limit ≡ limit_of i best → low ≤ limit
+        → IsAnswerOf i why best low cert result }
+{
+    if low < limit {
+        return Outcome::Stopped {
+            why,
+            low,
+            best,
+            cert,
+        };
+    }
+    match best {
+        Some((plan, delay)) => Outcome::Optimal { plan, delay, cert },
+        None => Outcome::Infeasible { cert },
+    }
+}
+
+/// Closes what a search left, and tells what its tree shows.
+fn concluded(
+    alloc: Global,
+    instance: &Instance,
+    options: Options,
+    search: Search,
+    why: Why,
+) -> Result<Outcome, SolveFault>
+    requires searching { IsSearching instance.now search.world search.tasks.items search.best }
+    requires within { length (all_pieces search.world) ≤ options.budget }
+    requires cause { IsWorkedOut options.budget (all_pieces search.world) why }
+    ensures answer { IfOk result (IsOutcome instance.now options) }
+    ensures err { IfErr result (λ e. e ≡ fault.Memory) }
+{
+    let _nodes = instance.nodes();
+    let Search { world, tasks, best } = search;
+    let limit = limit(instance, &best);
+    let worked = pieces_of(alloc, world)?;
+    let (closed, low) = close_all(alloc, instance, tasks, limit)?;
+    let pieces = joined(worked, closed)?;
+    let cert = certified(alloc, pieces, low)?;
+    Ok(answer(why, best, limit, low, cert))
+}
+
+/// Searches for the shortest plan of an instance, by one worker on the caller's thread: works at most
+/// `budget` subtrees, and closes those that are left as well as propagation can. With a budget of 0
+/// nothing is worked and no plan is looked for. No thread is started as yet, whatever `workers` says.
+pub fn solve<R>(
+    _rt: &R,
+    alloc: Global,
+    instance: &Instance,
+    options: Options,
+) -> Result<Outcome, SolveFault>
+    ensures answer { IfOk result (IsOutcome instance.now options) }
+    ensures shows { IfOk result (Shows instance.now) }
+    ensures err { IfErr result (λ e. e ≡ fault.Memory) }
+{
+    let _nodes = instance.nodes();
+    let first = first_plan(alloc, instance, options.budget)?;
+    let mut search = Search::begin(alloc, instance, first)?;
+    let why = search.go(alloc, instance, options.budget)?;
+    concluded(alloc, instance, options, search, why)
+}
