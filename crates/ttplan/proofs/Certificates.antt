@@ -1,9 +1,9 @@
 -- What two readers give is judged as their texts are, and the line of a bound is the outcome of `check`.
-use Rattle.std.proofs.Common.{◌≡◌, ℕ, List, Option, None, Some, IfSome, refl}
+use Rattle.std.proofs.Common.{ℕ, List, Option, None, Some, IfSome, refl}
 use Rattle.ttp_model.specs.Problem.{Problem}
 use Rattle.ttplan.specs.declared.ending.Source.TheVariants as source
 use Rattle.ttplan.specs.declared.ending.Fault.{Fault}
-use Rattle.ttplan.specs.declared.ending.Fault.TheVariants.{NoMark, LossForm, Instance, Memory, PlanText, Plan, StatedDelay, CertificateText, Certificate, TooFewNodes, WrongLoss, Unread, Unwritten}
+use Rattle.ttplan.specs.declared.ending.Fault.TheVariants.{NoMark, LossForm, Instance, Memory, PlanText, Plan, StatedDelay, CertificateText, Certificate, TooFewNodes, WrongLoss, Search, Unread, Unwritten}
 use Rattle.ttplan.specs.declared.ending.End.{End}
 use Rattle.ttplan.specs.declared.ending.End.TheVariants.{Refused}
 use Rattle.ttplan.specs.Outcomes.{IsWritingUnlessMemory}
@@ -34,6 +34,7 @@ module _ (instance certificate : List ℕ) (i : Problem) (has : HasInstance inst
   refused_here (StatedDelay d) refused = absurd refused
   refused_here TooFewNodes refused = absurd refused
   refused_here (WrongLoss k) refused = absurd refused
+  refused_here (Search fault) refused = absurd refused
   refused_here (Unread source.Instance) refused = absurd refused
   refused_here (Unread source.Plan) refused = absurd refused
   refused_here (Unwritten sink) refused = absurd refused

@@ -6,3 +6,4 @@ pub mod LossPlaces
 pub mod LossLists
 pub mod Traced
 pub mod Certificates
+pub mod Solving

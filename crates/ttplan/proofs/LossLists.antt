@@ -1,10 +1,10 @@
 -- Words that were read one after another, and losses that were added one after another.
-use Rattle.std.proofs.Common.{◌≡◌, ◌≢◌, ◌∙◌, ℕ, zero, suc, ◌+◌, ◌<◌, ◌==◌, not, List, [], ◌∷◌, ◌++◌, Bool, true, false, cond, length, take, filter, map, slice_index_or, arith, ap, refl, sym, inl, inr, add-one, append_assoc}
+use Rattle.std.proofs.Common.{◌≡◌, ◌≢◌, ◌∙◌, ℕ, zero, suc, ◌+◌, ◌<◌, ◌==◌, not, List, [], ◌∷◌, ◌++◌, Bool, true, false, cond, length, take, filter, map, slice_index_or, arith, ap, refl, sym, inl, inr, append_assoc, zero-add}
 use Rattle.std.specs.Borrow.{Bor}
 use Rattle.std.specs.List.{range_with_len}
 use Rattle.std.proofs.lemmas.Bool.Decides.{eqb_tells}
-use Rattle.std.proofs.lemmas.List.{append-nil, get_or-map, get_or-take, length-map, length-take, map-append, take_more}
-use Rattle.std.proofs.lemmas.List.Elements.{filter-append}
+use Rattle.std.proofs.lemmas.List.{append-nil, get_or-map, get_or-take, length-map, length-take, map-append, map-id, take_more}
+use Rattle.std.proofs.lemmas.List.FromFn.{filter_of_map_range_with_len_more}
 use Rattle.ttp_model.specs.Lists.{IsFirstFailure}
 use Rattle.membership_replay.specs.declared.loss.Loss.{Loss}
 use Rattle.ttplan.specs.declared.losses.LossWord.{LossWord}
@@ -54,18 +54,12 @@ module _ (words : List (Bor (List ℕ))) (losses : List LossWord) (k : ℕ) (d :
   pub spelled_next : (loss : LossWord) → Spells word loss → AllSpell (take (k + 1) (bytes_of words)) (losses ++ loss ∷ [])
   spelled_next loss spelled = spelled_more (bytes_of words) losses k inside before loss (rw bytes_at spelled)
 
-range-more : (a n : ℕ) → range_with_len a (suc n) ≡ range_with_len a n ++ (a + n) ∷ []
-range-more a zero = let here : a ≡ a + 0 = omega arith in ap (λ x. x ∷ []) here
-range-more a (suc n) =
-    let last : a + 1 + n ≡ a + suc n = omega arith in
-    rw (range-more (a + 1) n, last) refl
-
-range-next : (n : ℕ) → range_with_len 0 (n + 1) ≡ range_with_len 0 n ++ n ∷ []
-range-next n = let here : 0 + n ≡ n = omega arith in rw (add-one, range-more 0 n, here) refl
-
 module _ (f : ℕ → Loss) (p : ℕ → Bool) (before : List Loss) (n : ℕ) where
   kept-more : map f (filter p (range_with_len 0 (n + 1))) ≡ map f (filter p (range_with_len 0 n)) ++ map f (cond (p n) (n ∷ []) [])
-  kept-more = rw (range-next n, filter-append p (range_with_len 0 n) (n ∷ []), map-append f (filter p (range_with_len 0 n)) (cond (p n) (n ∷ []) [])) refl
+  kept-more =
+      let passing = filter_of_map_range_with_len_more p (λ m. m) 0 n n (zero-add n) in
+      let more = rw (map-id (range_with_len 0 (n + 1)), map-id (range_with_len 0 n)) at passing in
+      rw (more, map-append f (filter p (range_with_len 0 n)) (cond (p n) (n ∷ []) [])) refl
 
   -- one loss more, where the node passes the test
   kept : (now : List Loss) → p n ≡ true → now ≡ before ++ map f (filter p (range_with_len 0 n)) → now ++ f n ∷ [] ≡ before ++ map f (filter p (range_with_len 0 (n + 1)))

@@ -4,7 +4,7 @@ use Rattle.std.proofs.lemmas.List.{get_or_append_left, take-append-le, drop-appe
 use Rattle.ttplan.specs.declared.input.Taken.{Taken}
 use Rattle.ttplan.specs.declared.input.Stop.TheVariants.{AtEnd}
 use Rattle.ttplan.specs.declared.ending.Fault.{Fault}
-use Rattle.ttplan.specs.declared.ending.Fault.TheVariants.{NoMark, LossForm, Instance, Memory, PlanText, Plan, StatedDelay, CertificateText, Certificate, TooFewNodes, WrongLoss, Unread, Unwritten}
+use Rattle.ttplan.specs.declared.ending.Fault.TheVariants.{NoMark, LossForm, Instance, Memory, PlanText, Plan, StatedDelay, CertificateText, Certificate, TooFewNodes, WrongLoss, Search, Unread, Unwritten}
 use Rattle.ttplan.specs.declared.ending.Source.TheVariants as source
 use Rattle.ttp_model.specs.Problem.{Problem}
 use Rattle.ttplan.specs.Streams.{IsTaken}
@@ -65,6 +65,7 @@ module _ (limit : ℕ) (taken : Taken) (all : List ℕ) (at : ℕ) (is_taken : I
   refused_front (CertificateText error) refused = absurd refused
   refused_front (Certificate fault) refused = absurd refused
   refused_front (WrongLoss k) refused = absurd refused
+  refused_front (Search fault) refused = absurd refused
   refused_front Memory refused = tt
   refused_front (Unread source.Instance) refused = tt
   refused_front (Unread source.Plan) refused = absurd refused
@@ -119,6 +120,7 @@ module _ (limit : ℕ) (taken : Taken) (all : List ℕ) (at : ℕ) (is_taken : I
     refused_all (CertificateText error) refused = absurd refused
     refused_all (Certificate fault) refused = absurd refused
     refused_all (WrongLoss k) refused = absurd refused
+    refused_all (Search fault) refused = absurd refused
     refused_all Memory refused = tt
     refused_all (Unread source.Instance) refused = absurd refused
     refused_all (Unread source.Plan) refused = absurd refused

@@ -4,9 +4,9 @@ use Rattle.ttp_model.specs.declared.plan.Plan.{Plan as Table}
 use Rattle.ttp_model.specs.Problem.{Problem}
 use Rattle.ttp_model.specs.Delays.{delay}
 use Rattle.ttplan.specs.declared.verify.Verified.{Verified}
-use Rattle.ttplan.specs.declared.ending.Sink.TheVariants.{Out}
+use Rattle.ttplan.specs.declared.ending.Sink.TheVariants as sink
 use Rattle.ttplan.specs.declared.ending.Fault.{Fault}
-use Rattle.ttplan.specs.declared.ending.Fault.TheVariants.{NoMark, LossForm, Instance, Memory, PlanText, Plan, StatedDelay, CertificateText, Certificate, TooFewNodes, WrongLoss, Unread, Unwritten}
+use Rattle.ttplan.specs.declared.ending.Fault.TheVariants.{NoMark, LossForm, Instance, Memory, PlanText, Plan, StatedDelay, CertificateText, Certificate, TooFewNodes, WrongLoss, Search, Unread, Unwritten}
 use Rattle.ttplan.specs.declared.ending.End.{End}
 use Rattle.ttplan.specs.declared.ending.End.TheVariants.{Done, Absent, Stopped, Refused}
 use Rattle.ttplan.specs.Outcomes.{IsOutcome, IsTold, IsWriting, IsWritingUnlessMemory, OnDone}
@@ -17,7 +17,8 @@ module _ (IsText : List ℕ → Type 0) (IsRefusedBy : Fault → Type 0) (text :
   written_outcome Done gains = record { text = text; is = is; appends = gains }
   written_outcome Absent gains = absurd gains
   written_outcome Stopped gains = absurd gains
-  written_outcome (Refused (Unwritten Out)) part = record { at = Done; text = text; is = is; part = part }
+  written_outcome (Refused (Unwritten sink.Certificate)) gains = absurd gains
+  written_outcome (Refused (Unwritten sink.Out)) part = record { at = Done; text = text; is = is; part = part }
   written_outcome (Refused NoMark) gains = absurd gains
   written_outcome (Refused (LossForm k)) gains = absurd gains
   written_outcome (Refused (Instance error)) gains = absurd gains
@@ -29,6 +30,7 @@ module _ (IsText : List ℕ → Type 0) (IsRefusedBy : Fault → Type 0) (text :
   written_outcome (Refused (CertificateText error)) gains = absurd gains
   written_outcome (Refused (Certificate fault)) gains = absurd gains
   written_outcome (Refused (WrongLoss k)) gains = absurd gains
+  written_outcome (Refused (Search fault)) gains = absurd gains
   written_outcome (Refused (Unread source)) gains = absurd gains
 
   module _ (memory : IsRefusedBy Memory) where
@@ -36,7 +38,8 @@ module _ (IsText : List ℕ → Type 0) (IsRefusedBy : Fault → Type 0) (text :
     made_outcome Done gains = written_outcome Done gains
     made_outcome Absent gains = absurd gains
     made_outcome Stopped gains = absurd gains
-    made_outcome (Refused (Unwritten Out)) part = written_outcome (Refused (Unwritten Out)) part
+    made_outcome (Refused (Unwritten sink.Certificate)) gains = absurd gains
+    made_outcome (Refused (Unwritten sink.Out)) part = written_outcome (Refused (Unwritten sink.Out)) part
     made_outcome (Refused Memory) keeps = (memory, keeps)
     made_outcome (Refused NoMark) gains = absurd gains
     made_outcome (Refused (LossForm k)) gains = absurd gains
@@ -48,6 +51,7 @@ module _ (IsText : List ℕ → Type 0) (IsRefusedBy : Fault → Type 0) (text :
     made_outcome (Refused (CertificateText error)) gains = absurd gains
     made_outcome (Refused (Certificate fault)) gains = absurd gains
     made_outcome (Refused (WrongLoss k)) gains = absurd gains
+    made_outcome (Refused (Search fault)) gains = absurd gains
     made_outcome (Refused (Unread source)) gains = absurd gains
 
 -- the line of a delay is told of the plan that has it
@@ -67,6 +71,7 @@ module _ (instance plan : List ℕ) (i : Problem) (has_instance : HasInstance in
   refused_with (CertificateText error) refused = absurd refused
   refused_with (Certificate fault) refused = absurd refused
   refused_with (WrongLoss k) refused = absurd refused
+  refused_with (Search fault) refused = absurd refused
   refused_with (Unread source) refused = absurd refused
   refused_with (Unwritten sink) refused = absurd refused
   refused_with (Instance error) refused = absurd refused

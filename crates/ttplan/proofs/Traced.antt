@@ -13,7 +13,7 @@ use Rattle.ttplan.specs.declared.losses.LossWord.{LossWord}
 use Rattle.ttplan.specs.declared.verify.Verified.{Verified}
 use Rattle.ttplan.specs.declared.ending.Source.TheVariants as source
 use Rattle.ttplan.specs.declared.ending.Fault.{Fault}
-use Rattle.ttplan.specs.declared.ending.Fault.TheVariants.{NoMark, LossForm, Instance, Memory, PlanText, Plan, StatedDelay, CertificateText, Certificate, TooFewNodes, WrongLoss, Unread, Unwritten}
+use Rattle.ttplan.specs.declared.ending.Fault.TheVariants.{NoMark, LossForm, Instance, Memory, PlanText, Plan, StatedDelay, CertificateText, Certificate, TooFewNodes, WrongLoss, Search, Unread, Unwritten}
 use Rattle.ttplan.specs.declared.ending.End.TheVariants.{Refused}
 use Rattle.ttplan.specs.LossWords.{AllSpell, AreLossWords, HasNodes, IsWordOfLoss, losses_of_words}
 use Rattle.ttplan.specs.Traces.{IsReplayAnswer, IsTraceFault}
@@ -46,6 +46,7 @@ module _ (words : List (List ℕ)) (instance plan : List ℕ) (old : Option (Lis
   as_verdict (CertificateText error) are refused = absurd refused
   as_verdict (Certificate fault) are refused = absurd refused
   as_verdict (WrongLoss k) are refused = absurd refused
+  as_verdict (Search fault) are refused = absurd refused
   as_verdict (Unwritten sink) are refused = absurd refused
   as_verdict Memory are refused = (tt, keeps old)
   as_verdict (Unread source.Instance) are refused = ((are, refused), keeps old)
@@ -59,6 +60,7 @@ module _ (words : List (List ℕ)) (instance plan : List ℕ) (old : Option (Lis
   as_trace : (losses : List LossWord) (v : Verified) (fault : Fault) → AllSpell words losses → IsVerified instance plan v → IsTraceFault losses v.instance v.plan fault → IsReplayAnswer words instance plan old old (Refused fault)
   as_trace losses v NoMark all is refused = absurd refused
   as_trace losses v (LossForm k) all is refused = absurd refused
+  as_trace losses v (Search fault) all is refused = absurd refused
   as_trace losses v (Unwritten sink) all is refused = absurd refused
   as_trace losses v (Unread source) all is refused = absurd refused
   as_trace losses v (Instance error) all is refused = absurd refused

@@ -1,6 +1,9 @@
 -- How a bundle is split: the instance stands before the first line `%%`, and the plan behind it.
 use Rattle.std.specs.Prelude.{◌≡◌, ℕ, ◌+◌, ◌-◌, ◌<◌, ◌≤◌, List, length, take, drop, slice_index, codes, Option, None, Some, ◌≤◌}
-use Rattle.ttplan.specs.declared.verify.TheConstants.{INSTANCE_LIMIT}
+use Rattle.ttplan.specs.declared.input.TheConstants.{INSTANCE_LIMIT}
+use Rattle.ttplan.specs.declared.verify.TheConstants.{PLAN_LIMIT}
+use Rattle.ttplan.specs.declared.input.Taken.{Taken}
+use Rattle.ttplan.specs.declared.input.Stop.TheVariants.{AtEnd}
 use Rattle.ttplan.specs.declared.ending.Source.TheVariants as source
 use Rattle.ttplan.specs.declared.ending.Fault.{Fault}
 use Rattle.ttplan.specs.declared.ending.Fault.TheVariants.{NoMark, Memory, Unread}
@@ -42,6 +45,14 @@ pub record IsSplit (bundle instance plan : List ℕ) : Type 0 where
   pub first : IsFirstMark bundle at
   pub front : instance ≡ take at bundle
   pub behind : plan ≡ drop (at + 3) bundle
+
+-- all of a bundle was taken, and each of its parts is within its limit: the instance, which is all where there is no
+-- mark, and the plan
+pub record IsWhole (taken : Taken) : Type 0 where
+  pub ended : taken.stop ≡ AtEnd
+  pub instance : (at : ℕ) → IsFirstMark taken.bytes.items at → at ≤ INSTANCE_LIMIT
+  pub plan : (at : ℕ) → IsFirstMark taken.bytes.items at → length (drop (at + 3) taken.bytes.items) ≤ PLAN_LIMIT
+  pub alone : HasNoMark taken.bytes.items → length taken.bytes.items ≤ INSTANCE_LIMIT
 
 -- the parts of a bundle are an instance and a valid plan of it that states its own delay
 pub record IsVerifiedBundle (bundle : List ℕ) (v : Verified) : Type 0 where

@@ -5,12 +5,14 @@ use Rattle.instance_text.specs.declared.error.TextError.TheVariants as text
 use Rattle.plan_format.specs.declared.fault.PlanTextError.TheVariants as plan_text
 use Rattle.certificate.specs.declared.fault.CertTextError.TheVariants as certificate_text
 use Rattle.cert_check.specs.declared.fault.CertFault.TheVariants as certificate
+use Rattle.planner.specs.declared.fault.GatherFault.TheVariants as gathering
+use Rattle.planner.specs.declared.outcome.SolveFault.TheVariants as search
 use Rattle.ttplan.specs.declared.ending.Fault.{Fault}
-use Rattle.ttplan.specs.declared.ending.Fault.TheVariants.{NoMark, LossForm, Instance, Memory, PlanText, Plan, StatedDelay, CertificateText, Certificate, TooFewNodes, WrongLoss, Unread, Unwritten}
+use Rattle.ttplan.specs.declared.ending.Fault.TheVariants.{NoMark, LossForm, Instance, Memory, PlanText, Plan, StatedDelay, CertificateText, Certificate, TooFewNodes, WrongLoss, Search, Unread, Unwritten}
 use Rattle.ttplan.specs.declared.ending.End.{End}
 use Rattle.ttplan.specs.declared.ending.End.TheVariants.{Done, Absent, Stopped, Refused}
 
--- of a refusal: 2 usage, 3 the instance, 4 memory, 5 the plan, the certificate or a loss, 6 a file
+-- of a refusal: 2 usage, 3 the instance, 4 memory, 5 the plan, the certificate or a loss, 6 a file, 7 the search
 abbrev pub fault_status : Fault → ℕ
 fault_status NoMark = 2
 fault_status (LossForm k) = 2
@@ -28,6 +30,9 @@ fault_status (Certificate certificate.OutOfMemory) = 4
 fault_status (Certificate _) = 5
 fault_status TooFewNodes = 5
 fault_status (WrongLoss k) = 5
+fault_status (Search search.Memory) = 4
+fault_status (Search (search.Gather gathering.OutOfMemory)) = 4
+fault_status (Search _) = 7
 fault_status (Unread source) = 6
 fault_status (Unwritten sink) = 6
 

@@ -8,3 +8,4 @@ pub mod Traces
 pub mod Outcomes
 pub mod Verdicts
 pub mod Certified
+pub mod Solved

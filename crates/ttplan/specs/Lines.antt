@@ -28,12 +28,15 @@ use Rattle.cert_check.specs.declared.fault.NodeFault.{NodeFault}
 use Rattle.cert_check.specs.declared.fault.NodeFault.TheVariants.{ChildCount, NotOpen, LowGoal, RefusedStep, NotClosed}
 use Rattle.cert_check.specs.declared.fault.CertFault.{CertFault}
 use Rattle.cert_check.specs.declared.fault.CertFault.TheVariants as certificate
+use Rattle.planner.specs.declared.fault.GatherFault.TheVariants as gathering
+use Rattle.planner.specs.declared.outcome.SolveFault.{SolveFault}
+use Rattle.planner.specs.declared.outcome.SolveFault.TheVariants as search
 use Rattle.ttplan.specs.declared.ending.Source.{Source}
 use Rattle.ttplan.specs.declared.ending.Source.TheVariants as source
 use Rattle.ttplan.specs.declared.ending.Sink.{Sink}
 use Rattle.ttplan.specs.declared.ending.Sink.TheVariants as sink
 use Rattle.ttplan.specs.declared.ending.Fault.{Fault}
-use Rattle.ttplan.specs.declared.ending.Fault.TheVariants.{NoMark, LossForm, Instance, Memory, PlanText, Plan, StatedDelay, CertificateText, Certificate, TooFewNodes, WrongLoss, Unread, Unwritten}
+use Rattle.ttplan.specs.declared.ending.Fault.TheVariants.{NoMark, LossForm, Instance, Memory, PlanText, Plan, StatedDelay, CertificateText, Certificate, TooFewNodes, WrongLoss, Search, Unread, Unwritten}
 use Rattle.ttplan.specs.declared.ending.End.{End}
 use Rattle.ttplan.specs.declared.ending.End.TheVariants.{Done, Absent, Stopped, Refused}
 
@@ -156,6 +159,16 @@ certificate_line certificate.LowTooGreat = codes "certificate C6 2"
 certificate_line (certificate.At line fault) = (codes "certificate " ++ node_code fault) ++ (codes " " ++ decimal line)
 certificate_line certificate.OutOfMemory = codes "memory"
 
+-- the line of a search that has no answer
+abbrev pub search_line : SolveFault → List ℕ
+search_line search.Memory = codes "memory"
+search_line search.Thread = codes "solve thread"
+search_line (search.Gather gathering.DoubledName) = codes "solve P1"
+search_line (search.Gather gathering.MissingName) = codes "solve P2"
+search_line (search.Gather gathering.StrayName) = codes "solve P3"
+search_line (search.Gather gathering.LowGoal) = codes "solve P4"
+search_line (search.Gather gathering.OutOfMemory) = codes "memory"
+
 -- the word for what could not be read
 abbrev pub source_word : Source → List ℕ
 source_word source.Instance = codes "instance"
@@ -164,6 +177,7 @@ source_word source.Certificate = codes "certificate"
 
 -- the word for what could not be written
 abbrev pub sink_word : Sink → List ℕ
+sink_word sink.Certificate = codes "certificate"
 sink_word sink.Out = codes "out"
 
 -- the line of every fault, without its end
@@ -179,6 +193,7 @@ fault_line (CertificateText error) = certificate_text_line error
 fault_line (Certificate fault) = certificate_line fault
 fault_line TooFewNodes = codes "replay N1"
 fault_line (WrongLoss k) = codes "replay N2 " ++ decimal k
+fault_line (Search fault) = search_line fault
 fault_line (Unread source) = codes "read " ++ source_word source
 fault_line (Unwritten sink) = codes "write " ++ sink_word sink
 

@@ -41,7 +41,7 @@ abbrev pub IsOutcome : (End → List ℕ → Type 0) → (Fault → Type 0) → 
 IsOutcome IsTextAt IsRefusedBy old new Done = IsWritten (IsTextAt Done) old new
 IsOutcome IsTextAt IsRefusedBy old new Absent = IsWritten (IsTextAt Absent) old new
 IsOutcome IsTextAt IsRefusedBy old new Stopped = IsWritten (IsTextAt Stopped) old new
-IsOutcome IsTextAt IsRefusedBy old new (Refused (Unwritten sink)) = IsCutShort IsTextAt old new
+IsOutcome IsTextAt IsRefusedBy old new (Refused (Unwritten Out)) = IsCutShort IsTextAt old new
 IsOutcome IsTextAt IsRefusedBy old new (Refused fault) = IsRefusedBy fault × Keeps old new
 
 -- the texts of a command that writes one when it is done, and has no other end without a fault

@@ -10,12 +10,13 @@ use Rattle.ttp_model.specs.declared.plan.Plan.{Plan as Table}
 use Rattle.instance_text.specs.Faults as text_faults
 use Rattle.plan_format.specs.Spelling.{IsSpelled}
 use Rattle.plan_format.specs.Reading.{IsFaultOf, plan_at}
-use Rattle.ttplan.specs.declared.verify.TheConstants.{INSTANCE_LIMIT, PLAN_LIMIT}
+use Rattle.ttplan.specs.declared.input.TheConstants.{INSTANCE_LIMIT}
+use Rattle.ttplan.specs.declared.verify.TheConstants.{PLAN_LIMIT}
 use Rattle.ttplan.specs.declared.verify.Verified.{Verified}
 use Rattle.ttplan.specs.declared.ending.Source.{Source}
 use Rattle.ttplan.specs.declared.ending.Source.TheVariants as source
 use Rattle.ttplan.specs.declared.ending.Fault.{Fault}
-use Rattle.ttplan.specs.declared.ending.Fault.TheVariants.{NoMark, LossForm, Instance, Memory, PlanText, Plan, StatedDelay, CertificateText, Certificate, TooFewNodes, WrongLoss, Unread, Unwritten}
+use Rattle.ttplan.specs.declared.ending.Fault.TheVariants.{NoMark, LossForm, Instance, Memory, PlanText, Plan, StatedDelay, CertificateText, Certificate, TooFewNodes, WrongLoss, Search, Unread, Unwritten}
 use Rattle.ttplan.specs.declared.ending.End.{End}
 use Rattle.ttplan.specs.Outcomes.{IsOutcome, IsTold, OnDone}
 
@@ -57,6 +58,10 @@ abbrev pub IsReadFault : Source → Fault → Type 0
 IsReadFault source Memory = Unit {0}
 IsReadFault source (Unread other) = other ≡ source
 IsReadFault source _ = ⊥
+
+-- the fault isn't one of reading
+abbrev pub IsOfReadBytes : Fault → Type 0
+IsOfReadBytes fault = (source : Source) → fault ≢ Unread source
 
 -- why bytes give no instance
 abbrev pub IsInstanceFault : List ℕ → Fault → Type 0
@@ -106,6 +111,7 @@ IsRefused instance plan (CertificateText error) = ⊥
 IsRefused instance plan (Certificate fault) = ⊥
 IsRefused instance plan TooFewNodes = ⊥
 IsRefused instance plan (WrongLoss k) = ⊥
+IsRefused instance plan (Search fault) = ⊥
 IsRefused instance plan (Unwritten sink) = ⊥
 IsRefused instance plan fault = IsPlanRefused instance plan fault
 

@@ -1,14 +1,13 @@
 //! What `verify` says of an instance and a plan in one stream.
 
-ghost use Rattle.std.specs.Prelude.{◌≡◌, ◌⊎◌, ◌≤◌, ◌<◌, ◌↔◌, ℕ, List, IsTrue, IfSome, MatchResult, length};
+ghost use Rattle.std.specs.Prelude.{◌≡◌, ◌⊎◌, ◌≤◌, ◌<◌, ◌↔◌, ℕ, List, IsTrue, IfErr, IfSome, MatchResult, length};
 ghost use Rattle.ttplan.specs.Streams.{IsTaken};
-ghost use Rattle.ttplan.specs.Bundles.{IsMark, FindsMark, IsVerifiedBundle, IsRefusedBundle, IsBundleVerdict};
+ghost use Rattle.ttplan.specs.Verdicts.{IsOfReadBytes};
+ghost use Rattle.ttplan.specs.Bundles.{IsMark, FindsMark, IsWhole, IsVerifiedBundle, IsRefusedBundle, IsBundleVerdict};
 
 use crate::ending::{End, Fault, Source};
-use crate::input::{Stop, Taken, take_input};
-use crate::verify::{
-    INSTANCE_LIMIT, PLAN_LIMIT, Verified, instance_of_text, verified_of_text, write_verdict,
-};
+use crate::input::{INSTANCE_LIMIT, Stop, Taken, instance_of_text, take_input};
+use crate::verify::{PLAN_LIMIT, Verified, verified_of_text, write_verdict};
 use std::alloc::Global;
 use std::io::{Read, Write};
 
@@ -43,8 +42,10 @@ const BUNDLE_LIMIT: usize = INSTANCE_LIMIT + MARK_LENGTH + PLAN_LIMIT;
 
 /// Why a bundle without the line is refused.
 fn unsplit(taken: &Taken) -> Fault
-    ensures { ((result ≡ Fault.NoMark) × (taken.now.stop ≡ Stop.AtEnd) × (length taken.now.bytes.items ≤ INSTANCE_LIMIT))
+    ensures why { ((result ≡ Fault.NoMark) × (taken.now.stop ≡ Stop.AtEnd) × (length taken.now.bytes.items ≤ INSTANCE_LIMIT))
         ⊎ (result ≡ Fault.Unread Source.Instance) }
+    ensures whole { taken.now.stop ≡ Stop.AtEnd → length taken.now.bytes.items ≤ INSTANCE_LIMIT
+        → result ≡ Fault.NoMark }
 {
     if taken.stop == Stop::AtEnd && taken.bytes.len() <= INSTANCE_LIMIT {
         Fault::NoMark
@@ -56,9 +57,10 @@ fn unsplit(taken: &Taken) -> Fault
 /// The instance before the line with the plan behind it. The instance is judged before the plan's part, its length
 /// included.
 fn verified_of_taken(alloc: Global, taken: &Taken) -> Result<Verified, Fault>
-    ensures { (bundle : List ℕ) → IsTaken BUNDLE_LIMIT taken.now bundle → MatchResult result
+    ensures judged { (bundle : List ℕ) → IsTaken BUNDLE_LIMIT taken.now bundle → MatchResult result
         (IsVerifiedBundle bundle)
         (IsRefusedBundle bundle) }
+    ensures whole { IsWhole taken.now → IfErr result IsOfReadBytes }
 {
     let bytes = taken.bytes.as_slice();
     let Some(at) = mark_at(bytes) else {

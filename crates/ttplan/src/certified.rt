@@ -1,13 +1,13 @@
 //! What `check` says of an instance and a certificate.
 
-ghost use Rattle.std.specs.Prelude.{◌≡◌, ◌≤◌, length, string_bytes, IfOk, IfSome, MatchResult};
-ghost use Rattle.ttp_model.specs.Rules.{IsInstance};
+ghost use Rattle.std.specs.Prelude.{◌≡◌, ◌≤◌, length, string_bytes, IfErr, IfOk, IfSome, MatchResult};
 ghost use Rattle.ttplan.specs.Certified.{HasBound, IsCertificateFault, IsCheckAnswer, bound_line};
+ghost use Rattle.ttplan.specs.Verdicts.{IsOfReadBytes};
 ghost use Rattle.ttplan.specs.Outcomes.{IsWritingUnlessMemory};
 
 use crate::ending::{End, Fault, Source};
+use crate::input::{read_all, read_instance};
 use crate::output::end_with;
-use crate::verify::{read_all, read_instance};
 use std::alloc::{AllocError, Global};
 use std::io::{Read, Write};
 use ttp_model::Instance;
@@ -18,9 +18,10 @@ pub const CERTIFICATE_LIMIT: usize = 268_435_456;
 /// The bound, in ticks, that a certificate's text proves of an instance.
 fn bound_of_text(alloc: Global, instance: &Instance, bytes: &[u8]) -> Result<u32, Fault>
     requires { length bytes.now ≤ CERTIFICATE_LIMIT }
-    ensures { MatchResult result
+    ensures judged { MatchResult result
         (HasBound instance.now bytes.now)
         (IsCertificateFault instance.now bytes.now) }
+    ensures read { IfErr result IsOfReadBytes }
 {
     let cert = match certificate::read(alloc, bytes) {
         Ok(cert) => cert,

@@ -8,6 +8,7 @@ use cert_check::CertFault;
 use certificate::CertTextError;
 use instance_text::TextError;
 use plan_format::PlanTextError;
+use planner::{GatherFault, SolveFault};
 use std::alloc::{AllocError, AllocFailed};
 use ttp_model::{MemoryFault, ModelError, PlanFault};
 
@@ -22,6 +23,7 @@ pub enum Source {
 /// Where it writes to.
 #[derive(Clone, Copy, Debug, PartialEq, Eq)]
 pub enum Sink {
+    Certificate,
     Out,
 }
 
@@ -51,6 +53,8 @@ pub enum Fault {
     /// When the loss word of this index stands for a loss that is outside the cycle, or at a node that isn't
     /// there or is the sender, and no word before it does.
     WrongLoss(usize),
+    /// When the search has no answer.
+    Search(SolveFault),
     /// When a reader failed, or had more bytes than its limit, or a file could not be opened.
     Unread(Source),
     /// When a writer failed, or took no byte.
@@ -114,6 +118,9 @@ fn status_of_fault(fault: &Fault) -> u8
         Fault::Certificate(_) => 5,
         Fault::TooFewNodes => 5,
         Fault::WrongLoss(_) => 5,
+        Fault::Search(SolveFault::Memory) => 4,
+        Fault::Search(SolveFault::Gather(GatherFault::OutOfMemory)) => 4,
+        Fault::Search(_) => 7,
         Fault::Unread(_) => 6,
         Fault::Unwritten(_) => 6,
     }

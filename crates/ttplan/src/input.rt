@@ -1,10 +1,16 @@
-//! What is taken from a reader, up to a limit.
+//! What is taken from a reader, up to a limit, and the instance that it states.
 
-ghost use Rattle.std.specs.Prelude.{◌≡◌, ◌<◌, ◌≤◌, ◌^◌, length, IfOk, IfSome};
+ghost use Rattle.std.specs.Prelude.{◌≡◌, ◌<◌, ◌≤◌, ◌^◌, length, IfErr, IfOk, IfSome, MatchResult};
 ghost use Rattle.ttplan.specs.Streams.{IsTaken};
+ghost use Rattle.ttplan.specs.Verdicts.{HasInstance, IsInstanceFault, IsOfReadBytes, IsReadFault};
 
+use crate::ending::{Fault, Source};
 use std::alloc::{AllocError, Global};
 use std::io::Read;
+use ttp_model::Instance;
+
+/// The bytes of an instance's text, at most.
+pub const INSTANCE_LIMIT: usize = 1_048_576;
 
 /// Why the taking ended.
 #[derive(Clone, Copy, Debug, PartialEq, Eq)]
@@ -50,4 +56,49 @@ pub fn take_input<R: Read>(alloc: Global, reader: &mut R, limit: usize) -> Resul
         bytes,
         stop: Stop::OverLimit,
     })
+}
+
+/// All bytes of a reader, which are within a limit.
+pub fn read_all<R: Read>(
+    alloc: Global,
+    reader: &mut R,
+    limit: usize,
+    source: Source,
+) -> Result<Vec<u8>, Fault>
+    requires { limit < 2 ^ 40 }
+    ensures read { IfOk result (λ read. IfSome (R.remaining reader.old) (λ bytes. read.items ≡ bytes)) }
+    ensures within { IfOk result (λ read. length read.items ≤ limit) }
+    ensures err { IfErr result (IsReadFault source) }
+{
+    match take_input(alloc, reader, limit) {
+        Err(_) => Err(Fault::Memory),
+        Ok(taken) => match taken.stop {
+            Stop::AtEnd => Ok(taken.bytes),
+            Stop::OverLimit | Stop::Failed => Err(Fault::Unread(source)),
+        },
+    }
+}
+
+/// The instance that bytes state.
+pub fn instance_of_text(alloc: Global, bytes: &[u8]) -> Result<Instance, Fault>
+    requires { length bytes.now ≤ INSTANCE_LIMIT }
+    ensures judged { MatchResult result
+        (HasInstance bytes.now)
+        (IsInstanceFault bytes.now) }
+    ensures read { IfErr result IsOfReadBytes }
+{
+    match instance_text::read(alloc, bytes) {
+        Ok(instance) => Ok(instance),
+        Err(error) => Err(Fault::Instance(error)),
+    }
+}
+
+/// The instance that a reader's bytes state.
+pub fn read_instance<R: Read>(alloc: Global, reader: &mut R) -> Result<Instance, Fault>
+    ensures { IfSome (R.remaining reader.old) (λ bytes. MatchResult result
+        (HasInstance bytes)
+        (IsInstanceFault bytes)) }
+{
+    let bytes = read_all(alloc, reader, INSTANCE_LIMIT, Source::Instance)?;
+    instance_of_text(alloc, bytes.as_slice())
 }

@@ -3,13 +3,14 @@
 ghost use Rattle.std.specs.Prelude.{◌≡◌, Some, OnOk};
 ghost use Rattle.std.specs.List.{flat_map};
 ghost use Rattle.std.specs.Io.KnownBytes.{Appends};
-ghost use Rattle.ttplan.specs.Lines.{spaced, report_of, list_number, part_word, place_words, table_words, line_code, certificate_line_code, certificate_text_line, node_code, certificate_line, model_line, text_line, plan_text_line, plan_line, source_word, sink_word, fault_line};
+ghost use Rattle.ttplan.specs.Lines.{spaced, report_of, list_number, part_word, place_words, table_words, line_code, certificate_line_code, certificate_text_line, node_code, certificate_line, model_line, text_line, plan_text_line, plan_line, search_line, source_word, sink_word, fault_line};
 
 use crate::ending::{End, Fault, Sink, Source};
 use cert_check::{CertFault, NodeFault};
 use certificate::CertTextError;
 use instance_text::TextError;
 use plan_format::{LineFault, PlanTextError};
+use planner::{GatherFault, SolveFault};
 use std::io::Write;
 use std::{fmt, io};
 use ttp_model::{ModelError, Part, Place, PlanFault, PlanPart};
@@ -268,6 +269,25 @@ impl fmt::Display for CertificateLine {
 }
 
 #[derive(Drop)]
+struct SearchLine(SolveFault);
+
+impl fmt::Display for SearchLine {
+    ghost output = { λ x. Some (search_line x.0) };
+
+    fn fmt<W: fmt::Write>(&self, f: &mut fmt::Formatter<W>) -> fmt::Result {
+        match self.0 {
+            SolveFault::Memory => write!(f, "memory"),
+            SolveFault::Thread => write!(f, "solve thread"),
+            SolveFault::Gather(GatherFault::DoubledName) => write!(f, "solve P1"),
+            SolveFault::Gather(GatherFault::MissingName) => write!(f, "solve P2"),
+            SolveFault::Gather(GatherFault::StrayName) => write!(f, "solve P3"),
+            SolveFault::Gather(GatherFault::LowGoal) => write!(f, "solve P4"),
+            SolveFault::Gather(GatherFault::OutOfMemory) => write!(f, "memory"),
+        }
+    }
+}
+
+#[derive(Drop)]
 struct SourceWord(Source);
 
 impl fmt::Display for SourceWord {
@@ -290,6 +310,7 @@ impl fmt::Display for SinkWord {
 
     fn fmt<W: fmt::Write>(&self, f: &mut fmt::Formatter<W>) -> fmt::Result {
         match self.0 {
+            Sink::Certificate => write!(f, "certificate"),
             Sink::Out => write!(f, "out"),
         }
     }
@@ -311,6 +332,7 @@ impl fmt::Display for Fault {
             Fault::Certificate(fault) => write!(f, "{}", CertificateLine(*fault)),
             Fault::TooFewNodes => write!(f, "replay N1"),
             Fault::WrongLoss(k) => write!(f, "replay N2 {k}"),
+            Fault::Search(fault) => write!(f, "{}", SearchLine(*fault)),
             Fault::Unread(source) => write!(f, "read {}", SourceWord(*source)),
             Fault::Unwritten(sink) => write!(f, "write {}", SinkWord(*sink)),
         }

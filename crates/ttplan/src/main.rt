@@ -9,12 +9,14 @@ mod lines;
 mod losses;
 mod output;
 mod replay;
+mod solve;
 mod tables;
 mod verify;
 mod words;
 
-use crate::ending::{End, Fault, Source};
+use crate::ending::{End, Fault, Sink, Source};
 use clap::error::ErrorKind;
+use planner::Options;
 use std::fs::File;
 use std::io;
 use std::process::ExitCode;
@@ -71,6 +73,36 @@ fn run_check(rt: &HostRuntime, instance: &str, certificate: &str) -> End {
     )
 }
 
+/// Where a certificate is written, where one was asked for: a file that is created anew.
+fn create_certificate(rt: &HostRuntime, name: Option<&str>) -> Result<Option<File>, Fault> {
+    match name {
+        None => Ok(None),
+        Some(name) => match File::create(rt, name) {
+            Ok(file) => Ok(Some(file)),
+            Err(_) => Err(Fault::Unwritten(Sink::Certificate)),
+        },
+    }
+}
+
+/// Searches an instance: its file is opened first, then that of the certificate, and then the first is read.
+fn run_solve(rt: &HostRuntime, instance: &str, certificate: Option<&str>, options: Options) -> End {
+    let Ok(mut instance) = File::open(rt, instance) else {
+        return End::Refused(Fault::Unread(Source::Instance));
+    };
+    let mut certificate = match create_certificate(rt, certificate) {
+        Ok(file) => file,
+        Err(fault) => return End::Refused(fault),
+    };
+    solve::solve_run(
+        rt,
+        rt.alloc(),
+        &mut instance,
+        options,
+        certificate.as_mut(),
+        &mut rt.stdout(),
+    )
+}
+
 /// Does what is asked for.
 fn run(rt: &HostRuntime, request: Request) -> End {
     match request {
@@ -79,6 +111,11 @@ fn run(rt: &HostRuntime, request: Request) -> End {
             plan,
             task,
         } => run_on_files(rt, instance, plan, task),
+        Request::Solve {
+            instance,
+            certificate,
+            options,
+        } => run_solve(rt, instance, certificate, options),
         Request::Check {
             instance,
             certificate,

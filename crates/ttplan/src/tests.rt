@@ -1,5 +1,8 @@
 mod checks;
 mod replays;
+mod requests;
+mod solve_streams;
+mod solves;
 mod table_texts;
 
 use crate::bundle::verify_bundle;
@@ -33,7 +36,12 @@ struct Told {
 impl Told {
     /// Whether it wrote this on standard output, this on standard error, and had this status.
     fn is(&self, out: &str, error: &str, status: u8) -> bool {
-        self.out.as_slice() == out.as_bytes()
+        self.has(out.as_bytes(), error, status)
+    }
+
+    /// The same of bytes.
+    fn has(&self, out: &[u8], error: &str, status: u8) -> bool {
+        self.out.as_slice() == out
             && self.error.as_slice() == error.as_bytes()
             && self.status == status
     }

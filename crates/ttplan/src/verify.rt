@@ -1,19 +1,16 @@
 //! What `verify` says of an instance and a plan.
 
-ghost use Rattle.std.specs.Prelude.{◌≡◌, ◌≤◌, ◌<◌, ◌^◌, length, string_bytes, IfOk, IfErr, IfSome, MatchResult};
+ghost use Rattle.std.specs.Prelude.{◌≡◌, ◌≤◌, length, string_bytes, IfOk, IfSome, MatchResult};
 ghost use Rattle.ttp_model.specs.Plans.{IsValid};
-ghost use Rattle.ttplan.specs.Verdicts.{HasInstance, IsInstanceFault, IsPlanFault, IsReadFault, IsRefused, IsVerdict, IsVerified, IsVerifiedPlan, valid_line};
+ghost use Rattle.ttplan.specs.Verdicts.{IsPlanFault, IsRefused, IsVerdict, IsVerified, IsVerifiedPlan, valid_line};
 ghost use Rattle.ttplan.specs.Outcomes.{IsWritingUnlessMemory};
 
 use crate::ending::{End, Fault, Source};
-use crate::input::{Stop, take_input};
+use crate::input::{read_all, read_instance};
 use crate::output::end_with;
 use std::alloc::{AllocError, Global};
 use std::io::{Read, Write};
 use ttp_model::{Instance, Plan};
-
-/// The bytes of an instance's text, at most.
-pub const INSTANCE_LIMIT: usize = 1_048_576;
 
 /// The bytes of a plan's text, at most.
 pub const PLAN_LIMIT: usize = 65_536;
@@ -25,50 +22,6 @@ pub struct Verified {
     pub plan: Plan,
     /// The plan's delay, in ticks.
     pub delay: u64,
-}
-
-/// All bytes of a reader, which are within a limit.
-pub fn read_all<R: Read>(
-    alloc: Global,
-    reader: &mut R,
-    limit: usize,
-    source: Source,
-) -> Result<Vec<u8>, Fault>
-    requires { limit < 2 ^ 40 }
-    ensures read { IfOk result (λ read. IfSome (R.remaining reader.old) (λ bytes. read.items ≡ bytes)) }
-    ensures within { IfOk result (λ read. length read.items ≤ limit) }
-    ensures err { IfErr result (IsReadFault source) }
-{
-    match take_input(alloc, reader, limit) {
-        Err(_) => Err(Fault::Memory),
-        Ok(taken) => match taken.stop {
-            Stop::AtEnd => Ok(taken.bytes),
-            Stop::OverLimit | Stop::Failed => Err(Fault::Unread(source)),
-        },
-    }
-}
-
-/// The instance that bytes state.
-pub fn instance_of_text(alloc: Global, bytes: &[u8]) -> Result<Instance, Fault>
-    requires { length bytes.now ≤ INSTANCE_LIMIT }
-    ensures { MatchResult result
-        (HasInstance bytes.now)
-        (IsInstanceFault bytes.now) }
-{
-    match instance_text::read(alloc, bytes) {
-        Ok(instance) => Ok(instance),
-        Err(error) => Err(Fault::Instance(error)),
-    }
-}
-
-/// The instance that a reader's bytes state.
-pub fn read_instance<R: Read>(alloc: Global, reader: &mut R) -> Result<Instance, Fault>
-    ensures { IfSome (R.remaining reader.old) (λ bytes. MatchResult result
-        (HasInstance bytes)
-        (IsInstanceFault bytes)) }
-{
-    let bytes = read_all(alloc, reader, INSTANCE_LIMIT, Source::Instance)?;
-    instance_of_text(alloc, bytes.as_slice())
 }
 
 /// The instance with the plan that the bytes spell for it, where the plan is valid and states its own delay.

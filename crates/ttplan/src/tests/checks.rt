@@ -60,14 +60,46 @@ fn a_message_that_fits_no_frame_leaves_no_plan(rt: HostRuntime) -> Result<(), Fa
 }
 
 #[test]
-fn two_processes_alike_are_judged_by_their_load(rt: HostRuntime) -> Result<(), Fail> {
+fn two_processes_alike_are_judged_by_load_and_by_order(rt: HostRuntime) -> Result<(), Fail> {
     let alloc = rt.alloc();
     let node = joined(alloc, CLUSTER, ONE_NODE)?;
     let instance = joined(alloc, node.as_str(), TWO_ALIKE)?;
     let twins = "ttcert 1\nlow 4\nleaf 4 4\nord-twin 0 1\nes-before 0 1\nle-own 1\nx-window 1\n";
-    assert!(rt; told_of_check(alloc, instance.as_str(), twins).is("", "certificate C4 4\n", 5));
+    assert!(rt; told_of_check(alloc, instance.as_str(), twins).is("bound 4\n", "", 0));
+    let turned = "ttcert 1\nlow 4\nleaf 4 4\nord-twin 1 0\nes-before 1 0\nle-own 0\nx-window 0\n";
+    assert!(rt; told_of_check(alloc, instance.as_str(), turned).is("", "certificate C4 4\n", 5));
     let load = "ttcert 1\nlow 4\nleaf 4 3\nle-own 0\nle-own 1\nx-load 0 0 3\n";
     assert!(rt; told_of_check(alloc, instance.as_str(), load).is("bound 4\n", "", 0));
+    Ok(())
+}
+
+#[test]
+fn a_round_that_is_too_late_is_closed_at_each_goal(rt: HostRuntime) -> Result<(), Fail> {
+    let alloc = rt.alloc();
+    let first = joined(alloc, CLUSTER, FIRST)?;
+    let first = first.as_str();
+    let head =
+        "ttcert 1\nlow 9\nround 0 1\nleaf 9 5\nes-release 0\nlo-send 0\nes-arrive 0 1\nle-own 1\nx-window 1\nleaf 101 2\nus-settled 0\n";
+    let early = joined(alloc, head, "x-late 0 1\n")?;
+    assert!(rt; told_of_check(alloc, first, early.as_str()).is("bound 9\n", "", 0));
+    let late = joined(alloc, head, "x-late 0 2\n")?;
+    assert!(rt; told_of_check(alloc, first, late.as_str()).is("", "certificate C4 12\n", 5));
+    Ok(())
+}
+
+#[test]
+fn silent_nodes_are_placed_in_their_order(rt: HostRuntime) -> Result<(), Fail> {
+    let alloc = rt.alloc();
+    let nodes =
+        "[[node]]\nname = \"A\"\ncapacities = [0]\n[[node]]\nname = \"B\"\ncapacities = [0]\n[[process]]\nname = \"p\"\nnode = \"A\"\nwcet = 3\n";
+    let instance = joined(alloc, CLUSTER, nodes)?;
+    let instance = instance.as_str();
+    let turned =
+        "ttcert 1\nlow 3\nplace 2\nleaf 3 2\nle-own 0\nx-window 0\nleaf 101 1\nx-silent 0 1\n";
+    assert!(rt; told_of_check(alloc, instance, turned).is("bound 3\n", "", 0));
+    let in_order =
+        "ttcert 1\nlow 3\nplace 2\nleaf 101 1\nx-silent 0 1\nleaf 3 2\nle-own 0\nx-window 0\n";
+    assert!(rt; told_of_check(alloc, instance, in_order).is("", "certificate C4 5\n", 5));
     Ok(())
 }
 
@@ -166,6 +198,8 @@ fn each_step_is_taken_where_it_is_lawful(rt: HostRuntime) -> Result<(), Fail> {
         "le-message 0 2\n",
         "le-send 0\n",
         "hi-arrive 0 2\n",
+        "us-settled 0\n",
+        "us-settled 2\n",
     ];
     for line in single {
         let text = closed_behind(alloc, "3", line)?;
@@ -244,7 +278,6 @@ fn each_step_is_refused_for_each_cause(rt: HostRuntime) -> Result<(), Fail> {
         "le-before 0 1\n",
         "ord-window 0 1\n",
         "ord-twin 0 1\n",
-        "us-settled 0\n",
         "x-window 0\n",
         "x-round 0\n",
         "x-cycle 0 1\n",
@@ -265,6 +298,8 @@ fn each_step_is_refused_for_each_cause(rt: HostRuntime) -> Result<(), Fail> {
     }
     let late = leaf_of(alloc, "3", "le-own 2\nhi-arrive 0 2\nle-send 0\n")?;
     assert!(rt; told_of_check(alloc, instance, late.as_str()).is("", "certificate C4 6\n", 5));
+    let waiting = leaf_of(alloc, "3", "le-own 2\nhi-arrive 0 2\nus-settled 2\n")?;
+    assert!(rt; told_of_check(alloc, instance, waiting.as_str()).is("", "certificate C4 6\n", 5));
     Ok(())
 }
 
