@@ -9,114 +9,38 @@ use certificate::Node;
 use std::alloc::Global;
 use std::process::Abort;
 use std::test::Fail;
-use ttp_model::{
-    Cluster, Instance, Kind, Message, Name as TextName, Node as Station, Numbers, Process,
-};
+use ttp_model::{Cluster, Instance, Kind, ModelError};
+use worked_instances::{Draft, PLAIN, deadline, no_frame, one_message, three_alike};
 
-/// A name.
-fn name(alloc: Global, text: &str) -> Result<TextName, Fail> {
-    Ok(TextName::new(String::from_str(alloc, text)?))
+/// The plain cluster with a horizon of so many ticks.
+fn within(horizon: u32) -> Cluster {
+    Cluster { horizon, ..PLAIN }
 }
 
-/// A node of this name with these capacities.
-fn node(alloc: Global, text: &str, capacities: &[u32]) -> Result<Station, Fail> {
-    Ok(Station {
-        name: name(alloc, text)?,
-        capacities: Numbers::new(Vec::from_slice(alloc, capacities)?),
-    })
-}
-
-/// A process of this name.
-fn process(alloc: Global, text: &str, node: u32, wcet: u32) -> Result<Process, Fail> {
-    Ok(Process {
-        name: name(alloc, text)?,
-        node,
-        wcet,
-        release: 0,
-        deadline: 1_000_000,
-    })
-}
-
-/// A message of this name from process 0.
-fn message(alloc: Global, text: &str, receiver: u32, bytes: u32) -> Result<Message, Fail> {
-    Ok(Message {
-        name: name(alloc, text)?,
-        sender: 0,
-        receivers: Numbers::new(vec![in alloc; receiver]?),
-        bytes,
-    })
-}
-
-/// Frames of 1 tick and 1 more for each byte, nothing before or after a frame.
-fn cluster(horizon: u32) -> Cluster {
-    Cluster {
-        precision: 0,
-        lead: 0,
-        trail: 0,
-        head: 1,
-        per_byte: 1,
-        copy_out: 0,
-        copy_in: 0,
-        horizon,
-    }
-}
-
-/// One node whose slot carries nothing, with these processes.
-fn one_node(alloc: Global, processes: Vec<Process>) -> Result<Instance, Fail> {
-    let nodes = vec![in alloc; node(alloc, "A", &[0])?]?;
-    Ok(Instance::build(
-        alloc,
-        cluster(100),
-        nodes,
-        processes,
-        Vec::new(alloc),
-        Vec::new(alloc),
-    )?)
-}
-
-/// Process p on A, whose capacities these are, sends a message of so many bytes to process q on B.
-fn sender_and_receiver(
-    alloc: Global,
-    horizon: u32,
-    capacities: &[u32],
-    others: &[u32],
-    bytes: u32,
-    wcets: (u32, u32),
-) -> Result<Instance, Fail> {
-    let nodes = vec![in alloc; node(alloc, "A", capacities)?, node(alloc, "B", others)?]?;
-    let processes = vec![in alloc;
-        process(alloc, "p", 0, wcets.0)?,
-        process(alloc, "q", 1, wcets.1)?,
-    ]?;
-    let messages = vec![in alloc; message(alloc, "m", 1, bytes)?]?;
-    Ok(Instance::build(
-        alloc,
-        cluster(horizon),
-        nodes,
-        processes,
-        Vec::new(alloc),
-        messages,
-    )?)
+/// Process p of so many ticks on A sends 2 bytes to process q of 1 tick on B, whose capacities these
+/// are.
+fn short_receiver(alloc: Global, capacities: &[u32], wcet: u32) -> Result<Instance, ModelError> {
+    Draft::of(alloc, PLAIN)
+        .node("A", &[2])?
+        .node("B", capacities)?
+        .process("p", 0, wcet)?
+        .process("q", 1, 1)?
+        .message("m", 0, 1, 2)?
+        .build()
 }
 
 /// Process p of 1 tick on A, whose slot carries 2 or 4 bytes, sends 2 bytes to each of two processes
 /// of 1 tick on B.
-fn two_receivers(alloc: Global) -> Result<Instance, Fail> {
-    let nodes = vec![in alloc; node(alloc, "A", &[2, 4])?, node(alloc, "B", &[0])?]?;
-    let processes = vec![in alloc;
-        process(alloc, "p", 0, 1)?,
-        process(alloc, "q1", 1, 1)?,
-        process(alloc, "q2", 1, 1)?,
-    ]?;
-    let messages = vec![in alloc; message(alloc, "m1", 1, 2)?, message(alloc, "m2", 2, 2)?]?;
-    Ok(Instance::build(
-        alloc,
-        cluster(100),
-        nodes,
-        processes,
-        Vec::new(alloc),
-        messages,
-    )?)
+fn two_receivers(alloc: Global) -> Result<Instance, ModelError> {
+    Draft::of(alloc, PLAIN)
+        .node("A", &[2, 4])?
+        .node("B", &[0])?
+        .process("p", 0, 1)?
+        .process("q1", 1, 1)?
+        .process("q2", 1, 1)?
+        .message("m1", 0, 1, 2)?
+        .message("m2", 0, 2, 2)?
+        .build()
 }
 
 /// What a search came to.
@@ -199,9 +123,10 @@ fn one_process_alone_ends_at_its_release_and_its_execution_time(
     rt: HostRuntime,
 ) -> Result<(), Fail> {
     let alloc = rt.alloc();
-    let mut alone = process(alloc, "p", 0, 5)?;
-    alone.release = 2;
-    let instance = one_node(alloc, vec![in alloc; alone]?)?;
+    let instance = Draft::of(alloc, PLAIN)
+        .node("A", &[0])?
+        .process_within("p", 0, 5, (2, 1_000_000))?
+        .build()?;
     let tree = searched(alloc, &instance)?;
     assert_eq!(rt; tree.least, Some(7));
     assert_eq!(rt;
@@ -215,12 +140,7 @@ fn one_process_alone_ends_at_its_release_and_its_execution_time(
 #[test]
 fn three_alike_run_one_after_another(rt: HostRuntime) -> Result<(), Fail> {
     let alloc = rt.alloc();
-    let processes = vec![in alloc;
-        process(alloc, "p", 0, 2)?,
-        process(alloc, "q", 0, 2)?,
-        process(alloc, "r", 0, 2)?,
-    ]?;
-    let instance = one_node(alloc, processes)?;
+    let instance = three_alike(alloc)?;
     assert_eq!(rt; searched(alloc, &instance)?.least, Some(6));
     Ok(())
 }
@@ -228,9 +148,7 @@ fn three_alike_run_one_after_another(rt: HostRuntime) -> Result<(), Fail> {
 #[test]
 fn one_in_a_hurry_goes_first(rt: HostRuntime) -> Result<(), Fail> {
     let alloc = rt.alloc();
-    let mut hurried = process(alloc, "q", 0, 2)?;
-    hurried.deadline = 2;
-    let instance = one_node(alloc, vec![in alloc; process(alloc, "p", 0, 3)?, hurried]?)?;
+    let instance = deadline(alloc)?;
     assert_eq!(rt; searched(alloc, &instance)?.least, Some(5));
     Ok(())
 }
@@ -238,16 +156,16 @@ fn one_in_a_hurry_goes_first(rt: HostRuntime) -> Result<(), Fail> {
 #[test]
 fn a_message_takes_its_senders_slot(rt: HostRuntime) -> Result<(), Fail> {
     let alloc = rt.alloc();
-    let instance = sender_and_receiver(alloc, 100, &[2], &[0], 2, (3, 2))?;
+    let instance = one_message(alloc, PLAIN)?;
     let tree = searched(alloc, &instance)?;
     assert_eq!(rt; tree.least, Some(9));
     assert_eq!(rt;
         tree.branches.as_slice().first().copied(),
         Some(Kind::Place)
     );
-    let tight = sender_and_receiver(alloc, 9, &[2], &[0], 2, (3, 2))?;
+    let tight = one_message(alloc, within(9))?;
     assert_eq!(rt; searched(alloc, &tight)?.least, Some(9));
-    let short = sender_and_receiver(alloc, 8, &[2], &[0], 2, (3, 2))?;
+    let short = one_message(alloc, within(8))?;
     assert_eq!(rt; searched(alloc, &short)?.least, None);
     Ok(())
 }
@@ -256,11 +174,11 @@ fn a_message_takes_its_senders_slot(rt: HostRuntime) -> Result<(), Fail> {
 fn the_layout_makes_the_delay(rt: HostRuntime) -> Result<(), Fail> {
     let alloc = rt.alloc();
     assert_eq!(rt; searched(alloc, &two_receivers(alloc)?)?.least, Some(8));
-    let longer = sender_and_receiver(alloc, 100, &[2], &[0, 1], 2, (2, 1))?;
+    let longer = short_receiver(alloc, &[0, 1], 2)?;
     assert_eq!(rt; searched(alloc, &longer)?.least, Some(6));
-    let in_time = sender_and_receiver(alloc, 100, &[2], &[0], 2, (1, 1))?;
+    let in_time = short_receiver(alloc, &[0], 1)?;
     assert_eq!(rt; searched(alloc, &in_time)?.least, Some(5));
-    let late = sender_and_receiver(alloc, 100, &[2], &[0], 2, (2, 1))?;
+    let late = short_receiver(alloc, &[0], 2)?;
     assert_eq!(rt; searched(alloc, &late)?.least, Some(8));
     Ok(())
 }
@@ -268,7 +186,7 @@ fn the_layout_makes_the_delay(rt: HostRuntime) -> Result<(), Fail> {
 #[test]
 fn a_message_that_fits_no_frame_leaves_no_plan(rt: HostRuntime) -> Result<(), Fail> {
     let alloc = rt.alloc();
-    let instance = sender_and_receiver(alloc, 100, &[2, 4], &[0], 6, (1, 1))?;
+    let instance = no_frame(alloc)?;
     let tree = searched(alloc, &instance)?;
     assert_eq!(rt; tree.least, None);
     assert_eq!(rt; tree.goals.as_slice().iter().all(|goal| *goal == 101), true);
@@ -297,7 +215,7 @@ fn leaf_goal(piece: &Piece) -> Option<u32> {
 #[test]
 fn what_is_left_is_closed_at_the_path_bound_at_least(rt: HostRuntime) -> Result<(), Fail> {
     let alloc = rt.alloc();
-    let instance = sender_and_receiver(alloc, 100, &[2], &[0], 2, (3, 2))?;
+    let instance = one_message(alloc, PLAIN)?;
     let goal = closed_goal(alloc, &instance, 101)?;
     assert_eq!(rt; goal == Some(8) || goal == Some(9), true);
     assert_eq!(rt; closed_goal(alloc, &instance, 5)?, Some(5));

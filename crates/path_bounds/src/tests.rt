@@ -7,12 +7,14 @@ mod fixed_points;
 mod instances;
 
 use crate::{Reached, best_goal, path_bound, propagate};
+use instances::two_senders;
 use std::alloc::Global;
 use std::process::Abort;
 use std::test::Fail;
 use tt_choice::Choice;
 use tt_infer::Facts;
 use ttp_model::{Instance, Kind, Leaf, Step};
+use worked_instances::{PLAIN, no_frame, one_message, overfull, three_alike};
 
 /// Whether propagation closes the root at a goal.
 fn closes(alloc: Global, instance: &Instance, goal: u32) -> Result<bool, Fail> {
@@ -53,11 +55,11 @@ fn leaf_size<R: Abort>(
 #[test]
 fn path_bounds(rt: HostRuntime) -> Result<(), Fail> {
     let alloc = rt.alloc();
-    let one = instances::sender_and_receiver(alloc, instances::cluster())?;
+    let one = one_message(alloc, PLAIN)?;
     assert_eq!(rt; path_bound(alloc, &one)?, 8);
-    let alike = instances::three_alike(alloc)?;
+    let alike = three_alike(alloc)?;
     assert_eq!(rt; path_bound(alloc, &alike)?, 2);
-    let two = instances::two_messages(alloc)?;
+    let two = overfull(alloc)?;
     assert_eq!(rt; path_bound(alloc, &two)?, 7);
     Ok(())
 }
@@ -65,12 +67,12 @@ fn path_bounds(rt: HostRuntime) -> Result<(), Fail> {
 #[test]
 fn propagation_closes_up_to_the_path_bound(rt: HostRuntime) -> Result<(), Fail> {
     let alloc = rt.alloc();
-    let one = instances::sender_and_receiver(alloc, instances::cluster())?;
+    let one = one_message(alloc, PLAIN)?;
     for goal in 0..10 {
         assert!(rt; closes(alloc, &one, goal)?, "goal {goal}");
     }
     assert!(rt; !closes(alloc, &one, 10)?);
-    let large = instances::large_message(alloc)?;
+    let large = no_frame(alloc)?;
     assert!(rt; closes(alloc, &large, 101)?);
     Ok(())
 }
@@ -79,7 +81,7 @@ fn propagation_closes_up_to_the_path_bound(rt: HostRuntime) -> Result<(), Fail> 
 #[test]
 fn bounds_rows(rt: HostRuntime) -> Result<(), Fail> {
     let alloc = rt.alloc();
-    let one = instances::sender_and_receiver(alloc, instances::cluster())?;
+    let one = one_message(alloc, PLAIN)?;
     assert_eq!(rt; path_bound(alloc, &one)?, 8);
     assert!(rt; closes(alloc, &one, 8)?);
     let (goal, steps) = leaf_size(&rt, alloc, &one, 101)?;
@@ -93,11 +95,11 @@ fn bounds_rows(rt: HostRuntime) -> Result<(), Fail> {
 #[test]
 fn leaves_of_loads_and_frames(rt: HostRuntime) -> Result<(), Fail> {
     let alloc = rt.alloc();
-    let alike = instances::three_alike(alloc)?;
+    let alike = three_alike(alloc)?;
     let (goal, steps) = leaf_size(&rt, alloc, &alike, 101)?;
     assert_eq!(rt; goal, 6);
     assert!(rt; steps <= 6, "{steps} steps");
-    let large = instances::large_message(alloc)?;
+    let large = no_frame(alloc)?;
     assert_eq!(rt; leaf_size(&rt, alloc, &large, 101)?, (101, 1));
     Ok(())
 }
@@ -106,7 +108,7 @@ fn leaves_of_loads_and_frames(rt: HostRuntime) -> Result<(), Fail> {
 #[test]
 fn leaves_without_what_they_do_not_need(rt: HostRuntime) -> Result<(), Fail> {
     let alloc = rt.alloc();
-    let one = instances::sender_and_receiver(alloc, instances::cluster())?;
+    let one = one_message(alloc, PLAIN)?;
     let root = Choice::root(alloc, &one)?;
     let mut steps = Vec::new(alloc);
     let reached = propagate(alloc, &one, &root, 9, &mut steps)?;
@@ -159,7 +161,7 @@ fn send_by<R: Abort>(rt: &R, i: &Instance, choice: &mut Choice, m: u32, r: u32)
 #[test]
 fn a_message_that_could_go_before_a_crowded_round_is_late(rt: HostRuntime) -> Result<(), Fail> {
     let alloc = rt.alloc();
-    let i = instances::two_senders(alloc)?;
+    let i = two_senders(alloc)?;
     let mut choice = Choice::root(alloc, &i)?;
     order(&rt, alloc, &i, &mut choice, 0, 1)?;
     send_from(&rt, &i, &mut choice, 0, 4);

@@ -5,109 +5,26 @@ use cert_check::check;
 use certificate::Cert;
 use std::alloc::Global;
 use std::test::Fail;
-use ttp_model::{
-    Cluster, Instance, Message, Name as TextName, Node as Station, Numbers, Plan, Process,
-};
+use ttp_model::{Cluster, Instance, ModelError, Plan};
+use worked_instances::{Draft, PLAIN, one_message, three_alike};
 
-/// A name.
-fn text_name(alloc: Global, text: &str) -> Result<TextName, Fail> {
-    Ok(TextName::new(String::from_str(alloc, text)?))
-}
-
-/// A node of this name with these capacities.
-fn station(alloc: Global, text: &str, capacities: &[u32]) -> Result<Station, Fail> {
-    Ok(Station {
-        name: text_name(alloc, text)?,
-        capacities: Numbers::new(Vec::from_slice(alloc, capacities)?),
-    })
-}
-
-/// A process of this name.
-fn process(alloc: Global, text: &str, node: u32, wcet: u32) -> Result<Process, Fail> {
-    Ok(Process {
-        name: text_name(alloc, text)?,
-        node,
-        wcet,
-        release: 0,
-        deadline: 1_000_000,
-    })
-}
-
-/// A message of this name from process 0.
-fn message(alloc: Global, text: &str, receiver: u32, bytes: u32) -> Result<Message, Fail> {
-    Ok(Message {
-        name: text_name(alloc, text)?,
-        sender: 0,
-        receivers: Numbers::new(vec![in alloc; receiver]?),
-        bytes,
-    })
-}
-
-/// Frames of 1 tick and 1 more for each byte, nothing before or after a frame.
-fn cluster(horizon: u32) -> Cluster {
-    Cluster {
-        precision: 0,
-        lead: 0,
-        trail: 0,
-        head: 1,
-        per_byte: 1,
-        copy_out: 0,
-        copy_in: 0,
-        horizon,
-    }
-}
-
-/// Three processes of 2 ticks on one node.
-fn three_alike(alloc: Global) -> Result<Instance, Fail> {
-    let nodes = vec![in alloc; station(alloc, "A", &[0])?]?;
-    let processes = vec![in alloc;
-        process(alloc, "p", 0, 2)?,
-        process(alloc, "q", 0, 2)?,
-        process(alloc, "r", 0, 2)?,
-    ]?;
-    Ok(Instance::build(
-        alloc,
-        cluster(100),
-        nodes,
-        processes,
-        Vec::new(alloc),
-        Vec::new(alloc),
-    )?)
-}
-
-/// A process of 3 ticks on A sends 2 bytes to one of 2 ticks on B.
-fn one_message(alloc: Global, horizon: u32) -> Result<Instance, Fail> {
-    let nodes = vec![in alloc; station(alloc, "A", &[2])?, station(alloc, "B", &[0])?]?;
-    let processes = vec![in alloc; process(alloc, "p", 0, 3)?, process(alloc, "q", 1, 2)?]?;
-    let messages = vec![in alloc; message(alloc, "m", 1, 2)?]?;
-    Ok(Instance::build(
-        alloc,
-        cluster(horizon),
-        nodes,
-        processes,
-        Vec::new(alloc),
-        messages,
-    )?)
+/// The plain cluster with a horizon of so many ticks.
+fn within(horizon: u32) -> Cluster {
+    Cluster { horizon, ..PLAIN }
 }
 
 /// Process p of 1 tick on A, whose slot carries 2 or 4 bytes, sends 2 bytes to each of two processes
 /// of 1 tick on B.
-fn two_messages(alloc: Global) -> Result<Instance, Fail> {
-    let nodes = vec![in alloc; station(alloc, "A", &[2, 4])?, station(alloc, "B", &[0])?]?;
-    let processes = vec![in alloc;
-        process(alloc, "p", 0, 1)?,
-        process(alloc, "q1", 1, 1)?,
-        process(alloc, "q2", 1, 1)?,
-    ]?;
-    let messages = vec![in alloc; message(alloc, "m1", 1, 2)?, message(alloc, "m2", 2, 2)?]?;
-    Ok(Instance::build(
-        alloc,
-        cluster(100),
-        nodes,
-        processes,
-        Vec::new(alloc),
-        messages,
-    )?)
+fn two_messages(alloc: Global) -> Result<Instance, ModelError> {
+    Draft::of(alloc, PLAIN)
+        .node("A", &[2, 4])?
+        .node("B", &[0])?
+        .process("p", 0, 1)?
+        .process("q1", 1, 1)?
+        .process("q2", 1, 1)?
+        .message("m1", 0, 1, 2)?
+        .message("m2", 0, 2, 2)?
+        .build()
 }
 
 /// The least delay where it was found.
@@ -159,9 +76,9 @@ fn solved(alloc: Global, instance: &Instance, budget: u64) -> Result<Outcome, Fa
 #[test]
 fn one_message_takes_nine_ticks(rt: HostRuntime) -> Result<(), Fail> {
     let alloc = rt.alloc();
-    let outcome = solved(alloc, &one_message(alloc, 100)?, 1_000)?;
+    let outcome = solved(alloc, &one_message(alloc, PLAIN)?, 1_000)?;
     assert_eq!(rt; least(&outcome), Some(9));
-    let tight = solved(alloc, &one_message(alloc, 9)?, 1_000)?;
+    let tight = solved(alloc, &one_message(alloc, within(9))?, 1_000)?;
     assert_eq!(rt; least(&tight), Some(9));
     Ok(())
 }
@@ -169,7 +86,7 @@ fn one_message_takes_nine_ticks(rt: HostRuntime) -> Result<(), Fail> {
 #[test]
 fn a_horizon_of_eight_leaves_no_plan_for_one_message(rt: HostRuntime) -> Result<(), Fail> {
     let alloc = rt.alloc();
-    let outcome = solved(alloc, &one_message(alloc, 8)?, 1_000)?;
+    let outcome = solved(alloc, &one_message(alloc, within(8))?, 1_000)?;
     assert_eq!(rt; is_infeasible(&outcome), true);
     Ok(())
 }
@@ -221,7 +138,7 @@ fn each_budget_bounds_two_messages_until_eight_ticks_are_least(
 #[test]
 fn without_a_budget_the_path_bound_is_answered(rt: HostRuntime) -> Result<(), Fail> {
     let alloc = rt.alloc();
-    let outcome = solved(alloc, &one_message(alloc, 100)?, 0)?;
+    let outcome = solved(alloc, &one_message(alloc, PLAIN)?, 0)?;
     let low = spent_at(&outcome);
     assert_eq!(rt; low == Some(8) || low == Some(9), true);
     Ok(())

@@ -1,6 +1,6 @@
 //! What propagation leaves open no step of the table sharpens, whether propagation tries it or not.
 
-use super::instances;
+use super::instances::two_senders;
 use crate::{Reached, propagate};
 use load_bounds::{frame_load, node_load};
 use std::alloc::Global;
@@ -9,6 +9,7 @@ use std::test::Fail;
 use tt_choice::Choice;
 use tt_infer::Facts;
 use ttp_model::{Instance, Ring, Step};
+use worked_instances::{PLAIN, one_message, overfull, three_alike};
 
 /// Adds the steps of each two processes.
 fn add_pairs(alloc: Global, i: &Instance, p: u32, steps: &mut Vec<Step>) -> Result<(), Fail> {
@@ -124,13 +125,13 @@ fn open_goals<R: Abort>(rt: &R, alloc: Global, i: &Instance) -> Result<u32, Fail
 #[test]
 fn no_step_sharpens_what_propagation_leaves_open(rt: HostRuntime) -> Result<(), Fail> {
     let alloc = rt.alloc();
-    let one = instances::sender_and_receiver(alloc, instances::cluster())?;
+    let one = one_message(alloc, PLAIN)?;
     assert!(rt; open_goals(&rt, alloc, &one)? > 80);
-    let alike = instances::three_alike(alloc)?;
+    let alike = three_alike(alloc)?;
     assert!(rt; open_goals(&rt, alloc, &alike)? > 80);
-    let two = instances::two_messages(alloc)?;
+    let two = overfull(alloc)?;
     assert!(rt; open_goals(&rt, alloc, &two)? > 80);
-    let senders = instances::two_senders(alloc)?;
+    let senders = two_senders(alloc)?;
     assert!(rt; open_goals(&rt, alloc, &senders)? > 60);
     Ok(())
 }
