@@ -8,6 +8,7 @@ ghost use Rattle.branch_tree.specs.Branching.{Branches};
 
 mod candidate;
 mod crowds;
+mod empty_halves;
 mod layout;
 mod overlaps;
 mod rest;
@@ -19,7 +20,8 @@ use ttp_model::{Instance, Kind};
 
 /// The branch that a search takes, or none where nothing is left to choose: first the layout, as
 /// every later decision rests on it, then what conflicts in the plan at hand, then the rest. In the
-/// plan at hand each process starts and each message is sent as early as is known.
+/// plan at hand each process starts and each message is sent as early as is known. Before the layout
+/// come rounds that are ruled out for all subtrees at once.
 ///
 /// At the root of a tree the first node is placed, where there are several.
 pub fn branch(instance: &Instance, choice: &Choice, facts: &Facts, at_root: bool) -> Option<Kind>
@@ -31,6 +33,11 @@ pub fn branch(instance: &Instance, choice: &Choice, facts: &Facts, at_root: bool
 {
     if at_root && instance.nodes().len() > 1 && choice.is_open(instance, &Kind::Place) {
         return Some(Kind::Place);
+    }
+    if layout::is_bare(instance, choice) {
+        if let Some(kind) = empty_halves::empty_half(instance, choice, facts) {
+            return Some(kind);
+        }
     }
     if let Some(kind) = layout::layout(instance, choice) {
         return Some(kind);

@@ -7,6 +7,7 @@ ghost use Rattle.branch_tree.specs.Work.{IsWorked};
 use super::*;
 use certificate::Node;
 use std::alloc::Global;
+use std::io::Write;
 use std::process::Abort;
 use std::test::Fail;
 use ttp_model::{Cluster, Instance, Kind, ModelError};
@@ -41,6 +42,22 @@ fn two_receivers(alloc: Global) -> Result<Instance, ModelError> {
         .message("m1", 0, 1, 2)?
         .message("m2", 0, 2, 2)?
         .build()
+}
+
+/// Process p of 1 tick on A, whose slot carries 2 or 3 bytes, sends so many messages of 1 byte to
+/// process q of 1 tick on B.
+fn many_messages(alloc: Global, count: u32) -> Result<Instance, Fail> {
+    let mut draft = Draft::of(alloc, PLAIN)
+        .node("A", &[2, 3])?
+        .node("B", &[0])?
+        .process("p", 0, 1)?
+        .process("q", 1, 1)?;
+    for k in 0..count {
+        let mut text = String::from_str(alloc, "m")?;
+        write!(text, "{k}")?;
+        draft = draft.message(text.as_str(), 0, 1, 1)?;
+    }
+    Ok(draft.build()?)
 }
 
 /// What a search came to.
@@ -99,9 +116,9 @@ fn turn(
     }
 }
 
-/// Works one task after another, the newest first, each at the least delay found so far, at first at
-/// one tick past the horizon.
-fn searched(alloc: Global, instance: &Instance) -> Result<Tree, Fail> {
+/// Works so many tasks at most, one after another, the newest first, each at the least delay found so
+/// far, at first at one tick past the horizon.
+fn begun(alloc: Global, instance: &Instance, turns: u32) -> Result<Tree, Fail> {
     let mut tree = Tree {
         least: None,
         branches: Vec::new(alloc),
@@ -109,13 +126,18 @@ fn searched(alloc: Global, instance: &Instance) -> Result<Tree, Fail> {
     };
     let mut goal = instance.cluster().horizon.saturating_add(1);
     let mut left = vec![in alloc; Task::root(alloc, instance)?]?;
-    'turns: for _ in 0..10_000 {
+    'turns: for _ in 0..turns {
         match left.pop() {
             Some(task) => goal = turn(alloc, instance, task, goal, &mut left, &mut tree)?,
             None => break,
         }
     }
     Ok(tree)
+}
+
+/// The same of the whole tree.
+fn searched(alloc: Global, instance: &Instance) -> Result<Tree, Fail> {
+    begun(alloc, instance, 10_000)
 }
 
 #[test]
@@ -180,6 +202,24 @@ fn the_layout_makes_the_delay(rt: HostRuntime) -> Result<(), Fail> {
     assert_eq!(rt; searched(alloc, &in_time)?.least, Some(5));
     let late = short_receiver(alloc, &[0], 2)?;
     assert_eq!(rt; searched(alloc, &late)?.least, Some(8));
+    Ok(())
+}
+
+#[test]
+fn empty_halves_of_many_messages_are_ruled_out_before_the_layout(
+    rt: HostRuntime,
+) -> Result<(), Fail> {
+    let alloc = rt.alloc();
+    let many = begun(alloc, &many_messages(alloc, 20)?, 2)?;
+    assert_eq!(rt;
+        many.branches.as_slice(),
+        [Kind::Place, Kind::Round(0, 49)].as_slice()
+    );
+    let fewer = begun(alloc, &many_messages(alloc, 19)?, 2)?;
+    assert_eq!(rt;
+        fewer.branches.as_slice(),
+        [Kind::Place, Kind::Cap(0)].as_slice()
+    );
     Ok(())
 }
 

@@ -26,6 +26,19 @@ pub fn layout(instance: &Instance, choice: &Choice) -> Option<Kind>
     None
 }
 
+/// Whether nothing of the layout is chosen but the node that comes first.
+pub fn is_bare(instance: &Instance, choice: &Choice) -> bool
+    requires { IsChoice instance.now choice.now }
+{
+    let count = instance.nodes().len() as u32;
+    for n in 0..count {
+        if has_options(instance, n) && choice.fixed_cap(n).is_some() {
+            return false;
+        }
+    }
+    choice.prefix().len() < 2
+}
+
 /// Whether node `n` has several capacities to choose from.
 fn has_options(instance: &Instance, n: u32) -> bool {
     let nodes = instance.nodes();

@@ -1,10 +1,11 @@
 //! Where is a range of rounds cut?
 
-ghost use Rattle.std.specs.Prelude.{◌<◌, length};
+ghost use Rattle.std.specs.Prelude.{◌≡◌, ◌<◌, length};
 ghost use Rattle.tt_choice.specs.Choices.{IsChoice, lo_of, hi_of};
 ghost use Rattle.branch_tree.specs.Branching.{IsBranching};
 
 use tt_choice::Choice;
+use tt_infer::Facts;
 use ttp_model::{Instance, Kind};
 
 /// The branch that halves the range of a message.
@@ -18,4 +19,17 @@ pub fn halved(instance: &Instance, choice: &Choice, m: u32) -> Kind
     let lo = choice.lo(m);
     let cut = (choice.hi(m) - lo - 1) / 2;
     Kind::Round(m, lo + cut)
+}
+
+/// Whether a message is known to be sent in one of these halves.
+pub fn is_in_one_half(instance: &Instance, choice: &Choice, facts: &Facts, m: u32) -> bool
+    requires of { IsChoice instance.now choice.now }
+    requires facts { facts.now.instance ≡ instance.now }
+    requires message { m < length instance.now.messages }
+    requires open { lo_of choice.now m < hi_of choice.now m }
+{
+    let _messages = instance.messages();
+    let lo = choice.lo(m);
+    let cut = lo + (choice.hi(m) - lo - 1) / 2;
+    cut < facts.lo(m) || facts.top(m) <= cut
 }

@@ -1,0 +1,67 @@
+//! Which halves of ranges of rounds are empty from the start?
+
+ghost use Rattle.std.specs.Prelude.{◌≡◌, ◌<◌, length};
+ghost use Rattle.tt_choice.specs.Choices.{IsChoice};
+ghost use Rattle.branch_tree.specs.Branching.{MayBranch};
+
+use crate::branching::rounds::{halved, is_in_one_half};
+use tt_choice::Choice;
+use tt_infer::Facts;
+use ttp_model::{Instance, Kind};
+
+/// From how many messages on that may crowd a frame empty halves are ruled out at once. That costs
+/// some six branches for each, more than small trees save by it.
+const CROWD: usize = 20;
+
+/// The branch that rules out an empty half of a message's rounds, where many messages may crowd a
+/// frame. What is ruled out here needn't be ruled out in each subtree below.
+pub fn empty_half(instance: &Instance, choice: &Choice, facts: &Facts) -> Option<Kind>
+    requires of { IsChoice instance.now choice.now }
+    requires facts { facts.now.instance ≡ instance.now }
+    ensures { MayBranch instance.now choice.now result }
+{
+    let count = instance.messages().len() as u32;
+    let mut crowd = 0;
+    let mut first = None;
+    for m in 0..count {
+        if may_crowd(instance, choice, facts, m) {
+            crowd += 1;
+            if first.is_none() {
+                first = ruled_out(instance, choice, facts, m);
+            }
+        }
+    }
+    if crowd < CROWD { None } else { first }
+}
+
+/// The branch that rules out an empty half of one message's rounds, if there is one.
+fn ruled_out(instance: &Instance, choice: &Choice, facts: &Facts, m: u32) -> Option<Kind>
+    requires of { IsChoice instance.now choice.now }
+    requires facts { facts.now.instance ≡ instance.now }
+    requires message { m < length instance.now.messages }
+    ensures { MayBranch instance.now choice.now result }
+{
+    let _messages = instance.messages();
+    if choice.lo(m) < choice.hi(m) && is_in_one_half(instance, choice, facts, m) {
+        return Some(halved(instance, choice, m));
+    }
+    None
+}
+
+/// Whether a message could be in a frame that is too small for all that could be in it.
+fn may_crowd(instance: &Instance, choice: &Choice, facts: &Facts, m: u32) -> bool
+    requires of { IsChoice instance.now choice.now }
+    requires facts { facts.now.instance ≡ instance.now }
+    requires message { m < length instance.now.messages }
+{
+    let node = instance.source_of(m as usize);
+    let count = instance.messages().len();
+    let mut bytes = 0;
+    for k in 0..count {
+        let meets = facts.lo(k as u32) <= facts.top(m) && facts.lo(m) <= facts.top(k as u32);
+        if meets && instance.source_of(k) == node {
+            bytes += instance.message_at(k).bytes;
+        }
+    }
+    bytes > choice.cap_most(instance, node)
+}
