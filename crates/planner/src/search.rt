@@ -82,6 +82,7 @@ impl Search {
         ensures searching { IfOk result (λ s. IsSearching instance.now s.world s.tasks.items s.best) }
         ensures idle { IfOk result (λ s. IsIdle s.world) }
         ensures none { IfOk result (λ s. all_pieces s.world ≡ []) }
+        ensures known { IfOk result (λ s. s.best ≡ first) }
     {
         let world = World::start(alloc, 1, limit(instance, &first))?;
         let root = Task::root(alloc, instance)?;
