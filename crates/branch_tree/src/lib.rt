@@ -16,6 +16,3 @@ pub use piece::Piece;
 pub use task::Task;
 pub use worked::Worked;
 pub use working::{close_left, work};
-
-#[cfg(test)]
-mod tests;

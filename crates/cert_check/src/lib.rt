@@ -10,6 +10,3 @@ mod walk;
 pub use fault::{CertFault, NodeFault};
 pub use laws::{bounds_are_proved, plans_at_the_bound_are_least};
 pub use walk::check;
-
-#[cfg(test)]
-mod tests;

@@ -25,6 +25,3 @@ pub use node::Node;
 pub use printing::print;
 pub use reading::read;
 pub use ttp_model::MemoryFault;
-
-#[cfg(test)]
-mod tests;

@@ -117,6 +117,3 @@ fn rounds(alloc: Global, instance: &Instance, choice: &Choice) -> Result<Numbers
     }
     Ok(Numbers::new(rounds))
 }
-
-#[cfg(test)]
-mod complete_choices;

@@ -6,6 +6,3 @@ mod table;
 mod trying;
 
 pub use trying::least_delay;
-
-#[cfg(test)]
-mod tests;

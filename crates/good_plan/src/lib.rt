@@ -15,6 +15,3 @@ mod table;
 mod timetable;
 
 pub use finish::good_plan;
-
-#[cfg(test)]
-mod tests;

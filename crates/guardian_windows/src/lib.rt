@@ -9,6 +9,3 @@ pub use cycle::windows;
 pub use text::print;
 pub use ttp_model::MemoryFault;
 pub use window::Window;
-
-#[cfg(test)]
-mod tests;

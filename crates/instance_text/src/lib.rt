@@ -16,6 +16,3 @@ mod values;
 
 pub use error::{Key, Place, TextError};
 pub use text::read;
-
-#[cfg(test)]
-mod tests;

@@ -11,6 +11,3 @@ pub use laws::{
 };
 pub use number::{NumberWord, number_word, push_number};
 pub use parts::{after_keyword, cut};
-
-#[cfg(test)]
-mod tests;

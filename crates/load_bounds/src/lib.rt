@@ -6,6 +6,3 @@ mod excess;
 mod loads;
 
 pub use loads::{frame_load, node_load};
-
-#[cfg(test)]
-mod tests;

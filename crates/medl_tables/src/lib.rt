@@ -10,6 +10,3 @@ pub use medl::Medl;
 pub use row::{Entries, Entry, Row};
 pub use text::print;
 pub use ttp_model::MemoryFault;
-
-#[cfg(test)]
-mod tests;

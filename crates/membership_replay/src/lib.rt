@@ -17,6 +17,3 @@ pub use loss::Loss;
 pub use state::{NodeState, Phase, Step};
 pub use text::print;
 pub use trace::{Event, Events, Slot, Trace};
-
-#[cfg(test)]
-mod tests;

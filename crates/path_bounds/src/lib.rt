@@ -19,8 +19,6 @@ mod reached;
 mod reads;
 mod required;
 mod rings;
-#[cfg(test)]
-mod tests;
 mod trim;
 
 pub use chains::path_bound;

@@ -10,6 +10,3 @@ mod processes;
 pub use frames::load_of;
 pub use judge::check;
 pub use ttp_model::{PlanFault, PlanPart};
-
-#[cfg(test)]
-mod tests;

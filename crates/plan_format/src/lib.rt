@@ -13,6 +13,3 @@ pub use fault::{LineFault, PlanTextError};
 pub use laws::{spelling_is_of_one_plan, word_is_a_name_by_the_model};
 pub use printing::print;
 pub use reading::read;
-
-#[cfg(test)]
-mod tests;

@@ -17,10 +17,3 @@ pub use laws::{
 };
 pub use outcome::{Options, Outcome, SolveFault, Why};
 pub use solving::solve;
-
-#[cfg(test)]
-mod reference_tests;
-#[cfg(test)]
-mod search_tests;
-#[cfg(test)]
-mod tests;

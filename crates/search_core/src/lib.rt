@@ -18,6 +18,3 @@ pub use laws::{
 pub use reply::{Illegal, Reply};
 pub use worker::Worker;
 pub use world::World;
-
-#[cfg(test)]
-mod tests;

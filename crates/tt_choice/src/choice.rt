@@ -172,6 +172,3 @@ fn pairs_of_one_node(instance: &Instance) -> u32
     }
     pairs
 }
-
-#[cfg(test)]
-mod tests;

@@ -26,6 +26,3 @@ pub use worked::{
     one_message_closes_at_9, one_message_is_not_sent_late, silent_twins_stand_in_order,
     three_alike_close_at_6, three_alike_end_by_2_4_6,
 };
-
-#[cfg(test)]
-mod tests;

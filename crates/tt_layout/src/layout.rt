@@ -141,6 +141,3 @@ fn slots_before(c: &Cluster, order: &[u32], caps: &[u32], n: u32) -> u64
     }
     total
 }
-
-#[cfg(test)]
-mod tests;

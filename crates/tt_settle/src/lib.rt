@@ -15,6 +15,3 @@ pub use laws::{
     a_settled_plan_is_reached, moves_keep_the_delay, moves_lower_the_weight, weights_end,
 };
 pub use settling::settle;
-
-#[cfg(test)]
-mod tests;

@@ -55,6 +55,3 @@ fn try_moves(instance: &Instance, plan: Plan) -> (Plan, bool)
     let (plan, earlier) = passes::go_earlier(instance, plan);
     (plan, ordered | exchanged | earlier)
 }
-
-#[cfg(test)]
-mod tests;

@@ -16,8 +16,6 @@ mod plan;
 mod rules;
 mod slots;
 mod step;
-#[cfg(test)]
-mod tests;
 mod worked;
 
 pub use ends::{delay, end_of};

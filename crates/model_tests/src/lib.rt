@@ -1,0 +1,21 @@
+//! Tests of instances, of their texts, of plans, and of what is loaded into a cluster.
+#![tactic(auto)]
+
+#[cfg(test)]
+mod building;
+#[cfg(test)]
+mod instance_texts;
+#[cfg(test)]
+mod lines;
+#[cfg(test)]
+mod node_tables;
+#[cfg(test)]
+mod plan_texts;
+#[cfg(test)]
+mod plan_verdicts;
+#[cfg(test)]
+mod replays;
+#[cfg(test)]
+mod slot_times;
+#[cfg(test)]
+mod windows;

@@ -1,0 +1,17 @@
+//! Tests of good plans, of the core of a search, and of the search for the shortest plan.
+#![tactic(auto)]
+
+#[cfg(test)]
+mod core_events;
+#[cfg(test)]
+mod every_plan;
+#[cfg(test)]
+mod every_plan_tried;
+#[cfg(test)]
+mod gathering;
+#[cfg(test)]
+mod good_plans;
+#[cfg(test)]
+mod searches;
+#[cfg(test)]
+mod subtrees;
