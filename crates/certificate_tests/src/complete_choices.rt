@@ -1,189 +1,158 @@
 //! Complete choices of small instances: their earliest plans and their clashes.
 
-ghost use Rattle.std.specs.Prelude.{◌<◌, length, OnOk};
-ghost use Rattle.tt_choice.specs.Choices.{IsChoice};
-
-use super::earliest;
-use crate::answer::Earliest;
-use crate::clash::Clash;
+use crate::decisions::Decision::{AtLeast, AtMost, Before, Cap, Place};
+use crate::decisions::{Decision, chosen};
+use crate::instances::Small;
+use earliest_starts::{Clash, Earliest, earliest};
 use std::alloc::Global;
 use std::process::Abort;
 use std::test::Fail;
-use tt_choice::Choice;
-use ttp_model::{Instance, Kind};
-use worked_instances::{PLAIN, deadline, one_message, overfull, three_linked};
+use ttp_model::Numbers;
+use worked_instances::PLAIN;
 
-/// Puts node `n` next, with its one capacity.
-fn place<R: Abort>(
-    rt: &R,
+/// The answer for the choice of these decisions, which leave nothing open.
+fn answer(
+    rt: &impl Abort,
     alloc: Global,
-    i: &Instance,
-    choice: &mut Choice,
-    n: u32,
-) -> Result<(), Fail>
-    requires { IsChoice i.now choice.old }
-    ensures { OnOk result (IsChoice i.now choice.new) }
-{
-    assert!(rt; (n as usize) < i.nodes().len());
-    assert!(rt; !choice.prefix().contains(&n));
-    choice.place(alloc, i, n)?;
-    assert!(rt; choice.is_open(i, &Kind::Cap(n)));
-    assert!(rt; i.nodes()[n as usize].capacities.len() == 1);
-    choice.fix_cap(alloc, i, n, 0)?;
-    Ok(())
-}
-
-/// Lets process `p` go before `q`.
-fn order<R: Abort>(
-    rt: &R,
-    alloc: Global,
-    i: &Instance,
-    choice: &mut Choice,
-    p: u32,
-    q: u32,
-) -> Result<(), Fail>
-    requires { IsChoice i.now choice.old }
-    ensures { OnOk result (IsChoice i.now choice.new) }
-{
-    assert!(rt; choice.is_open(i, &Kind::Pair(p, q)));
-    choice.before(alloc, i, p, q)?;
-    Ok(())
-}
-
-/// Lets message `m` be sent in round `r`.
-fn send<R: Abort>(rt: &R, i: &Instance, choice: &mut Choice, m: u32, r: u32)
-    requires { IsChoice i.now choice.old }
-    ensures { IsChoice i.now choice.new }
-{
-    assert!(rt; (m as usize) < i.messages().len());
-    assert!(rt; choice.lo(m) <= r && r < choice.hi(m));
-    choice.rounds_at_most(m, r);
-    if choice.lo(m) < r && r <= choice.hi(m) {
-        choice.rounds_at_least(m, r);
-    }
+    small: Small,
+    decisions: &[Decision],
+) -> Result<Earliest, Fail> {
+    let i = small.build(alloc)?;
+    let choice = chosen(rt, alloc, &i, decisions)?;
+    assert!(rt; choice.is_complete(&i));
+    Ok(earliest(alloc, &i, &choice)?)
 }
 
 /// Checks that the answer is the plan of these starts and this delay.
-fn expect_plan<R: Abort>(rt: &R, answer: Earliest, starts: &[u32], ticks: u64) {
-    match answer {
+fn expect_plan(
+    rt: &impl Abort,
+    alloc: Global,
+    small: Small,
+    decisions: &[Decision],
+    starts: &[u32],
+    ticks: u64,
+) -> Result<(), Fail> {
+    match answer(rt, alloc, small, decisions)? {
         Earliest::Plan(plan, delay) => {
             assert_eq!(rt; plan.starts.as_slice(), starts);
             assert_eq!(rt; delay, ticks);
         }
-        Earliest::Clash(clash) => assert!(rt; false, "{clash:?}"),
+        Earliest::Clash(clash) => panic!(rt; "{clash:?}"),
+    }
+    Ok(())
+}
+
+/// Checks that the answer is this clash.
+fn expect_clash(
+    rt: &impl Abort,
+    alloc: Global,
+    small: Small,
+    decisions: &[Decision],
+    clash: Clash,
+) -> Result<(), Fail> {
+    assert_eq!(rt;
+        answer(rt, alloc, small, decisions)?,
+        Earliest::Clash(clash)
+    );
+    Ok(())
+}
+
+/// The processes of the cycle that is answered.
+fn ring_of(
+    rt: &impl Abort,
+    alloc: Global,
+    small: Small,
+    decisions: &[Decision],
+) -> Result<Numbers, Fail> {
+    match answer(rt, alloc, small, decisions)? {
+        Earliest::Clash(Clash::Cycle(ring)) => Ok(ring),
+        other => panic!(rt; "{other:?}"),
     }
 }
 
 #[test]
 fn a_receiver_starts_when_its_slot_has_ended(rt: HostRuntime) -> Result<(), Fail> {
-    let alloc = rt.alloc();
-    let i = one_message(alloc, PLAIN)?;
-    let mut choice = Choice::root(alloc, &i)?;
-    place(&rt, alloc, &i, &mut choice, 0)?;
-    place(&rt, alloc, &i, &mut choice, 1)?;
-    send(&rt, &i, &mut choice, 0, 1);
-    assert!(rt; choice.is_complete(&i));
-    expect_plan(&rt, earliest(alloc, &i, &choice)?, &[0, 7], 9);
-    Ok(())
+    let small = Small::OneMessage(PLAIN);
+    let decisions = [
+        Place(0),
+        Cap(0, 0),
+        Place(1),
+        Cap(1, 0),
+        AtMost(0, 1),
+        AtLeast(0, 1),
+    ];
+    expect_plan(&rt, rt.alloc(), small, &decisions, &[0, 7], 9)
 }
 
 #[test]
 fn a_message_misses_a_slot_that_begins_before_its_sender_ends(rt: HostRuntime) -> Result<(), Fail> {
-    let alloc = rt.alloc();
-    let i = one_message(alloc, PLAIN)?;
-    let mut choice = Choice::root(alloc, &i)?;
-    place(&rt, alloc, &i, &mut choice, 0)?;
-    place(&rt, alloc, &i, &mut choice, 1)?;
-    send(&rt, &i, &mut choice, 0, 0);
-    assert!(rt; choice.is_complete(&i));
-    assert_eq!(rt;
-        earliest(alloc, &i, &choice)?,
-        Earliest::Clash(Clash::Round(0))
-    );
-    Ok(())
+    let small = Small::OneMessage(PLAIN);
+    let decisions = [Place(0), Cap(0, 0), Place(1), Cap(1, 0), AtMost(0, 0)];
+    expect_clash(&rt, rt.alloc(), small, &decisions, Clash::Round(0))
 }
 
 #[test]
 fn two_messages_do_not_fit_into_one_frame(rt: HostRuntime) -> Result<(), Fail> {
-    let alloc = rt.alloc();
-    let i = overfull(alloc)?;
-    let mut choice = Choice::root(alloc, &i)?;
-    place(&rt, alloc, &i, &mut choice, 1)?;
-    place(&rt, alloc, &i, &mut choice, 0)?;
-    send(&rt, &i, &mut choice, 0, 0);
-    send(&rt, &i, &mut choice, 1, 0);
-    assert!(rt; choice.is_complete(&i));
-    assert_eq!(rt;
-        earliest(alloc, &i, &choice)?,
-        Earliest::Clash(Clash::Frame(0, 0))
-    );
-    Ok(())
+    let small = Small::Overfull;
+    let decisions = [
+        Place(1),
+        Cap(1, 0),
+        Place(0),
+        Cap(0, 0),
+        AtMost(0, 0),
+        AtMost(1, 0),
+    ];
+    expect_clash(&rt, rt.alloc(), small, &decisions, Clash::Frame(0, 0))
 }
 
 #[test]
 fn a_process_that_goes_second_ends_too_late(rt: HostRuntime) -> Result<(), Fail> {
-    let alloc = rt.alloc();
-    let i = deadline(alloc)?;
-    let mut first = Choice::root(alloc, &i)?;
-    place(&rt, alloc, &i, &mut first, 0)?;
-    order(&rt, alloc, &i, &mut first, 1, 0)?;
-    assert!(rt; first.is_complete(&i));
-    expect_plan(&rt, earliest(alloc, &i, &first)?, &[2, 0], 5);
-    let mut second = Choice::root(alloc, &i)?;
-    place(&rt, alloc, &i, &mut second, 0)?;
-    order(&rt, alloc, &i, &mut second, 0, 1)?;
-    assert!(rt; second.is_complete(&i));
-    assert_eq!(rt;
-        earliest(alloc, &i, &second)?,
-        Earliest::Clash(Clash::Window(1))
-    );
-    Ok(())
+    let small = Small::Deadline;
+    let first = [Place(0), Cap(0, 0), Before(1, 0)];
+    expect_plan(&rt, rt.alloc(), small, &first, &[2, 0], 5)?;
+    let second = [Place(0), Cap(0, 0), Before(0, 1)];
+    expect_clash(&rt, rt.alloc(), small, &second, Clash::Window(1))
 }
 
 #[test]
 fn processes_run_in_the_order_that_is_chosen(rt: HostRuntime) -> Result<(), Fail> {
-    let alloc = rt.alloc();
-    let i = three_linked(alloc)?;
-    let mut choice = Choice::root(alloc, &i)?;
-    place(&rt, alloc, &i, &mut choice, 0)?;
-    order(&rt, alloc, &i, &mut choice, 1, 0)?;
-    order(&rt, alloc, &i, &mut choice, 0, 2)?;
-    order(&rt, alloc, &i, &mut choice, 1, 2)?;
-    assert!(rt; choice.is_complete(&i));
-    expect_plan(&rt, earliest(alloc, &i, &choice)?, &[2, 0, 4], 6);
-    Ok(())
+    let small = Small::ThreeLinked;
+    let decisions = [
+        Place(0),
+        Cap(0, 0),
+        Before(1, 0),
+        Before(0, 2),
+        Before(1, 2),
+    ];
+    expect_plan(&rt, rt.alloc(), small, &decisions, &[2, 0, 4], 6)
 }
 
 #[test]
 fn processes_that_go_before_one_another_are_a_cycle(rt: HostRuntime) -> Result<(), Fail> {
-    let alloc = rt.alloc();
-    let i = three_linked(alloc)?;
-    let mut choice = Choice::root(alloc, &i)?;
-    place(&rt, alloc, &i, &mut choice, 0)?;
-    order(&rt, alloc, &i, &mut choice, 0, 2)?;
-    order(&rt, alloc, &i, &mut choice, 2, 1)?;
-    order(&rt, alloc, &i, &mut choice, 1, 0)?;
-    assert!(rt; choice.is_complete(&i));
-    match earliest(alloc, &i, &choice)? {
-        Earliest::Clash(Clash::Cycle(ring)) => assert_eq!(rt; ring.len(), 3),
-        other => assert!(rt; false, "{other:?}"),
-    }
+    let small = Small::ThreeLinked;
+    let decisions = [
+        Place(0),
+        Cap(0, 0),
+        Before(0, 2),
+        Before(2, 1),
+        Before(1, 0),
+    ];
+    let ring = ring_of(&rt, rt.alloc(), small, &decisions)?;
+    assert_eq!(rt; ring.len(), 3);
     Ok(())
 }
 
 #[test]
 fn a_link_that_is_turned_is_a_cycle(rt: HostRuntime) -> Result<(), Fail> {
-    let alloc = rt.alloc();
-    let i = three_linked(alloc)?;
-    let mut choice = Choice::root(alloc, &i)?;
-    place(&rt, alloc, &i, &mut choice, 0)?;
-    order(&rt, alloc, &i, &mut choice, 2, 0)?;
-    order(&rt, alloc, &i, &mut choice, 2, 1)?;
-    order(&rt, alloc, &i, &mut choice, 1, 0)?;
-    assert!(rt; choice.is_complete(&i));
-    match earliest(alloc, &i, &choice)? {
-        Earliest::Clash(Clash::Cycle(ring)) => assert_eq!(rt; ring.as_slice(), [0, 2].as_slice()),
-        other => assert!(rt; false, "{other:?}"),
-    }
+    let small = Small::ThreeLinked;
+    let decisions = [
+        Place(0),
+        Cap(0, 0),
+        Before(2, 0),
+        Before(2, 1),
+        Before(1, 0),
+    ];
+    let ring = ring_of(&rt, rt.alloc(), small, &decisions)?;
+    assert_eq!(rt; ring.as_slice(), [0, 2].as_slice());
     Ok(())
 }

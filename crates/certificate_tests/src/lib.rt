@@ -2,20 +2,24 @@
 #![tactic(auto)]
 
 #[cfg(test)]
+mod alike;
+#[cfg(test)]
 mod certificate_texts;
 #[cfg(test)]
 mod choices;
 #[cfg(test)]
 mod complete_choices;
 #[cfg(test)]
+mod decisions;
+#[cfg(test)]
 mod inference;
+#[cfg(test)]
+mod instances;
 #[cfg(test)]
 mod loads;
 #[cfg(test)]
 mod propagation;
 #[cfg(test)]
 mod settled_plans;
-#[cfg(test)]
-mod twins;
 #[cfg(test)]
 mod verdicts;

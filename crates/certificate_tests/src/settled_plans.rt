@@ -1,11 +1,13 @@
 //! Plans that settle, and plans that rest.
 
-use crate::settle;
+use crate::instances::Small;
 use plan_check::check;
 use std::alloc::Global;
+use std::process::Abort;
 use std::test::Fail;
-use ttp_model::{Cluster, Instance, ModelError, Plan};
-use worked_instances::{Draft, PLAIN, one_message, plan, three_alike};
+use tt_settle::settle;
+use ttp_model::{Cluster, Instance, Plan};
+use worked_instances::{PLAIN, plan};
 
 /// A million ticks as horizon, and all else as in the plain cluster.
 const LONG: Cluster = Cluster {
@@ -13,99 +15,120 @@ const LONG: Cluster = Cluster {
     ..PLAIN
 };
 
-/// Process p on node A sends a message to each of q and r on node B, and A's frames hold one.
-fn two_messages(alloc: Global) -> Result<Instance, ModelError> {
-    Draft::of(alloc, PLAIN)
-        .node("A", &[2])?
-        .node("B", &[0])?
-        .process("p", 0, 3)?
-        .process("q", 1, 2)?
-        .process("r", 1, 2)?
-        .message("m", 0, 1, 2)?
-        .message("second", 0, 2, 2)?
-        .build()
-}
+/// A plan's order, capacities, starts and rounds.
+type Lists<'a> = (&'a [u32], &'a [u32], &'a [u32], &'a [u32]);
 
-/// Two nodes that send nothing, beside one that sends, and a process on each.
-fn silent_nodes(alloc: Global) -> Result<Instance, ModelError> {
-    Draft::of(alloc, PLAIN)
-        .node("A", &[2])?
-        .node("B", &[0, 3])?
-        .node("C", &[0, 3])?
-        .process("p", 0, 3)?
-        .process("q", 1, 2)?
-        .message("m", 0, 1, 2)?
-        .build()
+/// The plan of these lists.
+fn plan_of(alloc: Global, lists: Lists) -> Result<Plan, Fail> {
+    let (order, caps, starts, rounds) = lists;
+    Ok(plan(alloc, order, caps, starts, rounds)?)
 }
 
 /// The plan that a valid one settles to.
-fn settled(alloc: Global, instance: &Instance, plan: Plan) -> Result<Plan, Fail> {
-    check(instance, &plan)?;
-    match settle(alloc, instance, plan) {
+fn settled(alloc: Global, i: &Instance, plan: Plan) -> Result<Plan, Fail> {
+    check(i, &plan)?;
+    match settle(alloc, i, plan) {
         Ok(settled) => Ok(settled),
         Err((_, fault)) => Err(fault)?,
     }
 }
 
+/// Checks that a valid plan settles to another one, or stays.
+fn expect(
+    rt: &impl Abort,
+    alloc: Global,
+    small: Small,
+    lists: Lists,
+    to: Lists,
+) -> Result<(), Fail> {
+    let i = small.build(alloc)?;
+    let settled = settled(alloc, &i, plan_of(alloc, lists)?)?;
+    assert_eq!(rt; settled, plan_of(alloc, to)?);
+    Ok(())
+}
+
+/// The delay of a valid plan.
+fn delay(alloc: Global, small: Small, lists: Lists) -> Result<u64, Fail> {
+    let i = small.build(alloc)?;
+    Ok(check(&i, &plan_of(alloc, lists)?)?)
+}
+
 #[test]
 fn three_alike_start_in_their_order(rt: HostRuntime) -> Result<(), Fail> {
-    let alloc = rt.alloc();
-    let instance = three_alike(alloc)?;
-    let turned = plan(alloc, &[0], &[0], &[4, 2, 0], &[])?;
-    let in_order = plan(alloc, &[0], &[0], &[0, 2, 4], &[])?;
-    assert_eq!(rt; settled(alloc, &instance, turned)?, in_order);
-    let late = plan(alloc, &[0], &[0], &[98, 40, 5], &[])?;
-    assert_eq!(rt; settled(alloc, &instance, late)?, in_order);
-    Ok(())
+    let small = Small::ThreeAlike;
+    let in_order: Lists = (&[0], &[0], &[0, 2, 4], &[]);
+    expect(
+        &rt,
+        rt.alloc(),
+        small,
+        (&[0], &[0], &[4, 2, 0], &[]),
+        in_order,
+    )?;
+    expect(
+        &rt,
+        rt.alloc(),
+        small,
+        (&[0], &[0], &[98, 40, 5], &[]),
+        in_order,
+    )
 }
 
 #[test]
 fn a_sender_starts_as_early_as_it_can(rt: HostRuntime) -> Result<(), Fail> {
-    let alloc = rt.alloc();
-    let instance = one_message(alloc, PLAIN)?;
-    let late = plan(alloc, &[0, 1], &[2, 0], &[1, 7], &[1])?;
-    let early = plan(alloc, &[0, 1], &[2, 0], &[0, 7], &[1])?;
-    assert_eq!(rt; settled(alloc, &instance, late)?, early);
-    Ok(())
+    let small = Small::OneMessage(PLAIN);
+    let late: Lists = (&[0, 1], &[2, 0], &[1, 7], &[1]);
+    expect(
+        &rt,
+        rt.alloc(),
+        small,
+        late,
+        (&[0, 1], &[2, 0], &[0, 7], &[1]),
+    )
 }
 
 #[test]
 fn a_plan_that_no_move_betters_stays(rt: HostRuntime) -> Result<(), Fail> {
-    let alloc = rt.alloc();
-    let instance = one_message(alloc, PLAIN)?;
-    let rests = plan(alloc, &[1, 0], &[2, 0], &[0, 8], &[1])?;
-    let same = plan(alloc, &[1, 0], &[2, 0], &[0, 8], &[1])?;
-    assert_eq!(rt; check(&instance, &rests)?, 10);
-    assert_eq!(rt; settled(alloc, &instance, rests)?, same);
-    Ok(())
+    let small = Small::OneMessage(PLAIN);
+    let rests: Lists = (&[1, 0], &[2, 0], &[0, 8], &[1]);
+    assert_eq!(rt; delay(rt.alloc(), small, rests)?, 10);
+    expect(&rt, rt.alloc(), small, rests, rests)
 }
 
 #[test]
 fn hundreds_of_thousands_of_ticks_are_passed_at_once(rt: HostRuntime) -> Result<(), Fail> {
-    let alloc = rt.alloc();
-    let instance = one_message(alloc, LONG)?;
-    let late = plan(alloc, &[0, 1], &[2, 0], &[400_000, 999_998], &[200_000])?;
-    let early = plan(alloc, &[0, 1], &[2, 0], &[0, 7], &[1])?;
-    assert_eq!(rt; settled(alloc, &instance, late)?, early);
-    Ok(())
+    let small = Small::OneMessage(LONG);
+    let late: Lists = (&[0, 1], &[2, 0], &[400_000, 999_998], &[200_000]);
+    expect(
+        &rt,
+        rt.alloc(),
+        small,
+        late,
+        (&[0, 1], &[2, 0], &[0, 7], &[1]),
+    )
 }
 
 #[test]
 fn a_message_goes_to_the_first_frame_with_room(rt: HostRuntime) -> Result<(), Fail> {
-    let alloc = rt.alloc();
-    let instance = two_messages(alloc)?;
-    let late = plan(alloc, &[0, 1], &[2, 0], &[9, 24, 40], &[5, 3])?;
-    let early = plan(alloc, &[0, 1], &[2, 0], &[0, 7, 11], &[1, 2])?;
-    assert_eq!(rt; settled(alloc, &instance, late)?, early);
-    Ok(())
+    let small = Small::TwoMessages;
+    let late: Lists = (&[0, 1], &[2, 0], &[9, 24, 40], &[5, 3]);
+    expect(
+        &rt,
+        rt.alloc(),
+        small,
+        late,
+        (&[0, 1], &[2, 0], &[0, 7, 11], &[1, 2]),
+    )
 }
 
 #[test]
 fn silent_twins_stand_in_their_order(rt: HostRuntime) -> Result<(), Fail> {
-    let alloc = rt.alloc();
-    let instance = silent_nodes(alloc)?;
-    let turned = plan(alloc, &[2, 1, 0], &[2, 0, 3], &[0, 13], &[0])?;
-    let in_order = plan(alloc, &[1, 2, 0], &[2, 3, 0], &[0, 8], &[0])?;
-    assert_eq!(rt; settled(alloc, &instance, turned)?, in_order);
-    Ok(())
+    let small = Small::SilentNodes;
+    let turned: Lists = (&[2, 1, 0], &[2, 0, 3], &[0, 13], &[0]);
+    expect(
+        &rt,
+        rt.alloc(),
+        small,
+        turned,
+        (&[1, 2, 0], &[2, 3, 0], &[0, 8], &[0]),
+    )
 }

@@ -1,89 +1,102 @@
-use crate::*;
+//! Which tables are an instance, and which rule do others break first?
+
 use std::alloc::{AllocError, Global};
+use std::process::Abort;
 use std::test::Fail;
+use ttp_model::{
+    Cluster, Instance, Link, MOST_TICKS, Message, ModelError, Name, Node, Numbers, Part, Place,
+    Process, is_name,
+};
+use worked_instances::PLAIN;
 
-fn name(alloc: Global, text: &str) -> Result<Name, AllocError> {
-    let text = String::from_str(alloc, text)?;
-    Ok(Name::new(text))
-}
-
-fn numbers(alloc: Global, items: &[u32]) -> Result<Numbers, AllocError> {
-    let items = Vec::from_slice(alloc, items)?;
-    Ok(Numbers::new(items))
-}
-
-fn node(alloc: Global, text: &str, capacities: &[u32]) -> Result<Node, AllocError> {
-    let name = name(alloc, text)?;
-    let capacities = numbers(alloc, capacities)?;
-    Ok(Node { name, capacities })
-}
-
-fn process(alloc: Global, text: &str, node: u32, wcet: u32) -> Result<Process, AllocError> {
-    let name = name(alloc, text)?;
-    Ok(Process {
-        name,
-        node,
-        wcet,
-        release: 0,
-        deadline: 1_000_000,
-    })
+/// The tables of an instance in few words.
+#[derive(Clone, Copy)]
+struct Tables<'a> {
+    cluster: Cluster,
+    /// Each node's name and capacities.
+    nodes: &'a [(&'a str, &'a [u32])],
+    /// Each process's name, node, time and deadline; it may start at once.
+    processes: &'a [(&'a str, u32, u32, u32)],
+    links: &'a [Link],
+    /// The name, receivers and bytes of each message of process 0.
+    messages: &'a [(&'a str, &'a [u32], u32)],
 }
 
 /// Two nodes, of which the first has a process that sends two bytes to the second's.
-#[derive(Drop)]
-struct Tables {
-    cluster: Cluster,
-    nodes: Vec<Node>,
-    processes: Vec<Process>,
-    links: Vec<Link>,
-    messages: Vec<Message>,
+const LAWFUL: Tables<'static> = Tables {
+    cluster: PLAIN,
+    nodes: &[("A", &[2]), ("B", &[0])],
+    processes: &[("p", 0, 3, MOST_TICKS), ("q", 1, 2, MOST_TICKS)],
+    links: &[],
+    messages: &[("m", &[1], 2)],
+};
+
+fn name(alloc: Global, text: &str) -> Result<Name, AllocError> {
+    Ok(Name::new(String::from_str(alloc, text)?))
 }
 
-impl Tables {
-    fn new(alloc: Global) -> Result<Self, AllocError> {
-        let cluster = Cluster {
-            precision: 0,
-            lead: 0,
-            trail: 0,
-            head: 1,
-            per_byte: 1,
-            copy_out: 0,
-            copy_in: 0,
-            horizon: 100,
-        };
-        let nodes = vec![in alloc; node(alloc, "A", &[2])?, node(alloc, "B", &[0])?]?;
-        let processes = vec![in alloc; process(alloc, "p", 0, 3)?, process(alloc, "q", 1, 2)?]?;
-        let message = Message {
-            name: name(alloc, "m")?,
-            sender: 0,
-            receivers: numbers(alloc, &[1])?,
-            bytes: 2,
-        };
-        let messages = vec![in alloc; message]?;
-        Ok(Tables {
-            cluster,
-            nodes,
-            processes,
-            links: Vec::new(alloc),
-            messages,
-        })
-    }
+fn numbers(alloc: Global, items: &[u32]) -> Result<Numbers, AllocError> {
+    Ok(Numbers::new(Vec::from_slice(alloc, items)?))
+}
 
-    fn build(self, alloc: Global) -> Result<Instance, ModelError> {
-        let Tables {
-            cluster,
-            nodes,
-            processes,
-            links,
-            messages,
-        } = self;
-        Instance::build(alloc, cluster, nodes, processes, links, messages)
+fn nodes(alloc: Global, rows: &[(&str, &[u32])]) -> Result<Vec<Node>, AllocError> {
+    let mut nodes = Vec::new(alloc);
+    for (text, capacities) in rows {
+        let name = name(alloc, text)?;
+        let capacities = numbers(alloc, capacities)?;
+        nodes.push(Node { name, capacities })?;
+    }
+    Ok(nodes)
+}
+
+fn processes(alloc: Global, rows: &[(&str, u32, u32, u32)]) -> Result<Vec<Process>, AllocError> {
+    let mut processes = Vec::new(alloc);
+    for (text, node, wcet, deadline) in rows {
+        processes.push(Process {
+            name: name(alloc, text)?,
+            node: *node,
+            wcet: *wcet,
+            release: 0,
+            deadline: *deadline,
+        })?;
+    }
+    Ok(processes)
+}
+
+fn messages(alloc: Global, rows: &[(&str, &[u32], u32)]) -> Result<Vec<Message>, AllocError> {
+    let mut messages = Vec::new(alloc);
+    for (text, receivers, bytes) in rows {
+        let name = name(alloc, text)?;
+        let receivers = numbers(alloc, receivers)?;
+        messages.push(Message {
+            name,
+            sender: 0,
+            receivers,
+            bytes: *bytes,
+        })?;
+    }
+    Ok(messages)
+}
+
+fn build(alloc: Global, tables: Tables) -> Result<Instance, ModelError> {
+    let nodes = nodes(alloc, tables.nodes)?;
+    let processes = processes(alloc, tables.processes)?;
+    let links = Vec::from_slice(alloc, tables.links)?;
+    let messages = messages(alloc, tables.messages)?;
+    Instance::build(alloc, tables.cluster, nodes, processes, links, messages)
+}
+
+/// Each of these tables breaks that rule first.
+fn break_first(rt: &impl Abort, alloc: Global, rows: &[(Tables, ModelError)]) {
+    for (tables, rule) in rows {
+        let refusal = build(alloc, *tables).err();
+        assert_eq!(rt; refusal.as_ref(), Some(rule));
     }
 }
 
 #[test]
 fn lawful_tables_are_an_instance_and_are_read_back(rt: HostRuntime) -> Result<(), Fail> {
-    let instance = Tables::new(rt.alloc())?.build(rt.alloc())?;
+    let instance = build(rt.alloc(), LAWFUL)?;
     assert_eq!(rt; instance.cluster().horizon, 100);
     assert_eq!(rt; instance.nodes().len(), 2);
     assert_eq!(rt; instance.processes().len(), 2);
@@ -93,153 +106,192 @@ fn lawful_tables_are_an_instance_and_are_read_back(rt: HostRuntime) -> Result<()
 }
 
 #[test]
-fn lists_are_judged_before_names(rt: HostRuntime) -> Result<(), Fail> {
-    let alloc = rt.alloc();
-    let mut tables = Tables::new(alloc)?;
-    tables.processes = Vec::new(alloc);
-    tables.nodes = vec![in alloc; node(alloc, "1", &[2])?]?;
-    let refusal = tables.build(alloc).err();
-    assert_eq!(rt; refusal, Some(ModelError::Length(Part::Processes)));
-
-    let mut tables = Tables::new(alloc)?;
-    for _ in 0..15 {
-        tables.nodes.push(node(alloc, "A", &[0])?)?;
-    }
-    let refusal = tables.build(alloc).err();
-    assert_eq!(rt; refusal, Some(ModelError::Length(Part::Nodes)), "17 nodes");
-
-    let mut tables = Tables::new(alloc)?;
-    let silent = Message {
-        name: name(alloc, "1")?,
-        sender: 0,
-        receivers: numbers(alloc, &[])?,
-        bytes: 0,
-    };
-    tables.messages.push(silent)?;
-    let refusal = tables.build(alloc).err();
-    assert_eq!(rt; refusal, Some(ModelError::NoReceiver(1)));
-    Ok(())
+fn lists_are_judged_before_names(rt: HostRuntime) {
+    let rows = &[
+        (
+            Tables {
+                nodes: &[("1", &[2])],
+                processes: &[],
+                ..LAWFUL
+            },
+            ModelError::Length(Part::Processes),
+        ),
+        (
+            Tables {
+                nodes: &[("A", [0].as_slice()); 17],
+                ..LAWFUL
+            },
+            ModelError::Length(Part::Nodes),
+        ),
+        (
+            Tables {
+                messages: &[("m", &[1], 2), ("1", &[], 0)],
+                ..LAWFUL
+            },
+            ModelError::NoReceiver(1),
+        ),
+    ];
+    break_first(&rt, rt.alloc(), rows);
 }
 
 #[test]
-fn names_are_formed_and_new_in_their_list(rt: HostRuntime) -> Result<(), Fail> {
-    let alloc = rt.alloc();
-    for (text, formed) in [("_9", true), ("9_", false), ("", false), ("a-b", false)] {
-        assert_eq!(rt; is_name(text.as_bytes()), formed, "of {text:?}");
+fn names_are_formed(rt: HostRuntime) {
+    for (text, formed) in &[("_9", true), ("9_", false), ("", false), ("a-b", false)] {
+        assert_eq!(rt; is_name(text.as_bytes()), *formed, "of {text:?}");
     }
     let long = [b'a'; 33];
     assert!(rt; is_name(&long[..32]) && !is_name(&long));
-
-    let mut tables = Tables::new(alloc)?;
-    tables.processes = vec![in alloc; process(alloc, "A", 0, 3)?, process(alloc, "A", 1, 2)?]?;
-    let refusal = tables.build(alloc).err();
-    assert_eq!(rt;
-        refusal,
-        Some(ModelError::NameRepeated(Place::AtProcess(1)))
-    );
-
-    let mut tables = Tables::new(alloc)?;
-    tables.processes = vec![in alloc; process(alloc, "p", 0, 3)?, process(alloc, "q.", 1, 2)?]?;
-    let refusal = tables.build(alloc).err();
-    assert_eq!(rt; refusal, Some(ModelError::NameForm(Place::AtProcess(1))));
-    Ok(())
 }
 
 #[test]
-fn indices_and_numbers_are_there_and_in_range(rt: HostRuntime) -> Result<(), Fail> {
-    let alloc = rt.alloc();
-    let mut tables = Tables::new(alloc)?;
-    tables.links.push(Link {
-        before: 0,
-        after: 2,
-    })?;
-    let refusal = tables.build(alloc).err();
-    assert_eq!(rt; refusal, Some(ModelError::NoSuchIndex(Place::AtLink(0))));
-
-    let mut tables = Tables::new(alloc)?;
-    tables.cluster.horizon = 4_294_967_295;
-    let refusal = tables.build(alloc).err();
-    assert_eq!(rt; refusal, Some(ModelError::OutOfRange(Place::AtCluster)));
-
-    let mut tables = Tables::new(alloc)?;
-    tables.processes = vec![in alloc; process(alloc, "p", 0, 0)?, process(alloc, "q", 1, 2)?]?;
-    let refusal = tables.build(alloc).err();
-    assert_eq!(rt; refusal, Some(ModelError::OutOfRange(Place::AtProcess(0))));
-
-    let mut tables = Tables::new(alloc)?;
-    tables.nodes = vec![in alloc; node(alloc, "A", &[2])?, node(alloc, "B", &[3, 3])?]?;
-    let refusal = tables.build(alloc).err();
-    assert_eq!(rt; refusal, Some(ModelError::Capacities(1)));
-    Ok(())
+fn names_are_formed_and_new_in_their_list(rt: HostRuntime) {
+    let rows = &[
+        (
+            Tables {
+                processes: &[("A", 0, 3, MOST_TICKS), ("A", 1, 2, MOST_TICKS)],
+                ..LAWFUL
+            },
+            ModelError::NameRepeated(Place::AtProcess(1)),
+        ),
+        (
+            Tables {
+                processes: &[("p", 0, 3, MOST_TICKS), ("q.", 1, 2, MOST_TICKS)],
+                ..LAWFUL
+            },
+            ModelError::NameForm(Place::AtProcess(1)),
+        ),
+    ];
+    break_first(&rt, rt.alloc(), rows);
 }
 
 #[test]
-fn the_bus_keeps_room_for_its_guardians(rt: HostRuntime) -> Result<(), Fail> {
-    let alloc = rt.alloc();
-    let mut tables = Tables::new(alloc)?;
-    tables.cluster.precision = 1;
-    tables.cluster.lead = 1;
-    tables.cluster.trail = 1;
-    assert_eq!(rt; tables.build(alloc).err(), Some(ModelError::ShortLead));
-
-    let mut tables = Tables::new(alloc)?;
-    tables.cluster.precision = 1;
-    tables.cluster.lead = 2;
-    assert_eq!(rt; tables.build(alloc).err(), Some(ModelError::ShortTrail));
-
-    let mut tables = Tables::new(alloc)?;
-    tables.processes = vec![in alloc; process(alloc, "p", 0, 3)?, process(alloc, "q", 0, 2)?]?;
-    let refusal = tables.build(alloc).err();
-    assert_eq!(rt; refusal, Some(ModelError::ReceiverOnSender(0)));
-    Ok(())
+fn indices_and_numbers_are_there_and_in_range(rt: HostRuntime) {
+    let rows = &[
+        (
+            Tables {
+                links: &[Link {
+                    before: 0,
+                    after: 2,
+                }],
+                ..LAWFUL
+            },
+            ModelError::NoSuchIndex(Place::AtLink(0)),
+        ),
+        (
+            Tables {
+                cluster: Cluster {
+                    horizon: 4_294_967_295,
+                    ..PLAIN
+                },
+                ..LAWFUL
+            },
+            ModelError::OutOfRange(Place::AtCluster),
+        ),
+        (
+            Tables {
+                processes: &[("p", 0, 0, MOST_TICKS), ("q", 1, 2, MOST_TICKS)],
+                ..LAWFUL
+            },
+            ModelError::OutOfRange(Place::AtProcess(0)),
+        ),
+        (
+            Tables {
+                nodes: &[("A", &[2]), ("B", &[3, 3])],
+                ..LAWFUL
+            },
+            ModelError::Capacities(1),
+        ),
+    ];
+    break_first(&rt, rt.alloc(), rows);
 }
 
 #[test]
-fn deadlines_and_links_can_be_kept(rt: HostRuntime) -> Result<(), Fail> {
-    let alloc = rt.alloc();
-    let mut tables = Tables::new(alloc)?;
-    let mut late = process(alloc, "q", 1, 2)?;
-    late.deadline = 1;
-    tables.processes = vec![in alloc; process(alloc, "p", 0, 3)?, late]?;
-    assert_eq!(rt; tables.build(alloc).err(), Some(ModelError::Deadline(1)));
+fn the_bus_keeps_room_for_its_guardians(rt: HostRuntime) {
+    let rows = &[
+        (
+            Tables {
+                cluster: Cluster {
+                    precision: 1,
+                    lead: 1,
+                    trail: 1,
+                    ..PLAIN
+                },
+                ..LAWFUL
+            },
+            ModelError::ShortLead,
+        ),
+        (
+            Tables {
+                cluster: Cluster {
+                    precision: 1,
+                    lead: 2,
+                    ..PLAIN
+                },
+                ..LAWFUL
+            },
+            ModelError::ShortTrail,
+        ),
+        (
+            Tables {
+                processes: &[("p", 0, 3, MOST_TICKS), ("q", 0, 2, MOST_TICKS)],
+                ..LAWFUL
+            },
+            ModelError::ReceiverOnSender(0),
+        ),
+    ];
+    break_first(&rt, rt.alloc(), rows);
+}
 
-    let mut tables = Tables::new(alloc)?;
-    tables.links.push(Link {
-        before: 0,
-        after: 1,
-    })?;
-    assert_eq!(rt; tables.build(alloc).err(), Some(ModelError::LinkAcross(0)));
-
-    let mut tables = Tables::new(alloc)?;
-    let twice = Message {
-        name: name(alloc, "twice")?,
-        sender: 0,
-        receivers: numbers(alloc, &[1, 1])?,
-        bytes: 1,
-    };
-    tables.messages.push(twice)?;
-    assert_eq!(rt;
-        tables.build(alloc).err(),
-        Some(ModelError::ReceiverTwice(1))
-    );
-    Ok(())
+#[test]
+fn deadlines_and_links_can_be_kept(rt: HostRuntime) {
+    let rows = &[
+        (
+            Tables {
+                processes: &[("p", 0, 3, MOST_TICKS), ("q", 1, 2, 1)],
+                ..LAWFUL
+            },
+            ModelError::Deadline(1),
+        ),
+        (
+            Tables {
+                links: &[Link {
+                    before: 0,
+                    after: 1,
+                }],
+                ..LAWFUL
+            },
+            ModelError::LinkAcross(0),
+        ),
+        (
+            Tables {
+                messages: &[("m", &[1], 2), ("twice", &[1, 1], 1)],
+                ..LAWFUL
+            },
+            ModelError::ReceiverTwice(1),
+        ),
+    ];
+    break_first(&rt, rt.alloc(), rows);
 }
 
 #[test]
 fn a_cycle_is_told_from_its_least_process_on(rt: HostRuntime) -> Result<(), Fail> {
-    let alloc = rt.alloc();
-    let mut tables = Tables::new(alloc)?;
-    tables.messages = Vec::new(alloc);
-    tables.processes = vec![in alloc; process(alloc, "p", 0, 3)?, process(alloc, "q", 0, 2)?]?;
-    tables.links.push(Link {
-        before: 0,
-        after: 1,
-    })?;
-    tables.links.push(Link {
-        before: 1,
-        after: 0,
-    })?;
-    let cycle = numbers(alloc, &[0, 1])?;
-    assert_eq!(rt; tables.build(alloc).err(), Some(ModelError::Cycle(cycle)));
+    let waiting = Tables {
+        processes: &[("p", 0, 3, MOST_TICKS), ("q", 0, 2, MOST_TICKS)],
+        links: &[
+            Link {
+                before: 0,
+                after: 1,
+            },
+            Link {
+                before: 1,
+                after: 0,
+            },
+        ],
+        messages: &[],
+        ..LAWFUL
+    };
+    let cycle = numbers(rt.alloc(), &[0, 1])?;
+    let refusal = build(rt.alloc(), waiting).err();
+    assert_eq!(rt; refusal, Some(ModelError::Cycle(cycle)));
     Ok(())
 }

@@ -1,11 +1,12 @@
-//! Worked texts: which instance, or which first fault, each states.
+//! Which instance, or which first fault, does a text state?
 
 mod faults;
 mod instances;
 mod refusals;
 mod tables;
 
-use crate::{Key, Place, TextError, read};
+use crate::outcomes::same;
+use instance_text::{TextError, read};
 use std::alloc::{AllocError, Global};
 use std::process::Abort;
 
@@ -40,20 +41,13 @@ to = [\"q\"]
 bytes = 2
 ";
 
+/// What stands at the end of the text.
+pub const LAST: &str = "bytes = 2\n";
+
 /// The text with one piece of it changed, where it stands first.
 pub fn changed(rt: &impl Abort, alloc: Global, old: &str, new: &str) -> Result<String, AllocError> {
     let (before, after) = TEXT.split_once(old).expect(rt, "a piece of the text");
     format!(in alloc; "{before}{new}{after}")
-}
-
-/// The text with a line at its front.
-pub fn fronted(alloc: Global, line: &str) -> Result<String, AllocError> {
-    format!(in alloc; "{line}\n{TEXT}")
-}
-
-/// The text with lines at its end.
-pub fn extended(alloc: Global, lines: &str) -> Result<String, AllocError> {
-    format!(in alloc; "{TEXT}{lines}")
 }
 
 /// The first fault of a text.
@@ -61,22 +55,16 @@ pub fn fault(alloc: Global, text: &str) -> Option<TextError> {
     read(alloc, text.as_bytes()).err()
 }
 
-pub fn missing(place: Place, key: Key) -> Option<TextError> {
-    Some(TextError::MissingKey { place, key })
-}
-
-pub fn wrong_kind(place: Place, key: Key) -> Option<TextError> {
-    Some(TextError::WrongKind { place, key })
-}
-
-pub fn out_of_range(place: Place, key: Key) -> Option<TextError> {
-    Some(TextError::OutOfRange { place, key })
-}
-
-pub fn unknown_name(place: Place, key: Key) -> Option<TextError> {
-    Some(TextError::UnknownName { place, key })
-}
-
-pub fn unknown_key(place: Place) -> Option<TextError> {
-    Some(TextError::UnknownKey { place })
+/// With one piece of it changed the text has this first fault.
+pub fn fails(
+    rt: &impl Abort,
+    alloc: Global,
+    old: &str,
+    new: &str,
+    wanted: &TextError,
+) -> Result<(), AllocError> {
+    let text = changed(rt, alloc, old, new)?;
+    let found = fault(alloc, text.as_str());
+    same(rt, new, found.as_ref(), Some(wanted));
+    Ok(())
 }

@@ -10,9 +10,13 @@ mod lines;
 #[cfg(test)]
 mod node_tables;
 #[cfg(test)]
+mod outcomes;
+#[cfg(test)]
 mod plan_texts;
 #[cfg(test)]
 mod plan_verdicts;
+#[cfg(test)]
+mod plans;
 #[cfg(test)]
 mod replays;
 #[cfg(test)]

@@ -1,11 +1,13 @@
-//! Tables of worked examples, and their text.
+//! Which tables do the nodes of worked plans have, and how are they written?
 
-use super::*;
-use plan_check::check;
+use crate::outcomes::same;
+use crate::plans::{Lists, tables};
+use medl_tables::{Entry, Row, print};
 use std::alloc::Global;
+use std::process::Abort;
 use std::test::Fail;
 use ttp_model::{Instance, ModelError};
-use worked_instances::{Draft, PLAIN, one_message, plan};
+use worked_instances::{Draft, PLAIN, one_message};
 
 /// Process p on node A sends 2 bytes to process q on node B and 3 bytes to process s on node C.
 fn two_receivers(alloc: Global) -> Result<Instance, ModelError> {
@@ -25,44 +27,50 @@ fn two_receivers(alloc: Global) -> Result<Instance, ModelError> {
 fn tables_are_written_node_by_node(rt: HostRuntime) -> Result<(), Fail> {
     let alloc = rt.alloc();
     let instance = one_message(alloc, PLAIN)?;
-    let plan = plan(alloc, &[0, 1], &[2, 0], &[0, 7], &[1])?;
-    assert_eq!(rt; check(&instance, &plan)?, 9);
-    let medl = Medl::of(alloc, &instance, &plan)?;
+    let lists: Lists = [&[0, 1], &[2, 0], &[0, 7], &[1]];
+    let medl = tables(&rt, alloc, &instance, lists, 9)?;
     let text = print(alloc, &instance, &medl)?;
     let lines = b"ttmedl 1\nrounds 3\n\
         node A\nrow 0 0 A 2\nrow 0 1 B 0\nrow 1 0 A 2 m:0\nrow 1 1 B 0\nrow 2 0 A 2\nrow 2 1 B 0\n\
         node B\nrow 0 0 A 2\nrow 0 1 B 0\nrow 1 0 A 2 m:0\nrow 1 1 B 0\nrow 2 0 A 2\nrow 2 1 B 0\n";
-    assert_eq!(rt; text.as_slice(), lines.as_slice());
+    same(&rt, "the text", text.as_slice(), lines.as_slice());
     Ok(())
+}
+
+/// The message m at the front of a frame.
+const M: Entry = Entry {
+    message: 0,
+    offset: 0,
+};
+
+/// The message n behind it.
+const N: Entry = Entry {
+    message: 1,
+    offset: 2,
+};
+
+/// What the nodes A, B and C are shown of that frame.
+const SHOWN: [&[Entry]; 3] = [&[M, N], &[M], &[N]];
+
+/// Of six rows the fourth is that frame's, and shows these entries.
+fn fourth_row_shows(rt: &impl Abort, rows: &[Row], shown: &[Entry]) {
+    assert!(rt; rows.len() == 6);
+    let row = &rows[3];
+    let slot = (row.round, row.position, row.sender, row.capacity);
+    same(rt, "the slot", slot, (1, 0, 0, 5));
+    same(rt, "the entries", row.messages.as_slice(), shown);
 }
 
 #[test]
 fn an_offset_counts_messages_that_the_table_does_not_show(rt: HostRuntime) -> Result<(), Fail> {
     let alloc = rt.alloc();
     let instance = two_receivers(alloc)?;
-    let plan = plan(alloc, &[0, 1, 2], &[5, 0, 0], &[0, 14, 14], &[1, 1])?;
-    assert_eq!(rt; check(&instance, &plan)?, 15);
-    let medl = Medl::of(alloc, &instance, &plan)?;
-    assert_eq!(rt; medl.rounds(), 2);
-    assert_eq!(rt; medl.nodes(), 3);
-    let m = Entry {
-        message: 0,
-        offset: 0,
-    };
-    let n = Entry {
-        message: 1,
-        offset: 2,
-    };
-    for (node, shown) in [
-        (0, [m, n].as_slice()),
-        (1, [m].as_slice()),
-        (2, [n].as_slice()),
-    ] {
-        let rows = medl.rows(node);
-        assert_eq!(rt; rows.len(), 6);
-        assert_eq!(rt; (rows[3].round, rows[3].position), (1, 0));
-        assert_eq!(rt; (rows[3].sender, rows[3].capacity), (0, 5));
-        assert_eq!(rt; rows[3].messages.as_slice(), shown, "at node {node}");
+    let lists: Lists = [&[0, 1, 2], &[5, 0, 0], &[0, 14, 14], &[1, 1]];
+    let medl = tables(&rt, alloc, &instance, lists, 15)?;
+    same(&rt, "the rounds", medl.rounds(), 2);
+    assert!(rt; medl.nodes() == 3);
+    for node in 0..3 {
+        fourth_row_shows(&rt, medl.rows(node), SHOWN[node as usize]);
     }
     Ok(())
 }

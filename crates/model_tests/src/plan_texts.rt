@@ -1,169 +1,95 @@
-ghost use Rattle.std.specs.Prelude.{◌≡◌, [], ◌∷◌, IfOk};
-ghost use Rattle.plan_format.specs.TwoNodes.{two_nodes, two_rounds};
+//! Which plan does a text spell, or what is wrong with it first?
 
-use super::*;
+use crate::outcomes::same;
+use crate::plans::{Lists, valid_plan};
+use plan_format::{LineFault, PlanTextError, print, read};
 use std::alloc::{AllocError, Global};
+use std::process::Abort;
 use std::test::Fail;
-use ttp_model::{Cluster, Instance, Message, ModelError, Name, Node, Numbers, Plan, Process};
+use ttp_model::{Instance, MemoryFault};
+use worked_instances::{PLAIN, one_message};
 
 /// A process p on A sends m to q on B, in two rounds of 4 ticks.
 const TEXT: &str =
     "ttplan 1\ndelay 9\norder A B\ncap A 2\ncap B 0\nstart p 0\nstart q 7\nround m 1\n";
 
-fn name(alloc: Global, text: &str) -> Result<Name, AllocError>
-    ensures { IfOk result (λ name. name ≡ text.now) }
-{
-    Ok(Name::new(String::from_str(alloc, text)?))
+/// This line of a text is at fault, and none before it.
+fn fails_at(
+    rt: &impl Abort,
+    alloc: Global,
+    instance: &Instance,
+    text: &[u8],
+    line: u32,
+    fault: LineFault,
+) {
+    let found = read(alloc, instance, text).err();
+    same(rt, text, found, Some(PlanTextError::At { line, fault }));
 }
 
-fn numbers(alloc: Global, numbers: &[u32]) -> Result<Numbers, AllocError>
-    ensures { IfOk result (λ list. list ≡ numbers.now) }
-{
-    let items = Vec::from_slice(alloc, numbers)?;
-    Ok(Numbers::new(items))
+/// The text is read as the plan with its delay.
+fn is_read(rt: &impl Abort, alloc: Global, instance: &Instance) -> Result<(), PlanTextError> {
+    let (plan, delay) = read(alloc, instance, TEXT.as_bytes())?;
+    let layout = (plan.order.as_slice(), plan.caps.as_slice());
+    same(rt, TEXT, layout, ([0, 1].as_slice(), [2, 0].as_slice()));
+    let times = (plan.starts.as_slice(), plan.rounds.as_slice());
+    same(rt, TEXT, times, ([0, 7].as_slice(), [1].as_slice()));
+    same(rt, TEXT, delay, 9);
+    Ok(())
 }
 
-fn process(alloc: Global, text: &str, node: u32, wcet: u32) -> Result<Process, AllocError>
-    ensures { IfOk result (λ p. p ≡ record {
-      name = text.now;
-      node = node;
-      wcet = wcet;
-      release = 0;
-      deadline = 1000000;
-    }) }
-{
-    Ok(Process {
-        name: name(alloc, text)?,
-        node,
-        wcet,
-        release: 0,
-        deadline: 1_000_000,
-    })
-}
-
-fn node(alloc: Global, text: &str, capacity: u32) -> Result<Node, AllocError>
-    ensures { IfOk result (λ n. n ≡ record { name = text.now; capacities = capacity ∷ [] }) }
-{
-    Ok(Node {
-        name: name(alloc, text)?,
-        capacities: numbers(alloc, &[capacity])?,
-    })
-}
-
-fn nodes(alloc: Global) -> Result<Vec<Node>, AllocError>
-    ensures { IfOk result (λ nodes. nodes.items ≡ two_nodes.nodes) }
-{
-    let mut nodes = Vec::new(alloc);
-    nodes.push(node(alloc, "A", 2)?)?;
-    nodes.push(node(alloc, "B", 0)?)?;
-    Ok(nodes)
-}
-
-fn processes(alloc: Global) -> Result<Vec<Process>, AllocError>
-    ensures { IfOk result (λ processes. processes.items ≡ two_nodes.processes) }
-{
-    let mut processes = Vec::new(alloc);
-    processes.push(process(alloc, "p", 0, 3)?)?;
-    processes.push(process(alloc, "q", 1, 2)?)?;
-    Ok(processes)
-}
-
-fn messages(alloc: Global) -> Result<Vec<Message>, AllocError>
-    ensures { IfOk result (λ messages. messages.items ≡ two_nodes.messages) }
-{
-    let mut messages = Vec::new(alloc);
-    messages.push(Message {
-        name: name(alloc, "m")?,
-        sender: 0,
-        receivers: numbers(alloc, &[1])?,
-        bytes: 2,
-    })?;
-    Ok(messages)
-}
-
-fn two_nodes(alloc: Global) -> Result<Instance, ModelError>
-    ensures { IfOk result (λ i. i ≡ two_nodes) }
-{
-    let cluster = Cluster {
-        precision: 0,
-        lead: 0,
-        trail: 0,
-        head: 1,
-        per_byte: 1,
-        copy_out: 0,
-        copy_in: 0,
-        horizon: 100,
-    };
-    let instance = Instance::build(
-        alloc,
-        cluster,
-        nodes(alloc)?,
-        processes(alloc)?,
-        Vec::new(alloc),
-        messages(alloc)?,
-    )?;
-    Ok(instance)
-}
-
-fn two_rounds(alloc: Global) -> Result<Plan, AllocError>
-    ensures { IfOk result (λ plan. plan ≡ two_rounds) }
-{
-    Ok(Plan {
-        order: numbers(alloc, &[0, 1])?,
-        caps: numbers(alloc, &[2, 0])?,
-        starts: numbers(alloc, &[0, 7])?,
-        rounds: numbers(alloc, &[1])?,
-    })
-}
-
-fn fault_of(alloc: Global, instance: &Instance, text: &[u8]) -> Option<PlanTextError> {
-    read(alloc, instance, text).err()
-}
-
-fn at(line: u32, fault: LineFault) -> Option<PlanTextError> {
-    Some(PlanTextError::At { line, fault })
+/// The plan is written as the text.
+fn is_written(rt: &impl Abort, alloc: Global, instance: &Instance) -> Result<(), MemoryFault> {
+    let lists: Lists = [&[0, 1], &[2, 0], &[0, 7], &[1]];
+    let plan = valid_plan(rt, alloc, instance, lists, 9)?;
+    let text = print(alloc, instance, &plan)?;
+    same(rt, TEXT, text.as_slice(), TEXT.as_bytes());
+    Ok(())
 }
 
 #[test]
 fn the_eight_lines_are_a_plan_and_its_delay(rt: HostRuntime) -> Result<(), Fail> {
-    let instance = two_nodes(rt.alloc())?;
-    let (plan, delay) = read(rt.alloc(), &instance, TEXT.as_bytes())?;
-    assert_eq!(rt; delay, 9);
-    assert_eq!(rt; plan.order.as_slice(), [0, 1].as_slice());
-    assert_eq!(rt; plan.caps.as_slice(), [2, 0].as_slice());
-    assert_eq!(rt; plan.starts.as_slice(), [0, 7].as_slice());
-    assert_eq!(rt; plan.rounds.as_slice(), [1].as_slice());
+    let instance = one_message(rt.alloc(), PLAIN)?;
+    is_read(&rt, rt.alloc(), &instance)?;
+    is_written(&rt, rt.alloc(), &instance)?;
     Ok(())
 }
 
+/// Run with each allocation refused in turn: the answer is the same, or that memory is refused.
 #[test]
-#[tactic(auto, using(crate::proofs::TwoNodes::valid_by))]
-fn the_plan_is_written_as_the_eight_lines(rt: HostRuntime) -> Result<(), Fail> {
-    let instance = two_nodes(rt.alloc())?;
-    let plan = two_rounds(rt.alloc())?;
-    let text = print(rt.alloc(), &instance, &plan)?;
-    assert_eq!(rt; text.as_slice(), TEXT.as_bytes());
-    Ok(())
+fn a_refusal_of_memory_changes_no_answer(rt: HostRuntime) {
+    let Ok(instance) = one_message(rt.alloc(), PLAIN) else {
+        return;
+    };
+    if let Err(error) = is_read(&rt, rt.alloc(), &instance) {
+        same(&rt, TEXT, error, PlanTextError::OutOfMemory);
+    }
+    let _ = is_written(&rt, rt.alloc(), &instance);
 }
 
 #[test]
 fn each_proper_prefix_ends_early_in_its_last_line(rt: HostRuntime) -> Result<(), Fail> {
-    let instance = two_nodes(rt.alloc())?;
+    let instance = one_message(rt.alloc(), PLAIN)?;
     let text = TEXT.as_bytes();
-    assert_eq!(rt; text.len(), 73);
+    assert!(rt; text.len() == 73);
     for len in 0..73 {
         let prefix = &text[..len];
         let line = prefix.iter().filter(|byte| **byte == b'\n').count() as u32;
-        let fault = fault_of(rt.alloc(), &instance, prefix);
-        assert_eq!(rt; fault, at(line + 1, LineFault::EarlyEnd), "{len} bytes");
+        fails_at(
+            &rt,
+            rt.alloc(),
+            &instance,
+            prefix,
+            line + 1,
+            LineFault::EarlyEnd,
+        );
     }
     Ok(())
 }
 
 #[test]
 fn a_changed_line_is_refused_with_its_number(rt: HostRuntime) -> Result<(), Fail> {
-    let instance = two_nodes(rt.alloc())?;
-    let rows = [
+    let instance = one_message(rt.alloc(), PLAIN)?;
+    let rows = &[
         ("ttplan 1", "ttplan 2", 1, LineFault::Form),
         ("ttplan 1", "ttplan 4294967296", 1, LineFault::Form),
         ("delay 9", "delay", 2, LineFault::Form),
@@ -189,67 +115,43 @@ fn a_changed_line_is_refused_with_its_number(rt: HostRuntime) -> Result<(), Fail
         ("start q 7", "start q +7", 7, LineFault::Form),
         ("round m 1", "round m 1 1", 8, LineFault::Form),
         ("round m 1", "start m 1", 8, LineFault::Form),
+        ("round m 1\n", "round m 1\n\n", 9, LineFault::Trailing),
+        ("round m 1\n", "round m 1\nx", 9, LineFault::Trailing),
+        (
+            "round m 1\n",
+            "round m 1\nround m 1\n",
+            9,
+            LineFault::Trailing,
+        ),
     ];
     for (old, new, line, fault) in rows {
         let text = TEXT.replace(rt.alloc(), old, new)?;
-        let found = fault_of(rt.alloc(), &instance, text.as_bytes());
-        assert_eq!(rt; found, at(line, fault), "{new}");
+        fails_at(&rt, rt.alloc(), &instance, text.as_bytes(), *line, *fault);
     }
     Ok(())
 }
 
-#[test]
-fn bytes_behind_the_last_line_are_refused(rt: HostRuntime) -> Result<(), Fail> {
-    let instance = two_nodes(rt.alloc())?;
-    for more in ["\n", "x", "round m 1\n"] {
-        let text = format!(in rt.alloc(); "{TEXT}{more}")?;
-        let fault = fault_of(rt.alloc(), &instance, text.as_bytes());
-        assert_eq!(rt; fault, at(9, LineFault::Trailing));
+/// Asks for an order line of 30,000 times A and these last words.
+fn long_order(alloc: Global, last: &[u8]) -> Result<Vec<u8>, AllocError> {
+    let mut text = Vec::from_slice(alloc, b"ttplan 1\ndelay 9\norder")?;
+    for _ in 0..30_000 {
+        text.extend_from_slice(b" A")?;
     }
-    Ok(())
+    text.extend_from_slice(last)?;
+    Ok(text)
 }
 
 #[test]
 fn a_long_order_line_is_judged_in_one_pass(rt: HostRuntime) -> Result<(), Fail> {
-    let instance = two_nodes(rt.alloc())?;
-    let rows = [
-        ("", LineFault::Order),
-        (" C", LineFault::Name),
-        (" 1", LineFault::Form),
+    let instance = one_message(rt.alloc(), PLAIN)?;
+    let rows = &[
+        ("\n", LineFault::Order),
+        (" C\n", LineFault::Name),
+        (" 1\n", LineFault::Form),
     ];
     for (last, fault) in rows {
-        let mut text = Vec::from_slice(rt.alloc(), b"ttplan 1\ndelay 9\norder")?;
-        for _ in 0..30_000 {
-            text.extend_from_slice(b" A")?;
-        }
-        text.extend_from_slice(last.as_bytes())?;
-        text.push(b'\n')?;
-        assert_eq!(rt;
-            fault_of(rt.alloc(), &instance, text.as_slice()),
-            at(3, fault)
-        );
+        let text = long_order(rt.alloc(), last.as_bytes())?;
+        fails_at(&rt, rt.alloc(), &instance, text.as_slice(), 3, *fault);
     }
     Ok(())
-}
-
-/// Run with each allocation refused in turn: the answer is the same, or that memory is refused.
-#[test]
-#[tactic(auto, using(crate::proofs::TwoNodes::valid_by))]
-fn a_refusal_of_memory_changes_no_answer(rt: HostRuntime) {
-    let Ok(instance) = two_nodes(rt.alloc()) else {
-        return;
-    };
-    match read(rt.alloc(), &instance, TEXT.as_bytes()) {
-        Ok((plan, delay)) => {
-            assert_eq!(rt; delay, 9);
-            assert_eq!(rt; plan.starts.as_slice(), [0, 7].as_slice());
-        }
-        Err(error) => assert_eq!(rt; error, PlanTextError::OutOfMemory),
-    }
-    let Ok(plan) = two_rounds(rt.alloc()) else {
-        return;
-    };
-    if let Ok(text) = print(rt.alloc(), &instance, &plan) {
-        assert_eq!(rt; text.as_slice(), TEXT.as_bytes());
-    }
 }

@@ -1,9 +1,37 @@
 //! Worked events, and a hundred thousand of them by a hostile generator.
 
-use super::*;
-use std::alloc::Global;
+use search_core::{Event, Hand, Illegal, Reply, Worked, World};
+use std::alloc::{AllocError, Global};
+use std::process::Abort;
 use std::test::Fail;
 use ttp_model::{Kind, Leaf, Steps};
+
+/// An event of a worker, the first number. Its leaves have no steps.
+#[derive(Clone, Copy)]
+enum Act {
+    Pop(u32),
+    /// From this other worker.
+    Steal(u32, u32),
+    Look(u32),
+    /// Into so many children.
+    Split(u32, Kind, u32),
+    /// At this goal.
+    Closed(u32, u32),
+    /// At this goal, with this delay.
+    Found(u32, u32, u32),
+    Push(u32),
+    Offer(u32),
+    Rest(u32),
+}
+
+/// What an event comes to.
+#[derive(Clone, Copy)]
+enum Effect {
+    Name(&'static [u32]),
+    Best(u32),
+    Done,
+    Refused(Illegal),
+}
 
 /// A leaf without steps.
 fn leaf(alloc: Global, goal: u32) -> Leaf {
@@ -13,145 +41,147 @@ fn leaf(alloc: Global, goal: u32) -> Leaf {
     }
 }
 
-/// Does a reply give this name?
-fn gives(reply: &Reply, indices: &[u32]) -> bool {
-    match reply {
-        Reply::Name(name) => name.as_slice() == indices,
-        _ => false,
+impl Act {
+    fn event(self, alloc: Global) -> Event {
+        match self {
+            Act::Pop(worker) => Event::Pop(worker),
+            Act::Steal(worker, other) => Event::Steal(worker, other),
+            Act::Look(worker) => Event::Look(worker),
+            Act::Split(worker, kind, count) => Event::Work(worker, Worked::Split(kind, count)),
+            Act::Closed(worker, goal) => Event::Work(worker, Worked::Closed(leaf(alloc, goal))),
+            Act::Found(worker, goal, delay) => {
+                Event::Work(worker, Worked::Found(leaf(alloc, goal), delay))
+            }
+            Act::Push(worker) => Event::Push(worker),
+            Act::Offer(worker) => Event::Offer(worker),
+            Act::Rest(worker) => Event::Rest(worker),
+        }
     }
 }
 
-/// Is a reply this best delay?
-fn is_best(reply: &Reply, delay: u32) -> bool {
-    matches!(reply, Reply::Best(best) if *best == delay)
-}
-
-/// Why is an event refused?
-fn refusal(alloc: Global, world: &mut World, event: Event) -> Option<Illegal> {
-    match world.step(alloc, event) {
-        Ok(_) => None,
-        Err(fault) => Some(fault),
+impl Effect {
+    /// Whether an event came to this.
+    fn is_of(self, reply: &Result<Reply, Illegal>) -> bool {
+        match (self, reply) {
+            (Effect::Name(indices), Ok(Reply::Name(name))) => name.as_slice() == indices,
+            (Effect::Best(delay), Ok(Reply::Best(best))) => *best == delay,
+            (Effect::Done, Ok(Reply::Done)) => true,
+            (Effect::Refused(cause), Err(fault)) => *fault == cause,
+            _ => false,
+        }
     }
 }
 
-/// A world of two workers: the first has the root in hand.
-fn with_root(alloc: Global) -> Result<World, Fail> {
-    let mut world = World::start(alloc, 2, 101)?;
-    let _ = world.step(alloc, Event::Pop(0))?;
-    Ok(world)
+/// Does a script's events one after another, each of which has to come to what stands beside it.
+fn play(rt: &impl Abort, alloc: Global, world: &mut World, script: &[(Act, Effect)]) {
+    for (index, (act, effect)) in script.iter().enumerate() {
+        let reply = world.step(alloc, act.event(alloc));
+        assert!(rt; effect.is_of(&reply), "event {index}: {reply:?}");
+    }
 }
 
 #[test]
 fn a_stolen_root_is_split_and_shared(rt: HostRuntime) -> Result<(), Fail> {
-    let alloc = rt.alloc();
-    let mut world = World::start(alloc, 2, 101)?;
-    assert!(rt; gives(&world.step(alloc, Event::Steal(1, 0))?, &[]));
-    assert!(rt; is_best(&world.step(alloc, Event::Look(1))?, 101));
-    let split = Worked::Split(Kind::Place, 2);
-    let _ = world.step(alloc, Event::Work(1, split))?;
-    let _ = world.step(alloc, Event::Push(1))?;
-    let _ = world.step(alloc, Event::Push(1))?;
-    assert!(rt; gives(&world.step(alloc, Event::Steal(0, 1))?, &[0]));
-    assert!(rt; gives(&world.step(alloc, Event::Pop(1))?, &[1]));
-    assert_eq!(rt;
-        refusal(alloc, &mut world, Event::Pop(1)),
-        Some(Illegal::WrongHand)
-    );
-    assert!(rt; is_best(&world.step(alloc, Event::Look(1))?, 101));
+    let mut world = World::start(rt.alloc(), 2, 101)?;
+    let script = [
+        (Act::Steal(1, 0), Effect::Name(&[])),
+        (Act::Look(1), Effect::Best(101)),
+        (Act::Split(1, Kind::Place, 2), Effect::Done),
+        (Act::Push(1), Effect::Done),
+        (Act::Push(1), Effect::Done),
+        (Act::Steal(0, 1), Effect::Name(&[0])),
+        (Act::Pop(1), Effect::Name(&[1])),
+        (Act::Pop(1), Effect::Refused(Illegal::WrongHand)),
+        (Act::Look(1), Effect::Best(101)),
+    ];
+    play(&rt, rt.alloc(), &mut world, &script);
     Ok(())
 }
 
 #[test]
 fn workers_that_are_not_there_are_refused(rt: HostRuntime) -> Result<(), Fail> {
-    let alloc = rt.alloc();
-    let mut world = World::start(alloc, 2, 101)?;
-    for event in [
-        Event::Pop(2),
-        Event::Steal(2, 0),
-        Event::Steal(1, 2),
-        Event::Steal(0, 0),
-        Event::Look(2),
-        Event::Work(2, Worked::Split(Kind::Place, 0)),
-        Event::Push(2),
-        Event::Offer(2),
-        Event::Rest(4_294_967_295),
-    ] {
-        assert_eq!(rt;
-            refusal(alloc, &mut world, event),
-            Some(Illegal::NoSuchWorker)
-        );
-    }
-    assert!(rt; gives(&world.step(alloc, Event::Pop(0))?, &[]));
+    let mut world = World::start(rt.alloc(), 2, 101)?;
+    let refused = Effect::Refused(Illegal::NoSuchWorker);
+    let script = [
+        (Act::Pop(2), refused),
+        (Act::Steal(2, 0), refused),
+        (Act::Steal(1, 2), refused),
+        (Act::Steal(0, 0), refused),
+        (Act::Look(2), refused),
+        (Act::Split(2, Kind::Place, 0), refused),
+        (Act::Push(2), refused),
+        (Act::Offer(2), refused),
+        (Act::Rest(4_294_967_295), refused),
+        (Act::Pop(0), Effect::Name(&[])),
+    ];
+    play(&rt, rt.alloc(), &mut world, &script);
     Ok(())
 }
 
 #[test]
 fn wrong_hands_and_empty_deques_are_refused(rt: HostRuntime) -> Result<(), Fail> {
-    let alloc = rt.alloc();
-    let mut world = with_root(alloc)?;
-    for event in [
-        Event::Pop(0),
-        Event::Steal(0, 1),
-        Event::Look(1),
-        Event::Work(1, Worked::Split(Kind::Place, 0)),
-        Event::Push(0),
-        Event::Push(1),
-        Event::Offer(0),
-        Event::Offer(1),
-        Event::Rest(1),
-    ] {
-        assert_eq!(rt; refusal(alloc, &mut world, event), Some(Illegal::WrongHand));
-    }
-    for event in [Event::Pop(1), Event::Steal(1, 0)] {
-        assert_eq!(rt;
-            refusal(alloc, &mut world, event),
-            Some(Illegal::EmptyDeque)
-        );
-    }
-    let _ = world.step(alloc, Event::Look(0))?;
+    let mut world = World::start(rt.alloc(), 2, 101)?;
+    let refused = Effect::Refused(Illegal::WrongHand);
+    let script = [
+        (Act::Pop(0), Effect::Name(&[])),
+        (Act::Pop(0), refused),
+        (Act::Steal(0, 1), refused),
+        (Act::Look(1), refused),
+        (Act::Split(1, Kind::Place, 0), refused),
+        (Act::Push(0), refused),
+        (Act::Push(1), refused),
+        (Act::Offer(0), refused),
+        (Act::Offer(1), refused),
+        (Act::Rest(1), refused),
+        (Act::Pop(1), Effect::Refused(Illegal::EmptyDeque)),
+        (Act::Steal(1, 0), Effect::Refused(Illegal::EmptyDeque)),
+        (Act::Look(0), Effect::Best(101)),
+    ];
+    play(&rt, rt.alloc(), &mut world, &script);
     Ok(())
 }
 
 #[test]
 fn counts_and_goals_that_do_not_fit_are_refused(rt: HostRuntime) -> Result<(), Fail> {
-    let alloc = rt.alloc();
-    let mut world = with_root(alloc)?;
-    for worked in [
-        Worked::Split(Kind::Place, 0),
-        Worked::Split(Kind::Cap(0), 0),
-        Worked::Split(Kind::Pair(0, 1), 3),
-        Worked::Split(Kind::Round(0, 1), 1),
-        Worked::Closed(leaf(alloc, 100)),
-        Worked::Closed(leaf(alloc, 102)),
-        Worked::Found(leaf(alloc, 101), 9),
-        Worked::Found(leaf(alloc, 9), 10),
-    ] {
-        assert_eq!(rt;
-            refusal(alloc, &mut world, Event::Work(0, worked)),
-            Some(Illegal::Misfit)
-        );
-    }
-    let found = Worked::Found(leaf(alloc, 9), 9);
-    let _ = world.step(alloc, Event::Work(0, found))?;
-    assert!(rt; is_best(&world.step(alloc, Event::Offer(0))?, 9));
+    let mut world = World::start(rt.alloc(), 2, 101)?;
+    let refused = Effect::Refused(Illegal::Misfit);
+    let script = [
+        (Act::Pop(0), Effect::Name(&[])),
+        (Act::Split(0, Kind::Place, 0), refused),
+        (Act::Split(0, Kind::Cap(0), 0), refused),
+        (Act::Split(0, Kind::Pair(0, 1), 3), refused),
+        (Act::Split(0, Kind::Round(0, 1), 1), refused),
+        (Act::Closed(0, 100), refused),
+        (Act::Closed(0, 102), refused),
+        (Act::Found(0, 101, 9), refused),
+        (Act::Found(0, 9, 10), refused),
+        (Act::Found(0, 9, 9), Effect::Done),
+        (Act::Offer(0), Effect::Best(9)),
+    ];
+    play(&rt, rt.alloc(), &mut world, &script);
     Ok(())
+}
+
+/// The events of these acts.
+fn events(alloc: Global, acts: &[Act]) -> Result<Vec<Event>, AllocError> {
+    let mut events = Vec::new(alloc);
+    for act in acts {
+        events.push(act.event(alloc))?;
+    }
+    Ok(events)
 }
 
 #[test]
 fn a_run_stops_at_the_first_refusal(rt: HostRuntime) -> Result<(), Fail> {
-    let alloc = rt.alloc();
-    let mut world = World::start(alloc, 1, 101)?;
-    let events = vec![in alloc; Event::Pop(0), Event::Push(0), Event::Rest(0)]?;
-    match world.run(alloc, events) {
-        Ok(()) => assert!(rt; false),
-        Err(fault) => assert_eq!(rt; fault, Illegal::WrongHand),
-    }
-    let _ = world.step(alloc, Event::Look(0))?;
-    let _ = world.step(alloc, Event::Rest(0))?;
-    assert_eq!(rt;
-        refusal(alloc, &mut world, Event::Rest(0)),
-        Some(Illegal::WrongHand)
-    );
+    let mut world = World::start(rt.alloc(), 1, 101)?;
+    let events = events(rt.alloc(), &[Act::Pop(0), Act::Push(0), Act::Rest(0)])?;
+    assert_eq!(rt; world.run(rt.alloc(), events), Err(Illegal::WrongHand));
+    let script = [
+        (Act::Look(0), Effect::Best(101)),
+        (Act::Rest(0), Effect::Done),
+        (Act::Rest(0), Effect::Refused(Illegal::WrongHand)),
+    ];
+    play(&rt, rt.alloc(), &mut world, &script);
     Ok(())
 }
 
@@ -163,33 +193,38 @@ fn next(number: u64) -> u64 {
 }
 
 /// Work of some kind, often with a wrong count or goal.
-fn some_work(alloc: Global, number: u64, seen: u32) -> Worked {
+fn some_work(worker: u32, number: u64, seen: u32) -> Act {
     let count = ((number >> 20) % 5) as u32;
     match (number >> 40) % 8 {
-        0 | 1 | 2 => Worked::Split(Kind::Place, count),
-        3 => Worked::Split(Kind::Cap(0), count),
-        4 => Worked::Split(Kind::Pair(0, 1), count),
-        5 => Worked::Found(leaf(alloc, count), count),
-        6 => Worked::Found(
-            leaf(alloc, seen.saturating_sub(1)),
-            seen.saturating_sub(count),
-        ),
-        _ => Worked::Closed(leaf(alloc, seen)),
+        0 | 1 | 2 => Act::Split(worker, Kind::Place, count),
+        3 => Act::Split(worker, Kind::Cap(0), count),
+        4 => Act::Split(worker, Kind::Pair(0, 1), count),
+        5 => Act::Found(worker, count, count),
+        6 => Act::Found(worker, seen.saturating_sub(1), seen.saturating_sub(count)),
+        _ => Act::Closed(worker, seen),
     }
 }
 
 /// An event, often of a worker that isn't there or with a wrong hand.
-fn some_event(alloc: Global, number: u64, seen: u32) -> Event {
+fn some_act(number: u64, seen: u32) -> Act {
     let worker = ((number >> 33) % 5) as u32;
     match (number >> 50) % 8 {
-        0 => Event::Pop(worker),
-        1 => Event::Steal(worker, ((number >> 37) % 5) as u32),
-        2 => Event::Look(worker),
-        3 => Event::Work(worker, some_work(alloc, number, seen)),
-        4 | 5 => Event::Push(worker),
-        6 => Event::Offer(worker),
-        _ if number % 64 == 0 => Event::Rest(worker),
-        _ => Event::Push(worker),
+        0 => Act::Pop(worker),
+        1 => Act::Steal(worker, ((number >> 37) % 5) as u32),
+        2 => Act::Look(worker),
+        3 => some_work(worker, number, seen),
+        4 | 5 => Act::Push(worker),
+        6 => Act::Offer(worker),
+        _ if number % 64 == 0 => Act::Rest(worker),
+        _ => Act::Push(worker),
+    }
+}
+
+/// What the first worker saw last.
+fn first_seen(world: &World) -> u32 {
+    match world.workers().first() {
+        Some(worker) => worker.seen(),
+        None => 0,
     }
 }
 
@@ -224,23 +259,18 @@ fn hostile_events_leave_a_tree(rt: HostRuntime) -> Result<(), Fail> {
     let mut world = World::start(alloc, 4, 1_000_000)?;
     let mut number: u64 = 2026;
     let mut done: u32 = 0;
-    for count in 0..100_000u32 {
+    for count in 1..=100_000u32 {
         number = next(number);
-        let seen = match world.workers().first() {
-            Some(worker) => worker.seen(),
-            None => 0,
-        };
-        match world.step(alloc, some_event(alloc, number, seen)) {
+        let act = some_act(number, first_seen(&world));
+        match world.step(alloc, act.event(alloc)) {
             Ok(_) => done = done.saturating_add(1),
             Err(fault) => assert_ne!(rt; fault, Illegal::OutOfMemory),
         }
-        if count % 1_000 == 999 {
+        if count % 1_000 == 0 {
             let (names, tree) = census(&world);
             assert_eq!(rt; names, tree);
         }
     }
-    let (names, tree) = census(&world);
-    assert_eq!(rt; names, tree);
     assert!(rt; 1_000 < done);
     Ok(())
 }

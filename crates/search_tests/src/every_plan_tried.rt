@@ -2,8 +2,7 @@
 
 ghost use Rattle.std.specs.Prelude.{◌<◌, ◌≤◌};
 
-use crate::{Options, Outcome, solve};
-use certificate::Cert;
+use crate::answers::{Answer, solved};
 use exhaustive::least_delay;
 use std::alloc::Global;
 use std::process::Abort;
@@ -11,7 +10,7 @@ use std::test::Fail;
 use ttp_model::{Cluster, Instance, Link, Message, Name, Node, Numbers, Process};
 
 /// A linear congruence: numbers that look like chance, the same in each run.
-#[derive(Debug, Drop)]
+#[derive(Drop)]
 struct Draws {
     state: u32,
 }
@@ -52,7 +51,7 @@ impl Draws {
 }
 
 /// How many there are of each: few enough for every plan to be tried.
-#[derive(Clone, Copy, Debug)]
+#[derive(Clone, Copy)]
 struct Sizes {
     nodes: u32,
     processes: u32,
@@ -219,66 +218,25 @@ fn instance(alloc: Global, sizes: Sizes, number: u32) -> Result<Instance, Fail> 
     Ok(Instance::build(alloc, cluster, nodes, processes, links, messages)?)
 }
 
-/// What is said of the least delay, if it is known: that it is this one, or that there is none.
-fn said(outcome: &Outcome) -> Option<Option<u64>> {
-    match outcome {
-        Outcome::Optimal { delay, .. } => Some(Some(*delay)),
-        Outcome::Infeasible { .. } => Some(None),
-        Outcome::Stopped { .. } => None,
-    }
-}
-
-/// The delay that the plan check finds, if there is a valid plan.
-fn judged(instance: &Instance, outcome: &Outcome) -> Option<u64> {
-    match outcome {
-        Outcome::Optimal { plan, .. } => plan_check::check(instance, plan).ok(),
-        _ => None,
-    }
-}
-
-fn cert_of(outcome: &Outcome) -> &Cert {
-    match outcome {
-        Outcome::Optimal { cert, .. } => cert,
-        Outcome::Infeasible { cert } => cert,
-        Outcome::Stopped { cert, .. } => cert,
-    }
-}
-
-/// Solves an instance, and tries every plan of it: whether there is one.
-fn compared(
-    rt: &impl Abort,
-    alloc: Global,
-    instance: &Instance,
-    number: u32,
-) -> Result<bool, Fail> {
-    let options = Options {
-        workers: 1,
-        budget: 100_000,
+/// Whether an instance has a plan. Solved, it has to have the answer that trying every plan gives.
+fn compared(rt: &impl Abort, alloc: Global, sizes: Sizes, number: u32) -> Result<bool, Fail> {
+    let instance = instance(alloc, sizes, number)?;
+    let delay = least_delay(alloc, &instance)?;
+    let wanted = Answer {
+        stopped: None,
+        low: delay.unwrap_or(u64::from(instance.past_horizon())),
+        delay,
     };
-    let least = least_delay(alloc, instance)?;
-    let outcome = solve(rt, alloc, instance, options)?;
-    assert_eq!(rt; said(&outcome), Some(least), "instance {number}");
-    assert_eq!(rt;
-        judged(instance, &outcome),
-        least,
-        "the plan of instance {number}"
-    );
-    let bound = cert_check::check(alloc, instance, cert_of(&outcome)).ok();
-    let low = least.unwrap_or(u64::from(instance.past_horizon()));
-    assert_eq!(rt;
-        bound.map(u64::from),
-        Some(low),
-        "the certificate of instance {number}"
-    );
-    Ok(least.is_some())
+    let answer = solved(alloc, &instance, 100_000)?;
+    assert_eq!(rt; answer, wanted, "instance {number}");
+    Ok(delay.is_some())
 }
 
 /// Compares this many instances, some of which have a plan and some have none.
 fn compare(rt: &impl Abort, alloc: Global, sizes: Sizes, count: u32) -> Result<(), Fail> {
     let (mut with, mut without) = (0u32, 0u32);
     for number in 0..count {
-        let instance = instance(alloc, sizes, number)?;
-        if compared(rt, alloc, &instance, number)? {
+        if compared(rt, alloc, sizes, number)? {
             with = with.saturating_add(1);
         } else {
             without = without.saturating_add(1);

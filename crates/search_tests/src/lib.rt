@@ -2,6 +2,8 @@
 #![tactic(auto)]
 
 #[cfg(test)]
+mod answers;
+#[cfg(test)]
 mod core_events;
 #[cfg(test)]
 mod every_plan;
@@ -11,6 +13,8 @@ mod every_plan_tried;
 mod gathering;
 #[cfg(test)]
 mod good_plans;
+#[cfg(test)]
+mod instances;
 #[cfg(test)]
 mod searches;
 #[cfg(test)]

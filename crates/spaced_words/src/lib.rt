@@ -24,19 +24,3 @@ pub fn push_number_word(text: &mut Vec<u8>, number: u64) -> Result<(), AllocErro
     text.push(b' ')?;
     push_number(text, number)
 }
-
-#[cfg(test)]
-mod tests {
-    use super::*;
-    use std::test::Fail;
-
-    #[test]
-    fn each_word_has_a_space_before_it(rt: HostRuntime) -> Result<(), Fail> {
-        let mut text = Vec::from_slice(rt.alloc(), b"slot")?;
-        push_number_word(&mut text, 0)?;
-        push_number_word(&mut text, 17)?;
-        push_word(&mut text, b"A")?;
-        assert_eq!(rt; text.as_slice(), b"slot 0 17 A".as_slice());
-        Ok(())
-    }
-}

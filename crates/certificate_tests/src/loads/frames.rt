@@ -1,56 +1,80 @@
 //! Messages that are too much for the frames of some rounds, and that are just not.
 
-use super::instances::sending;
-use super::{expect_closer, place, send_by};
-use crate::{frame_load, node_load};
+use super::Load::{Messages, Processes};
+use super::{Row, expect};
+use crate::decisions::Decision::{AtMost, Cap, Place};
+use crate::decisions::{Decision, chosen};
+use crate::instances::sending;
+use std::alloc::Global;
+use std::process::Abort;
 use std::test::Fail;
-use tt_choice::Choice;
 use tt_infer::Facts;
+
+/// Node A's options, and the sizes of its messages.
+type Frames<'a> = (&'a [u32], &'a [u32]);
+
+/// Checks the loads one after another, at the choice of these decisions.
+fn expect_all(
+    rt: &impl Abort,
+    alloc: Global,
+    (capacities, sizes): Frames,
+    decisions: &[Decision],
+    rows: &[Row],
+) -> Result<(), Fail> {
+    let i = sending(alloc, capacities, sizes)?;
+    let choice = chosen(rt, alloc, &i, decisions)?;
+    let mut facts = Facts::new(alloc, &i, &choice, 101)?;
+    for row in rows {
+        expect(rt, alloc, &mut facts, row)?;
+    }
+    Ok(())
+}
 
 #[test]
 fn two_messages_do_not_fit_into_one_frame(rt: HostRuntime) -> Result<(), Fail> {
-    let alloc = rt.alloc();
-    let i = sending(alloc, &[4], &[2, 3])?;
-    let mut choice = Choice::root(alloc, &i)?;
-    place(&rt, alloc, &i, &mut choice, 1, 0)?;
-    place(&rt, alloc, &i, &mut choice, 0, 0)?;
-    send_by(&rt, &i, &mut choice, 0, 0);
-    send_by(&rt, &i, &mut choice, 1, 0);
-    let mut facts = Facts::new(alloc, &i, &choice, 101)?;
-    assert!(rt; frame_load(&facts, 1).is_none());
-    assert!(rt; frame_load(&facts, 2).is_none());
-    assert!(rt; node_load(&facts, 0).is_none());
-    let answer = frame_load(&facts, 0);
-    expect_closer(&rt, alloc, &mut facts, answer, "XFrames(0, 0, 1)")
+    let decisions = [
+        Place(1),
+        Cap(1, 0),
+        Place(0),
+        Cap(0, 0),
+        AtMost(0, 0),
+        AtMost(1, 0),
+    ];
+    let rows = [
+        (Messages(1), "None"),
+        (Messages(2), "None"),
+        (Processes(0), "None"),
+        (Messages(0), "Some(XFrames(0, 0, 1))"),
+    ];
+    expect_all(&rt, rt.alloc(), (&[4], &[2, 3]), &decisions, &rows)
 }
 
 #[test]
 fn frames_of_two_rounds_hold_twice_as_much(rt: HostRuntime) -> Result<(), Fail> {
-    let alloc = rt.alloc();
-    let i = sending(alloc, &[4], &[3, 3, 2, 1])?;
-    let mut choice = Choice::root(alloc, &i)?;
-    send_by(&rt, &i, &mut choice, 0, 1);
-    send_by(&rt, &i, &mut choice, 1, 1);
-    send_by(&rt, &i, &mut choice, 2, 1);
-    let facts = Facts::new(alloc, &i, &choice, 101)?;
-    assert!(rt; frame_load(&facts, 0).is_none());
-    send_by(&rt, &i, &mut choice, 3, 1);
-    let mut facts = Facts::new(alloc, &i, &choice, 101)?;
-    let answer = frame_load(&facts, 0);
-    expect_closer(&rt, alloc, &mut facts, answer, "XFrames(0, 0, 2)")
+    let frames: Frames = (&[4], &[3, 3, 2, 1]);
+    let three = [AtMost(0, 1), AtMost(1, 1), AtMost(2, 1)];
+    expect_all(&rt, rt.alloc(), frames, &three, &[(Messages(0), "None")])?;
+    let four = [AtMost(0, 1), AtMost(1, 1), AtMost(2, 1), AtMost(3, 1)];
+    expect_all(
+        &rt,
+        rt.alloc(),
+        frames,
+        &four,
+        &[(Messages(0), "Some(XFrames(0, 0, 2))")],
+    )
 }
 
 #[test]
 fn a_free_capacity_counts_as_the_greatest(rt: HostRuntime) -> Result<(), Fail> {
-    let alloc = rt.alloc();
-    let i = sending(alloc, &[2, 4], &[2, 2])?;
-    let mut choice = Choice::root(alloc, &i)?;
-    send_by(&rt, &i, &mut choice, 0, 0);
-    send_by(&rt, &i, &mut choice, 1, 0);
-    let facts = Facts::new(alloc, &i, &choice, 101)?;
-    assert!(rt; frame_load(&facts, 0).is_none());
-    place(&rt, alloc, &i, &mut choice, 0, 0)?;
-    let mut facts = Facts::new(alloc, &i, &choice, 101)?;
-    let answer = frame_load(&facts, 0);
-    expect_closer(&rt, alloc, &mut facts, answer, "XFrames(0, 0, 1)")
+    let frames: Frames = (&[2, 4], &[2, 2]);
+    let free = [AtMost(0, 0), AtMost(1, 0)];
+    expect_all(&rt, rt.alloc(), frames, &free, &[(Messages(0), "None")])?;
+    let fixed = [AtMost(0, 0), AtMost(1, 0), Place(0), Cap(0, 0)];
+    expect_all(
+        &rt,
+        rt.alloc(),
+        frames,
+        &fixed,
+        &[(Messages(0), "Some(XFrames(0, 0, 1))")],
+    )
 }

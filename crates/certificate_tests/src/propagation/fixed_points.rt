@@ -1,15 +1,15 @@
 //! What propagation leaves open no step of the table sharpens, whether propagation tries it or not.
 
-use super::instances::two_senders;
-use crate::{Reached, propagate};
+use crate::instances::Small;
 use load_bounds::{frame_load, node_load};
+use path_bounds::{Reached, propagate};
 use std::alloc::Global;
 use std::process::Abort;
 use std::test::Fail;
 use tt_choice::Choice;
 use tt_infer::Facts;
 use ttp_model::{Instance, Ring, Step};
-use worked_instances::{PLAIN, one_message, overfull, three_alike};
+use worked_instances::PLAIN;
 
 /// Adds the steps of each two processes.
 fn add_pairs(alloc: Global, i: &Instance, p: u32, steps: &mut Vec<Step>) -> Result<(), Fail> {
@@ -85,38 +85,55 @@ fn known(alloc: Global, facts: &Facts) -> Result<Vec<u32>, Fail> {
     Ok(numbers)
 }
 
-/// No step sharpens what is known, and no node has a closer of loads.
-fn expect_idle<R: Abort>(rt: &R, alloc: Global, facts: &mut Facts) -> Result<(), Fail> {
-    let before = known(alloc, facts)?;
+/// All steps of the instance that are tried.
+fn all_steps(alloc: Global, i: &Instance) -> Result<Vec<Step>, Fail> {
     let mut steps = Vec::new(alloc);
-    add_processes(alloc, facts.instance(), &mut steps)?;
-    add_messages(facts.instance(), &mut steps)?;
-    for step in &steps {
-        let _ = facts.apply(step);
+    add_processes(alloc, i, &mut steps)?;
+    add_messages(i, &mut steps)?;
+    Ok(steps)
+}
+
+/// No step sharpens what is known.
+fn expect_idle(rt: &impl Abort, alloc: Global, facts: &mut Facts) -> Result<(), Fail> {
+    let before = known(alloc, facts)?;
+    for step in all_steps(alloc, facts.instance())? {
+        let _ = facts.apply(&step);
         let after = known(alloc, facts)?;
         assert!(rt; before.as_slice() == after.as_slice(), "{step:?}");
     }
+    Ok(())
+}
+
+/// No node has a closer of loads.
+fn expect_room(rt: &impl Abort, facts: &Facts) {
     let nodes = facts.instance().nodes().len() as u32;
     for n in 0..nodes {
         assert!(rt; node_load(facts, n).is_none());
         assert!(rt; frame_load(facts, n).is_none());
     }
-    Ok(())
 }
 
-/// Where propagation leaves the root open at one of these goals, nothing sharpens it. How often it
-/// does.
-fn open_goals<R: Abort>(rt: &R, alloc: Global, i: &Instance) -> Result<u32, Fail> {
+/// Whether propagation leaves the root open at a goal. Then nothing sharpens what is known.
+fn is_open(rt: &impl Abort, alloc: Global, i: &Instance, goal: u32) -> Result<bool, Fail> {
+    let root = Choice::root(alloc, i)?;
+    let mut steps = Vec::new(alloc);
+    match propagate(alloc, i, &root, goal, &mut steps)? {
+        Reached::Closed => Ok(false),
+        Reached::At(mut facts) => {
+            expect_idle(rt, alloc, &mut facts)?;
+            expect_room(rt, &facts);
+            Ok(true)
+        }
+    }
+}
+
+/// At how many goals the root is open.
+fn open_goals(rt: &impl Abort, alloc: Global, small: Small) -> Result<u32, Fail> {
+    let i = small.build(alloc)?;
     let mut open: u32 = 0;
     for goal in 0..102 {
-        let root = Choice::root(alloc, i)?;
-        let mut steps = Vec::new(alloc);
-        match propagate(alloc, i, &root, goal, &mut steps)? {
-            Reached::Closed => {}
-            Reached::At(mut facts) => {
-                expect_idle(rt, alloc, &mut facts)?;
-                open = open.saturating_add(1);
-            }
+        if is_open(rt, alloc, &i, goal)? {
+            open = open.saturating_add(1);
         }
     }
     Ok(open)
@@ -124,14 +141,9 @@ fn open_goals<R: Abort>(rt: &R, alloc: Global, i: &Instance) -> Result<u32, Fail
 
 #[test]
 fn no_step_sharpens_what_propagation_leaves_open(rt: HostRuntime) -> Result<(), Fail> {
-    let alloc = rt.alloc();
-    let one = one_message(alloc, PLAIN)?;
-    assert!(rt; open_goals(&rt, alloc, &one)? > 80);
-    let alike = three_alike(alloc)?;
-    assert!(rt; open_goals(&rt, alloc, &alike)? > 80);
-    let two = overfull(alloc)?;
-    assert!(rt; open_goals(&rt, alloc, &two)? > 80);
-    let senders = two_senders(alloc)?;
-    assert!(rt; open_goals(&rt, alloc, &senders)? > 60);
+    assert!(rt; open_goals(&rt, rt.alloc(), Small::OneMessage(PLAIN))? > 80);
+    assert!(rt; open_goals(&rt, rt.alloc(), Small::ThreeAlike)? > 80);
+    assert!(rt; open_goals(&rt, rt.alloc(), Small::Overfull)? > 80);
+    assert!(rt; open_goals(&rt, rt.alloc(), Small::TwoSenders)? > 60);
     Ok(())
 }

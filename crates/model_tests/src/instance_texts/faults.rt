@@ -1,14 +1,16 @@
-//! Which faults of values are found, and how a fault is told.
+//! Which faults of values are found, and how is a fault told?
 
-use super::{changed, extended, fault, fronted, out_of_range, unknown_name, wrong_kind};
-use crate::{Key, Place, TextError};
+use super::{LAST, TEXT, fails};
+use crate::outcomes::same;
+use instance_text::{Key, Place, TextError};
+use std::alloc::{AllocError, Global};
+use std::process::Abort;
 use std::test::Fail;
 use ttp_model::{ModelError, Place as At};
 
 #[test]
 fn a_value_of_another_kind_is_refused(rt: HostRuntime) -> Result<(), Fail> {
-    let alloc = rt.alloc();
-    let rows = [
+    let rows = &[
         ("head = 1", "head = 1.0", Place::Cluster, Key::Head),
         (
             "copy_in = 0",
@@ -56,35 +58,26 @@ fn a_value_of_another_kind_is_refused(rt: HostRuntime) -> Result<(), Fail> {
             Place::Message(0),
             Key::To,
         ),
+        (TEXT, "cluster = 1", Place::Top, Key::Cluster),
+        (TEXT, "[cluster]\n[node]", Place::Top, Key::Node),
+        ("[cluster]", "link = [1]\n[cluster]", Place::Top, Key::Link),
     ];
     for (old, new, place, key) in rows {
-        let text = changed(&rt, alloc, old, new)?;
-        assert_eq!(rt;
-            fault(alloc, text.as_str()),
-            wrong_kind(place, key),
-            "at {new}"
-        );
+        let (place, key) = (*place, *key);
+        fails(
+            &rt,
+            rt.alloc(),
+            old,
+            new,
+            &TextError::WrongKind { place, key },
+        )?;
     }
-    assert_eq!(rt;
-        fault(alloc, "cluster = 1"),
-        wrong_kind(Place::Top, Key::Cluster)
-    );
-    assert_eq!(rt;
-        fault(alloc, "[cluster]\n[node]"),
-        wrong_kind(Place::Top, Key::Node)
-    );
-    let text = fronted(alloc, "link = [1]")?;
-    assert_eq!(rt;
-        fault(alloc, text.as_str()),
-        wrong_kind(Place::Top, Key::Link)
-    );
     Ok(())
 }
 
 #[test]
 fn whole_numbers_are_within_u32(rt: HostRuntime) -> Result<(), Fail> {
-    let alloc = rt.alloc();
-    let rows = [
+    let rows = &[
         (
             "horizon = 100",
             "horizon = 4294967296",
@@ -129,23 +122,29 @@ fn whole_numbers_are_within_u32(rt: HostRuntime) -> Result<(), Fail> {
         ),
     ];
     for (old, new, place, key) in rows {
-        let text = changed(&rt, alloc, old, new)?;
-        assert_eq!(rt;
-            fault(alloc, text.as_str()),
-            out_of_range(place, key),
-            "at {new}"
-        );
+        let (place, key) = (*place, *key);
+        fails(
+            &rt,
+            rt.alloc(),
+            old,
+            new,
+            &TextError::OutOfRange { place, key },
+        )?;
     }
-    let text = changed(&rt, alloc, "horizon = 100", "horizon = 4294967295")?;
     let wanted = TextError::Model(ModelError::OutOfRange(At::AtCluster));
-    assert_eq!(rt; fault(alloc, text.as_str()), Some(wanted));
+    fails(
+        &rt,
+        rt.alloc(),
+        "horizon = 100",
+        "horizon = 4294967295",
+        &wanted,
+    )?;
     Ok(())
 }
 
 #[test]
 fn names_name_what_the_text_has(rt: HostRuntime) -> Result<(), Fail> {
-    let alloc = rt.alloc();
-    let rows = [
+    let rows = &[
         ("node = \"A\"", "node = \"p\"", Place::Process(0), Key::Node),
         ("node = \"B\"", "node = \"b\"", Place::Process(1), Key::Node),
         ("from = \"p\"", "from = \"A\"", Place::Message(0), Key::From),
@@ -161,27 +160,41 @@ fn names_name_what_the_text_has(rt: HostRuntime) -> Result<(), Fail> {
             Place::Message(0),
             Key::To,
         ),
+        (
+            LAST,
+            "bytes = 2\n[[link]]\nfrom = \"p\"\nto = \"m\"\n",
+            Place::Link(0),
+            Key::To,
+        ),
     ];
     for (old, new, place, key) in rows {
-        let text = changed(&rt, alloc, old, new)?;
-        assert_eq!(rt;
-            fault(alloc, text.as_str()),
-            unknown_name(place, key),
-            "at {new}"
-        );
+        let (place, key) = (*place, *key);
+        fails(
+            &rt,
+            rt.alloc(),
+            old,
+            new,
+            &TextError::UnknownName { place, key },
+        )?;
     }
-    let text = extended(alloc, "[[link]]\nfrom = \"p\"\nto = \"m\"\n")?;
-    assert_eq!(rt;
-        fault(alloc, text.as_str()),
-        unknown_name(Place::Link(0), Key::To)
-    );
+    Ok(())
+}
+
+/// The error is told in these words.
+fn is_told(
+    rt: &impl Abort,
+    alloc: Global,
+    error: &TextError,
+    words: &str,
+) -> Result<(), AllocError> {
+    let told = error.to_string(alloc)?;
+    same(rt, error, told.as_str(), words);
     Ok(())
 }
 
 #[test]
 fn a_fault_is_told_with_its_place_and_key(rt: HostRuntime) -> Result<(), Fail> {
-    let alloc = rt.alloc();
-    let rows = [
+    let rows = &[
         (TextError::NotToml, "not TOML"),
         (
             TextError::UnknownKey { place: Place::Top },
@@ -221,9 +234,8 @@ fn a_fault_is_told_with_its_place_and_key(rt: HostRuntime) -> Result<(), Fail> {
         ),
         (TextError::OutOfMemory, "out of memory"),
     ];
-    for (error, wanted) in rows {
-        let told = error.to_string(alloc)?;
-        assert_eq!(rt; told.as_str(), wanted);
+    for (error, words) in rows {
+        is_told(&rt, rt.alloc(), error, words)?;
     }
     Ok(())
 }

@@ -1,47 +1,53 @@
-//! Which instances texts state.
+//! Which instances do texts state?
 
 use super::TEXT;
-use crate::read;
+use crate::outcomes::same;
+use instance_text::read;
+use std::alloc::Global;
+use std::process::Abort;
 use std::test::Fail;
-use ttp_model::Link;
+use ttp_model::{Cluster, Instance, ModelError};
+use worked_instances::{Draft, PLAIN, one_message};
+
+/// The text states this instance.
+fn states(rt: &impl Abort, alloc: Global, text: &str, wanted: &Instance) -> Result<(), Fail> {
+    let stated = read(alloc, text.as_bytes())?;
+    same(rt, text, stated.cluster(), wanted.cluster());
+    same(rt, text, stated.nodes(), wanted.nodes());
+    same(rt, text, stated.processes(), wanted.processes());
+    same(rt, text, stated.links(), wanted.links());
+    same(rt, text, stated.messages(), wanted.messages());
+    Ok(())
+}
 
 #[test]
 fn a_text_states_its_lists_in_their_order(rt: HostRuntime) -> Result<(), Fail> {
-    let instance = read(rt.alloc(), TEXT.as_bytes())?;
-    let cluster = instance.cluster();
-    assert_eq!(rt; (cluster.precision, cluster.lead, cluster.trail), (0, 0, 0));
-    assert_eq!(rt; (cluster.head, cluster.per_byte), (1, 1));
-    assert_eq!(rt;
-        (cluster.copy_out, cluster.copy_in, cluster.horizon),
-        (0, 0, 100)
-    );
-    let nodes = instance.nodes();
-    assert_eq!(rt; nodes.len(), 2);
-    assert_eq!(rt;
-        (nodes[0].name.as_str(), nodes[1].name.as_str()),
-        ("A", "B")
-    );
-    assert_eq!(rt; nodes[0].capacities.as_slice(), [2].as_slice());
-    assert_eq!(rt; nodes[1].capacities.as_slice(), [0].as_slice());
-    let processes = instance.processes();
-    assert_eq!(rt; processes.len(), 2);
-    assert_eq!(rt;
-        (processes[0].name.as_str(), processes[1].name.as_str()),
-        ("p", "q")
-    );
-    assert_eq!(rt; (processes[0].node, processes[0].wcet), (0, 3));
-    assert_eq!(rt; (processes[1].node, processes[1].wcet), (1, 2));
-    assert_eq!(rt;
-        (processes[0].release, processes[0].deadline),
-        (0, 1_000_000)
-    );
-    assert!(rt; instance.links().is_empty());
-    let messages = instance.messages();
-    assert_eq!(rt; messages.len(), 1);
-    assert_eq!(rt; messages[0].name.as_str(), "m");
-    assert_eq!(rt; (messages[0].sender, messages[0].bytes), (0, 2));
-    assert_eq!(rt; messages[0].receivers.as_slice(), [1].as_slice());
-    Ok(())
+    let wanted = one_message(rt.alloc(), PLAIN)?;
+    states(&rt, rt.alloc(), TEXT, &wanted)
+}
+
+/// Three processes of one node, of which the first has to run after the last and before the second, as is
+/// said twice.
+fn in_turn(alloc: Global) -> Result<Instance, ModelError> {
+    let cluster = Cluster {
+        precision: 1,
+        lead: 2,
+        trail: 1,
+        head: 10,
+        per_byte: 1,
+        copy_out: 2,
+        copy_in: 3,
+        horizon: 100,
+    };
+    Draft::of(alloc, cluster)
+        .node("A", &[0, 8, 1000])?
+        .process("p", 0, 1)?
+        .process_within("q", 0, 2, (4, 9))?
+        .process("r", 0, 3)?
+        .link(2, 0)?
+        .link(0, 1)?
+        .link(0, 1)?
+        .build()
 }
 
 #[test]
@@ -67,39 +73,6 @@ name = \"r\"
 node = \"A\"
 wcet = 3
 ";
-    let instance = read(rt.alloc(), text.as_bytes())?;
-    assert_eq!(rt;
-        (instance.cluster().horizon, instance.cluster().head),
-        (100, 10)
-    );
-    let wanted = [
-        Link {
-            before: 2,
-            after: 0,
-        },
-        Link {
-            before: 0,
-            after: 1,
-        },
-        Link {
-            before: 0,
-            after: 1,
-        },
-    ];
-    assert_eq!(rt; instance.links(), wanted.as_slice());
-    assert_eq!(rt; instance.processes().len(), 3);
-    assert_eq!(rt;
-        (
-            instance.processes()[1].release,
-            instance.processes()[1].deadline
-        ),
-        (4, 9)
-    );
-    assert_eq!(rt; instance.nodes().len(), 1);
-    assert_eq!(rt;
-        instance.nodes()[0].capacities.as_slice(),
-        [0, 8, 1000].as_slice()
-    );
-    assert!(rt; instance.messages().is_empty());
-    Ok(())
+    let wanted = in_turn(rt.alloc())?;
+    states(&rt, rt.alloc(), text, &wanted)
 }

@@ -1,6 +1,6 @@
 use Rattle.std.proofs.Common.{All}
 use Rattle.branch_tree.specs.Tasks.{IsTask}
-use Rattle.branch_tree.proofs.tests.begun.Given as goal
+use Rattle.search_tests.proofs.subtrees.begun.Given as goal
 
 abbrev pub invariant-turns : goal.invariant-turns
 invariant-turns l = All (IsTask l.instance) l.left.items

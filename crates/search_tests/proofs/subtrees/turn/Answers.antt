@@ -3,7 +3,7 @@ use Rattle.std.proofs.lemmas.List.Elements.{All-append}
 use Rattle.branch_tree.specs.declared.worked.Worked.{Worked}
 use Rattle.branch_tree.specs.Tasks.{IsTask}
 use Rattle.branch_tree.specs.Work.{IsWorked, IsSplit}
-use Rattle.branch_tree.proofs.tests.turn.Goals as goal
+use Rattle.search_tests.proofs.subtrees.turn.Goals as goal
 
 pub returns-in_ok-append-in-Split : goal.returns-in_ok-append-in-Split
 returns-in_ok-append-in-Split c =

@@ -1,0 +1,47 @@
+//! Which valid plans, and which tables of their nodes, do several tests begin with?
+
+ghost use Rattle.std.specs.Prelude.{IfOk};
+ghost use Rattle.ttp_model.specs.Plans.{IsValid};
+ghost use Rattle.medl_tables.specs.Tables.{AreTables};
+
+use crate::outcomes::same;
+use medl_tables::{Medl, MemoryFault};
+use plan_check::check;
+use std::alloc::{AllocError, Global};
+use std::process::Abort;
+use ttp_model::{Instance, Plan};
+use worked_instances::plan;
+
+/// The order, the capacities, the starts and the rounds of a plan.
+pub type Lists<'a> = [&'a [u32]; 4];
+
+/// The plan of these lists, which is valid and has this delay.
+pub fn valid_plan(
+    rt: &impl Abort,
+    alloc: Global,
+    instance: &Instance,
+    lists: Lists,
+    delay: u64,
+) -> Result<Plan, AllocError>
+    ensures { IfOk result (IsValid instance.now) }
+{
+    let [order, caps, starts, rounds] = lists;
+    let plan = plan(alloc, order, caps, starts, rounds)?;
+    let found = check(instance, &plan).expect(rt, "a valid plan");
+    same(rt, "the delay", found, delay);
+    Ok(plan)
+}
+
+/// The tables of this plan, which is valid and has this delay.
+pub fn tables(
+    rt: &impl Abort,
+    alloc: Global,
+    instance: &Instance,
+    lists: Lists,
+    delay: u64,
+) -> Result<Medl, MemoryFault>
+    ensures { IfOk result (AreTables instance.now) }
+{
+    let plan = valid_plan(rt, alloc, instance, lists, delay)?;
+    Medl::of(alloc, instance, &plan)
+}
