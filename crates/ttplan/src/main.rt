@@ -1,26 +1,13 @@
 //! The planner's program: which command the words ask for, and on which files it works.
 #![tactic(auto)]
 
-mod bundle;
-mod certified;
-mod ending;
-mod input;
-mod lines;
-mod losses;
-mod output;
-mod replay;
-mod solve;
-mod tables;
-mod verify;
-mod words;
-
-use crate::ending::{End, Fault, Sink, Source};
-use clap::error::ErrorKind;
-use planner::Options;
+pub use command_streams::{End, Fault, SearchFault, Sink, Source, report, status};
+use command_words::{Request, Task, refuse, request_in};
+pub use plan_commands::{check_run, replay_run, tables, verify, verify_bundle};
+pub use solve_command::{Options, solve_run};
 use std::fs::File;
 use std::io;
 use std::process::ExitCode;
-use words::{Request, Task};
 
 /// An instance's file and a second one, both opened, in the order of the words.
 fn open_both(
@@ -46,9 +33,9 @@ fn run_on_files(rt: &HostRuntime, instance: &str, plan: &str, task: Task) -> End
     };
     let mut out = rt.stdout();
     match task {
-        Task::Verify => verify::verify(rt.alloc(), &mut instance, &mut plan, &mut out),
-        Task::Tables => tables::tables(rt.alloc(), &mut instance, &mut plan, &mut out),
-        Task::Replay(losses) => replay::replay_run(
+        Task::Verify => verify(rt.alloc(), &mut instance, &mut plan, &mut out),
+        Task::Tables => tables(rt.alloc(), &mut instance, &mut plan, &mut out),
+        Task::Replay(losses) => replay_run(
             rt.alloc(),
             &mut instance,
             &mut plan,
@@ -65,7 +52,7 @@ fn run_check(rt: &HostRuntime, instance: &str, certificate: &str) -> End {
         Ok(files) => files,
         Err(source) => return End::Refused(Fault::Unread(source)),
     };
-    certified::check_run(
+    check_run(
         rt.alloc(),
         &mut instance,
         &mut certificate,
@@ -93,7 +80,7 @@ fn run_solve(rt: &HostRuntime, instance: &str, certificate: Option<&str>, option
         Ok(file) => file,
         Err(fault) => return End::Refused(fault),
     };
-    solve::solve_run(
+    solve_run(
         rt,
         rt.alloc(),
         &mut instance,
@@ -114,40 +101,33 @@ fn run(rt: &HostRuntime, request: Request) -> End {
         Request::Solve {
             instance,
             certificate,
-            options,
-        } => run_solve(rt, instance, certificate, options),
+            workers,
+            budget,
+        } => run_solve(rt, instance, certificate, Options { workers, budget }),
         Request::Check {
             instance,
             certificate,
         } => run_check(rt, instance, certificate),
-        Request::VerifyBundle => {
-            bundle::verify_bundle(rt.alloc(), &mut rt.stdin(), &mut rt.stdout())
-        }
+        Request::VerifyBundle => { verify_bundle(rt.alloc(), &mut rt.stdin(), &mut rt.stdout()) }
     }
 }
 
 /// Runs the words' request, says on standard error why it was refused, and gives the status.
 fn status_of_words(rt: &HostRuntime, words: &[String]) -> u8 {
-    match words::request_in(rt.alloc(), words) {
+    match request_in(rt.alloc(), words) {
         Ok(request) => ended(rt, &run(rt, request)),
-        Err(error) if error.kind() == ErrorKind::OutOfMemory => {
-            ended(rt, &End::Refused(Fault::Memory))
-        }
-        Err(error) => {
-            let _ = rt.eprint(error);
-            2
-        }
+        Err(error) => refuse(&error, &mut rt.stderr()),
     }
 }
 
 /// Says on standard error why a command was refused, and gives the status.
 fn ended(rt: &HostRuntime, end: &End) -> u8 {
-    let _ = lines::report(end, &mut rt.stderr());
-    ending::status(end)
+    let _ = report(end, &mut rt.stderr());
+    status(end)
 }
 
 fn main(rt: HostRuntime) -> ExitCode {
-    let status = match words::all(&rt) {
+    let status = match command_words::all(&rt) {
         Ok(words) => status_of_words(&rt, words.as_slice()),
         Err(error) if error.kind() == io::ErrorKind::OutOfMemory => {
             ended(&rt, &End::Refused(Fault::Memory))
@@ -159,6 +139,3 @@ fn main(rt: HostRuntime) -> ExitCode {
     };
     ExitCode::from(status)
 }
-
-#[cfg(test)]
-mod tests;

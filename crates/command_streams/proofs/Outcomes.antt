@@ -1,0 +1,55 @@
+-- A text that is written is a command's outcome, and a writer to which nothing is written keeps what it held.
+use Rattle.std.proofs.Common.{ℕ, List, Option, None, Some, refl}
+use Rattle.std.specs.Io.KnownBytes.{Keeps}
+use Rattle.command_streams.specs.declared.ending.Sink.TheVariants as sink
+use Rattle.command_streams.specs.declared.ending.Fault.{Fault}
+use Rattle.command_streams.specs.declared.ending.Fault.TheVariants.{NoMark, LossForm, Instance, Memory, PlanText, Plan, StatedDelay, CertificateText, Certificate, TooFewNodes, WrongLoss, Search, Unread, Unwritten}
+use Rattle.command_streams.specs.declared.ending.End.{End}
+use Rattle.command_streams.specs.declared.ending.End.TheVariants.{Done, Absent, Stopped, Refused}
+use Rattle.command_streams.specs.Outcomes.{IsOutcome, IsWriting, IsWritingUnlessMemory, OnDone}
+
+pub keeps : (old : Option (List ℕ)) → Keeps old old
+keeps None = tt
+keeps (Some bytes) = refl
+
+module _ (IsText : List ℕ → Type 0) (IsRefusedBy : Fault → Type 0) (text : List ℕ) (is : IsText text) (old new : Option (List ℕ)) where
+  pub written_outcome : (end : End) → IsWriting text old new end → IsOutcome (OnDone IsText) IsRefusedBy old new end
+  written_outcome Done gains = record { text = text; is = is; appends = gains }
+  written_outcome Absent gains = absurd gains
+  written_outcome Stopped gains = absurd gains
+  written_outcome (Refused (Unwritten sink.Certificate)) gains = absurd gains
+  written_outcome (Refused (Unwritten sink.Out)) part = record { at = Done; text = text; is = is; part = part }
+  written_outcome (Refused NoMark) gains = absurd gains
+  written_outcome (Refused (LossForm k)) gains = absurd gains
+  written_outcome (Refused (Instance error)) gains = absurd gains
+  written_outcome (Refused Memory) gains = absurd gains
+  written_outcome (Refused (PlanText error)) gains = absurd gains
+  written_outcome (Refused (Plan fault)) gains = absurd gains
+  written_outcome (Refused (StatedDelay d)) gains = absurd gains
+  written_outcome (Refused TooFewNodes) gains = absurd gains
+  written_outcome (Refused (CertificateText error)) gains = absurd gains
+  written_outcome (Refused (Certificate fault)) gains = absurd gains
+  written_outcome (Refused (WrongLoss k)) gains = absurd gains
+  written_outcome (Refused (Search fault)) gains = absurd gains
+  written_outcome (Refused (Unread source)) gains = absurd gains
+
+  module _ (memory : IsRefusedBy Memory) where
+    pub made_outcome : (end : End) → IsWritingUnlessMemory text old new end → IsOutcome (OnDone IsText) IsRefusedBy old new end
+    made_outcome Done gains = written_outcome Done gains
+    made_outcome Absent gains = absurd gains
+    made_outcome Stopped gains = absurd gains
+    made_outcome (Refused (Unwritten sink.Certificate)) gains = absurd gains
+    made_outcome (Refused (Unwritten sink.Out)) part = written_outcome (Refused (Unwritten sink.Out)) part
+    made_outcome (Refused Memory) keeps = (memory, keeps)
+    made_outcome (Refused NoMark) gains = absurd gains
+    made_outcome (Refused (LossForm k)) gains = absurd gains
+    made_outcome (Refused (Instance error)) gains = absurd gains
+    made_outcome (Refused (PlanText error)) gains = absurd gains
+    made_outcome (Refused (Plan fault)) gains = absurd gains
+    made_outcome (Refused (StatedDelay d)) gains = absurd gains
+    made_outcome (Refused TooFewNodes) gains = absurd gains
+    made_outcome (Refused (CertificateText error)) gains = absurd gains
+    made_outcome (Refused (Certificate fault)) gains = absurd gains
+    made_outcome (Refused (WrongLoss k)) gains = absurd gains
+    made_outcome (Refused (Search fault)) gains = absurd gains
+    made_outcome (Refused (Unread source)) gains = absurd gains

@@ -1,0 +1,5 @@
+pub mod Streams
+pub mod Endings
+pub mod Lines
+pub mod Outcomes
+pub mod Instances

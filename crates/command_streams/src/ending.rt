@@ -1,0 +1,154 @@
+//! How a command ends, and with which status.
+
+ghost use Rattle.std.specs.Prelude.{◌≡◌};
+ghost use Rattle.command_streams.specs.Endings.{fault_status, status_of};
+ghost use Rattle.command_streams.specs.declared.ending.Fault.TheVariants.{Memory};
+
+use cert_check::CertFault;
+use certificate::CertTextError;
+use instance_text::TextError;
+use plan_format::PlanTextError;
+use std::alloc::{AllocError, AllocFailed};
+use ttp_model::{MemoryFault, ModelError, PlanFault};
+
+/// Where a command reads from.
+#[derive(Clone, Copy, Debug, PartialEq, Eq)]
+pub enum Source {
+    Instance,
+    Plan,
+    Certificate,
+}
+
+/// Where it writes to.
+#[derive(Clone, Copy, Debug, PartialEq, Eq)]
+pub enum Sink {
+    Certificate,
+    Out,
+}
+
+/// Why a search has no answer.
+#[derive(Clone, Copy, Debug, PartialEq, Eq)]
+pub enum SearchFault {
+    /// When memory was refused before there was anything to answer.
+    Memory,
+    /// When a thread could not be started.
+    Thread,
+    /// When a name stands at two pieces of the search.
+    DoubledName,
+    /// When the root or a child of a branch is missing among them.
+    MissingName,
+    /// When a name is not the root's, and no branch has it as a child.
+    StrayName,
+    /// When a leaf's goal is below the bound.
+    LowGoal,
+}
+
+/// Why a command was refused.
+#[derive(Debug, Drop)]
+pub enum Fault {
+    /// When a bundle has no line `%%`.
+    NoMark,
+    /// When the loss word of this index is malformed.
+    LossForm(usize),
+    /// When the instance's text states none.
+    Instance(TextError),
+    /// When memory was wanted, and refused.
+    Memory,
+    /// When the plan's text spells none.
+    PlanText(PlanTextError),
+    /// When the plan is not valid.
+    Plan(PlanFault),
+    /// When the plan is valid, and its delay, in ticks, is this and not the stated one.
+    StatedDelay(u64),
+    /// When the certificate's text spells none.
+    CertificateText(CertTextError),
+    /// When the certificate does not prove its bound.
+    Certificate(CertFault),
+    /// When there are fewer nodes than a replay needs: three.
+    TooFewNodes,
+    /// When the loss word of this index stands for a loss that is outside the cycle, or at a node that isn't
+    /// there or is the sender, and no word before it does.
+    WrongLoss(usize),
+    /// When the search has no answer.
+    Search(SearchFault),
+    /// When a reader failed, or had more bytes than its limit, or a file could not be opened.
+    Unread(Source),
+    /// When a writer failed, or took no byte.
+    Unwritten(Sink),
+}
+
+impl From<MemoryFault> for Fault {
+    ghost from_gives = { λ _ e. e ≡ Memory };
+
+    fn from(_fault: MemoryFault) -> Fault {
+        Fault::Memory
+    }
+}
+
+impl From<AllocError> for Fault {
+    ghost from_gives = { λ _ e. e ≡ Memory };
+
+    fn from(_error: AllocError) -> Fault {
+        Fault::Memory
+    }
+}
+
+impl<T: Drop> From<AllocFailed<T>> for Fault {
+    ghost from_gives = { λ _ e. e ≡ Memory };
+
+    fn from(_error: AllocFailed<T>) -> Fault {
+        Fault::Memory
+    }
+}
+
+/// How a command ends.
+#[derive(Debug, Drop)]
+pub enum End {
+    /// It did what it is for.
+    Done,
+    /// There is no plan.
+    Absent,
+    /// The search was stopped by its budget, or for want of memory.
+    Stopped,
+    Refused(Fault),
+}
+
+/// The status of a refusal.
+fn status_of_fault(fault: &Fault) -> u8
+    ensures { result ≡ fault_status fault.now }
+{
+    match fault {
+        Fault::NoMark => 2,
+        Fault::LossForm(_) => 2,
+        Fault::Instance(TextError::OutOfMemory) => 4,
+        Fault::Instance(TextError::Model(ModelError::OutOfMemory)) => 4,
+        Fault::Instance(_) => 3,
+        Fault::Memory => 4,
+        Fault::PlanText(PlanTextError::OutOfMemory) => 4,
+        Fault::PlanText(PlanTextError::At { .. }) => 5,
+        Fault::Plan(_) => 5,
+        Fault::StatedDelay(_) => 5,
+        Fault::CertificateText(CertTextError::OutOfMemory) => 4,
+        Fault::CertificateText(CertTextError::At { .. }) => 5,
+        Fault::Certificate(CertFault::OutOfMemory) => 4,
+        Fault::Certificate(_) => 5,
+        Fault::TooFewNodes => 5,
+        Fault::WrongLoss(_) => 5,
+        Fault::Search(SearchFault::Memory) => 4,
+        Fault::Search(_) => 7,
+        Fault::Unread(_) => 6,
+        Fault::Unwritten(_) => 6,
+    }
+}
+
+/// The program's exit status.
+pub fn status(end: &End) -> u8
+    ensures { result ≡ status_of end.now }
+{
+    match end {
+        End::Done => 0,
+        End::Absent => 10,
+        End::Stopped => 11,
+        End::Refused(fault) => status_of_fault(fault),
+    }
+}

@@ -1,0 +1,14 @@
+//! What a command reads and writes, and how it ends.
+#![tactic(auto)]
+
+mod ending;
+mod input;
+mod lines;
+mod output;
+
+pub use ending::{End, Fault, SearchFault, Sink, Source, status};
+pub use input::{
+    INSTANCE_LIMIT, Stop, Taken, instance_of_text, read_all, read_instance, take_input,
+};
+pub use lines::report;
+pub use output::{WriteFault, end_with, write_text};

@@ -1,0 +1,8 @@
+//! What the command line asks for, and how words are refused that ask for nothing.
+#![tactic(auto)]
+
+mod refusal;
+mod words;
+
+pub use refusal::refuse;
+pub use words::{Request, Task, all, request_in};

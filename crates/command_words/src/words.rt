@@ -1,0 +1,239 @@
+//! What the words of the command line ask for.
+
+use clap::builder::ValueParser;
+use clap::error::ErrorKind;
+use clap::{Arg, ArgMatches, Command, Error};
+use std::alloc::{AllocError, Global};
+use std::io;
+use std::rt::Env;
+
+/// What to do with an instance and a plan.
+#[derive(Debug, Drop)]
+pub enum Task<'a> {
+    /// Verify the plan for the instance.
+    Verify,
+    /// Write its node tables and guardian windows.
+    Tables,
+    /// Replay its cycle, in which the frames that these words name are lost.
+    Replay(Vec<&'a str>),
+}
+
+/// A command, with the files that it names.
+#[derive(Debug, Drop)]
+pub enum Request<'a> {
+    /// Do something with the plan of one file for the instance of another.
+    OnFiles {
+        instance: &'a str,
+        plan: &'a str,
+        task: Task<'a>,
+    },
+    /// Search the instance of a file, and write the certificate to another where one is named.
+    Solve {
+        instance: &'a str,
+        certificate: Option<&'a str>,
+        /// How many workers may search.
+        workers: u32,
+        /// How many subtrees are searched at most.
+        budget: u64,
+    },
+    /// Check the certificate of one file for the instance of another.
+    Check {
+        instance: &'a str,
+        certificate: &'a str,
+    },
+    /// Verify an instance and a plan in one stream: no words were given.
+    VerifyBundle,
+}
+
+/// The words that the program was called with. The error's kind is `InvalidData` where one is not UTF-8.
+pub fn all(rt: &(impl Env + AllocGlobal)) -> io::Result<Vec<String>> {
+    let words = std::env::args(rt)?.collect(rt.alloc())?;
+    Ok(words)
+}
+
+/// What an instance's file holds.
+const INSTANCE_HELP: &str = "The cluster and its processes, in TOML";
+
+/// How many workers can be asked for.
+const MOST_WORKERS: u64 = 16;
+
+/// What a search prints.
+const SOLVE_HELP: &str =
+    "It prints one of these, and ends with the status beside it:\n   0  the text of a plan: it is valid, and no valid plan has a smaller delay\n  10  `none`: no plan is valid\n  11  `stopped WHY LOW BEST`, and behind it the text of the best plan found\n\nWHY is `budget`, where the budget is spent, or `memory`, where memory ran out. No valid plan has a delay below LOW ticks. BEST is the delay of the best plan found, or `none`, and then no text follows.";
+
+/// A file that has to be named.
+fn file<'a>(alloc: Global, name: &'a str, help: &'a str) -> Arg<'a> {
+    Arg::new(alloc, name).required(true).help(help)
+}
+
+/// A command of this name, which names an instance's file and a plan's.
+fn command_on_files<'a>(
+    alloc: Global,
+    name: &'a str,
+    about: &'a str,
+) -> Result<Command<'a>, AllocError> {
+    Command::new(alloc, name)
+        .about(about)
+        .arg(file(alloc, "INSTANCE", INSTANCE_HELP))?
+        .arg(file(alloc, "PLAN", "The plan's text"))
+}
+
+fn verify_command<'a>(alloc: Global) -> Result<Command<'a>, AllocError> {
+    command_on_files(
+        alloc,
+        "verify",
+        "Checks a plan, and prints `valid` with its delay in ticks",
+    )
+}
+
+fn tables_command<'a>(alloc: Global) -> Result<Command<'a>, AllocError> {
+    command_on_files(
+        alloc,
+        "tables",
+        "Prints the node tables of a valid plan, and its guardian windows",
+    )
+}
+
+fn replay_command<'a>(alloc: Global) -> Result<Command<'a>, AllocError> {
+    let losses = Arg::new(alloc, "LOSS").num_args(0..).help(
+        "A lost frame, ROUND/SLOT/NODE from 0, or ROUND/SLOT/* for all receivers",
+    );
+    command_on_files(
+        alloc,
+        "replay",
+        "Prints what membership does in one cycle of a valid plan",
+    )?
+    .arg(losses)
+}
+
+/// An option `--name` that takes a number within bounds, and has a value where it isn't used.
+fn number<'a>(
+    alloc: Global,
+    name: &'a str,
+    bounds: ValueParser<'a>,
+    default: &'a str,
+    help: &'a str,
+) -> Arg<'a> {
+    Arg::new(alloc, name)
+        .long(name)
+        .value_name("N")
+        .value_parser(bounds)
+        .default_value(default)
+        .help(help)
+}
+
+fn solve_command<'a>(alloc: Global) -> Result<Command<'a>, AllocError> {
+    let workers = number(
+        alloc,
+        "workers",
+        ValueParser::unsigned(1, MOST_WORKERS),
+        "4",
+        "How many workers may search, 1 to 16; as yet one does",
+    );
+    let budget = number(
+        alloc,
+        "budget",
+        ValueParser::unsigned(0, u64::MAX),
+        "1000000",
+        "How many subtrees are searched at most: each that is split, closed or gives a plan counts once; with 0 no plan is looked for",
+    );
+    let certificate = Arg::new(alloc, "cert").long("cert").value_name("FILE").help(
+        "Also writes the certificate that proves the answer, whichever it is, to this file, before the answer is printed; `ttplan check INSTANCE FILE` accepts it. A file that is there is emptied first",
+    );
+    Command::new(alloc, "solve")
+        .about(
+            "Prints a valid plan with the least delay, or `none`, or bounds where the search is stopped",
+        )
+        .after_help(SOLVE_HELP)
+        .arg(file(alloc, "INSTANCE", INSTANCE_HELP))?
+        .arg(workers)?
+        .arg(budget)?
+        .arg(certificate)
+}
+
+fn check_command<'a>(alloc: Global) -> Result<Command<'a>, AllocError> {
+    Command::new(alloc, "check")
+        .about("Checks a certificate, and prints `bound` with the delay that no plan is below")
+        .arg(file(alloc, "INSTANCE", INSTANCE_HELP))?
+        .arg(file(alloc, "CERT", "The certificate's text"))
+}
+
+/// The command line that is understood.
+fn command<'a>(alloc: Global) -> Result<Command<'a>, AllocError> {
+    Command::new(alloc, "ttplan")
+        .about("Plans time-triggered clusters, and checks their plans")
+        .after_help(
+            "Without words it reads an instance, a line `%%` and a plan from standard input, and verifies the plan.",
+        )
+        .subcommand(solve_command(alloc)?)?
+        .subcommand(verify_command(alloc)?)?
+        .subcommand(check_command(alloc)?)?
+        .subcommand(tables_command(alloc)?)?
+        .subcommand(replay_command(alloc)?)
+}
+
+/// A search with its numbers, each in its range.
+fn solve_request<'a>(matches: &ArgMatches<'a>) -> Option<Request<'a>> {
+    Some(Request::Solve {
+        instance: matches.get_str("INSTANCE")?,
+        certificate: matches.get_str("cert"),
+        workers: matches.get_one("workers")?,
+        budget: matches.get_one("budget")?,
+    })
+}
+
+/// A check of a certificate.
+fn check_request<'a>(matches: &ArgMatches<'a>) -> Option<Request<'a>> {
+    Some(Request::Check {
+        instance: matches.get_str("INSTANCE")?,
+        certificate: matches.get_str("CERT")?,
+    })
+}
+
+/// A task on an instance and a plan.
+fn request_on_files<'a>(matches: &ArgMatches<'a>, task: Task<'a>) -> Option<Request<'a>> {
+    Some(Request::OnFiles {
+        instance: matches.get_str("INSTANCE")?,
+        plan: matches.get_str("PLAN")?,
+        task,
+    })
+}
+
+/// A replay with the frames that are lost, or with none.
+fn replay_task<'a>(alloc: Global, matches: &ArgMatches<'a>) -> Result<Task<'a>, AllocError> {
+    let losses = Vec::from_slice(alloc, matches.get_strs("LOSS").unwrap_or(&[]))?;
+    Ok(Task::Replay(losses))
+}
+
+/// What the words of the subcommand of this name ask for. None where no subcommand has the name or a value is missing,
+/// which `clap` has seen to.
+fn request_of<'a>(
+    alloc: Global,
+    name: &str,
+    matches: &ArgMatches<'a>,
+) -> Result<Option<Request<'a>>, AllocError> {
+    match name {
+        "solve" => Ok(solve_request(matches)),
+        "check" => Ok(check_request(matches)),
+        "verify" => Ok(request_on_files(matches, Task::Verify)),
+        "tables" => Ok(request_on_files(matches, Task::Tables)),
+        "replay" => Ok(request_on_files(matches, replay_task(alloc, matches)?)),
+        _ => Ok(None),
+    }
+}
+
+/// What the words ask for, of which the first is the program's own name.
+pub fn request_in<'a>(alloc: Global, words: &'a [String]) -> Result<Request<'a>, Error> {
+    let mut command = command(alloc)?;
+    let matches = command.try_get_matches_from_mut(words)?;
+    let Some((name, matches)) = matches.subcommand() else {
+        return Ok(Request::VerifyBundle);
+    };
+    match request_of(alloc, name, matches)? {
+        Some(request) => Ok(request),
+        None => Err(command.error(
+            ErrorKind::InvalidSubcommand,
+            "the subcommand is unknown, or lacks a value",
+        )?),
+    }
+}

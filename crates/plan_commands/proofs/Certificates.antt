@@ -1,0 +1,44 @@
+-- What two readers give is judged as their texts are, and the line of a bound is the outcome of `check`.
+use Rattle.std.proofs.Common.{ℕ, List, Option, None, Some, IfSome, refl}
+use Rattle.ttp_model.specs.Problem.{Problem}
+use Rattle.command_streams.specs.declared.ending.Source.TheVariants as source
+use Rattle.command_streams.specs.declared.ending.Fault.{Fault}
+use Rattle.command_streams.specs.declared.ending.Fault.TheVariants.{NoMark, LossForm, Instance, Memory, PlanText, Plan, StatedDelay, CertificateText, Certificate, TooFewNodes, WrongLoss, Search, Unread, Unwritten}
+use Rattle.command_streams.specs.declared.ending.End.{End}
+use Rattle.command_streams.specs.declared.ending.End.TheVariants.{Refused}
+use Rattle.command_streams.specs.Outcomes.{IsWritingUnlessMemory}
+use Rattle.command_streams.specs.Instances.{HasInstance}
+use Rattle.plan_commands.specs.Certified.{HasBound, IsCertificateFault, IsUnproved, IsBoundLine, IsCheckAnswer, bound_line}
+use Rattle.command_streams.proofs.Outcomes.{keeps, made_outcome}
+
+-- a bound that is proved and written
+pub bound_of_readers : (a b : Option (List ℕ)) (i : Problem) (low : ℕ) (old new : Option (List ℕ)) (end : End) → IfSome a (λ instance. HasInstance instance i) → IfSome b (λ certificate. HasBound i certificate low) → IsWritingUnlessMemory (bound_line low) old new end → IfSome a (λ instance. IfSome b (λ certificate. IsCheckAnswer instance certificate old new end))
+bound_of_readers None b i low old new end has_instance has_bound writing = tt
+bound_of_readers (Some instance) None i low old new end has_instance has_bound writing = tt
+bound_of_readers (Some instance) (Some certificate) i low old new end has_instance has_bound writing =
+    made_outcome (IsBoundLine instance certificate) (IsUnproved instance certificate) (bound_line low) (record { problem = i; low = low; has_instance = has_instance; has_bound = has_bound; line_is = refl }) old new tt end writing
+
+-- a certificate that is refused, and nothing is written
+module _ (instance certificate : List ℕ) (i : Problem) (has : HasInstance instance i) (old : Option (List ℕ)) where
+  refused_here : (fault : Fault) → IsCertificateFault i certificate fault → IsCheckAnswer instance certificate old old (Refused fault)
+  refused_here Memory refused = (tt, keeps old)
+  refused_here (Unread source.Certificate) refused = (record { problem = i; has_instance = has; refused = refused }, keeps old)
+  refused_here (CertificateText error) refused = (record { problem = i; has_instance = has; refused = refused }, keeps old)
+  refused_here (Certificate fault) refused = (record { problem = i; has_instance = has; refused = refused }, keeps old)
+  refused_here NoMark refused = absurd refused
+  refused_here (LossForm k) refused = absurd refused
+  refused_here (Instance error) refused = absurd refused
+  refused_here (PlanText error) refused = absurd refused
+  refused_here (Plan fault) refused = absurd refused
+  refused_here (StatedDelay d) refused = absurd refused
+  refused_here TooFewNodes refused = absurd refused
+  refused_here (WrongLoss k) refused = absurd refused
+  refused_here (Search fault) refused = absurd refused
+  refused_here (Unread source.Instance) refused = absurd refused
+  refused_here (Unread source.Plan) refused = absurd refused
+  refused_here (Unwritten sink) refused = absurd refused
+
+pub refused_of_readers : (a b : Option (List ℕ)) (i : Problem) (old : Option (List ℕ)) (fault : Fault) → IfSome a (λ instance. HasInstance instance i) → IfSome b (λ certificate. IsCertificateFault i certificate fault) → IfSome a (λ instance. IfSome b (λ certificate. IsCheckAnswer instance certificate old old (Refused fault)))
+refused_of_readers None b i old fault has refused = tt
+refused_of_readers (Some instance) None i old fault has refused = tt
+refused_of_readers (Some instance) (Some certificate) i old fault has refused = refused_here instance certificate i has old fault refused

@@ -1,0 +1,6 @@
+pub mod Verdicts
+pub mod Bundles
+pub mod NodeTables
+pub mod LossWords
+pub mod Traces
+pub mod Certified

@@ -1,0 +1,68 @@
+//! What `replay` says of an instance, a plan and lost frames.
+
+ghost use Rattle.std.specs.Prelude.{IfSome, MatchResult};
+ghost use Rattle.ttp_model.specs.Plans.{IsValid};
+ghost use Rattle.plan_commands.specs.LossWords.{bytes_of};
+ghost use Rattle.plan_commands.specs.Traces.{IsReplayAnswer, IsTraceFault, IsTraceOf};
+
+use crate::losses::{LossWord, losses_in, losses_of_words, word_of_loss};
+use crate::verdict::verified_of_readers;
+use command_streams::{End, Fault, end_with};
+use medl_tables::Medl;
+use membership_replay::{ReplayFault, print, replay};
+use std::alloc::Global;
+use std::io::{Read, Write};
+use ttp_model::{Instance, Plan};
+
+/// The text of the replay of a valid plan's cycle, in which the words' frames are lost.
+fn trace_text(
+    alloc: Global,
+    instance: &Instance,
+    plan: &Plan,
+    words: &[LossWord],
+) -> Result<Vec<u8>, Fault>
+    requires { IsValid instance.now plan.now }
+    ensures { MatchResult result
+        (λ text. IsTraceOf words.now instance.now plan.now text.items)
+        (IsTraceFault words.now instance.now plan.now) }
+{
+    let _nodes = instance.nodes();
+    let medl = Medl::of(alloc, instance, plan)?;
+    let losses = losses_of_words(alloc, &medl, words)?;
+    match replay(alloc, instance, &medl, losses.as_slice()) {
+        Ok(trace) => Ok(print(alloc, instance, &trace)?),
+        Err(ReplayFault::TooFewNodes) => Err(Fault::TooFewNodes),
+        Err(ReplayFault::WrongLoss(k)) => Err(Fault::WrongLoss(word_of_loss(&medl, words, k))),
+        Err(ReplayFault::OutOfMemory) => Err(Fault::Memory),
+    }
+}
+
+/// Reads the words of lost frames, each `ROUND/SLOT/NODE`, or `ROUND/SLOT/*` for all receivers of that slot; then
+/// verifies a plan as `verify` does; and then writes what membership does in one cycle of it. The first malformed
+/// word goes first, then all that `verify` tells, then that there are fewer than three nodes, and then the first word
+/// whose frame isn't one of the cycle, or whose node isn't there or is the sender. Where anything else ends the
+/// command nothing is written, and after a failed write a prefix of the text stands. A step for each slot, node and
+/// loss.
+pub fn replay_run<I: Read, P: Read, W: Write>(
+    alloc: Global,
+    instance: &mut I,
+    plan: &mut P,
+    words: &[&str],
+    out: &mut W,
+) -> End
+    ensures { IfSome (I.remaining instance.old) (λ i. IfSome (P.remaining plan.old) (λ p.
+        IsReplayAnswer (bytes_of words.now) i p (W.contents out.old) (W.contents out.new) result)) }
+{
+    let losses = match losses_in(alloc, words) {
+        Ok(losses) => losses,
+        Err(fault) => return End::Refused(fault),
+    };
+    let verified = match verified_of_readers(alloc, instance, plan) {
+        Ok(verified) => verified,
+        Err(fault) => return End::Refused(fault),
+    };
+    match trace_text(alloc, &verified.instance, &verified.plan, losses.as_slice()) {
+        Ok(text) => end_with(out, text.as_slice()),
+        Err(fault) => End::Refused(fault),
+    }
+}

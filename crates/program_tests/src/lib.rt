@@ -1,0 +1,23 @@
+//! Tests of the program's commands, by what they read and write.
+#![tactic(auto)]
+
+#[cfg(test)]
+mod bundles;
+#[cfg(test)]
+mod checks;
+#[cfg(test)]
+mod replays;
+#[cfg(test)]
+mod requests;
+#[cfg(test)]
+mod solve_streams;
+#[cfg(test)]
+mod solves;
+#[cfg(test)]
+mod streams;
+#[cfg(test)]
+mod table_texts;
+#[cfg(test)]
+mod told;
+#[cfg(test)]
+mod verdicts;

@@ -1,0 +1,143 @@
+//! What stands after a read or a write of a command has failed?
+
+use crate::told::{Asked, Told, joined};
+use std::alloc::{AllocError, Global};
+use std::io;
+use std::io::{Read, Write};
+
+/// A reader that gives one byte at a time, and fails at a call.
+#[derive(Drop)]
+pub struct FailingReader<'a> {
+    pub bytes: &'a [u8],
+    pub calls_left: usize,
+}
+
+impl<'a> Read for FailingReader<'a> {
+    fn read(&mut self, buf: &mut [u8]) -> io::Result<usize> {
+        if self.calls_left == 0 {
+            return Err(io::Error::from(io::ErrorKind::Other));
+        }
+        self.calls_left -= 1;
+        match self.bytes {
+            [first, rest @ ..] if !buf.is_empty() => {
+                buf[0] = *first;
+                self.bytes = rest;
+                Ok(1)
+            }
+            _ => Ok(0),
+        }
+    }
+}
+
+/// A writer that takes one byte at a time, until it has no room.
+#[derive(Drop)]
+pub struct FullWriter {
+    pub taken: Vec<u8>,
+    pub room: usize,
+}
+
+impl FullWriter {
+    pub fn with_room(alloc: Global, room: usize) -> FullWriter {
+        FullWriter {
+            taken: Vec::new(alloc),
+            room,
+        }
+    }
+}
+
+impl Write for FullWriter {
+    fn write(&mut self, buf: &[u8]) -> io::Result<usize> {
+        if self.room == 0 || buf.is_empty() {
+            return Ok(0);
+        }
+        self.taken.push(buf[0])?;
+        self.room -= 1;
+        Ok(1)
+    }
+
+    fn flush(&mut self) -> io::Result<()> {
+        Ok(())
+    }
+}
+
+/// A command on two texts, with the line that tells a failure of the second reader, and what is written of them.
+#[derive(Clone, Copy)]
+pub struct Case<'a> {
+    pub command: Asked<'a>,
+    pub instance: &'a [&'a str],
+    pub second: &'a str,
+    pub error: &'a str,
+    pub out: &'a str,
+}
+
+/// A failure that is told otherwise: of a reader at this call, or of the writer with room for so many bytes.
+#[derive(Clone, Copy, Debug, PartialEq, Eq)]
+pub enum Wrong {
+    Instance(usize),
+    Second(usize),
+    Out(usize),
+}
+
+impl<'a> Case<'a> {
+    /// What is told where the two readers fail after so many calls, and the output is full after so many bytes.
+    fn told(&self, alloc: Global, instance: &str, calls: (usize, usize), room: usize) -> Told {
+        let mut instance = FailingReader {
+            bytes: instance.as_bytes(),
+            calls_left: calls.0,
+        };
+        let mut second = FailingReader {
+            bytes: self.second.as_bytes(),
+            calls_left: calls.1,
+        };
+        let mut out = FullWriter::with_room(alloc, room);
+        let end = self
+            .command
+            .end(alloc, &mut instance, &mut second, &mut out);
+        Told::at(alloc, &end, out.taken)
+    }
+
+    /// The first call at which a failure of the instance's reader is told otherwise.
+    fn wrong_call_of_instance(&self, alloc: Global, instance: &str) -> Option<Wrong> {
+        for calls in 0..instance.len() + 1 {
+            let told = self.told(alloc, instance, (calls, usize::MAX), usize::MAX);
+            if !told.is("read instance\n", 6) {
+                return Some(Wrong::Instance(calls));
+            }
+        }
+        None
+    }
+
+    /// The first call at which a failure of the second reader is told otherwise.
+    fn wrong_call_of_second(&self, alloc: Global, instance: &str) -> Option<Wrong> {
+        for calls in 0..self.second.len() + 1 {
+            let told = self.told(alloc, instance, (usize::MAX, calls), usize::MAX);
+            if !told.is(self.error, 6) {
+                return Some(Wrong::Second(calls));
+            }
+        }
+        None
+    }
+
+    /// The first room for the output with which it hasn't just a prefix of what is written.
+    fn wrong_room(&self, alloc: Global, instance: &str) -> Option<Wrong> {
+        let out = self.out.as_bytes();
+        for room in 0..out.len() {
+            let told = self.told(alloc, instance, (usize::MAX, usize::MAX), room);
+            if !told.has(&out[..room], "write out\n", 6) {
+                return Some(Wrong::Out(room));
+            }
+        }
+        None
+    }
+
+    /// The first failure that is told otherwise.
+    pub fn wrong(&self, alloc: Global) -> Result<Option<Wrong>, AllocError> {
+        let instance = joined(alloc, self.instance)?;
+        let instance = instance.as_str();
+        Ok(
+            self.wrong_call_of_instance(alloc, instance)
+                .or(self.wrong_call_of_second(alloc, instance))
+                .or(self.wrong_room(alloc, instance)),
+        )
+    }
+}

@@ -1,0 +1,259 @@
+//! What `solve` says of an instance, and the certificate that shows it.
+
+ghost use Rattle.std.specs.Prelude.{◌≡◌, None, true, false, is_some, string_bytes, IfOk, IfSome, MatchResult};
+ghost use Rattle.planner.specs.Answers.{cert_of, IsBestPlan, Shows};
+ghost use Rattle.solve_command.specs.Solved.{best_word, end_of, fault_of, held, left, stopped_line, why_word, IsAnswerText, IsCertifying, IsSolveAnswer, IsSolved, IsStoppedText, IsUnsolved, IsWritingTo};
+
+use certificate::Cert;
+use command_streams::{End, Fault, SearchFault, Sink, read_instance, write_text};
+use planner::{GatherFault, Options, Outcome, SolveFault, Why, solve};
+use std::alloc::{AllocError, Global};
+use std::fmt;
+use std::io::{Read, Write};
+use ttp_model::{Instance, MemoryFault, Plan};
+
+/// An instance, and what a search of it found.
+#[derive(Debug, Drop)]
+pub struct Solved {
+    pub instance: Instance,
+    pub outcome: Outcome,
+    /// What is written of it.
+    pub text: Vec<u8>,
+}
+
+#[derive(Drop)]
+struct WhyWord(Why);
+
+impl fmt::Display for WhyWord {
+    ghost use Rattle.std.specs.Prelude.{Some};
+
+    ghost output = { λ x. Some (why_word x.0) };
+
+    fn fmt<W: fmt::Write>(&self, f: &mut fmt::Formatter<W>) -> fmt::Result {
+        match self.0 {
+            Why::Budget => write!(f, "budget"),
+            Why::Memory => write!(f, "memory"),
+        }
+    }
+}
+
+#[derive(Drop)]
+struct BestWord(Option<u64>);
+
+impl fmt::Display for BestWord {
+    ghost use Rattle.std.specs.Prelude.{Some};
+
+    ghost output = { λ x. Some (best_word x.0) };
+
+    fn fmt<W: fmt::Write>(&self, f: &mut fmt::Formatter<W>) -> fmt::Result {
+        match self.0 {
+            None => write!(f, "none"),
+            Some(delay) => write!(f, "{delay}"),
+        }
+    }
+}
+
+/// The line of a search that stopped.
+fn stopped_line(alloc: Global, why: Why, low: u32, best: Option<u64>) -> Result<String, AllocError>
+    ensures { IfOk result (λ line. string_bytes line ≡ stopped_line why low best) }
+{
+    let why = WhyWord(why);
+    let best = BestWord(best);
+    format!(in alloc; "stopped {why} {low} {best}\n")
+}
+
+/// That line and then the best plan's text, where there is a plan.
+fn stopped_text(
+    alloc: Global,
+    instance: &Instance,
+    why: Why,
+    low: u32,
+    best: &Option<(Plan, u64)>,
+) -> Result<Vec<u8>, MemoryFault>
+    requires { IsBestPlan instance.now best.now }
+    ensures { IfOk result (λ text. IsStoppedText instance.now why low best.now text.items) }
+{
+    match best {
+        None => {
+            let line = stopped_line(alloc, why, low, None)?;
+            Ok(Vec::from_slice(alloc, line.as_bytes())?)
+        }
+        Some((plan, delay)) => {
+            let line = stopped_line(alloc, why, low, Some(*delay))?;
+            let mut text = Vec::from_slice(alloc, line.as_bytes())?;
+            let plan = plan_format::print(alloc, instance, plan)?;
+            text.extend_from_slice(plan.as_slice())?;
+            Ok(text)
+        }
+    }
+}
+
+/// What is written of an answer.
+fn answer_text(
+    alloc: Global,
+    instance: &Instance,
+    outcome: &Outcome,
+) -> Result<Vec<u8>, MemoryFault>
+    requires { Shows instance.now outcome.now }
+    ensures { IfOk result (λ text. IsAnswerText instance.now outcome.now text.items) }
+{
+    match outcome {
+        Outcome::Optimal { plan, .. } => plan_format::print(alloc, instance, plan),
+        Outcome::Infeasible { .. } => Ok(Vec::from_slice(alloc, b"none\n")?),
+        Outcome::Stopped { why, low, best, .. } => stopped_text(alloc, instance, *why, *low, best),
+    }
+}
+
+/// The end at which an answer is told.
+fn end_of(outcome: &Outcome) -> End
+    ensures { result ≡ end_of outcome.now }
+{
+    match outcome {
+        Outcome::Optimal { .. } => End::Done,
+        Outcome::Infeasible { .. } => End::Absent,
+        Outcome::Stopped { .. } => End::Stopped,
+    }
+}
+
+/// The certificate of an answer.
+fn cert_of(outcome: &Outcome) -> &Cert
+    ensures { result.now ≡ cert_of outcome.now }
+{
+    match outcome {
+        Outcome::Optimal { cert, .. } => cert,
+        Outcome::Infeasible { cert } => cert,
+        Outcome::Stopped { cert, .. } => cert,
+    }
+}
+
+/// The fault that the search's own is told as.
+fn fault_of(fault: SolveFault) -> SearchFault
+    ensures { result ≡ fault_of fault }
+{
+    match fault {
+        SolveFault::Memory => SearchFault::Memory,
+        SolveFault::Thread => SearchFault::Thread,
+        SolveFault::Gather(GatherFault::DoubledName) => SearchFault::DoubledName,
+        SolveFault::Gather(GatherFault::MissingName) => SearchFault::MissingName,
+        SolveFault::Gather(GatherFault::StrayName) => SearchFault::StrayName,
+        SolveFault::Gather(GatherFault::LowGoal) => SearchFault::LowGoal,
+        SolveFault::Gather(GatherFault::OutOfMemory) => SearchFault::Memory,
+    }
+}
+
+/// Searches the instance that a reader's bytes state, and makes the answer's text.
+fn solved_of_reader<R, I: Read>(
+    rt: &R,
+    alloc: Global,
+    instance: &mut I,
+    options: Options,
+) -> Result<Solved, Fault>
+    ensures { IfSome (I.remaining instance.old) (λ bytes. MatchResult result
+        (IsSolved bytes options)
+        (IsUnsolved bytes)) }
+{
+    let instance = read_instance(alloc, instance)?;
+    let outcome = match solve(rt, alloc, &instance, options) {
+        Ok(outcome) => outcome,
+        Err(fault) => return Err(Fault::Search(fault_of(fault))),
+    };
+    match answer_text(alloc, &instance, &outcome) {
+        Ok(text) => Ok(Solved {
+            instance,
+            outcome,
+            text,
+        }),
+        Err(_) => Err(Fault::Memory),
+    }
+}
+
+/// Writes a certificate.
+fn write_certificate<C: Write>(alloc: Global, cert: &Cert, out: &mut C) -> Result<(), Fault>
+    ensures { IsCertifying cert.now (C.contents out.old) (C.contents out.new) result }
+{
+    let Ok(text) = certificate::print(alloc, cert) else {
+        return Err(Fault::Memory);
+    };
+    match write_text(out, text.as_slice()) {
+        Ok(()) => Ok(()),
+        Err(_) => Err(Fault::Unwritten(Sink::Certificate)),
+    }
+}
+
+/// Writes an answer's text, and ends as the answer does.
+fn write_answer<W: Write>(solved: &Solved, out: &mut W) -> End
+    ensures { IsWritingTo (end_of solved.now.outcome) solved.now.text.items
+        (W.contents out.old) (W.contents out.new) result }
+{
+    match write_text(out, solved.text.as_slice()) {
+        Ok(()) => end_of(&solved.outcome),
+        Err(_) => End::Refused(Fault::Unwritten(Sink::Out)),
+    }
+}
+
+/// `solve_run` where no certificate is asked for.
+#[tactic(auto, unfolding(crate::specs::Solved::IsSolveAnswer))]
+fn solve_alone<R, I: Read, W: Write>(
+    rt: &R,
+    alloc: Global,
+    instance: &mut I,
+    options: Options,
+    out: &mut W,
+) -> End
+    ensures { IfSome (I.remaining instance.old) (λ bytes.
+        IsSolveAnswer bytes options false None None (W.contents out.old) (W.contents out.new) result) }
+{
+    match solved_of_reader(rt, alloc, instance, options) {
+        Ok(solved) => write_answer(&solved, out),
+        Err(fault) => End::Refused(fault),
+    }
+}
+
+/// `solve_run` with a writer for the certificate.
+#[tactic(auto, unfolding(crate::specs::Solved::IsSolveAnswer))]
+fn solve_certified<R, I: Read, C: Write, W: Write>(
+    rt: &R,
+    alloc: Global,
+    instance: &mut I,
+    options: Options,
+    certificate: &mut C,
+    out: &mut W,
+) -> End
+    ensures { IfSome (I.remaining instance.old) (λ bytes.
+        IsSolveAnswer bytes options true (C.contents certificate.old) (C.contents certificate.new)
+        (W.contents out.old) (W.contents out.new) result) }
+{
+    let solved = match solved_of_reader(rt, alloc, instance, options) {
+        Ok(solved) => solved,
+        Err(fault) => return End::Refused(fault),
+    };
+    match write_certificate(alloc, cert_of(&solved.outcome), certificate) {
+        Ok(()) => write_answer(&solved, out),
+        Err(fault) => End::Refused(fault),
+    }
+}
+
+/// Reads an instance, searches it, and writes what was found: the text of a plan whose delay is the least; `none`
+/// where no plan is valid, and then the end is `Absent`; or, where the search was stopped, a line `stopped` with the
+/// word `budget` or `memory`, a delay in ticks that no plan is below, and the delay of the best plan found, or the
+/// word `none`, followed by that plan's text, and then the end is `Stopped`. The certificate is written first,
+/// whatever was found. Both texts are made before one is written: where memory is refused nothing is written, and
+/// where the certificate's writer fails nothing but a prefix of it is.
+pub fn solve_run<R, I: Read, C: Write, W: Write>(
+    rt: &R,
+    alloc: Global,
+    instance: &mut I,
+    options: Options,
+    certificate: Option<&mut C>,
+    out: &mut W,
+) -> End
+    ensures { IfSome (I.remaining instance.old) (λ bytes.
+        IsSolveAnswer bytes options (is_some certificate.entry)
+        (held C.contents certificate.entry) (left C.contents certificate.exit)
+        (W.contents out.old) (W.contents out.new) result) }
+{
+    match certificate {
+        None => solve_alone(rt, alloc, instance, options, out),
+        Some(writer) => solve_certified(rt, alloc, instance, options, writer, out),
+    }
+}

@@ -1,9 +1,0 @@
-pub mod Written
-pub mod Tellings
-pub mod Splits
-pub mod LossSpelling
-pub mod LossPlaces
-pub mod LossLists
-pub mod Traced
-pub mod Certificates
-pub mod Solving

@@ -1,6 +1,0 @@
-use Rattle.std.proofs.Common.{ℕ, ◌<◌}
-use Rattle.ttplan.specs.Bundles.{IsMark}
-use Rattle.ttplan.proofs.bundle.mark_at.Given as goal
-
-abbrev pub invariant-loop-at : goal.invariant-loop-at
-invariant-loop-at l = (earlier : ℕ) → earlier < l.at → ¬ IsMark l.bytes earlier

@@ -1,6 +1,0 @@
-use Rattle.std.proofs.Common.{◌≡◌, ◌+◌, length}
-use Rattle.ttplan.specs.LossWords.{losses_before}
-use Rattle.ttplan.proofs.losses.word_of_loss.Given as goal
-
-abbrev pub invariant-loop-k : goal.invariant-loop-k
-invariant-loop-k l = length (losses_before l.medl l.words l.k) + l.left ≡ l.loss

@@ -1,6 +1,0 @@
-use Rattle.std.proofs.Common.{None, false}
-use Rattle.ttplan.proofs.Solving.{told_of_reader}
-use Rattle.ttplan.proofs.solve.solve_alone.Goals as goal
-
-pub returns-in-Ok : goal.returns-in-Ok
-returns-in-Ok g c = told_of_reader _ _ false None None _ c.in-Ok.solved c.in-Ok.ensures tt _ _ c.write_answer.ensures

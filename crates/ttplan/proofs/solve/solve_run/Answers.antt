@@ -1,4 +1,0 @@
-use Rattle.ttplan.proofs.solve.solve_run.Goals as goal
-
-pub returns-in-Some : goal.returns-in-Some
-returns-in-Some g c = rw c.in-Some.is c.solve_certified.ensures

@@ -1,7 +1,0 @@
-use Rattle.ttplan.proofs.Tellings.{judged_of_readers}
-use Rattle.ttplan.proofs.verify.verified_of_readers.Goals as goal
-
-pub returns-clause-judged : goal.returns-clause-judged
-returns-clause-judged g c =
-    let judged = rw c.as_slice.ensures.value at c.verified_of_text.ensures.judged in
-    judged_of_readers _ _ c.in_ok-instance.instance c.in_ok-bytes.bytes.items _ c.in_ok-instance.ensures c.in_ok-bytes.ensures.read judged

@@ -1,5 +1,0 @@
-use Rattle.ttplan.proofs.Tellings.{verdict_of_readers}
-use Rattle.ttplan.proofs.verify.verify.Goals as goal
-
-pub returns-in-Ok : goal.returns-in-Ok
-returns-in-Ok g c = verdict_of_readers _ _ c.in-Ok.verified _ _ _ c.in-Ok.ensures.judged c.write_verdict.ensures
