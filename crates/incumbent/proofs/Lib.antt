@@ -1,0 +1,4 @@
+mod Ends
+mod Steps
+mod Views
+mod Watches
