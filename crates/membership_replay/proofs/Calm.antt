@@ -34,18 +34,18 @@ state_after-calm full i s state shown same calm = elim calm.phase [
   | inr first ↦ rw (first, same, calm.vector, is_same-refl full) (record { vector = refl; phase = inl refl })
 ]
 
-module _ (count : ℕ) (full : List Bool) (members : EachBelow count (λ i. has_member full i ≡ true)) (losses : List Loss) (row : Row) (heard : (i : ℕ) → is_lost losses row i ≡ false) (states : List NodeState) (calm : AreCalm count full states) (sender : row.sender < count) where
+module _ (count : ℕ) (full : List Bool) (members : EachBelow count (λ i. has_member full i ≡ true)) (losses : List Loss) (row : Row) (heard : EachBelow count (λ i. is_lost losses row i ≡ false)) (states : List NodeState) (calm : AreCalm count full states) (sender : row.sender < count) where
   pub is_active-calm : (i : ℕ) → i < count → is_active states i ≡ true
   is_active-calm i inside = rw ((calm.each i inside).vector) (members i inside)
 
-  pub is_received-calm : (i : ℕ) → is_received row losses states i ≡ true
-  is_received-calm i = rw (is_active-calm row.sender sender, heard i) refl
+  pub is_received-calm : (i : ℕ) → i < count → is_received row losses states i ≡ true
+  is_received-calm i inside = rw (is_active-calm row.sender sender, heard i inside) refl
 
   pub next_state-calm : (i : ℕ) → i < count → IsCalm full (next_state row losses states i)
   unfolding next_state
   next_state-calm i inside = rw (is_active-calm i inside) (elim (eqb_tells i row.sender) [
     | inl same ↦ rw same.0 (record { vector = (calm.each i inside).vector; phase = inr refl })
-    | inr differ ↦ rw (differ.0, is_received-calm i) (state_after-calm full i row.sender (state_at states i) (state_at states row.sender).vector (calm.each row.sender sender).vector (calm.each i inside))
+    | inr differ ↦ rw (differ.0, is_received-calm i inside) (state_after-calm full i row.sender (state_at states i) (state_at states row.sender).vector (calm.each row.sender sender).vector (calm.each i inside))
   ])
 
   next_state-read : (i : ℕ) → i < count → state_at (next_states row losses states) i ≡ next_state row losses states i
@@ -60,10 +60,10 @@ module _ (count : ℕ) (full : List Bool) (members : EachBelow count (λ i. has_
   -- it takes what the frame has for it
   pub takes_messages-calm : (i : ℕ) → i < count → takes_messages row losses states i ≡ true
   takes_messages-calm i inside =
-      rw (is_received-calm i, (next_state-calm i inside).vector, members i inside, (calm.each row.sender sender).vector, is_same-refl full) refl
+      rw (is_received-calm i inside, (next_state-calm i inside).vector, members i inside, (calm.each row.sender sender).vector, is_same-refl full) refl
 
 -- the states before every slot are calm, where each slot has a sender and no frame before it is lost
-pub states_before-calm : (t : Tables) (losses : List Loss) (full : List Bool) → EachBelow (length t.rows) (λ i. has_member full i ≡ true) → full ≡ (first_state (length t.rows)).vector → (slot : ℕ) → EachBelow slot (λ k. (row_at t 0 k).sender < length t.rows) → EachBelow slot (λ k. (i : ℕ) → is_lost losses (row_at t 0 k) i ≡ false) → AreCalm (length t.rows) full (states_before t losses slot)
+pub states_before-calm : (t : Tables) (losses : List Loss) (full : List Bool) → EachBelow (length t.rows) (λ i. has_member full i ≡ true) → full ≡ (first_state (length t.rows)).vector → (slot : ℕ) → EachBelow slot (λ k. (row_at t 0 k).sender < length t.rows) → EachBelow slot (λ k. EachBelow (length t.rows) (λ i. is_lost losses (row_at t 0 k) i ≡ false)) → AreCalm (length t.rows) full (states_before t losses slot)
 unfolding states_before
 states_before-calm t losses full members is zero senders heard =
     let count = length t.rows in

@@ -43,12 +43,12 @@ node_delivers : (count : ℕ) (full : List Bool) (members : EachBelow count (λ 
 unfolding node_events
 node_delivers count full members row states calm sender messages i inside other k d there = elim (eqb_tells i row.sender) [
   | inl same ↦ absurd (other same.1)
-  | inr differ ↦ rw (is_active-calm count full members [] row (λ j. refl) states calm sender i inside, differ.0, takes_messages-calm count full members [] row (λ j. refl) states calm sender i inside) (Contains-append_right (step_events (step_at row [] states i) i row.sender (state_at states i).vector) (deliveries i messages) (Deliver (get_or messages k d).message i) (Contains-deliveries i messages k d there))
+  | inr differ ↦ rw (is_active-calm count full members [] row (λ j _. refl) states calm sender i inside, differ.0, takes_messages-calm count full members [] row (λ j _. refl) states calm sender i inside) (Contains-append_right (step_events (step_at row [] states i) i row.sender (state_at states i).vector) (deliveries i messages) (Deliver (get_or messages k d).message i) (Contains-deliveries i messages k d there))
 ]
 
 module _ (t : Tables) (few : length t.rows ≤ MOST_NODES) (senders : EachBelow (slot_count t) (λ k. (row_at t 0 k).sender < length t.rows)) where
   calm_before : (slot : ℕ) → slot ≤ slot_count t → AreCalm (length t.rows) (first_state (length t.rows)).vector (states_before t [] slot)
-  calm_before slot inside = states_before-calm t [] (first_state (length t.rows)).vector (first_state-members (length t.rows) few) refl slot (λ k h. senders k (omega (arith, h, inside))) (λ k h i. refl)
+  calm_before slot inside = states_before-calm t [] (first_state (length t.rows)).vector (first_state-members (length t.rows) few) refl slot (λ k h. senders k (omega (arith, h, inside))) (λ k h i _. refl)
 
   pub all_stay_members : AllStayMembers (length t.rows) (replay_of t [])
   all_stay_members = λ i inside n other.

@@ -84,7 +84,7 @@ step-leave full s s1 s2 state shown same vector phase other member =
 
 module _ (count : ℕ) (full : List Bool) (members : EachBelow count (λ i. has_member full i ≡ true)) (losses : List Loss) (row : Row) (states : List NodeState) (sender : row.sender < count) where
   -- the slot in which the frame is lost
-  pub after-lost : AreCalm count full states → ((i : ℕ) → i ≢ row.sender → is_lost losses row i ≡ true) → AreWithout count full row.sender First (next_states row losses states)
+  pub after-lost : AreCalm count full states → ((i : ℕ) → i < count → i ≢ row.sender → is_lost losses row i ≡ true) → AreWithout count full row.sender First (next_states row losses states)
   unfolding next_state
   after-lost calm lost = record {
     all = length-map-range_with_len (next_state row losses states) 0 (length states) ∙ calm.all;
@@ -102,9 +102,9 @@ module _ (count : ℕ) (full : List Bool) (members : EachBelow count (λ i. has_
       at_other i inside other =
           let active = active-by full states i (calm.each i inside).vector (members i inside) in
           let sends = active-by full states row.sender (calm.each row.sender sender).vector (members row.sender sender) in
-          rw (active, eqb-other i row.sender other, sends, lost i other) (step-unheard full i row.sender (state_at states i) (state_at states row.sender).vector (calm.each i inside))
+          rw (active, eqb-other i row.sender other, sends, lost i inside other) (step-unheard full i row.sender (state_at states i) (state_at states row.sender).vector (calm.each i inside))
 
-module _ (count : ℕ) (full : List Bool) (members : EachBelow count (λ i. has_member full i ≡ true)) (losses : List Loss) (row : Row) (heard : (i : ℕ) → is_lost losses row i ≡ false) (states : List NodeState) (s : ℕ) (inside : s < count) (sender : row.sender < count) (other : row.sender ≢ s) where
+module _ (count : ℕ) (full : List Bool) (members : EachBelow count (λ i. has_member full i ≡ true)) (losses : List Loss) (row : Row) (heard : (i : ℕ) → i < count → is_lost losses row i ≡ false) (states : List NodeState) (s : ℕ) (inside : s < count) (sender : row.sender < count) (other : row.sender ≢ s) where
   sends : (phase : Phase) → AreWithout count full s phase states → is_active states row.sender ≡ true
   sends phase w = active-by (without full s) states row.sender (w.others row.sender sender other).vector (without-other full s row.sender other (members row.sender sender))
 
@@ -121,7 +121,7 @@ module _ (count : ℕ) (full : List Bool) (members : EachBelow count (λ i. has_
       at_lost : ((next_state row losses states s).vector ≡ full) × ((next_state row losses states s).phase ≡ Second row.sender)
       at_lost =
           let active = active-by full states s w.sender_vector (members s inside) in
-          rw (active, eqb-other s row.sender (λ same. other (sym same)), sends First w, heard s) (step-doubt full s row.sender (state_at states s) (state_at states row.sender).vector (w.others row.sender sender other).vector w.sender_vector w.sender_phase (members s inside))
+          rw (active, eqb-other s row.sender (λ same. other (sym same)), sends First w, heard s inside) (step-doubt full s row.sender (state_at states s) (state_at states row.sender).vector (w.others row.sender sender other).vector w.sender_vector w.sender_phase (members s inside))
 
       at_other : (i : ℕ) → i < count → i ≢ s → IsCalm (without full s) (next_state row losses states i)
       at_other i there apart =
@@ -129,7 +129,7 @@ module _ (count : ℕ) (full : List Bool) (members : EachBelow count (λ i. has_
           let active = active-by (without full s) states i calm.vector (without-other full s i apart (members i there)) in
           rw active (elim (eqb_tells i row.sender) [
             | inl same ↦ rw same.0 (record { vector = calm.vector; phase = inr refl })
-            | inr differ ↦ rw (differ.0, sends First w, heard i) (state_after-calm (without full s) i row.sender (state_at states i) (state_at states row.sender).vector (w.others row.sender sender other).vector calm)
+            | inr differ ↦ rw (differ.0, sends First w, heard i there) (state_after-calm (without full s) i row.sender (state_at states i) (state_at states row.sender).vector (w.others row.sender sender other).vector calm)
           ])
 
   -- and the second one after it
@@ -137,4 +137,4 @@ module _ (count : ℕ) (full : List Bool) (members : EachBelow count (λ i. has_
   unfolding next_state
   after-leave s1 first w =
       let active = active-by full states s w.sender_vector (members s inside) in
-      rw (next_states-read row losses states s (omega (arith, inside, w.all)), active, eqb-other s row.sender (λ same. other (sym same)), sends (Second s1) w, heard s) (step-leave full s s1 row.sender (state_at states s) (state_at states row.sender).vector (w.others row.sender sender other).vector w.sender_vector w.sender_phase first (members s inside))
+      rw (next_states-read row losses states s (omega (arith, inside, w.all)), active, eqb-other s row.sender (λ same. other (sym same)), sends (Second s1) w, heard s inside) (step-leave full s s1 row.sender (state_at states s) (state_at states row.sender).vector (w.others row.sender sender other).vector w.sender_vector w.sender_phase first (members s inside))

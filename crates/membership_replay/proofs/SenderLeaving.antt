@@ -41,6 +41,7 @@ module _ (t : Tables) (losses : List Loss) (slot : ℕ) (few : length t.rows ≤
       let three_more : slot + 3 ≡ suc (suc (suc slot)) = omega arith in
       record {
         dropped = λ i there other. rw add-one ((dropped.others i there other).vector);
+        stands = rw (two, in_doubt.sender_vector) (members s inside);
         left = rw (three_more, last) (without-itself full s (members s inside));
       }
 

@@ -6,3 +6,4 @@ pub mod Undisturbed
 pub mod LostFrames
 pub use Rattle.medl_tables.specs.Tables
 pub use Rattle.medl_tables.specs.Rows
+pub mod Worked

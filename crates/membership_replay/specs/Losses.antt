@@ -27,8 +27,8 @@ pub record CanBeReplayed (t : Tables) (losses : List Loss) : Type 0 where
   pub nodes : 3 ≤ length t.rows
   pub losses_of : EachBelow (length losses) (IsLossAt t losses)
 
--- why it isn't: the nodes go first, then the first loss that can't be; want of memory may come in place of either
+-- why it isn't: the nodes go first, then the first loss that can't be; want of memory comes only where it can be
 abbrev pub IsFault : Tables → List Loss → ReplayFault → Type 0
 IsFault t losses TooFewNodes = length t.rows < 3
 IsFault t losses (WrongLoss k) = (3 ≤ length t.rows) × IsFirstFailure (length losses) (IsLossAt t losses) k
-IsFault t losses OutOfMemory = Unit {0}
+IsFault t losses OutOfMemory = CanBeReplayed t losses

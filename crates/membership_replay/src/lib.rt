@@ -10,6 +10,7 @@ mod node;
 mod state;
 mod text;
 mod trace;
+mod worked;
 
 pub use cycle::replay;
 pub use fault::ReplayFault;
@@ -17,3 +18,4 @@ pub use loss::Loss;
 pub use state::{NodeState, Phase, Step};
 pub use text::print;
 pub use trace::{Event, Events, Slot, Trace};
+pub use worked::first_frame_of_three_nodes_is_lost;

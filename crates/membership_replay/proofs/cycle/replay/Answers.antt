@@ -1,4 +1,5 @@
 use Rattle.std.proofs.Common.{◌≤◌, length, ap, arith}
+use Rattle.std.proofs.lemmas.Result.{err_from_is_err_and}
 use Rattle.medl_tables.proofs.TableParts.{tables-length}
 use Rattle.membership_replay.proofs.Arrivals.{each_message_arrives}
 use Rattle.membership_replay.proofs.Delivered.{all_arrive, all_stay}
@@ -35,3 +36,11 @@ pub returns-clause-leave : goal.returns-clause-leave
 returns-clause-leave c = λ slot lost room.
     let enough : 3 ≤ length c.args.instance.now.nodes = omega (arith, ap length c.nodes.ensures.value) in
     lost_sender_leaves c.args.instance.now c.args.medl.now c.args.losses.now slot c.nodes.ensures.instance c.requires enough lost room
+
+pub returns-in_err-trace-clause-err : goal.returns-in_err-trace-clause-err
+returns-in_err-trace-clause-err c =
+    let p = err_from_is_err_and c.from_residual.result c.from_residual.ensures.1 in
+    rw (p.1, p.2) (record {
+      nodes = omega (arith, tables-length c.args.instance.now c.args.medl.now c.requires, ap length c.nodes.ensures.value);
+      losses_of = c.in_default.ensures;
+    })
