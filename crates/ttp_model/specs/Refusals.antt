@@ -73,8 +73,8 @@ IsFirstWrongLength i part.Messages = HasLength 1 MOST_NODES i.nodes × HasLength
 abbrev pub BreaksRule : Problem → Rule → Type 0 → Type 0
 BreaksRule i rule Failure = KeepsRulesBefore i rule × Failure
 
--- The refusal that a problem earns, rule by rule. Which cycle is told, of several, is free; want of memory
--- may come in place of any other.
+-- The refusal that a problem earns, rule by rule. Which cycle is told, of several, is free. The search for one alone
+-- takes memory, so want of it comes only where every rule before that one is kept.
 abbrev pub IsRefusal : Problem → ModelError → Type 0
 IsRefusal i (Length list) = BreaksRule i Lengths (IsFirstWrongLength i list)
 IsRefusal i (NoReceiver m) = BreaksRule i Receivers (IsFirstFailure (length i.messages) (HasReceiver i) m)
@@ -90,4 +90,4 @@ IsRefusal i (Deadline p) = BreaksRule i Deadlines (IsFirstFailure (length i.proc
 IsRefusal i (LinkAcross l) = BreaksRule i LinkEnds (IsFirstFailure (length i.links) (StaysOnNode i) l)
 IsRefusal i (ReceiverTwice m) = BreaksRule i ReceiversOnce (IsFirstFailure (length i.messages) (ReceivesOnce i) m)
 IsRefusal i (Cycle ps) = BreaksRule i Cycles (IsCycle i ps)
-IsRefusal i OutOfMemory = Unit {0}
+IsRefusal i OutOfMemory = KeepsRulesBefore i Cycles
