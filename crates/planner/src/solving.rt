@@ -21,9 +21,14 @@ use certificate::Cert;
 use good_plan::good_plan;
 use search_core::World;
 use std::alloc::Global;
+use tt_choice::Choice;
 use ttp_model::{Instance, MemoryFault, Plan};
 
-/// A plan to begin with; none is looked for with a budget of 0.
+/// How much the root leaves to choose, at most, where no plan is looked for before the search: such a tree is worked as
+/// fast.
+const LITTLE: usize = 32;
+
+/// A plan to begin with; none is looked for with a budget of 0, or where little is to be chosen.
 fn first_plan(
     alloc: Global,
     instance: &Instance,
@@ -31,7 +36,7 @@ fn first_plan(
 ) -> Result<Option<(Plan, u64)>, MemoryFault>
     ensures { IfOk result (IsFound instance.now) }
 {
-    if budget == 0 {
+    if budget == 0 || Choice::root(alloc, instance)?.size_left(instance) <= LITTLE {
         return Ok(None);
     }
     good_plan(alloc, instance)
@@ -128,7 +133,8 @@ fn concluded(
 
 /// Searches for the shortest plan of an instance, by one worker on the caller's thread: works at most
 /// `budget` subtrees, and closes those that are left as well as propagation can. With a budget of 0
-/// nothing is worked and no plan is looked for. No thread is started as yet, whatever `workers` says.
+/// nothing is worked and no plan is looked for; nor is one looked for before the search where the root
+/// leaves at most 32 to choose. No thread is started as yet, whatever `workers` says.
 pub fn solve<R>(
     _rt: &R,
     alloc: Global,
