@@ -5,20 +5,22 @@ use Rattle.std.proofs.lemmas.List.Sums.{count_by-le-length}
 use Rattle.std.proofs.lemmas.Int.Digits.{length-digits_of-le}
 use Rattle.std.proofs.Math.Nat.{mul-le-mul_left}
 use Rattle.ttp_model.specs.declared.error.Place.TheVariants.{AtCluster}
-use Rattle.ttp_model.specs.Problem.{Problem}
+use Rattle.ttp_model.specs.declared.limits.TheConstants.{MOST_NODES, MOST_PROCESSES, MOST_MESSAGES, MOST_TICKS}
+use Rattle.ttp_model.specs.Instance.{Instance}
 use Rattle.ttp_model.specs.Rules.{IsInstance}
-use Rattle.tt_choice.specs.Choices.{Chosen, is_unordered, unordered_below, unordered_pairs, lo_of, hi_of}
+use Rattle.ttp_model.specs.Totals.{total}
+use Rattle.ttp_model.proofs.Totals.{total_le, total_more, total_bound}
+use Rattle.tt_choice.specs.Choice.{Choice, is_unordered, unordered_below, unordered_pairs, least_round, greatest_round}
 use Rattle.tt_choice.specs.Branches.{root_choice}
 use Rattle.tt_choice.specs.Sizes.{size_left, range_size}
-use Rattle.tt_choice.specs.Totals.{total}
-use Rattle.tt_choice.proofs.Totals.{total_le, total_more, total_bound}
+use Rattle.certificate.specs.declared.limits.TheConstants.{MOST_PAIRS, MOST_HALVINGS, MOST_BRANCHES_ABOVE}
 
 -- no test counts more than one
 one_or_none : (b : Bool) → (if b then 1 else 0) ≤ 1
 one_or_none true = omega arith
 one_or_none false = omega arith
 
-below_few : (i : Problem) (c : Chosen) (p : ℕ) → unordered_below i c p ≤ p
+below_few : (i : Instance) (c : Choice) (p : ℕ) → unordered_below i c p ≤ p
 below_few i c p =
     let most : unordered_below i c p ≤ p * 1 = total_bound (λ q. if is_unordered i c p q then 1 else 0) 1 p (λ q h. one_or_none (is_unordered i c p q)) in
     omega (arith, most)
@@ -28,40 +30,40 @@ numbers_sum : (count : ℕ) → 2 * total (λ p. p) count + count ≡ count * co
 numbers_sum zero = refl
 numbers_sum (suc count) = omega (arith, numbers_sum count, total_more (λ p. p) count)
 
-pairs_bound : (count sum : ℕ) → 2 * sum + count ≡ count * count → count ≤ 64 → sum ≤ 2016
+pairs_bound : (count sum : ℕ) → 2 * sum + count ≡ count * count → count ≤ MOST_PROCESSES → sum ≤ MOST_PAIRS
 pairs_bound count sum is few =
-    let square : count * count ≤ count * 64 = mul-le-mul_left count few in
+    let square : count * count ≤ count * MOST_PROCESSES = mul-le-mul_left count few in
     omega (arith, is, square, few)
 
-pairs_few : (i : Problem) (c : Chosen) → length i.processes ≤ 64 → unordered_pairs i c ≤ 2016
+pairs_few : (i : Instance) (c : Choice) → length i.processes ≤ MOST_PROCESSES → unordered_pairs i c ≤ MOST_PAIRS
 pairs_few i c few =
     let below : unordered_pairs i c ≤ total (λ p. p) (length i.processes) = total_le (unordered_below i c) (λ p. p) (length i.processes) (λ p h. below_few i c p) in
     let most = pairs_bound (length i.processes) (total (λ p. p) (length i.processes)) (numbers_sum (length i.processes)) few in
     omega (arith, below, most)
 
-range_few : (i : Problem) (m : ℕ) → m < length i.messages → i.cluster.horizon ≤ 1000000 → range_size (root_choice i) m ≤ 20
+range_few : (i : Instance) (m : ℕ) → m < length i.messages → i.cluster.horizon ≤ MOST_TICKS → range_size (root_choice i) m ≤ MOST_HALVINGS
 range_few i m inside short =
-    let last : hi_of (root_choice i) m ≡ i.cluster.horizon - 1 = get_or-replicate (length i.messages) m (i.cluster.horizon - 1) 0 inside in
-    let small : hi_of (root_choice i) m - lo_of (root_choice i) m < 2 ^ 20 = omega (arith, last, short) in
-    length-digits_of-le 2 20 (hi_of (root_choice i) m - lo_of (root_choice i) m) (omega arith) small
+    let last : greatest_round (root_choice i) m ≡ i.cluster.horizon - 1 = get_or-replicate (length i.messages) m (i.cluster.horizon - 1) 0 inside in
+    let small : greatest_round (root_choice i) m - least_round (root_choice i) m < 2 ^ MOST_HALVINGS = omega (arith, last, short) in
+    length-digits_of-le 2 MOST_HALVINGS (greatest_round (root_choice i) m - least_round (root_choice i) m) (omega arith) small
 
-ranges_few : (i : Problem) → length i.messages ≤ 128 → i.cluster.horizon ≤ 1000000 → total (range_size (root_choice i)) (length i.messages) ≤ 2560
+ranges_few : (i : Instance) → length i.messages ≤ MOST_MESSAGES → i.cluster.horizon ≤ MOST_TICKS → total (range_size (root_choice i)) (length i.messages) ≤ MOST_MESSAGES * MOST_HALVINGS
 ranges_few i few short =
-    let most : total (range_size (root_choice i)) (length i.messages) ≤ length i.messages * 20 = total_bound (range_size (root_choice i)) 20 (length i.messages) (λ m inside. range_few i m inside short) in
+    let most : total (range_size (root_choice i)) (length i.messages) ≤ length i.messages * MOST_HALVINGS = total_bound (range_size (root_choice i)) MOST_HALVINGS (length i.messages) (λ m inside. range_few i m inside short) in
     omega (arith, most, few)
 
-caps_few : (i : Problem) → length i.nodes ≤ 16 → count_by is_none (root_choice i).fixed ≤ 16
+caps_few : (i : Instance) → length i.nodes ≤ MOST_NODES → count_by is_none (root_choice i).fixed ≤ MOST_NODES
 caps_few i few =
     let all : count_by is_none (root_choice i).fixed ≤ length (root_choice i).fixed = count_by-le-length is_none (root_choice i).fixed in
     let nodes : length (root_choice i).fixed ≡ length i.nodes = length-replicate (length i.nodes) None in
     omega (arith, all, nodes, few)
 
-four : (a b c d : ℕ) → a ≤ 16 → b ≤ 16 → c ≤ 2016 → d ≤ 2560 → a + b + c + d ≤ 4608
+four : (a b c d : ℕ) → a ≤ MOST_NODES → b ≤ MOST_NODES → c ≤ MOST_PAIRS → d ≤ MOST_MESSAGES * MOST_HALVINGS → a + b + c + d ≤ MOST_BRANCHES_ABOVE
 four a b c d ha hb hc hd = omega arith
 
--- a branch for each of 16 nodes, one for each of their capacities, one for each two of 64 processes, and
--- 20 for each of 128 messages
-pub size_left-root : (i : Problem) → IsInstance i → size_left i (root_choice i) ≤ 4608
+-- a branch for each node, one for each of their capacities, one for each two processes, and for each
+-- message as many as its rounds can be halved
+pub size_left-root : (i : Instance) → IsInstance i → size_left i (root_choice i) ≤ MOST_BRANCHES_ABOVE
 size_left-root i w =
     four (length i.nodes - length (root_choice i).prefix) (count_by is_none (root_choice i).fixed) (unordered_pairs i (root_choice i)) (total (range_size (root_choice i)) (length i.messages))
     (omega (arith, w.limits.nodes))
@@ -69,8 +71,8 @@ size_left-root i w =
     (pairs_few i (root_choice i) w.limits.processes)
     (ranges_few i w.limits.messages (w.ranges AtCluster).horizon)
 
-pub shallow_at_root : (i : Problem) (name : List ℕ) (c : Chosen) → IsInstance i → name ≡ [] → c ≡ root_choice i → length name + size_left i c ≤ 4608
+pub shallow_at_root : (i : Instance) (name : List ℕ) (c : Choice) → IsInstance i → name ≡ [] → c ≡ root_choice i → length name + size_left i c ≤ MOST_BRANCHES_ABOVE
 shallow_at_root i name c w no_name root =
-    let size : size_left i c ≤ 4608 = rw root (size_left-root i w) in
+    let size : size_left i c ≤ MOST_BRANCHES_ABOVE = rw root (size_left-root i w) in
     let none : length name ≡ 0 = rw no_name refl in
     omega (arith, size, none)

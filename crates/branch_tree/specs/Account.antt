@@ -3,7 +3,7 @@
 use Rattle.std.specs.Prelude.{List, ◌∷◌, ◌++◌, Contains}
 use Rattle.std.specs.List.Sorted.{IsPermutation}
 use Rattle.branch_tree.specs.declared.piece.Piece.{Piece}
-use Rattle.branch_tree.specs.Names.{Way, root_name}
+use Rattle.branch_tree.specs.Name.{Name, root_name}
 use Rattle.branch_tree.specs.Pieces.{names_of, all_below}
 
 -- each that was taken was pushed
@@ -22,5 +22,5 @@ pub record IsReportOf (A : Type 0) (taken pushed worked born held unpushed : Lis
 
 -- The names of a tree, each once: those of pieces and the open ones are the root's and those below
 -- the pieces.
-abbrev pub IsWholeTree : List Piece → List Way → Type 0
+abbrev pub IsWholeTree : List Piece → List Name → Type 0
 IsWholeTree pieces unworked = IsPermutation (names_of pieces ++ unworked) (root_name ∷ all_below pieces)

@@ -1,5 +1,5 @@
-pub mod Names
-pub mod Tasks
+pub mod Name
+pub mod Task
 pub mod Pieces
 pub mod Account
 pub mod Work

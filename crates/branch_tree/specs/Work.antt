@@ -4,13 +4,13 @@ use Rattle.ttp_model.specs.declared.plan.Plan.{Plan}
 use Rattle.ttp_model.specs.declared.step.Kind.{Kind}
 use Rattle.ttp_model.specs.declared.step.Kind.TheVariants.{Place}
 use Rattle.ttp_model.specs.declared.step.Leaf.{Leaf}
-use Rattle.ttp_model.specs.Problem.{Problem}
+use Rattle.ttp_model.specs.Instance.{Instance}
 use Rattle.ttp_model.specs.Plans.{IsValid}
 use Rattle.ttp_model.specs.Delays.{delay}
 use Rattle.ttp_model.specs.Chains.{IsPathBound}
 use Rattle.ttp_model.specs.Moves.{IsSettled}
-use Rattle.tt_choice.specs.Choices.{Chosen, IsIn, IsComplete}
-use Rattle.tt_choice.specs.Branches.{IsOpen, children, child_choices}
+use Rattle.tt_choice.specs.Choice.{Choice, IsIn, IsComplete}
+use Rattle.tt_choice.specs.Branches.{IsBranch, child_choices}
 use Rattle.tt_choice.specs.Sizes.{size_left}
 use Rattle.tt_infer.specs.Leaves.{ClosesLeaf}
 use Rattle.earliest_starts.specs.Answers.{IsEarliest}
@@ -18,35 +18,34 @@ use Rattle.certificate.specs.declared.node.Node.TheVariants.{Leaf as AsLeaf}
 use Rattle.branch_tree.specs.declared.piece.Piece.{Piece}
 use Rattle.branch_tree.specs.declared.worked.Worked.{Worked}
 use Rattle.branch_tree.specs.declared.worked.Worked.TheVariants.{Split, Closed, Found}
-use Rattle.branch_tree.specs.Names.{child_names}
-use Rattle.branch_tree.specs.Tasks.{Subtree, root_task, IsTask}
+use Rattle.branch_tree.specs.Name.{child_names}
+use Rattle.branch_tree.specs.Task.{Task, root_task, IsTask}
 
 -- each valid plan of the task is in a child
-abbrev pub Cover : Problem → Subtree → List Subtree → Type 0
+abbrev pub Cover : Instance → Task → List Task → Type 0
 Cover i t tasks = (plan : Plan) → IsValid i plan → IsIn i t.choice plan
     → (k : ℕ) × (k < length tasks) × IsIn i (slice_index_or tasks k t).choice plan
 
 -- a task for each child of a branch, in order
-pub record AreChildren (i : Problem) (t : Subtree) (kind : Kind) (tasks : List Subtree) : Type 0 where
-  pub names : map (λ (task : Subtree). task.name) tasks ≡ child_names t.name (children i t.choice kind)
-  pub choices : map (λ (task : Subtree). task.choice) tasks ≡ child_choices i t.choice kind
+pub record AreChildren (i : Instance) (t : Task) (kind : Kind) (tasks : List Task) : Type 0 where
+  pub names : map (λ (task : Task). task.name) tasks ≡ child_names t.name (length tasks)
+  pub choices : map (λ (task : Task). task.choice) tasks ≡ child_choices i t.choice kind
 
 -- An open branch of a choice that leaves something to choose, at a goal above the path bound, and a
 -- task for each of its children, in order. The root's branch places a node, where there are several.
-pub record IsSplit (i : Problem) (t : Subtree) (goal : ℕ) (kind : Kind) (tasks : List Subtree) : Type 0 where
+pub record IsSplit (i : Instance) (t : Task) (goal : ℕ) (kind : Kind) (tasks : List Task) : Type 0 where
   pub incomplete : ¬ IsComplete i t.choice
   pub above : (bound : ℕ) → IsPathBound i bound → bound < goal
-  pub is_open : IsOpen i t.choice kind
-  pub names : map (λ (task : Subtree). task.name) tasks ≡ child_names t.name (children i t.choice kind)
-  pub choices : map (λ (task : Subtree). task.choice) tasks ≡ child_choices i t.choice kind
+  pub branch : IsBranch i t.choice kind (length tasks)
+  pub children : AreChildren i t kind tasks
   pub each : All (IsTask i) tasks
-  pub smaller : All (λ (task : Subtree). size_left i task.choice < size_left i t.choice) tasks
+  pub smaller : All (λ (task : Task). size_left i task.choice < size_left i t.choice) tasks
   pub cover : Cover i t tasks
   pub root : t ≡ root_task i → 2 ≤ length i.nodes → kind ≡ Place
 
 -- The earliest plan of a complete choice has a delay below the goal. It was settled, and then has
 -- this delay; and a leaf closes the choice at the delay that it had.
-pub record IsFind (i : Problem) (c : Chosen) (goal : ℕ) (plan : Plan) (ticks : ℕ) (leaf : Leaf) : Type 0 where
+pub record IsFind (i : Instance) (c : Choice) (goal : ℕ) (plan : Plan) (ticks : ℕ) (leaf : Leaf) : Type 0 where
   pub complete : IsComplete i c
   pub earliest : Plan
   pub is_earliest : IsEarliest i c earliest
@@ -58,18 +57,18 @@ pub record IsFind (i : Problem) (c : Chosen) (goal : ℕ) (plan : Plan) (ticks :
   pub closes : ClosesLeaf i c leaf
 
 -- a leaf closes the choice at this goal
-pub record ClosesAt (i : Problem) (c : Chosen) (goal : ℕ) (leaf : Leaf) : Type 0 where
+pub record ClosesAt (i : Instance) (c : Choice) (goal : ℕ) (leaf : Leaf) : Type 0 where
   pub at : leaf.goal ≡ goal
   pub closes : ClosesLeaf i c leaf
 
 -- what is answered for a task at a goal
-abbrev pub IsWorked : Problem → Subtree → ℕ → Worked → Type 0
+abbrev pub IsWorked : Instance → Task → ℕ → Worked → Type 0
 IsWorked i t goal (Split kind tasks) = IsSplit i t goal kind tasks.items
 IsWorked i t goal (Closed leaf) = ClosesAt i t.choice goal leaf
 IsWorked i t goal (Found plan ticks leaf) = IsFind i t.choice goal plan ticks leaf
 
 -- the task's leaf, at a goal of at most this one and at least the lesser of it and the path bound
-pub record IsLeftClosed (i : Problem) (t : Subtree) (top : ℕ) (piece : Piece) : Type 0 where
+pub record IsLeftClosed (i : Instance) (t : Task) (top : ℕ) (piece : Piece) : Type 0 where
   pub leaf : Leaf
   pub node : piece.node ≡ AsLeaf leaf
   pub name : piece.name ≡ t.name
@@ -78,7 +77,7 @@ pub record IsLeftClosed (i : Problem) (t : Subtree) (top : ℕ) (piece : Piece) 
   pub least : (bound : ℕ) → IsPathBound i bound → min top bound ≤ leaf.goal
 
 -- the plan of a complete choice was found
-abbrev pub IsWorkedFind : Problem → Chosen → ℕ → Worked → Type 0
+abbrev pub IsWorkedFind : Instance → Choice → ℕ → Worked → Type 0
 IsWorkedFind i c goal (Split kind tasks) = ⊥
 IsWorkedFind i c goal (Closed leaf) = ⊥
 IsWorkedFind i c goal (Found plan ticks leaf) = IsFind i c goal plan ticks leaf

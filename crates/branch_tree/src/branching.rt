@@ -2,7 +2,7 @@
 
 ghost use Rattle.std.specs.Prelude.{◌≡◌, ◌<◌, ◌≤◌, length, IfSome, IsTrue, Some};
 ghost use Rattle.ttp_model.specs.declared.step.Kind.TheVariants.{Place};
-ghost use Rattle.tt_choice.specs.Choices.{IsChoice};
+ghost use Rattle.tt_choice.specs.Choice.{IsChoice};
 ghost use Rattle.tt_choice.specs.Branches.{IsOpen};
 ghost use Rattle.branch_tree.specs.Branching.{Branches};
 

@@ -2,7 +2,7 @@
 
 ghost use Rattle.std.specs.Prelude.{IfOk};
 ghost use Rattle.tt_choice.specs.Branches.{IsOpen};
-ghost use Rattle.branch_tree.specs.Tasks.{IsTask};
+ghost use Rattle.branch_tree.specs.Task.{IsTask};
 ghost use Rattle.branch_tree.specs.Work.{AreChildren};
 
 use crate::task::Task;

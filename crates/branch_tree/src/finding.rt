@@ -5,8 +5,8 @@ ghost use Rattle.ttp_model.specs.declared.plan.Plan.{Plan};
 ghost use Rattle.ttp_model.specs.Plans.{IsValid};
 ghost use Rattle.ttp_model.specs.Delays.{delay};
 ghost use Rattle.ttp_model.specs.Moves.{IsSettled};
-ghost use Rattle.tt_choice.specs.Choices.{IsChoice, IsIn, IsComplete};
-ghost use Rattle.path_bounds.specs.Propagation.{IsBetter};
+ghost use Rattle.tt_choice.specs.Choice.{IsChoice, IsIn, IsComplete};
+ghost use Rattle.path_bounds.specs.Propagation.{IsPlanBelow};
 ghost use Rattle.earliest_starts.specs.Answers.{IsEarliest};
 ghost use Rattle.branch_tree.specs.Work.{ClosesAt, IsWorkedFind};
 
@@ -28,7 +28,7 @@ pub fn found(
 ) -> Result<Worked, MemoryFault>
     requires of { IsChoice instance.now choice.now }
     requires complete { IsComplete instance.now choice.now }
-    requires better { (plan : Plan) × IsBetter instance.now choice.now goal plan }
+    requires better { (plan : Plan) × IsPlanBelow instance.now choice.now goal plan }
     ensures { IfOk result (IsWorkedFind instance.now choice.now goal) }
 {
     let _processes = instance.processes();
@@ -48,7 +48,7 @@ fn earliest_plan(
 ) -> Result<(Plan, u32), MemoryFault>
     requires of { IsChoice instance.now choice.now }
     requires complete { IsComplete instance.now choice.now }
-    requires better { (plan : Plan) × IsBetter instance.now choice.now goal plan }
+    requires better { (plan : Plan) × IsPlanBelow instance.now choice.now goal plan }
     ensures plan { IfOk result (λ found. IsEarliest instance.now choice.now found.0) }
     ensures ticks { IfOk result (λ found. found.1 ≡ delay instance.now found.0) }
     ensures below { IfOk result (λ found. found.1 < goal) }

@@ -1,7 +1,7 @@
 //! Where in the tree does a choice stand?
 
 ghost use Rattle.std.specs.Prelude.{◌≡◌, IfOk};
-ghost use Rattle.branch_tree.specs.Names.{root_name, child_name};
+ghost use Rattle.branch_tree.specs.Name.{root_name, child_name};
 
 use std::alloc::Global;
 use std::marker::Model;

@@ -1,7 +1,7 @@
 //! What is left to search?
 
 ghost use Rattle.std.specs.Prelude.{◌≡◌, IfOk};
-ghost use Rattle.branch_tree.specs.Tasks.{root_task, IsTask};
+ghost use Rattle.branch_tree.specs.Task.{root_task, IsTask};
 
 use crate::name::Name;
 use std::alloc::Global;
@@ -17,9 +17,9 @@ pub struct Task {
 }
 
 impl Model for Task {
-    ghost use Rattle.branch_tree.specs.Tasks.{Subtree};
+    ghost use Rattle.branch_tree.specs.Task.{Task};
 
-    ghost Value = { Subtree };
+    ghost Value = { Task };
 
     ghost view = { λ s. record { name = s.name; choice = s.choice } };
 }

@@ -1,7 +1,7 @@
 //! Does propagation close a choice?
 
 ghost use Rattle.std.specs.Prelude.{IfOk};
-ghost use Rattle.tt_choice.specs.Choices.{IsChoice};
+ghost use Rattle.tt_choice.specs.Choice.{IsChoice};
 ghost use Rattle.branch_tree.specs.Trials.{IsTrial};
 
 use path_bounds::{Reached, closed_leaf, propagate};

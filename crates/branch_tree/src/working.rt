@@ -1,7 +1,7 @@
 //! What is a task worked into?
 
 ghost use Rattle.std.specs.Prelude.{◌≡◌, IfOk, IfErr};
-ghost use Rattle.branch_tree.specs.Tasks.{IsTask};
+ghost use Rattle.branch_tree.specs.Task.{IsTask};
 ghost use Rattle.branch_tree.specs.Work.{IsWorked, IsLeftClosed};
 
 use crate::branching::branch;

@@ -3,4 +3,4 @@ pub mod Faults
 pub mod Walks
 pub use Rattle.ttp_model.specs.Delays
 pub use Rattle.tt_infer.specs.Leaves
-pub use Rattle.certificate.specs.Certificate
+pub use Rattle.certificate.specs.Cert

@@ -1,42 +1,40 @@
 //! Is a node of a certificate's tree right for the choice that it stands at?
 
-ghost use Rattle.std.specs.Prelude.{◌≡◌, IfErr, IfOk, length};
-ghost use Rattle.tt_choice.specs.Choices.{IsChoice};
-ghost use Rattle.tt_choice.specs.Branches.{IsOpen, child_choices};
+ghost use Rattle.std.specs.Prelude.{◌≡◌, IfErr, IfOk};
+ghost use Rattle.tt_choice.specs.Choice.{IsChoice};
+ghost use Rattle.tt_choice.specs.Branches.{IsBranch, child_choices};
 ghost use Rattle.cert_check.specs.Proofs.{Suits, choices_below};
 ghost use Rattle.cert_check.specs.Walks.{TellsBranch, TellsNode};
 
 use crate::fault::{CertFault, NodeFault};
 use crate::leaf::judge_leaf;
-use certificate::Node;
+use certificate::{Branch, Node};
 use std::alloc::Global;
 use tt_choice::Choice;
-use ttp_model::{Instance, Kind};
+use ttp_model::Instance;
 
-/// Judges a branch with so many children: whether it is open, and then whether it has just its
-/// children. Gives the choices that it leads to, in order.
+/// Judges a branch: whether it is open, and then whether it has just its children. Gives the choices
+/// that it leads to, in order.
 fn judge_branch(
     alloc: Global,
     instance: &Instance,
     choice: &Choice,
-    kind: &Kind,
-    count: u32,
+    branch: &Branch,
     line: u64,
 ) -> Result<Vec<Choice>, CertFault>
     requires { IsChoice instance.now choice.now }
-    ensures open { IfOk result (λ below. IsOpen instance.now choice.now kind.now) }
-    ensures just { IfOk result
-        (λ below. count ≡ length (child_choices instance.now choice.now kind.now)) }
+    ensures suits { IfOk result
+        (λ below. IsBranch instance.now choice.now branch.now.kind branch.now.children) }
     ensures below { IfOk result
-        (λ below. below.items ≡ child_choices instance.now choice.now kind.now) }
-    ensures err { IfErr result (TellsBranch instance.now choice.now kind.now count line) }
+        (λ below. below.items ≡ child_choices instance.now choice.now branch.now.kind) }
+    ensures err { IfErr result (TellsBranch instance.now choice.now branch.now line) }
 {
-    if !choice.is_open(instance, kind) {
+    if !choice.is_open(instance, &branch.kind) {
         let fault = NodeFault::NotOpen;
         return Err(CertFault::At { line, fault });
     }
-    let below = choice.children(alloc, instance, kind)?;
-    if below.len() != count as usize {
+    let below = choice.children(alloc, instance, &branch.kind)?;
+    if below.len() != branch.children as usize {
         let fault = NodeFault::ChildCount;
         return Err(CertFault::At { line, fault });
     }
@@ -60,32 +58,7 @@ pub fn judge(
     ensures err { IfErr result (TellsNode instance.now low choice.now node.now line) }
 {
     match node {
-        Node::Place { children } => {
-            judge_branch(alloc, instance, choice, &Kind::Place, *children, line)
-        }
-        Node::Cap { node, children } => {
-            judge_branch(alloc, instance, choice, &Kind::Cap(*node), *children, line)
-        }
-        Node::Pair { first, second } => {
-            judge_branch(
-                alloc,
-                instance,
-                choice,
-                &Kind::Pair(*first, *second),
-                2,
-                line,
-            )
-        }
-        Node::Round { message, round } => {
-            judge_branch(
-                alloc,
-                instance,
-                choice,
-                &Kind::Round(*message, *round),
-                2,
-                line,
-            )
-        }
+        Node::Branch(branch) => judge_branch(alloc, instance, choice, branch, line),
         Node::Leaf(leaf) => match judge_leaf(alloc, instance, low, choice, leaf, line) {
             Ok(()) => Ok(Vec::new(alloc)),
             Err(fault) => Err(fault),

@@ -5,7 +5,7 @@ ghost use Rattle.ttp_model.specs.Delays.{HasNoPlan, IsLowerBound};
 ghost use Rattle.tt_choice.specs.Branches.{root_choice};
 ghost use Rattle.cert_check.specs.declared.fault.CertFault.TheVariants.{OutOfMemory};
 ghost use Rattle.cert_check.specs.Proofs.{AreProofs, Proves};
-ghost use Rattle.cert_check.specs.Faults.{IsAnswer};
+ghost use Rattle.cert_check.specs.Faults.{IsJudged};
 ghost use Rattle.cert_check.specs.Walks.{TellsFirst};
 
 use crate::fault::CertFault;
@@ -23,7 +23,7 @@ use ttp_model::{Instance, MemoryFault};
 /// Takes memory for the choices that are open at one time and for the facts of one leaf. A pass over
 /// the nodes, a copy of a choice for each child of a branch, and each step once.
 pub fn check(alloc: Global, instance: &Instance, cert: &Cert) -> Result<u32, CertFault>
-    ensures answer { IsAnswer instance.now cert.now result }
+    ensures answer { IsJudged instance.now cert.now result }
     ensures only { Proves instance.now cert.now → result ≢ Err OutOfMemory → result ≡ Ok cert.now.low }
     ensures bound { IfOk result (λ low. IsLowerBound instance.now low) }
     ensures none { IfOk result

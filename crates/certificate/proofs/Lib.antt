@@ -1,3 +1,4 @@
+pub mod Branches
 pub mod Heads
 pub mod NodeLaws
 pub mod NodeLoop

@@ -10,21 +10,21 @@ use Rattle.ttp_model.specs.declared.step.Step.{Step}
 use Rattle.certificate.specs.declared.fault.LineFault.TheVariants.{Depth}
 use Rattle.certificate.specs.declared.fault.CertTextError.TheVariants.{At}
 use Rattle.certificate.specs.declared.head.Head.{Head}
-use Rattle.certificate.specs.declared.head.Head.TheVariants.{OfPlace, OfCap, OfPair, OfRound, OfLeaf}
+use Rattle.certificate.specs.declared.head.Head.TheVariants.{OfBranch, OfLeaf}
 use Rattle.certificate.specs.declared.limits.TheConstants.{MOST_BRANCHES_ABOVE}
 use Rattle.certificate.specs.declared.node.Node.{Node}
-use Rattle.certificate.specs.declared.node.Node.TheVariants.{Place, Cap, Pair, Round, Leaf}
-use Rattle.certificate.specs.Words.{step_words, steps_with, head_words, heads_with, head_of, steps_of, count_of, node_with}
+use Rattle.certificate.specs.declared.node.Node.TheVariants.{Branch, Leaf}
+use Rattle.certificate.specs.Words.{step_words, steps_with, head_words, heads_with, head_of, steps_of, count_of, node_of_head}
 use Rattle.certificate.specs.Spelling.{IsLong, line_with, step_text, node_text, StepHasText, NodeHasText}
-use Rattle.certificate.specs.Reading.{line_at, said_in, step_at, steps_at, node_at}
+use Rattle.certificate.specs.Reading.{line_at, said_in, text_step, steps_at, text_node}
 use Rattle.certificate.proofs.Heads.{line_takes, line_again}
 use Rattle.certificate.proofs.Said.{said_takes, said_again, line_lacks}
 use Rattle.certificate.proofs.Tables.{steps_said, step_sayable, heads_said, head_sayable}
 
 -- ---- one step
 
-pub step_takes : (line : ℕ) (text : List ℕ) (x : Step × List ℕ) → step_at line text ≡ Ok x → (text ≡ step_text x.0 ++ x.1) × StepHasText x.0
-unfolding step_at step_text
+pub step_takes : (line : ℕ) (text : List ℕ) (x : Step × List ℕ) → text_step line text ≡ Ok x → (text ≡ step_text x.0 ++ x.1) × StepHasText x.0
+unfolding text_step step_text
 step_takes line text x e =
     let first = bind_ok (line_at line text) _ x e in
     let step = bind_ok (said_in step_words steps_with line first.0.0) _ x first.2 in
@@ -34,11 +34,11 @@ step_takes line text x e =
     line_takes line text first.0.0 first.0.1 first.1 ∙ ap (λ (l : List ℕ). l ++ 10 ∷ first.0.1) said.0 ∙ sym (append_assoc (line_with (step_words step.0)) (10 ∷ []) first.0.1) in
     subst (λ (y : Step × List ℕ). (text ≡ step_text y.0 ++ y.1) × StepHasText y.0) is (whole, record { numbers = said.1; long = said.2 })
 
-pub step_again : (line : ℕ) (step : Step) (rest : List ℕ) → StepHasText step → step_at line (step_text step ++ rest) ≡ Ok (step, rest)
-unfolding step_at step_text
+pub step_again : (line : ℕ) (step : Step) (rest : List ℕ) → StepHasText step → text_step line (step_text step ++ rest) ≡ Ok (step, rest)
+unfolding text_step step_text
 step_again line step rest has =
     let sayable = step_sayable step has.long in
-    ap (step_at line) (append_assoc (line_with (step_words step)) (10 ∷ []) rest)
+    ap (text_step line) (append_assoc (line_with (step_words step)) (10 ∷ []) rest)
     ∙ rw (line_again line (line_with (step_words step)) rest (line_lacks step_words steps_with step sayable has.numbers), said_again step_words steps_with line step sayable has.numbers) refl
 
 -- ---- steps
@@ -49,7 +49,7 @@ unfolding steps_at
 steps_take zero line text x e =
     subst (λ (y : List Step × List ℕ). (text ≡ flat_map step_text y.0 ++ y.1) × (length y.0 ≡ 0) × All StepHasText y.0) (ok_is ([], text) x e) (refl, refl, All-nil StepHasText)
 steps_take (suc k) line text x e =
-    let first = bind_ok (step_at line text) _ x e in
+    let first = bind_ok (text_step line text) _ x e in
     let others = bind_ok (steps_at k (line + 1) first.0.1) _ x first.2 in
     let one = step_takes line text first.0 first.1 in
     let more = steps_take k (line + 1) first.0.1 others.0 others.1 in
@@ -68,38 +68,29 @@ steps_again line (step ∷ steps) rest has =
 
 -- ---- a node
 
-head_back : (head : Head) (steps : List Step) → length steps ≡ count_of head → (head_of (node_with head steps) ≡ head) × (steps_of (node_with head steps) ≡ steps)
-head_back (OfPlace k) [] e = (refl, refl)
-head_back (OfCap n k) [] e = (refl, refl)
-head_back (OfPair p q) [] e = (refl, refl)
-head_back (OfRound m r) [] e = (refl, refl)
+head_back : (head : Head) (steps : List Step) → length steps ≡ count_of head → (head_of (node_of_head head steps) ≡ head) × (steps_of (node_of_head head steps) ≡ steps)
+head_back (OfBranch branch) [] e = (refl, refl)
+head_back (OfBranch branch) (step ∷ steps) e = absurd (omega arith)
 head_back (OfLeaf g k) steps e = (ap (OfLeaf g) e, refl)
-head_back (OfPlace k) (step ∷ steps) e = absurd (omega arith)
-head_back (OfCap n k) (step ∷ steps) e = absurd (omega arith)
-head_back (OfPair p q) (step ∷ steps) e = absurd (omega arith)
-head_back (OfRound m r) (step ∷ steps) e = absurd (omega arith)
 
-node_back : (node : Node) → (node_with (head_of node) (steps_of node) ≡ node) × (count_of (head_of node) ≡ length (steps_of node))
-node_back (Place k) = (refl, refl)
-node_back (Cap n k) = (refl, refl)
-node_back (Pair p q) = (refl, refl)
-node_back (Round m r) = (refl, refl)
+node_back : (node : Node) → (node_of_head (head_of node) (steps_of node) ≡ node) × (count_of (head_of node) ≡ length (steps_of node))
+node_back (Branch branch) = (refl, refl)
 node_back (Leaf leaf) = (refl, refl)
 
 node_joined : (text first after rest : List ℕ) (head : Head) (steps : List Step) → text ≡ first ++ 10 ∷ after → first ≡ line_with (head_words head) → after ≡ flat_map step_text steps ++ rest
-    → head_of (node_with head steps) ≡ head → steps_of (node_with head steps) ≡ steps → text ≡ node_text (node_with head steps) ++ rest
+    → head_of (node_of_head head steps) ≡ head → steps_of (node_of_head head steps) ≡ steps → text ≡ node_text (node_of_head head steps) ++ rest
 unfolding node_text
 node_joined text first after rest head steps a b c d e =
     a ∙ rw (b, c, d, e) (sym (append_assoc (line_with (head_words head)) (10 ∷ flat_map step_text steps) rest))
 
-pub node_takes : (above line : ℕ) (text : List ℕ) (x : Node × List ℕ) → node_at above line text ≡ Ok x → (text ≡ node_text x.0 ++ x.1) × NodeHasText x.0 × (above ≤ MOST_BRANCHES_ABOVE)
-unfolding node_at
+pub node_takes : (above line : ℕ) (text : List ℕ) (x : Node × List ℕ) → text_node above line text ≡ Ok x → (text ≡ node_text x.0 ++ x.1) × NodeHasText x.0 × (above ≤ MOST_BRANCHES_ABOVE)
+unfolding text_node
 node_takes above line text x e =
     let first = bind_ok (line_at line text) _ x e in
     let head = bind_ok (said_in head_words heads_with line first.0.0) _ x first.2 in
     let place = bind_ok (check (At line Depth) (nat_le above MOST_BRANCHES_ABOVE)) _ x head.2 in
     let steps = bind_ok (steps_at (count_of head.0) (line + 1) first.0.1) _ x place.2 in
-    let is : (node_with head.0 steps.0.0, steps.0.1) ≡ x = ok_is (node_with head.0 steps.0.0, steps.0.1) x steps.2 in
+    let is : (node_of_head head.0 steps.0.0, steps.0.1) ≡ x = ok_is (node_of_head head.0 steps.0.0, steps.0.1) x steps.2 in
     let said = said_takes head_words heads_with (λ head. Unit {0}) heads_said line first.0.0 head.0 head.1 in
     let taken = steps_take (count_of head.0) (line + 1) first.0.1 steps.0 steps.1 in
     let back = head_back head.0 steps.0.0 taken.1 in
@@ -111,11 +102,11 @@ node_takes above line text x e =
     )
 
 node_steps : (above line : ℕ) (text first after rest : List ℕ) (head : Head) (steps : List Step) → line_at line text ≡ Ok (first, after) → said_in head_words heads_with line first ≡ Ok head → nat_le above MOST_BRANCHES_ABOVE ≡ true
-    → steps_at (count_of head) (line + 1) after ≡ Ok (steps, rest) → node_at above line text ≡ Ok (node_with head steps, rest)
-unfolding node_at
+    → steps_at (count_of head) (line + 1) after ≡ Ok (steps, rest) → text_node above line text ≡ Ok (node_of_head head steps, rest)
+unfolding text_node
 node_steps above line text first after rest head steps a b c d = rw (a, b, c, d) refl
 
-pub node_again : (above line : ℕ) (node : Node) (rest : List ℕ) → above ≤ MOST_BRANCHES_ABOVE → NodeHasText node → node_at above line (node_text node ++ rest) ≡ Ok (node, rest)
+pub node_again : (above line : ℕ) (node : Node) (rest : List ℕ) → above ≤ MOST_BRANCHES_ABOVE → NodeHasText node → text_node above line (node_text node ++ rest) ≡ Ok (node, rest)
 unfolding node_text
 node_again above line node rest high has =
     let back = node_back node in
@@ -127,7 +118,7 @@ node_again above line node rest high has =
     append_assoc (line_with (head_words (head_of node))) (10 ∷ flat_map step_text (steps_of node)) rest in
     let steps : steps_at (count_of (head_of node)) (line + 1) (flat_map step_text (steps_of node) ++ rest) ≡ Ok (steps_of node, rest) =
     rw back.1 (steps_again (line + 1) (steps_of node) rest has.steps) in
-    ap (node_at above line) regroup
+    ap (text_node above line) regroup
     ∙ node_steps above line (line_with (head_words (head_of node)) ++ 10 ∷ (flat_map step_text (steps_of node) ++ rest)) (line_with (head_words (head_of node))) (flat_map step_text (steps_of node) ++ rest) rest (head_of node) (steps_of node)
     first (said_again head_words heads_with line (head_of node) sayable has.numbers) high-test steps
     ∙ ap (λ (n : Node). Ok (n, rest)) back.0

@@ -7,7 +7,7 @@ use Rattle.certificate.specs.declared.fault.CertTextError.TheVariants.{At, OutOf
 use Rattle.certificate.specs.declared.node.Node.{Node}
 use Rattle.certificate.specs.Lines.{node_lines, lines, total_lines}
 use Rattle.certificate.specs.Trees.{Trees, none, grow, children, preorder}
-use Rattle.certificate.specs.Reading.{Reading, IsFaultOf, IsFaultIn, node_at, ReadsTrees, ends, wrong_node, wrong_below, wrong_beside, goes_on}
+use Rattle.certificate.specs.Reading.{Reading, IsFaultOf, IsFaultIn, text_node, ReadsTrees, ends, wrong_node, wrong_below, wrong_beside, goes_on}
 use Rattle.certificate.specs.Nodes.{ReadsNodes}
 use Rattle.certificate.proofs.TreeLists.{lines-grow, total_lines-append}
 
@@ -41,7 +41,7 @@ closed above line text read h =
     let same : line ≡ line + 0 = omega arith in
     (Ok (none, text), (ends (length above) line text, (read, (subst (λ (l : ℕ). ReadsLevels above l text read) same h, in_front read))))
 
-module _ (k : ℕ) (above : List ℕ) (line : ℕ) (text : List ℕ) (node : Node) (after : List ℕ) (here : node_at (length above) line text ≡ Ok (node, after)) where
+module _ (k : ℕ) (above : List ℕ) (line : ℕ) (text : List ℕ) (node : Node) (after : List ℕ) (here : text_node (length above) line text ≡ Ok (node, after)) where
   beside_read : (below : Trees) (rest : List ℕ) (beside : Reading (Trees × List ℕ)) (read : Reading (List Node × List ℕ)) → ReadsTrees (suc (length above)) (children node) (line + node_lines node) after (Ok (below, rest))
       → ReadsTrees (length above) k (line + node_lines node + lines below) rest beside → Then (ReadsLevels above) (line + node_lines node + lines below) beside read
       → ReadsLevels (suc k ∷ above) line text (with_front (node ∷ preorder below) read)
@@ -99,25 +99,25 @@ opened due above count some e =
     ap reverse e ∙ (snoc above count ∙ ap (λ (n : ℕ). n ∷ reverse above) count-is)
 
 pub after_node : (Whole : Reading (List Node × List ℕ) → Type 0) (nodes : List Node) (due above : List ℕ) (count line : ℕ) (rest : List ℕ) (node : Node) (after : List ℕ)
-    → 0 < count → due ≡ above ++ count ∷ [] → node_at (length above) line rest ≡ Ok (node, after)
+    → 0 < count → due ≡ above ++ count ∷ [] → text_node (length above) line rest ≡ Ok (node, after)
     → Continues Whole nodes due line rest → Continues Whole (nodes ++ node ∷ []) ((above ++ (count - 1) ∷ []) ++ children node ∷ []) (line + node_lines node) after
 after_node Whole nodes due above count line rest node after some e h so_far read more =
     let new : reverse ((above ++ (count - 1) ∷ []) ++ children node ∷ []) ≡ children node ∷ (count - 1) ∷ reverse above = snoc (above ++ (count - 1) ∷ []) (children node) ∙ ap (λ (ns : List ℕ). children node ∷ ns) (snoc above (count - 1)) in
     let further : ReadsLevels (children node ∷ (count - 1) ∷ reverse above) (line + node_lines node) after read = subst (λ (s : List ℕ). ReadsLevels s (line + node_lines node) after read) new more in
-    let here : node_at (length (reverse above)) line rest ≡ Ok (node, after) = ap (λ (d : ℕ). node_at d line rest) (length-reverse above) ∙ h in
+    let here : text_node (length (reverse above)) line rest ≡ Ok (node, after) = ap (λ (d : ℕ). text_node d line rest) (length-reverse above) ∙ h in
     let all = grown (count - 1) (reverse above) line rest node after here read further in
     subst Whole (regroup nodes (node ∷ []) read) (so_far (with_front (node ∷ []) read) (subst (λ (s : List ℕ). ReadsLevels s line rest (with_front (node ∷ []) read)) (sym (opened due above count some e)) all))
 
 -- a fault is that of the whole
 pub after_fault : (Whole : Reading (List Node × List ℕ) → Type 0) (nodes : List Node) (due above : List ℕ) (count line : ℕ) (rest : List ℕ) (fault : CertTextError)
-    → 0 < count → due ≡ above ++ count ∷ [] → node_at (length above) line rest ≡ Err fault → Continues Whole nodes due line rest → Whole (Err fault)
+    → 0 < count → due ≡ above ++ count ∷ [] → text_node (length above) line rest ≡ Err fault → Continues Whole nodes due line rest → Whole (Err fault)
 after_fault Whole nodes due above count line rest fault some e h so_far =
-    let here : node_at (length (reverse above)) line rest ≡ Err fault = ap (λ (d : ℕ). node_at d line rest) (length-reverse above) ∙ h in
+    let here : text_node (length (reverse above)) line rest ≡ Err fault = ap (λ (d : ℕ). text_node d line rest) (length-reverse above) ∙ h in
     so_far (Err fault) (subst (λ (s : List ℕ). ReadsLevels s line rest (Err fault)) (sym (opened due above count some e))
     (Err fault, (wrong_node (length (reverse above)) (count - 1) line rest fault here, refl)))
 
 pub after_error : (e : CertTextError) (Whole : Reading (List Node × List ℕ) → Type 0) (nodes : List Node) (due above : List ℕ) (count line : ℕ) (rest : List ℕ)
-    → 0 < count → due ≡ above ++ count ∷ [] → IsFaultOf e (node_at (length above) line rest) → Continues Whole nodes due line rest → IsFaultIn e Whole
+    → 0 < count → due ≡ above ++ count ∷ [] → IsFaultOf e (text_node (length above) line rest) → Continues Whole nodes due line rest → IsFaultIn e Whole
 after_error OutOfMemory Whole nodes due above count line rest some e h so_far = tt
 after_error (At at fault) Whole nodes due above count line rest some e h so_far = after_fault Whole nodes due above count line rest (At at fault) some e h so_far
 

@@ -10,12 +10,12 @@ use Rattle.certificate.specs.declared.fault.LineFault.TheVariants.{Form, Number}
 use Rattle.certificate.specs.declared.fault.CertTextError.{CertTextError}
 use Rattle.certificate.specs.declared.fault.CertTextError.TheVariants.{At, OutOfMemory}
 use Rattle.certificate.specs.Words.{step_words, steps_with}
-use Rattle.certificate.specs.Reading.{numbers_of, is_numeral, fits, value_of, with_keyword, said_in, IsFaultOf}
+use Rattle.certificate.specs.Reading.{numbers_of, is_number_word, fits, value_of, with_keyword, said_in, IsFaultOf}
 use Rattle.certificate.specs.Numbers.{ring_with, ring_at}
 
 -- how far the loop is
 pub record IsReadSoFar (text processes : List ℕ) (fit : Bool) (rest : List ℕ) : Type 0 where
-  pub numerals : list_all is_numeral (numbers_of rest) ≡ list_all is_numeral (numbers_of text)
+  pub numerals : list_all is_number_word (numbers_of rest) ≡ list_all is_number_word (numbers_of text)
   pub sizes : (fit && list_all fits (numbers_of rest)) ≡ list_all fits (numbers_of text)
   pub values : processes ++ map value_of (numbers_of rest) ≡ map value_of (numbers_of text)
 
@@ -24,11 +24,11 @@ and_one true true = refl
 and_one true false = refl
 and_one false b = refl
 
-pub is_done : (line : ℕ) (text processes : List ℕ) (fit : Bool) (rest : List ℕ) (word : NumberWord) → IsReadSoFar text processes fit rest → numbers_of rest ≡ word ∷ [] → is_numeral word ≡ true
+pub is_done : (line : ℕ) (text processes : List ℕ) (fit : Bool) (rest : List ℕ) (word : NumberWord) → IsReadSoFar text processes fit rest → numbers_of rest ≡ word ∷ [] → is_number_word word ≡ true
     → ring_with line (processes ++ value_of word ∷ []) (fit && fits word) ≡ ring_at line text
 unfolding ring_at
 is_done line text processes fit rest word so_far last numeral =
-    let numerals : true ≡ list_all is_numeral (numbers_of text) = rw (last, numeral) at so_far.numerals in
+    let numerals : true ≡ list_all is_number_word (numbers_of text) = rw (last, numeral) at so_far.numerals in
     let sizes : (fit && (fits word && true)) ≡ list_all fits (numbers_of text) = rw last at so_far.sizes in
     let values : processes ++ value_of word ∷ [] ≡ map value_of (numbers_of text) = rw last at so_far.values in
     rw (← numerals, ← sizes, ← values, and_one fit (fits word)) refl
@@ -55,7 +55,7 @@ pub cycle_in : (line : ℕ) (text keyword rest : List ℕ) → cut 32 text ≡ S
     → said_in step_words steps_with line text ≡ (ring_at line rest >>= λ ps. Ok (XCycle ps))
 unfolding said_in ring_at
 cycle_in line text keyword rest e k =
-    rw (e, k) (said_cycle line (map value_of (numbers_of rest)) (list_all is_numeral (numbers_of rest)) (list_all fits (numbers_of rest)))
+    rw (e, k) (said_cycle line (map value_of (numbers_of rest)) (list_all is_number_word (numbers_of rest)) (list_all fits (numbers_of rest)))
 
 pub cycle_is : (line : ℕ) (text keyword rest ps : List ℕ) → cut 32 text ≡ Some (keyword, rest) → keyword ≡ codes "x-cycle" → ring_at line rest ≡ Ok ps → said_in step_words steps_with line text ≡ Ok (XCycle ps)
 cycle_is line text keyword rest ps e k r = cycle_in line text keyword rest e k ∙ rw r refl

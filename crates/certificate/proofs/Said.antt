@@ -19,7 +19,7 @@ use Rattle.certificate.specs.declared.fault.LineFault.TheVariants.{Form, Number}
 use Rattle.certificate.specs.declared.fault.CertTextError.TheVariants.{At}
 use Rattle.certificate.specs.Words.{Words}
 use Rattle.certificate.specs.Spelling.{spaced, line_with, Fit}
-use Rattle.certificate.specs.Reading.{numbers_of, is_numeral, fits, value_of, with_keyword, said_in}
+use Rattle.certificate.specs.Reading.{numbers_of, is_number_word, fits, value_of, with_keyword, said_in}
 use Rattle.certificate.proofs.Tables.{Each, found_by, is_keyword, IsSayable}
 
 -- ---- what is read is spelled so
@@ -76,7 +76,7 @@ pub said_takes : {A : Type 0} (words : A → Words) (all_with : List ℕ → Lis
 unfolding said_in
 said_takes {A} words all_with P each line text x e =
     let parts = bind_ok (or_fault (At line Form) (cut 32 text)) _ x e in
-    let form = bind_ok (check (At line Form) (list_all is_numeral (numbers_of parts.0.1))) _ x parts.2 in
+    let form = bind_ok (check (At line Form) (list_all is_number_word (numbers_of parts.0.1))) _ x parts.2 in
     let ns = map value_of (numbers_of parts.0.1) in
     let said = bind_ok (or_fault (At line Form) (with_keyword words parts.0.0 (all_with (map value_of (numbers_of parts.0.1))))) _ x form.2 in
     let size = bind_ok (check (At line Number) (list_all fits (numbers_of parts.0.1))) _ x said.2 in
@@ -113,7 +113,7 @@ numbers_again n (m ∷ ns) fit =
     ap (map number_word) (slice_split_at (λ b. b == 32) (decimal n) 32 (decimal m ++ flat_map spaced ns) (fail_32 n small) refl)
     ∙ ap (λ (w : NumberWord). w ∷ numbers_of (decimal m ++ flat_map spaced ns)) (number_again n small) ∙ ap (λ (ws : List NumberWord). word.Number n ∷ ws) others
 
-all_numerals : (ns : List ℕ) → list_all is_numeral (as_words ns) ≡ true
+all_numerals : (ns : List ℕ) → list_all is_number_word (as_words ns) ≡ true
 all_numerals [] = refl
 all_numerals (n ∷ ns) = all_numerals ns
 

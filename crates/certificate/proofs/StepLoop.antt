@@ -5,7 +5,7 @@ use Rattle.line_text.specs.Results.{◌>>=◌}
 use Rattle.ttp_model.specs.declared.step.Step.{Step}
 use Rattle.certificate.specs.declared.fault.CertTextError.{CertTextError}
 use Rattle.certificate.specs.declared.fault.CertTextError.TheVariants.{At, OutOfMemory}
-use Rattle.certificate.specs.Reading.{Reading, IsFaultOf, step_at, steps_at}
+use Rattle.certificate.specs.Reading.{Reading, IsFaultOf, text_step, steps_at}
 
 -- the steps after these ones are read
 abbrev pub with_steps : List Step → Reading (List Step × List ℕ) → Reading (List Step × List ℕ)
@@ -21,7 +21,7 @@ pub record IsReadSoFar (count line : ℕ) (text : List ℕ) (k : ℕ) (front : L
   pub all : length front ≡ k
   pub shorter : length rest + k ≤ length text
 
-pub goes_on : (count line : ℕ) (text : List ℕ) (k : ℕ) (front : List Step) (rest : List ℕ) (step : Step) (after : List ℕ) → k < count → step_at (line + k) rest ≡ Ok (step, after)
+pub goes_on : (count line : ℕ) (text : List ℕ) (k : ℕ) (front : List Step) (rest : List ℕ) (step : Step) (after : List ℕ) → k < count → text_step (line + k) rest ≡ Ok (step, after)
     → with_steps front (steps_at (count - k) (line + k) rest) ≡ steps_at count line text → with_steps (front ++ step ∷ []) (steps_at (count - (k + 1)) (line + (k + 1)) after) ≡ steps_at count line text
 unfolding steps_at
 goes_on count line text k front rest step after lt h so_far =
@@ -30,7 +30,7 @@ goes_on count line text k front rest step after lt h so_far =
     let one : with_steps front (steps_at (count - k) (line + k) rest) ≡ with_steps (front ++ step ∷ []) (steps_at (count - (k + 1)) (line + k + 1) after) = rw (m, h) (regroup front step (steps_at (count - (k + 1)) (line + k + 1) after)) in
     ap (λ (l : ℕ). with_steps (front ++ step ∷ []) (steps_at (count - (k + 1)) l after)) (sym next) ∙ (sym one ∙ so_far)
 
-pub ends : (e : CertTextError) (count line : ℕ) (text : List ℕ) (k : ℕ) (front : List Step) (rest : List ℕ) → k < count → IsFaultOf e (step_at (line + k) rest)
+pub ends : (e : CertTextError) (count line : ℕ) (text : List ℕ) (k : ℕ) (front : List Step) (rest : List ℕ) → k < count → IsFaultOf e (text_step (line + k) rest)
     → with_steps front (steps_at (count - k) (line + k) rest) ≡ steps_at count line text → IsFaultOf e (steps_at count line text)
 unfolding steps_at
 ends OutOfMemory count line text k front rest lt h so_far = tt

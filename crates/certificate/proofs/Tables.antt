@@ -1,15 +1,20 @@
 -- What has a keyword, of all that can be said with some numbers; and what can be said of each line.
-use Rattle.std.proofs.Common.{◌≡◌, ℕ, ◌<◌, ◌≤◌, Bool, true, false, cond, List, [], ◌∷◌, length, Option, Some, refl, subst, arith}
+use Rattle.std.proofs.Common.{◌≡◌, ℕ, ◌<◌, ◌≤◌, Bool, true, false, cond, List, [], ◌∷◌, length, Option, Some, refl, ap, subst, arith}
 use Rattle.std.specs.Prelude.{bytes_eq, nat_lt}
 use Rattle.std.specs.List.{list_all}
 use Rattle.std.proofs.lemmas.Slice.Eq.{bytes_eq-Decides}
+use Rattle.ttp_model.specs.declared.step.Kind.{Kind}
+use Rattle.ttp_model.specs.declared.step.Kind.TheVariants.{Place, Cap, Pair, Round}
 use Rattle.ttp_model.specs.declared.step.Step.{Step}
 use Rattle.ttp_model.specs.declared.step.Step.TheVariants.{EsRelease, EsLink, EsBefore, EsArrive, EsMessage, LoSend, LeOwn, LeLink, LeBefore, LeMessage, LeSend, HiArrive, OrdWindow, OrdTwin, UsSettled, XWindow, XRound, XCycle, XLoad, XFrame, XFrames, XLate, XSilent}
+use Rattle.certificate.specs.declared.branch.Branch.{Branch}
 use Rattle.certificate.specs.declared.head.Head.{Head}
-use Rattle.certificate.specs.declared.head.Head.TheVariants.{OfPlace, OfCap, OfPair, OfRound, OfLeaf}
+use Rattle.certificate.specs.declared.head.Head.TheVariants.{OfBranch, OfLeaf}
+use Rattle.certificate.specs.Branch.{branch_of}
 use Rattle.certificate.specs.Words.{Words, low_words, lows_with, head_words, heads_with, step_words, steps_with}
 use Rattle.certificate.specs.Spelling.{IsLong}
 use Rattle.certificate.specs.Reading.{with_keyword}
+use Rattle.certificate.proofs.Branches.{branch_of-same, branch_again}
 
 -- a fact of each, one after another
 abbrev pub Each : {A : Type 0} → (A → Type 0) → List A → Type 0
@@ -59,11 +64,17 @@ heads_said (k ∷ []) = ((refl, tt), tt)
 heads_said (a ∷ b ∷ []) = ((refl, tt), ((refl, tt), ((refl, tt), ((refl, tt), tt))))
 heads_said (a ∷ b ∷ c ∷ ns) = tt
 
+abbrev said : Branch → Option Head
+said branch = Some (OfBranch branch)
+
+branch_sayable : (kind : Kind) (options : ℕ) → IsSayable head_words heads_with (OfBranch (branch_of kind options))
+branch_sayable Place k = record { keyword = refl; some = some_of k []; again = refl }
+branch_sayable (Cap n) k = record { keyword = refl; some = some_of n (k ∷ []); again = refl }
+branch_sayable (Pair p q) k = record { keyword = refl; some = some_of p (q ∷ []); again = ap said (branch_of-same (Pair p q) 0 k refl) }
+branch_sayable (Round m r) k = record { keyword = refl; some = some_of m (r ∷ []); again = ap said (branch_of-same (Round m r) 0 k refl) }
+
 pub head_sayable : (head : Head) → IsSayable head_words heads_with head
-head_sayable (OfPlace k) = record { keyword = refl; some = some_of k []; again = refl }
-head_sayable (OfCap n k) = record { keyword = refl; some = some_of n (k ∷ []); again = refl }
-head_sayable (OfPair p q) = record { keyword = refl; some = some_of p (q ∷ []); again = refl }
-head_sayable (OfRound m r) = record { keyword = refl; some = some_of m (r ∷ []); again = refl }
+head_sayable (OfBranch branch) = subst (λ (b : Branch). IsSayable head_words heads_with (OfBranch b)) (branch_again branch) (branch_sayable branch.kind branch.children)
 head_sayable (OfLeaf g k) = record { keyword = refl; some = some_of g (k ∷ []); again = refl }
 
 -- ---- the lines of steps

@@ -9,7 +9,7 @@ use Rattle.certificate.specs.declared.node.Node.{Node}
 use Rattle.certificate.specs.Lines.{node_lines, lines}
 use Rattle.certificate.specs.Trees.{Trees, none, grow, children, preorder, AreTrees, levels}
 use Rattle.certificate.specs.Spelling.{node_text, NodeHasText}
-use Rattle.certificate.specs.Reading.{Reading, node_at, ReadsTrees, ends, wrong_node, wrong_below, wrong_beside, goes_on}
+use Rattle.certificate.specs.Reading.{Reading, text_node, ReadsTrees, ends, wrong_node, wrong_below, wrong_beside, goes_on}
 use Rattle.certificate.proofs.NodeLaws.{node_takes, node_again}
 
 -- the lines of trees
@@ -89,7 +89,7 @@ AfterNode above k line (Err fault) read = Err fault ≡ read
 AfterNode above k line (Ok node) read =
     (below : Reading (Trees × List ℕ)) × (ReadsTrees (suc above) (children node.0) (line + node_lines node.0) node.1 below × AfterBelow above k line node.0 below read)
 
-parts_of : {above k line : ℕ} {text : List ℕ} {read : Reading (Trees × List ℕ)} → ReadsTrees above (suc k) line text read → AfterNode above k line (node_at above line text) read
+parts_of : {above k line : ℕ} {text : List ℕ} {read : Reading (Trees × List ℕ)} → ReadsTrees above (suc k) line text read → AfterNode above k line (text_node above line text) read
 unfolding AfterNode AfterBelow AfterBeside
 parts_of (wrong_node above k line text fault e) = rw e refl
 parts_of (wrong_below above k line text node after fault e b) = rw e (Err fault, (b, refl))

@@ -11,12 +11,12 @@ use Rattle.line_text.proofs.Results.{bind_ok, ok_is, check_ok}
 use Rattle.certificate.specs.declared.fault.LineFault.TheVariants.{FirstLine, Trailing}
 use Rattle.certificate.specs.declared.fault.CertTextError.TheVariants.{At, OutOfMemory}
 use Rattle.certificate.specs.declared.node.Node.{Node}
-use Rattle.certificate.specs.Certificate.{Certificate}
+use Rattle.certificate.specs.Cert.{Cert}
 use Rattle.certificate.specs.Lines.{lines}
 use Rattle.certificate.specs.Trees.{Trees, preorder, trees_of, IsTree}
 use Rattle.certificate.specs.Words.{low_words, lows_with}
-use Rattle.certificate.specs.Spelling.{line_with, node_text, cert_text, HasText, IsSpelled}
-use Rattle.certificate.specs.Reading.{Reading, IsAnswerIn, line_at, said_in, low_at, ReadsTrees, certificate_of, GoesOn, Reads}
+use Rattle.certificate.specs.Spelling.{line_with, node_text, cert_text, CertHasText, SpellsCert}
+use Rattle.certificate.specs.Reading.{Reading, IsAnswerIn, line_at, said_in, low_at, ReadsTrees, certificate_of, ReadsOn, Reads}
 use Rattle.certificate.specs.Nodes.{nodes_in, ReadsNodes}
 use Rattle.certificate.proofs.Heads.{line_takes, line_again, version_takes}
 use Rattle.certificate.proofs.Said.{said_takes, said_again, line_lacks}
@@ -88,21 +88,21 @@ read_by text body low nodes rest e h none =
 
 -- ---- what is read is spelled so
 
-certificate_takes : (low : ℕ) (read : Reading (Trees × List ℕ)) (c : Certificate) → Ok c ≡ certificate_of low read → (trees : Trees) × ((read ≡ Ok (trees, [])) × (record { low = low; tree = trees } ≡ c))
+certificate_takes : (low : ℕ) (read : Reading (Trees × List ℕ)) (c : Cert) → Ok c ≡ certificate_of low read → (trees : Trees) × ((read ≡ Ok (trees, [])) × (record { low = low; tree = trees } ≡ c))
 certificate_takes low (Err fault) c e = absurd cc
 certificate_takes low (Ok trees) c e =
     let end = bind_ok (check (At (3 + lines trees.0) Trailing) (length trees.1 == 0)) _ c (sym e) in
     let none = nothing_left trees.1 (check_ok (At (3 + lines trees.0) Trailing) (length trees.1 == 0) end.0 end.1) in
     (trees.0, (ap (λ (r : List ℕ). Ok (trees.0, r)) none, ok_is (record { low = low; tree = trees.0 }) c end.2))
 
-spelled_by : (text : List ℕ) (first : Reading (ℕ × List ℕ)) (c : Certificate) → low_at text ≡ first → GoesOn first (Ok c) → IsSpelled text c
+spelled_by : (text : List ℕ) (first : Reading (ℕ × List ℕ)) (c : Cert) → low_at text ≡ first → ReadsOn first (Ok c) → SpellsCert text c
 spelled_by text (Err fault) c e h = absurd cc
 spelled_by text (Ok first) c e h =
     let t = certificate_takes first.0 h.0 c h.1.1 in
     let head = low_takes text first e in
     let r : ReadsTrees 0 1 3 first.1 (Ok (t.0, [])) = subst (ReadsTrees 0 1 3 first.1) t.1.0 h.1.0 in
     let taken : IsTaken 0 1 first.1 t.0 [] = trees_take r (omega arith) in
-    subst (IsSpelled text) t.1.1
+    subst (SpellsCert text) t.1.1
     (record {
       value = record { low = head.1; tree = record { one = taken.trees; shallow = omega (arith, taken.shallow) }; nodes = taken.nodes };
       spelled =
@@ -110,12 +110,12 @@ spelled_by text (Ok first) c e h =
           ∙ ap (λ (b : List ℕ). codes "ttcert 1" ++ 10 ∷ (line_with (low_words first.0) ++ 10 ∷ b)) (taken.spelled ∙ append-nil (trees_text t.0));
     })
 
-pub takes : (text : List ℕ) (c : Certificate) → Reads text (Ok c) → IsSpelled text c
+pub takes : (text : List ℕ) (c : Cert) → Reads text (Ok c) → SpellsCert text c
 takes text c h = spelled_by text (low_at text) c refl h
 
 -- ---- what is spelled so is read
 
-pub again : (text : List ℕ) (c : Certificate) → IsSpelled text c → Reads text (Ok c)
+pub again : (text : List ℕ) (c : Cert) → SpellsCert text c → Reads text (Ok c)
 again text c s =
     let head = ap low_at s.spelled ∙ low_again c.low (flat_map node_text (preorder c.tree)) s.value.low in
     let tree = trees_again 0 1 3 c.tree [] s.value.tree.one (omega (arith, s.value.tree.shallow)) s.value.nodes in
@@ -123,26 +123,26 @@ again text c s =
 
 -- ---- reading gives one answer
 
-one_answer_after : (first : Reading (ℕ × List ℕ)) (a b : Reading Certificate) → GoesOn first a → GoesOn first b → a ≡ b
+one_answer_after : (first : Reading (ℕ × List ℕ)) (a b : Reading Cert) → ReadsOn first a → ReadsOn first b → a ≡ b
 one_answer_after (Err fault) a b ha hb = ha ∙ sym hb
 one_answer_after (Ok first) a b ha hb = ha.1.1 ∙ ap (certificate_of first.0) (one_reading ha.1.0 hb.0 hb.1.0) ∙ sym hb.1.1
 
-pub one_answer : (text : List ℕ) (a b : Reading Certificate) → Reads text a → Reads text b → a ≡ b
+pub one_answer : (text : List ℕ) (a b : Reading Cert) → Reads text a → Reads text b → a ≡ b
 one_answer text a b ha hb = one_answer_after (low_at text) a b ha hb
 
 -- ---- what an answer says
 
-pub found_by : (text : List ℕ) (r : Reading Certificate) → IsAnswerIn (λ x. x) r (Reads text) → IfOk r (λ c. IsSpelled text c)
+pub found_by : (text : List ℕ) (r : Reading Cert) → IsAnswerIn (λ x. x) r (Reads text) → IfOk r (λ c. SpellsCert text c)
 found_by text (Ok c) answer = takes text c answer
 found_by text (Err e) answer = tt
 
-pub only_by : (text : List ℕ) (r : Reading Certificate) → IsAnswerIn (λ x. x) r (Reads text) → (c : Certificate) → IsSpelled text c → r ≢ Err OutOfMemory → r ≡ Ok c
+pub only_by : (text : List ℕ) (r : Reading Cert) → IsAnswerIn (λ x. x) r (Reads text) → (c : Cert) → SpellsCert text c → r ≢ Err OutOfMemory → r ≡ Ok c
 only_by text (Ok d) answer c s memory = one_answer text (Ok d) (Ok c) answer (again text c s)
 only_by text (Err OutOfMemory) answer c s memory = absurd (memory refl)
 only_by text (Err (At line fault)) answer c s memory = one_answer text (Err (At line fault)) (Ok c) answer (again text c s)
 
 -- ---- no two certificates have one spelling
 
-pub spelled_once : (c d : Certificate) → HasText c → HasText d → cert_text c ≡ cert_text d → c ≡ d
+pub spelled_once : (c d : Cert) → CertHasText c → CertHasText d → cert_text c ≡ cert_text d → c ≡ d
 spelled_once c d hc hd same =
     ok_is c d (one_answer (cert_text c) (Ok c) (Ok d) (again (cert_text c) c (record { value = hc; spelled = refl })) (again (cert_text c) d (record { value = hd; spelled = same })))

@@ -1,7 +1,8 @@
+pub mod Branch
 pub mod Trees
 pub mod TreeCode
 pub mod Lines
-pub mod Certificate
+pub mod Cert
 pub mod Words
 pub mod Spelling
 pub mod Reading

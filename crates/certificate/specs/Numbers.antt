@@ -9,7 +9,7 @@ use Rattle.certificate.specs.declared.numbers.FewNumbers.TheVariants as few
 use Rattle.line_text.specs.Results.{◌>>=◌, check}
 use Rattle.certificate.specs.declared.fault.LineFault.TheVariants.{Form, Number}
 use Rattle.certificate.specs.declared.fault.CertTextError.TheVariants.{At}
-use Rattle.certificate.specs.Reading.{Reading, numbers_of, is_numeral, fits, value_of}
+use Rattle.certificate.specs.Reading.{Reading, numbers_of, is_number_word, fits, value_of}
 
 abbrev pub words_in : FewWords → List NumberWord
 words_in (words.One a) = a ∷ []
@@ -36,5 +36,5 @@ ring_with line processes fit = do
 -- the processes that the words of a text are
 unfoldable pub ring_at : ℕ → List ℕ → Reading (List ℕ)
 ring_at line text = do
-  form ← check (At line Form) (list_all is_numeral (numbers_of text))
+  form ← check (At line Form) (list_all is_number_word (numbers_of text))
   ring_with line (map value_of (numbers_of text)) (list_all fits (numbers_of text))

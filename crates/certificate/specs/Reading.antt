@@ -13,10 +13,10 @@ use Rattle.certificate.specs.declared.fault.CertTextError.{CertTextError}
 use Rattle.certificate.specs.declared.fault.CertTextError.TheVariants.{At, OutOfMemory}
 use Rattle.certificate.specs.declared.limits.TheConstants.{MOST_BRANCHES_ABOVE}
 use Rattle.certificate.specs.declared.node.Node.{Node}
-use Rattle.certificate.specs.Certificate.{Certificate}
+use Rattle.certificate.specs.Cert.{Cert}
 use Rattle.certificate.specs.Lines.{node_lines, lines}
 use Rattle.certificate.specs.Trees.{Trees, none, grow, children}
-use Rattle.certificate.specs.Words.{Words, low_words, lows_with, head_words, heads_with, step_words, steps_with, count_of, node_with}
+use Rattle.certificate.specs.Words.{Words, low_words, lows_with, head_words, heads_with, step_words, steps_with, count_of, node_of_head}
 
 -- what reading gives: a value, or the first fault
 abbrev pub Reading : Type 0 → Type 0
@@ -32,9 +32,9 @@ line_at line text = or_fault (At line EarlyEnd) (cut 10 text)
 abbrev pub numbers_of : List ℕ → List NumberWord
 numbers_of text = map number_word (slice_split (λ b. b == 32) text)
 
-abbrev pub is_numeral : NumberWord → Bool
-is_numeral word.Malformed = false
-is_numeral _ = true
+abbrev pub is_number_word : NumberWord → Bool
+is_number_word word.Malformed = false
+is_number_word _ = true
 
 abbrev pub fits : NumberWord → Bool
 fits (word.Number n) = true
@@ -54,7 +54,7 @@ with_keyword words keyword all = find (λ x. bytes_eq keyword (words x).0) all
 unfoldable pub said_in : {A : Type 0} → (A → Words) → (List ℕ → List A) → ℕ → List ℕ → Reading A
 said_in words all_with line text = do
   parts ← or_fault (At line Form) (cut 32 text)
-  form ← check (At line Form) (list_all is_numeral (numbers_of parts.1))
+  form ← check (At line Form) (list_all is_number_word (numbers_of parts.1))
   said ← or_fault (At line Form) (with_keyword words parts.0 (all_with (map value_of (numbers_of parts.1))))
   size ← check (At line Number) (list_all fits (numbers_of parts.1))
   Ok said
@@ -73,8 +73,8 @@ low_at text = do
 -- ---- a node
 
 -- a step, and the text behind its line
-unfoldable pub step_at : ℕ → List ℕ → Reading (Step × List ℕ)
-step_at line text = do
+unfoldable pub text_step : ℕ → List ℕ → Reading (Step × List ℕ)
+text_step line text = do
   first ← line_at line text
   step ← said_in step_words steps_with line first.0
   Ok (step, first.1)
@@ -83,18 +83,18 @@ step_at line text = do
 unfoldable pub steps_at : ℕ → ℕ → List ℕ → Reading (List Step × List ℕ)
 steps_at zero line text = Ok ([], text)
 steps_at (suc k) line text = do
-  first ← step_at line text
+  first ← text_step line text
   others ← steps_at k (line + 1) first.1
   Ok (first.0 ∷ others.0, others.1)
 
 -- a node below so many branches, and the text behind its lines
-unfoldable pub node_at : ℕ → ℕ → List ℕ → Reading (Node × List ℕ)
-node_at above line text = do
+unfoldable pub text_node : ℕ → ℕ → List ℕ → Reading (Node × List ℕ)
+text_node above line text = do
   first ← line_at line text
   head ← said_in head_words heads_with line first.0
   place ← check (At line Depth) (nat_le above MOST_BRANCHES_ABOVE)
   steps ← steps_at (count_of head) (line + 1) first.1
-  Ok (node_with head steps.0, steps.1)
+  Ok (node_of_head head steps.0, steps.1)
 
 -- ---- trees
 
@@ -103,22 +103,22 @@ node_at above line text = do
 pub data ReadsTrees : ℕ → ℕ → ℕ → List ℕ → Reading (Trees × List ℕ) → Type 0 where
   ends : (above line : ℕ) (text : List ℕ) → ReadsTrees above zero line text (Ok (none, text))
   wrong_node : (above k line : ℕ) (text : List ℕ) (fault : CertTextError)
-      → node_at above line text ≡ Err fault
+      → text_node above line text ≡ Err fault
       → ReadsTrees above (suc k) line text (Err fault)
   wrong_below : (above k line : ℕ) (text : List ℕ)
       (node : Node) (after : List ℕ) (fault : CertTextError)
-      → node_at above line text ≡ Ok (node, after)
+      → text_node above line text ≡ Ok (node, after)
       → ReadsTrees (suc above) (children node) (line + node_lines node) after (Err fault)
       → ReadsTrees above (suc k) line text (Err fault)
   wrong_beside : (above k line : ℕ) (text : List ℕ)
       (node : Node) (after : List ℕ) (below : Trees) (rest : List ℕ) (fault : CertTextError)
-      → node_at above line text ≡ Ok (node, after)
+      → text_node above line text ≡ Ok (node, after)
       → ReadsTrees (suc above) (children node) (line + node_lines node) after (Ok (below, rest))
       → ReadsTrees above k (line + node_lines node + lines below) rest (Err fault)
       → ReadsTrees above (suc k) line text (Err fault)
   goes_on : (above k line : ℕ) (text : List ℕ)
       (node : Node) (after : List ℕ) (below : Trees) (rest : List ℕ) (beside : Trees) (end : List ℕ)
-      → node_at above line text ≡ Ok (node, after)
+      → text_node above line text ≡ Ok (node, after)
       → ReadsTrees (suc above) (children node) (line + node_lines node) after (Ok (below, rest))
       → ReadsTrees above k (line + node_lines node + lines below) rest (Ok (beside, end))
       → ReadsTrees above (suc k) line text (Ok (grow node below beside, end))
@@ -126,21 +126,21 @@ pub data ReadsTrees : ℕ → ℕ → ℕ → List ℕ → Reading (Trees × Lis
 -- ---- the whole text
 
 -- the certificate of a bound and of what reading its tree gives: nothing stands behind the tree
-abbrev pub certificate_of : ℕ → Reading (Trees × List ℕ) → Reading Certificate
+abbrev pub certificate_of : ℕ → Reading (Trees × List ℕ) → Reading Cert
 certificate_of low trees = do
   tree ← trees
   end ← check (At (3 + lines tree.0) Trailing) (length tree.1 == 0)
   Ok (record { low = low; tree = tree.0 })
 
 -- what reading gives behind the first two lines: one tree, below no branch, from line 3 on
-abbrev pub GoesOn : Reading (ℕ × List ℕ) → Reading Certificate → Type 0
-GoesOn (Err fault) reading = reading ≡ Err fault
-GoesOn (Ok first) reading =
+abbrev pub ReadsOn : Reading (ℕ × List ℕ) → Reading Cert → Type 0
+ReadsOn (Err fault) reading = reading ≡ Err fault
+ReadsOn (Ok first) reading =
     (trees : Reading (Trees × List ℕ)) × (ReadsTrees 0 1 3 first.1 trees × (reading ≡ certificate_of first.0 trees))
 
 -- what reading the whole text gives
-abbrev pub Reads : List ℕ → Reading Certificate → Type 0
-Reads text reading = GoesOn (low_at text) reading
+abbrev pub Reads : List ℕ → Reading Cert → Type 0
+Reads text reading = ReadsOn (low_at text) reading
 
 -- ---- what an answer says
 

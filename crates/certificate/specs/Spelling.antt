@@ -5,7 +5,7 @@ use Rattle.ttp_model.specs.declared.step.Step.{Step}
 use Rattle.ttp_model.specs.declared.step.Step.TheVariants.{XCycle}
 use Rattle.certificate.specs.declared.node.Node.{Node}
 use Rattle.certificate.specs.Trees.{IsTree, preorder}
-use Rattle.certificate.specs.Certificate.{Certificate}
+use Rattle.certificate.specs.Cert.{Cert}
 use Rattle.certificate.specs.Words.{Words, low_words, head_words, head_of, step_words, steps_of}
 
 -- a number with the space before it
@@ -26,7 +26,7 @@ node_text node = line_with (head_words (head_of node)) ++ 10 ∷ flat_map step_t
 
 -- The text of a certificate: the version, the bound, and the nodes, each in front of those below it.
 -- A line ends with one LF.
-abbrev pub cert_text : Certificate → List ℕ
+abbrev pub cert_text : Cert → List ℕ
 cert_text c =
     codes "ttcert 1" ++ 10 ∷ (line_with (low_words c.low) ++ 10 ∷ flat_map node_text (preorder c.tree))
 
@@ -48,12 +48,12 @@ pub record NodeHasText (node : Node) : Type 0 where
   pub steps : All StepHasText (steps_of node)
 
 -- What has a text: a tree of the allowed depth, and numbers below 2 ^ 32.
-pub record HasText (c : Certificate) : Type 0 where
+pub record CertHasText (c : Cert) : Type 0 where
   pub low : c.low < 2 ^ 32
   pub tree : IsTree c.tree
   pub nodes : All NodeHasText (preorder c.tree)
 
 -- the text spells this certificate
-pub record IsSpelled (text : List ℕ) (c : Certificate) : Type 0 where
-  pub value : HasText c
+pub record SpellsCert (text : List ℕ) (c : Cert) : Type 0 where
+  pub value : CertHasText c
   pub spelled : text ≡ cert_text c

@@ -2,7 +2,7 @@
 use Rattle.std.specs.Prelude.{ℕ, zero, suc, ◌+◌, ◌≤◌, max, List, [], ◌∷◌, ◌++◌}
 use Rattle.certificate.specs.declared.limits.TheConstants.{MOST_BRANCHES_ABOVE}
 use Rattle.certificate.specs.declared.node.Node.{Node}
-use Rattle.certificate.specs.declared.node.Node.TheVariants.{Place, Cap, Pair, Round, Leaf}
+use Rattle.certificate.specs.declared.node.Node.TheVariants.{Branch, Leaf}
 
 -- Trees side by side: the first one's top node, the trees below that node, and the trees beside it.
 pub data Trees : Type 0 where
@@ -11,10 +11,7 @@ pub data Trees : Type 0 where
 
 -- how many trees stand below a node
 abbrev pub children : Node → ℕ
-children (Place k) = k
-children (Cap n k) = k
-children (Pair p q) = 2
-children (Round m r) = 2
+children (Branch branch) = branch.children
 children (Leaf leaf) = 0
 
 -- the nodes, each in front of those below it

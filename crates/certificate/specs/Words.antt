@@ -1,11 +1,14 @@
 -- What the lines of a certificate say: a keyword and numbers, each after a space. Own profile.
 use Rattle.std.specs.Prelude.{ℕ, List, [], ◌∷◌, length, codes}
+use Rattle.ttp_model.specs.declared.step.Kind.{Kind}
+use Rattle.ttp_model.specs.declared.step.Kind.TheVariants.{Place, Cap, Pair, Round}
 use Rattle.ttp_model.specs.declared.step.Step.{Step}
 use Rattle.ttp_model.specs.declared.step.Step.TheVariants.{EsRelease, EsLink, EsBefore, EsArrive, EsMessage, LoSend, LeOwn, LeLink, LeBefore, LeMessage, LeSend, HiArrive, OrdWindow, OrdTwin, UsSettled, XWindow, XRound, XCycle, XLoad, XFrame, XFrames, XLate, XSilent}
 use Rattle.certificate.specs.declared.head.Head.{Head}
-use Rattle.certificate.specs.declared.head.Head.TheVariants.{OfPlace, OfCap, OfPair, OfRound, OfLeaf}
+use Rattle.certificate.specs.declared.head.Head.TheVariants.{OfBranch, OfLeaf}
 use Rattle.certificate.specs.declared.node.Node.{Node}
-use Rattle.certificate.specs.declared.node.Node.TheVariants.{Place, Cap, Pair, Round, Leaf}
+use Rattle.certificate.specs.declared.node.Node.TheVariants.{Branch, Leaf}
+use Rattle.certificate.specs.Branch.{branch_of}
 
 -- a keyword, and the numbers behind it
 abbrev pub Words : Type 0
@@ -15,12 +18,16 @@ Words = List ℕ × List ℕ
 abbrev pub low_words : ℕ → Words
 low_words low = (codes "low", low ∷ [])
 
--- the line of a node: indices come before counts of children, a leaf's goal before its count of steps
+-- the line of a branch with so many children: a count that its kind always has isn't written
+abbrev pub branch_words : Kind → ℕ → Words
+branch_words Place k = (codes "place", k ∷ [])
+branch_words (Cap n) k = (codes "cap", n ∷ k ∷ [])
+branch_words (Pair p q) k = (codes "pair", p ∷ q ∷ [])
+branch_words (Round m r) k = (codes "round", m ∷ r ∷ [])
+
+-- the line of a node: a leaf's goal comes before its count of steps
 abbrev pub head_words : Head → Words
-head_words (OfPlace k) = (codes "place", k ∷ [])
-head_words (OfCap n k) = (codes "cap", n ∷ k ∷ [])
-head_words (OfPair p q) = (codes "pair", p ∷ q ∷ [])
-head_words (OfRound m r) = (codes "round", m ∷ r ∷ [])
+head_words (OfBranch branch) = branch_words branch.kind branch.children
 head_words (OfLeaf goal count) = (codes "leaf", goal ∷ count ∷ [])
 
 -- The line of a step: p and q are processes, l is a link, m a message, n, u and v are nodes, r is a
@@ -57,8 +64,10 @@ lows_with (n ∷ []) = n ∷ []
 lows_with _ = []
 
 abbrev pub heads_with : List ℕ → List Head
-heads_with (k ∷ []) = OfPlace k ∷ []
-heads_with (a ∷ b ∷ []) = OfCap a b ∷ OfPair a b ∷ OfRound a b ∷ OfLeaf a b ∷ []
+heads_with (k ∷ []) = OfBranch (branch_of Place k) ∷ []
+heads_with (a ∷ b ∷ []) =
+    OfBranch (branch_of (Cap a) b) ∷ OfBranch (branch_of (Pair a b) 0)
+    ∷ OfBranch (branch_of (Round a b) 0) ∷ OfLeaf a b ∷ []
 heads_with _ = []
 
 -- a cycle has two or more processes
@@ -76,10 +85,7 @@ steps_with more = XCycle more ∷ []
 -- ---- what a node is beside its steps
 
 abbrev pub head_of : Node → Head
-head_of (Place k) = OfPlace k
-head_of (Cap n k) = OfCap n k
-head_of (Pair p q) = OfPair p q
-head_of (Round m r) = OfRound m r
+head_of (Branch branch) = OfBranch branch
 head_of (Leaf leaf) = OfLeaf leaf.goal (length leaf.steps)
 
 abbrev pub steps_of : Node → List Step
@@ -92,9 +98,6 @@ count_of (OfLeaf goal count) = count
 count_of _ = 0
 
 -- the node of a line and the steps that follow it
-abbrev pub node_with : Head → List Step → Node
-node_with (OfPlace k) steps = Place k
-node_with (OfCap n k) steps = Cap n k
-node_with (OfPair p q) steps = Pair p q
-node_with (OfRound m r) steps = Round m r
-node_with (OfLeaf goal count) steps = Leaf (record { goal = goal; steps = steps })
+abbrev pub node_of_head : Head → List Step → Node
+node_of_head (OfBranch branch) steps = Branch branch
+node_of_head (OfLeaf goal count) steps = Leaf (record { goal = goal; steps = steps })

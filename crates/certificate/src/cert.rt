@@ -15,9 +15,9 @@ pub struct Cert {
 }
 
 impl Model for Cert {
-    ghost use Rattle.certificate.specs.Certificate.{Certificate, certificate_code};
+    ghost use Rattle.certificate.specs.Cert.{Cert, certificate_code};
 
-    ghost Value = { Certificate };
+    ghost Value = { Cert };
 
     ghost coded = { certificate_code };
 

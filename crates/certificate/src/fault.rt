@@ -19,7 +19,7 @@ pub enum LineFault {
     /// When a number is above 4,294,967,295.
     #[error("a number is too large")]
     Number,
-    /// When a node stands below more than 4,608 branches.
+    /// When a node stands below more than `MOST_BRANCHES_ABOVE` branches.
     #[error("it stands too deep")]
     Depth,
     /// When the text ends before the line's end.

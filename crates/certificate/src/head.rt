@@ -5,17 +5,16 @@ ghost use Rattle.certificate.specs.Words.{head_words, heads_with};
 ghost use Rattle.certificate.specs.Reading.{IsAnswer, said_in, with_keyword};
 ghost use Rattle.certificate.specs.Numbers.{numbers_in};
 
+use crate::branch::Branch;
 use crate::fault::{CertTextError, LineFault};
 use crate::numbers::{FewNumbers, words_of};
 use line_text::cut;
+use ttp_model::Kind;
 
 /// What a node's line says: all of a branch, and of a leaf its goal and how many steps follow.
 #[derive(Clone, Copy, Debug, PartialEq, Eq)]
 pub enum Head {
-    OfPlace(u32),
-    OfCap(u32, u32),
-    OfPair(u32, u32),
-    OfRound(u32, u32),
+    OfBranch(Branch),
     OfLeaf(u32, u32),
 }
 
@@ -23,13 +22,13 @@ fn with_two(keyword: &[u8], a: u32, b: u32) -> Option<Head>
     ensures { result ≡ with_keyword head_words keyword.now (heads_with (a ∷ b ∷ [])) }
 {
     if keyword == b"cap".as_slice() {
-        return Some(Head::OfCap(a, b));
+        return Some(Head::OfBranch(Branch::new(Kind::Cap(a), b)));
     }
     if keyword == b"pair".as_slice() {
-        return Some(Head::OfPair(a, b));
+        return Some(Head::OfBranch(Branch::new(Kind::Pair(a, b), 0)));
     }
     if keyword == b"round".as_slice() {
-        return Some(Head::OfRound(a, b));
+        return Some(Head::OfBranch(Branch::new(Kind::Round(a, b), 0)));
     }
     if keyword == b"leaf".as_slice() {
         return Some(Head::OfLeaf(a, b));
@@ -41,7 +40,9 @@ fn with_few(keyword: &[u8], numbers: FewNumbers) -> Option<Head>
     ensures { result ≡ with_keyword head_words keyword.now (heads_with (numbers_in numbers)) }
 {
     match numbers {
-        FewNumbers::One(k) if keyword == b"place".as_slice() => Some(Head::OfPlace(k)),
+        FewNumbers::One(k) if keyword == b"place".as_slice() => {
+            Some(Head::OfBranch(Branch::new(Kind::Place, k)))
+        }
         FewNumbers::Two(a, b) => with_two(keyword, a, b),
         _ => None,
     }

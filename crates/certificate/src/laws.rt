@@ -2,19 +2,19 @@
 
 ghost use Rattle.std.specs.Prelude.{◌≡◌, ℕ, List};
 ghost use Rattle.certificate.specs.declared.node.Node.{Node};
-ghost use Rattle.certificate.specs.Certificate.{Certificate};
+ghost use Rattle.certificate.specs.Cert.{Cert};
 ghost use Rattle.certificate.specs.Trees.{Trees, AreTrees, preorder, trees_of};
-ghost use Rattle.certificate.specs.Spelling.{HasText, cert_text};
+ghost use Rattle.certificate.specs.Spelling.{CertHasText, cert_text};
 ghost use Rattle.certificate.specs.Reading.{Reading, Reads};
 
 /// No spelling of one certificate is the spelling of another.
 pub fn spelling_is_of_one_certificate()
-    ensures { (c d : Certificate) → HasText c → HasText d → cert_text c ≡ cert_text d → c ≡ d }
+    ensures { (c d : Cert) → CertHasText c → CertHasText d → cert_text c ≡ cert_text d → c ≡ d }
 {}
 
 /// Reading a text gives one answer: one certificate, or one first fault with its line.
 pub fn reading_gives_one_answer()
-    ensures { (text : List ℕ) (a b : Reading Certificate) → Reads text a → Reads text b → a ≡ b }
+    ensures { (text : List ℕ) (a b : Reading Cert) → Reads text a → Reads text b → a ≡ b }
 {}
 
 /// Trees are the trees of their nodes in preorder, and a list of nodes is that of its trees.

@@ -1,6 +1,7 @@
 //! Certificates as text, both ways.
 #![tactic(auto)]
 
+mod branch;
 mod cert;
 mod fault;
 mod head;
@@ -15,6 +16,7 @@ mod reading;
 mod ring;
 mod steps;
 
+pub use branch::Branch;
 pub use cert::Cert;
 pub use fault::{CertTextError, LineFault};
 pub use laws::{

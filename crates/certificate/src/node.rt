@@ -4,20 +4,15 @@ ghost use Rattle.std.specs.Prelude.{◌≡◌};
 ghost use Rattle.certificate.specs.Trees.{children};
 ghost use Rattle.certificate.specs.Lines.{node_lines};
 
+use crate::branch::Branch;
 use ttp_model::Leaf;
 
 /// A branch of a certificate's tree, or a leaf. Nodes, processes and messages are named by their
 /// indices in the instance.
 #[derive(Debug, Drop)]
 pub enum Node {
-    /// Which node comes next in the slot order: a child for each choice.
-    Place { children: u32 },
-    /// Which capacity a node has: a child for each choice.
-    Cap { node: u32, children: u32 },
-    /// Two processes: the first before the second, and then the second before the first.
-    Pair { first: u32, second: u32 },
-    /// A message: at most in this round, and then in a later one.
-    Round { message: u32, round: u32 },
+    /// The children stand below it, in order.
+    Branch(Branch),
     /// Nothing is left below the leaf's goal.
     Leaf(Leaf),
 }
@@ -28,9 +23,7 @@ impl Node {
         ensures { result ≡ children self.now }
     {
         match self {
-            Node::Place { children } => *children,
-            Node::Cap { children, .. } => *children,
-            Node::Pair { .. } | Node::Round { .. } => 2,
+            Node::Branch(branch) => branch.children,
             Node::Leaf(_) => 0,
         }
     }
@@ -40,8 +33,8 @@ impl Node {
         ensures { result ≡ node_lines self.now }
     {
         match self {
+            Node::Branch(_) => 1,
             Node::Leaf(leaf) => 1 + leaf.steps.as_slice().len() as u64,
-            _ => 1,
         }
     }
 }

@@ -4,7 +4,7 @@ ghost use Rattle.std.specs.Prelude.{◌≡◌, ◌<◌, length, map, true, IfOk,
 ghost use Rattle.std.specs.List.{list_all};
 ghost use Rattle.line_text.specs.Parts.{seen_rest};
 ghost use Rattle.certificate.specs.declared.fault.LineFault.TheVariants.{Form};
-ghost use Rattle.certificate.specs.Reading.{numbers_of, is_numeral, fits, value_of};
+ghost use Rattle.certificate.specs.Reading.{numbers_of, is_number_word, fits, value_of};
 ghost use Rattle.certificate.specs.Numbers.{words_in, numbers_in, words_with};
 
 use crate::fault::{CertTextError, LineFault};
@@ -28,7 +28,7 @@ pub enum FewNumbers {
 
 /// Whether the word has a number's form.
 pub fn is_numeral(word: NumberWord) -> bool
-    ensures { result ≡ is_numeral word }
+    ensures { result ≡ is_number_word word }
 {
     match word {
         NumberWord::Malformed => false,
@@ -89,7 +89,7 @@ impl FewWords {
     }
 
     fn are_numerals(self) -> bool
-        ensures { result ≡ list_all is_numeral (words_in self) }
+        ensures { result ≡ list_all is_number_word (words_in self) }
     {
         match self {
             FewWords::One(a) => is_numeral(a),
@@ -124,9 +124,9 @@ impl FewWords {
 /// The words behind a keyword in this line: at most three, each with a number's form.
 pub fn words_of(line: u64, text: &[u8]) -> Result<FewWords, CertTextError>
     ensures words { IfOk result (λ words. numbers_of text.now ≡ words_in words) }
-    ensures numerals { IfOk result (λ _. list_all is_numeral (numbers_of text.now) ≡ true) }
+    ensures numerals { IfOk result (λ _. list_all is_number_word (numbers_of text.now) ≡ true) }
     ensures fault { IfErr result (λ e. e ≡ CertTextError.At line Form) }
-    ensures many { IfErr result (λ _. list_all is_numeral (numbers_of text.now) ≡ true →
+    ensures many { IfErr result (λ _. list_all is_number_word (numbers_of text.now) ≡ true →
         3 < length (numbers_of text.now)) }
 {
     let Some(words) = FewWords::of(text) else {

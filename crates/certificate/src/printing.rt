@@ -2,14 +2,15 @@
 
 ghost use Rattle.std.specs.Prelude.{◌≡◌, ◌++◌, ◌∷◌, [], All, IfOk, OnOk};
 ghost use Rattle.std.specs.List.{flat_map};
-ghost use Rattle.certificate.specs.Words.{step_words, head_words, head_of};
-ghost use Rattle.certificate.specs.Spelling.{Fit, spaced, line_with, step_text, node_text, StepHasText, NodeHasText, IsSpelled};
+ghost use Rattle.certificate.specs.Words.{step_words, branch_words, head_words, head_of};
+ghost use Rattle.certificate.specs.Spelling.{Fit, spaced, line_with, step_text, node_text, StepHasText, NodeHasText, SpellsCert};
 
+use crate::branch::Branch;
 use crate::cert::Cert;
 use crate::node::Node;
 use line_text::push_number;
 use std::alloc::{AllocError, Global};
-use ttp_model::{MemoryFault, Step};
+use ttp_model::{Kind, MemoryFault, Step};
 
 #[tactic(auto, unfolding(crate::specs::Spelling::spaced))]
 fn push_spaced(text: &mut Vec<u8>, number: u32) -> Result<(), AllocError>
@@ -75,16 +76,26 @@ fn push_steps(text: &mut Vec<u8>, steps: &[Step]) -> Result<(), AllocError>
     Ok(())
 }
 
+fn push_branch(text: &mut Vec<u8>, branch: Branch) -> Result<(), AllocError>
+    ensures text { OnOk result (text.new.items ≡
+        text.old.items ++ (line_with (branch_words branch.kind branch.children) ++ 10 ∷ [])) }
+    ensures fits { Fit (branch_words branch.kind branch.children).1 }
+{
+    match branch.kind {
+        Kind::Place => push_line(text, b"place", &[branch.children]),
+        Kind::Cap(n) => push_line(text, b"cap", &[n, branch.children]),
+        Kind::Pair(p, q) => push_line(text, b"pair", &[p, q]),
+        Kind::Round(m, r) => push_line(text, b"round", &[m, r]),
+    }
+}
+
 #[tactic(auto, unfolding(crate::specs::Spelling::node_text))]
 fn push_node(text: &mut Vec<u8>, node: &Node) -> Result<(), AllocError>
     ensures text { OnOk result (text.new.items ≡ text.old.items ++ node_text node.now) }
     ensures fits { OnOk result (NodeHasText node.now) }
 {
     match node {
-        Node::Place { children } => push_line(text, b"place", &[*children]),
-        Node::Cap { node, children } => push_line(text, b"cap", &[*node, *children]),
-        Node::Pair { first, second } => push_line(text, b"pair", &[*first, *second]),
-        Node::Round { message, round } => push_line(text, b"round", &[*message, *round]),
+        Node::Branch(branch) => push_branch(text, *branch),
         Node::Leaf(leaf) => {
             let steps = leaf.steps.as_slice();
             push_line(text, b"leaf", &[leaf.goal, steps.len() as u32])?;
@@ -106,7 +117,7 @@ fn push_nodes(text: &mut Vec<u8>, nodes: &[Node]) -> Result<(), AllocError>
 
 /// The text of a certificate. Linear in the text.
 pub fn print(alloc: Global, cert: &Cert) -> Result<Vec<u8>, MemoryFault>
-    ensures { IfOk result (λ text. IsSpelled text.items cert.now) }
+    ensures { IfOk result (λ text. SpellsCert text.items cert.now) }
 {
     let mut text = Vec::new(alloc);
     text.extend_from_slice(b"ttcert 1\n")?;

@@ -1,12 +1,12 @@
 //! Which certificate does a text spell, or what is its first fault?
 
 ghost use Rattle.std.specs.Prelude.{◌≡◌, ◌≢◌, ◌<◌, ◌≤◌, ◌+◌, ◌^◌, IfOk, [], length};
-ghost use Rattle.certificate.specs.Words.{count_of, node_with};
+ghost use Rattle.certificate.specs.Words.{count_of, node_of_head};
 ghost use Rattle.certificate.specs.Lines.{node_lines, total_lines};
 ghost use Rattle.certificate.specs.Nodes.{ReadsNodes};
-ghost use Rattle.certificate.specs.Spelling.{IsSpelled};
-ghost use Rattle.certificate.specs.Certificate.{Certificate};
-ghost use Rattle.certificate.specs.Reading.{IsAnswer, IsAnswerIn, step_at, steps_at, node_at, Reads};
+ghost use Rattle.certificate.specs.Spelling.{SpellsCert};
+ghost use Rattle.certificate.specs.Cert.{Cert};
+ghost use Rattle.certificate.specs.Reading.{IsAnswer, IsAnswerIn, text_step, steps_at, text_node, Reads};
 
 use crate::cert::Cert;
 use crate::fault::{CertTextError, LineFault};
@@ -20,9 +20,9 @@ use std::alloc::Global;
 use ttp_model::{Leaf, Step, Steps};
 
 /// The step in the next line, and the text behind the line.
-#[tactic(auto, unfolding(crate::specs::Reading::step_at))]
+#[tactic(auto, unfolding(crate::specs::Reading::text_step))]
 fn step_of(alloc: Global, line: u64, text: &[u8]) -> Result<(Step, &[u8]), CertTextError>
-    ensures value { IsAnswer (λ x. (x.0, x.1.now)) result (step_at line text.now) }
+    ensures value { IsAnswer (λ x. (x.0, x.1.now)) result (text_step line text.now) }
     ensures shorter { IfOk result (λ x. length x.1.now < length text.now) }
 {
     let (first, after) = line_of(line, text)?;
@@ -63,13 +63,10 @@ fn count_of(head: Head) -> u32
 
 fn node_with(head: Head, steps: Vec<Step>) -> Node
     requires { length steps.items < 2 ^ 32 }
-    ensures { result ≡ node_with head steps.items }
+    ensures { result ≡ node_of_head head steps.items }
 {
     match head {
-        Head::OfPlace(children) => Node::Place { children },
-        Head::OfCap(node, children) => Node::Cap { node, children },
-        Head::OfPair(first, second) => Node::Pair { first, second },
-        Head::OfRound(message, round) => Node::Round { message, round },
+        Head::OfBranch(branch) => Node::Branch(branch),
         Head::OfLeaf(goal, _) => Node::Leaf(Leaf {
             goal,
             steps: Steps::new(steps),
@@ -78,7 +75,7 @@ fn node_with(head: Head, steps: Vec<Step>) -> Node
 }
 
 /// The node in the next lines, which stands below so many branches, and the text behind them.
-#[tactic(auto, unfolding(crate::specs::Reading::node_at))]
+#[tactic(auto, unfolding(crate::specs::Reading::text_node))]
 fn node_of<'a>(
     alloc: Global,
     above: usize,
@@ -86,7 +83,7 @@ fn node_of<'a>(
     text: &'a [u8],
 ) -> Result<(Node, &'a [u8]), CertTextError>
     requires { line + length text.now < 2 ^ 64 }
-    ensures value { IsAnswer (λ x. (x.0, x.1.now)) result (node_at above line text.now) }
+    ensures value { IsAnswer (λ x. (x.0, x.1.now)) result (text_node above line text.now) }
     ensures shorter { IfOk result (λ x. length x.1.now + node_lines x.0 ≤ length text.now) }
 {
     let (first, after) = line_of(line, text)?;
@@ -141,9 +138,9 @@ pub fn read(alloc: Global, text: &[u8]) -> Result<Cert, CertTextError>
     // The certificate, or the first fault with its line.
     ensures exact { IsAnswerIn (λ x. x) result (Reads text.now) }
     // What is read has a text, and this is it.
-    ensures found { IfOk result (λ cert. IsSpelled text.now cert) }
+    ensures found { IfOk result (λ cert. SpellsCert text.now cert) }
     // A text that spells a certificate is read as that certificate, unless memory is refused.
-    ensures only { (cert : Certificate) → IsSpelled text.now cert →
+    ensures only { (cert : Cert) → SpellsCert text.now cert →
         result ≢ Err CertTextError.OutOfMemory → result ≡ Ok cert }
 {
     cert_of(alloc, text)

@@ -1,7 +1,7 @@
 //! Choices of small instances: what is left open, and how far the slots can move.
 
 ghost use Rattle.std.specs.Prelude.{◌≡◌, ◌<◌, length, All, IfOk};
-ghost use Rattle.tt_choice.specs.Choices.{IsChoice};
+ghost use Rattle.tt_choice.specs.Choice.{IsChoice};
 
 use crate::decisions::Decision::{AtLeast, AtMost, Before, Cap, Place};
 use crate::decisions::{Decision, chosen};

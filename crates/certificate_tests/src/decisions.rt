@@ -1,7 +1,7 @@
 //! Which choice do these decisions lead to, one after another?
 
 ghost use Rattle.std.specs.Prelude.{◌≡◌, IfOk, OnOk};
-ghost use Rattle.tt_choice.specs.Choices.{IsChoice};
+ghost use Rattle.tt_choice.specs.Choice.{IsChoice};
 
 use std::alloc::Global;
 use std::process::Abort;

@@ -3,17 +3,17 @@ use Rattle.std.proofs.Common.{ℕ, List, Option, None, Some, refl}
 use Rattle.std.specs.Io.KnownBytes.{Keeps}
 use Rattle.command_streams.specs.declared.ending.Sink.TheVariants as sink
 use Rattle.command_streams.specs.declared.ending.Fault.{Fault}
-use Rattle.command_streams.specs.declared.ending.Fault.TheVariants.{NoMark, LossForm, Instance, Memory, PlanText, Plan, StatedDelay, CertificateText, Certificate, TooFewNodes, WrongLoss, Search, Unread, Unwritten}
+use Rattle.command_streams.specs.declared.ending.Fault.TheVariants.{NoMark, LossForm, InstanceText, Memory, PlanText, Plan, StatedDelay, CertificateText, Certificate, TooFewNodes, WrongLoss, Search, Unread, Unwritten}
 use Rattle.command_streams.specs.declared.ending.End.{End}
 use Rattle.command_streams.specs.declared.ending.End.TheVariants.{Done, Absent, Stopped, Refused}
-use Rattle.command_streams.specs.Outcomes.{IsOutcome, IsWriting, IsWritingUnlessMemory, OnDone}
+use Rattle.command_streams.specs.Outcomes.{IsCommandAnswer, IsWriting, IsWritingUnlessMemory, OnDone}
 
 pub keeps : (old : Option (List ℕ)) → Keeps old old
 keeps None = tt
 keeps (Some bytes) = refl
 
 module _ (IsText : List ℕ → Type 0) (IsRefusedBy : Fault → Type 0) (text : List ℕ) (is : IsText text) (old new : Option (List ℕ)) where
-  pub written_outcome : (end : End) → IsWriting text old new end → IsOutcome (OnDone IsText) IsRefusedBy old new end
+  pub written_outcome : (end : End) → IsWriting text old new end → IsCommandAnswer (OnDone IsText) IsRefusedBy old new end
   written_outcome Done gains = record { text = text; is = is; appends = gains }
   written_outcome Absent gains = absurd gains
   written_outcome Stopped gains = absurd gains
@@ -21,7 +21,7 @@ module _ (IsText : List ℕ → Type 0) (IsRefusedBy : Fault → Type 0) (text :
   written_outcome (Refused (Unwritten sink.Out)) part = record { at = Done; text = text; is = is; part = part }
   written_outcome (Refused NoMark) gains = absurd gains
   written_outcome (Refused (LossForm k)) gains = absurd gains
-  written_outcome (Refused (Instance error)) gains = absurd gains
+  written_outcome (Refused (InstanceText error)) gains = absurd gains
   written_outcome (Refused Memory) gains = absurd gains
   written_outcome (Refused (PlanText error)) gains = absurd gains
   written_outcome (Refused (Plan fault)) gains = absurd gains
@@ -34,7 +34,7 @@ module _ (IsText : List ℕ → Type 0) (IsRefusedBy : Fault → Type 0) (text :
   written_outcome (Refused (Unread source)) gains = absurd gains
 
   module _ (memory : IsRefusedBy Memory) where
-    pub made_outcome : (end : End) → IsWritingUnlessMemory text old new end → IsOutcome (OnDone IsText) IsRefusedBy old new end
+    pub made_outcome : (end : End) → IsWritingUnlessMemory text old new end → IsCommandAnswer (OnDone IsText) IsRefusedBy old new end
     made_outcome Done gains = written_outcome Done gains
     made_outcome Absent gains = absurd gains
     made_outcome Stopped gains = absurd gains
@@ -43,7 +43,7 @@ module _ (IsText : List ℕ → Type 0) (IsRefusedBy : Fault → Type 0) (text :
     made_outcome (Refused Memory) keeps = (memory, keeps)
     made_outcome (Refused NoMark) gains = absurd gains
     made_outcome (Refused (LossForm k)) gains = absurd gains
-    made_outcome (Refused (Instance error)) gains = absurd gains
+    made_outcome (Refused (InstanceText error)) gains = absurd gains
     made_outcome (Refused (PlanText error)) gains = absurd gains
     made_outcome (Refused (Plan fault)) gains = absurd gains
     made_outcome (Refused (StatedDelay d)) gains = absurd gains

@@ -7,7 +7,7 @@ use Rattle.certificate.specs.declared.fault.CertTextError.TheVariants as certifi
 use Rattle.cert_check.specs.declared.fault.CertFault.TheVariants as certificate
 use Rattle.command_streams.specs.declared.ending.SearchFault.TheVariants as search
 use Rattle.command_streams.specs.declared.ending.Fault.{Fault}
-use Rattle.command_streams.specs.declared.ending.Fault.TheVariants.{NoMark, LossForm, Instance, Memory, PlanText, Plan, StatedDelay, CertificateText, Certificate, TooFewNodes, WrongLoss, Search, Unread, Unwritten}
+use Rattle.command_streams.specs.declared.ending.Fault.TheVariants.{NoMark, LossForm, InstanceText, Memory, PlanText, Plan, StatedDelay, CertificateText, Certificate, TooFewNodes, WrongLoss, Search, Unread, Unwritten}
 use Rattle.command_streams.specs.declared.ending.End.{End}
 use Rattle.command_streams.specs.declared.ending.End.TheVariants.{Done, Absent, Stopped, Refused}
 
@@ -15,9 +15,9 @@ use Rattle.command_streams.specs.declared.ending.End.TheVariants.{Done, Absent, 
 abbrev pub fault_status : Fault → ℕ
 fault_status NoMark = 2
 fault_status (LossForm k) = 2
-fault_status (Instance text.OutOfMemory) = 4
-fault_status (Instance (text.Model model.OutOfMemory)) = 4
-fault_status (Instance _) = 3
+fault_status (InstanceText text.OutOfMemory) = 4
+fault_status (InstanceText (text.Model model.OutOfMemory)) = 4
+fault_status (InstanceText _) = 3
 fault_status Memory = 4
 fault_status (PlanText plan_text.OutOfMemory) = 4
 fault_status (PlanText (plan_text.At line fault)) = 5

@@ -35,7 +35,7 @@ use Rattle.command_streams.specs.declared.ending.Sink.TheVariants as sink
 use Rattle.command_streams.specs.declared.ending.SearchFault.{SearchFault}
 use Rattle.command_streams.specs.declared.ending.SearchFault.TheVariants as search
 use Rattle.command_streams.specs.declared.ending.Fault.{Fault}
-use Rattle.command_streams.specs.declared.ending.Fault.TheVariants.{NoMark, LossForm, Instance, Memory, PlanText, Plan, StatedDelay, CertificateText, Certificate, TooFewNodes, WrongLoss, Search, Unread, Unwritten}
+use Rattle.command_streams.specs.declared.ending.Fault.TheVariants.{NoMark, LossForm, InstanceText, Memory, PlanText, Plan, StatedDelay, CertificateText, Certificate, TooFewNodes, WrongLoss, Search, Unread, Unwritten}
 use Rattle.command_streams.specs.declared.ending.End.{End}
 use Rattle.command_streams.specs.declared.ending.End.TheVariants.{Done, Absent, Stopped, Refused}
 
@@ -111,15 +111,15 @@ plan_text_line (plan_text.At line fault) = (codes "plan " ++ line_code fault) ++
 plan_text_line plan_text.OutOfMemory = codes "memory"
 
 -- the number of a list of a plan
-abbrev pub list_number : PlanPart → ℕ
-list_number list.Order = 0
-list_number list.Capacities = 1
-list_number list.Starts = 2
-list_number list.Rounds = 3
+abbrev pub plan_list_number : PlanPart → ℕ
+plan_list_number list.Order = 0
+plan_list_number list.Capacities = 1
+plan_list_number list.Starts = 2
+plan_list_number list.Rounds = 3
 
 -- the line of a plan that is not valid, with its indices
 abbrev pub plan_line : PlanFault → List ℕ
-plan_line (broken.WrongLength list) = codes "plan V1 " ++ decimal (list_number list)
+plan_line (broken.WrongLength list) = codes "plan V1 " ++ decimal (plan_list_number list)
 plan_line (broken.WrongOrder k) = codes "plan V2 " ++ decimal k
 plan_line (broken.WrongCapacity n) = codes "plan V3 " ++ decimal n
 plan_line (broken.TooEarly p) = codes "plan V4 " ++ decimal p
@@ -182,7 +182,7 @@ sink_word sink.Out = codes "out"
 abbrev pub fault_line : Fault → List ℕ
 fault_line NoMark = codes "usage bundle"
 fault_line (LossForm k) = codes "usage loss " ++ decimal k
-fault_line (Instance error) = text_line error
+fault_line (InstanceText error) = text_line error
 fault_line Memory = codes "memory"
 fault_line (PlanText error) = plan_text_line error
 fault_line (Plan fault) = plan_line fault

@@ -34,12 +34,12 @@ pub record IsCutShort (IsTextAt : End → List ℕ → Type 0) (old new : Option
 
 -- The whole answer: the text of that end, or a prefix of one where the writer failed, or why there is none, and then
 -- nothing is written.
-abbrev pub IsOutcome : (End → List ℕ → Type 0) → (Fault → Type 0) → Option (List ℕ) → Option (List ℕ) → End → Type 0
-IsOutcome IsTextAt IsRefusedBy old new Done = IsWritten (IsTextAt Done) old new
-IsOutcome IsTextAt IsRefusedBy old new Absent = IsWritten (IsTextAt Absent) old new
-IsOutcome IsTextAt IsRefusedBy old new Stopped = IsWritten (IsTextAt Stopped) old new
-IsOutcome IsTextAt IsRefusedBy old new (Refused (Unwritten Out)) = IsCutShort IsTextAt old new
-IsOutcome IsTextAt IsRefusedBy old new (Refused fault) = IsRefusedBy fault × Keeps old new
+abbrev pub IsCommandAnswer : (End → List ℕ → Type 0) → (Fault → Type 0) → Option (List ℕ) → Option (List ℕ) → End → Type 0
+IsCommandAnswer IsTextAt IsRefusedBy old new Done = IsWritten (IsTextAt Done) old new
+IsCommandAnswer IsTextAt IsRefusedBy old new Absent = IsWritten (IsTextAt Absent) old new
+IsCommandAnswer IsTextAt IsRefusedBy old new Stopped = IsWritten (IsTextAt Stopped) old new
+IsCommandAnswer IsTextAt IsRefusedBy old new (Refused (Unwritten Out)) = IsCutShort IsTextAt old new
+IsCommandAnswer IsTextAt IsRefusedBy old new (Refused fault) = IsRefusedBy fault × Keeps old new
 
 -- the texts of a command that writes one when it is done, and has no other end without a fault
 abbrev pub OnDone : (List ℕ → Type 0) → End → List ℕ → Type 0

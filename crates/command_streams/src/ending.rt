@@ -51,7 +51,7 @@ pub enum Fault {
     /// When the loss word of this index is malformed.
     LossForm(usize),
     /// When the instance's text states none.
-    Instance(TextError),
+    InstanceText(TextError),
     /// When memory was wanted, and refused.
     Memory,
     /// When the plan's text spells none.
@@ -120,9 +120,9 @@ fn status_of_fault(fault: &Fault) -> u8
     match fault {
         Fault::NoMark => 2,
         Fault::LossForm(_) => 2,
-        Fault::Instance(TextError::OutOfMemory) => 4,
-        Fault::Instance(TextError::Model(ModelError::OutOfMemory)) => 4,
-        Fault::Instance(_) => 3,
+        Fault::InstanceText(TextError::OutOfMemory) => 4,
+        Fault::InstanceText(TextError::Model(ModelError::OutOfMemory)) => 4,
+        Fault::InstanceText(_) => 3,
         Fault::Memory => 4,
         Fault::PlanText(PlanTextError::OutOfMemory) => 4,
         Fault::PlanText(PlanTextError::At { .. }) => 5,

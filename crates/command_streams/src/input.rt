@@ -89,7 +89,7 @@ pub fn instance_of_text(alloc: Global, bytes: &[u8]) -> Result<Instance, Fault>
 {
     match instance_text::read(alloc, bytes) {
         Ok(instance) => Ok(instance),
-        Err(error) => Err(Fault::Instance(error)),
+        Err(error) => Err(Fault::InstanceText(error)),
     }
 }
 

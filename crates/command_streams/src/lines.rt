@@ -3,7 +3,7 @@
 ghost use Rattle.std.specs.Prelude.{◌≡◌, Some, OnOk};
 ghost use Rattle.std.specs.List.{flat_map};
 ghost use Rattle.std.specs.Io.KnownBytes.{Appends};
-ghost use Rattle.command_streams.specs.Lines.{spaced, report_of, list_number, part_word, place_words, table_words, line_code, certificate_line_code, certificate_text_line, node_code, certificate_line, model_line, text_line, plan_text_line, plan_line, search_line, source_word, sink_word, fault_line};
+ghost use Rattle.command_streams.specs.Lines.{spaced, report_of, plan_list_number, part_word, place_words, table_words, line_code, certificate_line_code, certificate_text_line, node_code, certificate_line, model_line, text_line, plan_text_line, plan_line, search_line, source_word, sink_word, fault_line};
 
 use crate::ending::{End, Fault, SearchFault, Sink, Source};
 use cert_check::{CertFault, NodeFault};
@@ -169,7 +169,7 @@ impl fmt::Display for PlanTextLine {
 }
 
 fn list_number(list: PlanPart) -> u32
-    ensures { result ≡ list_number list }
+    ensures { result ≡ plan_list_number list }
 {
     match list {
         PlanPart::Order => 0,
@@ -321,7 +321,7 @@ impl fmt::Display for Fault {
         match self {
             Fault::NoMark => write!(f, "usage bundle"),
             Fault::LossForm(k) => write!(f, "usage loss {k}"),
-            Fault::Instance(error) => write!(f, "{}", TextLine(error)),
+            Fault::InstanceText(error) => write!(f, "{}", TextLine(error)),
             Fault::Memory => write!(f, "memory"),
             Fault::PlanText(error) => write!(f, "{}", PlanTextLine(*error)),
             Fault::Plan(fault) => write!(f, "{}", PlanLine(*fault)),

@@ -3,27 +3,27 @@ use Rattle.std.proofs.Common.{◌≡◌, ◌≢◌, ℕ, ◌+◌, ◌*◌, ◌�
 use Rattle.std.specs.HashMap.{HashMap, get, Updates}
 use Rattle.std.proofs.lemmas.Bool.{cases_eq, eq-eqb, ne_eqb}
 use Rattle.ttp_model.specs.declared.limits.TheConstants.{MOST_BYTES}
-use Rattle.ttp_model.specs.Problem.{Problem, message_at, source_of}
-use Rattle.tt_choice.specs.Totals.{total}
-use Rattle.tt_choice.specs.Choices.{Chosen, lo_of}
-use Rattle.tt_choice.proofs.Totals.{total_next}
+use Rattle.ttp_model.specs.Instance.{Instance, message_at, source_of}
+use Rattle.ttp_model.specs.Totals.{total}
+use Rattle.ttp_model.proofs.Totals.{total_next}
+use Rattle.tt_choice.specs.Choice.{Choice, least_round}
 use Rattle.earliest_starts.specs.Fixed.{fixed_bytes}
 
 -- the map has the bytes of each frame of node n, of the messages below m; none is overfull
-pub record AreCounted {S : Type 0} (i : Problem) (c : Chosen) (n m capacity : ℕ) (loads : HashMap ℕ ℕ S) : Type 0 where
+pub record AreCounted {S : Type 0} (i : Instance) (c : Choice) (n m capacity : ℕ) (loads : HashMap ℕ ℕ S) : Type 0 where
   pub counted : (r : ℕ) → unwrap_or (get nat_eq loads r) 0 ≡ total (fixed_bytes i c n r) m
   pub fits : (r : ℕ) → total (fixed_bytes i c n r) m ≤ capacity
   pub small : (r : ℕ) → total (fixed_bytes i c n r) m ≤ m * MOST_BYTES
 
-module _ (i : Problem) (c : Chosen) (n m : ℕ) where
+module _ (i : Instance) (c : Choice) (n m : ℕ) where
   -- a message of the frame adds its bytes
-  pub load_more : (r : ℕ) → source_of i m ≡ n → lo_of c m ≡ r → total (fixed_bytes i c n r) (m + 1) ≡ total (fixed_bytes i c n r) m + (message_at i m).bytes
+  pub load_more : (r : ℕ) → source_of i m ≡ n → least_round c m ≡ r → total (fixed_bytes i c n r) (m + 1) ≡ total (fixed_bytes i c n r) m + (message_at i m).bytes
   load_more r node round =
       let bytes : fixed_bytes i c n r m ≡ (message_at i m).bytes = rw (eq-eqb _ _ node, eq-eqb _ _ round) refl in
       omega (arith, bytes, total_next (fixed_bytes i c n r) m)
 
   -- one of another round, or of another node, adds nothing
-  load_same_round : (r : ℕ) → source_of i m ≡ n → lo_of c m ≢ r → total (fixed_bytes i c n r) (m + 1) ≡ total (fixed_bytes i c n r) m
+  load_same_round : (r : ℕ) → source_of i m ≡ n → least_round c m ≢ r → total (fixed_bytes i c n r) (m + 1) ≡ total (fixed_bytes i c n r) m
   load_same_round r node differ =
       let none : fixed_bytes i c n r m ≡ 0 = rw (eq-eqb _ _ node, ne_eqb _ _ differ) refl in
       omega (arith, none, total_next (fixed_bytes i c n r) m)
@@ -33,7 +33,7 @@ module _ (i : Problem) (c : Chosen) (n m : ℕ) where
       let none : fixed_bytes i c n r m ≡ 0 = rw (ne_eqb _ _ differ) refl in
       omega (arith, none, total_next (fixed_bytes i c n r) m)
 
-  module _ (round load : ℕ) (node : source_of i m ≡ n) (at : lo_of c m ≡ round) (is : load ≡ total (fixed_bytes i c n round) m + (message_at i m).bytes) where
+  module _ (round load : ℕ) (node : source_of i m ≡ n) (at : least_round c m ≡ round) (is : load ≡ total (fixed_bytes i c n round) m + (message_at i m).bytes) where
     -- the count of the message's round is written anew
     counted_more : {S : Type 0} (old new : HashMap ℕ ℕ S) → ((r : ℕ) → unwrap_or (get nat_eq old r) 0 ≡ total (fixed_bytes i c n r) m) → Updates nat_eq old new round (Some load) → (r : ℕ) → unwrap_or (get nat_eq new r) 0 ≡ total (fixed_bytes i c n r) (m + 1)
     counted_more old new counted updates r = elim (cases_eq round r) [

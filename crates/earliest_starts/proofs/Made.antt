@@ -3,12 +3,12 @@ use Rattle.std.proofs.Common.{◌≡◌, ℕ, ◌<◌, ◌≤◌, List, length, 
 use Rattle.std.proofs.lemmas.Bool.{false≢true, both_ways}
 use Rattle.std.proofs.lemmas.List.Elements.{Contains-get_or}
 use Rattle.ttp_model.specs.Lists.{EachBelow}
-use Rattle.ttp_model.specs.Problem.{Problem, node_at, message_at, link_at, source_of}
+use Rattle.ttp_model.specs.Instance.{Instance, node_at, message_at, link_at, source_of}
 use Rattle.ttp_model.specs.Rules.{IsInstance}
 use Rattle.ttp_model.specs.Plans.{IsValid, IsNodeOrder, HasOwnCapacity, AreApart}
 use Rattle.ttp_model.specs.declared.error.Place.TheVariants.{AtProcess, AtLink, AtMessage}
-use Rattle.tt_choice.specs.Totals.{total}
-use Rattle.tt_choice.specs.Choices.{Chosen, fixed_cap, is_before, lo_of, IsFixedTo, IsOption, IsIn, IsChoice, IsComplete}
+use Rattle.ttp_model.specs.Totals.{total}
+use Rattle.tt_choice.specs.Choice.{Choice, fixed_cap, is_before, least_round, IsFixedTo, IsOption, IsIn, IsChoice, IsComplete}
 use Rattle.tt_choice.proofs.Extend.{from_parts, order_of}
 use Rattle.earliest_starts.specs.Fixed.{fixed_caps, plan_of, copied_out, sends_from, fixed_bytes}
 use Rattle.earliest_starts.specs.Clashes.{MissesSlot}
@@ -18,7 +18,7 @@ use Rattle.earliest_starts.specs.Answers.{IsEarliest}
 use Rattle.earliest_starts.proofs.Rings.{one_before}
 use Rattle.earliest_starts.proofs.Sound.{fixed_at, length-fixed_caps, waits_le}
 
-own_option : (i : Problem) (n : ℕ) (o : Option ℕ) → IsSome o → IsOption i n o → Contains (node_at i n).capacities (unwrap_or o 0)
+own_option : (i : Instance) (n : ℕ) (o : Option ℕ) → IsSome o → IsOption i n o → Contains (node_at i n).capacities (unwrap_or o 0)
 own_option i n None some is = absurd (false≢true some)
 own_option i n (Some fixed) some is = is
 
@@ -26,7 +26,7 @@ fixed_to : (o : Option ℕ) → IsFixedTo o (unwrap_or o 0)
 fixed_to None = tt
 fixed_to (Some fixed) = refl
 
-module _ (i : Problem) (c : Chosen) (w : IsInstance i) (ok : IsChoice i c) (done : IsComplete i c) where
+module _ (i : Instance) (c : Choice) (w : IsInstance i) (ok : IsChoice i c) (done : IsComplete i c) where
   -- the prefix is an order of all nodes
   pub order_fits : IsNodeOrder (length i.nodes) c.prefix
   order_fits = order_of (length i.nodes) c.prefix (from_parts (length i.nodes) c.prefix ok.nodes ok.once) done.placed
@@ -47,14 +47,14 @@ module _ (i : Problem) (c : Chosen) (w : IsInstance i) (ok : IsChoice i c) (done
         | inr back ↦ absurd (both_ways _ (none l h) back)
       ]
 
-module _ (i : Problem) (c : Chosen) (floors starts : List ℕ) (w : IsInstance i) (ok : IsChoice i c) (done : IsComplete i c) (none : TurnsNoLink i c) (f : AreFloors i c (length i.messages) floors) (all : length starts ≡ length i.processes) (s : AreSettled i c floors starts) where
+module _ (i : Instance) (c : Choice) (floors starts : List ℕ) (w : IsInstance i) (ok : IsChoice i c) (done : IsComplete i c) (none : TurnsNoLink i c) (f : AreFloors i c (length i.messages) floors) (all : length starts ≡ length i.processes) (s : AreSettled i c floors starts) where
   apart : (p q : ℕ) → p < q → q < length i.processes → AreApart i (plan_of c starts) p q
   apart p q up h same = elim (one_before i c p q done (record { first = omega (arith, up, h); second = h; two = λ equal. omega (arith, equal, up); one_node = same })) [
     | inl forth ↦ inl ((s q h).after p forth)
     | inr back ↦ inr ((s p (omega (arith, up, h))).after q back)
   ]
 
-  IsValid-made : ((m : ℕ) → m < length i.messages → copied_out i starts m ≤ sends_from i c m) → ((m : ℕ) → m < length i.messages → total (fixed_bytes i c (source_of i m) (lo_of c m)) (length i.messages) ≤ slice_index (fixed_caps c) (source_of i m)) → IsValid i (plan_of c starts)
+  IsValid-made : ((m : ℕ) → m < length i.messages → copied_out i starts m ≤ sends_from i c m) → ((m : ℕ) → m < length i.messages → total (fixed_bytes i c (source_of i m) (least_round c m)) (length i.messages) ≤ slice_index (fixed_caps c) (source_of i m)) → IsValid i (plan_of c starts)
   IsValid-made ready frames = record {
     lengths = record { order = done.placed; capacities = caps_fit i c w ok done; starts = all; rounds = ok.lo_length };
     order = order_fits i c w ok done;
@@ -91,7 +91,7 @@ module _ (i : Problem) (c : Chosen) (floors starts : List ℕ) (w : IsInstance i
   pub IsEarliest-found : ((m : ℕ) → m < length i.messages → copied_out i starts m ≤ sends_from i c m) → ((n r : ℕ) → n < length i.nodes → total (fixed_bytes i c n r) (length i.messages) ≤ slice_index (fixed_caps c) n) → IsEarliest i c (plan_of c starts)
   IsEarliest-found ready frames =
       let source = λ (m : ℕ) (h : m < length i.messages). w.indices (AtProcess (message_at i m).sender) (w.indices (AtMessage m) h).0 in
-      IsEarliest-made (IsValid-made ready (λ m h. frames (source_of i m) (lo_of c m) (source m h)))
+      IsEarliest-made (IsValid-made ready (λ m h. frames (source_of i m) (least_round c m) (source m h)))
 
   -- a message that misses its slot
   pub MissesSlot-late : (m : ℕ) → m < length i.messages → sends_from i c m < copied_out i starts m → MissesSlot i c m

@@ -5,31 +5,31 @@ use Rattle.std.proofs.lemmas.List.{get_or-map, length-map}
 use Rattle.std.proofs.lemmas.Grind.{same_number_lists, get_or_default_zero}
 use Rattle.ttp_model.specs.declared.plan.Plan.{Plan}
 use Rattle.ttp_model.specs.declared.error.Place.TheVariants.{AtProcess, AtLink}
-use Rattle.ttp_model.specs.Problem.{Problem, process_at, message_at}
+use Rattle.ttp_model.specs.Instance.{Instance, process_at, message_at}
 use Rattle.ttp_model.specs.Rules.{IsInstance}
 use Rattle.ttp_model.specs.Plans.{IsValid, start_of, end_of, round_of, sent_from, sent_until, bytes_in, load_of}
+use Rattle.ttp_model.specs.Totals.{total}
 use Rattle.ttp_model.proofs.ValidPlans.{frames_fit_lem}
-use Rattle.tt_choice.specs.Totals.{total}
-use Rattle.tt_choice.specs.Choices.{Chosen, fixed_cap, lo_of, IsFixedTo, IsIn, IsChoice, IsComplete}
-use Rattle.tt_choice.proofs.Totals.{total_same}
+use Rattle.ttp_model.proofs.Totals.{total_same}
+use Rattle.tt_choice.specs.Choice.{Choice, fixed_cap, least_round, IsFixedTo, IsIn, IsChoice, IsComplete}
 use Rattle.earliest_starts.specs.declared.clash.Clash.{Clash}
 use Rattle.earliest_starts.specs.declared.clash.Clash.TheVariants.{Cycle, Round, Window, Frame}
 use Rattle.earliest_starts.specs.Fixed.{fixed_caps, sends_from, sends_until, GoesAhead, fixed_bytes}
 use Rattle.earliest_starts.specs.Answers.{IsBarren}
-use Rattle.earliest_starts.specs.Clashes.{WaitsUntil, released, arrived, after, IsRing, IsClash}
+use Rattle.earliest_starts.specs.Clashes.{WaitsUntil, released, arrived, after, IsWaitingRing, IsClash}
 
 -- what is fixed at a node
-pub fixed_at : (c : Chosen) (n : ℕ) → n < length c.fixed → slice_index (fixed_caps c) n ≡ unwrap_or (fixed_cap c n) 0
+pub fixed_at : (c : Choice) (n : ℕ) → n < length c.fixed → slice_index (fixed_caps c) n ≡ unwrap_or (fixed_cap c n) 0
 fixed_at c n h = get_or-map (λ (fixed : Option ℕ). unwrap_or fixed 0) c.fixed n None 0 h
 
-pub length-fixed_caps : (c : Chosen) → length (fixed_caps c) ≡ length c.fixed
+pub length-fixed_caps : (c : Choice) → length (fixed_caps c) ≡ length c.fixed
 length-fixed_caps c = length-map c.fixed (λ (fixed : Option ℕ). unwrap_or fixed 0)
 
 is_fixed : (o : Option ℕ) (capacity : ℕ) → IsSome o → IsFixedTo o capacity → capacity ≡ unwrap_or o 0
 is_fixed None capacity some is = absurd (false≢true some)
 is_fixed (Some fixed) capacity some is = is
 
-module _ (i : Problem) (c : Chosen) (plan : Plan) (w : IsInstance i) (ok : IsChoice i c) (done : IsComplete i c) (v : IsValid i plan) (is : IsIn i c plan) where
+module _ (i : Instance) (c : Choice) (plan : Plan) (w : IsInstance i) (ok : IsChoice i c) (done : IsComplete i c) (v : IsValid i plan) (is : IsIn i c plan) where
   pub order_is : plan.order ≡ c.prefix
   order_is = same_number_lists plan.order c.prefix (v.lengths.order ∙ sym done.placed) (λ k h. is.prefix k (omega (arith, h, v.lengths.order, done.placed)))
 
@@ -38,7 +38,7 @@ module _ (i : Problem) (c : Chosen) (plan : Plan) (w : IsInstance i) (ok : IsCho
       let inside : n < length i.nodes = omega (arith, h, v.lengths.capacities) in
       is_fixed (fixed_cap c n) (slice_index plan.caps n) (done.fixed n inside) (is.fixed n inside) ∙ sym (fixed_at c n (omega (arith, inside, ok.fixed_length))))
 
-  pub round_is : (m : ℕ) → m < length i.messages → round_of plan m ≡ lo_of c m
+  pub round_is : (m : ℕ) → m < length i.messages → round_of plan m ≡ least_round c m
   round_is m h = omega (arith, (is.ranges m h).0, (is.ranges m h).1, done.rounds m h)
 
   from_is : (m : ℕ) → m < length i.messages → sent_from i plan m ≡ sends_from i c m
@@ -69,7 +69,7 @@ module _ (i : Problem) (c : Chosen) (plan : Plan) (w : IsInstance i) (ok : IsCho
       inside (inl chosen) = (ok.pairs p q chosen).first
       inside (inr link) = rw (← link.before) (w.indices (AtLink link.link) link.is_there).0
 
-  ring_rises : (ps : List ℕ) → IsRing i c ps → (k : ℕ) → k < length ps → start_of plan (slice_index ps 0) ≤ start_of plan (slice_index ps k)
+  ring_rises : (ps : List ℕ) → IsWaitingRing i c ps → (k : ℕ) → k < length ps → start_of plan (slice_index ps 0) ≤ start_of plan (slice_index ps k)
   ring_rises ps ring zero h = omega arith
   ring_rises ps ring (suc k) h =
       let step = rw add-one at (ring.each k (omega (arith, h))) in
@@ -92,5 +92,5 @@ module _ (i : Problem) (c : Chosen) (plan : Plan) (w : IsInstance i) (ok : IsCho
   no_clash (Frame n r) over = absurd (omega (arith, over.over, frames_fit_lem i plan n r v, bytes_are n r, ap (λ caps. slice_index caps n) caps_is))
 
 -- a clash leaves no valid plan
-pub IsBarren-clash : (i : Problem) (c : Chosen) (clash : Clash) → IsInstance i → IsChoice i c → IsComplete i c → IsClash i c clash → IsBarren i c
+pub IsBarren-clash : (i : Instance) (c : Choice) (clash : Clash) → IsInstance i → IsChoice i c → IsComplete i c → IsClash i c clash → IsBarren i c
 IsBarren-clash i c clash w ok done is = λ plan chosen valid. no_clash i c plan w ok done valid chosen clash is

@@ -3,9 +3,9 @@ pub mod Clashes
 pub mod Answers
 pub mod Ranks
 pub mod Starts
-pub use Rattle.ttp_model.specs.Problem
+pub use Rattle.ttp_model.specs.Instance
 pub use Rattle.ttp_model.specs.Rules
 pub use Rattle.ttp_model.specs.Slots
 pub use Rattle.ttp_model.specs.Plans
 pub use Rattle.ttp_model.specs.Delays
-pub use Rattle.tt_choice.specs.Choices
+pub use Rattle.tt_choice.specs.Choice

@@ -2,8 +2,8 @@
 
 ghost use Rattle.std.specs.Prelude.{◌≡◌, length, IfOk};
 ghost use Rattle.ttp_model.specs.Delays.{delay};
-ghost use Rattle.tt_choice.specs.Choices.{IsChoice, IsComplete};
-ghost use Rattle.earliest_starts.specs.Answers.{IsAnswer};
+ghost use Rattle.tt_choice.specs.Choice.{IsChoice, IsComplete};
+ghost use Rattle.earliest_starts.specs.Answers.{IsEarliestAnswer};
 ghost use Rattle.earliest_starts.specs.Fixed.{fixed_caps, plan_of};
 ghost use Rattle.earliest_starts.specs.Ranks.{AreRanks, Rise, TurnsNoLink};
 
@@ -32,7 +32,7 @@ pub fn earliest(
 ) -> Result<Earliest, MemoryFault>
     requires of { IsChoice instance.now choice.now }
     requires complete { IsComplete instance.now choice.now }
-    ensures { IfOk result (IsAnswer instance.now choice.now) }
+    ensures { IfOk result (IsEarliestAnswer instance.now choice.now) }
 {
     let _processes = instance.processes();
     if let Some(link) = turned_link(instance, choice) {
@@ -60,7 +60,7 @@ fn timed(
     requires links { TurnsNoLink instance.now choice.now }
     requires ranks { AreRanks instance.now choice.now ranks.now }
     requires rise { Rise instance.now choice.now ranks.now }
-    ensures { IfOk result (IsAnswer instance.now choice.now) }
+    ensures { IfOk result (IsEarliestAnswer instance.now choice.now) }
 {
     let count = instance.processes().len();
     let caps = fixed_caps(alloc, instance, choice)?;

@@ -2,9 +2,9 @@
 
 ghost use Rattle.std.specs.Prelude.{◌≡◌, ℕ, ◌+◌, ◌^◌, ◌<◌, ◌≤◌, ◌⊎◌, All, Contains, IfOk, length, slice_index};
 ghost use Rattle.ttp_model.specs.Lists.{EachBelow};
-ghost use Rattle.ttp_model.specs.Problem.{process_at};
-ghost use Rattle.tt_choice.specs.Choices.{IsChoice};
-ghost use Rattle.tt_layout.specs.Timing.{timing};
+ghost use Rattle.ttp_model.specs.Instance.{process_at};
+ghost use Rattle.tt_choice.specs.Choice.{IsChoice};
+ghost use Rattle.tt_layout.specs.Layout.{timing};
 ghost use Rattle.earliest_starts.specs.Fixed.{fixed_caps, sends_until};
 ghost use Rattle.earliest_starts.specs.Starts.{AreFloors};
 

@@ -2,8 +2,8 @@
 
 ghost use Rattle.std.specs.Prelude.{◌≡◌, ◌<◌, ◌≤◌, IfOk, IfSome, IfNone, length};
 ghost use Rattle.ttp_model.specs.Lists.{EachBelow};
-ghost use Rattle.tt_choice.specs.Choices.{IsChoice};
-ghost use Rattle.tt_layout.specs.Timing.{timing};
+ghost use Rattle.tt_choice.specs.Choice.{IsChoice};
+ghost use Rattle.tt_layout.specs.Layout.{timing};
 ghost use Rattle.earliest_starts.specs.Fixed.{fixed_caps, copied_out, sends_from};
 
 use std::alloc::Global;

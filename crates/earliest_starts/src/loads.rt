@@ -3,9 +3,9 @@
 ghost use Rattle.std.specs.Prelude.{◌≡◌, ℕ, ◌<◌, ◌≤◌, IfOk, IfSome, IfNone, length, nat_eq, slice_index, unwrap_or};
 ghost use Rattle.std.specs.HashMap.{get};
 ghost use Rattle.ttp_model.specs.Lists.{EachBelow};
-ghost use Rattle.ttp_model.specs.Problem.{source_of};
-ghost use Rattle.tt_choice.specs.Totals.{total};
-ghost use Rattle.tt_choice.specs.Choices.{IsChoice, lo_of};
+ghost use Rattle.ttp_model.specs.Instance.{source_of};
+ghost use Rattle.ttp_model.specs.Totals.{total};
+ghost use Rattle.tt_choice.specs.Choice.{IsChoice, least_round};
 ghost use Rattle.earliest_starts.specs.Fixed.{fixed_caps, fixed_bytes};
 ghost use Rattle.earliest_starts.specs.Clashes.{IsOverfull};
 

@@ -1,8 +1,8 @@
 //! In which order can the processes of a node run, and where can they not?
 
 ghost use Rattle.std.specs.Prelude.{◌≡◌, ℕ, ◌<◌, ◌≤◌, [], ◌∷◌, length, slice_index, IsTrue, IsFalse, IfOk, IfSome, IfNone};
-ghost use Rattle.tt_choice.specs.Choices.{IsChoice, IsComplete, is_before};
-ghost use Rattle.earliest_starts.specs.Clashes.{IsRing};
+ghost use Rattle.tt_choice.specs.Choice.{IsChoice, IsComplete, is_before};
+ghost use Rattle.earliest_starts.specs.Clashes.{IsWaitingRing};
 ghost use Rattle.earliest_starts.specs.Ranks.{rank, AreRanks, Rise, TurnsNoLink};
 
 use std::alloc::Global;
@@ -12,7 +12,7 @@ use ttp_model::{Instance, Link, MemoryFault, Numbers};
 /// A link whose second process is chosen to go before its first. One pass over the links.
 pub fn turned_link(instance: &Instance, choice: &Choice) -> Option<Link>
     ensures found { IfSome result
-        (λ link. IsRing instance.now choice.now (link.before ∷ link.after ∷ [])) }
+        (λ link. IsWaitingRing instance.now choice.now (link.before ∷ link.after ∷ [])) }
     ensures none { IfNone result (TurnsNoLink instance.now choice.now) }
 {
     for l in 0..instance.links().len() {
@@ -100,7 +100,7 @@ pub fn ring(
     requires complete { IsComplete instance.now choice.now }
     requires ahead { IsTrue (is_before choice.now first second) }
     requires rank { rank instance.now choice.now second ≤ rank instance.now choice.now first }
-    ensures { IfOk result (IsRing instance.now choice.now) }
+    ensures { IfOk result (IsWaitingRing instance.now choice.now) }
 {
     let third = before_first_alone(instance, choice, first, second).unwrap();
     if third == second {

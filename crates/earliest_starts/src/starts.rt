@@ -1,11 +1,12 @@
 //! When can each process start at the earliest?
 
 ghost use Rattle.std.specs.Prelude.{◌≡◌, ℕ, ◌+◌, ◌^◌, ◌<◌, ◌≤◌, ◌↔◌, IsTrue, IfSome, IfNone, length, slice_index};
-ghost use Rattle.ttp_model.specs.Problem.{process_at};
-ghost use Rattle.tt_choice.specs.Choices.{IsChoice, is_before};
+ghost use Rattle.ttp_model.specs.Instance.{process_at};
+ghost use Rattle.ttp_model.specs.Raising.{IsRaised};
+ghost use Rattle.tt_choice.specs.Choice.{IsChoice, is_before};
 ghost use Rattle.earliest_starts.specs.Clashes.{MissesWindow};
 ghost use Rattle.earliest_starts.specs.Ranks.{AreRanks, Rise};
-ghost use Rattle.earliest_starts.specs.Starts.{AreFloors, IsSettled, AreSettledBelow, AreSettled, IsReason};
+ghost use Rattle.earliest_starts.specs.Starts.{AreFloors, StartsInTime, AreSettledBelow, AreSettled, GoesBefore, end_in};
 
 use tt_choice::Choice;
 use ttp_model::Instance;
@@ -83,10 +84,8 @@ fn earliest_start(
     requires floors { AreFloors instance.now choice.now (length instance.now.messages) floors.now }
     requires all { length starts.now ≡ length instance.now.processes }
     requires process { p < length instance.now.processes }
-    ensures floor { slice_index floors.now p ≤ result }
-    ensures after { (q : ℕ) → IsTrue (is_before choice.now q p)
-        → slice_index starts.now q + (process_at instance.now q).wcet ≤ result }
-    ensures reason { IsReason instance.now choice.now floors.now starts.now p result }
+    ensures raised { IsRaised (length instance.now.processes) (GoesBefore choice.now p)
+        (end_in instance.now starts.now) (slice_index floors.now p) result }
     ensures small { result < 2 ^ 60 }
 {
     let mut start = floors[p as usize];

@@ -5,36 +5,36 @@ use Rattle.std.proofs.lemmas.List.FromFn.{length-range_with_len, get_or-range_wi
 use Rattle.std.proofs.Math.Seq.{take-append_seam, drop-append_seam}
 use Rattle.ttp_model.specs.declared.parts.Node.{Node}
 use Rattle.ttp_model.specs.declared.plan.Plan.{Plan}
-use Rattle.ttp_model.specs.Problem.{Problem, no_node}
+use Rattle.ttp_model.specs.Instance.{Instance, no_node}
 use Rattle.ttp_model.specs.Rules.{IsInstance}
 use Rattle.ttp_model.specs.Plans.{IsValid, HasLengths}
 use Rattle.ttp_model.proofs.PlanNumbers.{order_small, starts_small, rounds_small}
-use Rattle.exhaustive.specs.Tables.{table_of, options_of, places_of, IsChoice}
+use Rattle.exhaustive.specs.Tables.{table_of, options_of, places_of, IsPick}
 
 below_contains : (n x : ℕ) → x < n → Contains (range_with_len 0 n) x
 below_contains n x small = (x, omega (arith, small, length-range_with_len 0 n), get_or-range_with_len 0 n x x small ∙ omega arith)
 
-choice_append : (ps qs : List (List ℕ)) (xs ys : List ℕ) → IsChoice ps xs → IsChoice qs ys → IsChoice (ps ++ qs) (xs ++ ys)
+choice_append : (ps qs : List (List ℕ)) (xs ys : List ℕ) → IsPick ps xs → IsPick qs ys → IsPick (ps ++ qs) (xs ++ ys)
 choice_append [] qs [] ys first second = second
 choice_append [] qs (x ∷ xs) ys first second = absurd first
 choice_append (p ∷ ps) qs [] ys first second = absurd first
 choice_append (p ∷ ps) qs (x ∷ xs) ys first second = (first.0, choice_append ps qs xs ys first.1 second)
 
-choice_alike : (numbers : List ℕ) (n : ℕ) (xs : List ℕ) → length xs ≡ n → All (Contains numbers) xs → IsChoice (replicate n numbers) xs
+choice_alike : (numbers : List ℕ) (n : ℕ) (xs : List ℕ) → length xs ≡ n → All (Contains numbers) xs → IsPick (replicate n numbers) xs
 choice_alike numbers zero [] long each = tt
 choice_alike numbers zero (x ∷ xs) long each = absurd (omega (arith, long))
 choice_alike numbers (suc n) [] long each = absurd (omega (arith, long))
 choice_alike numbers (suc n) (x ∷ xs) long each =
     (each 0 0 (omega arith), choice_alike numbers n xs (omega (arith, long)) (λ k d h. each (suc k) d (omega (arith, h))))
 
-choice_options : (nodes : List Node) (caps : List ℕ) → length caps ≡ length nodes → ((n : ℕ) → n < length nodes → Contains (slice_index_or nodes n no_node).capacities (slice_index caps n)) → IsChoice (map options_of nodes) caps
+choice_options : (nodes : List Node) (caps : List ℕ) → length caps ≡ length nodes → ((n : ℕ) → n < length nodes → Contains (slice_index_or nodes n no_node).capacities (slice_index caps n)) → IsPick (map options_of nodes) caps
 choice_options [] [] long each = tt
 choice_options [] (x ∷ xs) long each = absurd (omega (arith, long))
 choice_options (node ∷ nodes) [] long each = absurd (omega (arith, long))
 choice_options (node ∷ nodes) (x ∷ xs) long each =
     (each 0 (omega arith), choice_options nodes xs (omega (arith, long)) (λ n h. each (suc n) (omega (arith, h))))
 
-pub valid_is_choice : (i : Problem) (plan : Plan) → IsInstance i → IsValid i plan → IsChoice (places_of i) (table_of plan)
+pub valid_is_choice : (i : Instance) (plan : Plan) → IsInstance i → IsValid i plan → IsPick (places_of i) (table_of plan)
 valid_is_choice i plan w v =
     let horizon = i.cluster.horizon in
     let count = length i.nodes in
@@ -55,7 +55,7 @@ abbrev plan_with : List ℕ → List ℕ → List ℕ → List ℕ → Plan
 plan_with order caps starts rounds = record { order = order; caps = caps; starts = starts; rounds = rounds }
 
 -- of the plans with these lengths a table belongs to one
-pub table_tells : (i : Problem) (a b : Plan) → HasLengths i a → HasLengths i b → table_of a ≡ table_of b → a ≡ b
+pub table_tells : (i : Instance) (a b : Plan) → HasLengths i a → HasLengths i b → table_of a ≡ table_of b → a ≡ b
 table_tells i a b of_a of_b same =
     let first = front_same a.order b.order (a.caps ++ (a.starts ++ a.rounds)) (b.caps ++ (b.starts ++ b.rounds)) (of_a.order ∙ sym of_b.order) same in
     let second = front_same a.caps b.caps (a.starts ++ a.rounds) (b.starts ++ b.rounds) (of_a.capacities ∙ sym of_b.capacities) first.1 in

@@ -3,7 +3,7 @@ use Rattle.std.specs.Prelude.{◌≡◌, ℕ, ◌+◌, ◌≤◌, List, [], ◌�
 use Rattle.std.specs.List.{range_with_len}
 use Rattle.ttp_model.specs.declared.parts.Node.{Node}
 use Rattle.ttp_model.specs.declared.plan.Plan.{Plan}
-use Rattle.ttp_model.specs.Problem.{Problem}
+use Rattle.ttp_model.specs.Instance.{Instance}
 use Rattle.ttp_model.specs.Plans.{IsValid}
 use Rattle.ttp_model.specs.Delays.{delay}
 
@@ -16,7 +16,7 @@ abbrev pub options_of : Node → List ℕ
 options_of node = node.capacities
 
 -- the numbers to choose from at each place of a table: nodes, options, and times below the horizon
-abbrev pub places_of : Problem → List (List ℕ)
+abbrev pub places_of : Instance → List (List ℕ)
 places_of i =
     replicate (length i.nodes) (range_with_len 0 (length i.nodes))
     ++ (map options_of i.nodes
@@ -24,30 +24,30 @@ places_of i =
     ++ replicate (length i.messages) (range_with_len 0 i.cluster.horizon)))
 
 -- how many places there are
-abbrev pub place_count : Problem → ℕ
+abbrev pub place_count : Instance → ℕ
 place_count i = length i.nodes + (length i.nodes + (length i.processes + length i.messages))
 
 -- a table has a number for each place
-abbrev pub IsWhole : Problem → List ℕ → Type 0
+abbrev pub IsWhole : Instance → List ℕ → Type 0
 IsWhole i table = length table ≡ place_count i
 
 -- a table has one when these places have been filled too
-abbrev pub CanBecomeWhole : Problem → List ℕ → List (List ℕ) → Type 0
+abbrev pub CanBecomeWhole : Instance → List ℕ → List (List ℕ) → Type 0
 CanBecomeWhole i begun left = length begun + length left ≡ place_count i
 
 -- a number for each place, one of those to choose from there
-abbrev pub IsChoice : List (List ℕ) → List ℕ → Type 0
-IsChoice [] [] = Unit {0}
-IsChoice [] (x ∷ xs) = ⊥
-IsChoice (numbers ∷ others) [] = ⊥
-IsChoice (numbers ∷ others) (x ∷ xs) = Contains numbers x × IsChoice others xs
+abbrev pub IsPick : List (List ℕ) → List ℕ → Type 0
+IsPick [] [] = Unit {0}
+IsPick [] (x ∷ xs) = ⊥
+IsPick (numbers ∷ others) [] = ⊥
+IsPick (numbers ∷ others) (x ∷ xs) = Contains numbers x × IsPick others xs
 
 -- the table of a plan begins so, and goes on by a choice for these places
 abbrev pub GoesOn : List ℕ → List (List ℕ) → Plan → Type 0
-GoesOn begun left plan = (rest : List ℕ) × (table_of plan ≡ begun ++ rest) × IsChoice left rest
+GoesOn begun left plan = (rest : List ℕ) × (table_of plan ≡ begun ++ rest) × IsPick left rest
 
 -- the least delay of the valid plans among some, or none where none of them is valid
-abbrev pub IsLeastAmong : Problem → (Plan → Type 0) → Option ℕ → Type 0
+abbrev pub IsLeastAmong : Instance → (Plan → Type 0) → Option ℕ → Type 0
 IsLeastAmong i Among None = (plan : Plan) → Among plan → ¬ IsValid i plan
 IsLeastAmong i Among (Some least) =
     ((plan : Plan) × Among plan × IsValid i plan × (delay i plan ≡ least))

@@ -1,82 +1,52 @@
 //! How long the chains of links and messages are that are still to come.
 
-ghost use Rattle.std.specs.Prelude.{◌<◌, length};
-
+use crate::network::Network;
 use crate::table::Table;
-use std::alloc::Global;
-use ttp_model::{Instance, MemoryFault};
 
 /// For each process the time that the longest chain of links and messages takes that begins with it.
-pub fn chain_times(alloc: Global, instance: &Instance) -> Result<Table, MemoryFault> {
-    let count = instance.processes().len();
-    let mut times = Table::new(alloc, count, 0)?;
-    for _ in 0..count {
-        lengthen(instance, &mut times);
+pub fn chain_times(network: &Network) -> Table {
+    let mut times = network.wcets;
+    for _ in 0..times.len() {
+        lengthen_by_links(network, &mut times);
+        lengthen_by_messages(network, &mut times);
     }
-    Ok(times)
+    times
 }
 
 /// For each message the time of the longest chain that begins with one of its receivers.
-pub fn receiver_times(
-    alloc: Global,
-    instance: &Instance,
-    times: &Table,
-) -> Result<Table, MemoryFault> {
-    let mut longest = Table::new(alloc, instance.messages().len(), 0)?;
-    for m in 0..instance.messages().len() {
-        longest.set(
-            m,
-            longest_of(instance.message_at(m).receivers.as_slice(), times),
-        );
+pub fn receiver_times(network: &Network, times: &Table) -> Table {
+    let mut longest = Table::zeros(0);
+    for message in network.instance.messages() {
+        longest.push(longest_of(message.receivers.as_slice(), times));
     }
-    Ok(longest)
+    longest
 }
 
 /// The longest time of these processes.
 fn longest_of(processes: &[u32], times: &Table) -> u64 {
     let mut longest = 0;
-    for q in processes.iter() {
+    for q in processes {
         longest = times.at(*q as usize).max(longest);
     }
     longest
 }
 
-/// Makes the times of chains longer by one process, where there is one more.
-fn lengthen(instance: &Instance, times: &mut Table) {
-    for p in 0..instance.processes().len() {
-        times.raise(p, u64::from(instance.process_at(p).wcet));
-    }
-    lengthen_by_links(instance, times);
-    lengthen_by_messages(instance, times);
-}
-
-/// The same for the chains over links.
-fn lengthen_by_links(instance: &Instance, times: &mut Table) {
-    for l in 0..instance.links().len() {
-        let link = instance.link_at(l);
+/// Makes the times of chains over links longer by one process, where there is one more.
+fn lengthen_by_links(network: &Network, times: &mut Table) {
+    for link in network.instance.links() {
         let before = link.before as usize;
-        let wcet = u64::from(instance.process_at(before).wcet);
-        times.raise(before, times.at(link.after as usize).saturating_add(wcet));
+        let chain = times.at(link.after as usize);
+        times.raise(before, chain.saturating_add(network.wcets.at(before)));
     }
 }
 
 /// The same for the chains over messages.
-fn lengthen_by_messages(instance: &Instance, times: &mut Table) {
-    for m in 0..instance.messages().len() {
-        lengthen_by_message(instance, times, m);
+fn lengthen_by_messages(network: &Network, times: &mut Table) {
+    let cluster = network.instance.cluster();
+    let transfer = u64::from(cluster.copy_out) + u64::from(cluster.copy_in);
+    for message in network.instance.messages() {
+        let sender = message.sender as usize;
+        let chain = longest_of(message.receivers.as_slice(), times).saturating_add(transfer);
+        times.raise(sender, chain.saturating_add(network.wcets.at(sender)));
     }
-}
-
-/// The same for the chains over one message.
-fn lengthen_by_message(instance: &Instance, times: &mut Table, m: usize)
-    requires { m < length instance.now.messages }
-{
-    let message = instance.message_at(m);
-    let sender = message.sender as usize;
-    let wcet = u64::from(instance.process_at(sender).wcet);
-    let transfer = u64::from(instance.cluster().copy_out) + u64::from(instance.cluster().copy_in);
-    let chain = longest_of(message.receivers.as_slice(), times)
-        .saturating_add(transfer)
-        .saturating_add(wcet);
-    times.raise(sender, chain);
 }

@@ -1,7 +1,7 @@
 //! Numbers that look like chance.
 
 /// A fixed sequence of numbers, so that each run finds the same plans.
-#[derive(Clone, Copy, Debug)]
+#[derive(Clone, Copy)]
 pub struct Chance {
     state: u64,
 }

@@ -2,15 +2,13 @@
 
 use crate::chance::Chance;
 use crate::draft::{Change, Draft};
-use crate::network::{Network, options_of};
+use crate::network::Network;
 use crate::path::Path;
-use ttp_model::Instance;
 
 /// What changes are chosen by.
-#[derive(Clone, Copy, Debug)]
+#[derive(Clone, Copy)]
 pub struct Choice<'a> {
-    pub instance: &'a Instance,
-    pub network: &'a Network,
+    pub network: &'a Network<'a>,
     pub draft: &'a Draft,
     pub path: &'a Path,
     /// Whether messages may be made to wait.
@@ -36,7 +34,7 @@ impl Choice<'_> {
             return Some(self.urge_message(before, chance));
         }
         let next = self.draft.neighbour_after(self.network, before) == Some(after);
-        let is_linked = self.network.followers.row(before).contains(&after);
+        let is_linked = self.network.followers.row(before).contains(&(after as u64));
         if next && !is_linked {
             let place = self.draft.places.place_at(before);
             Some(Change::Line(place, place.saturating_add(1)))
@@ -65,13 +63,13 @@ impl Choice<'_> {
         let messages = self.network.sources.row(node);
         let place = chance.below(messages.len());
         let message = messages.get(place).copied().unwrap_or(0);
-        Change::Hold(message, u64::from(chance.below(4) == 0))
+        Change::Hold(message as usize, u64::from(chance.below(4) == 0))
     }
 
     /// Another capacity of a node, which carries each of its messages.
     fn option(&self, node: usize, chance: &mut Chance) -> Change {
         let roomy = self.network.roomy.place_at(node);
-        let choices = options_of(self.instance, node).saturating_sub(roomy);
+        let choices = self.network.options(node).len().saturating_sub(roomy);
         Change::Option(node, roomy.saturating_add(chance.below(choices)) as u64)
     }
 
@@ -101,10 +99,10 @@ impl Choice<'_> {
     /// A process goes to another place among those of its node.
     fn move_process(&self, p: usize, chance: &mut Chance) -> Change {
         let others = self.network.residents.row(self.network.homes.place_at(p));
-        let other = others.get(chance.below(others.len())).copied().unwrap_or(p);
+        let other = others.get(chance.below(others.len())).copied().unwrap_or(0);
         Change::Line(
             self.draft.places.place_at(p),
-            self.draft.places.place_at(other),
+            self.draft.places.place_at(other as usize),
         )
     }
 }

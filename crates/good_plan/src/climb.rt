@@ -1,20 +1,31 @@
 //! From a draft to better ones, by small changes.
 
-use crate::best::Best;
 use crate::chance::Chance;
 use crate::change::Choice;
 use crate::draft::Draft;
 use crate::network::Network;
 use crate::path::Path;
 use crate::timetable::Timetable;
-use std::alloc::Global;
-use ttp_model::{Instance, MemoryFault};
+use std::alloc::{AllocError, Global};
+use ttp_model::{Instance, Numbers, Plan};
 
 /// How many climbs there are.
 const CLIMBS: u64 = 12;
 
 /// How many of them, at the end, set out from the best schedule so far.
 const RETURNS: u64 = 2;
+
+/// The plan of the best schedule of several climbs, which isn't valid where something is late.
+pub fn best_plan(alloc: Global, instance: &Instance) -> Result<Plan, AllocError> {
+    let network = Network::new(instance);
+    let mut climb = Climb::new(&network);
+    for number in 0..CLIMBS {
+        climb.begin(&network, number);
+        climb.run(&network, number);
+    }
+    climb.timetable.make(&network, &climb.best);
+    plan_of(alloc, &climb.best, &climb.timetable)
+}
 
 /// How many schedules all climbs try: more where more can be changed, but fewer where each takes long.
 fn tries(instance: &Instance) -> u64 {
@@ -27,116 +38,123 @@ fn tries(instance: &Instance) -> u64 {
 
 /// How much longer a schedule may become at first, in thousandths of the first one's delay: least in
 /// the last climb.
-fn heat(climb: u64) -> u64 {
-    if climb.saturating_add(1) == CLIMBS {
+fn heat(number: u64) -> u64 {
+    if number.saturating_add(1) == CLIMBS {
         return 8;
     }
-    match climb % 3 {
+    match number % 3 {
         1 => 25,
         2 => 12,
         _ => 50,
     }
 }
 
-/// Climbs from several drafts, and remembers the best schedule.
-pub fn climb_often(
-    alloc: Global,
-    instance: &Instance,
-    network: &Network,
-    best: &mut Best,
-) -> Result<(), MemoryFault> {
-    let mut climb = Climb::new(alloc, instance, network)?;
-    for number in 0..CLIMBS {
-        let returns = number.saturating_add(RETURNS) >= CLIMBS;
-        if returns {
-            climb.draft.copy_from(&best.draft);
-        } else {
-            climb.draft = Draft::new(alloc, instance, network)?;
-        }
-        if number > 0 && !returns {
-            climb.draft.shuffle(&mut climb.chance);
-        }
-        climb.run(instance, network, heat(number), returns, best);
-    }
-    Ok(())
+/// The plan of a draft's schedule.
+fn plan_of(alloc: Global, draft: &Draft, timetable: &Timetable) -> Result<Plan, AllocError> {
+    Ok(Plan {
+        order: Numbers::new(draft.order.narrow(alloc)?),
+        caps: Numbers::new(timetable.bus.capacities.narrow(alloc)?),
+        starts: Numbers::new(timetable.starts.narrow(alloc)?),
+        rounds: Numbers::new(timetable.rounds.narrow(alloc)?),
+    })
 }
 
-/// A climb: the draft that it has come to, with what makes its schedule long.
+/// A climb: the draft that it has come to, with what makes its schedule long, and the best one of
+/// all climbs so far.
 #[derive(Drop)]
 struct Climb {
     draft: Draft,
     path: Path,
     cost: u64,
-    timetable: Timetable,
     chance: Chance,
+    timetable: Timetable,
+    best: Draft,
+    best_delay: u64,
+    best_lateness: u64,
 }
 
 impl Climb {
-    fn new(alloc: Global, instance: &Instance, network: &Network) -> Result<Self, MemoryFault> {
-        Ok(Climb {
-            draft: Draft::new(alloc, instance, network)?,
-            path: Path::new(alloc, instance.processes().len())?,
+    fn new(network: &Network) -> Self {
+        let draft = Draft::new(network);
+        Climb {
+            draft,
+            path: Path::new(network.homes.len()),
             cost: 0,
-            timetable: Timetable::new(alloc, instance)?,
             chance: Chance::new(0),
-        })
+            timetable: Timetable::new(network),
+            best: draft,
+            best_delay: u64::MAX,
+            best_lateness: u64::MAX,
+        }
+    }
+
+    /// Whether a climb sets out from the best schedule so far.
+    fn returns(number: u64) -> bool {
+        number >= CLIMBS - RETURNS
+    }
+
+    /// Sets out.
+    fn begin(&mut self, network: &Network, number: u64) {
+        if Climb::returns(number) {
+            self.draft = self.best;
+            return;
+        }
+        self.draft = Draft::new(network);
+        if number > 0 {
+            self.draft.shuffle(&mut self.chance);
+        }
     }
 
     /// Tries changes of the draft, and keeps those that don't make its schedule much longer, with
     /// less and less leeway: threshold accepting (Dueck and Scheuer, Journal of Computational
     /// Physics 1990).
-    fn run(
-        &mut self,
-        instance: &Instance,
-        network: &Network,
-        heat: u64,
-        holds: bool,
-        best: &mut Best,
-    ) {
-        let turns = tries(instance) / CLIMBS;
-        if self.timetable.make(instance, network, &self.draft) {
-            best.keep(&self.draft, &self.timetable);
-        }
+    fn run(&mut self, network: &Network, number: u64) {
+        let turns = tries(network.instance) / CLIMBS;
+        self.make(network);
         self.stay();
-        let most = self.timetable.delay.saturating_mul(heat) / 1000;
+        let most = self.timetable.delay.saturating_mul(heat(number)) / 1000;
         for left in (0..turns).rev() {
             let leeway = (most.saturating_mul(left) / turns.max(1)).saturating_add(1);
-            self.step(instance, network, leeway, holds, best);
+            self.step(network, leeway, Climb::returns(number));
         }
     }
 
     /// Tries one change.
-    fn step(
-        &mut self,
-        instance: &Instance,
-        network: &Network,
-        leeway: u64,
-        holds: bool,
-        best: &mut Best,
-    ) {
+    fn step(&mut self, network: &Network, leeway: u64, holds: bool) {
         let choice = Choice {
-            instance,
-            network,
+            network: &*network,
             draft: &self.draft,
             path: &self.path,
             holds,
         };
         let change = choice.next(&mut self.chance);
         let back = self.draft.make(change);
-        let is_made = self.timetable.make(instance, network, &self.draft);
-        if is_made {
-            best.keep(&self.draft, &self.timetable);
-        }
-        if is_made && self.timetable.cost() <= self.cost.saturating_add(leeway) {
+        if self.make(network) && self.timetable.cost() <= self.cost.saturating_add(leeway) {
             self.stay();
         } else {
             let _ = self.draft.make(back);
         }
     }
 
+    /// Makes the schedule of the draft, where there is one, and remembers the draft where less is
+    /// late than ever before, or as much and the schedule is shorter.
+    fn make(&mut self, network: &Network) -> bool {
+        if !self.timetable.make(network, &self.draft) {
+            return false;
+        }
+        let delay = self.timetable.delay;
+        let lateness = self.timetable.lateness;
+        if (lateness, delay) < (self.best_lateness, self.best_delay) {
+            self.best_lateness = lateness;
+            self.best_delay = delay;
+            self.best = self.draft;
+        }
+        true
+    }
+
     /// Goes on from the schedule that was made.
     fn stay(&mut self) {
         self.cost = self.timetable.cost();
-        self.path.copy_from(&self.timetable.path);
+        self.path = self.timetable.path;
     }
 }

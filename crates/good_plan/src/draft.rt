@@ -1,14 +1,12 @@
 //! What a schedule is made from, and small changes of it.
 
 use crate::chance::Chance;
-use crate::network::{Network, capacity_at};
+use crate::network::Network;
 use crate::table::Table;
-use std::alloc::{AllocError, Global};
-use ttp_model::Instance;
 
 /// A slot order, a capacity for each node, the processes of each node in the order in which they run,
 /// and which messages wait.
-#[derive(Debug, Drop)]
+#[derive(Clone, Copy)]
 pub struct Draft {
     pub order: Table,
     /// By node, a place in its list of capacities.
@@ -22,7 +20,7 @@ pub struct Draft {
 }
 
 /// A change of a draft.
-#[derive(Clone, Copy, Debug)]
+#[derive(Clone, Copy)]
 pub enum Change {
     /// Two positions of the slot order are exchanged.
     Slots(usize, usize),
@@ -39,45 +37,22 @@ pub enum Change {
 impl Draft {
     /// Nodes in their own order, with the capacities that carry most, and processes the earlier the
     /// longer the chains that begin with them take. No process then waits for a later one.
-    pub fn new(alloc: Global, instance: &Instance, network: &Network) -> Result<Self, AllocError> {
-        let nodes = instance.nodes().len();
-        let processes = instance.processes().len();
+    pub fn new(network: &Network) -> Self {
         let mut draft = Draft {
-            order: Table::new(alloc, nodes, 0)?,
-            options: Table::new(alloc, nodes, 0)?,
-            line: Table::new(alloc, processes, 0)?,
-            places: Table::new(alloc, processes, 0)?,
-            holds: Table::new(alloc, instance.messages().len(), 0)?,
+            order: Table::numbered(network.roomy.len()),
+            options: network.roomy,
+            line: network.residents.all(),
+            places: network.homes,
+            holds: Table::zeros(network.bytes.len()),
         };
-        draft.options.copy_from(&network.roomy);
-        for node in 0..nodes {
-            draft.order.set(node, node as u64);
-            draft.line_up(network, node);
-        }
-        Ok(draft)
-    }
-
-    /// Puts the processes of a node into the line.
-    fn line_up(&mut self, network: &Network, node: usize) {
-        let mut place = network.residents.begin(node);
-        for p in network.residents.row(node).iter() {
-            self.line.set(place, *p as u64);
-            self.places.set(*p, place as u64);
-            place = place.saturating_add(1);
-        }
-    }
-
-    pub fn copy_from(&mut self, other: &Draft) {
-        self.order.copy_from(&other.order);
-        self.options.copy_from(&other.options);
-        self.line.copy_from(&other.line);
-        self.places.copy_from(&other.places);
-        self.holds.copy_from(&other.holds);
+        let last = draft.line.len();
+        draft.renumber(0, last);
+        draft
     }
 
     /// The capacity of a node in bytes.
-    pub fn capacity(&self, instance: &Instance, node: usize) -> u64 {
-        u64::from(capacity_at(instance, node, self.options.place_at(node)))
+    pub fn capacity(&self, network: &Network, node: usize) -> u64 {
+        network.capacity_at(node, self.options.place_at(node))
     }
 
     /// Exchanges nodes of the order by chance.

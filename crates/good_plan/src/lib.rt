@@ -1,7 +1,7 @@
 //! A good plan before the search: many climbs to short schedules.
 #![tactic(auto)]
 
-mod best;
+mod bus;
 mod chains;
 mod chance;
 mod change;

@@ -2,10 +2,9 @@
 
 use crate::chance::Chance;
 use crate::table::Table;
-use std::alloc::{AllocError, Global};
 
 /// What each process waits for last, and where it ends late.
-#[derive(Debug, Drop)]
+#[derive(Clone, Copy)]
 pub struct Path {
     /// By process, the process that it starts right after or has its last message from; else their
     /// number.
@@ -18,28 +17,16 @@ pub struct Path {
 }
 
 impl Path {
-    pub fn new(alloc: Global, processes: usize) -> Result<Self, AllocError> {
-        let blockers = Table::new(alloc, processes, processes as u64)?;
-        Ok(Path {
+    /// Nothing waits, of so many processes.
+    pub fn new(processes: usize) -> Self {
+        let mut blockers = Table::zeros(processes);
+        blockers.fill(processes as u64);
+        Path {
             blockers,
             last: 0,
             latest: 0,
             most: 0,
-        })
-    }
-
-    /// Nothing waits.
-    pub fn clear(&mut self) {
-        self.blockers.fill(self.blockers.len() as u64);
-        self.last = 0;
-        self.most = 0;
-    }
-
-    pub fn copy_from(&mut self, other: &Path) {
-        self.blockers.copy_from(&other.blockers);
-        self.last = other.last;
-        self.latest = other.latest;
-        self.most = other.most;
+        }
     }
 
     pub fn block(&mut self, process: usize, by: usize) {

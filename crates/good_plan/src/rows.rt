@@ -1,43 +1,45 @@
 //! Short lists of places, one behind another.
 
-use std::alloc::{AllocError, Global};
+use crate::table::Table;
 
 /// Rows of places, numbered from 0. A row that isn't there is empty.
-#[derive(Debug, Drop)]
+#[derive(Clone, Copy)]
 pub struct Rows {
-    items: Vec<usize>,
-    ends: Vec<usize>,
+    items: Table,
+    ends: Table,
 }
 
 impl Rows {
-    /// No rows.
-    pub fn new(alloc: Global) -> Self {
-        Rows {
-            items: Vec::new(alloc),
-            ends: Vec::new(alloc),
+    /// So many rows of these items, each in the row that stands at its place in the other list.
+    pub fn of(count: usize, items: &Table, rows_of_items: &Table) -> Self {
+        let mut rows = Rows {
+            items: Table::zeros(0),
+            ends: Table::zeros(0),
+        };
+        for row in 0..count {
+            rows.add(row, items, rows_of_items);
         }
+        rows
     }
 
-    /// Puts a place into the row at the end.
-    pub fn push(&mut self, item: usize) -> Result<(), AllocError> {
-        self.items.push(item)?;
-        Ok(())
-    }
-
-    /// Ends that row; the next one is empty yet.
-    pub fn close(&mut self) -> Result<(), AllocError> {
-        self.ends.push(self.items.len())?;
-        Ok(())
-    }
-
-    pub fn row(&self, row: usize) -> &[usize] {
-        let from = self.begin(row);
-        let until = self.ends.get(row).copied().unwrap_or(0);
-        if from <= until && until <= self.items.len() {
-            &self.items[from..until]
-        } else {
-            &[]
+    /// Adds a row.
+    fn add(&mut self, row: usize, items: &Table, rows_of_items: &Table) {
+        for k in 0..items.len() {
+            if rows_of_items.place_at(k) == row {
+                self.items.push(items.at(k));
+            }
         }
+        self.ends.push(self.items.len() as u64);
+    }
+
+    pub fn row(&self, row: usize) -> &[u64] {
+        let next = row.saturating_add(1);
+        self.items.part(self.begin(row), self.begin(next))
+    }
+
+    /// All rows, one behind another.
+    pub fn all(&self) -> Table {
+        self.items
     }
 
     /// Where a row begins among all places.
@@ -45,7 +47,7 @@ impl Rows {
         if row == 0 {
             0
         } else {
-            self.ends.get(row - 1).copied().unwrap_or(0)
+            self.ends.place_at(row - 1)
         }
     }
 }

@@ -5,7 +5,7 @@ use Rattle.std.proofs.lemmas.List.{get_or-map, length-map}
 use Rattle.std.proofs.lemmas.Grind.{common_steps}
 use Rattle.std.proofs.lemmas.List.Elements.{All-append, All-map}
 use Rattle.ttp_model.specs.declared.plan.Plan.{Plan}
-use Rattle.ttp_model.specs.Problem.{Problem}
+use Rattle.ttp_model.specs.Instance.{Instance}
 use Rattle.ttp_model.specs.Rules.{IsInstance}
 use Rattle.ttp_model.specs.Plans.{IsNodeOrder}
 use Rattle.ttp_model.specs.Slots.{round_length}
@@ -14,26 +14,26 @@ use Rattle.tt_layout.proofs.Ranges.{All-flat_map, flat_map-range_with_len_more}
 use Rattle.tt_layout.proofs.SlotTimes.{slot_end-le, slot_end-le-slot_start}
 use Rattle.guardian_windows.specs.declared.window.Window.{Window}
 use Rattle.guardian_windows.specs.Windows.{cycle_windows, round_windows, window_of}
-use Rattle.guardian_windows.specs.Clocks.{AdmitFrames, AreNeverOpenTogether, AreSynchronized, GuardianClock, IsOpen, IsSending, NodeClock, Readings}
+use Rattle.guardian_windows.specs.Clocks.{AdmitFrames, AreNeverOpenTogether, AreSynchronized, GuardianClock, IsGuardianOpen, IsSending, NodeClock, Readings}
 use Rattle.guardian_windows.proofs.Lists.{AllPairs-append}
 
 -- the frame's ticks, and the precision more on both sides
-admits : (i : Problem) (plan : Plan) (r n : ℕ) (reading : Readings) → AreSynchronized i.cluster.precision reading → IsSending i plan reading (window_of i plan r n) → IsOpen reading (window_of i plan r n)
+admits : (i : Instance) (plan : Plan) (r n : ℕ) (reading : Readings) → AreSynchronized i.cluster.precision reading → IsSending i plan reading (window_of i plan r n) → IsGuardianOpen reading (window_of i plan r n)
 admits i plan r n reading close sending =
     let ahead = close (NodeClock n) (GuardianClock n) in
     let behind = close (GuardianClock n) (NodeClock n) in
     (omega (arith, sending.0, ahead), omega (arith, sending.1, behind))
 
-pub frames_pass : (i : Problem) (plan : Plan) → AdmitFrames i plan (cycle_windows i plan)
+pub frames_pass : (i : Instance) (plan : Plan) → AdmitFrames i plan (cycle_windows i plan)
 frames_pass i plan = λ reading close.
-    let passes = λ (w : Window). IsSending i plan reading w → IsOpen reading w in
+    let passes = λ (w : Window). IsSending i plan reading w → IsGuardianOpen reading w in
     All-flat_map passes (round_windows i plan) _ (λ r. All-map passes (window_of i plan r) plan.order (λ k d inside. admits i plan r _ reading close))
 
 -- w is no less than the precision after v
 abbrev Precedes : ℕ → Window → Window → Type 0
 Precedes precision v w = v.until + precision ≤ w.from
 
-module _ (i : Problem) (plan : Plan) (w : IsInstance i) (o : IsNodeOrder (length plan.caps) plan.order) where
+module _ (i : Instance) (plan : Plan) (w : IsInstance i) (o : IsNodeOrder (length plan.caps) plan.order) where
   abbrev at_place : ℕ → ℕ → Window
   at_place r k = window_of i plan r (slice_index plan.order k)
 
@@ -92,10 +92,10 @@ never_together precision windows apart = λ reading close j k d lt inside both.
     let w = get_or windows k d in
     omega (arith, apart j k d lt inside, both.0, both.1, close (GuardianClock w.node) (GuardianClock v.node))
 
-pub windows_apart : (i : Problem) (plan : Plan) → IsInstance i → IsNodeOrder (length plan.caps) plan.order → AreNeverOpenTogether i.cluster.precision (cycle_windows i plan)
+pub windows_apart : (i : Instance) (plan : Plan) → IsInstance i → IsNodeOrder (length plan.caps) plan.order → AreNeverOpenTogether i.cluster.precision (cycle_windows i plan)
 windows_apart i plan w o = never_together i.cluster.precision (cycle_windows i plan) (rounds_apart i plan w o (cycle_rounds i plan))
 
-pub nodes_are_there : (i : Problem) (plan : Plan) → IsNodeOrder (length i.nodes) plan.order → All (λ w. w.node < length i.nodes) (cycle_windows i plan)
+pub nodes_are_there : (i : Instance) (plan : Plan) → IsNodeOrder (length i.nodes) plan.order → All (λ w. w.node < length i.nodes) (cycle_windows i plan)
 nodes_are_there i plan o =
     let there = λ (w : Window). w.node < length i.nodes in
     let each : All (λ n. n < length i.nodes) plan.order = λ k d inside. grind (arith, common_steps, o.each k (omega (arith, inside, o.all))) in

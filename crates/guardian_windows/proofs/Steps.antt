@@ -2,13 +2,13 @@
 use Rattle.std.proofs.Common.{◌≡◌, ℕ, ◌+◌, ◌-◌, ◌<◌, List, [], ◌∷◌, ◌++◌, take, length, slice_index, map, arith, refl, append_assoc}
 use Rattle.std.proofs.lemmas.List.{map_more}
 use Rattle.ttp_model.specs.declared.plan.Plan.{Plan}
-use Rattle.ttp_model.specs.Problem.{Problem}
+use Rattle.ttp_model.specs.Instance.{Instance}
 use Rattle.ttp_model.specs.Slots.{duration, slot_start}
 use Rattle.guardian_windows.specs.declared.window.Window.{Window}
 use Rattle.guardian_windows.specs.Windows.{window_of}
 
 -- the window from its slot's start: the slot without the trail ends with the frame
-pub window_of-start : (i : Problem) (plan : Plan) (r n start : ℕ) (w : Window) → start ≡ slot_start i.cluster plan.order plan.caps n r → w ≡ record { round = r; node = n; from = start + i.cluster.lead - i.cluster.precision; until = start + duration i.cluster plan.caps n - i.cluster.trail + i.cluster.precision } → w ≡ window_of i plan r n
+pub window_of-start : (i : Instance) (plan : Plan) (r n start : ℕ) (w : Window) → start ≡ slot_start i.cluster plan.order plan.caps n r → w ≡ record { round = r; node = n; from = start + i.cluster.lead - i.cluster.precision; until = start + duration i.cluster plan.caps n - i.cluster.trail + i.cluster.precision } → w ≡ window_of i plan r n
 window_of-start i plan r n start w begins is =
     let from : start + i.cluster.lead - i.cluster.precision ≡ (window_of i plan r n).from = omega (arith, begins) in
     let until : start + duration i.cluster plan.caps n - i.cluster.trail + i.cluster.precision ≡ (window_of i plan r n).until = omega (arith, begins) in

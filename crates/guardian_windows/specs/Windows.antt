@@ -3,21 +3,21 @@
 use Rattle.std.specs.Prelude.{ℕ, ◌+◌, ◌-◌, ◌<◌, ◌≤◌, List, map, slice_index}
 use Rattle.std.specs.List.{flat_map, range_with_len}
 use Rattle.ttp_model.specs.declared.plan.Plan.{Plan}
-use Rattle.ttp_model.specs.Problem.{Problem}
+use Rattle.ttp_model.specs.Instance.{Instance}
 use Rattle.ttp_model.specs.Slots.{frame_length, slot_start}
 use Rattle.tt_layout.specs.Cycle.{cycle_rounds}
 use Rattle.guardian_windows.specs.declared.window.Window.{Window}
 
 -- when the frame of node n in round r begins on the bus, by its sender's clock
-abbrev pub frame_start : Problem → Plan → ℕ → ℕ → ℕ
+abbrev pub frame_start : Instance → Plan → ℕ → ℕ → ℕ
 frame_start i plan n r = slot_start i.cluster plan.order plan.caps n r + i.cluster.lead
 
 -- the first tick after it
-abbrev pub frame_end : Problem → Plan → ℕ → ℕ → ℕ
+abbrev pub frame_end : Instance → Plan → ℕ → ℕ → ℕ
 frame_end i plan n r = frame_start i plan n r + frame_length i.cluster (slice_index plan.caps n)
 
 -- the window of that slot, by the guardian's clock: the frame, with the precision before and after it
-abbrev pub window_of : Problem → Plan → ℕ → ℕ → Window
+abbrev pub window_of : Instance → Plan → ℕ → ℕ → Window
 window_of i plan r n = record {
   round = r;
   node = n;
@@ -26,11 +26,11 @@ window_of i plan r n = record {
 }
 
 -- the windows of a round, one for each slot, in the order of the slots
-abbrev pub round_windows : Problem → Plan → ℕ → List Window
+abbrev pub round_windows : Instance → Plan → ℕ → List Window
 round_windows i plan r = map (window_of i plan r) plan.order
 
 -- the windows of the cycle, round by round
-abbrev pub cycle_windows : Problem → Plan → List Window
+abbrev pub cycle_windows : Instance → Plan → List Window
 cycle_windows i plan = flat_map (round_windows i plan) (range_with_len 0 (cycle_rounds i plan))
 
 -- the window lets a frame on the bus at this time of its guardian's clock

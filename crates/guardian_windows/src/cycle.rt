@@ -4,7 +4,7 @@ ghost use Rattle.std.specs.Prelude.{◌≡◌, ◌+◌, ◌-◌, ◌^◌, ◌<�
 ghost use Rattle.ttp_model.specs.declared.limits.TheConstants.{MOST_TICKS};
 ghost use Rattle.ttp_model.specs.Plans.{IsValid};
 ghost use Rattle.ttp_model.specs.Slots.{duration, slot_start};
-ghost use Rattle.tt_layout.specs.Timing.{timing};
+ghost use Rattle.tt_layout.specs.Layout.{timing};
 ghost use Rattle.guardian_windows.specs.Windows.{cycle_windows, round_windows, window_of};
 ghost use Rattle.guardian_windows.specs.Clocks.{AdmitFrames, AreNeverOpenTogether};
 

@@ -1,11 +1,11 @@
 //! How are windows written?
 
 ghost use Rattle.std.specs.Prelude.{◌≡◌, ◌<◌, ◌++◌, All, IfOk, OnOk, length};
-ghost use Rattle.ttp_model.specs.Problem.{node_at};
+ghost use Rattle.ttp_model.specs.Instance.{node_at};
 ghost use Rattle.guardian_windows.specs.Text.{window_line, windows_text};
 
 use crate::window::Window;
-use spaced_words::{push_number_word, push_word};
+use line_text::{push_number_word, push_word};
 use std::alloc::{AllocError, Global};
 use ttp_model::{Instance, MemoryFault};
 

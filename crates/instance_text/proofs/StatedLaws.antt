@@ -6,13 +6,13 @@ use Rattle.ttp_model.specs.declared.parts.Node.{Node}
 use Rattle.ttp_model.specs.declared.parts.Process.{Process}
 use Rattle.ttp_model.specs.declared.parts.Link.{Link}
 use Rattle.ttp_model.specs.declared.parts.Message.{Message}
-use Rattle.ttp_model.specs.Problem.{problem}
+use Rattle.ttp_model.specs.Instance.{instance_with}
 use Rattle.instance_text.specs.declared.error.TextError.{TextError}
 use Rattle.instance_text.specs.Kinds.{Index}
-use Rattle.instance_text.specs.Stated.{Tables, tables_of, cluster_of, nodes_of, processes_of, links_of, messages_of, index_of_nodes, index_of_processes, stated}
+use Rattle.instance_text.specs.Stated.{Tables, stated_tables, cluster_of, nodes_of, processes_of, links_of, messages_of, index_of_nodes, index_of_processes, stated}
 
 module _ (table : Members) (ts : Tables) (cluster : Cluster) (nodes : List Node) (index : Index)
-    (reads_tables : tables_of table ≡ Ok ts) (reads_cluster : Ok cluster ≡ cluster_of ts.cluster) (reads_nodes : nodes_of ts.nodes ≡ Ok nodes)
+    (reads_tables : stated_tables table ≡ Ok ts) (reads_cluster : Ok cluster ≡ cluster_of ts.cluster) (reads_nodes : nodes_of ts.nodes ≡ Ok nodes)
     (knows : index ≡ index_of_nodes nodes) where
   -- a fault of the processes
   pub stated-processes : (e : TextError) → processes_of index ts.processes ≡ Err e → stated table ≡ Err e
@@ -31,6 +31,6 @@ module _ (table : Members) (ts : Tables) (cluster : Cluster) (nodes : List Node)
 
       -- and no fault at all
       pub stated-all : (messages : List Message) → messages_of index_p ts.messages ≡ Ok messages
-          → stated table ≡ Ok (problem cluster nodes processes links messages)
+          → stated table ≡ Ok (instance_with cluster nodes processes links messages)
       stated-all messages reads_messages =
           rw (reads_tables, ← reads_cluster, reads_nodes, ← knows, reads_processes, ← knows_p, reads_links, reads_messages) refl

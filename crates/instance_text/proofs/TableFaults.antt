@@ -5,8 +5,8 @@ use Rattle.instance_text.specs.declared.error.Key.{Key}
 use Rattle.instance_text.specs.declared.error.Place.{Place}
 use Rattle.instance_text.specs.declared.error.TextError.{TextError}
 use Rattle.instance_text.specs.declared.error.TextError.TheVariants.{NotToml, Model, OutOfMemory}
-use Rattle.instance_text.specs.Rows.{Row, Kind, one_table, tables, number, numbers, text, node, process, processes, rows}
-use Rattle.instance_text.specs.Kinds.{Stated, ◌>>=◌, each, Index, Known, list_of, table_of, fitting, number_of, bytes_of, found_index, index_of, array_of, value_of}
+use Rattle.instance_text.specs.Rows.{KeyRow, Kind, one_table, tables, number, numbers, text, node, process, processes, rows}
+use Rattle.instance_text.specs.Kinds.{Stated, ◌>>=◌, each, Index, KnownNames, list_of, table_of, fitting, number_of, bytes_of, found_index, index_of, array_of, value_of}
 use Rattle.instance_text.specs.Tables.{missing, found, at_row, Making, in_turn, keys_at, has_only, table_at}
 use Rattle.instance_text.specs.declared.error.Place.TheVariants as at
 use Rattle.ttp_model.specs.declared.parts.Cluster.{Cluster}
@@ -14,7 +14,7 @@ use Rattle.ttp_model.specs.declared.parts.Node.{Node}
 use Rattle.ttp_model.specs.declared.parts.Process.{Process}
 use Rattle.ttp_model.specs.declared.parts.Link.{Link}
 use Rattle.ttp_model.specs.declared.parts.Message.{Message}
-use Rattle.instance_text.specs.Stated.{Tables, tables_of, cluster_of, node_of, nodes_of, process_of, processes_of, link_of, links_of, message_of, messages_of, the_tables, the_cluster, the_node, the_process, the_link, the_message, none_known, knows_nodes, knows_processes, index_of_nodes, index_of_processes, stated}
+use Rattle.instance_text.specs.Stated.{Tables, stated_tables, cluster_of, stated_node, nodes_of, process_of, processes_of, link_of, links_of, message_of, messages_of, the_tables, the_cluster, the_node, the_process, the_link, the_message, none_known, knows_nodes, knows_processes, index_of_nodes, index_of_processes, stated}
 
 -- a fault of a table
 abbrev pub IsTableFault : TextError → Type 0
@@ -77,7 +77,7 @@ module _ (place : Place) (key : Key) where
   HasTableFault-array_of read one _ = tt
 
   -- of a value of each kind
-  HasTableFault-value_of : (known : Known) (kind : Kind) (d : Data) → HasTableFault (value_of place key known kind d)
+  HasTableFault-value_of : (known : KnownNames) (kind : Kind) (d : Data) → HasTableFault (value_of place key known kind d)
   HasTableFault-value_of known one_table d = HasTableFault-table_of d
   HasTableFault-value_of known tables d = HasTableFault-array_of (table_of place key) HasTableFault-table_of d
   HasTableFault-value_of known number d = HasTableFault-number_of d
@@ -99,7 +99,7 @@ module _ (place : Place) (key : Key) where
   HasTableFault-found read default one None = HasTableFault-missing read default
 
 -- of the keys of a table
-HasTableFault-in_turn : (A : Type 0) (place : Place) (known : Known) (ms : Members) (rs : List Row) (make : Making A rs)
+HasTableFault-in_turn : (A : Type 0) (place : Place) (known : KnownNames) (ms : Members) (rs : List KeyRow) (make : Making A rs)
     → HasTableFault (in_turn place known ms rs make)
 HasTableFault-in_turn A place known ms [] make = tt
 HasTableFault-in_turn A place known ms (r ∷ rs) make =
@@ -108,7 +108,7 @@ HasTableFault-in_turn A place known ms (r ∷ rs) make =
     (λ v. HasTableFault-in_turn A place known ms rs (make v))
 
 -- of a table
-HasTableFault-table_at : (A : Type 0) (place : Place) (known : Known) (make : Making A (rows place)) (ms : Members)
+HasTableFault-table_at : (A : Type 0) (place : Place) (known : KnownNames) (make : Making A (rows place)) (ms : Members)
     → HasTableFault (table_at place known make ms)
 HasTableFault-table_at A place known make ms =
     HasTableFault-if (has_only (keys_at place) ms) _ _ (HasTableFault-in_turn A place known ms (rows place) make) tt
@@ -116,7 +116,7 @@ HasTableFault-table_at A place known make ms =
 -- of the tables of an array
 HasTableFault-nodes_of : (ts : Tables) → HasTableFault (nodes_of ts.nodes)
 HasTableFault-nodes_of ts =
-    HasTableFault-each node_of (λ n t. HasTableFault-table_at Node (at.Node n) none_known the_node t) 0 ts.nodes
+    HasTableFault-each stated_node (λ n t. HasTableFault-table_at Node (at.Node n) none_known the_node t) 0 ts.nodes
 
 module _ (ts : Tables) (index : Index) where
   HasTableFault-processes_of : HasTableFault (processes_of index ts.processes)
@@ -137,7 +137,7 @@ module _ (ts : Tables) (index : Index) where
 -- of a whole text
 pub HasTableFault-stated : (ms : Members) → HasTableFault (stated ms)
 HasTableFault-stated ms =
-    HasTableFault-then (tables_of ms) _ (HasTableFault-table_at Tables at.Top none_known the_tables ms) (λ ts.
+    HasTableFault-then (stated_tables ms) _ (HasTableFault-table_at Tables at.Top none_known the_tables ms) (λ ts.
     HasTableFault-then (cluster_of ts.cluster) _
     (HasTableFault-table_at Cluster at.Cluster none_known the_cluster ts.cluster) (λ cluster.
     HasTableFault-then (nodes_of ts.nodes) _ (HasTableFault-nodes_of ts) (λ nodes.

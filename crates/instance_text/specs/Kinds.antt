@@ -41,7 +41,7 @@ abbrev pub index_in : List (List ℕ) → Index
 index_in names name = option_map cut_index (position (bytes_eq name) names)
 
 -- what the names of nodes and those of processes state
-pub record Known : Type 0 where
+pub record KnownNames : Type 0 where
   pub nodes : Index
   pub processes : Index
 
@@ -94,7 +94,7 @@ module _ (place : Place) (key : Key) where
   indices_of index = array_of (index_of index)
 
   -- a value of each kind
-  abbrev pub value_of : Known → (kind : Kind) → Data → Stated (Value kind)
+  abbrev pub value_of : KnownNames → (kind : Kind) → Data → Stated (Value kind)
   value_of known one_table d = table_of d
   value_of known tables d = tables_in d
   value_of known number d = number_of d

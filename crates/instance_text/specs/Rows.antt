@@ -31,21 +31,21 @@ Value process = ℕ
 Value processes = List ℕ
 
 -- A key with the kind of its value and, where it may be missing, what then stands in its place.
-pub record Row : Type 0 where
+pub record KeyRow : Type 0 where
   pub key : Key
   pub kind : Kind
   pub default : Option (Value kind)
 
 -- a key that has to be there
-abbrev pub needed : Key → Kind → Row
+abbrev pub needed : Key → Kind → KeyRow
 needed k kind = record { key = k; kind = kind; default = None }
 
 -- a key that may be missing
-abbrev pub optional : Key → (kind : Kind) → Value kind → Row
+abbrev pub optional : Key → (kind : Kind) → Value kind → KeyRow
 optional k kind value = record { key = k; kind = kind; default = Some value }
 
 -- The keys of each table, in the order of checks. Times are in ticks.
-abbrev pub rows : Place → List Row
+abbrev pub rows : Place → List KeyRow
 rows Top =
     needed key.Cluster one_table ∷ needed key.Node tables ∷ needed key.Process tables
     ∷ optional key.Link tables [] ∷ optional key.Message tables [] ∷ []

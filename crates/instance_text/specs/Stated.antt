@@ -6,9 +6,9 @@ use Rattle.ttp_model.specs.declared.parts.Node.{Node}
 use Rattle.ttp_model.specs.declared.parts.Process.{Process}
 use Rattle.ttp_model.specs.declared.parts.Link.{Link}
 use Rattle.ttp_model.specs.declared.parts.Message.{Message}
-use Rattle.ttp_model.specs.Problem.{Problem, problem}
+use Rattle.ttp_model.specs.Instance.{Instance, instance_with}
 use Rattle.instance_text.specs.declared.error.Place.TheVariants as at
-use Rattle.instance_text.specs.Kinds.{Stated, ◌>>=◌, each, Index, Known, index_in}
+use Rattle.instance_text.specs.Kinds.{Stated, ◌>>=◌, each, Index, KnownNames, index_in}
 use Rattle.instance_text.specs.Tables.{table_at}
 
 -- the tables of a text, those of each array in their order
@@ -70,32 +70,32 @@ the_message name from to bytes = record {
 }
 
 -- no name is known
-abbrev pub none_known : Known
+abbrev pub none_known : KnownNames
 none_known = record { nodes = λ _. None; processes = λ _. None }
 
 -- the names of nodes are known, as a process may name them
-abbrev pub knows_nodes : Index → Known
+abbrev pub knows_nodes : Index → KnownNames
 knows_nodes index = record none_known { nodes = index }
 
 -- the names of processes are known, as a link or a message may name them
-abbrev pub knows_processes : Index → Known
+abbrev pub knows_processes : Index → KnownNames
 knows_processes index = record none_known { processes = index }
 
 -- the top table, with the items of its arrays
-abbrev pub tables_of : Members → Stated Tables
-tables_of = table_at at.Top none_known the_tables
+abbrev pub stated_tables : Members → Stated Tables
+stated_tables = table_at at.Top none_known the_tables
 
 -- the table [cluster]
 abbrev pub cluster_of : Members → Stated Cluster
 cluster_of = table_at at.Cluster none_known the_cluster
 
 -- the table [[node]] of this index
-abbrev pub node_of : ℕ → Members → Stated Node
-node_of n = table_at (at.Node n) none_known the_node
+abbrev pub stated_node : ℕ → Members → Stated Node
+stated_node n = table_at (at.Node n) none_known the_node
 
 -- the tables [[node]]
 abbrev pub nodes_of : List Members → Stated (List Node)
-nodes_of = each node_of 0
+nodes_of = each stated_node 0
 
 -- the table [[process]] of this index, where these are the names of nodes
 abbrev pub process_of : Index → ℕ → Members → Stated Process
@@ -131,12 +131,12 @@ index_of_processes processes = index_in (map (λ p. p.name) processes)
 
 -- The whole instance: the top table first, then each table in order. A process may name any node,
 -- and a link or a message any process.
-abbrev pub stated : Members → Stated Problem
+abbrev pub stated : Members → Stated Instance
 stated ms =
-    tables_of ms >>= (λ tables.
+    stated_tables ms >>= (λ tables.
     cluster_of tables.cluster >>= (λ cluster.
     nodes_of tables.nodes >>= (λ nodes.
     processes_of (index_of_nodes nodes) tables.processes >>= (λ processes.
     links_of (index_of_processes processes) tables.links >>= (λ links.
     messages_of (index_of_processes processes) tables.messages >>= (λ messages.
-    Ok (problem cluster nodes processes links messages)))))))
+    Ok (instance_with cluster nodes processes links messages)))))))

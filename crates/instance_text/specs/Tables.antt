@@ -7,8 +7,8 @@ use Rattle.instance_text.specs.declared.error.Key.{Key}
 use Rattle.instance_text.specs.declared.error.Place.{Place}
 use Rattle.instance_text.specs.declared.error.TextError.TheVariants.{UnknownKey, MissingKey}
 use Rattle.instance_text.specs.Keys.{text_of}
-use Rattle.instance_text.specs.Rows.{Row, Value, rows}
-use Rattle.instance_text.specs.Kinds.{Stated, ◌>>=◌, Known, value_of}
+use Rattle.instance_text.specs.Rows.{KeyRow, Value, rows}
+use Rattle.instance_text.specs.Kinds.{Stated, ◌>>=◌, KnownNames, value_of}
 
 -- the keys that such a table may have
 abbrev pub keys_at : Place → List Key
@@ -41,17 +41,17 @@ module _ (place : Place) (key : Key) {A : Type 0} (read : Data → Stated A) (de
     field_of ms = found (get_member (text_of key) ms)
 
 -- what the key of a row states
-abbrev pub at_row : Place → Known → Members → (r : Row) → Stated (Value r.kind)
+abbrev pub at_row : Place → KnownNames → Members → (r : KeyRow) → Stated (Value r.kind)
 at_row place known ms r = field_of place r.key (value_of place r.key known r.kind) r.default ms
 
 -- a function of what the rows state, in their order
-abbrev pub Making : Type 0 → List Row → Type 0
+abbrev pub Making : Type 0 → List KeyRow → Type 0
 Making A [] = A
 Making A (r ∷ rs) = Value r.kind → Making A rs
 
-module _ {A : Type 0} (place : Place) (known : Known) where
+module _ {A : Type 0} (place : Place) (known : KnownNames) where
   -- what `make` makes of what the rows state, one after another, or the first fault
-  abbrev pub in_turn : Members → (rs : List Row) → Making A rs → Stated A
+  abbrev pub in_turn : Members → (rs : List KeyRow) → Making A rs → Stated A
   in_turn ms [] make = Ok make
   in_turn ms (r ∷ rs) make = at_row place known ms r >>= (λ value. in_turn ms rs (make value))
 

@@ -6,7 +6,7 @@ use Rattle.std.specs.declared.alloc.Global.{Global}
 use Rattle.toml.specs.Data.{Members}
 use Rattle.toml.specs.View.{table_view}
 use Rattle.toml.specs.declared.value.Value.{Value}
-use Rattle.ttp_model.specs.Problem.{Problem, problem}
+use Rattle.ttp_model.specs.Instance.{Instance, instance_with}
 use Rattle.instance_text.specs.declared.text.Parts.{Parts}
 use Rattle.instance_text.specs.declared.top.Tables.{Tables as CodeTables}
 use Rattle.instance_text.specs.Stated.{Tables}
@@ -26,6 +26,6 @@ tables_view tables = record {
 }
 
 -- the problem that the parts of an instance are
-abbrev pub problem_of : Parts → Problem
-problem_of ps =
-    problem ps.cluster ps.nodes.items ps.processes.items ps.links.items ps.messages.items
+abbrev pub instance_of : Parts → Instance
+instance_of ps =
+    instance_with ps.cluster ps.nodes.items ps.processes.items ps.links.items ps.messages.items

@@ -3,7 +3,7 @@
 ghost use Rattle.std.specs.Prelude.{◌≡◌, None, Some, [], IfOk, IfErr, option_map};
 ghost use Rattle.toml.specs.Data.{get_member};
 ghost use Rattle.toml.specs.View.{table_view, view};
-ghost use Rattle.instance_text.specs.Faults.{IsFaultOf};
+ghost use Rattle.instance_text.specs.Faults.{IsFaultOfPart};
 ghost use Rattle.instance_text.specs.Index.{index_by};
 ghost use Rattle.instance_text.specs.Keys.{text_of};
 ghost use Rattle.instance_text.specs.Kinds.{table_of, tables_in, number_of, numbers_of, bytes_of, index_of, indices_of};
@@ -55,7 +55,7 @@ pub fn tables<'a>(
 ) -> Result<Vec<&'a Table>, TextError>
     ensures ok { IfOk result (λ ts. field_of place key (tables_in place key) None
         (table_view table.now) ≡ Ok (table_views ts.items)) }
-    ensures err { IfErr result (IsFaultOf (field_of place key (tables_in place key) None
+    ensures err { IfErr result (IsFaultOfPart (field_of place key (tables_in place key) None
         (table_view table.now))) }
 {
     values::tables(alloc, needed(table, place, key)?, place, key)
@@ -70,7 +70,7 @@ pub fn tables_if_any<'a>(
 ) -> Result<Vec<&'a Table>, TextError>
     ensures ok { IfOk result (λ ts. field_of place key (tables_in place key) (Some [])
         (table_view table.now) ≡ Ok (table_views ts.items)) }
-    ensures err { IfErr result (IsFaultOf (field_of place key (tables_in place key) (Some [])
+    ensures err { IfErr result (IsFaultOfPart (field_of place key (tables_in place key) (Some [])
         (table_view table.now))) }
 {
     match value(table, key) {
@@ -101,7 +101,7 @@ pub fn number_or(table: &Table, place: Place, key: Key, default: u32) -> Result<
 pub fn numbers(alloc: Global, table: &Table, place: Place, key: Key) -> Result<Numbers, TextError>
     ensures ok { IfOk result (λ ns. field_of place key (numbers_of place key) None
         (table_view table.now) ≡ Ok ns) }
-    ensures err { IfErr result (IsFaultOf (field_of place key (numbers_of place key) None
+    ensures err { IfErr result (IsFaultOfPart (field_of place key (numbers_of place key) None
         (table_view table.now))) }
 {
     values::numbers(alloc, needed(table, place, key)?, place, key)
@@ -111,7 +111,7 @@ pub fn numbers(alloc: Global, table: &Table, place: Place, key: Key) -> Result<N
 pub fn name(alloc: Global, table: &Table, place: Place, key: Key) -> Result<Name, TextError>
     ensures ok { IfOk result (λ name. field_of place key (bytes_of place key) None
         (table_view table.now) ≡ Ok name) }
-    ensures err { IfErr result (IsFaultOf (field_of place key (bytes_of place key) None
+    ensures err { IfErr result (IsFaultOfPart (field_of place key (bytes_of place key) None
         (table_view table.now))) }
 {
     values::name(alloc, needed(table, place, key)?, place, key)
@@ -135,7 +135,7 @@ pub fn indices(
 ) -> Result<Numbers, TextError>
     ensures ok { IfOk result (λ ns. field_of place key
         (indices_of place key (index_by names.now)) None (table_view table.now) ≡ Ok ns) }
-    ensures err { IfErr result (IsFaultOf (field_of place key
+    ensures err { IfErr result (IsFaultOfPart (field_of place key
         (indices_of place key (index_by names.now)) None (table_view table.now))) }
 {
     values::indices(alloc, needed(table, place, key)?, place, key, names)

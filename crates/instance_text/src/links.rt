@@ -2,7 +2,7 @@
 
 ghost use Rattle.std.specs.Prelude.{◌≡◌, IfOk, IfErr};
 ghost use Rattle.toml.specs.View.{table_view};
-ghost use Rattle.instance_text.specs.Faults.{IsFaultOf};
+ghost use Rattle.instance_text.specs.Faults.{IsFaultOfPart};
 ghost use Rattle.instance_text.specs.Index.{index_by};
 ghost use Rattle.instance_text.specs.Stated.{link_of, links_of};
 ghost use Rattle.instance_text.specs.Views.{table_views};
@@ -29,7 +29,7 @@ fn link(table: &Table, index: usize, processes: &Names) -> Result<Link, TextErro
 pub fn links(alloc: Global, tables: &[&Table], processes: &Names) -> Result<Vec<Link>, TextError>
     ensures ok { IfOk result (λ ls. links_of (index_by processes.now) (table_views tables.now)
         ≡ Ok ls.items) }
-    ensures err { IfErr result (IsFaultOf (links_of (index_by processes.now)
+    ensures err { IfErr result (IsFaultOfPart (links_of (index_by processes.now)
         (table_views tables.now))) }
 {
     let mut links = Vec::new(alloc);

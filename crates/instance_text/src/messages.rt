@@ -2,7 +2,7 @@
 
 ghost use Rattle.std.specs.Prelude.{◌≡◌, IfOk, IfErr};
 ghost use Rattle.toml.specs.View.{table_view};
-ghost use Rattle.instance_text.specs.Faults.{IsFaultOf};
+ghost use Rattle.instance_text.specs.Faults.{IsFaultOfPart};
 ghost use Rattle.instance_text.specs.Index.{index_by};
 ghost use Rattle.instance_text.specs.Stated.{message_of, messages_of};
 ghost use Rattle.instance_text.specs.Views.{table_views};
@@ -23,7 +23,7 @@ fn message(
 ) -> Result<Message, TextError>
     ensures ok { IfOk result (λ m. message_of (index_by processes.now) index
         (table_view table.now) ≡ Ok m) }
-    ensures err { IfErr result (IsFaultOf (message_of (index_by processes.now) index
+    ensures err { IfErr result (IsFaultOfPart (message_of (index_by processes.now) index
         (table_view table.now))) }
 {
     let place = Place::Message(index);
@@ -48,7 +48,7 @@ pub fn messages(
 ) -> Result<Vec<Message>, TextError>
     ensures ok { IfOk result (λ ms. messages_of (index_by processes.now) (table_views tables.now)
         ≡ Ok ms.items) }
-    ensures err { IfErr result (IsFaultOf (messages_of (index_by processes.now)
+    ensures err { IfErr result (IsFaultOfPart (messages_of (index_by processes.now)
         (table_views tables.now))) }
 {
     let mut messages = Vec::new(alloc);

@@ -2,8 +2,8 @@
 
 ghost use Rattle.std.specs.Prelude.{◌≡◌, IfOk, IfErr};
 ghost use Rattle.toml.specs.View.{table_view};
-ghost use Rattle.instance_text.specs.Faults.{IsFaultOf};
-ghost use Rattle.instance_text.specs.Stated.{node_of, nodes_of};
+ghost use Rattle.instance_text.specs.Faults.{IsFaultOfPart};
+ghost use Rattle.instance_text.specs.Stated.{stated_node, nodes_of};
 ghost use Rattle.instance_text.specs.Views.{table_views};
 
 use crate::error::{Key, Place, TextError};
@@ -14,8 +14,8 @@ use ttp_model::Node;
 
 /// The node of a table.
 fn node(alloc: Global, table: &Table, index: usize) -> Result<Node, TextError>
-    ensures ok { IfOk result (λ n. node_of index (table_view table.now) ≡ Ok n) }
-    ensures err { IfErr result (IsFaultOf (node_of index (table_view table.now))) }
+    ensures ok { IfOk result (λ n. stated_node index (table_view table.now) ≡ Ok n) }
+    ensures err { IfErr result (IsFaultOfPart (stated_node index (table_view table.now))) }
 {
     let place = Place::Node(index);
     keys::judge(table, place)?;
@@ -27,7 +27,7 @@ fn node(alloc: Global, table: &Table, index: usize) -> Result<Node, TextError>
 /// The nodes of these tables.
 pub fn nodes(alloc: Global, tables: &[&Table]) -> Result<Vec<Node>, TextError>
     ensures ok { IfOk result (λ ns. nodes_of (table_views tables.now) ≡ Ok ns.items) }
-    ensures err { IfErr result (IsFaultOf (nodes_of (table_views tables.now))) }
+    ensures err { IfErr result (IsFaultOfPart (nodes_of (table_views tables.now))) }
 {
     let mut nodes = Vec::new(alloc);
     for (index, table) in tables.iter().enumerate() {

@@ -2,7 +2,7 @@
 
 ghost use Rattle.std.specs.Prelude.{◌≡◌, IfOk, IfErr};
 ghost use Rattle.toml.specs.View.{table_view};
-ghost use Rattle.instance_text.specs.Faults.{IsFaultOf};
+ghost use Rattle.instance_text.specs.Faults.{IsFaultOfPart};
 ghost use Rattle.instance_text.specs.Index.{index_by};
 ghost use Rattle.instance_text.specs.Stated.{process_of, processes_of};
 ghost use Rattle.instance_text.specs.Views.{table_views};
@@ -24,7 +24,7 @@ const LAST_DEADLINE: u32 = MOST_TICKS;
 fn process(alloc: Global, table: &Table, index: usize, nodes: &Names) -> Result<Process, TextError>
     ensures ok { IfOk result (λ p. process_of (index_by nodes.now) index (table_view table.now)
         ≡ Ok p) }
-    ensures err { IfErr result (IsFaultOf (process_of (index_by nodes.now) index
+    ensures err { IfErr result (IsFaultOfPart (process_of (index_by nodes.now) index
         (table_view table.now))) }
 {
     let place = Place::Process(index);
@@ -47,7 +47,7 @@ fn process(alloc: Global, table: &Table, index: usize, nodes: &Names) -> Result<
 pub fn processes(alloc: Global, tables: &[&Table], nodes: &Names) -> Result<Vec<Process>, TextError>
     ensures ok { IfOk result (λ ps. processes_of (index_by nodes.now) (table_views tables.now)
         ≡ Ok ps.items) }
-    ensures err { IfErr result (IsFaultOf (processes_of (index_by nodes.now)
+    ensures err { IfErr result (IsFaultOfPart (processes_of (index_by nodes.now)
         (table_views tables.now))) }
 {
     let mut processes = Vec::new(alloc);

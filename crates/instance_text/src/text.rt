@@ -3,11 +3,11 @@
 ghost use Rattle.std.specs.Prelude.{◌≡◌, ◌≢◌, Ok, IfOk, IfErr, IsOkUnless};
 ghost use Rattle.toml.specs.Data.{Members};
 ghost use Rattle.toml.specs.View.{table_view};
-ghost use Rattle.ttp_model.specs.Problem.{Problem};
+ghost use Rattle.ttp_model.specs.Instance.{Instance};
 ghost use Rattle.ttp_model.specs.Rules.{IsInstance};
-ghost use Rattle.instance_text.specs.Faults.{IsFaultOf, IsDocument, IsTextFault, States, IsFirstFault};
+ghost use Rattle.instance_text.specs.Faults.{IsFaultOfPart, IsDocument, IsTextFault, States, IsFirstTextFault};
 ghost use Rattle.instance_text.specs.Stated.{stated};
-ghost use Rattle.instance_text.specs.Views.{problem_of};
+ghost use Rattle.instance_text.specs.Views.{instance_of};
 ghost use Rattle.instance_text.specs.declared.error.TextError.TheVariants.{OutOfMemory};
 
 use crate::error::TextError;
@@ -46,8 +46,8 @@ fn document(alloc: Global, bytes: &[u8]) -> Result<Table, TextError>
 
 /// The parts that a top table states.
 fn stated_parts(alloc: Global, table: &Table) -> Result<Parts, TextError>
-    ensures ok { IfOk result (λ ps. stated (table_view table.now) ≡ Ok (problem_of ps)) }
-    ensures err { IfErr result (IsFaultOf (stated (table_view table.now))) }
+    ensures ok { IfOk result (λ ps. stated (table_view table.now) ≡ Ok (instance_of ps)) }
+    ensures err { IfErr result (IsFaultOfPart (stated (table_view table.now))) }
 {
     let tables = top::tables_of(alloc, table)?;
     let cluster = cluster::cluster(tables.cluster)?;
@@ -77,8 +77,8 @@ fn stated_parts(alloc: Global, table: &Table) -> Result<Parts, TextError>
 pub fn read(alloc: Global, bytes: &[u8]) -> Result<Instance, TextError>
     ensures ok { IfOk result (λ i. States bytes.now (Ok i)) }
     ensures instance { IfOk result IsInstance }
-    ensures err { IfErr result (IsFirstFault bytes.now) }
-    ensures only { (i : Problem) → States bytes.now (Ok i) → IsInstance i
+    ensures err { IfErr result (IsFirstTextFault bytes.now) }
+    ensures only { (i : Instance) → States bytes.now (Ok i) → IsInstance i
         → IsOkUnless result OutOfMemory }
 {
     let table = document(alloc, bytes)?;

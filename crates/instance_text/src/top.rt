@@ -2,8 +2,8 @@
 
 ghost use Rattle.std.specs.Prelude.{◌≡◌, IfOk, IfErr};
 ghost use Rattle.toml.specs.View.{table_view};
-ghost use Rattle.instance_text.specs.Faults.{IsFaultOf};
-ghost use Rattle.instance_text.specs.Stated.{tables_of};
+ghost use Rattle.instance_text.specs.Faults.{IsFaultOfPart};
+ghost use Rattle.instance_text.specs.Stated.{stated_tables};
 ghost use Rattle.instance_text.specs.Views.{tables_view};
 
 use crate::error::{Key, Place, TextError};
@@ -23,8 +23,8 @@ pub struct Tables<'a> {
 
 /// The tables in the top table.
 pub fn tables_of(alloc: Global, table: &Table) -> Result<Tables<'_>, TextError>
-    ensures ok { IfOk result (λ ts. tables_of (table_view table.now) ≡ Ok (tables_view ts)) }
-    ensures err { IfErr result (IsFaultOf (tables_of (table_view table.now))) }
+    ensures ok { IfOk result (λ ts. stated_tables (table_view table.now) ≡ Ok (tables_view ts)) }
+    ensures err { IfErr result (IsFaultOfPart (stated_tables (table_view table.now))) }
 {
     let place = Place::Top;
     keys::judge(table, place)?;

@@ -3,7 +3,7 @@
 ghost use Rattle.std.specs.Prelude.{◌≡◌, IfOk, IfErr};
 ghost use Rattle.toml.specs.View.{table_view, view};
 ghost use Rattle.instance_text.specs.Kinds.{table_of, tables_in, number_of, numbers_of, bytes_of, index_of, indices_of};
-ghost use Rattle.instance_text.specs.Faults.{IsFaultOf};
+ghost use Rattle.instance_text.specs.Faults.{IsFaultOfPart};
 ghost use Rattle.instance_text.specs.Index.{index_by};
 ghost use Rattle.instance_text.specs.Views.{table_views};
 
@@ -30,7 +30,7 @@ pub fn tables<'a>(
 ) -> Result<Vec<&'a Table>, TextError>
     ensures ok { IfOk result (λ ts. tables_in place key (view value.now)
         ≡ Ok (table_views ts.items)) }
-    ensures err { IfErr result (IsFaultOf (tables_in place key (view value.now))) }
+    ensures err { IfErr result (IsFaultOfPart (tables_in place key (view value.now))) }
 {
     let Some(items) = value.as_array() else {
         return Err(TextError::WrongKind { place, key });
@@ -55,7 +55,7 @@ pub fn number(value: &Value, place: Place, key: Key) -> Result<u32, TextError>
 /// An array of whole numbers that fit.
 pub fn numbers(alloc: Global, value: &Value, place: Place, key: Key) -> Result<Numbers, TextError>
     ensures ok { IfOk result (λ ns. numbers_of place key (view value.now) ≡ Ok ns) }
-    ensures err { IfErr result (IsFaultOf (numbers_of place key (view value.now))) }
+    ensures err { IfErr result (IsFaultOfPart (numbers_of place key (view value.now))) }
 {
     let Some(items) = value.as_array() else {
         return Err(TextError::WrongKind { place, key });
@@ -70,7 +70,7 @@ pub fn numbers(alloc: Global, value: &Value, place: Place, key: Key) -> Result<N
 /// A text, as a name.
 pub fn name(alloc: Global, value: &Value, place: Place, key: Key) -> Result<Name, TextError>
     ensures ok { IfOk result (λ name. bytes_of place key (view value.now) ≡ Ok name) }
-    ensures err { IfErr result (IsFaultOf (bytes_of place key (view value.now))) }
+    ensures err { IfErr result (IsFaultOfPart (bytes_of place key (view value.now))) }
 {
     let Some(text) = value.as_str() else {
         return Err(TextError::WrongKind { place, key });
@@ -100,7 +100,7 @@ pub fn indices(
 ) -> Result<Numbers, TextError>
     ensures ok { IfOk result (λ ns. indices_of place key (index_by names.now)
         (view value.now) ≡ Ok ns) }
-    ensures err { IfErr result (IsFaultOf (indices_of place key (index_by names.now)
+    ensures err { IfErr result (IsFaultOfPart (indices_of place key (index_by names.now)
         (view value.now))) }
 {
     let Some(items) = value.as_array() else {

@@ -3,9 +3,9 @@ use Rattle.std.proofs.Common.{◌≡◌, ◌≢◌, ℕ, ◌+◌, ◌&&◌, ◌=
 use Rattle.std.proofs.lemmas.Bool.{eq-eqb}
 use Rattle.std.proofs.lemmas.Bool.Decides.{eqb_tells}
 use Rattle.std.proofs.lemmas.List.Sums.{sum_by_push}
-use Rattle.ttp_model.specs.Problem.{Problem, message_at, node_of, source_of}
-use Rattle.tt_choice.proofs.Totals.{total_next}
-use Rattle.tt_infer.specs.Facts.{Known, es_of, le_of, lo_of, top_of}
+use Rattle.ttp_model.specs.Instance.{Instance, message_at, node_of, source_of}
+use Rattle.ttp_model.proofs.Totals.{total_next}
+use Rattle.tt_infer.specs.Known.{Known, es_of, le_of, lo_of, top_of}
 use Rattle.tt_infer.specs.Premises.{wcet_of, load_within, bytes_within}
 use Rattle.load_bounds.specs.declared.demands.Demand.{Demand}
 use Rattle.load_bounds.specs.Within.{part_within}
@@ -22,10 +22,10 @@ other m n inside size differ = elim (eqb_tells m n) [
 ]
 
 -- the demand that a process of the node makes
-abbrev pub run_of : Problem → Known → ℕ → Demand
+abbrev pub run_of : Instance → Known → ℕ → Demand
 run_of i f p = record { from = es_of f p; until = le_of f p; size = wcet_of i p }
 
-pub one_more_run : (i : Problem) (f : Known) (n p : ℕ) (ds : List Demand) → AreRuns i f n p ds → node_of i p ≡ n → AreRuns i f n (p + 1) (ds ++ run_of i f p ∷ [])
+pub one_more_run : (i : Instance) (f : Known) (n p : ℕ) (ds : List Demand) → AreRuns i f n p ds → node_of i p ≡ n → AreRuns i f n (p + 1) (ds ++ run_of i f p ∷ [])
 one_more_run i f n p ds runs is a b =
     let before = runs a b in
     let more = total_next (load_within i f n a b) p in
@@ -33,7 +33,7 @@ one_more_run i f n p ds runs is a b =
     let same : load_within i f n a b p ≡ part_within a b (run_of i f p) = own (node_of i p) n (nat_le a (es_of f p) && nat_le (le_of f p) b) (wcet_of i p) is in
     omega (arith, before, more, pushed, same)
 
-pub no_more_run : (i : Problem) (f : Known) (n p : ℕ) (ds : List Demand) → AreRuns i f n p ds → node_of i p ≢ n → AreRuns i f n (p + 1) ds
+pub no_more_run : (i : Instance) (f : Known) (n p : ℕ) (ds : List Demand) → AreRuns i f n p ds → node_of i p ≢ n → AreRuns i f n (p + 1) ds
 no_more_run i f n p ds runs differ a b =
     let before = runs a b in
     let more = total_next (load_within i f n a b) p in
@@ -41,10 +41,10 @@ no_more_run i f n p ds runs differ a b =
     omega (arith, before, more, none)
 
 -- the demand that a message of the node makes
-abbrev pub sending_of : Problem → Known → ℕ → Demand
+abbrev pub sending_of : Instance → Known → ℕ → Demand
 sending_of i f m = record { from = lo_of f m; until = top_of f m; size = (message_at i m).bytes }
 
-pub one_more_sending : (i : Problem) (f : Known) (n m : ℕ) (ds : List Demand) → AreSendings i f n m ds → source_of i m ≡ n → AreSendings i f n (m + 1) (ds ++ sending_of i f m ∷ [])
+pub one_more_sending : (i : Instance) (f : Known) (n m : ℕ) (ds : List Demand) → AreSendings i f n m ds → source_of i m ≡ n → AreSendings i f n (m + 1) (ds ++ sending_of i f m ∷ [])
 one_more_sending i f n m ds sendings is a b =
     let before = sendings a b in
     let more = total_next (bytes_within i f n a b) m in
@@ -52,7 +52,7 @@ one_more_sending i f n m ds sendings is a b =
     let same : bytes_within i f n a b m ≡ part_within a b (sending_of i f m) = own (source_of i m) n (nat_le a (lo_of f m) && nat_le (top_of f m) b) (message_at i m).bytes is in
     omega (arith, before, more, pushed, same)
 
-pub no_more_sending : (i : Problem) (f : Known) (n m : ℕ) (ds : List Demand) → AreSendings i f n m ds → source_of i m ≢ n → AreSendings i f n (m + 1) ds
+pub no_more_sending : (i : Instance) (f : Known) (n m : ℕ) (ds : List Demand) → AreSendings i f n m ds → source_of i m ≢ n → AreSendings i f n (m + 1) ds
 no_more_sending i f n m ds sendings differ a b =
     let before = sendings a b in
     let more = total_next (bytes_within i f n a b) m in

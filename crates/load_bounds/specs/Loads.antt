@@ -2,21 +2,21 @@
 use Rattle.std.specs.Prelude.{◌≡◌, ℕ, Option, Some, None}
 use Rattle.ttp_model.specs.declared.step.Step.{Step}
 use Rattle.ttp_model.specs.declared.step.Step.TheVariants.{XLoad, XFrames}
-use Rattle.tt_infer.specs.Facts.{Known}
+use Rattle.tt_infer.specs.Known.{Known}
 use Rattle.tt_infer.specs.Table.{IsLawful}
-use Rattle.tt_infer.specs.Inference.{Inference}
+use Rattle.tt_infer.specs.Facts.{Facts}
 
 -- the table has the step, from what is known
-pub record IsLawfulNow (s : Inference) (step : Step) : Type 0 where
+pub record IsLawfulNow (s : Facts) (step : Step) : Type 0 where
   pub after : Known
   pub lawful : IsLawful s.instance s.choice s.goal s.known step after
 
 -- a lawful closer of the node's processes in some interval; or there is none in any
-abbrev pub IsNodeLoad : Inference → ℕ → Option Step → Type 0
+abbrev pub IsNodeLoad : Facts → ℕ → Option Step → Type 0
 IsNodeLoad s n (Some step) = (a : ℕ) × ((b : ℕ) × ((step ≡ XLoad n a b) × IsLawfulNow s step))
 IsNodeLoad s n None = (a b : ℕ) → ¬ IsLawfulNow s (XLoad n a b)
 
 -- a lawful closer of the node's frames in some interval; or there is none in any
-abbrev pub IsFrameLoad : Inference → ℕ → Option Step → Type 0
+abbrev pub IsFrameLoad : Facts → ℕ → Option Step → Type 0
 IsFrameLoad s n (Some step) = (a : ℕ) × ((b : ℕ) × ((step ≡ XFrames n a b) × IsLawfulNow s step))
 IsFrameLoad s n None = (a b : ℕ) → ¬ IsLawfulNow s (XFrames n a b)

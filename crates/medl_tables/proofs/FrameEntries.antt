@@ -6,7 +6,7 @@ use Rattle.std.proofs.lemmas.List.{append-nil}
 use Rattle.std.proofs.lemmas.Grind.{common_steps}
 use Rattle.std.proofs.lemmas.List.FromFn.{filter_of_map_range_with_len_more}
 use Rattle.ttp_model.specs.declared.plan.Plan.{Plan}
-use Rattle.ttp_model.specs.Problem.{Problem, source_of}
+use Rattle.ttp_model.specs.Instance.{Instance, source_of}
 use Rattle.ttp_model.specs.Plans.{HasLengths, round_of}
 use Rattle.medl_tables.specs.Rows.{entries_of, entry_of, is_entry, is_shown_on}
 
@@ -28,13 +28,13 @@ and-false true c = refl
 and-false false c = refl
 
 -- a message that isn't sent in the round is no entry
-is_entry-other_round : (i : Problem) (plan : Plan) (node n r m : ℕ) → round_of plan m ≢ r → is_entry i plan node n r m ≡ false
+is_entry-other_round : (i : Instance) (plan : Plan) (node n r m : ℕ) → round_of plan m ≢ r → is_entry i plan node n r m ≡ false
 is_entry-other_round i plan node n r m other = elim (eqb_tells (round_of plan m) r) [
   | inl same ↦ absurd (other same.1)
   | inr differ ↦ rw differ.0 (and-false (source_of i m == n) (is_shown_on i node m))
 ]
 
-pub entries_of-none : (i : Problem) (plan : Plan) (node n r : ℕ) → HasLengths i plan → ¬ Contains plan.rounds r → entries_of i plan node n r ≡ []
+pub entries_of-none : (i : Instance) (plan : Plan) (node n r : ℕ) → HasLengths i plan → ¬ Contains plan.rounds r → entries_of i plan node n r ≡ []
 entries_of-none i plan node n r lengths none = filter-none (λ e. is_entry i plan node n r e.message) (entry_of i plan n r) (length i.messages) each
   where
     each : (m : ℕ) → m < length i.messages → is_entry i plan node n r m ≡ false

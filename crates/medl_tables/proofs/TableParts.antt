@@ -4,19 +4,19 @@ use Rattle.std.specs.List.{range_with_len}
 use Rattle.std.proofs.lemmas.List.FromFn.{get_or-map-range_with_len, length-map-range_with_len}
 use Rattle.std.proofs.lemmas.List.Elements.{All-filter}
 use Rattle.ttp_model.specs.declared.plan.Plan.{Plan}
-use Rattle.ttp_model.specs.Problem.{Problem}
+use Rattle.ttp_model.specs.Instance.{Instance}
 use Rattle.ttp_model.specs.Plans.{IsNodeOrder}
 use Rattle.tt_layout.proofs.Ranges.{All-flat_map}
 use Rattle.medl_tables.specs.declared.row.Entry.{Entry}
 use Rattle.medl_tables.specs.Rows.{entry_of, is_entry, round_rows, row_of, rows_of}
-use Rattle.medl_tables.specs.Tables.{AreTables, IsRowOf, Tables}
+use Rattle.medl_tables.specs.Medl.{AreTables, IsRowOf, Medl}
 
 All-map-range : {X : Type 0} (P : X → Type 0) (f : ℕ → X) (n : ℕ) → ((k : ℕ) → k < n → P (f k)) → All P (map f (range_with_len 0 n))
 All-map-range P f n each = λ k d inside.
     let place : k < n = omega (arith, inside, length-map-range_with_len f 0 n) in
     rw (get_or-map-range_with_len f 0 n k k d place (omega arith)) (each k place)
 
-row_names_parts : (i : Problem) (plan : Plan) (node r k : ℕ) → IsNodeOrder (length i.nodes) plan.order → k < length plan.order → IsRowOf i (row_of i plan node r k)
+row_names_parts : (i : Instance) (plan : Plan) (node r k : ℕ) → IsNodeOrder (length i.nodes) plan.order → k < length plan.order → IsRowOf i (row_of i plan node r k)
 row_names_parts i plan node r k o inside =
     let n = slice_index plan.order k in
     let there = λ (e : Entry). e.message < length i.messages in
@@ -25,13 +25,13 @@ row_names_parts i plan node r k o inside =
       messages = All-filter (λ e. is_entry i plan node n r e.message) there (map (entry_of i plan n r) (range_with_len 0 (length i.messages))) (All-map-range there (entry_of i plan n r) (length i.messages) (λ m h. h));
     }
 
-rows_name_parts : (i : Problem) (plan : Plan) (node : ℕ) → IsNodeOrder (length i.nodes) plan.order → All (IsRowOf i) (rows_of i plan node)
+rows_name_parts : (i : Instance) (plan : Plan) (node : ℕ) → IsNodeOrder (length i.nodes) plan.order → All (IsRowOf i) (rows_of i plan node)
 rows_name_parts i plan node o =
     All-flat_map (IsRowOf i) (round_rows i plan node) _ (λ r. All-map-range (IsRowOf i) (row_of i plan node r) (length plan.order) (λ k inside. row_names_parts i plan node r k o inside))
 
-pub tables-length : (i : Problem) (t : Tables) → AreTables i t → length t.rows ≡ length i.nodes
+pub tables-length : (i : Instance) (t : Medl) → AreTables i t → length t.rows ≡ length i.nodes
 tables-length i t w = rw w.of (length-map-range_with_len (rows_of i w.plan) 0 (length i.nodes))
 
-pub tables_name_parts : (i : Problem) (t : Tables) (node : ℕ) → AreTables i t → node < length i.nodes → All (IsRowOf i) (slice_index_or t.rows node [])
+pub tables_name_parts : (i : Instance) (t : Medl) (node : ℕ) → AreTables i t → node < length i.nodes → All (IsRowOf i) (slice_index_or t.rows node [])
 tables_name_parts i t node w inside =
     rw (w.of, get_or-map-range_with_len (rows_of i w.plan) 0 (length i.nodes) node node [] inside (omega arith)) (rows_name_parts i w.plan node w.valid.order)

@@ -1,41 +1,42 @@
 -- What a node's table says of each slot of a plan's cycle. Own profile: the tables are named after the message
 -- descriptor lists of TTP (SAE AS6003), and defined here alone.
-use Rattle.std.specs.Prelude.{ℕ, List, map, filter, length, slice_index, sum, Bool, ◌&&◌, ◌||◌, ◌==◌}
+use Rattle.std.specs.Prelude.{ℕ, List, map, filter, length, slice_index, Bool, ◌&&◌, ◌||◌, ◌==◌}
 use Rattle.std.specs.List.{flat_map, list_any, range_with_len}
 use Rattle.ttp_model.specs.declared.plan.Plan.{Plan}
-use Rattle.ttp_model.specs.Problem.{Problem, message_at, node_of, source_of}
+use Rattle.ttp_model.specs.Instance.{Instance, message_at, node_of, source_of}
 use Rattle.ttp_model.specs.Plans.{bytes_in, round_of}
+use Rattle.ttp_model.specs.Totals.{total}
 use Rattle.tt_layout.specs.Cycle.{cycle_rounds}
 use Rattle.medl_tables.specs.declared.row.Entry.{Entry}
 use Rattle.medl_tables.specs.declared.row.Row.{Row}
 
 -- whether a message is in the frame of node n in round r
-abbrev pub is_in_frame : Problem → Plan → ℕ → ℕ → ℕ → Bool
+abbrev pub is_in_frame : Instance → Plan → ℕ → ℕ → ℕ → Bool
 is_in_frame i plan n r m = source_of i m == n && round_of plan m == r
 
 -- whether it has a receiver on the node
-abbrev pub is_received_on : Problem → ℕ → ℕ → Bool
+abbrev pub is_received_on : Instance → ℕ → ℕ → Bool
 is_received_on i node m = list_any (λ q. node_of i q == node) (message_at i m).receivers
 
 -- whether the node's table shows it: its sender's does, and that of a node with a receiver
-abbrev pub is_shown_on : Problem → ℕ → ℕ → Bool
+abbrev pub is_shown_on : Instance → ℕ → ℕ → Bool
 is_shown_on i node m = source_of i m == node || is_received_on i node m
 
 -- a message of the frame, behind the bytes of all messages before it, also of those that aren't shown
-abbrev pub entry_of : Problem → Plan → ℕ → ℕ → ℕ → Entry
-entry_of i plan n r m = record { message = m; offset = sum (map (bytes_in i plan n r) (range_with_len 0 m)) }
+abbrev pub entry_of : Instance → Plan → ℕ → ℕ → ℕ → Entry
+entry_of i plan n r m = record { message = m; offset = total (bytes_in i plan n r) m }
 
 -- whether the node's table shows it as one of that frame
-abbrev pub is_entry : Problem → Plan → ℕ → ℕ → ℕ → ℕ → Bool
+abbrev pub is_entry : Instance → Plan → ℕ → ℕ → ℕ → ℕ → Bool
 is_entry i plan node n r m = is_in_frame i plan n r m && is_shown_on i node m
 
 -- what the node's table shows of the frame of node n in round r, in the instance's order
-abbrev pub entries_of : Problem → Plan → ℕ → ℕ → ℕ → List Entry
+abbrev pub entries_of : Instance → Plan → ℕ → ℕ → ℕ → List Entry
 entries_of i plan node n r =
     filter (λ e. is_entry i plan node n r e.message) (map (entry_of i plan n r) (range_with_len 0 (length i.messages)))
 
 -- the row of the node's table for the slot at position k of the order, in round r
-abbrev pub row_of : Problem → Plan → ℕ → ℕ → ℕ → Row
+abbrev pub row_of : Instance → Plan → ℕ → ℕ → ℕ → Row
 row_of i plan node r k = record {
   round = r;
   position = k;
@@ -45,9 +46,9 @@ row_of i plan node r k = record {
 }
 
 -- the rows of a round, one for each slot
-abbrev pub round_rows : Problem → Plan → ℕ → ℕ → List Row
+abbrev pub round_rows : Instance → Plan → ℕ → ℕ → List Row
 round_rows i plan node r = map (row_of i plan node r) (range_with_len 0 (length plan.order))
 
 -- the node's table: the rows of the cycle, in order of time
-abbrev pub rows_of : Problem → Plan → ℕ → List Row
+abbrev pub rows_of : Instance → Plan → ℕ → List Row
 rows_of i plan node = flat_map (round_rows i plan node) (range_with_len 0 (cycle_rounds i plan))

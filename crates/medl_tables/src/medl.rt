@@ -34,21 +34,21 @@ pub struct Medl {
 }
 
 impl Model for Medl {
-    ghost use Rattle.medl_tables.specs.Tables.{Tables};
+    ghost use Rattle.medl_tables.specs.Medl.{Medl};
 
-    ghost Value = { Tables };
+    ghost Value = { Medl };
 
     ghost view = { λ s. record { rounds = s.rounds; rows = s.tables.items } };
 }
 
 impl Medl {
-    ghost use Rattle.medl_tables.specs.Tables.{AreTables, tables_of};
+    ghost use Rattle.medl_tables.specs.Medl.{AreTables, medl_of};
 
     /// The tables of a valid plan. A step for each row, and in each node's table one for each round
     /// and message.
     pub fn of(alloc: Global, instance: &Instance, plan: &Plan) -> Result<Self, MemoryFault>
         requires { IsValid instance.now plan.now }
-        ensures tables { IfOk result (λ medl. medl ≡ tables_of instance.now plan.now) }
+        ensures tables { IfOk result (λ medl. medl ≡ medl_of instance.now plan.now) }
         ensures valid { IfOk result (AreTables instance.now) }
     {
         let rounds = cycle_rounds(instance, plan);

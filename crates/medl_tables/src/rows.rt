@@ -1,13 +1,13 @@
 //! Which rows does a node's table have?
 
 ghost use Rattle.std.specs.Prelude.{◌≡◌, ◌<◌, ◌≤◌, ◌++◌, ◌↔◌, Contains, IfOk, IsTrue, OnOk, length};
-ghost use Rattle.ttp_model.specs.Plans.{HasLengths, IsValid, bytes_in};
+ghost use Rattle.ttp_model.specs.Plans.{HasLengths, IsValid};
 ghost use Rattle.medl_tables.specs.Rows.{entries_of, is_entry, is_in_frame, is_received_on, is_shown_on, round_rows, row_of, rows_of};
 
 use crate::row::{Entries, Entry, Row};
 use std::alloc::Global;
 use tt_layout::cycle_rounds;
-use ttp_model::{Instance, MOST_BYTES, MOST_NODES, MemoryFault, Plan};
+use ttp_model::{Instance, MOST_NODES, MemoryFault, Plan, bytes_in};
 
 /// The table of a node.
 pub fn rows_of(
@@ -41,18 +41,11 @@ fn push_round(
         (rows.new.items ≡ rows.old.items ++ round_rows instance.now plan.now node round) }
 {
     let slots = instance.nodes().len();
-    let sends = has(plan.rounds.as_slice(), round);
+    let sends = plan.rounds.contains(round);
     for k in 0..slots {
         rows.push(row_of(alloc, instance, plan, node, round, k, sends)?)?;
     }
     Ok(())
-}
-
-/// Whether the number is among them.
-fn has(numbers: &[u32], number: u32) -> bool
-    ensures { IsTrue result ↔ Contains numbers.now number }
-{
-    numbers.contains(&number)
 }
 
 /// The row of the slot at position `k`. Whether any message is sent in the round is known.
@@ -112,20 +105,6 @@ fn entries_of(
         offset += bytes_in(instance, plan, n, r, m);
     }
     Ok(Entries::new(entries))
-}
-
-/// The bytes that a message puts into a frame: none where it isn't sent in it.
-fn bytes_in(instance: &Instance, plan: &Plan, n: u32, r: u32, m: usize) -> u32
-    requires lengths { HasLengths instance.now plan.now }
-    requires inside { m < length instance.now.messages }
-    ensures value { result ≡ bytes_in instance.now plan.now n r m }
-    ensures bound { result ≤ MOST_BYTES }
-{
-    if is_in_frame(instance, plan, n, r, m) {
-        instance.message_at(m).bytes
-    } else {
-        0
-    }
 }
 
 /// Whether the node's table shows a message as one of a frame.

@@ -2,13 +2,12 @@
 
 ghost use Rattle.std.specs.Prelude.{◌≡◌, ◌<◌, ◌++◌, All, IfOk, OnOk, length};
 ghost use Rattle.std.specs.List.{flat_map};
-ghost use Rattle.medl_tables.specs.Tables.{AreTables, IsRowOf};
+ghost use Rattle.medl_tables.specs.Medl.{AreTables, IsRowOf};
 ghost use Rattle.medl_tables.specs.Text.{entry_text, row_line, table_text, tables_text};
 
 use crate::medl::Medl;
 use crate::row::{Entry, Row};
-use line_text::push_number;
-use spaced_words::{push_number_word, push_word};
+use line_text::{push_number, push_number_word, push_word};
 use std::alloc::{AllocError, Global};
 use ttp_model::{Instance, MemoryFault};
 

@@ -10,7 +10,7 @@ use Rattle.std.proofs.lemmas.List.Folds.{list_any_at}
 use Rattle.std.proofs.lemmas.List.FromFn.{get_or-map-range_with_len, length-map-range_with_len}
 use Rattle.ttp_model.specs.declared.error.Place.TheVariants.{AtCluster, AtProcess}
 use Rattle.ttp_model.specs.declared.plan.Plan.{Plan}
-use Rattle.ttp_model.specs.Problem.{Problem, message_at, node_of, source_of}
+use Rattle.ttp_model.specs.Instance.{Instance, message_at, node_of, source_of}
 use Rattle.ttp_model.specs.Rules.{IsInstance}
 use Rattle.ttp_model.specs.Slots.{round_length}
 use Rattle.ttp_model.specs.Plans.{IsValid, end_of, round_of}
@@ -23,11 +23,11 @@ use Rattle.tt_layout.specs.Cycle.{cycle_rounds}
 use Rattle.medl_tables.specs.declared.row.Entry.{Entry}
 use Rattle.medl_tables.specs.declared.row.Row.{Row}
 use Rattle.medl_tables.specs.Rows.{entries_of, entry_of, is_entry, round_rows, row_of, rows_of}
-use Rattle.medl_tables.specs.Tables.{AreTables, Tables, tables_of}
+use Rattle.medl_tables.specs.Medl.{AreTables, Medl, medl_of}
 use Rattle.medl_tables.proofs.TableParts.{tables-length}
 use Rattle.membership_replay.specs.declared.loss.Loss.{Loss}
 use Rattle.membership_replay.specs.declared.trace.Event.TheVariants.{Deliver}
-use Rattle.membership_replay.specs.Replay.{Replay, no_row, replay_of, row_at, slot_count, slot_of}
+use Rattle.membership_replay.specs.Trace.{Trace, no_row, replay_of, row_at, slot_count, slot_of}
 use Rattle.membership_replay.specs.Undisturbed.{EachMessageArrives, IsDelivered, no_slot, slot_at}
 use Rattle.membership_replay.proofs.Delivered.{all_arrive}
 use Rattle.membership_replay.proofs.Senders.{length-rounds, rounds-at}
@@ -62,7 +62,7 @@ Contains-map-range : {X : Type 0} (f : ℕ → X) (n k : ℕ) → k < n → Cont
 Contains-map-range f n k inside =
     (k, omega (arith, inside, length-map-range_with_len f 0 n), get_or-map-range_with_len f 0 n k k (f k) inside (omega arith))
 
-module _ (i : Problem) (plan : Plan) (w : IsInstance i) (v : IsValid i plan) where
+module _ (i : Instance) (plan : Plan) (w : IsInstance i) (v : IsValid i plan) where
   -- a message's slot ends before some receiver does, so its round is one of the cycle
   round_inside : (m : ℕ) → m < length i.messages → round_of plan m < cycle_rounds i plan
   round_inside m h =
@@ -84,7 +84,7 @@ module _ (i : Problem) (plan : Plan) (w : IsInstance i) (v : IsValid i plan) whe
       or-true true = refl
       or-true false = refl
 
-  module _ (t : Tables) (is : t ≡ tables_of i plan) where
+  module _ (t : Medl) (is : t ≡ medl_of i plan) where
     are_tables : AreTables i t
     are_tables = record { plan = plan; valid = v; of = is }
 
@@ -109,7 +109,7 @@ module _ (i : Problem) (plan : Plan) (w : IsInstance i) (v : IsValid i plan) whe
         let rows : length plan.order * suc r ≤ length plan.order * cycle_rounds i plan = mul-le-mul_left (length plan.order) round in
         omega (arith, slots-are, rows, inside)
 
-    module _ (replay : Replay) (of : replay ≡ replay_of t []) (m : ℕ) (h : m < length i.messages) (k : ℕ) (inside : k < length plan.order) (sender : slice_index plan.order k ≡ source_of i m) where
+    module _ (replay : Trace) (of : replay ≡ replay_of t []) (m : ℕ) (h : m < length i.messages) (k : ℕ) (inside : k < length plan.order) (sender : slice_index plan.order k ≡ source_of i m) where
       slot-is : slot_at replay (round_of plan m * length plan.order + k) ≡ slot_of t [] (round_of plan m * length plan.order + k)
       slot-is =
           let s = round_of plan m * length plan.order + k in
@@ -134,14 +134,14 @@ module _ (i : Problem) (plan : Plan) (w : IsInstance i) (v : IsValid i plan) whe
           let told = all_arrive i t [] replay w are_tables of refl s (node_of i q) inside_cycle (omega (arith, there, rows)) other in
           record {
             slot = s;
-            within = omega (arith, inside_cycle, ap (λ (r : Replay). length r.slots) of, length-map-range_with_len (slot_of t []) 0 (slot_count t));
+            within = omega (arith, inside_cycle, ap (λ (r : Trace). length r.slots) of, length-map-range_with_len (slot_of t []) 0 (slot_count t));
             round = rw (slot-is, first-row) refl;
             sender = rw slot-is sends;
             told = All-contains (λ (e : Entry). Contains (slot_at replay s).events (Deliver e.message (node_of i q))) (row_at t (node_of i q) s).messages entry told has;
           }
 
 -- so it is of the tables of each valid plan
-pub each_message_arrives : (i : Problem) (plan : Plan) (t : Tables) (losses : List Loss) (replay : Replay) → IsInstance i → IsValid i plan → t ≡ tables_of i plan → replay ≡ replay_of t losses → losses ≡ [] → EachMessageArrives i plan replay
+pub each_message_arrives : (i : Instance) (plan : Plan) (t : Medl) (losses : List Loss) (replay : Trace) → IsInstance i → IsValid i plan → t ≡ medl_of i plan → replay ≡ replay_of t losses → losses ≡ [] → EachMessageArrives i plan replay
 each_message_arrives i plan t losses replay w v is of none = λ m h j d at.
     let source = w.indices (AtProcess (message_at i m).sender) (sender_inside i plan w v m h) in
     let place = every_node (length i.nodes) plan.order (source_of i m) v.order source in

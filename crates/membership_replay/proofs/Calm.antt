@@ -5,12 +5,12 @@ use Rattle.std.proofs.lemmas.List.FromFn.{get_or-map-range_with_len, length-map-
 use Rattle.ttp_model.specs.declared.limits.TheConstants.{MOST_NODES}
 use Rattle.ttp_model.specs.Lists.{EachBelow}
 use Rattle.medl_tables.specs.declared.row.Row.{Row}
-use Rattle.medl_tables.specs.Tables.{Tables}
+use Rattle.medl_tables.specs.Medl.{Medl}
 use Rattle.membership_replay.specs.declared.loss.Loss.{Loss}
 use Rattle.membership_replay.specs.declared.state.NodeState.{NodeState}
 use Rattle.membership_replay.specs.declared.state.Phase.TheVariants.{Idle, First}
 use Rattle.membership_replay.specs.Machine.{has_member, is_same, state_after, step_of}
-use Rattle.membership_replay.specs.Replay.{first_state, is_active, is_lost, is_received, next_state, next_states, no_state, row_at, state_at, states_before, takes_messages}
+use Rattle.membership_replay.specs.Trace.{first_state, is_active, is_lost, is_received, next_state, next_states, no_state, row_at, state_at, states_before, takes_messages}
 
 -- a node that has this vector, and isn't in doubt
 pub record IsCalm (full : List Bool) (state : NodeState) : Type 0 where
@@ -63,7 +63,7 @@ module _ (count : ℕ) (full : List Bool) (members : EachBelow count (λ i. has_
       rw (is_received-calm i inside, (next_state-calm i inside).vector, members i inside, (calm.each row.sender sender).vector, is_same-refl full) refl
 
 -- the states before every slot are calm, where each slot has a sender and no frame before it is lost
-pub states_before-calm : (t : Tables) (losses : List Loss) (full : List Bool) → EachBelow (length t.rows) (λ i. has_member full i ≡ true) → full ≡ (first_state (length t.rows)).vector → (slot : ℕ) → EachBelow slot (λ k. (row_at t 0 k).sender < length t.rows) → EachBelow slot (λ k. EachBelow (length t.rows) (λ i. is_lost losses (row_at t 0 k) i ≡ false)) → AreCalm (length t.rows) full (states_before t losses slot)
+pub states_before-calm : (t : Medl) (losses : List Loss) (full : List Bool) → EachBelow (length t.rows) (λ i. has_member full i ≡ true) → full ≡ (first_state (length t.rows)).vector → (slot : ℕ) → EachBelow slot (λ k. (row_at t 0 k).sender < length t.rows) → EachBelow slot (λ k. EachBelow (length t.rows) (λ i. is_lost losses (row_at t 0 k) i ≡ false)) → AreCalm (length t.rows) full (states_before t losses slot)
 unfolding states_before
 states_before-calm t losses full members is zero senders heard =
     let count = length t.rows in

@@ -9,15 +9,15 @@ use Rattle.ttp_model.specs.Lists.{EachBelow}
 use Rattle.ttp_model.specs.declared.limits.TheConstants.{MOST_NODES}
 use Rattle.medl_tables.specs.declared.row.Entry.{Entry}
 use Rattle.medl_tables.specs.declared.row.Row.{Row}
-use Rattle.ttp_model.specs.Problem.{Problem}
+use Rattle.ttp_model.specs.Instance.{Instance}
 use Rattle.ttp_model.specs.Rules.{IsInstance}
-use Rattle.medl_tables.specs.Tables.{AreTables, Tables}
+use Rattle.medl_tables.specs.Medl.{AreTables, Medl}
 use Rattle.medl_tables.proofs.TableParts.{tables-length}
 use Rattle.membership_replay.specs.declared.loss.Loss.{Loss}
 use Rattle.membership_replay.specs.declared.state.NodeState.{NodeState}
 use Rattle.membership_replay.specs.declared.trace.Event.TheVariants.{Deliver}
 use Rattle.membership_replay.specs.Machine.{has_member}
-use Rattle.membership_replay.specs.Replay.{Replay, deliveries, first_state, node_events, replay_of, row_at, slot_count, slot_of, state_at, states_before, step_at, step_events}
+use Rattle.membership_replay.specs.Trace.{Trace, deliveries, first_state, node_events, replay_of, row_at, slot_count, slot_of, state_at, states_before, step_at, step_events}
 use Rattle.membership_replay.specs.Undisturbed.{AllEntriesArrive, AllStayMembers, no_slot}
 use Rattle.membership_replay.proofs.Calm.{AreCalm, first_state-members, is_active-calm, states_before-calm, takes_messages-calm}
 use Rattle.membership_replay.proofs.TableSlots.{senders_inside}
@@ -46,7 +46,7 @@ node_delivers count full members row states calm sender messages i inside other 
   | inr differ ↦ rw (is_active-calm count full members [] row (λ j _. refl) states calm sender i inside, differ.0, takes_messages-calm count full members [] row (λ j _. refl) states calm sender i inside) (Contains-append_right (step_events (step_at row [] states i) i row.sender (state_at states i).vector) (deliveries i messages) (Deliver (get_or messages k d).message i) (Contains-deliveries i messages k d there))
 ]
 
-module _ (t : Tables) (few : length t.rows ≤ MOST_NODES) (senders : EachBelow (slot_count t) (λ k. (row_at t 0 k).sender < length t.rows)) where
+module _ (t : Medl) (few : length t.rows ≤ MOST_NODES) (senders : EachBelow (slot_count t) (λ k. (row_at t 0 k).sender < length t.rows)) where
   calm_before : (slot : ℕ) → slot ≤ slot_count t → AreCalm (length t.rows) (first_state (length t.rows)).vector (states_before t [] slot)
   calm_before slot inside = states_before-calm t [] (first_state (length t.rows)).vector (first_state-members (length t.rows) few) refl slot (λ k h. senders k (omega (arith, h, inside))) (λ k h i _. refl)
 
@@ -66,7 +66,7 @@ module _ (t : Tables) (few : length t.rows ≤ MOST_NODES) (senders : EachBelow 
       let here = node_delivers (length t.rows) full (first_state-members (length t.rows) few) row states calm (senders slot inside) (row_at t i slot).messages i node other k d there in
       rw (get_or-map-range_with_len (slot_of t []) 0 (slot_count t) slot slot no_slot inside (omega arith)) (Contains-flat_map-range told (length states) i (Deliver (get_or (row_at t i slot).messages k d).message i) (omega (arith, node, calm.all)) here)
 
-module _ (i : Problem) (t : Tables) (losses : List Loss) (replay : Replay) (w : IsInstance i) (tables : AreTables i t) (is : replay ≡ replay_of t losses) (none : losses ≡ []) where
+module _ (i : Instance) (t : Medl) (losses : List Loss) (replay : Trace) (w : IsInstance i) (tables : AreTables i t) (is : replay ≡ replay_of t losses) (none : losses ≡ []) where
   few_nodes : length t.rows ≤ MOST_NODES
   few_nodes = omega (arith, tables-length i t tables, w.limits.nodes)
 

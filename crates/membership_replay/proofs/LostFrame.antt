@@ -12,7 +12,7 @@ use Rattle.membership_replay.specs.declared.state.NodeState.{NodeState}
 use Rattle.membership_replay.specs.declared.state.Phase.{Phase}
 use Rattle.membership_replay.specs.declared.state.Phase.TheVariants.{First, Second}
 use Rattle.membership_replay.specs.Machine.{has_member, is_same, state_after, step_of, without}
-use Rattle.membership_replay.specs.Replay.{is_active, is_lost, next_state, next_states, no_state, state_at}
+use Rattle.membership_replay.specs.Trace.{is_active, is_lost, next_state, next_states, no_state, state_at}
 use Rattle.membership_replay.proofs.Calm.{AreCalm, IsCalm, is_same-refl, state_after-calm}
 
 next_states-read : (row : Row) (losses : List Loss) (states : List NodeState) (i : ℕ) → i < length states → state_at (next_states row losses states) i ≡ next_state row losses states i

@@ -2,20 +2,20 @@
 use Rattle.std.proofs.Common.{◌≡◌, ◌≢◌, ℕ, suc, ◌+◌, ◌<◌, ◌≤◌, List, length, arith, refl, sym, add-one}
 use Rattle.ttp_model.specs.Lists.{EachBelow}
 use Rattle.ttp_model.specs.declared.limits.TheConstants.{MOST_NODES}
-use Rattle.ttp_model.specs.Problem.{Problem}
+use Rattle.ttp_model.specs.Instance.{Instance}
 use Rattle.ttp_model.specs.Rules.{IsInstance}
-use Rattle.medl_tables.specs.Tables.{AreTables, Tables}
+use Rattle.medl_tables.specs.Medl.{AreTables, Medl}
 use Rattle.medl_tables.proofs.TableParts.{tables-length}
 use Rattle.membership_replay.specs.declared.loss.Loss.{Loss}
 use Rattle.membership_replay.specs.declared.state.Phase.TheVariants.{First, Second}
-use Rattle.membership_replay.specs.Replay.{first_state, row_at, slot_count, states_before}
+use Rattle.membership_replay.specs.Trace.{first_state, row_at, slot_count, states_before}
 use Rattle.membership_replay.specs.LostFrames.{LosesOneFrame, SenderLeaves}
 use Rattle.membership_replay.proofs.Calm.{AreCalm, first_state-members, states_before-calm}
 use Rattle.membership_replay.proofs.Senders.{HasThreeSenders, three_senders}
 use Rattle.membership_replay.proofs.TableSlots.{senders_inside}
 use Rattle.membership_replay.proofs.LostFrame.{AreWithout, after-doubt, after-leave, after-lost, without-itself}
 
-module _ (t : Tables) (losses : List Loss) (slot : ℕ) (few : length t.rows ≤ MOST_NODES) (senders : EachBelow (slot_count t) (λ k. (row_at t 0 k).sender < length t.rows)) (lost : LosesOneFrame t losses slot) (three : HasThreeSenders t slot) (room : slot + 2 < slot_count t) where
+module _ (t : Medl) (losses : List Loss) (slot : ℕ) (few : length t.rows ≤ MOST_NODES) (senders : EachBelow (slot_count t) (λ k. (row_at t 0 k).sender < length t.rows)) (lost : LosesOneFrame t losses slot) (three : HasThreeSenders t slot) (room : slot + 2 < slot_count t) where
   calm : AreCalm (length t.rows) (first_state (length t.rows)).vector (states_before t losses slot)
   calm = states_before-calm t losses (first_state (length t.rows)).vector (first_state-members (length t.rows) few) refl slot (λ k h. senders k (omega (arith, h, room))) (λ k h. lost.alone k (omega (arith, h, room)) (omega (arith, h)))
 
@@ -46,7 +46,7 @@ module _ (t : Tables) (losses : List Loss) (slot : ℕ) (few : length t.rows ≤
       }
 
 -- so it is in the tables of every plan of an instance of three nodes or more
-pub lost_sender_leaves : (i : Problem) (t : Tables) (losses : List Loss) (slot : ℕ) → IsInstance i → AreTables i t → 3 ≤ length i.nodes → LosesOneFrame t losses slot → slot + 2 < slot_count t → SenderLeaves t losses slot
+pub lost_sender_leaves : (i : Instance) (t : Medl) (losses : List Loss) (slot : ℕ) → IsInstance i → AreTables i t → 3 ≤ length i.nodes → LosesOneFrame t losses slot → slot + 2 < slot_count t → SenderLeaves t losses slot
 lost_sender_leaves i t losses slot w tables enough lost room =
     let few : length t.rows ≤ MOST_NODES = omega (arith, tables-length i t tables, w.limits.nodes) in
     let some = w.limits.nodes_least in

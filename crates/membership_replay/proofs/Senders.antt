@@ -5,13 +5,13 @@ use Rattle.std.proofs.Math.Nat.{div-lt_iff_lt-mul, mul-le-mul_left}
 use Rattle.std.proofs.lemmas.Bool.{cases_order}
 use Rattle.std.proofs.lemmas.List.{get_or-append-add, get_or_append_left}
 use Rattle.std.proofs.lemmas.List.FromFn.{get_or-map-range_with_len, length-map-range_with_len}
-use Rattle.ttp_model.specs.Problem.{Problem}
+use Rattle.ttp_model.specs.Instance.{Instance}
 use Rattle.ttp_model.specs.Plans.{IsNodeOrder}
 use Rattle.tt_layout.specs.Cycle.{cycle_rounds}
 use Rattle.medl_tables.specs.declared.row.Row.{Row}
 use Rattle.medl_tables.specs.Rows.{round_rows, row_of, rows_of}
-use Rattle.medl_tables.specs.Tables.{AreTables, Tables}
-use Rattle.membership_replay.specs.Replay.{no_row, row_at, slot_count}
+use Rattle.medl_tables.specs.Medl.{AreTables, Medl}
+use Rattle.membership_replay.specs.Trace.{no_row, row_at, slot_count}
 use Rattle.tt_layout.proofs.Ranges.{flat_map-range_with_len_more}
 
 module _ {X : Type 0} (f : ℕ → List X) (n : ℕ) (each : (r : ℕ) → length (f r) ≡ n) where
@@ -54,11 +54,11 @@ order-differs count order j k o first second other = elim (cases_order j k) [
 ]
 
 -- the sender of a slot is another than those of the two slots after it
-pub record HasThreeSenders (t : Tables) (slot : ℕ) : Type 0 where
+pub record HasThreeSenders (t : Medl) (slot : ℕ) : Type 0 where
   pub first : (row_at t 0 (slot + 1)).sender ≢ (row_at t 0 slot).sender
   pub second : (row_at t 0 (slot + 2)).sender ≢ (row_at t 0 slot).sender
 
-module _ (i : Problem) (t : Tables) (w : AreTables i t) (some : 0 < length i.nodes) where
+module _ (i : Instance) (t : Medl) (w : AreTables i t) (some : 0 < length i.nodes) where
   pub rows-first : slice_index_or t.rows 0 [] ≡ rows_of i w.plan 0
   rows-first = rw w.of (get_or-map-range_with_len (rows_of i w.plan) 0 (length i.nodes) 0 0 [] some (omega arith))
 

@@ -1,9 +1,9 @@
 pub mod Machine
-pub mod Replay
+pub mod Trace
 pub mod Losses
 pub mod Text
 pub mod Undisturbed
 pub mod LostFrames
-pub use Rattle.medl_tables.specs.Tables
+pub use Rattle.medl_tables.specs.Medl
 pub use Rattle.medl_tables.specs.Rows
 pub mod Worked

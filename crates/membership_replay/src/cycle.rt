@@ -3,9 +3,9 @@
 ghost use Rattle.std.specs.Prelude.{◌≡◌, ◌+◌, ◌<◌, ◌≤◌, ℕ, [], IfErr, IfOk, IsOkUnless, OnOk, length};
 ghost use Rattle.ttp_model.specs.declared.plan.Plan.{Plan};
 ghost use Rattle.ttp_model.specs.Plans.{IsValid};
-ghost use Rattle.medl_tables.specs.Tables.{AreTables, tables_of};
+ghost use Rattle.medl_tables.specs.Medl.{AreTables, medl_of};
 ghost use Rattle.membership_replay.specs.Losses.{CanBeReplayed, IsFault};
-ghost use Rattle.membership_replay.specs.Replay.{replay_of, row_at, slot_count, slot_with};
+ghost use Rattle.membership_replay.specs.Trace.{replay_of, row_at, slot_count, slot_with};
 ghost use Rattle.membership_replay.specs.LostFrames.{LosesOneFrame, SenderLeaves};
 ghost use Rattle.membership_replay.specs.Undisturbed.{AllEntriesArrive, AllStayMembers, EachMessageArrives};
 
@@ -36,7 +36,7 @@ pub fn replay(
 
     // Where no frame is lost nobody is dropped, and everything arrives: each message of the plan in its round.
     ensures stay { losses.now ≡ [] → IfOk result (AllStayMembers (length instance.now.nodes)) }
-    ensures arrive { (plan : Plan) → IsValid instance.now plan → medl.now ≡ tables_of instance.now plan
+    ensures arrive { (plan : Plan) → IsValid instance.now plan → medl.now ≡ medl_of instance.now plan
         → losses.now ≡ [] → IfOk result (EachMessageArrives instance.now plan) }
     ensures entries { losses.now ≡ [] → IfOk result (AllEntriesArrive medl.now) }
 

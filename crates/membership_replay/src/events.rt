@@ -1,9 +1,9 @@
 //! What is told of each node in a slot?
 
 ghost use Rattle.std.specs.Prelude.{◌≡◌, ◌<◌, ◌≤◌, ◌++◌, [], Bool, IfOk, OnOk, if◌then◌else◌, length};
-ghost use Rattle.medl_tables.specs.Tables.{Tables};
+ghost use Rattle.medl_tables.specs.Medl.{Medl};
 ghost use Rattle.membership_replay.specs.Machine.{has_member};
-ghost use Rattle.membership_replay.specs.Replay.{deliveries, drop_events, is_told, node_events, row_at, slot_events, step_events, takes_messages};
+ghost use Rattle.membership_replay.specs.Trace.{deliveries, drop_events, is_told, node_events, row_at, slot_events, step_events, takes_messages};
 
 use crate::loss::Loss;
 use crate::node::{is_active, is_received, next_state, step_at};
@@ -83,7 +83,7 @@ fn is_told(row: &Row, states: &[NodeState], i: u32) -> bool
 }
 
 /// Adds what is told of a node in a row's slot, where these messages have a receiver on it.
-#[tactic(auto, unfolding(crate::specs::Replay::node_events))]
+#[tactic(auto, unfolding(crate::specs::Trace::node_events))]
 fn push_node(
     events: &mut Vec<Event>,
     row: &Row,

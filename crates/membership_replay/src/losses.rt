@@ -3,7 +3,7 @@
 ghost use Rattle.std.specs.Prelude.{◌≡◌, ◌<◌, ◌↔◌, IsTrue, length};
 ghost use Rattle.ttp_model.specs.Lists.{FindsFailure};
 ghost use Rattle.membership_replay.specs.Losses.{IsLossAt, IsLossOf};
-ghost use Rattle.membership_replay.specs.Replay.{row_at};
+ghost use Rattle.membership_replay.specs.Trace.{row_at};
 
 use crate::loss::Loss;
 use medl_tables::Medl;

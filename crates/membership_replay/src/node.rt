@@ -1,7 +1,7 @@
 //! What does each node know after a slot?
 
 ghost use Rattle.std.specs.Prelude.{◌≡◌, ◌<◌, ◌≤◌, IfOk, length};
-ghost use Rattle.membership_replay.specs.Replay.{first_state, first_states, is_active, is_lost, is_received, next_state, next_states, state_at, step_at};
+ghost use Rattle.membership_replay.specs.Trace.{first_state, first_states, is_active, is_lost, is_received, next_state, next_states, state_at, step_at};
 
 use crate::loss::Loss;
 use crate::state::{NodeState, Phase, Step, state_after, step_of};
@@ -77,7 +77,7 @@ pub fn step_at(row: &Row, losses: &[Loss], states: &[NodeState], i: u32) -> Step
 }
 
 /// What a node knows after a row's slot.
-#[tactic(auto, unfolding(crate::specs::Replay::next_state))]
+#[tactic(auto, unfolding(crate::specs::Trace::next_state))]
 pub fn next_state(row: &Row, losses: &[Loss], states: &[NodeState], i: u32) -> NodeState
     requires inside { i < length states.now }
     requires sender { row.now.sender < length states.now }

@@ -2,12 +2,12 @@
 
 ghost use Rattle.std.specs.Prelude.{◌≡◌, ◌<◌, ◌≤◌, ◌∷◌, ◌++◌, [], IfOk, OnOk, length};
 ghost use Rattle.std.specs.List.{flat_map, range_with_len};
-ghost use Rattle.ttp_model.specs.Problem.{message_at};
+ghost use Rattle.ttp_model.specs.Instance.{message_at};
 ghost use Rattle.membership_replay.specs.Text.{event_line, line, member_line, member_word, node_name, replay_text, sent_word, slot_text};
 
 use crate::state::NodeState;
 use crate::trace::{Event, Slot, Trace};
-use spaced_words::{push_number_word, push_word};
+use line_text::{push_number_word, push_word};
 use std::alloc::{AllocError, Global};
 use ttp_model::{Instance, MOST_NODES, MemoryFault};
 

@@ -74,16 +74,16 @@ pub struct Trace {
 }
 
 impl Model for Trace {
-    ghost use Rattle.membership_replay.specs.Replay.{Replay};
+    ghost use Rattle.membership_replay.specs.Trace.{Trace};
 
-    ghost Value = { Replay };
+    ghost Value = { Trace };
 
     ghost view = { λ s. record { slots = s.slots.items; states = s.states.items } };
 }
 
 impl Trace {
     ghost use Rattle.std.specs.Prelude.{◌≡◌};
-    ghost use Rattle.membership_replay.specs.Replay.{Replay};
+    ghost use Rattle.membership_replay.specs.Trace.{Trace};
 
     /// A trace of slots, and of what all know at the end. Takes no memory.
     pub(crate) fn new(slots: Vec<Slot>, states: Vec<NodeState>) -> Self

@@ -4,7 +4,7 @@ ghost use Rattle.std.specs.Prelude.{◌≡◌, ◌+◌, ◌<◌};
 ghost use Rattle.ttp_model.specs.Plans.{IsValid};
 ghost use Rattle.membership_replay.specs.Losses.{CanBeReplayed};
 ghost use Rattle.membership_replay.specs.LostFrames.{LosesOneFrame};
-ghost use Rattle.membership_replay.specs.Replay.{slot_count};
+ghost use Rattle.membership_replay.specs.Trace.{slot_count};
 ghost use Rattle.membership_replay.specs.Worked.{first_frame_lost, three_nodes, three_nodes_plan, three_nodes_tables};
 
 /// Of three nodes the first one's frame is lost at the other two, and two slots follow it in the cycle.

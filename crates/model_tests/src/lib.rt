@@ -6,6 +6,8 @@ mod building;
 #[cfg(test)]
 mod instance_texts;
 #[cfg(test)]
+mod limits;
+#[cfg(test)]
 mod lines;
 #[cfg(test)]
 mod node_tables;

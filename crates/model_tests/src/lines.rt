@@ -1,8 +1,9 @@
 //! How are lines, words and numbers cut, read and written?
 
 use crate::outcomes::same;
-use line_text::{NumberWord, after_keyword, cut, number_word, push_number};
-use spaced_words::{push_number_word, push_word};
+use line_text::{
+    NumberWord, after_keyword, cut, number_word, push_number, push_number_word, push_word,
+};
 use std::test::Fail;
 
 #[test]

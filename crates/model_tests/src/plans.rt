@@ -2,7 +2,7 @@
 
 ghost use Rattle.std.specs.Prelude.{IfOk};
 ghost use Rattle.ttp_model.specs.Plans.{IsValid};
-ghost use Rattle.medl_tables.specs.Tables.{AreTables};
+ghost use Rattle.medl_tables.specs.Medl.{AreTables};
 
 use crate::outcomes::same;
 use medl_tables::{Medl, MemoryFault};

@@ -1,6 +1,6 @@
 //! What happens in worked cycles where frames are lost, and how is it written?
 
-ghost use Rattle.medl_tables.specs.Tables.{AreTables};
+ghost use Rattle.medl_tables.specs.Medl.{AreTables};
 
 use crate::outcomes::same;
 use crate::plans::{Lists, tables};

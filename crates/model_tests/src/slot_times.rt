@@ -2,7 +2,7 @@
 
 ghost use Rattle.std.specs.Prelude.{◌≡◌, ◌<◌, length};
 ghost use Rattle.ttp_model.specs.Plans.{IsValid};
-ghost use Rattle.tt_layout.specs.Timing.{timing};
+ghost use Rattle.tt_layout.specs.Layout.{timing};
 
 use crate::outcomes::same;
 use crate::plans::{Lists, valid_plan};

@@ -8,50 +8,50 @@ use Rattle.ttp_model.specs.declared.error.Place.TheVariants.{AtProcess, AtMessag
 use Rattle.ttp_model.specs.declared.plan.Plan.{Plan}
 use Rattle.ttp_model.specs.declared.step.Step.{Step}
 use Rattle.ttp_model.specs.declared.step.Step.TheVariants.{EsBefore, EsArrive, LeSend, XRound, XFrames}
-use Rattle.ttp_model.specs.Problem.{Problem, node_at, message_at, source_of}
+use Rattle.ttp_model.specs.Instance.{Instance, node_at, message_at, source_of}
 use Rattle.ttp_model.specs.Rules.{IsInstance}
 use Rattle.ttp_model.specs.Slots.{slot_start, slot_end}
 use Rattle.ttp_model.specs.Plans.{IsValid, IsNodeOrder, HasOwnCapacity, AreApart, end_of, bytes_in, load_of}
 use Rattle.ttp_model.specs.Lists.{EachBelow}
 use Rattle.ttp_model.proofs.ValidPlans.{greatest_reached}
-use Rattle.tt_choice.specs.Totals.{total}
-use Rattle.tt_choice.specs.Choices.{Chosen, IsChoice, IsComplete, IsIn, IsOption, IsFixedTo, ArePair, Agrees, fixed_cap, is_before, lo_of, hi_of}
+use Rattle.ttp_model.specs.Totals.{total}
+use Rattle.tt_choice.specs.Choice.{Choice, IsChoice, IsComplete, IsIn, IsOption, IsFixedTo, ArePair, Agrees, fixed_cap, is_before, least_round, greatest_round}
 use Rattle.tt_choice.specs.Extremes.{start_most, end_least, cap_most}
 use Rattle.tt_choice.proofs.Exact.{start_most_is_most, end_least_is_least, cap_most_is_most}
 use Rattle.tt_choice.proofs.Extend.{from_parts, order_of}
-use Rattle.tt_choice.proofs.Totals.{total_same}
-use Rattle.tt_infer.specs.Facts.{Known, first_facts, es_of, lo_of as known_lo, top_of}
-use Rattle.tt_infer.specs.Inference.{Inference, IsInference}
+use Rattle.ttp_model.proofs.Totals.{total_same}
+use Rattle.tt_infer.specs.Known.{Known, first_facts, es_of, lo_of as known_lo, top_of}
+use Rattle.tt_infer.specs.Facts.{Facts, AreFacts}
 use Rattle.tt_infer.specs.Conclusions.{NothingLeft}
 use Rattle.tt_infer.specs.Premises.{Receives, least_end, bytes_within}
-use Rattle.tt_infer.specs.Facts.{Fits}
+use Rattle.tt_infer.specs.Known.{Fits}
 use Rattle.tt_infer.proofs.FirstFacts.{first_facts_fit}
 use Rattle.tt_infer.proofs.Sharper.{IsSharper, IsSharper-step}
 use Rattle.tt_infer.proofs.Sound.{Fits-step}
-use Rattle.path_bounds.specs.Logs.{Log, Advances, IsIdle}
+use Rattle.path_bounds.specs.Journal.{Journal, Advances, SharpensNothing}
 use Rattle.path_bounds.specs.Required.{HasCompleteSteps}
-use Rattle.path_bounds.specs.Propagation.{LeadSharply, IsBetter}
+use Rattle.path_bounds.specs.Propagation.{LeadSharply, IsPlanBelow}
 use Rattle.path_bounds.proofs.Idle.{same_after, ended, not_closed, window, own, from, released, linked, receiver_inside}
 
 -- the capacity of each node
-abbrev fixed_caps : Chosen → List ℕ
+abbrev fixed_caps : Choice → List ℕ
 fixed_caps c = map (λ (fixed : Option ℕ). unwrap_or fixed 0) c.fixed
 
 -- the plan of the choice with these starts
-abbrev plan_of : Chosen → List ℕ → Plan
+abbrev plan_of : Choice → List ℕ → Plan
 plan_of c starts = record { order = c.prefix; caps = fixed_caps c; starts = starts; rounds = c.lo }
 
-fixed_at : (c : Chosen) (n : ℕ) → n < length c.fixed → slice_index (fixed_caps c) n ≡ unwrap_or (fixed_cap c n) 0
+fixed_at : (c : Choice) (n : ℕ) → n < length c.fixed → slice_index (fixed_caps c) n ≡ unwrap_or (fixed_cap c n) 0
 fixed_at c n h = get_or-map (λ (fixed : Option ℕ). unwrap_or fixed 0) c.fixed n None 0 h
 
-length-fixed_caps : (c : Chosen) → length (fixed_caps c) ≡ length c.fixed
+length-fixed_caps : (c : Choice) → length (fixed_caps c) ≡ length c.fixed
 length-fixed_caps c = length-map c.fixed (λ (fixed : Option ℕ). unwrap_or fixed 0)
 
 is_fixed : (o : Option ℕ) (capacity : ℕ) → IsSome o → IsFixedTo o capacity → capacity ≡ unwrap_or o 0
 is_fixed None capacity some is = absurd (false≢true some)
 is_fixed (Some fixed) capacity some is = is
 
-own_option : (i : Problem) (n : ℕ) (o : Option ℕ) → IsSome o → IsOption i n o → Contains (node_at i n).capacities (unwrap_or o 0)
+own_option : (i : Instance) (n : ℕ) (o : Option ℕ) → IsSome o → IsOption i n o → Contains (node_at i n).capacities (unwrap_or o 0)
 own_option i n None some is = absurd (false≢true some)
 own_option i n (Some fixed) some is = is
 
@@ -59,7 +59,7 @@ fixed_to : (o : Option ℕ) → IsFixedTo o (unwrap_or o 0)
 fixed_to None = tt
 fixed_to (Some fixed) = refl
 
-module _ (i : Problem) (c : Chosen) (w : IsInstance i) (ok : IsChoice i c) (done : IsComplete i c) where
+module _ (i : Instance) (c : Choice) (w : IsInstance i) (ok : IsChoice i c) (done : IsComplete i c) where
   order_agreed : (order caps : List ℕ) → Agrees i c order caps → order ≡ c.prefix
   order_agreed order caps a = same_number_lists order c.prefix (a.nodes.all ∙ sym done.placed) (λ k h. a.prefix k (omega (arith, h, a.nodes.all, done.placed)))
 
@@ -122,9 +122,9 @@ one_round lo top r is = elim (cases_order lo r) [
     and_no : (b : Bool) → (b && Bool.false) ≡ Bool.false
     and_no b = elim b as (λ (b : Bool). (b && Bool.false) ≡ Bool.false) [ Bool.true ↦ refl | Bool.false ↦ refl ]
 
-module _ (s : Inference) (ok : IsInference s) (left : IsFalse s.known.closed) (steps : List Step) (more : HasCompleteSteps s.instance s.choice steps) (idle : All (IsIdle s) steps) (sharper : IsSharper (first_facts s.instance s.choice) s.known) (done : IsComplete s.instance s.choice) where
-  idle_of : (step : Step) → Contains steps step → IsIdle s step
-  idle_of step there = All-contains (IsIdle s) steps step idle there
+module _ (s : Facts) (ok : AreFacts s) (left : IsFalse s.known.closed) (steps : List Step) (more : HasCompleteSteps s.instance s.choice steps) (idle : All (SharpensNothing s) steps) (sharper : IsSharper (first_facts s.instance s.choice) s.known) (done : IsComplete s.instance s.choice) where
+  idle_of : (step : Step) → Contains steps step → SharpensNothing s step
+  idle_of step there = All-contains (SharpensNothing s) steps step idle there
 
   source_inside : (m : ℕ) → m < length s.instance.messages → source_of s.instance m < length s.instance.nodes
   source_inside m h = ok.instance.indices (AtProcess (message_at s.instance m).sender) (ok.instance.indices (AtMessage m) h).0
@@ -138,14 +138,14 @@ module _ (s : Inference) (ok : IsInference s) (left : IsFalse s.known.closed) (s
     | inr over ↦ absurd (not_closed s ok left (same_after s ok left (XRound m) NothingLeft (idle_of _ (more.rounds m h).round) h over refl))
   ]
 
-  first_top : (m : ℕ) → m < length s.instance.messages → top_of (first_facts s.instance s.choice) m ≡ hi_of s.choice m + 1
+  first_top : (m : ℕ) → m < length s.instance.messages → top_of (first_facts s.instance s.choice) m ≡ greatest_round s.choice m + 1
   first_top m h = get_or-map (λ (r : ℕ). r + 1) s.choice.hi m 0 0 (omega (arith, h, ok.choice.hi_length))
 
   -- each message has one round left
-  round_is : (m : ℕ) → m < length s.instance.messages → known_lo s.known m ≡ lo_of s.choice m
+  round_is : (m : ℕ) → m < length s.instance.messages → known_lo s.known m ≡ least_round s.choice m
   round_is m h = omega (arith, open_round m h, sharper.lo m, sharper.top m, first_top m h, done.rounds m h)
 
-  top_is : (m : ℕ) → m < length s.instance.messages → top_of s.known m ≡ lo_of s.choice m + 1
+  top_is : (m : ℕ) → m < length s.instance.messages → top_of s.known m ≡ least_round s.choice m + 1
   top_is m h = omega (arith, open_round m h, sharper.lo m, sharper.top m, first_top m h, done.rounds m h)
 
   after : (p q : ℕ) → IsTrue (is_before s.choice p q) → least_end s.instance s.known p ≤ es_of s.known q
@@ -153,20 +153,20 @@ module _ (s : Inference) (ok : IsInference s) (left : IsFalse s.known.closed) (s
       let pair = ok.choice.pairs p q holds in
       from s ok left steps more.chain idle q _ pair.second (same_after s ok left (EsBefore p q) _ (idle_of _ (more.orders p q holds)) pair (sharper.bef p q holds) refl)
 
-  arrives : (m q : ℕ) → Receives s.instance m q → slot_end s.instance.cluster s.choice.prefix (fixed_caps s.choice) (source_of s.instance m) (lo_of s.choice m) + s.instance.cluster.copy_in ≤ es_of s.known q
+  arrives : (m q : ℕ) → Receives s.instance m q → slot_end s.instance.cluster s.choice.prefix (fixed_caps s.choice) (source_of s.instance m) (least_round s.choice m) + s.instance.cluster.copy_in ≤ es_of s.known q
   arrives m q receives =
       let known = from s ok left steps more.chain idle q _ (receiver_inside s ok left steps more.chain idle m q receives) (same_after s ok left (EsArrive m q) _ (idle_of _ (more.chain.messages m q receives).arrival) receives tt refl) in
-      let exact = end_exact s.instance s.choice ok.instance ok.choice done (source_of s.instance m) (lo_of s.choice m) (source_inside m receives.0) in
+      let exact = end_exact s.instance s.choice ok.instance ok.choice done (source_of s.instance m) (least_round s.choice m) (source_inside m receives.0) in
       omega (arith, known, exact, ap (end_least s.instance s.choice (source_of s.instance m)) (round_is m receives.0))
 
-  ready : (m : ℕ) → m < length s.instance.messages → least_end s.instance s.known (message_at s.instance m).sender + s.instance.cluster.copy_out ≤ slot_start s.instance.cluster s.choice.prefix (fixed_caps s.choice) (source_of s.instance m) (lo_of s.choice m)
+  ready : (m : ℕ) → m < length s.instance.messages → least_end s.instance s.known (message_at s.instance m).sender + s.instance.cluster.copy_out ≤ slot_start s.instance.cluster s.choice.prefix (fixed_caps s.choice) (source_of s.instance m) (least_round s.choice m)
   ready m h =
       let sender = (message_at s.instance m).sender in
       let inside = sender_inside m h in
       let some : 1 ≤ top_of s.known m = omega (arith, top_is m h) in
-      let last : top_of s.known m - 1 ≡ lo_of s.choice m = omega (arith, top_is m h) in
+      let last : top_of s.known m - 1 ≡ least_round s.choice m = omega (arith, top_is m h) in
       let known = ended s ok left sender _ inside (same_after s ok left (LeSend m) _ (idle_of _ (more.rounds m h).send) h some refl) in
-      let exact = start_exact s.instance s.choice ok.instance ok.choice done (source_of s.instance m) (lo_of s.choice m) (source_inside m h) in
+      let exact = start_exact s.instance s.choice ok.instance ok.choice done (source_of s.instance m) (least_round s.choice m) (source_inside m h) in
       omega (arith, known, exact, ap (start_most s.instance s.choice (source_of s.instance m)) last, window s ok left steps more.chain idle sender inside, ((ok.instance.ranges (AtProcess sender)) inside).wcet_least)
 
   same_bytes : (n r m : ℕ) → m < length s.instance.messages → bytes_within s.instance s.known n r (r + 1) m ≡ bytes_in s.instance (plan_of s.choice s.known.es) n r m
@@ -175,10 +175,10 @@ module _ (s : Inference) (ok : IsInference s) (left : IsFalse s.known.closed) (s
       let round = ap (λ (k : ℕ). k == r) (round_is m h) in
       ap (λ (b : Bool). if (source_of s.instance m == n) && b then (message_at s.instance m).bytes else 0) (test ∙ round)
 
-  frame_fits : (m : ℕ) → m < length s.instance.messages → load_of s.instance (plan_of s.choice s.known.es) (source_of s.instance m) (lo_of s.choice m) ≤ slice_index (fixed_caps s.choice) (source_of s.instance m)
+  frame_fits : (m : ℕ) → m < length s.instance.messages → load_of s.instance (plan_of s.choice s.known.es) (source_of s.instance m) (least_round s.choice m) ≤ slice_index (fixed_caps s.choice) (source_of s.instance m)
   frame_fits m h =
       let n = source_of s.instance m in
-      let r = lo_of s.choice m in
+      let r = least_round s.choice m in
       let one : (r + 1) - r ≡ 1 = omega arith in
       let same = total_same (bytes_within s.instance s.known n r (r + 1)) (bytes_in s.instance (plan_of s.choice s.known.es) n r) (length s.instance.messages) (λ k inside. same_bytes n r k inside) in
       let exact = cap_exact s.instance s.choice ok.instance ok.choice done n (source_inside m h) in
@@ -215,7 +215,7 @@ module _ (s : Inference) (ok : IsInference s) (left : IsFalse s.known.closed) (s
     ranges = λ m h. (omega arith, ok.choice.ranges m h);
   }
 
-  pub found : (plan : Plan) × IsBetter s.instance s.choice s.goal plan
+  pub found : (plan : Plan) × IsPlanBelow s.instance s.choice s.goal plan
   found =
       let last = greatest_reached (end_of s.instance (plan_of s.choice s.known.es)) (length s.instance.processes) (omega (arith, ok.instance.limits.processes_least)) in (
         plan_of s.choice s.known.es,
@@ -240,7 +240,7 @@ sharper_further f g h first second = record {
   closed = λ is. second.closed (first.closed is);
 }
 
-lead_sharpens : (i : Problem) (c : Chosen) (goal : ℕ) (f : Known) (steps : List Step) (g : Known) → IsInstance i → Fits i f → LeadSharply i c goal f steps g → IsSharper f g
+lead_sharpens : (i : Instance) (c : Choice) (goal : ℕ) (f : Known) (steps : List Step) (g : Known) → IsInstance i → Fits i f → LeadSharply i c goal f steps g → IsSharper f g
 lead_sharpens i c goal f [] g w fits lead = rw lead (sharper_same f)
 lead_sharpens i c goal f (step ∷ steps) g w fits lead =
     let next = lead.1.0 in
@@ -248,12 +248,12 @@ lead_sharpens i c goal f (step ∷ steps) g w fits lead =
     sharper_further f next g once (lead_sharpens i c goal next steps g w (Fits-step i c goal f step next fits lead.1.1) lead.1.3)
 
 -- so it is of what a log comes to that began with the first facts
-pub found_of : (i : Problem) (c : Chosen) (goal : ℕ) (old new : Log) (steps : List Step) → old.facts ≡ record { instance = i; choice = c; goal = goal; known = first_facts i c } → Advances old new → IsInference new.facts → HasCompleteSteps i c steps → All (IsIdle new.facts) steps → IsComplete i c → IsFalse new.facts.known.closed → (plan : Plan) × IsBetter i c goal plan
+pub found_of : (i : Instance) (c : Choice) (goal : ℕ) (old new : Journal) (steps : List Step) → old.facts ≡ record { instance = i; choice = c; goal = goal; known = first_facts i c } → Advances old new → AreFacts new.facts → HasCompleteSteps i c steps → All (SharpensNothing new.facts) steps → IsComplete i c → IsFalse new.facts.known.closed → (plan : Plan) × IsPlanBelow i c goal plan
 found_of i c goal old new steps begins advances ok more idle done left =
-    let first : Inference = record { instance = i; choice = c; goal = goal; known = first_facts i c } in
-    let here : new.facts ≡ record { instance = i; choice = c; goal = goal; known = new.facts.known } = advances.facts ∙ ap (λ (s : Inference). record s { known = new.facts.known }) begins in
-    let end : Inference = record { instance = i; choice = c; goal = goal; known = new.facts.known } in
-    let kept : IsInference end = rw (← here) ok in
-    let still : All (IsIdle end) steps = rw (← here) idle in
+    let first : Facts = record { instance = i; choice = c; goal = goal; known = first_facts i c } in
+    let here : new.facts ≡ record { instance = i; choice = c; goal = goal; known = new.facts.known } = advances.facts ∙ ap (λ (s : Facts). record s { known = new.facts.known }) begins in
+    let end : Facts = record { instance = i; choice = c; goal = goal; known = new.facts.known } in
+    let kept : AreFacts end = rw (← here) ok in
+    let still : All (SharpensNothing end) steps = rw (← here) idle in
     let lead : LeadSharply i c goal (first_facts i c) advances.more new.facts.known = rw begins at advances.lead in
     found end kept left steps more still (lead_sharpens i c goal (first_facts i c) advances.more new.facts.known kept.instance (first_facts_fit i c kept.choice) lead) done

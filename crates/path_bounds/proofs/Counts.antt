@@ -8,32 +8,33 @@ use Rattle.std.proofs.lemmas.List.Sums.{sum_by-le}
 use Rattle.std.proofs.lemmas.Grind.{get_or_default_zero}
 use Rattle.ttp_model.specs.declared.error.MemoryFault.{MemoryFault}
 use Rattle.ttp_model.specs.declared.error.Place.TheVariants.{AtCluster}
+use Rattle.ttp_model.specs.declared.limits.TheConstants.{MOST_MESSAGES, MOST_PROCESSES, MOST_TICKS}
 use Rattle.ttp_model.specs.declared.step.Step.{Step}
-use Rattle.ttp_model.specs.Problem.{Problem}
+use Rattle.ttp_model.specs.Instance.{Instance}
 use Rattle.ttp_model.specs.Rules.{IsInstance}
-use Rattle.tt_choice.specs.Choices.{Chosen, IsChoice}
-use Rattle.tt_infer.specs.Facts.{Known, Fits, first_facts}
-use Rattle.tt_infer.specs.Inference.{Inference, after}
+use Rattle.tt_choice.specs.Choice.{Choice, IsChoice}
+use Rattle.tt_infer.specs.Known.{Known, Fits, first_facts}
+use Rattle.tt_infer.specs.Facts.{Facts, after}
 use Rattle.tt_infer.specs.Table.{IsLawful}
 use Rattle.tt_infer.proofs.FirstFacts.{first_facts_fit}
 use Rattle.tt_infer.proofs.Sound.{step_is_about, Fits-step}
 use Rattle.tt_infer.specs.Leaves.{Lead, ClosesLeaf}
 use Rattle.path_bounds.specs.declared.reached.Reached.{Reached}
 use Rattle.path_bounds.specs.declared.reached.Reached.TheVariants.{Closed}
-use Rattle.path_bounds.specs.Logs.{Log, Advances, slack}
+use Rattle.path_bounds.specs.Journal.{Journal, Advances, slack}
 use Rattle.path_bounds.specs.Propagation.{LeadSharply, Propagates, IsReached}
 use Rattle.path_bounds.proofs.Targets.{stays, lowers}
 use Rattle.path_bounds.proofs.Logs.{Lead-sharply}
 
 -- a lawful step that changes what is known lowers the slack
-step_lowers : (i : Problem) (c : Chosen) (goal : ℕ) (f : Known) (step : Step) (g : Known) → IsInstance i → Fits i f → IsLawful i c goal f step g → g ≢ f → slack i g < slack i f
+step_lowers : (i : Instance) (c : Choice) (goal : ℕ) (f : Known) (step : Step) (g : Known) → IsInstance i → Fits i f → IsLawful i c goal f step g → g ≢ f → slack i g < slack i f
 step_lowers i c goal f step g w fits lawful differs =
     let k = lawful.conclusion in
     let about = step_is_about i c goal f step k w lawful.there lawful.premise lawful.concludes in
     let fell = lowers i f fits k about (λ same. differs (lawful.known ∙ stays i f k fits about same)) in
     rw lawful.known fell
 
-steps_lower : (i : Problem) (c : Chosen) (goal : ℕ) (f : Known) (steps : List Step) (g : Known) → IsInstance i → Fits i f → LeadSharply i c goal f steps g → length steps + slack i g ≤ slack i f
+steps_lower : (i : Instance) (c : Choice) (goal : ℕ) (f : Known) (steps : List Step) (g : Known) → IsInstance i → Fits i f → LeadSharply i c goal f steps g → length steps + slack i g ≤ slack i f
 steps_lower i c goal f [] g w fits lead = omega (arith, ap (slack i) lead)
 steps_lower i c goal f (step ∷ steps) g w fits lead =
     let next = lead.1.0 in
@@ -43,26 +44,26 @@ steps_lower i c goal f (step ∷ steps) g w fits lead =
     omega (arith, fell, rest)
 
 -- The slack of the first facts, part by part.
-module _ (i : Problem) (c : Chosen) (w : IsInstance i) (ok : IsChoice i c) where
-  horizon_small : i.cluster.horizon ≤ 1000000
+module _ (i : Instance) (c : Choice) (w : IsInstance i) (ok : IsChoice i c) where
+  horizon_small : i.cluster.horizon ≤ MOST_TICKS
   horizon_small = (w.ranges AtCluster).horizon
 
-  starts_small : sum_by (λ time. i.cluster.horizon + 1 - time) (first_facts i c).es ≤ 64 * 1000001
+  starts_small : sum_by (λ time. i.cluster.horizon + 1 - time) (first_facts i c).es ≤ MOST_PROCESSES * (MOST_TICKS + 1)
   starts_small =
       let is = sum_by-replicate {X = ℕ} (λ time. i.cluster.horizon + 1 - time) (length i.processes) 0 in
-      let few = mul-le-mul {n₁ = length i.processes} {m₁ = i.cluster.horizon + 1 - 0} {n₂ = 64} {m₂ = 1000001} w.limits.processes (omega (arith, horizon_small)) in
+      let few = mul-le-mul {n₁ = length i.processes} {m₁ = i.cluster.horizon + 1 - 0} {n₂ = MOST_PROCESSES} {m₂ = MOST_TICKS + 1} w.limits.processes (omega (arith, horizon_small)) in
       omega (arith, is, few)
 
-  ends_small : sum_by (λ (time : ℕ). time) (first_facts i c).le ≤ 64 * 1000000
+  ends_small : sum_by (λ (time : ℕ). time) (first_facts i c).le ≤ MOST_PROCESSES * MOST_TICKS
   ends_small =
       let is = sum_by-replicate {X = ℕ} (λ time. time) (length i.processes) i.cluster.horizon in
-      let few = mul-le-mul {n₁ = length i.processes} {m₁ = i.cluster.horizon} {n₂ = 64} {m₂ = 1000000} w.limits.processes horizon_small in
+      let few = mul-le-mul {n₁ = length i.processes} {m₁ = i.cluster.horizon} {n₂ = MOST_PROCESSES} {m₂ = MOST_TICKS} w.limits.processes horizon_small in
       omega (arith, is, few)
 
-  firsts_small : sum_by (λ r. i.cluster.horizon + 1 - r) (first_facts i c).lo ≤ 128 * 1000001
+  firsts_small : sum_by (λ r. i.cluster.horizon + 1 - r) (first_facts i c).lo ≤ MOST_MESSAGES * (MOST_TICKS + 1)
   firsts_small =
       let each = sum_by-le {X = ℕ} (λ r. i.cluster.horizon + 1 - r) (i.cluster.horizon + 1) c.lo (λ k d h. omega arith) in
-      let few = mul-le-mul {n₁ = length c.lo} {m₁ = i.cluster.horizon + 1} {n₂ = 128} {m₂ = 1000001} (omega (arith, ok.lo_length, w.limits.messages)) (omega (arith, horizon_small)) in
+      let few = mul-le-mul {n₁ = length c.lo} {m₁ = i.cluster.horizon + 1} {n₂ = MOST_MESSAGES} {m₂ = MOST_TICKS + 1} (omega (arith, ok.lo_length, w.limits.messages)) (omega (arith, horizon_small)) in
       omega (arith, each, few)
 
   each_late_small : All (λ (r : ℕ). r ≤ i.cluster.horizon) (map (λ r. r + 1) c.hi)
@@ -70,28 +71,28 @@ module _ (i : Problem) (c : Chosen) (w : IsInstance i) (ok : IsChoice i c) where
       let is : slice_index c.hi k ≡ get_or c.hi k d = sym (get_or_default_zero c.hi k d h) in
       omega (arith, ok.within k (omega (arith, h, ok.hi_length)), is))
 
-  lates_small : sum_by (λ (r : ℕ). r) (first_facts i c).top ≤ 128 * 1000000
+  lates_small : sum_by (λ (r : ℕ). r) (first_facts i c).top ≤ MOST_MESSAGES * MOST_TICKS
   lates_small =
       let each = sum_by-le {X = ℕ} (λ r. r) i.cluster.horizon (map (λ r. r + 1) c.hi) each_late_small in
       let size = length-map c.hi (λ (r : ℕ). r + 1) in
-      let few = mul-le-mul {n₁ = length (map (λ (r : ℕ). r + 1) c.hi)} {m₁ = i.cluster.horizon} {n₂ = 128} {m₂ = 1000000} (omega (arith, size, ok.hi_length, w.limits.messages)) horizon_small in
+      let few = mul-le-mul {n₁ = length (map (λ (r : ℕ). r + 1) c.hi)} {m₁ = i.cluster.horizon} {n₂ = MOST_MESSAGES} {m₂ = MOST_TICKS} (omega (arith, size, ok.hi_length, w.limits.messages)) horizon_small in
       omega (arith, each, few)
 
   at_most_one : (b : Bool) → (if b then 0 else 1) ≤ 1
   at_most_one true = omega arith
   at_most_one false = omega arith
 
-  orders_small : sum_by (λ (test : Bool). if test then 0 else 1) (first_facts i c).bef.tests ≤ 64 * 64
+  orders_small : sum_by (λ (test : Bool). if test then 0 else 1) (first_facts i c).bef.tests ≤ MOST_PROCESSES * MOST_PROCESSES
   orders_small =
       let each = sum_by-le {X = Bool} (λ test. if test then 0 else 1) 1 c.before.tests (λ k d h. at_most_one _) in
-      let few = mul-le-mul {n₁ = length i.processes} {m₁ = length i.processes} {n₂ = 64} {m₂ = 64} w.limits.processes w.limits.processes in
+      let few = mul-le-mul {n₁ = length i.processes} {m₁ = length i.processes} {n₂ = MOST_PROCESSES} {m₂ = MOST_PROCESSES} w.limits.processes w.limits.processes in
       omega (arith, each, few, ok.tests)
 
   first_slack : slack i (first_facts i c) < 2000000000
   first_slack = omega (arith, starts_small, ends_small, firsts_small, lates_small, orders_small)
 
   -- what a log appends from the first facts on
-  pub propagated : (goal : ℕ) (old new : List Step) (s : Inference) (answer : Result Reached MemoryFault) → Advances (record { facts = record { instance = i; choice = c; goal = goal; known = first_facts i c }; steps = old }) (record { facts = s; steps = new }) → IfOk answer (IsReached i c goal s.known) → Propagates i c goal old new answer
+  pub propagated : (goal : ℕ) (old new : List Step) (s : Facts) (answer : Result Reached MemoryFault) → Advances (record { facts = record { instance = i; choice = c; goal = goal; known = first_facts i c }; steps = old }) (record { facts = s; steps = new }) → IfOk answer (IsReached i c goal s.known) → Propagates i c goal old new answer
   propagated goal old new s answer advances reached = record {
     more = advances.more;
     known = s.known;
@@ -103,17 +104,17 @@ module _ (i : Problem) (c : Chosen) (w : IsInstance i) (ok : IsChoice i c) where
   }
 
   -- so of a log that began there
-  pub appended_of : (goal : ℕ) (old new : List Step) (start end : Log) (s : Inference) (answer : Result Reached MemoryFault) → start ≡ record { facts = record { instance = i; choice = c; goal = goal; known = first_facts i c }; steps = old } → Advances start end → s ≡ end.facts → new ≡ end.steps → IfOk answer (IsReached i c goal s.known) → Propagates i c goal old new answer
+  pub appended_of : (goal : ℕ) (old new : List Step) (start end : Journal) (s : Facts) (answer : Result Reached MemoryFault) → start ≡ record { facts = record { instance = i; choice = c; goal = goal; known = first_facts i c }; steps = old } → Advances start end → s ≡ end.facts → new ≡ end.steps → IfOk answer (IsReached i c goal s.known) → Propagates i c goal old new answer
   appended_of goal old new start end s answer begins advances same steps reached =
       propagated goal old new s answer (rw (← begins, same, steps) advances) reached
 
   -- what the log's facts are about
-  pub about_of : (goal : ℕ) (old : List Step) (start end : Log) (s : Inference) → start ≡ record { facts = record { instance = i; choice = c; goal = goal; known = first_facts i c }; steps = old } → Advances start end → s ≡ end.facts → s ≡ record { instance = i; choice = c; goal = goal; known = s.known }
+  pub about_of : (goal : ℕ) (old : List Step) (start end : Journal) (s : Facts) → start ≡ record { facts = record { instance = i; choice = c; goal = goal; known = first_facts i c }; steps = old } → Advances start end → s ≡ end.facts → s ≡ record { instance = i; choice = c; goal = goal; known = s.known }
   about_of goal old start end s begins advances same =
-      same ∙ advances.facts ∙ ap (λ (log : Log). after log.facts end.facts.known) begins ∙ ap (λ (t : Inference). after (record { instance = i; choice = c; goal = goal; known = first_facts i c }) t.known) (sym same)
+      same ∙ advances.facts ∙ ap (λ (log : Journal). after log.facts end.facts.known) begins ∙ ap (λ (t : Facts). after (record { instance = i; choice = c; goal = goal; known = first_facts i c }) t.known) (sym same)
 
   -- a log that began there without steps, where no plan is left
-  pub closes_of : (goal : ℕ) (new : List Step) (start end : Log) (s : Inference) → start ≡ record { facts = record { instance = i; choice = c; goal = goal; known = first_facts i c }; steps = [] } → Advances start end → s ≡ end.facts → new ≡ end.steps → IsTrue s.known.closed → ClosesLeaf i c (record { goal = goal; steps = new }) × (length new < 2 ^ 32)
+  pub closes_of : (goal : ℕ) (new : List Step) (start end : Journal) (s : Facts) → start ≡ record { facts = record { instance = i; choice = c; goal = goal; known = first_facts i c }; steps = [] } → Advances start end → s ≡ end.facts → new ≡ end.steps → IsTrue s.known.closed → ClosesLeaf i c (record { goal = goal; steps = new }) × (length new < 2 ^ 32)
   closes_of goal new start end s begins advances same steps closed =
       let all = appended_of goal [] new start end s (Ok Closed) begins advances same steps closed in
       let lead = subst (λ (xs : List Step). Lead i c goal (first_facts i c) xs all.known) (sym all.appended) all.lead in

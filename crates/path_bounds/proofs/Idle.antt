@@ -5,7 +5,7 @@ use Rattle.std.proofs.lemmas.List.Elements.{All-contains}
 use Rattle.ttp_model.specs.declared.error.Place.TheVariants.{AtProcess, AtLink, AtMessage}
 use Rattle.ttp_model.specs.declared.step.Step.{Step}
 use Rattle.ttp_model.specs.declared.step.Step.TheVariants.{EsRelease, EsLink, EsMessage, LeOwn, XWindow}
-use Rattle.ttp_model.specs.Problem.{Problem, process_at, message_at, link_at, node_at, node_of, source_of}
+use Rattle.ttp_model.specs.Instance.{Instance, process_at, message_at, link_at, node_at, node_of, source_of}
 use Rattle.ttp_model.specs.Rules.{IsProcess}
 use Rattle.ttp_model.specs.Graph.{HasLink, HasMessage}
 use Rattle.ttp_model.specs.Chains.{ChainEnds, one, by_link, by_message, IsPathBound, least_duration}
@@ -13,27 +13,27 @@ use Rattle.ttp_model.proofs.Times.{slot_duration-le, first-le}
 use Rattle.std.specs.List.Sorted.{IsStrictlyIncreasing}
 use Rattle.std.proofs.lemmas.Grind.{get_or_default_zero}
 use Rattle.std.proofs.Common.{Option, None, Some}
-use Rattle.tt_choice.specs.Choices.{Chosen, IsOption, fixed_cap}
+use Rattle.tt_choice.specs.Choice.{Choice, IsOption, fixed_cap}
 use Rattle.tt_choice.specs.Extremes.{least_option, dur_least}
-use Rattle.tt_infer.specs.Facts.{Known, es_of, le_of, first_facts}
+use Rattle.tt_infer.specs.Known.{Known, es_of, le_of, first_facts}
 use Rattle.tt_infer.specs.Conclusions.{Conclusion, StartsFrom, EndsUntil, NothingLeft, sharpened, capped}
-use Rattle.tt_infer.specs.Inference.{Inference, IsInference}
+use Rattle.tt_infer.specs.Facts.{Facts, AreFacts}
 use Rattle.tt_infer.specs.Premises.{Receives, least_end}
 use Rattle.tt_infer.specs.Table.{rule}
-use Rattle.path_bounds.specs.Logs.{Log, Advances, IsIdle}
+use Rattle.path_bounds.specs.Journal.{Journal, Advances, SharpensNothing}
 use Rattle.path_bounds.specs.Required.{HasChainSteps}
 
 -- the least capacity of a choice is no less than the first option
-least_option-ge : (i : Problem) (n : ℕ) (o : Option ℕ) → IsStrictlyIncreasing (node_at i n).capacities → IsOption i n o → slice_index (node_at i n).capacities 0 ≤ least_option i n o
+least_option-ge : (i : Instance) (n : ℕ) (o : Option ℕ) → IsStrictlyIncreasing (node_at i n).capacities → IsOption i n o → slice_index (node_at i n).capacities 0 ≤ least_option i n o
 least_option-ge i n None rising is = omega arith
 least_option-ge i n (Some fixed) rising is =
     let xs = (node_at i n).capacities in
     let here : slice_index xs is.0 ≡ fixed = sym (get_or_default_zero xs is.0 fixed is.1) ∙ is.2 in
     omega (arith, here, first-le xs rising is.0 is.1)
 
-module _ (s : Inference) (ok : IsInference s) (left : IsFalse s.known.closed) where
+module _ (s : Facts) (ok : AreFacts s) (left : IsFalse s.known.closed) where
   -- a lawful step that is idle concludes nothing new
-  pub same_after : (step : Step) (k : Conclusion) → IsIdle s step → (rule s.instance s.choice s.goal s.known step).there → (rule s.instance s.choice s.goal s.known step).premise → (rule s.instance s.choice s.goal s.known step).concludes k → sharpened s.instance s.known k ≡ s.known
+  pub same_after : (step : Step) (k : Conclusion) → SharpensNothing s step → (rule s.instance s.choice s.goal s.known step).there → (rule s.instance s.choice s.goal s.known step).premise → (rule s.instance s.choice s.goal s.known step).concludes k → sharpened s.instance s.known k ≡ s.known
   same_after step k idle there premise concludes =
       idle.leaves left (sharpened s.instance s.known k) (record { there = there; premise = premise; conclusion = k; concludes = concludes; known = refl })
 
@@ -52,9 +52,9 @@ module _ (s : Inference) (ok : IsInference s) (left : IsFalse s.known.closed) wh
   pub not_closed : sharpened s.instance s.known NothingLeft ≡ s.known → ⊥
   not_closed same = both_ways _ left (sym (ap (λ (k : Known). k.closed) same))
 
-  module _ (steps : List Step) (has : HasChainSteps s.instance steps) (idle : All (IsIdle s) steps) where
-    idle_of : (step : Step) → Contains steps step → IsIdle s step
-    idle_of step there = All-contains (IsIdle s) steps step idle there
+  module _ (steps : List Step) (has : HasChainSteps s.instance steps) (idle : All (SharpensNothing s) steps) where
+    idle_of : (step : Step) → Contains steps step → SharpensNothing s step
+    idle_of step there = All-contains (SharpensNothing s) steps step idle there
 
     pub window : (p : ℕ) → p < length s.instance.processes → least_end s.instance s.known p ≤ le_of s.known p
     window p inside = elim (cases_lt (le_of s.known p) (least_end s.instance s.known p)) [
@@ -112,10 +112,10 @@ module _ (s : Inference) (ok : IsInference s) (left : IsFalse s.known.closed) wh
         omega (arith, chain_le is.last bound is.reached, window is.last inside, own is.last inside, ((ok.instance.ranges (AtProcess is.last)) inside).wcet_least)
 
 -- so it is of what a log comes to that began with the first facts
-pub above_of : (i : Problem) (c : Chosen) (goal : ℕ) (old new : Log) (steps : List Step) → old.facts ≡ record { instance = i; choice = c; goal = goal; known = first_facts i c } → Advances old new → IsInference new.facts → HasChainSteps i steps → All (IsIdle new.facts) steps → IsFalse new.facts.known.closed → (bound : ℕ) → IsPathBound i bound → bound < goal
+pub above_of : (i : Instance) (c : Choice) (goal : ℕ) (old new : Journal) (steps : List Step) → old.facts ≡ record { instance = i; choice = c; goal = goal; known = first_facts i c } → Advances old new → AreFacts new.facts → HasChainSteps i steps → All (SharpensNothing new.facts) steps → IsFalse new.facts.known.closed → (bound : ℕ) → IsPathBound i bound → bound < goal
 above_of i c goal old new steps begins advances ok has idle left =
-    let here : new.facts ≡ record { instance = i; choice = c; goal = goal; known = new.facts.known } = advances.facts ∙ ap (λ (s : Inference). record s { known = new.facts.known }) begins in
-    let end : Inference = record { instance = i; choice = c; goal = goal; known = new.facts.known } in
-    let kept : IsInference end = rw (← here) ok in
-    let still : All (IsIdle end) steps = rw (← here) idle in
+    let here : new.facts ≡ record { instance = i; choice = c; goal = goal; known = new.facts.known } = advances.facts ∙ ap (λ (s : Facts). record s { known = new.facts.known }) begins in
+    let end : Facts = record { instance = i; choice = c; goal = goal; known = new.facts.known } in
+    let kept : AreFacts end = rw (← here) ok in
+    let still : All (SharpensNothing end) steps = rw (← here) idle in
     above end kept left steps has still

@@ -4,18 +4,18 @@ use Rattle.std.proofs.lemmas.List.{set-get_or}
 use Rattle.std.proofs.lemmas.List.Sums.{sum_by-set}
 use Rattle.ttp_model.specs.declared.step.Step.{Step}
 use Rattle.ttp_model.specs.declared.step.Step.TheVariants.{EsRelease, EsLink, EsBefore, EsArrive, EsMessage, LoSend, LeOwn, LeLink, LeBefore, LeMessage, LeSend, HiArrive, OrdWindow, OrdTwin, UsSettled, XWindow, XRound, XCycle, XLoad, XFrame, XFrames, XLate, XSilent}
-use Rattle.ttp_model.specs.Problem.{Problem}
-use Rattle.tt_choice.specs.Choices.{Chosen}
-use Rattle.tt_choice.specs.Before.{place_in, put_before}
+use Rattle.ttp_model.specs.Instance.{Instance}
+use Rattle.tt_choice.specs.Choice.{Choice}
+use Rattle.tt_choice.specs.Precedence.{place_in, put_before}
 use Rattle.tt_choice.proofs.Before.{put_same, place_inside, test_of}
-use Rattle.tt_infer.specs.Facts.{Known, Fits, bef_of}
+use Rattle.tt_infer.specs.Known.{Known, Fits, bef_of}
 use Rattle.tt_infer.specs.Conclusions.{Conclusion, StartsFrom, EndsUntil, SentFrom, SentBefore, GoesFirst, NothingLeft, IsAbout, sharpened}
 use Rattle.tt_infer.specs.Table.{rule}
-use Rattle.path_bounds.specs.Targets.{fact_of, target, value_of}
-use Rattle.path_bounds.specs.Logs.{slack}
+use Rattle.path_bounds.specs.Targets.{fact_of, target, known_value}
+use Rattle.path_bounds.specs.Journal.{slack}
 
 -- what a step concludes is about its target
-pub target_is : (i : Problem) (c : Chosen) (goal : ℕ) (f : Known) (step : Step) (k : Conclusion) → (rule i c goal f step).concludes k → fact_of k ≡ target i step
+pub target_is : (i : Instance) (c : Choice) (goal : ℕ) (f : Known) (step : Step) (k : Conclusion) → (rule i c goal f step).concludes k → fact_of k ≡ target i step
 target_is i c goal f (EsRelease p) k is = ap fact_of is
 target_is i c goal f (EsLink l) k is = ap fact_of is
 target_is i c goal f (EsBefore p q) k is = ap fact_of is
@@ -49,17 +49,17 @@ kept : (xs : List ℕ) (k v : ℕ) → k < length xs → slice_index (slice_set 
 kept xs k v there same = ap (slice_set xs k) (sym (get_or-set_same xs k v 0 there) ∙ same) ∙ set-get_or xs k 0
 
 -- where the test of p and q counts, it is put already
-order_known : (i : Problem) (f : Known) (p q : ℕ) → Fits i f → p < length i.processes → q < length i.processes → value_of (sharpened i f (GoesFirst p q)) (fact_of (GoesFirst p q)) ≡ value_of f (fact_of (GoesFirst p q)) → bef_of f p q ≡ true
+order_known : (i : Instance) (f : Known) (p q : ℕ) → Fits i f → p < length i.processes → q < length i.processes → known_value (sharpened i f (GoesFirst p q)) (fact_of (GoesFirst p q)) ≡ known_value f (fact_of (GoesFirst p q)) → bef_of f p q ≡ true
 order_known i f p q fits first second same =
     let put = put_same f.bef p q (omega (arith, fits.processes, first)) (omega (arith, fits.processes, second)) (rw fits.processes fits.tests) in
     counts (bef_of f p q) (sym (ap {B = ℕ} (λ (b : Bool). if b then 1 else 0) put) ∙ same)
 
-tests_kept : (i : Problem) (f : Known) (p q : ℕ) → Fits i f → p < length i.processes → q < length i.processes → bef_of f p q ≡ true → put_before f.bef p q ≡ f.bef
+tests_kept : (i : Instance) (f : Known) (p q : ℕ) → Fits i f → p < length i.processes → q < length i.processes → bef_of f p q ≡ true → put_before f.bef p q ≡ f.bef
 tests_kept i f p q fits first second holds =
     let test = test_of f.bef p q (omega (arith, fits.processes, first)) (omega (arith, fits.processes, second)) in
     ap (λ (tests : List Bool). record f.bef { tests = tests }) (ap (slice_set f.bef.tests (place_in f.bef p q)) (sym holds ∙ test) ∙ set-get_or f.bef.tests (place_in f.bef p q) false)
 
-pub stays : (i : Problem) (f : Known) (k : Conclusion) → Fits i f → IsAbout i k → value_of (sharpened i f k) (fact_of k) ≡ value_of f (fact_of k) → sharpened i f k ≡ f
+pub stays : (i : Instance) (f : Known) (k : Conclusion) → Fits i f → IsAbout i k → known_value (sharpened i f k) (fact_of k) ≡ known_value f (fact_of k) → sharpened i f k ≡ f
 stays i f (StartsFrom p time) fits there same = ap (λ (xs : List ℕ). record f { es = xs }) (kept f.es p _ (omega (arith, fits.es, there)) same)
 stays i f (EndsUntil p time) fits there same = ap (λ (xs : List ℕ). record f { le = xs }) (kept f.le p _ (omega (arith, fits.le, there)) same)
 stays i f (SentFrom m r) fits there same = ap (λ (xs : List ℕ). record f { lo = xs }) (kept f.lo m _ (omega (arith, fits.lo, there)) same)
@@ -85,7 +85,7 @@ falls xs k high there differs =
     let is = get_or-set_same xs k (min (slice_index xs k) high) 0 there in
     less (λ (time : ℕ). time) xs k (min (slice_index xs k) high) there (omega (arith, is, differs))
 
-module _ (i : Problem) (f : Known) (fits : Fits i f) where
+module _ (i : Instance) (f : Known) (fits : Fits i f) where
   one_order_less : (p q : ℕ) → p < length i.processes → q < length i.processes → bef_of f p q ≡ false → sum_by (λ (test : Bool). if test then 0 else 1) (put_before f.bef p q).tests < sum_by (λ (test : Bool). if test then 0 else 1) f.bef.tests
   one_order_less p q first second none =
       let row : p < f.bef.processes = omega (arith, fits.processes, first) in
@@ -96,7 +96,7 @@ module _ (i : Problem) (f : Known) (fits : Fits i f) where
       let was = ap {B = ℕ} (λ (b : Bool). if b then 0 else 1) test in
       omega (arith, sum_by-set {X = Bool} (λ b. if b then 0 else 1) f.bef.tests (place_in f.bef p q) true false inside, was)
 
-  pub lowers : (k : Conclusion) → IsAbout i k → value_of (sharpened i f k) (fact_of k) ≢ value_of f (fact_of k) → slack i (sharpened i f k) < slack i f
+  pub lowers : (k : Conclusion) → IsAbout i k → known_value (sharpened i f k) (fact_of k) ≢ known_value f (fact_of k) → slack i (sharpened i f k) < slack i f
   lowers (StartsFrom p time) there differs = omega (arith, rises (i.cluster.horizon + 1) f.es p time (omega (arith, fits.es, there)) differs)
   lowers (EndsUntil p time) there differs = omega (arith, falls f.le p time (omega (arith, fits.le, there)) differs)
   lowers (SentFrom m r) there differs = omega (arith, rises (i.cluster.horizon + 1) f.lo m r (omega (arith, fits.lo, there)) differs)

@@ -6,9 +6,10 @@ use Rattle.std.proofs.lemmas.Grind.{common_steps, get_or_default_zero}
 use Rattle.std.proofs.lemmas.List.{get_or-take, get_or-drop, length-take-le}
 use Rattle.std.proofs.lemmas.List.Elements.{All-contains, Contains-get_or}
 use Rattle.ttp_model.specs.declared.error.Place.TheVariants.{AtCluster, AtProcess, AtLink, AtMessage}
+use Rattle.ttp_model.specs.declared.limits.TheConstants.{MOST_BUS_TICKS, MOST_BYTES, MOST_DURATION, MOST_PER_BYTE, MOST_TICKS}
 use Rattle.ttp_model.specs.declared.parts.Link.{Link}
 use Rattle.ttp_model.specs.Lists.{HasNoRepeats}
-use Rattle.ttp_model.specs.Problem.{Problem, process_at, node_at, node_of, link_at, message_at}
+use Rattle.ttp_model.specs.Instance.{Instance, process_at, node_at, node_of, link_at, message_at}
 use Rattle.ttp_model.specs.Rules.{IsInstance, IsProcess}
 use Rattle.ttp_model.specs.Graph.{HasLink, HasMessage, Leads, IsClosedWalk}
 use Rattle.ttp_model.specs.Chains.{ChainEnds, one, by_link, by_message, least_transfer, least_duration, IsPathBound}
@@ -18,7 +19,7 @@ use Rattle.tt_infer.specs.Premises.{Receives}
 use Rattle.path_bounds.specs.Walks.{Chain, first, on_link, on_message, AreChainEnds, AreEnds, AreKept}
 
 -- the processes of a chain, in their order
-record Walk (i : Problem) (n p : ℕ) : Type 0 where
+record Walk (i : Instance) (n p : ℕ) : Type 0 where
   pub ps : List ℕ
   pub count : length ps ≡ n
   pub some : 1 ≤ n
@@ -26,7 +27,7 @@ record Walk (i : Problem) (n p : ℕ) : Type 0 where
   pub inside : (k : ℕ) → k < n → slice_index ps k < length i.processes
   pub each : (k : ℕ) → k + 1 < n → Leads i (slice_index ps k) (slice_index ps (k + 1))
 
-walk_one : (i : Problem) (p : ℕ) → p < length i.processes → Walk i 1 p
+walk_one : (i : Instance) (p : ℕ) → p < length i.processes → Walk i 1 p
 walk_one i p inside = record {
   ps = p ∷ [];
   count = refl;
@@ -36,7 +37,7 @@ walk_one i p inside = record {
   each = λ k h. absurd (omega arith);
 }
 
-walk_more : (i : Problem) (n p q : ℕ) → Walk i n p → Leads i p q → q < length i.processes → Walk i (suc n) q
+walk_more : (i : Instance) (n p q : ℕ) → Walk i n p → Leads i p q → q < length i.processes → Walk i (suc n) q
 walk_more i n p q walk leads inside =
     let old = λ (k : ℕ) (h : k < n). first_part walk.ps (q ∷ []) k (omega (arith, h, walk.count)) in
     let new = λ (k : ℕ) (h : k ≡ n). last_part walk.ps q k (omega (arith, h, walk.count)) in
@@ -57,7 +58,11 @@ walk_more i n p q walk leads inside =
       ];
     }
 
-module _ (i : Problem) (w : IsInstance i) where
+-- the least time of a transfer: a slot between two copies
+abbrev pub most_transfer : ℕ
+most_transfer = MOST_DURATION + 2 * MOST_BUS_TICKS
+
+module _ (i : Instance) (w : IsInstance i) where
   link_inside : (p q : ℕ) → HasLink i p q → q < length i.processes
   link_inside p q link = rw (← link.after) (w.indices (AtLink link.link) link.is_there).1
 
@@ -93,15 +98,15 @@ module _ (i : Problem) (w : IsInstance i) where
       let few = length_le (length i.processes) walk.ps (from_parts (length i.processes) walk.ps (λ k h. walk.inside k (omega (arith, h, walk.count))) (no_repeats n p walk)) in
       omega (arith, few, walk.count)
 
-  least_duration_small : (n : ℕ) → n < length i.nodes → least_duration i n ≤ 1030000
+  least_duration_small : (n : ℕ) → n < length i.nodes → least_duration i n ≤ MOST_DURATION
   least_duration_small n inside =
       let list = w.capacities n inside in
       let ranges = w.ranges AtCluster in
-      let small : slice_index (node_at i n).capacities 0 ≤ 1000 = list.small 0 0 (omega (arith, list.some)) in
-      let bytes = mul-le-mul {n₁ = i.cluster.per_byte} {m₁ = slice_index (node_at i n).capacities 0} {n₂ = 1000} {m₂ = 1000} ranges.per_byte small in
+      let small : slice_index (node_at i n).capacities 0 ≤ MOST_BYTES = list.small 0 0 (omega (arith, list.some)) in
+      let bytes = mul-le-mul {n₁ = i.cluster.per_byte} {m₁ = slice_index (node_at i n).capacities 0} {n₂ = MOST_PER_BYTE} {m₂ = MOST_BYTES} ranges.per_byte small in
       omega (arith, bytes, ranges.lead, ranges.head, ranges.trail)
 
-  pub transfer_small : (n : ℕ) → n < length i.nodes → least_transfer i n ≤ 1050000
+  pub transfer_small : (n : ℕ) → n < length i.nodes → least_transfer i n ≤ most_transfer
   transfer_small n inside = omega (arith, least_duration_small n inside, (w.ranges AtCluster).copy_out, (w.ranges AtCluster).copy_in)
 
   chain_inside : (n p time : ℕ) → Chain i n p time → p < length i.processes
@@ -109,10 +114,10 @@ module _ (i : Problem) (w : IsInstance i) where
   chain_inside _ _ _ (on_link n p q time chain link) = link_inside p q link
   chain_inside _ _ _ (on_message n p q time chain message) = message_inside p q message
 
-  wcet_small : (p : ℕ) → p < length i.processes → (process_at i p).wcet ≤ 1000000
+  wcet_small : (p : ℕ) → p < length i.processes → (process_at i p).wcet ≤ MOST_TICKS
   wcet_small p inside = ((w.ranges (AtProcess p)) inside).wcet
 
-  chain_time : (n p time : ℕ) → Chain i n p time → time ≤ 1000000 + n * 2060000
+  chain_time : (n p time : ℕ) → Chain i n p time → time ≤ MOST_TICKS + n * (most_transfer + MOST_TICKS)
   chain_time _ _ _ (first p inside) = omega (arith, wcet_small p inside, ((w.ranges (AtProcess p)) inside).release)
   chain_time _ _ _ (on_link n p q time chain link) = omega (arith, chain_time n p time chain, wcet_small q (link_inside p q link))
   chain_time _ _ _ (on_message n p q time chain message) =
@@ -124,7 +129,7 @@ module _ (i : Problem) (w : IsInstance i) where
   to_chain _ _ (by_link p q time chain link) = let rest = to_chain p time chain in (suc rest.0, on_link rest.0 p q time rest.1 link)
   to_chain _ _ (by_message p q time chain message) = let rest = to_chain p time chain in (suc rest.0, on_message rest.0 p q time rest.1 message)
 
-  pub chain_small : (p time : ℕ) → ChainEnds i p time → time < 2 ^ 28
+  pub chain_small : (p time : ℕ) → ChainEnds i p time → time < 2 ^ 32
   chain_small p time chain =
       let counted = to_chain p time chain in
       omega (arith, chain_time counted.0 p time counted.1, chain_few counted.0 p time counted.1, w.limits.processes)
@@ -185,7 +190,7 @@ module _ (i : Problem) (w : IsInstance i) where
   }
 
   -- a time that is read
-  pub end_small : (ends : List ℕ) (p end : ℕ) → AreChainEnds i ends → p < length i.processes → end ≡ get_or ends p end → (end < 2 ^ 28) × (end ≡ slice_index ends p)
+  pub end_small : (ends : List ℕ) (p end : ℕ) → AreChainEnds i ends → p < length i.processes → end ≡ get_or ends p end → (end < 2 ^ 32) × (end ≡ slice_index ends p)
   end_small ends p end are inside is =
       let same : end ≡ slice_index ends p = is ∙ get_or_default_zero ends p end (omega (arith, inside, are.all)) in
       (omega (arith, same, chain_small p (slice_index ends p) (are.reached p inside)), same)

@@ -1,12 +1,12 @@
 pub mod Targets
-pub mod Logs
+pub mod Journal
 pub mod Propagation
 pub mod Required
 pub mod Walks
-pub use Rattle.ttp_model.specs.Problem
+pub use Rattle.ttp_model.specs.Instance
 pub use Rattle.ttp_model.specs.Rules
 pub use Rattle.ttp_model.specs.Chains
-pub use Rattle.tt_choice.specs.Choices
+pub use Rattle.tt_choice.specs.Choice
+pub use Rattle.tt_infer.specs.Known
 pub use Rattle.tt_infer.specs.Facts
-pub use Rattle.tt_infer.specs.Inference
 pub use Rattle.tt_infer.specs.Leaves

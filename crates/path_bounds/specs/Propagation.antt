@@ -3,11 +3,11 @@ use Rattle.std.specs.Prelude.{◌≡◌, ◌≢◌, ℕ, ◌<◌, List, [], ◌�
 use Rattle.ttp_model.specs.declared.plan.Plan.{Plan}
 use Rattle.ttp_model.specs.declared.error.MemoryFault.{MemoryFault}
 use Rattle.ttp_model.specs.declared.step.Step.{Step}
-use Rattle.ttp_model.specs.Problem.{Problem}
+use Rattle.ttp_model.specs.Instance.{Instance}
 use Rattle.ttp_model.specs.Plans.{IsValid}
 use Rattle.ttp_model.specs.Delays.{delay}
-use Rattle.tt_choice.specs.Choices.{Chosen, IsIn}
-use Rattle.tt_infer.specs.Facts.{Known, first_facts}
+use Rattle.tt_choice.specs.Choice.{Choice, IsIn}
+use Rattle.tt_infer.specs.Known.{Known, first_facts}
 use Rattle.tt_infer.specs.Table.{IsLawful}
 use Rattle.tt_infer.specs.Leaves.{Lead}
 use Rattle.path_bounds.specs.declared.reached.Reached.{Reached}
@@ -15,20 +15,20 @@ use Rattle.path_bounds.specs.declared.reached.Reached.TheVariants.{Closed, At}
 
 -- lawful steps lead from what is known to what is known after them; none follows a closer, and each
 -- sharpens what is known
-abbrev pub LeadSharply : Problem → Chosen → ℕ → Known → List Step → Known → Type 0
+abbrev pub LeadSharply : Instance → Choice → ℕ → Known → List Step → Known → Type 0
 LeadSharply i c goal f [] g = g ≡ f
 LeadSharply i c goal f (step ∷ steps) g =
     IsFalse f.closed × ((next : Known) × IsLawful i c goal f step next × (next ≢ f) × LeadSharply i c goal next steps g)
 
 -- closed exactly where no plan is left; else the facts reached, of that instance, choice and goal
-abbrev pub IsReached : Problem → Chosen → ℕ → Known → Reached → Type 0
+abbrev pub IsReached : Instance → Choice → ℕ → Known → Reached → Type 0
 IsReached i c goal g Closed = IsTrue g.closed
 IsReached i c goal g (At facts) =
     IsFalse g.closed × (facts ≡ record { instance = i; choice = c; goal = goal; known = g })
 
 -- steps were appended that lead from the first facts on, few enough to be counted, also where memory
 -- was refused; the answer says where they lead
-pub record Propagates (i : Problem) (c : Chosen) (goal : ℕ) (old new : List Step) (answer : Result Reached MemoryFault) : Type 0 where
+pub record Propagates (i : Instance) (c : Choice) (goal : ℕ) (old new : List Step) (answer : Result Reached MemoryFault) : Type 0 where
   pub more : List Step
   pub known : Known
   pub appended : new ≡ old ++ more
@@ -43,12 +43,12 @@ IsClosed Closed = Unit {0}
 IsClosed (At facts) = ⊥
 
 -- a valid plan of the choice with a delay below the goal
-pub record IsBetter (i : Problem) (c : Chosen) (goal : ℕ) (plan : Plan) : Type 0 where
+pub record IsPlanBelow (i : Instance) (c : Choice) (goal : ℕ) (plan : Plan) : Type 0 where
   pub valid : IsValid i plan
   pub chosen : IsIn i c plan
   pub better : delay i plan < goal
 
 -- where plans may be left, there is such a plan
-abbrev pub FindsPlan : Problem → Chosen → ℕ → Reached → Type 0
+abbrev pub FindsPlan : Instance → Choice → ℕ → Reached → Type 0
 FindsPlan i c goal Closed = Unit {0}
-FindsPlan i c goal (At facts) = (plan : Plan) × IsBetter i c goal plan
+FindsPlan i c goal (At facts) = (plan : Plan) × IsPlanBelow i c goal plan

@@ -2,8 +2,8 @@
 use Rattle.std.specs.Prelude.{ℕ, if◌then◌else◌}
 use Rattle.ttp_model.specs.declared.step.Step.{Step}
 use Rattle.ttp_model.specs.declared.step.Step.TheVariants.{EsRelease, EsLink, EsBefore, EsArrive, EsMessage, LoSend, LeOwn, LeLink, LeBefore, LeMessage, LeSend, HiArrive, OrdWindow, OrdTwin, UsSettled, XWindow, XRound, XCycle, XLoad, XFrame, XFrames, XLate, XSilent}
-use Rattle.ttp_model.specs.Problem.{Problem, link_at}
-use Rattle.tt_infer.specs.Facts.{Known, es_of, le_of, lo_of, top_of, bef_of}
+use Rattle.ttp_model.specs.Instance.{Instance, link_at}
+use Rattle.tt_infer.specs.Known.{Known, es_of, le_of, lo_of, top_of, bef_of}
 use Rattle.tt_infer.specs.Conclusions.{Conclusion, StartsFrom, EndsUntil, SentFrom, SentBefore, GoesFirst, NothingLeft}
 use Rattle.tt_infer.specs.Premises.{sender_of}
 use Rattle.path_bounds.specs.declared.fact.Fact.{Fact}
@@ -19,7 +19,7 @@ fact_of (GoesFirst p q) = Order p q
 fact_of NothingLeft = Closed
 
 -- the fact that a step of the table sharpens
-abbrev pub target : Problem → Step → Fact
+abbrev pub target : Instance → Step → Fact
 target i (EsRelease p) = Start p
 target i (EsLink l) = Start (link_at i l).after
 target i (EsBefore p q) = Start q
@@ -45,10 +45,10 @@ target i (XLate m r) = Closed
 target i (XSilent u v) = Closed
 
 -- how far a fact is known: a time, a round, or whether it is
-abbrev pub value_of : Known → Fact → ℕ
-value_of f (Start p) = es_of f p
-value_of f (End p) = le_of f p
-value_of f (FirstRound m) = lo_of f m
-value_of f (LateRound m) = top_of f m
-value_of f (Order p q) = if bef_of f p q then 1 else 0
-value_of f Closed = if f.closed then 1 else 0
+abbrev pub known_value : Known → Fact → ℕ
+known_value f (Start p) = es_of f p
+known_value f (End p) = le_of f p
+known_value f (FirstRound m) = lo_of f m
+known_value f (LateRound m) = top_of f m
+known_value f (Order p q) = if bef_of f p q then 1 else 0
+known_value f Closed = if f.closed then 1 else 0

@@ -1,6 +1,6 @@
 //! How is as much as possible sharpened with few tries?
 
-ghost use Rattle.path_bounds.specs.Logs.{Advances};
+ghost use Rattle.path_bounds.specs.Journal.{Advances};
 
 use crate::agenda::Agenda;
 use crate::fact::target;
@@ -14,15 +14,26 @@ const MOST_TURNS: u32 = 2_000_000_000;
 
 /// Tries the steps that may sharpen what is known, cheap ones first and each again only once a fact
 /// that it reads has been sharpened, until none is left or no plan is.
-#[tactic(auto, using(crate::proofs::Logs::advances_refl, crate::proofs::Logs::advances_trans))]
 pub fn accelerate(alloc: Global, journal: &mut Journal) -> Result<(), MemoryFault>
     ensures { Advances journal.old journal.new }
 {
     let mut agenda = Agenda::new(alloc, journal.facts())?;
     let mut steps = opening_steps(alloc, journal.facts())?;
+    follow(alloc, journal, &mut agenda, &mut steps)
+}
+
+/// Tries these steps and those that come of them.
+fn follow(
+    alloc: Global,
+    journal: &mut Journal,
+    agenda: &mut Agenda,
+    steps: &mut Vec<Step>,
+) -> Result<(), MemoryFault>
+    ensures { Advances journal.old journal.new }
+{
     'turns: for _ in 0..MOST_TURNS {
-        try_all(journal, &mut agenda, &mut steps)?;
-        if journal.facts().closed() || !agenda.next(alloc, journal.facts(), &mut steps)? {
+        try_all(journal, agenda, steps)?;
+        if journal.facts().closed() || !agenda.next(alloc, journal.facts(), steps)? {
             return Ok(());
         }
     }
@@ -30,7 +41,6 @@ pub fn accelerate(alloc: Global, journal: &mut Journal) -> Result<(), MemoryFaul
 }
 
 /// Tries all these steps, the last first, and takes note of what they sharpen.
-#[tactic(auto, using(crate::proofs::Logs::advances_refl, crate::proofs::Logs::advances_trans))]
 fn try_all(
     journal: &mut Journal,
     agenda: &mut Agenda,

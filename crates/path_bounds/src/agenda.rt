@@ -3,6 +3,7 @@
 use crate::consequences::add_consequences;
 use crate::fact::{Fact, value};
 use crate::fact_set::FactSet;
+use crate::flags::{lower, raise};
 use crate::network::Network;
 use crate::parts::{node, receivers, source};
 use crate::rings::ring_step;
@@ -10,7 +11,7 @@ use load_bounds::{frame_load, node_load};
 use std::alloc::Global;
 use std::collections::VecDeque;
 use tt_infer::Facts;
-use ttp_model::{Instance, MemoryFault, Step};
+use ttp_model::{Instance, MOST_NODES, MOST_PROCESSES, MemoryFault, Step};
 
 /// After so many facts for each process and message rings are looked for again.
 const FACTS_BETWEEN_RINGS: u32 = 4;
@@ -25,32 +26,13 @@ pub struct Agenda {
     /// The same facts, to have each of them once.
     waiting: FactSet,
     /// By process, whether the rule on settled plans may say more of its end.
-    unsettled: Vec<bool>,
+    unsettled: [bool; MOST_PROCESSES],
     /// By node, whether its processes may have become too many for their times.
-    runs: Vec<bool>,
+    runs: [bool; MOST_NODES],
     /// By node, whether its messages may have become too many for their rounds.
-    sendings: Vec<bool>,
+    sendings: [bool; MOST_NODES],
     /// How many facts are taken before rings are looked for.
     until_ring: u32,
-}
-
-/// Sets a flag, where it is there.
-fn raise(flags: &mut Vec<bool>, at: u32) {
-    if let Some(flag) = flags.get_mut(at as usize) {
-        *flag = true;
-    }
-}
-
-/// Takes a flag down, where it is there. Whether it was up.
-fn lower(flags: &mut Vec<bool>, at: u32) -> bool {
-    match flags.get_mut(at as usize) {
-        Some(flag) => {
-            let up = *flag;
-            *flag = false;
-            up
-        }
-        None => false,
-    }
 }
 
 impl Agenda {
@@ -58,20 +40,24 @@ impl Agenda {
     /// is tried with the starts and ends of their processes.
     pub fn new(alloc: Global, facts: &Facts) -> Result<Self, MemoryFault> {
         let instance = facts.instance();
-        let nodes = instance.nodes().len();
         let mut agenda = Agenda {
             network: Network::of(alloc, instance)?,
             changed: VecDeque::new(alloc),
             waiting: FactSet::none(alloc, instance)?,
-            unsettled: vec![in alloc; true; instance.processes().len()]?,
-            runs: vec![in alloc; true; nodes]?,
-            sendings: vec![in alloc; true; nodes]?,
+            unsettled: [true; MOST_PROCESSES],
+            runs: [true; MOST_NODES],
+            sendings: [true; MOST_NODES],
             until_ring: 0,
         };
-        agenda.add_starts(instance)?;
-        agenda.add_ends(instance)?;
-        agenda.add_rounds(instance)?;
+        agenda.add_all(instance)?;
         Ok(agenda)
+    }
+
+    /// Adds all facts but the orders.
+    fn add_all(&mut self, instance: &Instance) -> Result<(), MemoryFault> {
+        self.add_starts(instance)?;
+        self.add_ends(instance)?;
+        self.add_rounds(instance)
     }
 
     /// Adds the starts of all processes.

@@ -1,7 +1,7 @@
 //! How early can chains of links and messages end, whatever the plan?
 
 ghost use Rattle.std.specs.Prelude.{◌≡◌, ℕ, ◌+◌, ◌^◌, ◌<◌, ◌≤◌, max, slice_set, slice_index, Contains, IfOk, length};
-ghost use Rattle.ttp_model.specs.Problem.{process_at, message_at, source_of};
+ghost use Rattle.ttp_model.specs.Instance.{process_at, message_at, source_of};
 ghost use Rattle.ttp_model.specs.Graph.{HasLink, HasMessage};
 ghost use Rattle.ttp_model.specs.Chains.{IsPathBound, least_transfer};
 ghost use Rattle.tt_infer.specs.Premises.{Receives};

@@ -1,13 +1,14 @@
 //! Which fact is a step about, and how far is it known?
 
 ghost use Rattle.std.specs.Prelude.{◌≡◌};
-ghost use Rattle.path_bounds.specs.Targets.{target, value_of};
+ghost use Rattle.tt_infer.specs.Known.{es_of, le_of, lo_of, top_of};
+ghost use Rattle.path_bounds.specs.Targets.{target, known_value};
 
 use tt_infer::Facts;
 use ttp_model::{Instance, Step};
 
 /// Something that is known of the plans that are sought.
-#[derive(Clone, Copy, Debug, PartialEq, Eq)]
+#[derive(Clone, Copy)]
 pub enum Fact {
     /// When a process starts at least.
     Start(u32),
@@ -81,20 +82,61 @@ pub fn target(instance: &Instance, step: &Step) -> Fact
     }
 }
 
+/// When a process starts at least: 0 where the process isn't there.
+fn start(facts: &Facts, p: u32) -> u32
+    ensures { result ≡ es_of facts.now.known p }
+{
+    if (p as usize) < facts.instance().processes().len() {
+        facts.es(p)
+    } else {
+        0
+    }
+}
+
+/// When a process ends at most: 0 where the process isn't there.
+fn end(facts: &Facts, p: u32) -> u32
+    ensures { result ≡ le_of facts.now.known p }
+{
+    if (p as usize) < facts.instance().processes().len() {
+        facts.le(p)
+    } else {
+        0
+    }
+}
+
+/// The least round of a message: 0 where the message isn't there.
+fn first_round(facts: &Facts, m: u32) -> u32
+    ensures { result ≡ lo_of facts.now.known m }
+{
+    if (m as usize) < facts.instance().messages().len() {
+        facts.lo(m)
+    } else {
+        0
+    }
+}
+
+/// The first round that is too late for a message: 0 where the message isn't there.
+fn late_round(facts: &Facts, m: u32) -> u32
+    ensures { result ≡ top_of facts.now.known m }
+{
+    if (m as usize) < facts.instance().messages().len() {
+        facts.top(m)
+    } else {
+        0
+    }
+}
+
 /// How far a fact is known: a time in ticks, a round, or whether it is; 0 where what it is about
 /// isn't there.
 pub fn value(facts: &Facts, fact: Fact) -> u32
-    ensures { result ≡ value_of facts.now.known fact }
+    ensures { result ≡ known_value facts.now.known fact }
 {
-    let processes = facts.instance().processes().len();
-    let messages = facts.instance().messages().len();
     match fact {
-        Fact::Start(p) if (p as usize) < processes => facts.es(p),
-        Fact::End(p) if (p as usize) < processes => facts.le(p),
-        Fact::FirstRound(m) if (m as usize) < messages => facts.lo(m),
-        Fact::LateRound(m) if (m as usize) < messages => facts.top(m),
+        Fact::Start(p) => start(facts, p),
+        Fact::End(p) => end(facts, p),
+        Fact::FirstRound(m) => first_round(facts, m),
+        Fact::LateRound(m) => late_round(facts, m),
         Fact::Order(p, q) => u32::from(facts.bef(p, q)),
         Fact::Closed => u32::from(facts.closed()),
-        _ => 0,
     }
 }

@@ -3,42 +3,40 @@
 use crate::fact::Fact;
 use std::alloc::Global;
 use tt_choice::Precedence;
-use ttp_model::{Instance, MemoryFault};
+use ttp_model::{Instance, MOST_MESSAGES, MOST_PROCESSES, MemoryFault};
 
-/// A set of facts of an instance. Orders stay in it, and what isn't of the instance is never in it.
+/// A set of facts of an instance. Orders stay in it, and what no instance can have is never in it.
 #[derive(Drop)]
 pub struct FactSet {
-    starts: Vec<bool>,
-    ends: Vec<bool>,
-    first_rounds: Vec<bool>,
-    late_rounds: Vec<bool>,
+    starts: [bool; MOST_PROCESSES],
+    ends: [bool; MOST_PROCESSES],
+    first_rounds: [bool; MOST_MESSAGES],
+    late_rounds: [bool; MOST_MESSAGES],
     orders: Precedence,
     closed: bool,
 }
 
 /// Puts a flag, where it is there. What it was before.
-fn put(flags: &mut Vec<bool>, at: u32, value: bool) -> bool {
-    match flags.get_mut(at as usize) {
-        Some(flag) => {
-            let before = *flag;
-            *flag = value;
-            before
-        }
-        None => false,
+fn put(flags: &mut [bool], at: u32, value: bool) -> bool {
+    if (at as usize) < flags.len() {
+        let before = flags[at as usize];
+        flags[at as usize] = value;
+        before
+    } else {
+        false
     }
 }
 
 impl FactSet {
     /// The set of no facts.
     pub fn none(alloc: Global, instance: &Instance) -> Result<Self, MemoryFault> {
-        let processes = instance.processes().len();
-        let messages = instance.messages().len();
+        let orders = Precedence::none(alloc, instance.processes().len() as u32)?;
         Ok(FactSet {
-            starts: vec![in alloc; false; processes]?,
-            ends: vec![in alloc; false; processes]?,
-            first_rounds: vec![in alloc; false; messages]?,
-            late_rounds: vec![in alloc; false; messages]?,
-            orders: Precedence::none(alloc, processes as u32)?,
+            starts: [false; MOST_PROCESSES],
+            ends: [false; MOST_PROCESSES],
+            first_rounds: [false; MOST_MESSAGES],
+            late_rounds: [false; MOST_MESSAGES],
+            orders,
             closed: false,
         })
     }

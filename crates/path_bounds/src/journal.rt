@@ -1,10 +1,10 @@
 //! What is known, and by which steps?
 
-ghost use Rattle.std.specs.Prelude.{◌≡◌, ◌<◌, ◌++◌, [], All, IfOk, IsTrue, IsFalse};
-ghost use Rattle.tt_choice.specs.Choices.{IsChoice};
-ghost use Rattle.tt_infer.specs.Facts.{first_facts};
-ghost use Rattle.tt_infer.specs.Inference.{after};
-ghost use Rattle.path_bounds.specs.Logs.{Advances, Sharpens, IsIdle, slack_of};
+ghost use Rattle.std.specs.Prelude.{◌≡◌, ◌<◌, ◌++◌, [], All, IfOk, IfSome, IsTrue, IsFalse};
+ghost use Rattle.tt_choice.specs.Choice.{IsChoice};
+ghost use Rattle.tt_infer.specs.Known.{first_facts};
+ghost use Rattle.tt_infer.specs.Facts.{after};
+ghost use Rattle.path_bounds.specs.Journal.{Advances, Sharpens, SharpensNothing, slack_of};
 
 use crate::copies::copied;
 use crate::fact::{target, value};
@@ -22,9 +22,9 @@ pub struct Journal<'a> {
 }
 
 impl<'a> Model for Journal<'a> {
-    ghost use Rattle.path_bounds.specs.Logs.{Log};
+    ghost use Rattle.path_bounds.specs.Journal.{Journal};
 
-    ghost Value = { Log };
+    ghost Value = { Journal };
 
     ghost view = { λ s. record { facts = s.facts; steps = s.steps.items } };
 }
@@ -34,7 +34,7 @@ fn sharpens(facts: &mut Facts, step: &Step) -> bool
     ensures others { facts.new ≡ after facts.old facts.new.known }
     ensures sharper { IsTrue result → Sharpens facts.old step.now facts.new.known }
     ensures same { IsFalse result → facts.new ≡ facts.old }
-    ensures idle { IsFalse result → IsIdle facts.old step.now }
+    ensures idle { IsFalse result → SharpensNothing facts.old step.now }
 {
     let fact = target(facts.instance(), step);
     let before = value(facts, fact);
@@ -61,6 +61,15 @@ impl<'a> Journal<'a> {
         (facts, steps)
     }
 
+    /// The steps, where no plan is left after them.
+    pub fn closing_steps(self) -> Option<Vec<Step>>
+        ensures { IfSome result (λ steps. IsTrue self.entry.facts.known.closed
+            × (steps.items ≡ self.entry.steps)) }
+    {
+        let Journal { facts, steps } = self;
+        if facts.closed() { Some(steps) } else { None }
+    }
+
     /// What is known.
     pub fn facts(&self) -> &Facts<'a>
         ensures { result.now ≡ self.now.facts }
@@ -76,7 +85,7 @@ impl<'a> Journal<'a> {
         ensures sharper { IfOk result (λ sharper.
             IsTrue sharper → slack_of self.new.facts < slack_of self.old.facts) }
         ensures same { IfOk result (λ sharper. IsFalse sharper → self.new ≡ self.old) }
-        ensures idle { IfOk result (λ sharper. IsFalse sharper → IsIdle self.old.facts step) }
+        ensures idle { IfOk result (λ sharper. IsFalse sharper → SharpensNothing self.old.facts step) }
     {
         self.steps.try_reserve(1)?;
         if sharpens(&mut self.facts, &step) {
@@ -94,7 +103,7 @@ impl<'a> Journal<'a> {
             IsTrue sharper → slack_of self.new.facts < slack_of self.old.facts) }
         ensures same { IfOk result (λ sharper. IsFalse sharper → self.new ≡ self.old) }
         ensures idle { IfOk result (λ sharper.
-            IsFalse sharper → All (IsIdle self.new.facts) steps.now) }
+            IsFalse sharper → All (SharpensNothing self.new.facts) steps.now) }
     {
         let mut sharper = false;
         for step in steps {
@@ -111,7 +120,7 @@ impl<'a> Journal<'a> {
     #[tactic(auto, using(crate::proofs::Logs::advances_refl, crate::proofs::Logs::advances_trans))]
     pub fn settle(&mut self, alloc: Global, steps: &[Step]) -> Result<(), MemoryFault>
         ensures advances { Advances self.old self.new }
-        ensures idle { IfOk result (λ done. All (IsIdle self.new.facts) steps.now) }
+        ensures idle { IfOk result (λ done. All (SharpensNothing self.new.facts) steps.now) }
     {
         'again: loop {
             if !self.sweep(alloc, steps)? {

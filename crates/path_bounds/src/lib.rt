@@ -8,6 +8,7 @@ mod consequences;
 mod copies;
 mod fact;
 mod fact_set;
+mod flags;
 mod goals;
 mod groups;
 mod journal;

@@ -1,20 +1,26 @@
 //! Which steps are tried first?
 
-use crate::parts::{receivers, source};
+use crate::flags::{is_up, raise};
+use crate::parts::source;
 use std::alloc::Global;
 use tt_infer::Facts;
-use ttp_model::{Instance, MemoryFault, Step};
+use ttp_model::{Instance, MOST_NODES, MOST_PROCESSES, MemoryFault, Step};
 
 /// The steps that ask for nothing that is sharpened later, the one to be tried first last: releases
 /// and deadlines, frames, twins.
 pub fn opening_steps(alloc: Global, facts: &Facts) -> Result<Vec<Step>, MemoryFault> {
-    let instance = facts.instance();
     let mut steps = Vec::new(alloc);
-    add_twins(alloc, instance, &mut steps)?;
-    add_silent_twins(alloc, facts, &mut steps)?;
-    add_own(instance, &mut steps)?;
-    add_frames(instance, &mut steps)?;
+    add_opening(facts, &mut steps)?;
     Ok(steps)
+}
+
+/// Adds these steps.
+fn add_opening(facts: &Facts, steps: &mut Vec<Step>) -> Result<(), MemoryFault> {
+    let instance = facts.instance();
+    add_twins(instance, steps)?;
+    add_silent_twins(facts, steps)?;
+    add_own(instance, steps)?;
+    add_frames(instance, steps)
 }
 
 /// Adds the release and the latest end of each process.
@@ -37,12 +43,12 @@ fn add_frames(instance: &Instance, steps: &mut Vec<Step>) -> Result<(), MemoryFa
 }
 
 /// Adds the orders of processes that may be twins: they have no messages, and their numbers are equal.
-fn add_twins(alloc: Global, instance: &Instance, steps: &mut Vec<Step>) -> Result<(), MemoryFault> {
-    let talks = talking(alloc, instance)?;
+fn add_twins(instance: &Instance, steps: &mut Vec<Step>) -> Result<(), MemoryFault> {
+    let talks = talking(instance);
     let count = instance.processes().len() as u32;
     for p in 0..count {
-        if talks.get(p as usize) == Some(&false) {
-            add_twins_of(instance, talks.as_slice(), p, steps)?;
+        if !is_up(&talks, p) {
+            add_twins_of(instance, &talks, p, steps)?;
         }
     }
     Ok(())
@@ -57,8 +63,7 @@ fn add_twins_of(
 ) -> Result<(), MemoryFault> {
     let count = instance.processes().len() as u32;
     for q in 0..count {
-        let silent = talks.get(q as usize) == Some(&false);
-        if silent && p < q && are_alike(instance, p, q) {
+        if !is_up(talks, q) && p < q && are_alike(instance, p, q) {
             steps.push(Step::OrdTwin(p, q))?;
         }
     }
@@ -80,50 +85,48 @@ fn are_alike(instance: &Instance, p: u32, q: u32) -> bool {
 }
 
 /// By process, whether it sends or receives a message.
-fn talking(alloc: Global, instance: &Instance) -> Result<Vec<bool>, MemoryFault> {
-    let mut talks = vec![in alloc; false; instance.processes().len()]?;
-    for m in 0..instance.messages().len() {
-        let message = instance.message_at(m);
-        mark(&mut talks, &[message.sender]);
-        mark(&mut talks, message.receivers.as_slice());
+fn talking(instance: &Instance) -> [bool; MOST_PROCESSES] {
+    let mut talks = [false; MOST_PROCESSES];
+    for message in instance.messages() {
+        raise(&mut talks, message.sender);
+        raise_all(&mut talks, message.receivers.as_slice());
     }
-    Ok(talks)
+    talks
 }
 
 /// Sets the flags at these indices.
-fn mark(flags: &mut Vec<bool>, indices: &[u32]) {
+fn raise_all(flags: &mut [bool], indices: &[u32]) {
     for k in indices {
-        if let Some(flag) = flags.get_mut(*k as usize) {
-            *flag = true;
-        }
+        raise(flags, *k);
     }
 }
 
 /// Adds the closers of silent twins: of two nodes that send nothing the first doesn't stand before
 /// the second.
-fn add_silent_twins(
-    alloc: Global,
-    facts: &Facts,
-    steps: &mut Vec<Step>,
-) -> Result<(), MemoryFault> {
-    let instance = facts.instance();
-    let mut sends = vec![in alloc; false; instance.nodes().len()]?;
-    let messages = instance.messages().len() as u32;
-    for m in 0..messages {
-        mark(&mut sends, &[source(instance, m)]);
-    }
+fn add_silent_twins(facts: &Facts, steps: &mut Vec<Step>) -> Result<(), MemoryFault> {
+    let sends = sending(facts.instance());
     for v in facts.choice().prefix() {
-        if sends.get(*v as usize) == Some(&false) {
-            add_silent_twins_of(sends.as_slice(), *v, steps)?;
+        if !is_up(&sends, *v) {
+            add_silent_twins_of(&sends, *v, steps)?;
         }
     }
     Ok(())
 }
 
+/// By node, whether it sends a message.
+fn sending(instance: &Instance) -> [bool; MOST_NODES] {
+    let mut sends = [false; MOST_NODES];
+    let messages = instance.messages().len() as u32;
+    for m in 0..messages {
+        raise(&mut sends, source(instance, m));
+    }
+    sends
+}
+
 /// Adds the closers of nodes before `v` that send nothing.
 fn add_silent_twins_of(sends: &[bool], v: u32, steps: &mut Vec<Step>) -> Result<(), MemoryFault> {
     for u in 0..v {
-        if sends.get(u as usize) == Some(&false) {
+        if !is_up(sends, u) {
             steps.push(Step::XSilent(u, v))?;
         }
     }

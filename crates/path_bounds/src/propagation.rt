@@ -2,11 +2,11 @@
 
 ghost use Rattle.std.specs.Prelude.{◌≡◌, ℕ, ◌<◌, ◌≤◌, IfOk, OnOk, IsFalse};
 ghost use Rattle.ttp_model.specs.Chains.{IsPathBound};
-ghost use Rattle.tt_choice.specs.Choices.{IsChoice, IsComplete};
+ghost use Rattle.tt_choice.specs.Choice.{IsChoice, IsComplete};
 ghost use Rattle.ttp_model.specs.declared.plan.Plan.{Plan};
-ghost use Rattle.tt_infer.specs.Facts.{first_facts};
-ghost use Rattle.path_bounds.specs.Logs.{Advances};
-ghost use Rattle.path_bounds.specs.Propagation.{Propagates, IsClosed, IsBetter, FindsPlan};
+ghost use Rattle.tt_infer.specs.Known.{first_facts};
+ghost use Rattle.path_bounds.specs.Journal.{Advances};
+ghost use Rattle.path_bounds.specs.Propagation.{Propagates, IsClosed, IsPlanBelow, FindsPlan};
 
 use crate::acceleration::accelerate;
 use crate::journal::Journal;
@@ -19,7 +19,6 @@ use tt_infer::Facts;
 use ttp_model::{Instance, MemoryFault, Step};
 
 /// Sharpens what is known at first until the steps that a propagation rests on sharpen no more.
-#[tactic(auto, using(crate::proofs::Logs::advances_refl, crate::proofs::Logs::advances_trans))]
 fn reach(
     alloc: Global,
     instance: &Instance,
@@ -38,7 +37,7 @@ fn reach(
         → (bound : ℕ) → IsPathBound instance.now bound → bound < journal.old.facts.goal) }
     ensures found { OnOk result (IsComplete instance.now choice.now
         → IsFalse journal.new.facts.known.closed
-        → (plan : Plan) × IsBetter instance.now choice.now journal.old.facts.goal plan) }
+        → (plan : Plan) × IsPlanBelow instance.now choice.now journal.old.facts.goal plan) }
 {
     accelerate(alloc, journal)?;
     if journal.facts().closed() {

@@ -2,10 +2,10 @@
 
 ghost use Rattle.std.specs.Prelude.{◌≡◌, ℕ, ◌<◌, Contains, IfOk, OnOk, IsTrue, length};
 ghost use Rattle.ttp_model.specs.declared.step.Step.{Step};
-ghost use Rattle.ttp_model.specs.Problem.{message_at};
-ghost use Rattle.tt_choice.specs.Choices.{IsChoice, IsComplete, is_before};
+ghost use Rattle.ttp_model.specs.Instance.{message_at};
+ghost use Rattle.tt_choice.specs.Choice.{IsChoice, IsComplete, is_before};
 ghost use Rattle.tt_infer.specs.Premises.{Receives};
-ghost use Rattle.path_bounds.specs.Required.{Keeps, HasProcessSteps, HasReceiverSteps, HasChainSteps, HasRoundSteps, HasCompleteSteps};
+ghost use Rattle.path_bounds.specs.Required.{KeepsSteps, HasProcessSteps, HasReceiverSteps, HasChainSteps, HasRoundSteps, HasCompleteSteps};
 
 use std::alloc::Global;
 use tt_choice::Choice;
@@ -13,7 +13,7 @@ use ttp_model::{Instance, MemoryFault, Step};
 
 /// Adds the steps of each process alone.
 fn add_process_steps(instance: &Instance, steps: &mut Vec<Step>) -> Result<(), MemoryFault>
-    ensures kept { OnOk result (Keeps steps.old.items steps.new.items) }
+    ensures kept { OnOk result (KeepsSteps steps.old.items steps.new.items) }
     ensures added { OnOk result ((p : ℕ) → p < length instance.now.processes
         → HasProcessSteps steps.new.items p) }
 {
@@ -28,7 +28,7 @@ fn add_process_steps(instance: &Instance, steps: &mut Vec<Step>) -> Result<(), M
 
 /// Adds the step of each link.
 fn add_link_steps(instance: &Instance, steps: &mut Vec<Step>) -> Result<(), MemoryFault>
-    ensures kept { OnOk result (Keeps steps.old.items steps.new.items) }
+    ensures kept { OnOk result (KeepsSteps steps.old.items steps.new.items) }
     ensures added { OnOk result ((l : ℕ) → l < length instance.now.links
         → Contains steps.new.items (Step.EsLink l)) }
 {
@@ -41,7 +41,7 @@ fn add_link_steps(instance: &Instance, steps: &mut Vec<Step>) -> Result<(), Memo
 
 /// Adds the steps of each receiver of message `m`.
 fn add_receiver_steps(receivers: &[u32], m: u32, steps: &mut Vec<Step>) -> Result<(), MemoryFault>
-    ensures kept { OnOk result (Keeps steps.old.items steps.new.items) }
+    ensures kept { OnOk result (KeepsSteps steps.old.items steps.new.items) }
     ensures added { OnOk result ((q : ℕ) → Contains receivers.now q
         → HasReceiverSteps steps.new.items m q) }
 {
@@ -54,7 +54,7 @@ fn add_receiver_steps(receivers: &[u32], m: u32, steps: &mut Vec<Step>) -> Resul
 
 /// Adds the steps of each receiver of each message.
 fn add_message_steps(instance: &Instance, steps: &mut Vec<Step>) -> Result<(), MemoryFault>
-    ensures kept { OnOk result (Keeps steps.old.items steps.new.items) }
+    ensures kept { OnOk result (KeepsSteps steps.old.items steps.new.items) }
     ensures added { OnOk result ((m q : ℕ) → Receives instance.now m q
         → HasReceiverSteps steps.new.items m q) }
 {
@@ -84,7 +84,7 @@ fn add_orders_of(
     count: u32,
     steps: &mut Vec<Step>,
 ) -> Result<(), MemoryFault>
-    ensures kept { OnOk result (Keeps steps.old.items steps.new.items) }
+    ensures kept { OnOk result (KeepsSteps steps.old.items steps.new.items) }
     ensures added { OnOk result ((q : ℕ) → q < count → IsTrue (is_before choice.now p q)
         → Contains steps.new.items (Step.EsBefore p q)) }
 {
@@ -103,7 +103,7 @@ fn add_orders(
     steps: &mut Vec<Step>,
 ) -> Result<(), MemoryFault>
     requires { IsChoice instance.now choice.now }
-    ensures kept { OnOk result (Keeps steps.old.items steps.new.items) }
+    ensures kept { OnOk result (KeepsSteps steps.old.items steps.new.items) }
     ensures added { OnOk result ((p q : ℕ) → IsTrue (is_before choice.now p q)
         → Contains steps.new.items (Step.EsBefore p q)) }
 {
@@ -121,7 +121,7 @@ fn add_rounds(
     steps: &mut Vec<Step>,
 ) -> Result<(), MemoryFault>
     requires { IsChoice instance.now choice.now }
-    ensures kept { OnOk result (Keeps steps.old.items steps.new.items) }
+    ensures kept { OnOk result (KeepsSteps steps.old.items steps.new.items) }
     ensures added { OnOk result ((m : ℕ) → m < length instance.now.messages
         → HasRoundSteps instance.now choice.now steps.new.items m) }
 {

@@ -1,10 +1,15 @@
 //! Do processes wait for each other?
 
+use crate::fact::link_after;
+use crate::flags::{is_up, lower, raise};
 use crate::network::Network;
 use crate::parts::{node, receivers};
 use std::alloc::Global;
 use tt_infer::Facts;
-use ttp_model::{MemoryFault, Ring, Step};
+use ttp_model::{MOST_PROCESSES, MemoryFault, Ring, Step};
+
+/// A number for each process.
+type Numbers = [u32; MOST_PROCESSES];
 
 /// A step that closes a ring of processes each of which goes before the next, where there is one. A
 /// look at each pair of processes of one node, at each link and at each message.
@@ -13,156 +18,159 @@ pub fn ring_step(
     network: &Network,
     facts: &Facts,
 ) -> Result<Option<Step>, MemoryFault> {
-    let waiting = waiting(alloc, network, facts)?;
+    let waiting = waiting(network, facts);
     let Some(first) = waiting.iter().position(|waits| *waits) else {
         return Ok(None);
     };
-    let Ok(first) = u32::try_from(first) else {
-        return Ok(None);
-    };
-    let ring = ring_back(alloc, network, facts, waiting.as_slice(), first)?;
+    let before = before(network, facts, &waiting);
+    let ring = ring_from(alloc, &before, entry(&before, first as u32))?;
     if ring.len() < 2 {
         return Ok(None);
     }
     Ok(Some(Step::XCycle(Ring::new(ring))))
 }
 
-/// By process, whether it is left when again and again a process is taken away that waits for none.
-fn waiting(alloc: Global, network: &Network, facts: &Facts) -> Result<Vec<bool>, MemoryFault> {
+/// By process, whether it is left when again and again those are taken away that wait for none.
+fn waiting(network: &Network, facts: &Facts) -> [bool; MOST_PROCESSES] {
     let count = facts.instance().processes().len() as u32;
-    let mut awaited = awaited(alloc, network, facts)?;
-    let mut free = Vec::new(alloc);
+    let mut waiting = [false; MOST_PROCESSES];
+    let mut times = [0; MOST_PROCESSES];
     for p in 0..count {
-        if awaited.get(p as usize) == Some(&0) {
-            free.push(p)?;
-        }
+        raise(&mut waiting, p);
+        count_later(network, facts, p, true, &mut times);
     }
-    let mut waiting = vec![in alloc; true; count as usize]?;
-    let mut later = Vec::new(alloc);
     for _ in 0..count {
-        let Some(p) = free.pop() else {
-            return Ok(waiting);
-        };
-        if let Some(waits) = waiting.get_mut(p as usize) {
-            *waits = false;
-        }
-        later.clear();
-        add_later(network, facts, p, &mut later)?;
-        release(&mut awaited, later.as_slice(), &mut free)?;
-    }
-    Ok(waiting)
-}
-
-/// By process, how many times it stands after another.
-fn awaited(alloc: Global, network: &Network, facts: &Facts) -> Result<Vec<u32>, MemoryFault> {
-    let count = facts.instance().processes().len() as u32;
-    let mut awaited = vec![in alloc; 0u32; count as usize]?;
-    let mut later = Vec::new(alloc);
-    for p in 0..count {
-        later.clear();
-        add_later(network, facts, p, &mut later)?;
-        for q in &later {
-            if let Some(times) = awaited.get_mut(*q as usize) {
-                *times = times.saturating_add(1);
-            }
+        if !take_free(network, facts, &mut waiting, &mut times) {
+            return waiting;
         }
     }
-    Ok(awaited)
+    waiting
 }
 
-/// Counts one less for each of these processes, and adds those that stand after no other now.
-fn release(awaited: &mut Vec<u32>, later: &[u32], free: &mut Vec<u32>) -> Result<(), MemoryFault> {
-    for q in later {
-        if let Some(times) = awaited.get_mut(*q as usize) {
-            *times = times.saturating_sub(1);
-            if *times == 0 {
-                free.push(*q)?;
-            }
-        }
-    }
-    Ok(())
-}
-
-/// Adds the processes that `p` goes before, each as often as it does.
-fn add_later(
+/// Takes away the processes that wait for none. Whether there was one. By process it is kept how many
+/// times it stands after one that is left.
+fn take_free(
     network: &Network,
     facts: &Facts,
-    p: u32,
-    later: &mut Vec<u32>,
-) -> Result<(), MemoryFault> {
+    waiting: &mut [bool; MOST_PROCESSES],
+    times: &mut Numbers,
+) -> bool {
+    let mut taken = false;
+    let count = facts.instance().processes().len() as u32;
+    for p in 0..count {
+        if number(times, p) == 0 && lower(waiting, p) {
+            count_later(network, facts, p, false, times);
+            taken = true;
+        }
+    }
+    taken
+}
+
+/// Counts each process that `p` goes before, as often as it does: one more or one less.
+fn count_later(network: &Network, facts: &Facts, p: u32, more: bool, times: &mut Numbers) {
+    count_mates(network, facts, p, more, times);
+    count_linked(network, facts, p, more, times);
+    for m in network.sent(p) {
+        count_all(times, receivers(facts.instance(), *m), more);
+    }
+}
+
+/// Counts the processes of its node that `p` goes before.
+fn count_mates(network: &Network, facts: &Facts, p: u32, more: bool, times: &mut Numbers) {
     for q in network.hosted(node(facts.instance(), p)) {
         if facts.bef(p, *q) {
-            later.push(*q)?;
+            count(times, *q, more);
         }
     }
+}
+
+/// Counts the processes that links lead to from `p`.
+fn count_linked(network: &Network, facts: &Facts, p: u32, more: bool, times: &mut Numbers) {
     for l in network.links_from(p) {
-        if (*l as usize) < facts.instance().links().len() {
-            later.push(facts.instance().link_at(*l as usize).after)?;
-        }
+        count(times, link_after(facts.instance(), *l), more);
     }
-    for m in network.sent(p) {
-        later.extend_from_slice(receivers(facts.instance(), *m))?;
-    }
-    Ok(())
 }
 
-/// Goes back from a process that waits, each time to one that waits and goes before it, until one
-/// comes again: those since then, the earliest first.
-fn ring_back(
-    alloc: Global,
-    network: &Network,
-    facts: &Facts,
-    waiting: &[bool],
-    first: u32,
-) -> Result<Vec<u32>, MemoryFault> {
-    let mut back = Vec::new(alloc);
+/// Counts each of these processes.
+fn count_all(times: &mut Numbers, processes: &[u32], more: bool) {
+    for q in processes {
+        count(times, *q, more);
+    }
+}
+
+/// Counts a process: one more or one less.
+fn count(times: &mut Numbers, q: u32, more: bool) {
+    let before = number(times, q);
+    if (q as usize) < MOST_PROCESSES {
+        times[q as usize] = if more {
+            before.saturating_add(1)
+        } else {
+            before.saturating_sub(1)
+        };
+    }
+}
+
+/// The number of a process: 0 where it isn't there.
+fn number(numbers: &Numbers, p: u32) -> u32 {
+    if (p as usize) < MOST_PROCESSES {
+        numbers[p as usize]
+    } else {
+        0
+    }
+}
+
+/// By process, one that waits and goes before it.
+fn before(network: &Network, facts: &Facts, waiting: &[bool; MOST_PROCESSES]) -> Numbers {
+    let mut before = [0; MOST_PROCESSES];
+    for q in 0..MOST_PROCESSES {
+        before[q] = one_before(network, facts, waiting, q as u32);
+    }
+    before
+}
+
+/// The first process that waits and goes before `q`: 0 where there is none.
+fn one_before(network: &Network, facts: &Facts, waiting: &[bool; MOST_PROCESSES], q: u32) -> u32 {
+    let count = facts.instance().processes().len() as u32;
+    for p in 0..count {
+        if is_up(waiting, p) && goes_before(network, facts, p, q) {
+            return p;
+        }
+    }
+    0
+}
+
+/// Whether process `p` goes before `q`.
+fn goes_before(network: &Network, facts: &Facts, p: u32, q: u32) -> bool {
+    let mut times = [0; MOST_PROCESSES];
+    count_later(network, facts, p, true, &mut times);
+    number(&times, q) > 0
+}
+
+/// The first process that comes again where one goes back from a process, each time to the one before.
+fn entry(before: &Numbers, first: u32) -> u32 {
+    let mut seen = [false; MOST_PROCESSES];
     let mut at = first;
-    for _ in 0..waiting.len() {
-        if let Some(k) = back.iter().position(|p| *p == at) {
-            return Ok(turned(alloc, back.as_slice(), k)?);
+    for _ in 0..MOST_PROCESSES {
+        if is_up(&seen, at) {
+            return at;
         }
-        back.push(at)?;
-        match one_before(alloc, network, facts, waiting, at)? {
-            Some(p) => at = p,
-            None => return Ok(Vec::new(alloc)),
-        }
+        raise(&mut seen, at);
+        at = number(before, at);
     }
-    match back.iter().position(|p| *p == at) {
-        Some(k) => turned(alloc, back.as_slice(), k),
-        None => Ok(Vec::new(alloc)),
-    }
+    at
 }
 
-/// The numbers from a place on, the last first.
-fn turned(alloc: Global, back: &[u32], from: usize) -> Result<Vec<u32>, MemoryFault> {
+/// The processes from one back to itself, the earliest first.
+fn ring_from(alloc: Global, before: &Numbers, entry: u32) -> Result<Vec<u32>, MemoryFault> {
     let mut ring = Vec::new(alloc);
-    for (k, p) in back.iter().enumerate() {
-        if k >= from {
-            ring.push(*p)?;
+    let mut at = entry;
+    for _ in 0..MOST_PROCESSES {
+        ring.push(at)?;
+        at = number(before, at);
+        if at == entry {
+            break;
         }
     }
     ring.reverse();
     Ok(ring)
-}
-
-/// A process that waits and goes before `q`.
-fn one_before(
-    alloc: Global,
-    network: &Network,
-    facts: &Facts,
-    waiting: &[bool],
-    q: u32,
-) -> Result<Option<u32>, MemoryFault> {
-    let count = facts.instance().processes().len() as u32;
-    let mut later = Vec::new(alloc);
-    for p in 0..count {
-        if waiting.get(p as usize) == Some(&true) {
-            later.clear();
-            add_later(network, facts, p, &mut later)?;
-            if later.contains(&q) {
-                return Ok(Some(p));
-            }
-        }
-    }
-    Ok(None)
 }

@@ -1,9 +1,9 @@
 //! Which steps does a closer need?
 
 ghost use Rattle.std.specs.Prelude.{◌≡◌, ◌^◌, ◌<◌, IfOk, IfSome, length};
-ghost use Rattle.tt_choice.specs.Choices.{IsChoice};
+ghost use Rattle.tt_choice.specs.Choice.{IsChoice};
 ghost use Rattle.tt_infer.specs.Leaves.{ClosesLeaf};
-ghost use Rattle.path_bounds.specs.Logs.{Advances};
+ghost use Rattle.path_bounds.specs.Journal.{Advances};
 
 use crate::copies::copied;
 use crate::fact::{Fact, target};
@@ -74,15 +74,13 @@ fn replayed(
     let first = Facts::new(alloc, instance, choice, goal)?;
     let mut journal = Journal::new(first, Vec::new(alloc));
     try_marked(alloc, &mut journal, steps, marks)?;
-    let (facts, kept) = journal.into_parts();
-    if facts.closed() {
-        return Ok(Some(kept));
+    match journal.closing_steps() {
+        Some(kept) => Ok(Some(kept)),
+        None => Ok(None),
     }
-    Ok(None)
 }
 
 /// Tries the steps that are marked, one after another.
-#[tactic(auto, using(crate::proofs::Logs::advances_refl, crate::proofs::Logs::advances_trans))]
 fn try_marked(
     alloc: Global,
     journal: &mut Journal,
@@ -112,18 +110,27 @@ fn needed(
     requires { IsChoice instance.now choice.now }
 {
     let facts = reached(alloc, instance, choice, goal, steps)?;
-    let mut wanted = FactSet::none(alloc, instance)?;
+    marked(alloc, &facts, steps)
+}
+
+/// The same, where this is known after the steps.
+fn marked(alloc: Global, facts: &Facts, steps: &[Step]) -> Result<Vec<bool>, MemoryFault> {
+    let mut marks = vec![in alloc; false; steps.len()]?;
+    let mut wanted = FactSet::none(alloc, facts.instance())?;
     wanted.insert(Fact::Closed);
-    let mut marks = Vec::new(alloc);
-    for step in steps.iter().rev() {
-        let mark = wanted.remove(target(instance, step));
-        if mark {
-            add_reads(&mut wanted, &facts, step);
-        }
-        marks.push(mark)?;
-    }
-    marks.reverse();
+    mark(facts, steps, &mut wanted, &mut marks);
     Ok(marks)
+}
+
+/// Marks the steps that are needed for the facts of a set, the last first.
+fn mark(facts: &Facts, steps: &[Step], wanted: &mut FactSet, marks: &mut [bool]) {
+    for k in (0..steps.len()).rev() {
+        let step = &steps[k];
+        if k < marks.len() && wanted.remove(target(facts.instance(), step)) {
+            marks[k] = true;
+            add_reads(wanted, facts, step);
+        }
+    }
 }
 
 /// What is known after these steps.

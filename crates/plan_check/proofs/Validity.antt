@@ -4,12 +4,12 @@ use Rattle.ttp_model.specs.declared.plan.Plan.{Plan}
 use Rattle.ttp_model.specs.declared.fault.PlanPart.TheVariants as part
 use Rattle.ttp_model.specs.declared.fault.PlanFault.{PlanFault}
 use Rattle.ttp_model.specs.declared.fault.PlanFault.TheVariants.{WrongLength, WrongOrder, WrongCapacity, TooEarly, TooLate, Overlap, BrokenLink, NotReady, NotArrived, Overfull}
-use Rattle.ttp_model.specs.Problem.{Problem}
+use Rattle.ttp_model.specs.Instance.{Instance}
 use Rattle.ttp_model.specs.Plans.{Lengths, Order, Capacities, Releases, Ends, Overlaps, Links, Readiness, Arrivals, Frames, IsValid, Keeps}
 use Rattle.ttp_model.specs.Faults.{IsFirstFault, KeepsBefore}
 
 -- all ten, from those on lists and processes and the three on messages
-pub IsValid_from : (i : Problem) (plan : Plan) → KeepsBefore i plan Readiness → Keeps i plan Readiness → Keeps i plan Arrivals → Keeps i plan Frames → IsValid i plan
+pub IsValid_from : (i : Instance) (plan : Plan) → KeepsBefore i plan Readiness → Keeps i plan Readiness → Keeps i plan Arrivals → Keeps i plan Frames → IsValid i plan
 IsValid_from i plan before ready arrived frames = record {
   lengths = before.each Lengths (omega arith);
   order = before.each Order (omega arith);
@@ -23,7 +23,7 @@ IsValid_from i plan before ready arrived frames = record {
   frames = frames;
 }
 
-pub IsValid-without_fault : (i : Problem) (plan : Plan) (fault : PlanFault) → IsValid i plan → ¬ IsFirstFault i plan fault
+pub IsValid-without_fault : (i : Instance) (plan : Plan) (fault : PlanFault) → IsValid i plan → ¬ IsFirstFault i plan fault
 IsValid-without_fault i plan (WrongLength part.Order) v f = f.1 v.lengths.order
 IsValid-without_fault i plan (WrongLength part.Capacities) v f = f.1.1 v.lengths.capacities
 IsValid-without_fault i plan (WrongLength part.Starts) v f = f.1.2 v.lengths.starts

@@ -1,4 +1,4 @@
-pub use Rattle.tt_layout.specs.Problem
+pub use Rattle.tt_layout.specs.Instance
 pub use Rattle.tt_layout.specs.Rules
 pub use Rattle.tt_layout.specs.Plans
 pub use Rattle.ttp_model.specs.Lists

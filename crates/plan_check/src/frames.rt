@@ -1,11 +1,11 @@
 //! Do the messages of each frame fit into its capacity?
 
-ghost use Rattle.std.specs.Prelude.{◌≡◌, ◌*◌, ◌<◌, ◌≤◌, MatchOption, length};
+ghost use Rattle.std.specs.Prelude.{◌≡◌, ◌*◌, ◌≤◌, MatchOption, length};
 ghost use Rattle.ttp_model.specs.Lists.{EachBelow};
-ghost use Rattle.ttp_model.specs.Plans.{FitsFrame, HasLengths, bytes_in, load_of};
+ghost use Rattle.ttp_model.specs.Plans.{FitsFrame, HasLengths, load_of};
 ghost use Rattle.ttp_model.specs.Faults.{IsFirstOverfull};
 
-use ttp_model::{Instance, MOST_BYTES, MOST_MESSAGES, Plan};
+use ttp_model::{Instance, MOST_BYTES, MOST_MESSAGES, Plan, bytes_in};
 
 /// The frame, by node and round, of the first message in an overfull one.
 pub fn first_overfull(instance: &Instance, plan: &Plan) -> Option<(u32, u32)>
@@ -35,22 +35,7 @@ pub fn load_of(instance: &Instance, plan: &Plan, n: u32, r: u32) -> u64
 {
     let mut load = 0;
     for m in 0..instance.messages().len() {
-        load += bytes_in(instance, plan, n, r, m);
+        load += u64::from(bytes_in(instance, plan, n, r, m));
     }
     load
-}
-
-/// The bytes that a message puts into a frame: none where it isn't sent in it.
-fn bytes_in(instance: &Instance, plan: &Plan, n: u32, r: u32, m: usize) -> u64
-    requires lengths { HasLengths instance.now plan.now }
-    requires inside { m < length instance.now.messages }
-    ensures value { result ≡ bytes_in instance.now plan.now n r m }
-    ensures bound { result ≤ MOST_BYTES }
-{
-    let round = plan.rounds.as_slice()[m];
-    if instance.source_of(m) == n && round == r {
-        u64::from(instance.message_at(m).bytes)
-    } else {
-        0
-    }
 }

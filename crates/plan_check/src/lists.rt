@@ -82,12 +82,5 @@ fn has_own_capacity(instance: &Instance, plan: &Plan, n: usize) -> bool
     ensures { IsTrue result ↔ HasOwnCapacity instance.now plan.now.caps n }
 {
     let capacity = plan.caps.as_slice()[n];
-    has(instance.nodes()[n].capacities.as_slice(), capacity)
-}
-
-/// Whether the number is among them.
-fn has(numbers: &[u32], number: u32) -> bool
-    ensures { IsTrue result ↔ Contains numbers.now number }
-{
-    numbers.contains(&number)
+    instance.nodes()[n].capacities.contains(capacity)
 }

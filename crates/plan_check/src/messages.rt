@@ -2,10 +2,10 @@
 
 ghost use Rattle.std.specs.Prelude.{◌≡◌, ◌+◌, ◌<◌, MatchOption, length};
 ghost use Rattle.ttp_model.specs.Lists.{EachBelow, FindsFailure};
-ghost use Rattle.ttp_model.specs.Problem.{message_at};
+ghost use Rattle.ttp_model.specs.Instance.{message_at};
 ghost use Rattle.ttp_model.specs.Plans.{HasArrivedAt, HasArrivedEverywhere, HasLengths, IsReady, sent_until};
 ghost use Rattle.ttp_model.specs.Faults.{IsFirstLate};
-ghost use Rattle.tt_layout.specs.Timing.{timing};
+ghost use Rattle.tt_layout.specs.Layout.{timing};
 
 use tt_layout::Layout;
 use ttp_model::{Instance, Plan, end_of};

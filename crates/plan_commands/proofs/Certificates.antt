@@ -1,9 +1,9 @@
 -- What two readers give is judged as their texts are, and the line of a bound is the outcome of `check`.
 use Rattle.std.proofs.Common.{ℕ, List, Option, None, Some, IfSome, refl}
-use Rattle.ttp_model.specs.Problem.{Problem}
+use Rattle.ttp_model.specs.Instance.{Instance}
 use Rattle.command_streams.specs.declared.ending.Source.TheVariants as source
 use Rattle.command_streams.specs.declared.ending.Fault.{Fault}
-use Rattle.command_streams.specs.declared.ending.Fault.TheVariants.{NoMark, LossForm, Instance, Memory, PlanText, Plan, StatedDelay, CertificateText, Certificate, TooFewNodes, WrongLoss, Search, Unread, Unwritten}
+use Rattle.command_streams.specs.declared.ending.Fault.TheVariants.{NoMark, LossForm, InstanceText, Memory, PlanText, Plan, StatedDelay, CertificateText, Certificate, TooFewNodes, WrongLoss, Search, Unread, Unwritten}
 use Rattle.command_streams.specs.declared.ending.End.{End}
 use Rattle.command_streams.specs.declared.ending.End.TheVariants.{Refused}
 use Rattle.command_streams.specs.Outcomes.{IsWritingUnlessMemory}
@@ -12,14 +12,14 @@ use Rattle.plan_commands.specs.Certified.{HasBound, IsCertificateFault, IsUnprov
 use Rattle.command_streams.proofs.Outcomes.{keeps, made_outcome}
 
 -- a bound that is proved and written
-pub bound_of_readers : (a b : Option (List ℕ)) (i : Problem) (low : ℕ) (old new : Option (List ℕ)) (end : End) → IfSome a (λ instance. HasInstance instance i) → IfSome b (λ certificate. HasBound i certificate low) → IsWritingUnlessMemory (bound_line low) old new end → IfSome a (λ instance. IfSome b (λ certificate. IsCheckAnswer instance certificate old new end))
+pub bound_of_readers : (a b : Option (List ℕ)) (i : Instance) (low : ℕ) (old new : Option (List ℕ)) (end : End) → IfSome a (λ instance. HasInstance instance i) → IfSome b (λ certificate. HasBound i certificate low) → IsWritingUnlessMemory (bound_line low) old new end → IfSome a (λ instance. IfSome b (λ certificate. IsCheckAnswer instance certificate old new end))
 bound_of_readers None b i low old new end has_instance has_bound writing = tt
 bound_of_readers (Some instance) None i low old new end has_instance has_bound writing = tt
 bound_of_readers (Some instance) (Some certificate) i low old new end has_instance has_bound writing =
     made_outcome (IsBoundLine instance certificate) (IsUnproved instance certificate) (bound_line low) (record { problem = i; low = low; has_instance = has_instance; has_bound = has_bound; line_is = refl }) old new tt end writing
 
 -- a certificate that is refused, and nothing is written
-module _ (instance certificate : List ℕ) (i : Problem) (has : HasInstance instance i) (old : Option (List ℕ)) where
+module _ (instance certificate : List ℕ) (i : Instance) (has : HasInstance instance i) (old : Option (List ℕ)) where
   refused_here : (fault : Fault) → IsCertificateFault i certificate fault → IsCheckAnswer instance certificate old old (Refused fault)
   refused_here Memory refused = (tt, keeps old)
   refused_here (Unread source.Certificate) refused = (record { problem = i; has_instance = has; refused = refused }, keeps old)
@@ -27,7 +27,7 @@ module _ (instance certificate : List ℕ) (i : Problem) (has : HasInstance inst
   refused_here (Certificate fault) refused = (record { problem = i; has_instance = has; refused = refused }, keeps old)
   refused_here NoMark refused = absurd refused
   refused_here (LossForm k) refused = absurd refused
-  refused_here (Instance error) refused = absurd refused
+  refused_here (InstanceText error) refused = absurd refused
   refused_here (PlanText error) refused = absurd refused
   refused_here (Plan fault) refused = absurd refused
   refused_here (StatedDelay d) refused = absurd refused
@@ -38,7 +38,7 @@ module _ (instance certificate : List ℕ) (i : Problem) (has : HasInstance inst
   refused_here (Unread source.Plan) refused = absurd refused
   refused_here (Unwritten sink) refused = absurd refused
 
-pub refused_of_readers : (a b : Option (List ℕ)) (i : Problem) (old : Option (List ℕ)) (fault : Fault) → IfSome a (λ instance. HasInstance instance i) → IfSome b (λ certificate. IsCertificateFault i certificate fault) → IfSome a (λ instance. IfSome b (λ certificate. IsCheckAnswer instance certificate old old (Refused fault)))
+pub refused_of_readers : (a b : Option (List ℕ)) (i : Instance) (old : Option (List ℕ)) (fault : Fault) → IfSome a (λ instance. HasInstance instance i) → IfSome b (λ certificate. IsCertificateFault i certificate fault) → IfSome a (λ instance. IfSome b (λ certificate. IsCheckAnswer instance certificate old old (Refused fault)))
 refused_of_readers None b i old fault has refused = tt
 refused_of_readers (Some instance) None i old fault has refused = tt
 refused_of_readers (Some instance) (Some certificate) i old fault has refused = refused_here instance certificate i has old fault refused

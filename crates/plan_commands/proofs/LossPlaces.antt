@@ -5,13 +5,13 @@ use Rattle.std.proofs.lemmas.List.Concat.{get_or-flat_map, length-flat_map}
 use Rattle.std.proofs.lemmas.List.Elements.{All-from_get_or}
 use Rattle.std.proofs.lemmas.List.Sums.{sum_by_more}
 use Rattle.ttp_model.specs.Lists.{IsFirstFailure}
-use Rattle.medl_tables.specs.Tables.{Tables}
+use Rattle.medl_tables.specs.Medl.{Medl}
 use Rattle.membership_replay.specs.declared.loss.Loss.{Loss}
 use Rattle.membership_replay.specs.Losses.{IsLossAt, IsLossOf, no_loss}
 use Rattle.plan_commands.specs.declared.losses.LossWord.{LossWord}
 use Rattle.plan_commands.specs.LossWords.{CanBeAt, IsWordOfLoss, losses_before, losses_of_word, losses_of_words, no_word}
 
-module _ (t : Tables) (words : List LossWord) where
+module _ (t : Medl) (words : List LossWord) where
   -- the losses before the next word are those before this one and this one's
   pub before_more : (k : ℕ) → k < length words → length (losses_before t words (k + 1)) ≡ length (losses_before t words k) + length (losses_of_word t (slice_index_or words k no_word))
   before_more k there =

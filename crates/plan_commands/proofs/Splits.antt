@@ -4,14 +4,14 @@ use Rattle.std.proofs.lemmas.List.{get_or_append_left, take-append-le, drop-appe
 use Rattle.command_streams.specs.declared.input.Taken.{Taken}
 use Rattle.command_streams.specs.declared.input.Stop.TheVariants.{AtEnd}
 use Rattle.command_streams.specs.declared.ending.Fault.{Fault}
-use Rattle.command_streams.specs.declared.ending.Fault.TheVariants.{NoMark, LossForm, Instance, Memory, PlanText, Plan, StatedDelay, CertificateText, Certificate, TooFewNodes, WrongLoss, Search, Unread, Unwritten}
+use Rattle.command_streams.specs.declared.ending.Fault.TheVariants.{NoMark, LossForm, InstanceText, Memory, PlanText, Plan, StatedDelay, CertificateText, Certificate, TooFewNodes, WrongLoss, Search, Unread, Unwritten}
 use Rattle.command_streams.specs.declared.ending.Source.TheVariants as source
-use Rattle.ttp_model.specs.Problem.{Problem}
+use Rattle.ttp_model.specs.Instance.{Instance}
 use Rattle.command_streams.specs.Streams.{IsTaken}
 use Rattle.plan_commands.specs.declared.verdict.Verified.{Verified}
 use Rattle.command_streams.specs.Instances.{HasInstance, IsInstanceFault}
 use Rattle.plan_commands.specs.Verdicts.{IsPlanFault, IsVerifiedPlan}
-use Rattle.plan_commands.specs.Bundles.{IsMark, IsFirstMark, IsSplit, IsVerifiedBundle, IsRefusedBundle}
+use Rattle.plan_commands.specs.Bundles.{IsMark, IsFirstMark, IsBundleOf, IsVerifiedBundle, IsRefusedBundle}
 
 -- a mark has all its bytes
 pub mark_within : (bytes : List ℕ) (at : ℕ) → IsMark bytes at → at + 3 ≤ length bytes
@@ -48,7 +48,7 @@ module _ (bytes rest : List ℕ) where
       }
 
 -- the parts of the bundle: the front is what was taken before the mark
-pub split_at : (bytes rest all : List ℕ) (at : ℕ) → all ≡ bytes ++ rest → IsFirstMark bytes at → IsSplit all (take at bytes) (drop (at + 3) all)
+pub split_at : (bytes rest all : List ℕ) (at : ℕ) → all ≡ bytes ++ rest → IsFirstMark bytes at → IsBundleOf all (take at bytes) (drop (at + 3) all)
 split_at bytes rest all at is first =
     let within = mark_within bytes at first.is in
     record {
@@ -75,14 +75,14 @@ module _ (limit : ℕ) (taken : Taken) (all : List ℕ) (at : ℕ) (is_taken : I
   refused_front (PlanText error) refused = absurd refused
   refused_front (Plan fault) refused = absurd refused
   refused_front (StatedDelay delay) refused = absurd refused
-  refused_front (Instance error) refused = record {
+  refused_front (InstanceText error) refused = record {
     instance = take at taken.bytes.items;
     plan = drop (at + 3) all;
     split = split_at taken.bytes.items is_taken.rest all at is_taken.first first;
     refused = refused;
   }
 
-  pub unread_plan : (i : Problem) → HasInstance (take at taken.bytes.items) i → IsRefusedBundle all (Unread source.Plan)
+  pub unread_plan : (i : Instance) → HasInstance (take at taken.bytes.items) i → IsRefusedBundle all (Unread source.Plan)
   unread_plan i has_instance = record {
     instance = take at taken.bytes.items;
     plan = drop (at + 3) all;
@@ -97,7 +97,7 @@ module _ (limit : ℕ) (taken : Taken) (all : List ℕ) (at : ℕ) (is_taken : I
       let until = rw ended at is_taken.until in
       is_taken.first ∙ ap (λ (rest : List ℕ). taken.bytes.items ++ rest) until.1 ∙ append-nil taken.bytes.items
 
-  split_all : IsSplit all (take at taken.bytes.items) (drop (at + 3) taken.bytes.items)
+  split_all : IsBundleOf all (take at taken.bytes.items) (drop (at + 3) taken.bytes.items)
   split_all = record {
     at = at;
     first = subst (λ xs. IsFirstMark xs at) (sym all_taken) first;
@@ -105,7 +105,7 @@ module _ (limit : ℕ) (taken : Taken) (all : List ℕ) (at : ℕ) (is_taken : I
     behind = ap (drop (at + 3)) (sym all_taken);
   }
 
-  module _ (i : Problem) (has_instance : HasInstance (take at taken.bytes.items) i) where
+  module _ (i : Instance) (has_instance : HasInstance (take at taken.bytes.items) i) where
     verified_all : (v : Verified) → IsVerifiedPlan i (drop (at + 3) taken.bytes.items) v → IsVerifiedBundle all v
     verified_all v verified = record {
       instance = take at taken.bytes.items;
@@ -127,7 +127,7 @@ module _ (limit : ℕ) (taken : Taken) (all : List ℕ) (at : ℕ) (is_taken : I
     refused_all (Unread source.Plan) refused = absurd refused
     refused_all (Unread source.Certificate) refused = absurd refused
     refused_all (Unwritten sink) refused = absurd refused
-    refused_all (Instance error) refused = absurd refused
+    refused_all (InstanceText error) refused = absurd refused
     refused_all (PlanText error) refused = record {
       instance = take at taken.bytes.items;
       plan = drop (at + 3) taken.bytes.items;

@@ -1,25 +1,25 @@
 -- A text that is told, once it is written, is a command's outcome; and what a reader gave is verified as its text is.
 use Rattle.std.proofs.Common.{◌≡◌, ℕ, List, Option, None, Some, Result, Ok, Err, IfSome, MatchResult, ap, sym}
 use Rattle.ttp_model.specs.declared.plan.Plan.{Plan as Table}
-use Rattle.ttp_model.specs.Problem.{Problem}
+use Rattle.ttp_model.specs.Instance.{Instance}
 use Rattle.ttp_model.specs.Delays.{delay}
 use Rattle.plan_commands.specs.declared.verdict.Verified.{Verified}
 use Rattle.command_streams.specs.declared.ending.Sink.TheVariants as sink
 use Rattle.command_streams.specs.declared.ending.Fault.{Fault}
-use Rattle.command_streams.specs.declared.ending.Fault.TheVariants.{NoMark, LossForm, Instance, Memory, PlanText, Plan, StatedDelay, CertificateText, Certificate, TooFewNodes, WrongLoss, Search, Unread, Unwritten}
+use Rattle.command_streams.specs.declared.ending.Fault.TheVariants.{NoMark, LossForm, InstanceText, Memory, PlanText, Plan, StatedDelay, CertificateText, Certificate, TooFewNodes, WrongLoss, Search, Unread, Unwritten}
 use Rattle.command_streams.specs.declared.ending.End.{End}
 use Rattle.command_streams.specs.declared.ending.End.TheVariants.{Done, Absent, Stopped, Refused}
-use Rattle.command_streams.specs.Outcomes.{IsOutcome, IsWriting, IsWritingUnlessMemory, OnDone}
+use Rattle.command_streams.specs.Outcomes.{IsCommandAnswer, IsWriting, IsWritingUnlessMemory, OnDone}
 use Rattle.command_streams.specs.Instances.{HasInstance}
 use Rattle.command_streams.proofs.Outcomes.{made_outcome, written_outcome}
 use Rattle.plan_commands.specs.Verdicts.{IsPlanFault, IsRefused, IsTold, IsValidLine, IsVerdict, IsVerified, IsVerifiedPlan, valid_line}
 
 -- the line of a delay is told of the plan that has it
-pub verdict_outcome : (IsVerifiedAs : Verified → Type 0) (IsRefusedBy : Fault → Type 0) (v : Verified) → IsVerifiedAs v → delay v.instance v.plan ≡ v.delay → IsRefusedBy Memory → (old new : Option (List ℕ)) (end : End) → IsWritingUnlessMemory (valid_line v.delay) old new end → IsOutcome (OnDone (IsTold IsVerifiedAs IsValidLine)) IsRefusedBy old new end
+pub verdict_outcome : (IsVerifiedAs : Verified → Type 0) (IsRefusedBy : Fault → Type 0) (v : Verified) → IsVerifiedAs v → delay v.instance v.plan ≡ v.delay → IsRefusedBy Memory → (old new : Option (List ℕ)) (end : End) → IsWritingUnlessMemory (valid_line v.delay) old new end → IsCommandAnswer (OnDone (IsTold IsVerifiedAs IsValidLine)) IsRefusedBy old new end
 verdict_outcome IsVerifiedAs IsRefusedBy v is has_delay memory old new end writing =
     made_outcome (IsTold IsVerifiedAs IsValidLine) IsRefusedBy (valid_line v.delay) (record { verified = v; is = is; tells = ap valid_line (sym has_delay) }) old new memory end writing
 
-module _ (instance plan : List ℕ) (i : Problem) (has_instance : HasInstance instance i) where
+module _ (instance plan : List ℕ) (i : Instance) (has_instance : HasInstance instance i) where
   verified_with : (v : Verified) → IsVerifiedPlan i plan v → IsVerified instance plan v
   verified_with v is = record { has_instance = rw is.of has_instance; has_plan = rw is.of is.has_plan }
 
@@ -34,7 +34,7 @@ module _ (instance plan : List ℕ) (i : Problem) (has_instance : HasInstance in
   refused_with (Search fault) refused = absurd refused
   refused_with (Unread source) refused = absurd refused
   refused_with (Unwritten sink) refused = absurd refused
-  refused_with (Instance error) refused = absurd refused
+  refused_with (InstanceText error) refused = absurd refused
   refused_with (PlanText error) refused = record { problem = i; has_instance = has_instance; refused = refused }
   refused_with (Plan fault) refused = record { problem = i; has_instance = has_instance; refused = refused }
   refused_with (StatedDelay d) refused = record { problem = i; has_instance = has_instance; refused = refused }
@@ -44,7 +44,7 @@ module _ (instance plan : List ℕ) (i : Problem) (has_instance : HasInstance in
   judged_with (Err fault) refused = refused_with fault refused
 
 -- so it is of what two readers tell, where they do
-pub judged_of_readers : (a b : Option (List ℕ)) (i : Problem) (bytes : List ℕ) (result : Result Verified Fault) → IfSome a (λ instance. HasInstance instance i) → IfSome b (λ plan. bytes ≡ plan) → MatchResult result (IsVerifiedPlan i bytes) (IsPlanFault i bytes) → IfSome a (λ instance. IfSome b (λ plan. MatchResult result (IsVerified instance plan) (IsRefused instance plan)))
+pub judged_of_readers : (a b : Option (List ℕ)) (i : Instance) (bytes : List ℕ) (result : Result Verified Fault) → IfSome a (λ instance. HasInstance instance i) → IfSome b (λ plan. bytes ≡ plan) → MatchResult result (IsVerifiedPlan i bytes) (IsPlanFault i bytes) → IfSome a (λ instance. IfSome b (λ plan. MatchResult result (IsVerified instance plan) (IsRefused instance plan)))
 judged_of_readers None b i bytes result has_instance is judged = tt
 judged_of_readers (Some instance) None i bytes result has_instance is judged = tt
 judged_of_readers (Some instance) (Some plan) i bytes result has_instance is judged = judged_with instance plan i has_instance result (rw is at judged)
@@ -56,7 +56,7 @@ verdict_of_readers (Some instance) (Some plan) v old new end is writing =
     verdict_outcome (IsVerified instance plan) (IsRefused instance plan) v is is.has_plan.has_delay tt old new end writing
 
 -- a text that is told of what two readers tell
-pub told_of_readers : (Tells : Problem → Table → List ℕ → Type 0) (RefusedBy : List ℕ → List ℕ → Fault → Type 0) (a b : Option (List ℕ)) (v : Verified) (text : List ℕ) (old new : Option (List ℕ)) (end : End) → IfSome a (λ instance. IfSome b (λ plan. IsVerified instance plan v)) → Tells v.instance v.plan text → IsWriting text old new end → IfSome a (λ instance. IfSome b (λ plan. IsOutcome (OnDone (IsTold (IsVerified instance plan) Tells)) (RefusedBy instance plan) old new end))
+pub told_of_readers : (Tells : Instance → Table → List ℕ → Type 0) (RefusedBy : List ℕ → List ℕ → Fault → Type 0) (a b : Option (List ℕ)) (v : Verified) (text : List ℕ) (old new : Option (List ℕ)) (end : End) → IfSome a (λ instance. IfSome b (λ plan. IsVerified instance plan v)) → Tells v.instance v.plan text → IsWriting text old new end → IfSome a (λ instance. IfSome b (λ plan. IsCommandAnswer (OnDone (IsTold (IsVerified instance plan) Tells)) (RefusedBy instance plan) old new end))
 told_of_readers Tells RefusedBy None b v text old new end is tells writing = tt
 told_of_readers Tells RefusedBy (Some instance) None v text old new end is tells writing = tt
 told_of_readers Tells RefusedBy (Some instance) (Some plan) v text old new end is tells writing =

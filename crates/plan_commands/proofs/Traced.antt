@@ -1,9 +1,9 @@
 -- What the replay of a verified plan is refused for, once its words are losses.
 use Rattle.std.proofs.Common.{◌≡◌, ℕ, ◌<◌, List, Option, None, Some, IfSome, length, arith}
 use Rattle.ttp_model.specs.declared.plan.Plan.{Plan as Table}
-use Rattle.ttp_model.specs.Problem.{Problem}
+use Rattle.ttp_model.specs.Instance.{Instance}
 use Rattle.ttp_model.specs.Rules.{IsInstance}
-use Rattle.medl_tables.specs.Tables.{AreTables, Tables, tables_of}
+use Rattle.medl_tables.specs.Medl.{AreTables, Medl, medl_of}
 use Rattle.medl_tables.proofs.TableParts.{tables-length}
 use Rattle.membership_replay.specs.declared.loss.Loss.{Loss}
 use Rattle.membership_replay.specs.declared.fault.ReplayFault.TheVariants as replay
@@ -12,7 +12,7 @@ use Rattle.plan_commands.specs.declared.losses.LossWord.{LossWord}
 use Rattle.plan_commands.specs.declared.verdict.Verified.{Verified}
 use Rattle.command_streams.specs.declared.ending.Source.TheVariants as source
 use Rattle.command_streams.specs.declared.ending.Fault.{Fault}
-use Rattle.command_streams.specs.declared.ending.Fault.TheVariants.{NoMark, LossForm, Instance, Memory, PlanText, Plan, StatedDelay, CertificateText, Certificate, TooFewNodes, WrongLoss, Search, Unread, Unwritten}
+use Rattle.command_streams.specs.declared.ending.Fault.TheVariants.{NoMark, LossForm, InstanceText, Memory, PlanText, Plan, StatedDelay, CertificateText, Certificate, TooFewNodes, WrongLoss, Search, Unread, Unwritten}
 use Rattle.command_streams.specs.declared.ending.End.TheVariants.{Refused}
 use Rattle.plan_commands.specs.LossWords.{AllSpell, AreLossWords, HasNodes, IsWordOfLoss, losses_of_words}
 use Rattle.plan_commands.specs.Traces.{IsReplayAnswer, IsTraceFault}
@@ -20,7 +20,7 @@ use Rattle.plan_commands.specs.Verdicts.{IsRefused, IsVerified}
 use Rattle.command_streams.proofs.Outcomes.{keeps}
 use Rattle.plan_commands.proofs.LossPlaces.{first_wrong_word}
 
-module _ (i : Problem) (plan : Table) (t : Tables) (w : IsInstance i) (tables : AreTables i t) where
+module _ (i : Instance) (plan : Table) (t : Medl) (w : IsInstance i) (tables : AreTables i t) where
   pub has_nodes : HasNodes t
   has_nodes = record {
     some = omega (arith, tables-length i t tables, w.limits.nodes_least);
@@ -30,7 +30,7 @@ module _ (i : Problem) (plan : Table) (t : Tables) (w : IsInstance i) (tables : 
   pub too_few : length t.rows < 3 → length i.nodes < 3
   too_few few = omega (arith, tables-length i t tables, few)
 
-  pub wrong_word : t ≡ tables_of i plan → (words : List LossWord) (losses : List Loss) (loss k : ℕ) → losses ≡ losses_of_words t words → IsFault t losses (replay.WrongLoss loss) → IsWordOfLoss t words loss k → IsTraceFault words i plan (WrongLoss k)
+  pub wrong_word : t ≡ medl_of i plan → (words : List LossWord) (losses : List Loss) (loss k : ℕ) → losses ≡ losses_of_words t words → IsFault t losses (replay.WrongLoss loss) → IsWordOfLoss t words loss k → IsTraceFault words i plan (WrongLoss k)
   wrong_word of words losses loss k are wrong from =
       (omega (arith, tables-length i t tables, wrong.0), rw (← of) (first_wrong_word t words losses are loss k wrong.1 from))
 
@@ -48,7 +48,7 @@ module _ (words : List (List ℕ)) (instance plan : List ℕ) (old : Option (Lis
   as_verdict (Unread source.Instance) are refused = ((are, refused), keeps old)
   as_verdict (Unread source.Plan) are refused = ((are, refused), keeps old)
   as_verdict (Unread source.Certificate) are refused = absurd refused
-  as_verdict (Instance error) are refused = ((are, refused), keeps old)
+  as_verdict (InstanceText error) are refused = ((are, refused), keeps old)
   as_verdict (PlanText error) are refused = ((are, refused), keeps old)
   as_verdict (Plan fault) are refused = ((are, refused), keeps old)
   as_verdict (StatedDelay d) are refused = ((are, refused), keeps old)
@@ -59,7 +59,7 @@ module _ (words : List (List ℕ)) (instance plan : List ℕ) (old : Option (Lis
   as_trace losses v (Search fault) all is refused = absurd refused
   as_trace losses v (Unwritten sink) all is refused = absurd refused
   as_trace losses v (Unread source) all is refused = absurd refused
-  as_trace losses v (Instance error) all is refused = absurd refused
+  as_trace losses v (InstanceText error) all is refused = absurd refused
   as_trace losses v (PlanText error) all is refused = absurd refused
   as_trace losses v (Plan fault) all is refused = absurd refused
   as_trace losses v (StatedDelay d) all is refused = absurd refused

@@ -9,7 +9,7 @@ use Rattle.command_streams.specs.declared.ending.Fault.{Fault}
 use Rattle.command_streams.specs.declared.ending.Fault.TheVariants.{NoMark, Memory, Unread}
 use Rattle.command_streams.specs.declared.ending.End.{End}
 use Rattle.plan_commands.specs.declared.verdict.Verified.{Verified}
-use Rattle.command_streams.specs.Outcomes.{IsOutcome, OnDone}
+use Rattle.command_streams.specs.Outcomes.{IsCommandAnswer, OnDone}
 use Rattle.plan_commands.specs.Verdicts.{IsRefused, IsTold, IsValidLine, IsVerified}
 
 -- the bytes of the line, with its end
@@ -40,7 +40,7 @@ FindsMark bytes None = HasNoMark bytes
 FindsMark bytes (Some at) = IsFirstMark bytes at
 
 -- a bundle's instance and plan
-pub record IsSplit (bundle instance plan : List ℕ) : Type 0 where
+pub record IsBundleOf (bundle instance plan : List ℕ) : Type 0 where
   pub at : ℕ
   pub first : IsFirstMark bundle at
   pub front : instance ≡ take at bundle
@@ -48,7 +48,7 @@ pub record IsSplit (bundle instance plan : List ℕ) : Type 0 where
 
 -- all of a bundle was taken, and each of its parts is within its limit: the instance, which is all where there is no
 -- mark, and the plan
-pub record IsWhole (taken : Taken) : Type 0 where
+pub record IsTakenWhole (taken : Taken) : Type 0 where
   pub ended : taken.stop ≡ AtEnd
   pub instance : (at : ℕ) → IsFirstMark taken.bytes.items at → at ≤ INSTANCE_LIMIT
   pub plan : (at : ℕ) → IsFirstMark taken.bytes.items at → length (drop (at + 3) taken.bytes.items) ≤ PLAN_LIMIT
@@ -58,14 +58,14 @@ pub record IsWhole (taken : Taken) : Type 0 where
 pub record IsVerifiedBundle (bundle : List ℕ) (v : Verified) : Type 0 where
   pub instance : List ℕ
   pub plan : List ℕ
-  pub split : IsSplit bundle instance plan
+  pub split : IsBundleOf bundle instance plan
   pub verified : IsVerified instance plan v
 
 -- the parts of a bundle are at this fault
 pub record IsRefusedSplit (bundle : List ℕ) (fault : Fault) : Type 0 where
   pub instance : List ℕ
   pub plan : List ℕ
-  pub split : IsSplit bundle instance plan
+  pub split : IsBundleOf bundle instance plan
   pub refused : IsRefused instance plan fault
 
 -- why a bundle is refused: it has no line `%%`, or for one of its parts
@@ -77,4 +77,4 @@ IsRefusedBundle bundle fault = IsRefusedSplit bundle fault
 
 -- what `verify_bundle` answers of the bytes of a bundle, and what it writes
 abbrev pub IsBundleVerdict : List ℕ → Option (List ℕ) → Option (List ℕ) → End → Type 0
-IsBundleVerdict bundle = IsOutcome (OnDone (IsTold (IsVerifiedBundle bundle) IsValidLine)) (IsRefusedBundle bundle)
+IsBundleVerdict bundle = IsCommandAnswer (OnDone (IsTold (IsVerifiedBundle bundle) IsValidLine)) (IsRefusedBundle bundle)

@@ -1,27 +1,27 @@
 -- What the bytes of an instance and of a certificate are judged to be, and what `check` writes of them.
 use Rattle.std.specs.Prelude.{◌≡◌, ℕ, ◌≤◌, List, [], ◌∷◌, ◌++◌, length, codes, decimal, Option, Err}
-use Rattle.ttp_model.specs.Problem.{Problem}
+use Rattle.ttp_model.specs.Instance.{Instance}
 use Rattle.ttp_model.specs.Delays.{IsLowerBound}
-use Rattle.certificate.specs.Certificate.{Certificate as Cert}
-use Rattle.certificate.specs.Spelling.{IsSpelled}
+use Rattle.certificate.specs.Cert.{Cert}
+use Rattle.certificate.specs.Spelling.{SpellsCert}
 use Rattle.certificate.specs.Reading as reading
 use Rattle.cert_check.specs.Proofs.{Proves}
 use Rattle.cert_check.specs.Faults as checking
 use Rattle.plan_commands.specs.declared.certified.TheConstants.{CERTIFICATE_LIMIT}
 use Rattle.command_streams.specs.declared.ending.Source.TheVariants as source
 use Rattle.command_streams.specs.declared.ending.Fault.{Fault}
-use Rattle.command_streams.specs.declared.ending.Fault.TheVariants.{Instance, Memory, CertificateText, Certificate, Unread}
+use Rattle.command_streams.specs.declared.ending.Fault.TheVariants.{InstanceText, Memory, CertificateText, Certificate, Unread}
 use Rattle.command_streams.specs.declared.ending.End.{End}
-use Rattle.command_streams.specs.Outcomes.{IsOutcome, OnDone}
+use Rattle.command_streams.specs.Outcomes.{IsCommandAnswer, OnDone}
 use Rattle.command_streams.specs.Instances.{HasInstance, IsInstanceFault}
 
 -- the bytes are within their limit, and spell this certificate
 pub record HasCertificate (bytes : List ℕ) (cert : Cert) : Type 0 where
   pub within : length bytes ≤ CERTIFICATE_LIMIT
-  pub spelled : IsSpelled bytes cert
+  pub spelled : SpellsCert bytes cert
 
 -- the bytes spell a certificate that proves this bound of the instance, and so no valid plan is shorter
-pub record HasBound (i : Problem) (bytes : List ℕ) (low : ℕ) : Type 0 where
+pub record HasBound (i : Instance) (bytes : List ℕ) (low : ℕ) : Type 0 where
   pub cert : Cert
   pub has_certificate : HasCertificate bytes cert
   pub proves : Proves i cert
@@ -29,22 +29,22 @@ pub record HasBound (i : Problem) (bytes : List ℕ) (low : ℕ) : Type 0 where
   pub bound : IsLowerBound i low
 
 -- why bytes within their limit give no certificate that proves its bound
-abbrev pub IsCertificateFault : Problem → List ℕ → Fault → Type 0
+abbrev pub IsCertificateFault : Instance → List ℕ → Fault → Type 0
 IsCertificateFault i bytes Memory = Unit {0}
 IsCertificateFault i bytes (Unread source.Certificate) = Unit {0}
 IsCertificateFault i bytes (CertificateText error) = (length bytes ≤ CERTIFICATE_LIMIT) × reading.IsFaultIn error (reading.Reads bytes)
-IsCertificateFault i bytes (Certificate fault) = (cert : Cert) × HasCertificate bytes cert × checking.IsAnswer i cert (Err fault)
+IsCertificateFault i bytes (Certificate fault) = (cert : Cert) × HasCertificate bytes cert × checking.IsJudged i cert (Err fault)
 IsCertificateFault i bytes _ = ⊥
 
 -- the instance is stated, and the certificate's bytes are at this fault
 pub record IsUncertified (instance certificate : List ℕ) (fault : Fault) : Type 0 where
-  pub problem : Problem
+  pub problem : Instance
   pub has_instance : HasInstance instance problem
   pub refused : IsCertificateFault problem certificate fault
 
 -- why the bytes of an instance and of a certificate are refused: for the instance, or else for the certificate
 abbrev pub IsUnproved : List ℕ → List ℕ → Fault → Type 0
-IsUnproved instance certificate (Instance error) = IsInstanceFault instance (Instance error)
+IsUnproved instance certificate (InstanceText error) = IsInstanceFault instance (InstanceText error)
 IsUnproved instance certificate Memory = Unit {0}
 IsUnproved instance certificate (Unread source.Instance) = Unit {0}
 IsUnproved instance certificate fault = IsUncertified instance certificate fault
@@ -55,7 +55,7 @@ bound_line low = codes "bound " ++ (decimal low ++ 10 ∷ [])
 
 -- the line tells a bound of the instance that the certificate proves
 pub record IsBoundLine (instance certificate line : List ℕ) : Type 0 where
-  pub problem : Problem
+  pub problem : Instance
   pub low : ℕ
   pub has_instance : HasInstance instance problem
   pub has_bound : HasBound problem certificate low
@@ -63,4 +63,4 @@ pub record IsBoundLine (instance certificate line : List ℕ) : Type 0 where
 
 -- what `check` answers of the bytes of an instance and of a certificate, and what it writes
 abbrev pub IsCheckAnswer : List ℕ → List ℕ → Option (List ℕ) → Option (List ℕ) → End → Type 0
-IsCheckAnswer instance certificate = IsOutcome (OnDone (IsBoundLine instance certificate)) (IsUnproved instance certificate)
+IsCheckAnswer instance certificate = IsCommandAnswer (OnDone (IsBoundLine instance certificate)) (IsUnproved instance certificate)

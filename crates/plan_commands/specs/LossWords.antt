@@ -4,10 +4,10 @@ use Rattle.std.specs.List.{AllZip, flat_map, range_with_len}
 use Rattle.std.specs.Borrow.{Bor}
 use Rattle.ttp_model.specs.Lists.{EachBelow, IsFirstFailure}
 use Rattle.ttp_model.specs.declared.limits.TheConstants.{MOST_NODES}
-use Rattle.medl_tables.specs.Tables.{Tables}
+use Rattle.medl_tables.specs.Medl.{Medl}
 use Rattle.membership_replay.specs.declared.loss.Loss.{Loss}
 use Rattle.membership_replay.specs.Losses.{IsLossOf}
-use Rattle.membership_replay.specs.Replay.{row_at}
+use Rattle.membership_replay.specs.Trace.{row_at}
 use Rattle.plan_commands.specs.declared.losses.LossWord.{LossWord}
 use Rattle.plan_commands.specs.declared.losses.Receivers.{Receivers}
 use Rattle.plan_commands.specs.declared.losses.Receivers.TheVariants.{One, Every}
@@ -63,7 +63,7 @@ IsWordFault words Memory = Unit {0}
 IsWordFault words _ = ⊥
 
 -- there are nodes, and as few as an instance has
-pub record HasNodes (t : Tables) : Type 0 where
+pub record HasNodes (t : Medl) : Type 0 where
   pub some : 0 < length t.rows
   pub few : length t.rows ≤ MOST_NODES
 
@@ -72,29 +72,29 @@ abbrev pub loss_at : LossWord → ℕ → Loss
 loss_at word n = record { round = word.round; slot = word.slot; receiver = n }
 
 -- whether the word's slot is one of the cycle
-abbrev pub is_in_cycle : Tables → LossWord → Bool
+abbrev pub is_in_cycle : Medl → LossWord → Bool
 is_in_cycle t word = nat_lt word.round t.rounds && nat_lt word.slot (length t.rows)
 
 -- all nodes but the slot's sender, rising
-abbrev pub receivers_of : Tables → ℕ → List ℕ
+abbrev pub receivers_of : Medl → ℕ → List ℕ
 receivers_of t slot = filter (λ n. not (n == (row_at t 0 slot).sender)) (range_with_len 0 (length t.rows))
 
 -- what * stands for: a loss at each receiver; in a slot that isn't in the cycle, one at node 0
-abbrev pub losses_everywhere : Tables → LossWord → List Loss
+abbrev pub losses_everywhere : Medl → LossWord → List Loss
 losses_everywhere t word =
     if is_in_cycle t word then map (loss_at word) (receivers_of t word.slot) else loss_at word 0 ∷ []
 
 -- the losses that a word stands for
-abbrev pub losses_at : Tables → LossWord → Receivers → List Loss
+abbrev pub losses_at : Medl → LossWord → Receivers → List Loss
 losses_at t word (One n) = loss_at word n ∷ []
 losses_at t word Every = losses_everywhere t word
 
 -- those of the word's own receivers
-unfoldable pub losses_of_word : Tables → LossWord → List Loss
+unfoldable pub losses_of_word : Medl → LossWord → List Loss
 losses_of_word t word = losses_at t word word.receivers
 
 -- the losses that words stand for, one word after another
-abbrev pub losses_of_words : Tables → List LossWord → List Loss
+abbrev pub losses_of_words : Medl → List LossWord → List Loss
 losses_of_words t words = flat_map (losses_of_word t) words
 
 -- what is read past the end of the words: no clause reads there
@@ -102,15 +102,15 @@ abbrev pub no_word : LossWord
 no_word = record { round = 0; slot = 0; receivers = Every }
 
 -- each loss that the word of this index stands for can be
-abbrev pub CanBeAt : Tables → List LossWord → ℕ → Type 0
+abbrev pub CanBeAt : Medl → List LossWord → ℕ → Type 0
 CanBeAt t words k = All (IsLossOf t) (losses_of_word t (slice_index_or words k no_word))
 
 -- the losses of the words before this one
-abbrev pub losses_before : Tables → List LossWord → ℕ → List Loss
+abbrev pub losses_before : Medl → List LossWord → ℕ → List Loss
 losses_before t words k = losses_of_words t (take k words)
 
 -- the loss of this index is one of those that the word at k stands for
-pub record IsWordOfLoss (t : Tables) (words : List LossWord) (loss k : ℕ) : Type 0 where
+pub record IsWordOfLoss (t : Medl) (words : List LossWord) (loss k : ℕ) : Type 0 where
   pub there : k < length words
   pub from : length (losses_before t words k) ≤ loss
   pub until : loss < length (losses_before t words (k + 1))

@@ -2,10 +2,10 @@
 use Rattle.std.specs.Prelude.{◌≡◌, ℕ, ◌<◌, ◌≤◌, List, length, Option}
 use Rattle.ttp_model.specs.Lists.{IsFirstFailure}
 use Rattle.ttp_model.specs.declared.plan.Plan.{Plan as Table}
-use Rattle.ttp_model.specs.Problem.{Problem}
-use Rattle.medl_tables.specs.Tables.{tables_of}
+use Rattle.ttp_model.specs.Instance.{Instance}
+use Rattle.medl_tables.specs.Medl.{medl_of}
 use Rattle.membership_replay.specs.Losses.{CanBeReplayed}
-use Rattle.membership_replay.specs.Replay.{replay_of}
+use Rattle.membership_replay.specs.Trace.{replay_of}
 use Rattle.membership_replay.specs.Text.{replay_text}
 use Rattle.plan_commands.specs.declared.losses.LossWord.{LossWord}
 use Rattle.plan_commands.specs.declared.verdict.Verified.{Verified}
@@ -13,24 +13,24 @@ use Rattle.command_streams.specs.declared.ending.Fault.{Fault}
 use Rattle.command_streams.specs.declared.ending.Fault.TheVariants.{LossForm, Memory, TooFewNodes, WrongLoss}
 use Rattle.command_streams.specs.declared.ending.End.{End}
 use Rattle.plan_commands.specs.LossWords.{AllSpell, AreLossWords, CanBeAt, IsWordFault, losses_of_words}
-use Rattle.command_streams.specs.Outcomes.{IsOutcome, OnDone}
+use Rattle.command_streams.specs.Outcomes.{IsCommandAnswer, OnDone}
 use Rattle.plan_commands.specs.Verdicts.{IsRefused, IsTold, IsVerified}
 
 -- the text of the replay of a plan's cycle in which these frames are lost, each of which can be
-pub record IsTraceOf (losses : List LossWord) (i : Problem) (plan : Table) (text : List ℕ) : Type 0 where
-  pub can_be : CanBeReplayed (tables_of i plan) (losses_of_words (tables_of i plan) losses)
-  pub is : text ≡ replay_text i (replay_of (tables_of i plan) (losses_of_words (tables_of i plan) losses))
+pub record IsTraceOf (losses : List LossWord) (i : Instance) (plan : Table) (text : List ℕ) : Type 0 where
+  pub can_be : CanBeReplayed (medl_of i plan) (losses_of_words (medl_of i plan) losses)
+  pub is : text ≡ replay_text i (replay_of (medl_of i plan) (losses_of_words (medl_of i plan) losses))
 
 -- why it isn't replayed: the nodes go first, then the first word of which some loss can't be
-abbrev pub IsTraceFault : List LossWord → Problem → Table → Fault → Type 0
+abbrev pub IsTraceFault : List LossWord → Instance → Table → Fault → Type 0
 IsTraceFault losses i plan TooFewNodes = length i.nodes < 3
 IsTraceFault losses i plan (WrongLoss k) =
-    (3 ≤ length i.nodes) × IsFirstFailure (length losses) (CanBeAt (tables_of i plan) losses) k
+    (3 ≤ length i.nodes) × IsFirstFailure (length losses) (CanBeAt (medl_of i plan) losses) k
 IsTraceFault losses i plan Memory = Unit {0}
 IsTraceFault losses i plan _ = ⊥
 
 -- what `replay` tells of a valid plan: the trace with the losses that the words spell
-pub record IsTraceText (words : List (List ℕ)) (i : Problem) (plan : Table) (text : List ℕ) : Type 0 where
+pub record IsTraceText (words : List (List ℕ)) (i : Instance) (plan : Table) (text : List ℕ) : Type 0 where
   pub losses : List LossWord
   pub spelled : AllSpell words losses
   pub trace : IsTraceOf losses i plan text
@@ -54,4 +54,4 @@ IsReplayRefused words instance plan fault = AreLossWords words × IsRefused inst
 -- what `replay` answers of the words and the bytes of an instance and of a plan, and what it writes
 abbrev pub IsReplayAnswer : List (List ℕ) → List ℕ → List ℕ → Option (List ℕ) → Option (List ℕ) → End → Type 0
 IsReplayAnswer words instance plan =
-    IsOutcome (OnDone (IsTold (IsVerified instance plan) (IsTraceText words))) (IsReplayRefused words instance plan)
+    IsCommandAnswer (OnDone (IsTold (IsVerified instance plan) (IsTraceText words))) (IsReplayRefused words instance plan)

@@ -2,7 +2,7 @@
 
 ghost use Rattle.std.specs.Prelude.{◌≡◌, ◌⊎◌, ◌≤◌, ◌<◌, ◌↔◌, ℕ, List, IsTrue, IfErr, IfSome, MatchResult, length};
 ghost use Rattle.command_streams.specs.Streams.{IsOfReadBytes, IsTaken};
-ghost use Rattle.plan_commands.specs.Bundles.{IsMark, FindsMark, IsWhole, IsVerifiedBundle, IsRefusedBundle, IsBundleVerdict};
+ghost use Rattle.plan_commands.specs.Bundles.{IsMark, FindsMark, IsTakenWhole, IsVerifiedBundle, IsRefusedBundle, IsBundleVerdict};
 
 use crate::verdict::{PLAN_LIMIT, Verified, verified_of_text, write_verdict};
 use command_streams::{
@@ -60,7 +60,7 @@ fn verified_of_taken(alloc: Global, taken: &Taken) -> Result<Verified, Fault>
     ensures judged { (bundle : List ℕ) → IsTaken BUNDLE_LIMIT taken.now bundle → MatchResult result
         (IsVerifiedBundle bundle)
         (IsRefusedBundle bundle) }
-    ensures whole { IsWhole taken.now → IfErr result IsOfReadBytes }
+    ensures whole { IsTakenWhole taken.now → IfErr result IsOfReadBytes }
 {
     let bytes = taken.bytes.as_slice();
     let Some(at) = mark_at(bytes) else {

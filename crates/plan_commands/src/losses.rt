@@ -1,7 +1,7 @@
 //! Which losses do words name?
 
 ghost use Rattle.std.specs.Prelude.{◌≡◌, ◌<◌, ◌++◌, ◌^◌, ℕ, List, IfOk, IfSome, IfNone, IsSome, MatchResult, OnOk, decimal, length, map};
-ghost use Rattle.membership_replay.specs.Replay.{row_at};
+ghost use Rattle.membership_replay.specs.Trace.{row_at};
 ghost use Rattle.plan_commands.specs.LossWords.{AllSpell, AreInRange, HasNodes, IsLossWord, IsWordFault, IsWordOfLoss, Spells, bytes_of, is_in_cycle, loss_at, losses_everywhere, losses_of_word, losses_of_words, receivers_of, receivers_text};
 ghost use Rattle.plan_commands.specs.declared.losses.LossWord.{LossWord};
 ghost use Rattle.plan_commands.specs.declared.losses.Receivers.{Receivers};

@@ -4,7 +4,6 @@ pub mod NameForm
 pub mod NumberLoop
 pub mod OrderLine
 pub mod Spaced
-pub mod TwoNodes
 pub mod ValidPlans
 pub mod WholeText
 pub mod WordLoop

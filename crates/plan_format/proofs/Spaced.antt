@@ -8,7 +8,7 @@ use Rattle.std.proofs.Math.Seq.{take-length}
 use Rattle.ttp_model.specs.declared.parts.Node.{Node}
 use Rattle.ttp_model.specs.declared.plan.Plan.{Plan}
 use Rattle.ttp_model.specs.declared.error.Part.TheVariants.{Nodes, Processes, Messages}
-use Rattle.ttp_model.specs.Problem.{Problem, node_at, no_node}
+use Rattle.ttp_model.specs.Instance.{Instance, node_at, no_node}
 use Rattle.plan_format.specs.Names.{names_in, keyword_of}
 use Rattle.plan_format.specs.Spelling.{numbered, delay_line, order_line, plan_text}
 
@@ -17,20 +17,20 @@ pub head_pushed : (old a b c : List ℕ) (delay : ℕ) → a ≡ old ++ codes "t
 head_pushed old a b c delay ea eb ec = rw (ec, eb, ea) (simp append_assoc)
 
 -- a node's name, with a space before it
-unfoldable pub spaced : Problem → ℕ → List ℕ
+unfoldable pub spaced : Instance → ℕ → List ℕ
 spaced i n = 32 ∷ (node_at i n).name
 
 -- the words joined by spaces, and one before them
-joined-spaced : (i : Problem) (n : ℕ) (ns : List ℕ) → 32 ∷ join_with_byte 32 (map (λ n. (node_at i n).name) (n ∷ ns)) ≡ flat_map (spaced i) (n ∷ ns)
+joined-spaced : (i : Instance) (n : ℕ) (ns : List ℕ) → 32 ∷ join_with_byte 32 (map (λ n. (node_at i n).name) (n ∷ ns)) ≡ flat_map (spaced i) (n ∷ ns)
 unfolding spaced
 joined-spaced i n [] = ap (λ (w : List ℕ). 32 ∷ w) (sym (append-nil (node_at i n).name))
 joined-spaced i n (m ∷ ns) = ap (λ (w : List ℕ). 32 ∷ ((node_at i n).name ++ w)) (joined-spaced i m ns)
 
-order_line-spaced : (i : Problem) (order : List ℕ) → 0 < length order → order_line i order ≡ codes "order" ++ flat_map (spaced i) order
+order_line-spaced : (i : Instance) (order : List ℕ) → 0 < length order → order_line i order ≡ codes "order" ++ flat_map (spaced i) order
 order_line-spaced i [] some = absurd (omega arith)
 order_line-spaced i (n ∷ ns) some = ap (λ (words : List ℕ). codes "order" ++ words) (joined-spaced i n ns)
 
-pub word_pushed : (i : Problem) (order : List ℕ) (k : ℕ) (nodes : List Node) (other : Node) (name start text a b : List ℕ) → k < length order → get_or order k 0 < length i.nodes
+pub word_pushed : (i : Instance) (order : List ℕ) (k : ℕ) (nodes : List Node) (other : Node) (name start text a b : List ℕ) → k < length order → get_or order k 0 < length i.nodes
     → nodes ≡ i.nodes → name ≡ (get_or nodes (get_or order k 0) other).name
     → text ≡ start ++ flat_map (spaced i) (take k order) → a ≡ text ++ 32 ∷ [] → b ≡ a ++ name
     → b ≡ start ++ flat_map (spaced i) (take (k + 1) order)
@@ -40,7 +40,7 @@ word_pushed i order k nodes other name start text a b lt inside all en et ea eb 
     rw (take_more order k 0 lt, flat_map-append (spaced i) (take k order) (get_or order k 0 ∷ []), eb, ea, et, en, all, here)
     (simp (append_assoc, append-nil))
 
-pub order_pushed : (i : Problem) (order : List ℕ) (k : ℕ) (old start text a : List ℕ) → 0 < length order → length order ≡ k → start ≡ old ++ codes "order"
+pub order_pushed : (i : Instance) (order : List ℕ) (k : ℕ) (old start text a : List ℕ) → 0 < length order → length order ≡ k → start ≡ old ++ codes "order"
     → text ≡ start ++ flat_map (spaced i) (take k order) → a ≡ text ++ 10 ∷ []
     → a ≡ old ++ (order_line i order ++ 10 ∷ [])
 order_pushed i order k old start text a some long es et ea =
@@ -52,7 +52,7 @@ line_by_line : (a b c x y z : List ℕ) → ((((a ++ 10 ∷ (b ++ 10 ∷ [])) ++
 line_by_line a b c x y z = simp append_assoc
 
 -- the whole text, by its parts
-pub text_pushed : (i : Problem) (plan : Plan) (delay : ℕ) (old a b c d e : List ℕ) → old ≡ [] → a ≡ old ++ (codes "ttplan 1" ++ 10 ∷ (delay_line delay ++ 10 ∷ []))
+pub text_pushed : (i : Instance) (plan : Plan) (delay : ℕ) (old a b c d e : List ℕ) → old ≡ [] → a ≡ old ++ (codes "ttplan 1" ++ 10 ∷ (delay_line delay ++ 10 ∷ []))
     → b ≡ a ++ (order_line i plan.order ++ 10 ∷ []) → c ≡ b ++ numbered (keyword_of Nodes) (names_in i Nodes) plan.caps
     → d ≡ c ++ numbered (keyword_of Processes) (names_in i Processes) plan.starts → e ≡ d ++ numbered (keyword_of Messages) (names_in i Messages) plan.rounds
     → e ≡ plan_text i plan delay

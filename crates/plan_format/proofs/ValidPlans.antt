@@ -4,14 +4,14 @@ use Rattle.std.proofs.lemmas.List.Elements.{All-weaker}
 use Rattle.ttp_model.specs.declared.limits.TheConstants.{MOST_BYTES}
 use Rattle.ttp_model.specs.declared.plan.Plan.{Plan}
 use Rattle.ttp_model.specs.declared.error.Place.TheVariants.{AtCluster}
-use Rattle.ttp_model.specs.Problem.{Problem}
+use Rattle.ttp_model.specs.Instance.{Instance}
 use Rattle.ttp_model.specs.Rules.{IsInstance}
 use Rattle.ttp_model.specs.Plans.{IsValid}
 use Rattle.ttp_model.specs.Delays.{delay}
 use Rattle.ttp_model.proofs.PlanNumbers.{capacities_small, starts_small, rounds_small, delay_small}
 use Rattle.plan_format.specs.Spelling.{HasText}
 
-pub HasText-from_valid : (i : Problem) (plan : Plan) → IsInstance i → IsValid i plan → HasText i plan (delay i plan)
+pub HasText-from_valid : (i : Instance) (plan : Plan) → IsInstance i → IsValid i plan → HasText i plan (delay i plan)
 HasText-from_valid i plan w v =
     let horizon = (w.ranges AtCluster).horizon in
     record {

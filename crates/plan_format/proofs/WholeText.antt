@@ -12,13 +12,13 @@ use Rattle.ttp_model.specs.declared.plan.Plan.{Plan}
 use Rattle.ttp_model.specs.declared.error.Part.{Part}
 use Rattle.ttp_model.specs.declared.error.Part.TheVariants.{Nodes, Processes, Links, Messages}
 use Rattle.ttp_model.specs.declared.error.Place.TheVariants.{AtNode, AtProcess, AtMessage}
-use Rattle.ttp_model.specs.Problem.{Problem, node_at, no_node, no_process, no_message}
+use Rattle.ttp_model.specs.Instance.{Instance, node_at, no_node, no_process, no_message}
 use Rattle.ttp_model.specs.Plans.{IsNodeOrder}
 use Rattle.ttp_model.specs.Rules.{IsInstance}
 use Rattle.plan_format.specs.declared.fault.LineFault.TheVariants.{Trailing}
 use Rattle.plan_format.specs.declared.fault.PlanTextError.TheVariants.{At, OutOfMemory}
 use Rattle.plan_format.specs.Names.{is_name, names_in, keyword_of}
-use Rattle.plan_format.specs.Spelling.{numbered, plan_lines, delay_line, order_line, plan_text, HasText, IsSpelled}
+use Rattle.plan_format.specs.Spelling.{numbered, plan_lines, delay_line, order_line, plan_text, HasText, SpellsPlan}
 use Rattle.plan_format.specs.Reading.{Reading, IsAnswer, head_at, delay_at, order_at, part_at, end_line, plan_at}
 use Rattle.plan_format.proofs.Heads.{head_takes, head_again, delay_takes, delay_again}
 use Rattle.plan_format.proofs.Lines.{numbers_take, numbers_again}
@@ -27,7 +27,7 @@ use Rattle.plan_format.proofs.OrderLine.{names_at, order_words, AreApart, order_
 
 -- ---- the names of an instance
 
-pub names_form : (i : Problem) → IsInstance i → (part : Part) → All (λ name. is_name name ≡ true) (names_in i part)
+pub names_form : (i : Instance) → IsInstance i → (part : Part) → All (λ name. is_name name ≡ true) (names_in i part)
 names_form i w Nodes =
     All-map (λ name. is_name name ≡ true) (λ n. n.name) i.nodes
     (All-from_get_or (λ n. is_name n.name ≡ true) i.nodes no_node (λ k lt. test-from_IsName (get_or i.nodes k no_node).name (w.names (AtNode k) lt)))
@@ -39,15 +39,15 @@ names_form i w Messages =
     (All-from_get_or (λ m. is_name m.name ≡ true) i.messages no_message (λ k lt. test-from_IsName (get_or i.messages k no_message).name (w.names (AtMessage k) lt)))
 names_form i w Links = (λ k d lt. absurd (omega arith))
 
-node_named : (i : Problem) (k : ℕ) → get_or (names_in i Nodes) k [] ≡ (node_at i k).name
+node_named : (i : Instance) (k : ℕ) → get_or (names_in i Nodes) k [] ≡ (node_at i k).name
 node_named i k = get_or-map (λ n. n.name) i.nodes k no_node
 
-pub nodes_apart : (i : Problem) → IsInstance i → AreApart (names_in i Nodes)
+pub nodes_apart : (i : Instance) → IsInstance i → AreApart (names_in i Nodes)
 nodes_apart i w j k below lt =
     let inside : k < length i.nodes = omega (arith, lt, length-map i.nodes (λ n. n.name)) in
     rw (node_named i j, node_named i k) (w.new_names (AtNode k) inside j below)
 
-nodes_ordered : (i : Problem) (order : List ℕ) → names_at (names_in i Nodes) order ≡ map (λ n. (node_at i n).name) order
+nodes_ordered : (i : Instance) (order : List ℕ) → names_at (names_in i Nodes) order ≡ map (λ n. (node_at i n).name) order
 nodes_ordered i [] = refl
 nodes_ordered i (k ∷ ks) = rw (node_named i k, nodes_ordered i ks) refl
 
@@ -58,19 +58,19 @@ nil_is [] e = refl
 nil_is (x ∷ xs) e = absurd (grind arith)
 
 -- the parts of a text, put together
-together : (i : Problem) (p : Plan) (d : ℕ) (text a b c e f g : List ℕ) → text ≡ codes "ttplan 1" ++ 10 ∷ a → a ≡ delay_line d ++ 10 ∷ b → b ≡ order_words (names_in i Nodes) p.order ++ 10 ∷ c
+together : (i : Instance) (p : Plan) (d : ℕ) (text a b c e f g : List ℕ) → text ≡ codes "ttplan 1" ++ 10 ∷ a → a ≡ delay_line d ++ 10 ∷ b → b ≡ order_words (names_in i Nodes) p.order ++ 10 ∷ c
     → c ≡ numbered (keyword_of Nodes) (names_in i Nodes) p.caps ++ e → e ≡ numbered (keyword_of Processes) (names_in i Processes) p.starts ++ f
     → f ≡ numbered (keyword_of Messages) (names_in i Messages) p.rounds ++ g → g ≡ []
     → text ≡ plan_text i p d
 together i p d text a b c e f g ta tb tc te tf tg none =
     rw (ta, tb, tc, nodes_ordered i p.order, te, tf, tg, none, append-nil (numbered (keyword_of Messages) (names_in i Messages) p.rounds)) refl
 
-numbers_of_part : (i : Problem) (part : Part) (line : ℕ) (text : List ℕ) (x : List ℕ × List ℕ) → part_at i part line text ≡ Ok x
+numbers_of_part : (i : Instance) (part : Part) (line : ℕ) (text : List ℕ) (x : List ℕ × List ℕ) → part_at i part line text ≡ Ok x
     → (text ≡ numbered (keyword_of part) (names_in i part) x.0 ++ x.1) × (length x.0 ≡ length (names_in i part)) × All (λ n. n < 2 ^ 32) x.0
 numbers_of_part i part line text x e = numbers_take line (keyword_of part) (names_in i part) text x e
 
 -- Each step of reading gives its part of the text and of the value. Put together they are the whole.
-pub plan_takes : (i : Problem) (text : List ℕ) (x : Plan × ℕ) → plan_at i text ≡ Ok x → IsSpelled i text x.0 x.1
+pub plan_takes : (i : Instance) (text : List ℕ) (x : Plan × ℕ) → plan_at i text ≡ Ok x → SpellsPlan i text x.0 x.1
 unfolding plan_at
 plan_takes i text x e =
     let head = bind_ok (head_at text) _ x e in
@@ -89,7 +89,7 @@ plan_takes i text x e =
     let starts_are = numbers_of_part i Processes (4 + length i.nodes) caps.0.1 starts.0 starts.1 in
     let rounds_are = numbers_of_part i Messages (4 + length i.nodes + length i.processes) starts.0.1 rounds.0 rounds.1 in
     let count : length (names_in i Nodes) ≡ length i.nodes = length-map i.nodes (λ n. n.name) in
-    subst (λ (y : Plan × ℕ). IsSpelled i text y.0 y.1) is
+    subst (λ (y : Plan × ℕ). SpellsPlan i text y.0 y.1) is
     (record {
       value = record {
         lengths = record {
@@ -111,7 +111,7 @@ plan_takes i text x e =
 
 -- ---- what is spelled so is read
 
-plan_steps : (i : Problem) (text a b c e f : List ℕ) (plan : Plan) (delay : ℕ) → head_at text ≡ Ok a → delay_at a ≡ Ok (delay, b) → order_at (names_in i Nodes) b ≡ Ok (plan.order, c)
+plan_steps : (i : Instance) (text a b c e f : List ℕ) (plan : Plan) (delay : ℕ) → head_at text ≡ Ok a → delay_at a ≡ Ok (delay, b) → order_at (names_in i Nodes) b ≡ Ok (plan.order, c)
     → part_at i Nodes 4 c ≡ Ok (plan.caps, e) → part_at i Processes (4 + length i.nodes) e ≡ Ok (plan.starts, f)
     → part_at i Messages (4 + length i.nodes + length i.processes) f ≡ Ok (plan.rounds, [])
     → plan_at i text ≡ Ok (plan, delay)
@@ -124,13 +124,13 @@ keyword_lacks Processes = Lacks-from_test 10 (keyword_of Processes) refl
 keyword_lacks Links = Lacks-from_test 10 (keyword_of Links) refl
 keyword_lacks Messages = Lacks-from_test 10 (keyword_of Messages) refl
 
-part_again : (i : Problem) → IsInstance i → (part : Part) (line : ℕ) (ns rest : List ℕ) → length ns ≡ length (names_in i part) → All (λ n. n < 2 ^ 32) ns
+part_again : (i : Instance) → IsInstance i → (part : Part) (line : ℕ) (ns rest : List ℕ) → length ns ≡ length (names_in i part) → All (λ n. n < 2 ^ 32) ns
     → part_at i part line (numbered (keyword_of part) (names_in i part) ns ++ rest) ≡ Ok (ns, rest)
 part_again i w part line ns rest long small =
     numbers_again line (keyword_of part) (names_in i part) ns rest (keyword_lacks part) (names_form i w part) long small
 
 -- Each part of the text is read in its turn, and leaves the parts behind it.
-pub plan_again : (i : Problem) (plan : Plan) (delay : ℕ) → IsInstance i → HasText i plan delay → plan_at i (plan_text i plan delay) ≡ Ok (plan, delay)
+pub plan_again : (i : Instance) (plan : Plan) (delay : ℕ) → IsInstance i → HasText i plan delay → plan_at i (plan_text i plan delay) ≡ Ok (plan, delay)
 plan_again i plan delay w t =
     let rounds = numbered (keyword_of Messages) (names_in i Messages) plan.rounds in
     let starts = numbered (keyword_of Processes) (names_in i Processes) plan.starts in
@@ -151,19 +151,19 @@ plan_again i plan delay w t =
 
 -- ---- what an answer says
 
-pub found_by : (i : Problem) (text : List ℕ) (r : Reading (Plan × ℕ)) → IsAnswer (λ x. x) r (plan_at i text) → IfOk r (λ x. IsSpelled i text x.0 x.1)
+pub found_by : (i : Instance) (text : List ℕ) (r : Reading (Plan × ℕ)) → IsAnswer (λ x. x) r (plan_at i text) → IfOk r (λ x. SpellsPlan i text x.0 x.1)
 found_by i text (Ok x) answer = plan_takes i text x answer
 found_by i text (Err e) answer = tt
 
-pub only_by : (i : Problem) (text : List ℕ) (r : Reading (Plan × ℕ)) → IsInstance i → IsAnswer (λ x. x) r (plan_at i text)
-    → (plan : Plan) (delay : ℕ) → IsSpelled i text plan delay → r ≢ Err OutOfMemory → r ≡ Ok (plan, delay)
+pub only_by : (i : Instance) (text : List ℕ) (r : Reading (Plan × ℕ)) → IsInstance i → IsAnswer (λ x. x) r (plan_at i text)
+    → (plan : Plan) (delay : ℕ) → SpellsPlan i text plan delay → r ≢ Err OutOfMemory → r ≡ Ok (plan, delay)
 only_by i text (Ok x) w answer plan delay s memory = sym answer ∙ (ap (plan_at i) s.spelled ∙ plan_again i plan delay w s.value)
 only_by i text (Err OutOfMemory) w answer plan delay s memory = absurd (memory refl)
 only_by i text (Err (At line fault)) w answer plan delay s memory = sym answer ∙ (ap (plan_at i) s.spelled ∙ plan_again i plan delay w s.value)
 
 -- ---- no two values have one spelling
 
-pub spelled_once : (i : Problem) (p q : Plan) (d e : ℕ) → IsInstance i → HasText i p d → HasText i q e → plan_text i p d ≡ plan_text i q e → (p ≡ q) × (d ≡ e)
+pub spelled_once : (i : Instance) (p q : Plan) (d e : ℕ) → IsInstance i → HasText i p d → HasText i q e → plan_text i p d ≡ plan_text i q e → (p ≡ q) × (d ≡ e)
 spelled_once i p q d e w hp hq same =
     let read : (p, d) ≡ (q, e) = ok_is (p, d) (q, e) (sym (plan_again i p d w hp) ∙ (ap (plan_at i) same ∙ plan_again i q e w hq)) in
     (ap (λ (y : Plan × ℕ). y.0) read, ap (λ (y : Plan × ℕ). y.1) read)

@@ -6,7 +6,7 @@ use Rattle.std.proofs.lemmas.Bool.{lt-ltb, le-ltb}
 use Rattle.std.proofs.lemmas.List.{length-map}
 use Rattle.std.proofs.lemmas.List.Sums.{position_or_len_is}
 use Rattle.ttp_model.specs.declared.error.Part.TheVariants.{Nodes}
-use Rattle.ttp_model.specs.Problem.{Problem}
+use Rattle.ttp_model.specs.Instance.{Instance}
 use Rattle.plan_format.specs.Names.{is_name, names_in}
 use Rattle.plan_format.specs.Reading.{words_of, places_with, places}
 use Rattle.plan_format.specs.Words.{words_with}
@@ -25,7 +25,7 @@ not_found p names k le before =
     let out : ltb (length names) (length names) ≡ false = le-ltb _ _ (omega arith) in
     rw (at, out) refl
 
-pub nodes_named : (i : Problem) → length (names_in i Nodes) ≡ length i.nodes
+pub nodes_named : (i : Instance) → length (names_in i Nodes) ≡ length i.nodes
 nodes_named i = simp length-map
 
 -- ---- the places of names

@@ -2,4 +2,3 @@ pub mod Names
 pub mod Spelling
 pub mod Reading
 pub mod Words
-pub mod TwoNodes

@@ -2,7 +2,7 @@
 use Rattle.std.specs.Prelude.{ℕ, List, [], length, map, slice_index, Bool, ◌&&◌, not, ◌==◌, nat_le, codes}
 use Rattle.std.specs.List.{list_all}
 use Rattle.ttp_model.specs.declared.limits.TheConstants.{MOST_NAME_BYTES}
-use Rattle.ttp_model.specs.Problem.{Problem}
+use Rattle.ttp_model.specs.Instance.{Instance}
 use Rattle.ttp_model.specs.Rules.{begins_name, continues_name}
 use Rattle.ttp_model.specs.declared.error.Part.{Part}
 use Rattle.ttp_model.specs.declared.error.Part.TheVariants.{Nodes, Processes, Messages}
@@ -14,7 +14,7 @@ is_name word =
     && begins_name (slice_index word 0) && list_all continues_name word
 
 -- the names in a list of the instance, in its order; links have none
-abbrev pub names_in : Problem → Part → List (List ℕ)
+abbrev pub names_in : Instance → Part → List (List ℕ)
 names_in i Nodes = map (λ n. n.name) i.nodes
 names_in i Processes = map (λ p. p.name) i.processes
 names_in i Messages = map (λ m. m.name) i.messages

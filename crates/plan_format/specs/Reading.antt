@@ -7,7 +7,7 @@ use Rattle.line_text.specs.Numbers.{number_word}
 use Rattle.line_text.specs.declared.number.NumberWord.{NumberWord}
 use Rattle.line_text.specs.declared.number.NumberWord.TheVariants as word
 use Rattle.line_text.specs.Results.{◌>>=◌, or_fault, check}
-use Rattle.ttp_model.specs.Problem.{Problem}
+use Rattle.ttp_model.specs.Instance.{Instance}
 use Rattle.ttp_model.specs.declared.plan.Plan.{Plan}
 use Rattle.ttp_model.specs.declared.error.Part.{Part}
 use Rattle.ttp_model.specs.declared.error.Part.TheVariants.{Nodes, Processes, Messages}
@@ -113,15 +113,15 @@ numbers_at line keyword (name ∷ names) text = do
   Ok (first.0 ∷ others.0, others.1)
 
 -- the numbers of one of the instance's lists
-abbrev pub part_at : Problem → Part → ℕ → List ℕ → Reading (List ℕ × List ℕ)
+abbrev pub part_at : Instance → Part → ℕ → List ℕ → Reading (List ℕ × List ℕ)
 part_at i part line text = numbers_at line (keyword_of part) (names_in i part) text
 
 -- the line after the last one: there are three, and one for each node, process and message
-abbrev pub end_line : Problem → ℕ
+abbrev pub end_line : Instance → ℕ
 end_line i = 4 + length i.nodes + length i.processes + length i.messages
 
 -- the whole text: a plan of the instance and its stated delay, which is not judged
-unfoldable pub plan_at : Problem → List ℕ → Reading (Plan × ℕ)
+unfoldable pub plan_at : Instance → List ℕ → Reading (Plan × ℕ)
 plan_at i text = do
   body ← head_at text
   delay ← delay_at body

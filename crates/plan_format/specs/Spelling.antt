@@ -3,7 +3,7 @@ use Rattle.std.specs.Prelude.{◌≡◌, ℕ, ◌<◌, ◌^◌, List, [], ◌∷
 use Rattle.std.specs.List.{join_with_byte}
 use Rattle.ttp_model.specs.declared.plan.Plan.{Plan}
 use Rattle.ttp_model.specs.declared.error.Part.TheVariants.{Nodes, Processes, Messages}
-use Rattle.ttp_model.specs.Problem.{Problem, node_at}
+use Rattle.ttp_model.specs.Instance.{Instance, node_at}
 use Rattle.ttp_model.specs.Plans.{HasLengths, IsNodeOrder}
 use Rattle.plan_format.specs.Names.{names_in, keyword_of}
 
@@ -17,7 +17,7 @@ numbered keyword (name ∷ names) (n ∷ ns) = number_line keyword name n ++ 10 
 numbered keyword _ _ = []
 
 -- the lines of a plan's capacities, of its starts and of its rounds
-abbrev pub plan_lines : Problem → Plan → List ℕ
+abbrev pub plan_lines : Instance → Plan → List ℕ
 plan_lines i plan =
     numbered (keyword_of Nodes) (names_in i Nodes) plan.caps
     ++ (numbered (keyword_of Processes) (names_in i Processes) plan.starts
@@ -28,18 +28,18 @@ abbrev pub delay_line : ℕ → List ℕ
 delay_line delay = codes "delay " ++ decimal delay
 
 -- the line of the slot order: the nodes' names, parted by spaces
-abbrev pub order_line : Problem → List ℕ → List ℕ
+abbrev pub order_line : Instance → List ℕ → List ℕ
 order_line i order = codes "order " ++ join_with_byte 32 (map (λ n. (node_at i n).name) order)
 
 -- The text of a plan with a stated delay: a line ends with one LF, words are parted by one space.
-abbrev pub plan_text : Problem → Plan → ℕ → List ℕ
+abbrev pub plan_text : Instance → Plan → ℕ → List ℕ
 plan_text i plan delay =
     codes "ttplan 1" ++ 10
     ∷ (delay_line delay ++ 10 ∷ (order_line i plan.order ++ 10 ∷ plan_lines i plan))
 
 -- What has a text: a plan of the instance's lengths and an order of its nodes. Its numbers and the
 -- stated delay, which need not be the plan's own, are below 2 ^ 32.
-pub record HasText (i : Problem) (plan : Plan) (delay : ℕ) : Type 0 where
+pub record HasText (i : Instance) (plan : Plan) (delay : ℕ) : Type 0 where
   pub lengths : HasLengths i plan
   pub order : IsNodeOrder (length i.nodes) plan.order
   pub caps : All (λ n. n < 2 ^ 32) plan.caps
@@ -48,6 +48,6 @@ pub record HasText (i : Problem) (plan : Plan) (delay : ℕ) : Type 0 where
   pub stated : delay < 2 ^ 32
 
 -- the text spells this plan with this stated delay
-pub record IsSpelled (i : Problem) (text : List ℕ) (plan : Plan) (delay : ℕ) : Type 0 where
+pub record SpellsPlan (i : Instance) (text : List ℕ) (plan : Plan) (delay : ℕ) : Type 0 where
   pub value : HasText i plan delay
   pub spelled : text ≡ plan_text i plan delay

@@ -4,7 +4,7 @@ ghost use Rattle.std.specs.Prelude.{◌≡◌, ◌++◌, ◌∷◌, [], ◌<◌,
 ghost use Rattle.ttp_model.specs.Plans.{IsValid};
 ghost use Rattle.ttp_model.specs.Delays.{delay};
 ghost use Rattle.plan_format.specs.Names.{names_in, keyword_of};
-ghost use Rattle.plan_format.specs.Spelling.{numbered, delay_line, order_line, IsSpelled};
+ghost use Rattle.plan_format.specs.Spelling.{numbered, delay_line, order_line, SpellsPlan};
 
 use crate::part::{keyword_of, name_of};
 use line_text::push_number;
@@ -69,7 +69,7 @@ fn push_lines(
 pub fn print(alloc: Global, instance: &Instance, plan: &Plan) -> Result<Vec<u8>, MemoryFault>
     requires { IsValid instance.now plan.now }
     ensures { IfOk result (λ text.
-        IsSpelled instance.now text.items plan.now (delay instance.now plan.now)) }
+        SpellsPlan instance.now text.items plan.now (delay instance.now plan.now)) }
 {
     let _nodes = instance.nodes();
     let mut text = Vec::new(alloc);

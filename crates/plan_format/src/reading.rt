@@ -1,8 +1,9 @@
 //! Which plan and which delay does a text spell, or what is its first fault?
 
-ghost use Rattle.std.specs.Prelude.{◌≡◌, ◌≢◌, ◌≤◌, ℕ, IfOk};
+ghost use Rattle.std.specs.Prelude.{◌≡◌, ◌≢◌, ◌+◌, ◌≤◌, ℕ, IfOk};
+ghost use Rattle.ttp_model.specs.declared.limits.TheConstants.{MOST_NODES, MOST_PROCESSES};
 ghost use Rattle.ttp_model.specs.Rules.{IsInstance};
-ghost use Rattle.plan_format.specs.Spelling.{IsSpelled};
+ghost use Rattle.plan_format.specs.Spelling.{SpellsPlan};
 ghost use Rattle.plan_format.specs.Reading.{IsAnswer, head_at, delay_at, part_at, plan_at};
 
 use crate::fault::{LineFault, PlanTextError};
@@ -44,7 +45,7 @@ fn numbers_of<'a>(
     line: u32,
     text: &'a [u8],
 ) -> Result<(Vec<u32>, &'a [u8]), PlanTextError>
-    requires { line ≤ 1000 }
+    requires { line ≤ 4 + MOST_NODES + MOST_PROCESSES }
     ensures { IsAnswer (λ x. (x.0.items, x.1.now)) result
         (part_at instance.now part line text.now) }
 {
@@ -94,9 +95,9 @@ pub fn read(alloc: Global, instance: &Instance, text: &[u8]) -> Result<(Plan, u3
     // The plan and its stated delay, or the first fault with its line.
     ensures exact { IsAnswer (λ x. x) result (plan_at instance.now text.now) }
     // What is read has a text, and this is it.
-    ensures found { IfOk result (λ r. IsSpelled instance.now text.now r.0 r.1) }
+    ensures found { IfOk result (λ r. SpellsPlan instance.now text.now r.0 r.1) }
     // A text that spells a plan is read as that plan, unless memory is refused.
-    ensures only { (plan : Plan) (delay : ℕ) → IsSpelled instance.now text.now plan delay →
+    ensures only { (plan : Plan) (delay : ℕ) → SpellsPlan instance.now text.now plan delay →
         result ≢ Err PlanTextError.OutOfMemory → result ≡ Ok (plan, delay) }
 {
     plan_of(alloc, instance, text)

@@ -3,19 +3,19 @@ use Rattle.std.proofs.Common.{◌≡◌, ℕ, zero, suc, ◌+◌, ◌<◌, ◌�
 use Rattle.std.specs.List.{range_with_len}
 use Rattle.certificate.specs.Trees.{Trees, none, grow, children, AreTrees}
 use Rattle.branch_tree.specs.declared.piece.Piece.{Piece}
-use Rattle.branch_tree.specs.Names.{Way, child_name, root_name}
+use Rattle.branch_tree.specs.Name.{Name, child_name, root_name}
 use Rattle.branch_tree.specs.Pieces.{names_below, names_of, all_below}
 use Rattle.planner.specs.Trees.{pieces_below, pieces_of}
 use Rattle.planner.proofs.Has.{Has, has_left, has_right, has_either, has_map, has_from_map, has_flat_map, has_from_flat_map, has_range, in_range}
 
 -- the piece of a name
-pub record HasPiece (pieces : List Piece) (name : Way) : Type 0 where
+pub record HasPiece (pieces : List Piece) (name : Name) : Type 0 where
   pub piece : Piece
   pub there : Has pieces piece
   pub named : piece.name ≡ name
 
 -- a branch, and the number of the child that has a name
-pub record HasParent (pieces : List Piece) (name : Way) : Type 0 where
+pub record HasParent (pieces : List Piece) (name : Name) : Type 0 where
   pub parent : Piece
   pub index : ℕ
   pub there : Has pieces parent
@@ -24,22 +24,22 @@ pub record HasParent (pieces : List Piece) (name : Way) : Type 0 where
 
 -- ---- names as lists, and the pieces that they come from
 
-pub piece_of_name : (pieces : List Piece) (name : Way) → Has (names_of pieces) name → HasPiece pieces name
+pub piece_of_name : (pieces : List Piece) (name : Name) → Has (names_of pieces) name → HasPiece pieces name
 piece_of_name pieces name h =
     let from = has_from_map (λ (p : Piece). p.name) pieces name h in
     record { piece = from.from; there = from.there; named = from.is }
 
-pub name_of_piece : (pieces : List Piece) (name : Way) → HasPiece pieces name → Has (names_of pieces) name
+pub name_of_piece : (pieces : List Piece) (name : Name) → HasPiece pieces name → Has (names_of pieces) name
 name_of_piece pieces name h = subst (Has (names_of pieces)) h.named (has_map (λ (p : Piece). p.name) pieces h.piece h.there)
 
-pub parent_of_name : (pieces : List Piece) (name : Way) → Has (all_below pieces) name → HasParent pieces name
+pub parent_of_name : (pieces : List Piece) (name : Name) → Has (all_below pieces) name → HasParent pieces name
 parent_of_name pieces name h =
     let from = has_from_flat_map names_below pieces name h in
     let child = has_from_map (child_name from.from.name) (range_with_len 0 (children from.from.node)) name from.is in
     let bounds = in_range 0 (children from.from.node) child.from child.there in
     record { parent = from.from; index = child.from; there = from.there; child = omega (arith, bounds.1); is = sym child.is }
 
-pub name_of_parent : (pieces : List Piece) (name : Way) → HasParent pieces name → Has (all_below pieces) name
+pub name_of_parent : (pieces : List Piece) (name : Name) → HasParent pieces name → Has (all_below pieces) name
 name_of_parent pieces name h =
     let inside : Has (range_with_len 0 (children h.parent.node)) h.index = has_range 0 (children h.parent.node) h.index (omega arith) (omega (arith, h.child)) in
     subst (Has (all_below pieces)) (sym h.is)
@@ -48,7 +48,7 @@ name_of_parent pieces name h =
 -- ---- children are there
 
 -- of trees side by side each is there
-pub each_there : (name : Way) (k count j : ℕ) (trees : Trees) → AreTrees count trees → j < count → HasPiece (pieces_below name k trees) (child_name name (k + j))
+pub each_there : (name : Name) (k count j : ℕ) (trees : Trees) → AreTrees count trees → j < count → HasPiece (pieces_below name k trees) (child_name name (k + j))
 each_there name k zero j trees are lt = absurd (omega arith)
 each_there name k (suc count) j none are lt = absurd are
 each_there name k (suc count) zero (grow node below beside) are lt =
@@ -62,15 +62,15 @@ each_there name k (suc count) (suc j) (grow node below beside) are lt =
       named = more.named ∙ ap (child_name name) same;
     }
 
-first_there : (name : Way) (count j : ℕ) (trees : Trees) → AreTrees count trees → j < count → HasPiece (pieces_below name 0 trees) (child_name name j)
+first_there : (name : Name) (count j : ℕ) (trees : Trees) → AreTrees count trees → j < count → HasPiece (pieces_below name 0 trees) (child_name name j)
 first_there name count j trees are lt =
     subst (λ (n : ℕ). HasPiece (pieces_below name 0 trees) (child_name name n)) (zero-add j) (each_there name 0 count j trees are lt)
 
-wider : (xs ys : List Piece) (name : Way) → ((p : Piece) → Has xs p → Has ys p) → HasPiece xs name → HasPiece ys name
+wider : (xs ys : List Piece) (name : Name) → ((p : Piece) → Has xs p → Has ys p) → HasPiece xs name → HasPiece ys name
 wider xs ys name h piece = record { piece = piece.piece; there = h piece.piece piece.there; named = piece.named }
 
 -- the children of a piece that is there are there
-pub children_there : (name : Way) (k count : ℕ) (trees : Trees) (p : Piece) (j : ℕ) → AreTrees count trees → Has (pieces_below name k trees) p → j < children p.node → HasPiece (pieces_below name k trees) (child_name p.name j)
+pub children_there : (name : Name) (k count : ℕ) (trees : Trees) (p : Piece) (j : ℕ) → AreTrees count trees → Has (pieces_below name k trees) p → j < children p.node → HasPiece (pieces_below name k trees) (child_name p.name j)
 children_there name k zero none p j are h lt = absurd h
 children_there name k zero (grow node below beside) p j are h lt = absurd are
 children_there name k (suc count) none p j are h lt = absurd are
@@ -84,7 +84,7 @@ children_there name k (suc count) (grow node below beside) p j are h lt =
       | inl same ↦
           let own : j < children node = subst (λ (q : Piece). j < children q.node) (sym same) lt in
           let named : (child_name name k) ≡ p.name = ap (λ (q : Piece). q.name) same in
-          subst (λ (w : Way). HasPiece whole (child_name w j)) named (wider under whole (child_name (child_name name k) j) from_under (first_there (child_name name k) (children node) j below are.0 own))
+          subst (λ (w : Name). HasPiece whole (child_name w j)) named (wider under whole (child_name (child_name name k) j) from_under (first_there (child_name name k) (children node) j below are.0 own))
       | inr later ↦ elim (has_either under after p later) [
         | inl left ↦ wider under whole (child_name p.name j) from_under (children_there (child_name name k) 0 (children node) below p j are.0 left lt)
         | inr right ↦ wider after whole (child_name p.name j) from_after (children_there name (k + 1) count beside p j are.1 right lt)
@@ -101,22 +101,22 @@ tree_children (grow node below beside) p j are h lt =
       | inl same ↦
           let own : j < children node = subst (λ (q : Piece). j < children q.node) (sym same) lt in
           let named : root_name ≡ p.name = ap (λ (q : Piece). q.name) same in
-          subst (λ (w : Way). HasPiece whole (child_name w j)) named (wider under whole (child_name root_name j) from_under (first_there root_name (children node) j below are.0 own))
+          subst (λ (w : Name). HasPiece whole (child_name w j)) named (wider under whole (child_name root_name j) from_under (first_there root_name (children node) j below are.0 own))
       | inr later ↦ wider under whole (child_name p.name j) from_under (children_there root_name 0 (children node) below p j are.0 later lt)
     ]
 
 -- ---- and nothing else is
 
 -- one of the trees side by side, or a child of a piece below
-abbrev pub IsTopOrChild : Way → ℕ → ℕ → List Piece → Piece → Type 0
+abbrev pub IsTopOrChild : Name → ℕ → ℕ → List Piece → Piece → Type 0
 IsTopOrChild name k count pieces p =
     ((j : ℕ) × ((k ≤ j) × (j < k + count) × (p.name ≡ child_name name j))) ⊎ HasParent pieces p.name
 
-wider_parent : (xs ys : List Piece) (name : Way) → ((p : Piece) → Has xs p → Has ys p) → HasParent xs name → HasParent ys name
+wider_parent : (xs ys : List Piece) (name : Name) → ((p : Piece) → Has xs p → Has ys p) → HasParent xs name → HasParent ys name
 wider_parent xs ys name h parent =
     record { parent = parent.parent; index = parent.index; there = h parent.parent parent.there; child = parent.child; is = parent.is }
 
-pub parents_there : (name : Way) (k count : ℕ) (trees : Trees) (p : Piece) → AreTrees count trees → Has (pieces_below name k trees) p → IsTopOrChild name k count (pieces_below name k trees) p
+pub parents_there : (name : Name) (k count : ℕ) (trees : Trees) (p : Piece) → AreTrees count trees → Has (pieces_below name k trees) p → IsTopOrChild name k count (pieces_below name k trees) p
 parents_there name k zero none p are h = absurd h
 parents_there name k zero (grow node below beside) p are h = absurd are
 parents_there name k (suc count) none p are h = absurd are

@@ -4,24 +4,23 @@ use Rattle.std.proofs.lemmas.List.{map-append}
 use Rattle.std.proofs.lemmas.List.Elements.{All-append, All-weaker, All-contains, Contains-append_left, Contains-get_or}
 use Rattle.ttp_model.specs.declared.plan.Plan.{Plan}
 use Rattle.ttp_model.specs.declared.step.Leaf.{Leaf}
-use Rattle.ttp_model.specs.Problem.{Problem}
+use Rattle.ttp_model.specs.Instance.{Instance}
 use Rattle.ttp_model.specs.Rules.{IsInstance}
-use Rattle.tt_choice.specs.Choices.{Chosen}
+use Rattle.tt_choice.specs.Choice.{Choice}
 use Rattle.certificate.specs.declared.limits.TheConstants.{MOST_BRANCHES_ABOVE}
 use Rattle.certificate.specs.declared.node.Node.{Node}
 use Rattle.certificate.specs.declared.node.Node.TheVariants as node
-use Rattle.cert_check.specs.Proofs.{HasGoal}
 use Rattle.branch_tree.specs.declared.piece.Piece.{Piece}
-use Rattle.branch_tree.specs.Names.{Way}
-use Rattle.branch_tree.specs.Tasks.{Subtree}
+use Rattle.branch_tree.specs.Name.{Name}
+use Rattle.branch_tree.specs.Task.{Task}
 use Rattle.branch_tree.specs.Pieces.{IsRight, StandsAt}
 use Rattle.branch_tree.specs.Account.{IsWholeTree}
 use Rattle.branch_tree.specs.Work.{IsLeftClosed}
-use Rattle.search_core.specs.Moments.{Moment, open_names, all_pieces}
+use Rattle.search_core.specs.World.{World, open_names, all_pieces}
 use Rattle.search_core.proofs.Cover.{bounded}
 use Rattle.search_core.proofs.Right.{pieces_right, stands_alone}
 use Rattle.planner.specs.Answers.{limit_of}
-use Rattle.planner.specs.Gathering.{HaveGoals, AreShallow}
+use Rattle.planner.specs.Gathering.{HasGoal, HaveGoals, AreShallow}
 use Rattle.planner.specs.Searched.{IsSearched, IsClosedLeaf, IsLeafPiece, IsWorkedOut, ReachesGoal}
 use Rattle.planner.specs.Searching.{IsOpenTask, task_names, IsSearching, ClosesOne, AreClosed}
 use Rattle.planner.specs.declared.outcome.Why.{Why}
@@ -29,37 +28,34 @@ use Rattle.planner.proofs.Searching.{last_there, one_only, whole_at}
 use Rattle.planner.proofs.Leaves.{closed_whole, closed_right}
 
 weaker_goal : (limit lower : ℕ) → lower ≤ limit → (n : Node) → HasGoal limit n → HasGoal lower n
-weaker_goal limit lower le (node.Place k) h = tt
-weaker_goal limit lower le (node.Cap n k) h = tt
-weaker_goal limit lower le (node.Pair p q) h = tt
-weaker_goal limit lower le (node.Round m r) h = tt
+weaker_goal limit lower le (node.Branch branch) h = tt
 weaker_goal limit lower le (node.Leaf leaf) h = omega (arith, h, le)
 
 pub end_low : (low limit : ℕ) (closed : List Piece) → (low ≡ limit) ⊎ ((low < limit) × ReachesGoal low closed) → low ≤ limit
 end_low low limit closed (inl e) = omega (arith, e)
 end_low low limit closed (inr h) = omega (arith, h.0)
 
-closes_leaf : (i : Problem) (limit low : ℕ) (tasks : List Subtree) (p : Piece) → ClosesOne i tasks limit p → HasGoal low p.node → IsClosedLeaf i limit low p
+closes_leaf : (i : Instance) (limit low : ℕ) (tasks : List Task) (p : Piece) → ClosesOne i tasks limit p → HasGoal low p.node → IsClosedLeaf i limit low p
 closes_leaf i limit low tasks p one goal =
     let above : low ≤ one.is.leaf.goal = subst (HasGoal low) one.is.node goal in
     record { leaf = one.is.leaf; is = one.is.node; above = above; path = λ bound is. omega (arith, one.is.least bound is) }
 
-all_leaves : (i : Problem) (limit low : ℕ) (tasks : List Subtree) (closed : List Piece) → All (ClosesOne i tasks limit) closed → HaveGoals low closed → All (IsClosedLeaf i limit low) closed
+all_leaves : (i : Instance) (limit low : ℕ) (tasks : List Task) (closed : List Piece) → All (ClosesOne i tasks limit) closed → HaveGoals low closed → All (IsClosedLeaf i limit low) closed
 all_leaves i limit low tasks closed each goals = λ j d lt. closes_leaf i limit low tasks (get_or closed j d) (each j d lt) (goals j d lt)
 
-is_leaf_piece : (i : Problem) (limit : ℕ) (tasks : List Subtree) (p : Piece) → ClosesOne i tasks limit p → IsLeafPiece p
+is_leaf_piece : (i : Instance) (limit : ℕ) (tasks : List Task) (p : Piece) → ClosesOne i tasks limit p → IsLeafPiece p
 is_leaf_piece i limit tasks p one = record { leaf = one.is.leaf; is = one.is.node }
 
-closed_leaves : (i : Problem) (limit : ℕ) (tasks : List Subtree) (closed : List Piece) → All (ClosesOne i tasks limit) closed → All IsLeafPiece closed
+closed_leaves : (i : Instance) (limit : ℕ) (tasks : List Task) (closed : List Piece) → All (ClosesOne i tasks limit) closed → All IsLeafPiece closed
 closed_leaves i limit tasks closed each = All-weaker (ClosesOne i tasks limit) IsLeafPiece (is_leaf_piece i limit tasks) closed each
 
 -- ---- the pieces of a search, and those that close what it left
 
-module _ (i : Problem) (m : Moment) (tasks : List Subtree) (found : Option (Plan × ℕ)) (limit low : ℕ) (closed : List Piece) (s : IsSearching i m tasks found) (c : AreClosed i tasks limit closed low) where
+module _ (i : Instance) (m : World) (tasks : List Task) (found : Option (Plan × ℕ)) (limit low : ℕ) (closed : List Piece) (s : IsSearching i m tasks found) (c : AreClosed i tasks limit closed low) where
   closes_shallow : (p : Piece) → ClosesOne i tasks limit p → length p.name ≤ MOST_BRANCHES_ABOVE
   closes_shallow p one =
       let own : IsOpenTask i (all_pieces m) one.task = All-contains (IsOpenTask i (all_pieces m)) tasks one.task s.open_tasks one.there in
-      omega (arith, own.task.shallow, ap (λ (w : Way). length w) one.is.name)
+      omega (arith, own.task.shallow, ap (λ (w : Name). length w) one.is.name)
 
   pub end_shallow : AreShallow (all_pieces m ++ closed)
   end_shallow =
@@ -73,10 +69,7 @@ module _ (i : Problem) (m : Moment) (tasks : List Subtree) (found : Option (Plan
 
   -- by the core's law of bounds
   worked_goal : IsInstance i → limit ≡ limit_of i found → (p : Piece) → Contains (all_pieces m) p → (n : Node) → p.node ≡ n → HasGoal limit n
-  worked_goal w is p there (node.Place k) same = tt
-  worked_goal w is p there (node.Cap n k) same = tt
-  worked_goal w is p there (node.Pair a b) same = tt
-  worked_goal w is p there (node.Round a b) same = tt
+  worked_goal w is p there (node.Branch branch) same = tt
   worked_goal w is p there (node.Leaf leaf) same =
       let bounds = bounded i 1 s.reached.top s.reached.events (Ok tt) m w (omega arith) s.reached.is_top s.reached.honest s.reached.runs in
       omega (arith, bounds.leaves p leaf there same, s.limit, is)
@@ -90,13 +83,13 @@ module _ (i : Problem) (m : Moment) (tasks : List Subtree) (found : Option (Plan
       (All-weaker (λ (q : Piece). HasGoal limit q.node) (λ (q : Piece). HasGoal low q.node) (λ q. weaker_goal limit low (end_low low limit closed c.least) q.node) (all_pieces m) (worked_goals w is))
       c.goals
 
-  closes_right : (p : Piece) (d : Chosen) → Contains closed p → StandsAt i (all_pieces m) p.name d → IsRight i d p.node
+  closes_right : (p : Piece) (d : Choice) → Contains closed p → StandsAt i (all_pieces m) p.name d → IsRight i d p.node
   closes_right p d there stands =
       let one : ClosesOne i tasks limit p = All-contains (ClosesOne i tasks limit) closed p c.each there in
       let own : IsOpenTask i (all_pieces m) one.task = All-contains (IsOpenTask i (all_pieces m)) tasks one.task s.open_tasks one.there in
-      let here : StandsAt i (all_pieces m) one.task.name d = subst (λ (w : Way). StandsAt i (all_pieces m) w d) one.is.name stands in
+      let here : StandsAt i (all_pieces m) one.task.name d = subst (λ (w : Name). StandsAt i (all_pieces m) w d) one.is.name stands in
       let same : one.task.choice ≡ d = stands_alone i (all_pieces m) (open_names m) one.task.name one.task.choice d (whole_at i m tasks found s) own.stands here in
-      subst (λ (e : Chosen). IsRight i e p.node) same (subst (IsRight i one.task.choice) (sym one.is.node) one.is.closes)
+      subst (λ (e : Choice). IsRight i e p.node) same (subst (IsRight i one.task.choice) (sym one.is.node) one.is.closes)
 
   pub ended : (budget : ℕ) (why : Why) → IsInstance i → limit ≡ limit_of i found → length (all_pieces m) ≤ budget → IsWorkedOut budget (all_pieces m) why → IsSearched i budget why found (all_pieces m) closed low
   ended budget why w is within cause = record {
@@ -113,7 +106,7 @@ module _ (i : Problem) (m : Moment) (tasks : List Subtree) (found : Option (Plan
 
 -- ---- one task more is closed
 
-pub closes_more : (i : Problem) (done : List Subtree) (t : Subtree) (top : ℕ) (closed : List Piece) (low lower : ℕ) (p : Piece)
+pub closes_more : (i : Instance) (done : List Task) (t : Task) (top : ℕ) (closed : List Piece) (low lower : ℕ) (p : Piece)
     → AreClosed i done top closed low → IsLeftClosed i t top p
     → ((leaf : Leaf) → p.node ≡ node.Leaf leaf → lower ≡ min low leaf.goal)
     → AreClosed i (done ++ t ∷ []) top (closed ++ p ∷ []) lower
@@ -122,8 +115,8 @@ closes_more i done t top closed low lower p c is lowers =
     let le : lower ≤ low = omega (arith, lowered) in
     let own : HasGoal lower p.node = subst (HasGoal lower) (sym is.node) (omega (arith, lowered)) in
     record {
-      names = map-append (λ (q : Piece). q.name) closed (p ∷ []) ∙ ap (λ (l : List Way). l ++ p.name ∷ []) c.names
-          ∙ ap (λ (w : Way). task_names done ++ w ∷ []) is.name ∙ sym (map-append (λ (x : Subtree). x.name) done (t ∷ []));
+      names = map-append (λ (q : Piece). q.name) closed (p ∷ []) ∙ ap (λ (l : List Name). l ++ p.name ∷ []) c.names
+          ∙ ap (λ (w : Name). task_names done ++ w ∷ []) is.name ∙ sym (map-append (λ (x : Task). x.name) done (t ∷ []));
       each = All-append (ClosesOne i (done ++ t ∷ []) top) closed (p ∷ [])
           (All-weaker (ClosesOne i done top) (ClosesOne i (done ++ t ∷ []) top)
           (λ q one. record { task = one.task; there = Contains-append_left done (t ∷ []) one.task one.there; is = one.is }) closed c.each)

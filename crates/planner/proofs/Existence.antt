@@ -4,7 +4,7 @@ use Rattle.std.proofs.lemmas.List.{map-append, append-nil}
 use Rattle.certificate.specs.declared.node.Node.{Node}
 use Rattle.certificate.specs.Trees.{Trees, none, grow, children, AreTrees, levels, preorder}
 use Rattle.branch_tree.specs.declared.piece.Piece.{Piece}
-use Rattle.branch_tree.specs.Names.{Way, child_name, root_name}
+use Rattle.branch_tree.specs.Name.{Name, child_name, root_name}
 use Rattle.planner.specs.Trees.{pieces_below, pieces_of}
 use Rattle.planner.specs.Order.{Rises}
 use Rattle.planner.proofs.Has.{Has, has_left, has_right, has_either}
@@ -18,19 +18,19 @@ pub record IsClosed (pieces : List Piece) : Type 0 where
   pub own : (p : Piece) → Has pieces p → (root_name ≡ p.name) ⊎ HasParent pieces p.name
 
 -- trees that are made of pieces
-record Made (pieces : List Piece) (name : Way) (k count : ℕ) : Type 0 where
+record Made (pieces : List Piece) (name : Name) (k count : ℕ) : Type 0 where
   trees : Trees
   are : AreTrees count trees
   from : (p : Piece) → Has (pieces_below name k trees) p → Has pieces p
 
-pub child-length : (name : Way) (k : ℕ) → length (child_name name k) ≡ length name + 1
+pub child-length : (name : Name) (k : ℕ) → length (child_name name k) ≡ length name + 1
 child-length name k = length-append name (k ∷ [])
 
 -- a piece and what is made below it, in front of what is made beside it
-in_front : (pieces : List Piece) (name : Way) (k count : ℕ) (here : HasPiece pieces (child_name name k))
+in_front : (pieces : List Piece) (name : Name) (k count : ℕ) (here : HasPiece pieces (child_name name k))
     → Made pieces (child_name name k) 0 (children here.piece.node) → Made pieces name (k + 1) count → Made pieces name k (suc count)
 in_front pieces name k count here under beside =
-    let is : record { name = child_name name k; node = here.piece.node } ≡ here.piece = ap (λ (w : Way). record { name = w; node = here.piece.node }) (sym here.named) in
+    let is : record { name = child_name name k; node = here.piece.node } ≡ here.piece = ap (λ (w : Name). record { name = w; node = here.piece.node }) (sym here.named) in
     record {
       trees = grow here.piece.node under.trees beside.trees;
       are = (under.are, beside.are);
@@ -43,7 +43,7 @@ in_front pieces name k count here under beside =
       ];
     }
 
-side_by_side : (pieces : List Piece) (name : Way) (k count : ℕ)
+side_by_side : (pieces : List Piece) (name : Name) (k count : ℕ)
     → ((p : Piece) → Has pieces p → length p.name ≡ length name + 1 → Made pieces p.name 0 (children p.node))
     → ((j : ℕ) → j < count → HasPiece pieces (child_name name (k + j)))
     → Made pieces name k count
@@ -51,8 +51,8 @@ side_by_side pieces name k zero below there = record { trees = none; are = tt; f
 side_by_side pieces name k (suc count) below there =
     let first : k + 0 ≡ k = omega arith in
     let here : HasPiece pieces (child_name name k) = subst (λ (n : ℕ). HasPiece pieces (child_name name n)) first (there 0 (omega arith)) in
-    let long : length here.piece.name ≡ length name + 1 = ap (λ (w : Way). length w) here.named ∙ child-length name k in
-    let under : Made pieces (child_name name k) 0 (children here.piece.node) = subst (λ (w : Way). Made pieces w 0 (children here.piece.node)) here.named (below here.piece here.there long) in
+    let long : length here.piece.name ≡ length name + 1 = ap (λ (w : Name). length w) here.named ∙ child-length name k in
+    let under : Made pieces (child_name name k) 0 (children here.piece.node) = subst (λ (w : Name). Made pieces w 0 (children here.piece.node)) here.named (below here.piece here.there long) in
     in_front pieces name k count here under
     (side_by_side pieces name (k + 1) count below (λ j lt. let next : k + suc j ≡ (k + 1) + j = omega arith in subst (λ (n : ℕ). HasPiece pieces (child_name name n)) next (there (suc j) (omega arith))))
 
@@ -95,7 +95,7 @@ by_parent pieces tree p up are from there child above =
     subst (Has (pieces_of tree)) (one_of_name pieces again.piece p up (from again.piece again.there) there (again.named ∙ sym child.is)) again.there
 
 longer : (pieces : List Piece) (p : Piece) (child : HasParent pieces p.name) → length p.name ≡ length child.parent.name + 1
-longer pieces p child = ap (λ (w : Way). length w) child.is ∙ child-length child.parent.name child.index
+longer pieces p child = ap (λ (w : Name). length w) child.is ∙ child-length child.parent.name child.index
 
 reached : (pieces : List Piece) (tree : Trees) (n : ℕ) (p : Piece) → Rises pieces → IsClosed pieces → AreTrees 1 tree → ((q : Piece) → Has (pieces_of tree) q → Has pieces q)
     → HasPiece (pieces_of tree) root_name → Has pieces p → length p.name ≤ n → Has (pieces_of tree) p
@@ -119,9 +119,9 @@ pub tree_exists : (pieces : List Piece) → Rises pieces → IsClosed pieces →
 tree_exists pieces up closed =
     let root = closed.root in
     let under : Made pieces root_name 0 (children root.piece.node) =
-    subst (λ (w : Way). Made pieces w 0 (children root.piece.node)) root.named (made pieces (longest pieces) (longest pieces) root.piece closed (at_most_longest pieces) root.there (omega arith)) in
+    subst (λ (w : Name). Made pieces w 0 (children root.piece.node)) root.named (made pieces (longest pieces) (longest pieces) root.piece closed (at_most_longest pieces) root.there (omega arith)) in
     let tree = grow root.piece.node under.trees none in
-    let top : record { name = root_name; node = root.piece.node } ≡ root.piece = ap (λ (w : Way). record { name = w; node = root.piece.node }) (sym root.named) in
+    let top : record { name = root_name; node = root.piece.node } ≡ root.piece = ap (λ (w : Name). record { name = w; node = root.piece.node }) (sym root.named) in
     let from : (p : Piece) → Has (pieces_of tree) p → Has pieces p = λ p h. elim h [
       | inl same ↦ subst (Has pieces) (sym top ∙ same) root.there
       | inr later ↦ under.from p later
@@ -135,7 +135,7 @@ tree_exists pieces up closed =
 
 -- ---- its nodes and its height
 
-nodes_below : (name : Way) (k : ℕ) (trees : Trees) → preorder trees ≡ map (λ (p : Piece). p.node) (pieces_below name k trees)
+nodes_below : (name : Name) (k : ℕ) (trees : Trees) → preorder trees ≡ map (λ (p : Piece). p.node) (pieces_below name k trees)
 nodes_below name k none = refl
 nodes_below name k (grow node below beside) =
     let rest : preorder below ++ preorder beside ≡ map (λ (p : Piece). p.node) (pieces_below (child_name name k) 0 below ++ pieces_below name (k + 1) beside) =
@@ -147,7 +147,7 @@ tree_nodes none are = absurd are
 tree_nodes (grow node below none) are = ap (λ (ns : List Node). node ∷ ns) (simp append-nil (nodes_below root_name 0 below))
 tree_nodes (grow node below (grow other under beside)) are = absurd are.1
 
-levels_below : (name : Way) (k most : ℕ) (trees : Trees) → length name ≤ most → ((p : Piece) → Has (pieces_below name k trees) p → length p.name ≤ most) → length name + levels trees ≤ most
+levels_below : (name : Name) (k most : ℕ) (trees : Trees) → length name ≤ most → ((p : Piece) → Has (pieces_below name k trees) p → length p.name ≤ most) → length name + levels trees ≤ most
 levels_below name k most none short deep = omega arith
 levels_below name k most (grow node below beside) short deep =
     let own = deep (record { name = child_name name k; node = node }) (inl refl) in

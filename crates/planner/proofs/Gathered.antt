@@ -5,11 +5,10 @@ use Rattle.std.proofs.lemmas.List.Elements.{All-contains}
 use Rattle.std.proofs.lemmas.List.Sorted.{IsPermutation-sym, IsPermutation-trans, All-permutation, Contains-permutation}
 use Rattle.certificate.specs.declared.limits.TheConstants.{MOST_BRANCHES_ABOVE}
 use Rattle.certificate.specs.Trees.{Trees, IsTree, preorder, trees_of}
-use Rattle.cert_check.specs.Proofs.{HasGoal}
 use Rattle.certificate.proofs.TreeLists.{trees_of-preorder}
 use Rattle.branch_tree.specs.declared.piece.Piece.{Piece}
 use Rattle.planner.specs.Trees.{IsTreeOf, pieces_of}
-use Rattle.planner.specs.Gathering.{AreShallow, HasTreeNames, HaveGoals, IsComplete, IsOwn, IsGathered}
+use Rattle.planner.specs.Gathering.{HasGoal, AreShallow, HasTreeNames, HaveGoals, HasWantedNames, IsOwn, IsGathered}
 use Rattle.planner.specs.Order.{Rises}
 use Rattle.planner.proofs.Has.{Has, contains_from_has, has_from_contains}
 use Rattle.planner.proofs.Rising.{pieces_rise, same_list}
@@ -28,7 +27,7 @@ nodes_are : (sorted : List Piece) (found : IsListOf sorted) → trees_of (map (�
 nodes_are sorted found =
     ap trees_of (sym (tree_nodes found.tree found.one ∙ ap (λ (ps : List Piece). map (λ (p : Piece). p.node) ps) found.is)) ∙ trees_of-preorder 1 found.tree found.one
 
-pub gathered : (low : ℕ) (pieces sorted : List Piece) → AreShallow pieces → IsPermutation pieces sorted → Rises sorted → IsComplete sorted → IsOwn sorted → HaveGoals low sorted
+pub gathered : (low : ℕ) (pieces sorted : List Piece) → AreShallow pieces → IsPermutation pieces sorted → Rises sorted → HasWantedNames sorted → IsOwn sorted → HaveGoals low sorted
     → IsAnswered low pieces sorted
 gathered low pieces sorted shallow same up complete own goals =
     let found = tree_exists sorted up (closed_by_names sorted (record { once = λ name. once_rising sorted name up; complete = complete; own = own })) in

@@ -5,8 +5,8 @@ use Rattle.std.specs.declared.cmp.Ordering.{Ordering}
 use Rattle.std.specs.declared.cmp.Ordering.TheVariants.{Less, Equal}
 use Rattle.std.specs.Cmp.{nat_cmp_is, tied_itself}
 use Rattle.std.proofs.lemmas.Cmp.{nat_list_cmp_total}
-use Rattle.branch_tree.specs.Names.{Way}
-use Rattle.planner.specs.Order.{compare, GoesBefore}
+use Rattle.branch_tree.specs.Name.{Name}
+use Rattle.planner.specs.Order.{compare, SortsBefore}
 
 same_number : (x : ℕ) → nat_cmp x x ≡ Equal
 same_number x = sym (nat_cmp_is x x Equal refl)
@@ -15,21 +15,21 @@ less_number : (x y : ℕ) → x < y → nat_cmp x y ≡ Less
 less_number x y lt = sym (nat_cmp_is x y Less lt)
 
 -- behind equal indices the others decide
-behind : (x : ℕ) (a b : Way) → compare (x ∷ a) (x ∷ b) ≡ compare a b
+behind : (x : ℕ) (a b : Name) → compare (x ∷ a) (x ∷ b) ≡ compare a b
 behind x a b = ap (λ (o : Ordering). ordering_then o (compare a b)) (same_number x)
 
 -- a name goes before those that begin with it
-pub own_before : (name : Way) (k : ℕ) (rest : Way) → GoesBefore name (name ++ k ∷ rest)
+pub own_before : (name : Name) (k : ℕ) (rest : Name) → SortsBefore name (name ++ k ∷ rest)
 own_before [] k rest = refl
 own_before (x ∷ name) k rest = behind x name (name ++ k ∷ rest) ∙ own_before name k rest
 
 -- what stands at or below a child goes before what stands at or below a later child
-pub sibling_before : (name : Way) (j k : ℕ) (a b : Way) → j < k → GoesBefore (name ++ j ∷ a) (name ++ k ∷ b)
+pub sibling_before : (name : Name) (j k : ℕ) (a b : Name) → j < k → SortsBefore (name ++ j ∷ a) (name ++ k ∷ b)
 sibling_before [] j k a b lt = ap (λ (o : Ordering). ordering_then o (compare a b)) (less_number j k lt)
 sibling_before (x ∷ name) j k a b lt = behind x (name ++ j ∷ a) (name ++ k ∷ b) ∙ sibling_before name j k a b lt
 
-pub before_both : (a b c : Way) → GoesBefore a b → GoesBefore b c → GoesBefore a c
+pub before_both : (a b c : Name) → SortsBefore a b → SortsBefore b c → SortsBefore a c
 before_both a b c = nat_list_cmp_total.trans a b c
 
-pub not_itself : (a : Way) → GoesBefore a a → ⊥
+pub not_itself : (a : Name) → SortsBefore a a → ⊥
 not_itself a less = cc (tied_itself {R = compare} nat_list_cmp_total a)

@@ -8,15 +8,15 @@ use Rattle.std.proofs.lemmas.List.Elements.{All-head, All-tail, All-contains, Al
 use Rattle.std.proofs.lemmas.List.Sums.{sum_by-cons, sum_by-append}
 use Rattle.std.proofs.lemmas.List.Sorted.{IsPermutation-map, Contains-permutation, All-permutation, sum_by-IsPermutation}
 use Rattle.ttp_model.specs.declared.plan.Plan.{Plan}
-use Rattle.ttp_model.specs.Problem.{Problem}
+use Rattle.ttp_model.specs.Instance.{Instance}
 use Rattle.ttp_model.specs.Chains.{IsPathBound}
 use Rattle.ttp_model.specs.Rules.{IsInstance}
 use Rattle.ttp_model.proofs.PlanNumbers.{delay_small}
 use Rattle.certificate.specs.declared.node.Node.{Node}
 use Rattle.certificate.specs.declared.node.Node.TheVariants as node
 use Rattle.certificate.specs.Trees.{Trees, preorder}
-use Rattle.certificate.specs.Certificate.{Certificate}
-use Rattle.cert_check.specs.Proofs.{HasGoal, Proves}
+use Rattle.certificate.specs.Cert.{Cert}
+use Rattle.cert_check.specs.Proofs.{Proves}
 use Rattle.branch_tree.specs.declared.piece.Piece.{Piece}
 use Rattle.planner.specs.declared.outcome.Options.{Options}
 use Rattle.planner.specs.declared.outcome.Outcome.{Outcome}
@@ -24,7 +24,7 @@ use Rattle.planner.specs.declared.outcome.Outcome.TheVariants.{Optimal, Infeasib
 use Rattle.planner.specs.declared.outcome.Why.{Why}
 use Rattle.planner.specs.declared.outcome.Why.TheVariants.{Budget, Memory}
 use Rattle.planner.specs.Trees.{IsTreeOf, pieces_of}
-use Rattle.planner.specs.Gathering.{HaveGoals, IsGathered}
+use Rattle.planner.specs.Gathering.{HasGoal, HaveGoals, IsGathered}
 use Rattle.planner.specs.Answers.{is_branch, is_closed_at, branches, worked_at, limit_of, IsBestAbove, IsLeastGoal, IsCause, IsOutcome}
 use Rattle.planner.specs.Searched.{IsFound, IsClosedLeaf, ReachesGoal, IsWorkedOut, IsSearched, IsAnswerOf}
 use Rattle.planner.proofs.Has.{has_map, has_from_contains, contains_from_has}
@@ -52,10 +52,10 @@ branches_at_most (p ∷ pieces) =
     omega (arith, count_cons is_branch p.node (nodes_of pieces), at_most_one (is_branch p.node), branches_at_most pieces)
 
 -- a leaf is no branch
-no_branch : (i : Problem) (limit low : ℕ) (p : Piece) → IsClosedLeaf i limit low p → is_branch p.node ≡ false
+no_branch : (i : Instance) (limit low : ℕ) (p : Piece) → IsClosedLeaf i limit low p → is_branch p.node ≡ false
 no_branch i limit low p is = ap is_branch is.is
 
-no_branches : (i : Problem) (limit low : ℕ) (pieces : List Piece) → All (IsClosedLeaf i limit low) pieces → count_by is_branch (nodes_of pieces) ≡ 0
+no_branches : (i : Instance) (limit low : ℕ) (pieces : List Piece) → All (IsClosedLeaf i limit low) pieces → count_by is_branch (nodes_of pieces) ≡ 0
 no_branches i limit low [] leaves = refl
 no_branches i limit low (p ∷ pieces) leaves =
     let first : one (is_branch p.node) ≡ 0 = ap one (no_branch i limit low p (All-head (IsClosedLeaf i limit low) p pieces leaves)) in
@@ -63,10 +63,7 @@ no_branches i limit low (p ∷ pieces) leaves =
 
 -- each node with a goal at the limit is a branch or a leaf at the limit
 one_of_both : (limit : ℕ) (n : Node) → HasGoal limit n → 1 ≤ cond (is_branch n) 1 0 + cond (is_closed_at limit n) 1 0
-one_of_both limit (node.Place k) goal = omega arith
-one_of_both limit (node.Cap n k) goal = omega arith
-one_of_both limit (node.Pair p q) goal = omega arith
-one_of_both limit (node.Round m r) goal = omega arith
+one_of_both limit (node.Branch branch) goal = omega arith
 one_of_both limit (node.Leaf leaf) goal =
     let closed : one (nat_le limit leaf.goal) ≡ 1 = ap one (le-leb limit leaf.goal goal) in
     omega (arith, closed)
@@ -95,7 +92,7 @@ nodes_moved pieces tree is =
 count_tree : (p : Node → Bool) (pieces : List Piece) (tree : Trees) → IsTreeOf pieces tree → count_by p (preorder tree) ≡ count_by p (nodes_of pieces)
 count_tree p pieces tree is = sum_by-IsPermutation (λ (m : Node). cond (p m) 1 0) (nodes_of pieces) (preorder tree) (nodes_moved pieces tree is)
 
-within_budget : (i : Problem) (limit low : ℕ) (worked closed : List Piece) (tree : Trees) → IsTreeOf (worked ++ closed) tree → All (IsClosedLeaf i limit low) closed → branches tree ≤ length worked
+within_budget : (i : Instance) (limit low : ℕ) (worked closed : List Piece) (tree : Trees) → IsTreeOf (worked ++ closed) tree → All (IsClosedLeaf i limit low) closed → branches tree ≤ length worked
 within_budget i limit low worked closed tree is leaves =
     omega (arith, count_tree is_branch (worked ++ closed) tree is, count_both is_branch worked closed, branches_at_most worked, no_branches i limit low closed leaves)
 
@@ -110,7 +107,7 @@ all_worked limit worked closed tree is goals =
       all_of_both limit worked goals,
     )
 
-least_goal : (low : ℕ) (worked closed : List Piece) (cert : Certificate) → IsGathered low (worked ++ closed) cert → ReachesGoal low closed → IsLeastGoal cert.tree low
+least_goal : (low : ℕ) (worked closed : List Piece) (cert : Cert) → IsGathered low (worked ++ closed) cert → ReachesGoal low closed → IsLeastGoal cert.tree low
 least_goal low worked closed cert is reaches =
     let pieces = worked ++ closed in
     let there : Contains pieces reaches.piece = Contains-append_right worked closed reaches.piece reaches.there in
@@ -126,24 +123,24 @@ least_goal low worked closed cert is reaches =
 
 -- ---- the answer
 
-limit_small : (i : Problem) (best : Option (Plan × ℕ)) → IsInstance i → IsFound i best → limit_of i best ≤ i.cluster.horizon + 1
+limit_small : (i : Instance) (best : Option (Plan × ℕ)) → IsInstance i → IsFound i best → limit_of i best ≤ i.cluster.horizon + 1
 limit_small i None w found = omega arith
 limit_small i (Some best) w found = omega (arith, delay_small i best.0 w found.settled.valid, found.delay_is)
 
-low_small : (i : Problem) (limit low : ℕ) (closed : List Piece) → (low ≡ limit) ⊎ ((low < limit) × ReachesGoal low closed) → low ≤ limit
+low_small : (i : Instance) (limit low : ℕ) (closed : List Piece) → (low ≡ limit) ⊎ ((low < limit) × ReachesGoal low closed) → low ≤ limit
 low_small i limit low closed (inl same) = omega arith
 low_small i limit low closed (inr less) = omega (arith, less.0)
 
-proved : (i : Problem) (budget : ℕ) (why : Why) (best : Option (Plan × ℕ)) (worked closed : List Piece) (low : ℕ) (cert : Certificate) → IsInstance i → IsSearched i budget why best worked closed low → IsGathered low (worked ++ closed) cert → Proves i cert
+proved : (i : Instance) (budget : ℕ) (why : Why) (best : Option (Plan × ℕ)) (worked closed : List Piece) (low : ℕ) (cert : Cert) → IsInstance i → IsSearched i budget why best worked closed low → IsGathered low (worked ++ closed) cert → Proves i cert
 proved i budget why best worked closed low cert w is gathered =
     gathered_proves i (worked ++ closed) low cert is.right
     (omega (arith, low_small i (limit_of i best) low closed is.least, limit_small i best w is.found)) gathered
 
-best_above : (i : Problem) (low : ℕ) (best : Option (Plan × ℕ)) → IsFound i best → low < limit_of i best → IsBestAbove i low best
+best_above : (i : Instance) (low : ℕ) (best : Option (Plan × ℕ)) → IsFound i best → low < limit_of i best → IsBestAbove i low best
 best_above i low None found less = tt
 best_above i low (Some best) found less = (found, less)
 
-cause_is : (i : Problem) (budget : ℕ) (why : Why) (best : Option (Plan × ℕ)) (worked closed : List Piece) (cert : Certificate) → IsTreeOf (worked ++ closed) cert.tree → HaveGoals (limit_of i best) worked → IsWorkedOut budget worked why → IsCause i budget best cert why
+cause_is : (i : Instance) (budget : ℕ) (why : Why) (best : Option (Plan × ℕ)) (worked closed : List Piece) (cert : Cert) → IsTreeOf (worked ++ closed) cert.tree → HaveGoals (limit_of i best) worked → IsWorkedOut budget worked why → IsCause i budget best cert why
 cause_is i budget Budget best worked closed cert is goals all = omega (arith, all_worked (limit_of i best) worked closed cert.tree is goals, all)
 cause_is i budget Memory best worked closed cert is goals all = tt
 
@@ -155,28 +152,28 @@ abbrev goal_in : Node → ℕ
 goal_in (node.Leaf leaf) = leaf.goal
 goal_in _ = 0
 
-path_below : (i : Problem) (limit low : ℕ) (closed : List Piece) → All (IsClosedLeaf i limit low) closed → ReachesGoal low closed → (bound : ℕ) → IsPathBound i bound → min bound limit ≤ low
+path_below : (i : Instance) (limit low : ℕ) (closed : List Piece) → All (IsClosedLeaf i limit low) closed → ReachesGoal low closed → (bound : ℕ) → IsPathBound i bound → min bound limit ≤ low
 path_below i limit low closed leaves reaches bound is =
     let leaf = All-contains (IsClosedLeaf i limit low) closed reaches.piece leaves reaches.there in
     let same : leaf.leaf.goal ≡ reaches.leaf.goal = ap goal_in (sym leaf.is ∙ reaches.is) in
     omega (arith, leaf.path bound is, same, reaches.goal)
 
-same_stopped : (i : Problem) (options : Options) (cause why : Why) (bound low : ℕ) (found best : Option (Plan × ℕ)) (own cert : Certificate) → cause ≡ why → bound ≡ low → found ≡ best → own ≡ cert → IsOutcome i options (Stopped why low best cert) → IsOutcome i options (Stopped cause bound found own)
+same_stopped : (i : Instance) (options : Options) (cause why : Why) (bound low : ℕ) (found best : Option (Plan × ℕ)) (own cert : Cert) → cause ≡ why → bound ≡ low → found ≡ best → own ≡ cert → IsOutcome i options (Stopped why low best cert) → IsOutcome i options (Stopped cause bound found own)
 same_stopped i options cause why bound low found best own cert e f g h is =
     let same : Stopped why low best cert ≡ Stopped cause bound found own = cc in
     subst (IsOutcome i options) same is
 
-pub search_answers : (i : Problem) (options : Options) (why : Why) (best : Option (Plan × ℕ)) (worked closed : List Piece) (low : ℕ) (cert : Certificate) (outcome : Outcome) → IsInstance i → IsSearched i options.budget why best worked closed low → IsGathered low (worked ++ closed) cert → IsAnswerOf i why best low cert outcome
+pub search_answers : (i : Instance) (options : Options) (why : Why) (best : Option (Plan × ℕ)) (worked closed : List Piece) (low : ℕ) (cert : Cert) (outcome : Outcome) → IsInstance i → IsSearched i options.budget why best worked closed low → IsGathered low (worked ++ closed) cert → IsAnswerOf i why best low cert outcome
     → IsOutcome i options outcome
 search_answers i options why best worked closed low cert (Optimal plan ticks own) w is gathered answer =
     let found : IsFound i (Some (plan, ticks)) = subst (IsFound i) answer.0 is.found in
-    subst (λ (c : Certificate). IsOutcome i options (Optimal plan ticks c)) (sym answer.2) (record {
+    subst (λ (c : Cert). IsOutcome i options (Optimal plan ticks c)) (sym answer.2) (record {
       proves = proved i options.budget why best worked closed low cert w is gathered;
       within = omega (arith, within_budget i (limit_of i best) low worked closed cert.tree gathered.tree is.leaves, is.within);
       says = (found, gathered.bound ∙ answer.1);
     })
 search_answers i options why best worked closed low cert (Infeasible own) w is gathered answer =
-    subst (λ (c : Certificate). IsOutcome i options (Infeasible c)) (sym answer.2) (record {
+    subst (λ (c : Cert). IsOutcome i options (Infeasible c)) (sym answer.2) (record {
       proves = proved i options.budget why best worked closed low cert w is gathered;
       within = omega (arith, within_budget i (limit_of i best) low worked closed cert.tree gathered.tree is.leaves, is.within);
       says = gathered.bound ∙ answer.1 ∙ ap (limit_of i) answer.0;

@@ -1,7 +1,7 @@
 -- What an answer shows, from what its certificate proves.
 use Rattle.std.proofs.Common.{ℕ, Option, None, Some, sym, subst, ◌∙◌}
 use Rattle.ttp_model.specs.declared.plan.Plan.{Plan}
-use Rattle.ttp_model.specs.Problem.{Problem}
+use Rattle.ttp_model.specs.Instance.{Instance}
 use Rattle.ttp_model.specs.Rules.{IsInstance}
 use Rattle.ttp_model.specs.Delays.{IsLeastDelay, IsLowerBound}
 use Rattle.cert_check.proofs.Bounds.{proved_bound, proved_none, proved_least}
@@ -10,11 +10,11 @@ use Rattle.planner.specs.declared.outcome.Outcome.{Outcome}
 use Rattle.planner.specs.declared.outcome.Outcome.TheVariants.{Optimal, Infeasible, Stopped}
 use Rattle.planner.specs.Answers.{IsOutcome, IsBestAbove, IsBestPlan, Shows}
 
-best_is_plan : (i : Problem) (low : ℕ) (best : Option (Plan × ℕ)) → IsBestAbove i low best → IsBestPlan i best
+best_is_plan : (i : Instance) (low : ℕ) (best : Option (Plan × ℕ)) → IsBestAbove i low best → IsBestPlan i best
 best_is_plan i low None is = tt
 best_is_plan i low (Some best) is = (is.0.settled.valid, is.0.delay_is)
 
-pub answer_shows : (i : Problem) (options : Options) (outcome : Outcome) → IsInstance i → IsOutcome i options outcome → Shows i outcome
+pub answer_shows : (i : Instance) (options : Options) (outcome : Outcome) → IsInstance i → IsOutcome i options outcome → Shows i outcome
 answer_shows i options (Optimal plan ticks cert) w is =
     let least : IsLeastDelay i cert.low = proved_least i cert plan w is.proves is.says.0.settled.valid (sym is.says.0.delay_is ∙ sym is.says.1) in
     (is.says.0.settled.valid, is.says.0.delay_is, subst (IsLeastDelay i) is.says.1 least)

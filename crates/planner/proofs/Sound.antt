@@ -1,32 +1,31 @@
 -- Pieces that have the names of a tree and no low leaf have no fault.
 use Rattle.std.proofs.Common.{◌≡◌, ℕ, List, [], Result, Ok, Err, IfOk, IfErr, arith, ap, refl}
 use Rattle.std.proofs.lemmas.List.Elements.{All-contains}
-use Rattle.cert_check.specs.Proofs.{HasGoal}
 use Rattle.branch_tree.specs.declared.piece.Piece.{Piece}
 use Rattle.branch_tree.specs.Account.{IsWholeTree}
 use Rattle.planner.specs.declared.fault.GatherFault.{GatherFault}
 use Rattle.planner.specs.declared.fault.GatherFault.TheVariants.{DoubledName, MissingName, StrayName, LowGoal, OutOfMemory}
 use Rattle.certificate.specs.Trees.{Trees}
-use Rattle.certificate.specs.Certificate.{Certificate}
+use Rattle.certificate.specs.Cert.{Cert}
 use Rattle.planner.specs.Trees.{IsTreeOf}
-use Rattle.planner.specs.Gathering.{HasTreeNames, HaveGoals, IsFirstFault, IsGathered}
+use Rattle.planner.specs.Gathering.{HasGoal, HasTreeNames, HaveGoals, IsFirstGatherFault, IsGathered}
 use Rattle.planner.proofs.Gathered.{tree_has_names, tree_is_one}
 use Rattle.planner.proofs.Whole.{whole_tree_names}
 
-pub no_fault : (low : ℕ) (pieces : List Piece) (fault : GatherFault) → HasTreeNames pieces → HaveGoals low pieces → IsFirstFault low pieces fault → fault ≡ OutOfMemory
+pub no_fault : (low : ℕ) (pieces : List Piece) (fault : GatherFault) → HasTreeNames pieces → HaveGoals low pieces → IsFirstGatherFault low pieces fault → fault ≡ OutOfMemory
 no_fault low pieces DoubledName names goals is = absurd (omega (arith, is.twice, names.once is.name))
 no_fault low pieces MissingName names goals is = absurd (is.1.lacking (names.complete is.1.name is.1.wanted))
 no_fault low pieces StrayName names goals is = absurd (is.2.unwanted (names.own is.2.name is.2.there))
 no_fault low pieces LowGoal names goals is = absurd (is.1.below (All-contains (λ (p : Piece). HasGoal low p.node) pieces is.1.piece goals is.1.there))
 no_fault low pieces OutOfMemory names goals is = refl
 
-pub whole_trees_are_sound : (pieces : List Piece) (low : ℕ) (fault : GatherFault) → IsWholeTree pieces [] → HaveGoals low pieces → IsFirstFault low pieces fault → fault ≡ OutOfMemory
+pub whole_trees_are_sound : (pieces : List Piece) (low : ℕ) (fault : GatherFault) → IsWholeTree pieces [] → HaveGoals low pieces → IsFirstGatherFault low pieces fault → fault ≡ OutOfMemory
 whole_trees_are_sound pieces low fault whole goals is = no_fault low pieces fault (whole_tree_names pieces whole) goals is
 
-same_cert : (cert : Certificate) (low : ℕ) (tree : Trees) → cert.low ≡ low → cert.tree ≡ tree → cert ≡ record { low = low; tree = tree }
+same_cert : (cert : Cert) (low : ℕ) (tree : Trees) → cert.low ≡ low → cert.tree ≡ tree → cert ≡ record { low = low; tree = tree }
 same_cert cert low tree a b = λ i. record { low = a i; tree = b i }
 
-pub only_answer : (low : ℕ) (pieces : List Piece) (r : Result Certificate GatherFault) → IfOk r (IsGathered low pieces) → IfErr r (IsFirstFault low pieces) → (tree : Trees) → IsTreeOf pieces tree → HaveGoals low pieces
+pub only_answer : (low : ℕ) (pieces : List Piece) (r : Result Cert GatherFault) → IfOk r (IsGathered low pieces) → IfErr r (IsFirstGatherFault low pieces) → (tree : Trees) → IsTreeOf pieces tree → HaveGoals low pieces
     → (r ≡ Err OutOfMemory → ⊥) → r ≡ Ok (record { low = low; tree = tree })
 only_answer low pieces (Ok cert) ok err tree is goals memory = ap Ok (same_cert cert low tree ok.bound (tree_is_one pieces cert.tree tree ok.tree is))
 only_answer low pieces (Err fault) ok err tree is goals memory = absurd (memory (ap Err (no_fault low pieces fault (tree_has_names pieces tree is) goals err)))

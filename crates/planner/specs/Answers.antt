@@ -1,7 +1,7 @@
 -- What an answer to an instance says: a least plan, no plan, or bounds, each with a tree that proves it.
 use Rattle.std.specs.Prelude.{◌≡◌, ℕ, ◌+◌, ◌≤◌, ◌<◌, min, count_by, Bool, true, false, Option, None, Some, nat_le, Contains, All}
 use Rattle.ttp_model.specs.declared.plan.Plan.{Plan}
-use Rattle.ttp_model.specs.Problem.{Problem}
+use Rattle.ttp_model.specs.Instance.{Instance}
 use Rattle.ttp_model.specs.Delays.{delay, IsLowerBound, IsLeastDelay, HasNoPlan}
 use Rattle.ttp_model.specs.Plans.{IsValid}
 use Rattle.ttp_model.specs.Chains.{IsPathBound}
@@ -10,13 +10,14 @@ use Rattle.certificate.specs.declared.node.Node.{Node}
 use Rattle.ttp_model.specs.declared.step.Leaf.{Leaf}
 use Rattle.certificate.specs.declared.node.Node.TheVariants as node
 use Rattle.certificate.specs.Trees.{Trees, preorder}
-use Rattle.certificate.specs.Certificate.{Certificate}
-use Rattle.cert_check.specs.Proofs.{Proves, HasGoal}
+use Rattle.certificate.specs.Cert.{Cert}
+use Rattle.cert_check.specs.Proofs.{Proves}
 use Rattle.planner.specs.declared.outcome.Options.{Options}
 use Rattle.planner.specs.declared.outcome.Outcome.{Outcome}
 use Rattle.planner.specs.declared.outcome.Outcome.TheVariants.{Optimal, Infeasible, Stopped}
 use Rattle.planner.specs.declared.outcome.Why.{Why}
 use Rattle.planner.specs.declared.outcome.Why.TheVariants.{Budget, Memory}
+use Rattle.planner.specs.Gathering.{HasGoal}
 
 abbrev pub is_branch : Node → Bool
 is_branch (node.Leaf leaf) = false
@@ -36,17 +37,17 @@ abbrev pub worked_at : ℕ → Trees → ℕ
 worked_at limit tree = branches tree + count_by (is_closed_at limit) (preorder tree)
 
 -- a settled plan with its delay in ticks
-pub record IsPlanFound (i : Problem) (plan : Plan) (ticks : ℕ) : Type 0 where
+pub record IsPlanFound (i : Instance) (plan : Plan) (ticks : ℕ) : Type 0 where
   pub settled : IsSettled i plan
   pub delay_is : ticks ≡ delay i plan
 
 -- the delay that the search had to beat: that of the best plan found, or one tick past the horizon
-abbrev pub limit_of : Problem → Option (Plan × ℕ) → ℕ
+abbrev pub limit_of : Instance → Option (Plan × ℕ) → ℕ
 limit_of i None = i.cluster.horizon + 1
 limit_of i (Some best) = best.1
 
 -- the best plan found, where there is one, is a settled plan with its delay, which is above the bound
-abbrev pub IsBestAbove : Problem → ℕ → Option (Plan × ℕ) → Type 0
+abbrev pub IsBestAbove : Instance → ℕ → Option (Plan × ℕ) → Type 0
 IsBestAbove i low None = Unit {0}
 IsBestAbove i low (Some best) = IsPlanFound i best.0 best.1 × (low < best.1)
 
@@ -58,12 +59,12 @@ pub record IsLeastGoal (tree : Trees) (low : ℕ) : Type 0 where
   pub bound : All (HasGoal low) (preorder tree)
 
 -- the cause of a stop, by what was worked
-abbrev pub IsCause : Problem → ℕ → Option (Plan × ℕ) → Certificate → Why → Type 0
+abbrev pub IsCause : Instance → ℕ → Option (Plan × ℕ) → Cert → Why → Type 0
 IsCause i budget best cert Budget = budget ≤ worked_at (limit_of i best) cert.tree
 IsCause i budget best cert Memory = Unit {0}
 
 -- the search was stopped with a bound and the best plan found
-pub record IsStopped (i : Problem) (budget : ℕ) (why : Why) (low : ℕ) (best : Option (Plan × ℕ)) (cert : Certificate) : Type 0 where
+pub record IsStopped (i : Instance) (budget : ℕ) (why : Why) (low : ℕ) (best : Option (Plan × ℕ)) (cert : Cert) : Type 0 where
   pub bound : cert.low ≡ low
   pub least : IsLeastGoal cert.tree low
   pub most : low ≤ i.cluster.horizon
@@ -72,30 +73,30 @@ pub record IsStopped (i : Problem) (budget : ℕ) (why : Why) (low : ℕ) (best 
   pub cause : IsCause i budget best cert why
 
 -- the plan is least, there is none, or the search was stopped
-abbrev pub Says : Problem → ℕ → Outcome → Type 0
+abbrev pub Says : Instance → ℕ → Outcome → Type 0
 Says i budget (Optimal plan ticks cert) = IsPlanFound i plan ticks × (cert.low ≡ ticks)
 Says i budget (Infeasible cert) = cert.low ≡ i.cluster.horizon + 1
 Says i budget (Stopped why low best cert) = IsStopped i budget why low best cert
 
 -- the certificate of an answer
-abbrev pub cert_of : Outcome → Certificate
+abbrev pub cert_of : Outcome → Cert
 cert_of (Optimal plan ticks cert) = cert
 cert_of (Infeasible cert) = cert
 cert_of (Stopped why low best cert) = cert
 
 -- An answer: its certificate proves its bound by a tree of at most as many branches as the budget, and
 -- the answer says what that bound shows.
-pub record IsOutcome (i : Problem) (options : Options) (outcome : Outcome) : Type 0 where
+pub record IsOutcome (i : Instance) (options : Options) (outcome : Outcome) : Type 0 where
   pub proves : Proves i (cert_of outcome)
   pub within : branches (cert_of outcome).tree ≤ options.budget
   pub says : Says i options.budget outcome
 
 -- what a caller learns: a least plan, no plan, or bounds on both sides
-abbrev pub IsBestPlan : Problem → Option (Plan × ℕ) → Type 0
+abbrev pub IsBestPlan : Instance → Option (Plan × ℕ) → Type 0
 IsBestPlan i None = Unit {0}
 IsBestPlan i (Some best) = IsValid i best.0 × (best.1 ≡ delay i best.0)
 
-abbrev pub Shows : Problem → Outcome → Type 0
+abbrev pub Shows : Instance → Outcome → Type 0
 Shows i (Optimal plan ticks cert) = IsValid i plan × (ticks ≡ delay i plan) × IsLeastDelay i ticks
 Shows i (Infeasible cert) = HasNoPlan i
 Shows i (Stopped why low best cert) = IsLowerBound i low × IsBestPlan i best

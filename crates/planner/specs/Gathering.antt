@@ -2,57 +2,63 @@
 use Rattle.std.specs.Prelude.{◌≡◌, ℕ, ◌≤◌, List, ◌∷◌, length, count_by, Contains, All, nat_eq}
 use Rattle.std.specs.Cmp.Lexicographic.{pointwise}
 use Rattle.certificate.specs.declared.limits.TheConstants.{MOST_BRANCHES_ABOVE}
-use Rattle.certificate.specs.Certificate.{Certificate}
-use Rattle.cert_check.specs.Proofs.{HasGoal}
+use Rattle.certificate.specs.declared.node.Node.{Node}
+use Rattle.certificate.specs.declared.node.Node.TheVariants as node
+use Rattle.certificate.specs.Cert.{Cert}
 use Rattle.branch_tree.specs.declared.piece.Piece.{Piece}
-use Rattle.branch_tree.specs.Names.{Way, root_name}
+use Rattle.branch_tree.specs.Name.{Name, root_name}
 use Rattle.branch_tree.specs.Pieces.{names_of, all_below}
 use Rattle.planner.specs.declared.fault.GatherFault.{GatherFault}
 use Rattle.planner.specs.declared.fault.GatherFault.TheVariants.{DoubledName, MissingName, StrayName, LowGoal, OutOfMemory}
 use Rattle.planner.specs.Trees.{IsTreeOf}
 
 -- how often a name stands among names
-abbrev pub times : List Way → Way → ℕ
+abbrev pub times : List Name → Name → ℕ
 times names name = count_by (λ other. pointwise nat_eq other name) names
 
 -- the names that there should be: the root's and those of all children
-abbrev pub wanted_names : List Piece → List Way
+abbrev pub wanted_names : List Piece → List Name
 wanted_names pieces = root_name ∷ all_below pieces
 
 -- a name stands at two pieces or more
 pub record HasDoubledName (pieces : List Piece) : Type 0 where
-  pub name : Way
+  pub name : Name
   pub twice : 2 ≤ times (names_of pieces) name
 
 -- the root or a child of a branch isn't there
 pub record LacksName (pieces : List Piece) : Type 0 where
-  pub name : Way
+  pub name : Name
   pub wanted : Contains (wanted_names pieces) name
   pub lacking : ¬ Contains (names_of pieces) name
 
 -- a name is there, and no branch has it as a child
 pub record HasStrayName (pieces : List Piece) : Type 0 where
-  pub name : Way
+  pub name : Name
   pub there : Contains (names_of pieces) name
   pub unwanted : ¬ Contains (wanted_names pieces) name
 
 -- no name stands twice
 abbrev pub IsOnce : List Piece → Type 0
-IsOnce pieces = (name : Way) → times (names_of pieces) name ≤ 1
+IsOnce pieces = (name : Name) → times (names_of pieces) name ≤ 1
 
 -- the root and each child of a branch is there
-abbrev pub IsComplete : List Piece → Type 0
-IsComplete pieces = (name : Way) → Contains (wanted_names pieces) name → Contains (names_of pieces) name
+abbrev pub HasWantedNames : List Piece → Type 0
+HasWantedNames pieces = (name : Name) → Contains (wanted_names pieces) name → Contains (names_of pieces) name
 
 -- no other name is there
 abbrev pub IsOwn : List Piece → Type 0
-IsOwn pieces = (name : Way) → Contains (names_of pieces) name → Contains (wanted_names pieces) name
+IsOwn pieces = (name : Name) → Contains (names_of pieces) name → Contains (wanted_names pieces) name
 
 -- the pieces have the names of a tree: each once, none lacking, and no other
 pub record HasTreeNames (pieces : List Piece) : Type 0 where
   pub once : IsOnce pieces
-  pub complete : IsComplete pieces
+  pub complete : HasWantedNames pieces
   pub own : IsOwn pieces
+
+-- a leaf's goal isn't below the bound; of a branch nothing is asked
+abbrev pub HasGoal : ℕ → Node → Type 0
+HasGoal low (node.Branch branch) = Unit {0}
+HasGoal low (node.Leaf leaf) = low ≤ leaf.goal
 
 -- a leaf's goal is below the bound
 pub record HasLowLeaf (low : ℕ) (pieces : List Piece) : Type 0 where
@@ -69,15 +75,15 @@ abbrev pub AreShallow : List Piece → Type 0
 AreShallow pieces = All (λ piece. length piece.name ≤ MOST_BRANCHES_ABOVE) pieces
 
 -- the first fault of pieces, in the order in which faults are told; nothing is said of a want of memory
-abbrev pub IsFirstFault : ℕ → List Piece → GatherFault → Type 0
-IsFirstFault low pieces DoubledName = HasDoubledName pieces
-IsFirstFault low pieces MissingName = IsOnce pieces × LacksName pieces
-IsFirstFault low pieces StrayName = IsOnce pieces × IsComplete pieces × HasStrayName pieces
-IsFirstFault low pieces LowGoal = HasTreeNames pieces × HasLowLeaf low pieces
-IsFirstFault low pieces OutOfMemory = Unit {0}
+abbrev pub IsFirstGatherFault : ℕ → List Piece → GatherFault → Type 0
+IsFirstGatherFault low pieces DoubledName = HasDoubledName pieces
+IsFirstGatherFault low pieces MissingName = IsOnce pieces × LacksName pieces
+IsFirstGatherFault low pieces StrayName = IsOnce pieces × HasWantedNames pieces × HasStrayName pieces
+IsFirstGatherFault low pieces LowGoal = HasTreeNames pieces × HasLowLeaf low pieces
+IsFirstGatherFault low pieces OutOfMemory = Unit {0}
 
 -- a certificate of a bound whose tree is that of the pieces, with no goal below the bound
-pub record IsGathered (low : ℕ) (pieces : List Piece) (cert : Certificate) : Type 0 where
+pub record IsGathered (low : ℕ) (pieces : List Piece) (cert : Cert) : Type 0 where
   pub bound : cert.low ≡ low
   pub tree : IsTreeOf pieces cert.tree
   pub goals : HaveGoals low pieces

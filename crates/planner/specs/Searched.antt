@@ -2,7 +2,7 @@
 use Rattle.std.specs.Prelude.{◌≡◌, ℕ, ◌<◌, ◌≤◌, ◌++◌, ◌⊎◌, min, List, [], length, All, Contains, Option, None, Some}
 use Rattle.ttp_model.specs.declared.plan.Plan.{Plan}
 use Rattle.ttp_model.specs.declared.step.Leaf.{Leaf}
-use Rattle.ttp_model.specs.Problem.{Problem}
+use Rattle.ttp_model.specs.Instance.{Instance}
 use Rattle.ttp_model.specs.Chains.{IsPathBound}
 use Rattle.certificate.specs.declared.node.Node.TheVariants as node
 use Rattle.branch_tree.specs.declared.piece.Piece.{Piece}
@@ -12,17 +12,17 @@ use Rattle.planner.specs.declared.outcome.Outcome.{Outcome}
 use Rattle.planner.specs.declared.outcome.Outcome.TheVariants.{Optimal, Infeasible, Stopped}
 use Rattle.planner.specs.declared.outcome.Why.{Why}
 use Rattle.planner.specs.declared.outcome.Why.TheVariants.{Budget, Memory}
-use Rattle.certificate.specs.Certificate.{Certificate}
+use Rattle.certificate.specs.Cert.{Cert}
 use Rattle.planner.specs.Answers.{IsPlanFound, limit_of}
 use Rattle.planner.specs.Gathering.{HaveGoals}
 
 -- the plan that was found, where one was, is settled and has its delay
-abbrev pub IsFound : Problem → Option (Plan × ℕ) → Type 0
+abbrev pub IsFound : Instance → Option (Plan × ℕ) → Type 0
 IsFound i None = Unit {0}
 IsFound i (Some best) = IsPlanFound i best.0 best.1
 
 -- a leaf that closes what was left: no lower than the bound, and than the lesser of the path bound and the limit
-pub record IsClosedLeaf (i : Problem) (limit low : ℕ) (piece : Piece) : Type 0 where
+pub record IsClosedLeaf (i : Instance) (limit low : ℕ) (piece : Piece) : Type 0 where
   pub leaf : Leaf
   pub is : piece.node ≡ node.Leaf leaf
   pub above : low ≤ leaf.goal
@@ -47,7 +47,7 @@ IsWorkedOut budget worked Budget = length worked ≡ budget
 IsWorkedOut budget worked Memory = Unit {0}
 
 -- A search at its end. The bound is the limit, or the goal of a leaf that closed what was left.
-pub record IsSearched (i : Problem) (budget : ℕ) (why : Why) (best : Option (Plan × ℕ)) (worked closed : List Piece) (low : ℕ) : Type 0 where
+pub record IsSearched (i : Instance) (budget : ℕ) (why : Why) (best : Option (Plan × ℕ)) (worked closed : List Piece) (low : ℕ) : Type 0 where
   pub whole : IsWholeTree (worked ++ closed) []
   pub right : AreRight i (worked ++ closed)
   pub found : IsFound i best
@@ -58,7 +58,7 @@ pub record IsSearched (i : Problem) (budget : ℕ) (why : Why) (best : Option (P
   pub cause : IsWorkedOut budget worked why
 
 -- the answer of a search at its end
-abbrev pub IsAnswerOf : Problem → Why → Option (Plan × ℕ) → ℕ → Certificate → Outcome → Type 0
+abbrev pub IsAnswerOf : Instance → Why → Option (Plan × ℕ) → ℕ → Cert → Outcome → Type 0
 IsAnswerOf i why best low cert (Optimal plan ticks own) =
     (best ≡ Some (plan, ticks)) × (low ≡ ticks) × (own ≡ cert)
 IsAnswerOf i why best low cert (Infeasible own) = (best ≡ None) × (low ≡ limit_of i best) × (own ≡ cert)

@@ -3,11 +3,11 @@ use Rattle.std.specs.Prelude.{ℕ, ◌+◌, List, [], ◌∷◌, ◌++◌}
 use Rattle.std.specs.List.Sorted.{IsPermutation}
 use Rattle.certificate.specs.Trees.{Trees, none, grow, AreTrees}
 use Rattle.branch_tree.specs.declared.piece.Piece.{Piece}
-use Rattle.branch_tree.specs.Names.{Way, root_name, child_name}
+use Rattle.branch_tree.specs.Name.{Name, root_name, child_name}
 
 -- the pieces of trees side by side, which are the children of a name from this number on: each in front of
 -- those below it
-abbrev pub pieces_below : Way → ℕ → Trees → List Piece
+abbrev pub pieces_below : Name → ℕ → Trees → List Piece
 pieces_below name k none = []
 pieces_below name k (grow node below beside) =
     record { name = child_name name k; node = node }

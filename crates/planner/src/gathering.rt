@@ -2,10 +2,9 @@
 
 ghost use Rattle.std.specs.Prelude.{◌≡◌, ◌≢◌, ◌↔◌, IsTrue, IfOk, OnOk, IfErr, MatchBool, map};
 ghost use Rattle.certificate.specs.Trees.{Trees, IsTree, trees_of};
-ghost use Rattle.cert_check.specs.Proofs.{HasGoal};
 ghost use Rattle.planner.specs.declared.fault.GatherFault.TheVariants.{OutOfMemory};
 ghost use Rattle.planner.specs.Trees.{IsTreeOf};
-ghost use Rattle.planner.specs.Gathering.{AreShallow, HasLowLeaf, HaveGoals, IsFirstFault, IsGathered};
+ghost use Rattle.planner.specs.Gathering.{AreShallow, HasGoal, HasLowLeaf, HaveGoals, IsFirstGatherFault, IsGathered};
 ghost use Rattle.planner.specs.Order.{IsSorted, IsSound};
 
 use crate::fault::GatherFault;
@@ -20,7 +19,7 @@ fn has_goal(node: &Node, low: u32) -> bool
     ensures { IsTrue result ↔ HasGoal low node.now }
 {
     match node {
-        Node::Place { .. } | Node::Cap { .. } | Node::Pair { .. } | Node::Round { .. } => true,
+        Node::Branch(_) => true,
         Node::Leaf(leaf) => low <= leaf.goal,
     }
 }
@@ -41,7 +40,7 @@ fn has_low_leaf(pieces: &[Piece], low: u32) -> bool
 fn judge(alloc: Global, pieces: &[Piece], low: u32) -> Result<(), GatherFault>
     requires { IsSorted pieces.now }
     ensures ok { OnOk result (IsSound low pieces.now) }
-    ensures err { IfErr result (IsFirstFault low pieces.now) }
+    ensures err { IfErr result (IsFirstGatherFault low pieces.now) }
 {
     if has_doubled_name(pieces) {
         return Err(GatherFault::DoubledName);
@@ -90,7 +89,7 @@ fn certified(alloc: Global, pieces: Vec<Piece>, low: u32) -> Result<Cert, Gather
 pub fn gather(alloc: Global, pieces: Vec<Piece>, low: u32) -> Result<Cert, GatherFault>
     requires { AreShallow pieces.items }
     ensures ok { IfOk result (λ cert. IsGathered low pieces.items cert) }
-    ensures err { IfErr result (IsFirstFault low pieces.items) }
+    ensures err { IfErr result (IsFirstGatherFault low pieces.items) }
     // The certificate of a tree without low leaves, unless memory is refused.
     ensures only { (tree : Trees) → IsTreeOf pieces.items tree → HaveGoals low pieces.items
         → result ≢ Err OutOfMemory → result ≡ Ok (record { low = low; tree = tree }) }

@@ -2,11 +2,11 @@
 
 ghost use Rattle.std.specs.Prelude.{◌≡◌, ◌+◌, ◌≤◌, ◌++◌, ℕ, List, [], All, Contains, Option};
 ghost use Rattle.ttp_model.specs.declared.plan.Plan.{Plan};
-ghost use Rattle.ttp_model.specs.Problem.{Problem};
+ghost use Rattle.ttp_model.specs.Instance.{Instance};
 ghost use Rattle.ttp_model.specs.Rules.{IsInstance};
-ghost use Rattle.tt_choice.specs.Choices.{Chosen};
+ghost use Rattle.tt_choice.specs.Choice.{Choice};
 ghost use Rattle.certificate.specs.Trees.{Trees};
-ghost use Rattle.certificate.specs.Certificate.{Certificate};
+ghost use Rattle.certificate.specs.Cert.{Cert};
 ghost use Rattle.cert_check.specs.Proofs.{Proves};
 ghost use Rattle.branch_tree.specs.declared.piece.Piece.{Piece};
 ghost use Rattle.branch_tree.specs.Account.{IsWholeTree};
@@ -17,7 +17,7 @@ ghost use Rattle.planner.specs.declared.outcome.Options.{Options};
 ghost use Rattle.planner.specs.declared.outcome.Outcome.{Outcome};
 ghost use Rattle.planner.specs.declared.outcome.Why.{Why};
 ghost use Rattle.planner.specs.Trees.{IsTreeOf};
-ghost use Rattle.planner.specs.Gathering.{HasTreeNames, HaveGoals, IsFirstFault, IsGathered};
+ghost use Rattle.planner.specs.Gathering.{HasTreeNames, HaveGoals, IsFirstGatherFault, IsGathered};
 ghost use Rattle.planner.specs.Answers.{IsOutcome, Shows};
 ghost use Rattle.planner.specs.Searched.{IsSearched, IsAnswerOf, IsLeafPiece};
 
@@ -33,11 +33,11 @@ pub fn names_make_one_tree()
 /// prove each bound within the horizon and a tick that no leaf's goal is below; and there is no fault in
 /// them that `gather` could tell.
 pub fn whole_trees_prove()
-    ensures proves { (i : Problem) (pieces : List Piece) (low : ℕ) (cert : Certificate)
+    ensures proves { (i : Instance) (pieces : List Piece) (low : ℕ) (cert : Cert)
         → IsWholeTree pieces [] → AreRight i pieces → low ≤ i.cluster.horizon + 1
         → IsGathered low pieces cert → Proves i cert }
     ensures sound { (pieces : List Piece) (low : ℕ) (fault : GatherFault) → IsWholeTree pieces []
-        → HaveGoals low pieces → IsFirstFault low pieces fault → fault ≡ OutOfMemory }
+        → HaveGoals low pieces → IsFirstGatherFault low pieces fault → fault ≡ OutOfMemory }
 {}
 
 /// Leaves for all names that are open make a tree whole; and where each of them is right for the choice that
@@ -45,16 +45,16 @@ pub fn whole_trees_prove()
 pub fn leaves_close_a_tree()
     ensures whole { (pieces closed : List Piece) → IsWholeTree pieces (names_of closed)
         → All IsLeafPiece closed → IsWholeTree (pieces ++ closed) [] }
-    ensures right { (i : Problem) (pieces closed : List Piece) → All IsLeafPiece closed → AreRight i pieces
-        → ((piece : Piece) (c : Chosen) → Contains closed piece → StandsAt i pieces piece.name c → IsRight i c piece.node)
+    ensures right { (i : Instance) (pieces closed : List Piece) → All IsLeafPiece closed → AreRight i pieces
+        → ((piece : Piece) (c : Choice) → Contains closed piece → StandsAt i pieces piece.name c → IsRight i c piece.node)
         → AreRight i (pieces ++ closed) }
 {}
 
 /// What a search leaves at its end, gathered, makes its answer: the best plan where the bound is its delay,
 /// no plan where the bound is past the horizon, and else that it was stopped.
 pub fn searches_answer()
-    ensures { (i : Problem) (options : Options) (why : Why) (best : Option (Plan × ℕ))
-        (worked closed : List Piece) (low : ℕ) (cert : Certificate) (outcome : Outcome) → IsInstance i
+    ensures { (i : Instance) (options : Options) (why : Why) (best : Option (Plan × ℕ))
+        (worked closed : List Piece) (low : ℕ) (cert : Cert) (outcome : Outcome) → IsInstance i
         → IsSearched i options.budget why best worked closed low
         → IsGathered low (worked ++ closed) cert → IsAnswerOf i why best low cert outcome
         → IsOutcome i options outcome }
@@ -63,6 +63,6 @@ pub fn searches_answer()
 /// A plan that is answered is valid and has the least delay; where no plan is answered none is valid;
 /// and a search that was stopped gives a bound below and, where it found a plan, one above.
 pub fn answers_show()
-    ensures { (i : Problem) (options : Options) (outcome : Outcome) → IsInstance i
+    ensures { (i : Instance) (options : Options) (outcome : Outcome) → IsInstance i
         → IsOutcome i options outcome → Shows i outcome }
 {}

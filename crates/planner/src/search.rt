@@ -5,11 +5,11 @@ ghost use Rattle.branch_tree.specs.declared.worked.Worked.TheVariants.{Split, Cl
 ghost use Rattle.search_core.specs.declared.event.Event.TheVariants.{Look};
 ghost use Rattle.search_core.specs.declared.reply.Illegal.TheVariants.{OutOfMemory};
 ghost use Rattle.search_core.specs.declared.reply.Reply.TheVariants.{Best};
-ghost use Rattle.search_core.specs.Moments.{all_pieces};
+ghost use Rattle.search_core.specs.World.{all_pieces};
 ghost use Rattle.search_core.specs.Steps.{Step};
 ghost use Rattle.planner.specs.Answers.{limit_of};
 ghost use Rattle.planner.specs.Searched.{IsFound, IsWorkedOut};
-ghost use Rattle.planner.specs.Searching.{IsSearching, IsIdle, HoldsChildren, IsTaken, IsWorkedUp, IsPossible};
+ghost use Rattle.planner.specs.Searching.{IsSearching, IsIdle, HoldsChildren, HasTakenTask, IsWorkedUp, IsPossible};
 
 use crate::outcome::Why;
 use branch_tree::{Task, Worked, work};
@@ -103,7 +103,7 @@ impl Search {
         requires searching { IsSearching instance.now self.old.world self.old.tasks.items self.old.best }
         requires idle { IsIdle self.old.world }
         ensures none { IfOk result (λ taken. taken ≡ None → IsSearching instance.now self.new.world self.new.tasks.items self.new.best) }
-        ensures taken { IfOk result (λ taken. IfSome taken (λ t. IsTaken instance.now self.new.world self.new.tasks.items self.new.best t.0 t.1)) }
+        ensures taken { IfOk result (λ taken. IfSome taken (λ t. HasTakenTask instance.now self.new.world self.new.tasks.items self.new.best t.0 t.1)) }
         ensures same { OnOk result (all_pieces self.new.world ≡ all_pieces self.old.world) }
     {
         let Some(task) = self.tasks.pop() else {
@@ -211,7 +211,7 @@ impl Search {
 
     /// Leaves the task in hand unworked.
     fn leave(&mut self, alloc: Global, instance: &Instance, task: Task) -> Result<(), MemoryFault>
-        requires { (goal : ℕ) × IsTaken instance.now self.old.world self.old.tasks.items self.old.best task goal }
+        requires { (goal : ℕ) × HasTakenTask instance.now self.old.world self.old.tasks.items self.old.best task goal }
         ensures searching { OnOk result (IsSearching instance.now self.new.world self.new.tasks.items self.new.best) }
         ensures same { OnOk result (all_pieces self.new.world ≡ all_pieces self.old.world) }
     {

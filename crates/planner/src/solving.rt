@@ -1,9 +1,9 @@
 //! The shortest plan of an instance, or how short it can be at best.
 
 ghost use Rattle.std.specs.Prelude.{◌≡◌, ◌≢◌, ◌≤◌, ◌+◌, ◌++◌, ℕ, IfOk, IfErr, IfSome, length, []};
-ghost use Rattle.ttp_model.specs.Problem.{Problem};
+ghost use Rattle.ttp_model.specs.Instance.{Instance};
 ghost use Rattle.branch_tree.specs.Account.{IsWholeTree};
-ghost use Rattle.search_core.specs.Moments.{all_pieces};
+ghost use Rattle.search_core.specs.World.{all_pieces};
 ghost use Rattle.planner.specs.declared.fault.GatherFault.TheVariants.{OutOfMemory};
 ghost use Rattle.planner.specs.declared.outcome.SolveFault.TheVariants as fault;
 ghost use Rattle.planner.specs.Answers.{IsOutcome, Shows, limit_of};
@@ -90,7 +90,7 @@ fn certified(alloc: Global, pieces: Vec<Piece>, low: u32) -> Result<Cert, SolveF
 
 /// What a bound says, where the best plan has a delay of `limit` ticks.
 fn answer(why: Why, best: Option<(Plan, u64)>, limit: u32, low: u32, cert: Cert) -> Outcome
-    ensures { (i : Problem) → limit ≡ limit_of i best → low ≤ limit
+    ensures { (i : Instance) → limit ≡ limit_of i best → low ≤ limit
         → IsAnswerOf i why best low cert result }
 {
     if low < limit {

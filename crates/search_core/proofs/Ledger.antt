@@ -4,7 +4,7 @@ use Rattle.std.specs.List.{flat_map}
 use Rattle.std.proofs.lemmas.Bool.{cases_eq, eq-eqb, ne_eqb}
 use Rattle.std.proofs.lemmas.List.{get_or-set_same}
 use Rattle.branch_tree.specs.declared.piece.Piece.{Piece}
-use Rattle.branch_tree.specs.Names.{Way}
+use Rattle.branch_tree.specs.Name.{Name}
 use Rattle.branch_tree.specs.Pieces.{names_below, names_of, all_below}
 use Rattle.search_core.specs.declared.event.Event.{Event}
 use Rattle.search_core.specs.declared.event.Event.TheVariants.{Pop, Steal, Look, Work, Push, Offer, Rest}
@@ -14,8 +14,8 @@ use Rattle.search_core.specs.declared.reply.Reply.{Reply}
 use Rattle.search_core.specs.declared.reply.Illegal.{Illegal}
 use Rattle.search_core.specs.declared.hand.Hand.{Hand}
 use Rattle.search_core.specs.declared.hand.Hand.TheVariants.{Empty, Task, Children, Value}
-use Rattle.search_core.specs.Moments.{Seat, Moment, idle_seat, seat_at, put, start, names_in}
-use Rattle.search_core.specs.Turns.{Pops, LosesFirst, Receives, Works, Pushes, Offers, Rests, hand_after, children_left}
+use Rattle.search_core.specs.World.{Worker, World, idle_seat, worker_at, put, start, held_names}
+use Rattle.search_core.specs.Turns.{Pops, LosesFirst, TakesName, Works, Pushes, Offers, Rests, hand_after, children_left}
 use Rattle.search_core.specs.Steps.{Step, IsThere, Runs}
 use Rattle.search_core.specs.Steps.Step.{pops, steals, looks, works, pushes, offers, rests}
 use Rattle.search_core.specs.Steps.Runs.{ends, goes, stops}
@@ -25,73 +25,73 @@ use Rattle.search_core.proofs.Weights.{weigh, weigh-append, weigh-map, weigh-fla
 use Rattle.search_core.proofs.Effects.{namew, beloww, seat_other, there_still, piece_made, hand_below}
 
 -- a hand's task, and its children
-abbrev pub task_in : Hand → List Way
+abbrev pub task_in : Hand → List Name
 task_in Empty = []
 task_in (Task name) = name ∷ []
 task_in (Children names) = []
 task_in (Value v) = []
 
-abbrev pub children_in : Hand → List Way
+abbrev pub children_in : Hand → List Name
 children_in Empty = []
 children_in (Task name) = []
 children_in (Children names) = names
 children_in (Value v) = []
 
 -- what a rest leaves
-abbrev pub task_left : Moment → Event → List Way
+abbrev pub task_left : World → Event → List Name
 task_left m (Pop w) = []
 task_left m (Steal w v) = []
 task_left m (Look w) = []
 task_left m (Work w worked) = []
 task_left m (Push w) = []
 task_left m (Offer w) = []
-task_left m (Rest w) = task_in (seat_at m w).hand
+task_left m (Rest w) = task_in (worker_at m w).hand
 
-abbrev pub child_left : Moment → Event → List Way
+abbrev pub child_left : World → Event → List Name
 child_left m (Pop w) = []
 child_left m (Steal w v) = []
 child_left m (Look w) = []
 child_left m (Work w worked) = []
 child_left m (Push w) = []
 child_left m (Offer w) = []
-child_left m (Rest w) = take 1 (children_in (seat_at m w).hand)
+child_left m (Rest w) = take 1 (children_in (worker_at m w).hand)
 
 -- From one worker's state to another, by one weight: what it took, pushed, and left of its tasks and children.
-record Moves (g : Way → ℕ) (s t : Seat) (names pushes tasks children : List Way) : Type 0 where
+record Moves (g : Name → ℕ) (s t : Worker) (names pushes tasks children : List Name) : Type 0 where
   took : weigh g names + namew g s + weigh g (task_in s.hand) ≡ namew g t + weigh g (task_in t.hand) + weigh g tasks
   gave : beloww g t + weigh g (children_in s.hand) ≡ beloww g s + weigh g pushes + weigh g (children_in t.hand) + weigh g children
   left : weigh g t.left ≡ weigh g s.left + weigh g tasks + weigh g children
 
-Moves-none : (g : Way → ℕ) (s : Seat) → Moves g s s [] [] [] []
+Moves-none : (g : Name → ℕ) (s : Worker) → Moves g s s [] [] [] []
 Moves-none g s = record { took = omega arith; gave = omega arith; left = omega arith }
 
 -- the same at a worker that is the one
-at_worker : (g : Way → ℕ) (m : Moment) (w v : ℕ) (t : Seat) (took gave tasks children : List Way) → IsThere m v → Moves g (seat_at m v) t took gave tasks children
-    → Moves g (seat_at m w) (seat_at (put m v t) w) (cond (eqb v w) took []) (cond (eqb v w) gave []) (cond (eqb v w) tasks []) (cond (eqb v w) children [])
+at_worker : (g : Name → ℕ) (m : World) (w v : ℕ) (t : Worker) (took gave tasks children : List Name) → IsThere m v → Moves g (worker_at m v) t took gave tasks children
+    → Moves g (worker_at m w) (worker_at (put m v t) w) (cond (eqb v w) took []) (cond (eqb v w) gave []) (cond (eqb v w) tasks []) (cond (eqb v w) children [])
 at_worker g m w v t took gave tasks children there moves =
     elim (cases_eq v w) [
       | inl e ↦
           let test : eqb v w ≡ true = eq-eqb v w e in
-          let here : seat_at (put m v t) v ≡ t = get_or-set_same m.seats v t (idle_seat 0) there in
-          let P : Bool → Type 0 = λ b. Moves g (seat_at m w) (seat_at (put m v t) w) (cond b took []) (cond b gave []) (cond b tasks []) (cond b children []) in
-          let Q : Seat → Type 0 = λ s. Moves g (seat_at m v) s took gave tasks children in
-          let R : ℕ → Type 0 = λ x. Moves g (seat_at m x) (seat_at (put m v t) x) took gave tasks children in
+          let here : worker_at (put m v t) v ≡ t = get_or-set_same m.seats v t (idle_seat 0) there in
+          let P : Bool → Type 0 = λ b. Moves g (worker_at m w) (worker_at (put m v t) w) (cond b took []) (cond b gave []) (cond b tasks []) (cond b children []) in
+          let Q : Worker → Type 0 = λ s. Moves g (worker_at m v) s took gave tasks children in
+          let R : ℕ → Type 0 = λ x. Moves g (worker_at m x) (worker_at (put m v t) x) took gave tasks children in
           subst P (sym test) (subst R e (subst Q (sym here) moves))
       | inr ne ↦
           let test : eqb v w ≡ false = ne_eqb v w ne in
           let other : w ≢ v = λ e. ne (sym e) in
-          let same : seat_at (put m v t) w ≡ seat_at m w = seat_other m w v t other in
-          let P : Bool → Type 0 = λ b. Moves g (seat_at m w) (seat_at (put m v t) w) (cond b took []) (cond b gave []) (cond b tasks []) (cond b children []) in
-          let Q : Seat → Type 0 = λ s. Moves g (seat_at m w) s [] [] [] [] in
-          subst P (sym test) (subst Q (sym same) (Moves-none g (seat_at m w)))
+          let same : worker_at (put m v t) w ≡ worker_at m w = seat_other m w v t other in
+          let P : Bool → Type 0 = λ b. Moves g (worker_at m w) (worker_at (put m v t) w) (cond b took []) (cond b gave []) (cond b tasks []) (cond b children []) in
+          let Q : Worker → Type 0 = λ s. Moves g (worker_at m w) s [] [] [] [] in
+          subst P (sym test) (subst Q (sym same) (Moves-none g (worker_at m w)))
     ]
 
-none_either : (g : Way → ℕ) (b : Bool) → weigh g (cond b [] []) ≡ 0
+none_either : (g : Name → ℕ) (b : Bool) → weigh g (cond b [] []) ≡ 0
 none_either g true = refl
 none_either g false = refl
 
 -- a change of deques alone
-silent : (g : Way → ℕ) (s t : Seat) → t.hand ≡ s.hand → t.pieces ≡ s.pieces → t.left ≡ s.left → Moves g s t [] [] [] []
+silent : (g : Name → ℕ) (s t : Worker) → t.hand ≡ s.hand → t.pieces ≡ s.pieces → t.left ≡ s.left → Moves g s t [] [] [] []
 silent g s t hand pieces left =
     let tasks : weigh g (task_in t.hand) ≡ weigh g (task_in s.hand) = ap (λ x. weigh g (task_in x)) hand in
     let children : weigh g (children_in t.hand) ≡ weigh g (children_in s.hand) = ap (λ x. weigh g (children_in x)) hand in
@@ -100,7 +100,7 @@ silent g s t hand pieces left =
     record { took = omega (arith, tasks, names); gave = omega (arith, children, below); left = omega (arith, ap (weigh g) left) }
 
 -- a change of the hand, with the same pieces and names left
-by_hand : (g : Way → ℕ) (s t : Seat) (before after : Hand) (took gave : List Way) → s.hand ≡ before → t.hand ≡ after → t.pieces ≡ s.pieces → t.left ≡ s.left
+by_hand : (g : Name → ℕ) (s t : Worker) (before after : Hand) (took gave : List Name) → s.hand ≡ before → t.hand ≡ after → t.pieces ≡ s.pieces → t.left ≡ s.left
     → weigh g took + weigh g (task_in before) ≡ weigh g (task_in after) → weigh g (children_in before) ≡ weigh g gave + weigh g (children_in after)
     → Moves g s t took gave [] []
 by_hand g s t before after took gave was is pieces left tasks children =
@@ -116,54 +116,54 @@ by_hand g s t before after took gave was is pieces left tasks children =
       left = omega (arith, ap (weigh g) left);
     }
 
-left_tasks : (g : Way → ℕ) (names : List Way) → weigh g (task_in (children_left names)) ≡ 0
+left_tasks : (g : Name → ℕ) (names : List Name) → weigh g (task_in (children_left names)) ≡ 0
 left_tasks g [] = refl
 left_tasks g (name ∷ names) = refl
 
-left_children : (g : Way → ℕ) (names : List Way) → weigh g (children_in (children_left names)) ≡ weigh g names
+left_children : (g : Name → ℕ) (names : List Name) → weigh g (children_in (children_left names)) ≡ weigh g names
 left_children g [] = refl
 left_children g (name ∷ names) = refl
 
-pop_moves : (g : Way → ℕ) (s t : Seat) (name : Way) → Pops s name t → Moves g s t (name ∷ []) [] [] []
+pop_moves : (g : Name → ℕ) (s t : Worker) (name : Name) → Pops s name t → Moves g s t (name ∷ []) [] [] []
 pop_moves g s t name p =
-    by_hand g s t Empty (Task name) (name ∷ []) [] p.hand (ap (λ (x : Seat). x.hand) p.after) (ap (λ (x : Seat). x.pieces) p.after) (ap (λ (x : Seat). x.left) p.after) (omega arith) refl
+    by_hand g s t Empty (Task name) (name ∷ []) [] p.hand (ap (λ (x : Worker). x.hand) p.after) (ap (λ (x : Worker). x.pieces) p.after) (ap (λ (x : Worker). x.left) p.after) (omega arith) refl
 
-receive_moves : (g : Way → ℕ) (s t : Seat) (name : Way) → Receives s name t → Moves g s t (name ∷ []) [] [] []
+receive_moves : (g : Name → ℕ) (s t : Worker) (name : Name) → TakesName s name t → Moves g s t (name ∷ []) [] [] []
 receive_moves g s t name p =
-    by_hand g s t Empty (Task name) (name ∷ []) [] p.hand (ap (λ (x : Seat). x.hand) p.after) (ap (λ (x : Seat). x.pieces) p.after) (ap (λ (x : Seat). x.left) p.after) (omega arith) refl
+    by_hand g s t Empty (Task name) (name ∷ []) [] p.hand (ap (λ (x : Worker). x.hand) p.after) (ap (λ (x : Worker). x.pieces) p.after) (ap (λ (x : Worker). x.left) p.after) (omega arith) refl
 
-offer_moves : (g : Way → ℕ) (s t : Seat) (v : ℕ) → Offers s v t → Moves g s t [] [] [] []
+offer_moves : (g : Name → ℕ) (s t : Worker) (v : ℕ) → Offers s v t → Moves g s t [] [] [] []
 offer_moves g s t v p =
-    by_hand g s t (Value v) Empty [] [] p.hand (ap (λ (x : Seat). x.hand) p.after) (ap (λ (x : Seat). x.pieces) p.after) (ap (λ (x : Seat). x.left) p.after) refl refl
+    by_hand g s t (Value v) Empty [] [] p.hand (ap (λ (x : Worker). x.hand) p.after) (ap (λ (x : Worker). x.pieces) p.after) (ap (λ (x : Worker). x.left) p.after) refl refl
 
-push_moves : (g : Way → ℕ) (s t : Seat) → Pushes s t → Moves g s t [] (take 1 (names_in s.hand)) [] []
+push_moves : (g : Name → ℕ) (s t : Worker) → Pushes s t → Moves g s t [] (take 1 (held_names s.hand)) [] []
 push_moves g s t p =
-    let first : take 1 (names_in s.hand) ≡ p.name ∷ [] = ap (λ x. take 1 (names_in x)) p.hand in
-    let P : List Way → Type 0 = λ names. Moves g s t [] names [] [] in
+    let first : take 1 (held_names s.hand) ≡ p.name ∷ [] = ap (λ x. take 1 (held_names x)) p.hand in
+    let P : List Name → Type 0 = λ names. Moves g s t [] names [] [] in
     subst P (sym first)
-    (by_hand g s t (Children (p.name ∷ p.others)) (children_left p.others) [] (p.name ∷ []) p.hand (ap (λ (x : Seat). x.hand) p.after) (ap (λ (x : Seat). x.pieces) p.after) (ap (λ (x : Seat). x.left) p.after)
+    (by_hand g s t (Children (p.name ∷ p.others)) (children_left p.others) [] (p.name ∷ []) p.hand (ap (λ (x : Worker). x.hand) p.after) (ap (λ (x : Worker). x.pieces) p.after) (ap (λ (x : Worker). x.left) p.after)
     (omega (arith, left_tasks g p.others)) (omega (arith, left_children g p.others)))
 
 -- after work the hand holds no task, and the children below the piece
-made_tasks : (g : Way → ℕ) (name : Way) (worked : Worked) → weigh g (task_in (hand_after name worked)) ≡ 0
+made_tasks : (g : Name → ℕ) (name : Name) (worked : Worked) → weigh g (task_in (hand_after name worked)) ≡ 0
 made_tasks g name (Split kind k) = refl
 made_tasks g name (Closed leaf) = refl
 made_tasks g name (Found leaf v) = refl
 
-made_children : (g : Way → ℕ) (name : Way) (worked : Worked) → weigh g (children_in (hand_after name worked)) ≡ weigh g (names_in (hand_after name worked))
+made_children : (g : Name → ℕ) (name : Name) (worked : Worked) → weigh g (children_in (hand_after name worked)) ≡ weigh g (held_names (hand_after name worked))
 made_children g name (Split kind k) = refl
 made_children g name (Closed leaf) = refl
 made_children g name (Found leaf v) = refl
 
-work_moves : (g : Way → ℕ) (s t : Seat) (worked : Worked) → Works s worked t → Moves g s t [] [] [] []
+work_moves : (g : Name → ℕ) (s t : Worker) (worked : Worked) → Works s worked t → Moves g s t [] [] [] []
 work_moves g s t worked p =
     let piece = piece_made s t worked p in
-    let pieces : t.pieces ≡ s.pieces ++ piece ∷ [] = ap (λ (x : Seat). x.pieces) p.after in
+    let pieces : t.pieces ≡ s.pieces ++ piece ∷ [] = ap (λ (x : Worker). x.pieces) p.after in
     let names : namew g t ≡ namew g s + (g p.name + 0) =
     ap (weigh (λ (x : Piece). g x.name)) pieces ∙ weigh-append (λ (x : Piece). g x.name) s.pieces (piece ∷ []) in
     let below : beloww g t ≡ beloww g s + (weigh g (names_below piece) + 0) =
     ap (weigh (λ (x : Piece). weigh g (names_below x))) pieces ∙ weigh-append (λ (x : Piece). weigh g (names_below x)) s.pieces (piece ∷ []) in
-    let hand : t.hand ≡ hand_after p.name worked = ap (λ (x : Seat). x.hand) p.after in
+    let hand : t.hand ≡ hand_after p.name worked = ap (λ (x : Worker). x.hand) p.after in
     let task_s : weigh g (task_in s.hand) ≡ g p.name + 0 = ap (λ x. weigh g (task_in x)) p.hand in
     let task_t : weigh g (task_in t.hand) ≡ 0 = ap (λ x. weigh g (task_in x)) hand ∙ made_tasks g p.name worked in
     let child_s : weigh g (children_in s.hand) ≡ 0 = ap (λ x. weigh g (children_in x)) p.hand in
@@ -172,15 +172,15 @@ work_moves g s t worked p =
     record {
       took = omega (arith, names, task_s, task_t);
       gave = omega (arith, below, child_s, child_t);
-      left = omega (arith, ap (λ (x : Seat). weigh g x.left) p.after);
+      left = omega (arith, ap (λ (x : Worker). weigh g x.left) p.after);
     }
 
 -- the parts of a hand whose first name is left
-record HasParts (g : Way → ℕ) (hand : Hand) (name : Way) (others : List Way) : Type 0 where
+record HasParts (g : Name → ℕ) (hand : Hand) (name : Name) (others : List Name) : Type 0 where
   one : weigh g (task_in hand) + weigh g (take 1 (children_in hand)) ≡ g name
   rest : weigh g (children_in hand) ≡ weigh g (take 1 (children_in hand)) + weigh g others
 
-parts_of : (g : Way → ℕ) (hand : Hand) (name : Way) (others : List Way) → names_in hand ≡ name ∷ others → HasParts g hand name others
+parts_of : (g : Name → ℕ) (hand : Hand) (name : Name) (others : List Name) → held_names hand ≡ name ∷ others → HasParts g hand name others
 parts_of g Empty name others e = absurd (omega (arith, ap length e))
 parts_of g (Task n) name others e =
     let first : n ≡ name = cc in
@@ -192,15 +192,15 @@ parts_of g (Children names) name others e =
     record { one = omega (arith, first); rest = omega (arith, all, first) }
 parts_of g (Value v) name others e = absurd (omega (arith, ap length e))
 
-rest_moves : (g : Way → ℕ) (s t : Seat) → Rests s t → Moves g s t [] [] (task_in s.hand) (take 1 (children_in s.hand))
+rest_moves : (g : Name → ℕ) (s t : Worker) → Rests s t → Moves g s t [] [] (task_in s.hand) (take 1 (children_in s.hand))
 rest_moves g s t p =
     let parts = parts_of g s.hand p.name p.others p.hand in
-    let hand : t.hand ≡ children_left p.others = ap (λ (x : Seat). x.hand) p.after in
+    let hand : t.hand ≡ children_left p.others = ap (λ (x : Worker). x.hand) p.after in
     let task_t : weigh g (task_in t.hand) ≡ 0 = ap (λ x. weigh g (task_in x)) hand ∙ left_tasks g p.others in
     let child_t : weigh g (children_in t.hand) ≡ weigh g p.others = ap (λ x. weigh g (children_in x)) hand ∙ left_children g p.others in
     let names : namew g t ≡ namew g s = ap (namew g) p.after in
     let below : beloww g t ≡ beloww g s = ap (beloww g) p.after in
-    let left : weigh g t.left ≡ weigh g (s.left ++ p.name ∷ []) = ap (λ (x : Seat). weigh g x.left) p.after in
+    let left : weigh g t.left ≡ weigh g (s.left ++ p.name ∷ []) = ap (λ (x : Worker). weigh g x.left) p.after in
     record {
       took = omega (arith, names, task_t);
       gave = omega (arith, below, child_t, parts.rest);
@@ -208,14 +208,14 @@ rest_moves g s t p =
     }
 
 -- a worker that loses a name beside, and then one that moves
-steal_moves : (g : Way → ℕ) (m : Moment) (w a v : ℕ) (name : Way) (t u : Seat) → IsThere m a → IsThere m v → a ≢ v → Receives (seat_at m a) name t → LosesFirst (seat_at m v) name u
-    → Moves g (seat_at m w) (seat_at (put (put m v u) a t) w) (cond (eqb a w) (name ∷ []) []) (cond (eqb a w) [] []) (cond (eqb a w) [] []) (cond (eqb a w) [] [])
+steal_moves : (g : Name → ℕ) (m : World) (w a v : ℕ) (name : Name) (t u : Worker) → IsThere m a → IsThere m v → a ≢ v → TakesName (worker_at m a) name t → LosesFirst (worker_at m v) name u
+    → Moves g (worker_at m w) (worker_at (put (put m v u) a t) w) (cond (eqb a w) (name ∷ []) []) (cond (eqb a w) [] []) (cond (eqb a w) [] []) (cond (eqb a w) [] [])
 steal_moves g m w a v name t u at from other r l =
     let middle = put m v u in
-    let Q : Seat → Type 0 = λ s. Moves g s t (name ∷ []) [] [] [] in
-    let mine : Moves g (seat_at middle a) t (name ∷ []) [] [] [] = subst Q (sym (seat_other m a v u other)) (receive_moves g (seat_at m a) t name r) in
+    let Q : Worker → Type 0 = λ s. Moves g s t (name ∷ []) [] [] [] in
+    let mine : Moves g (worker_at middle a) t (name ∷ []) [] [] [] = subst Q (sym (seat_other m a v u other)) (receive_moves g (worker_at m a) t name r) in
     let second = at_worker g middle w a t (name ∷ []) [] [] [] (there_still m a v u at) mine in
-    let quiet = silent g (seat_at m v) u (ap (λ (x : Seat). x.hand) l.after) (ap (λ (x : Seat). x.pieces) l.after) (ap (λ (x : Seat). x.left) l.after) in
+    let quiet = silent g (worker_at m v) u (ap (λ (x : Worker). x.hand) l.after) (ap (λ (x : Worker). x.pieces) l.after) (ap (λ (x : Worker). x.left) l.after) in
     let first = at_worker g m w v u [] [] [] [] from quiet in
     record {
       took = omega (arith, first.took, second.took, none_either g (eqb v w));
@@ -223,26 +223,26 @@ steal_moves g m w a v name t u at from other r l =
       left = omega (arith, first.left, second.left, none_either g (eqb v w));
     }
 
-step_moves : (g : Way → ℕ) (w : ℕ) (m : Moment) (event : Event) (n : Moment) (reply : Reply) → Step m event n reply
-    → Moves g (seat_at m w) (seat_at n w) (of_worker w event (name_told reply)) (of_worker w event (name_pushed m event)) (of_worker w event (task_left m event)) (of_worker w event (child_left m event))
-step_moves g w m _ _ _ (pops a name t there p) = at_worker g m w a t (name ∷ []) [] [] [] there (pop_moves g (seat_at m a) t name p)
+step_moves : (g : Name → ℕ) (w : ℕ) (m : World) (event : Event) (n : World) (reply : Reply) → Step m event n reply
+    → Moves g (worker_at m w) (worker_at n w) (of_worker w event (name_told reply)) (of_worker w event (name_pushed m event)) (of_worker w event (task_left m event)) (of_worker w event (child_left m event))
+step_moves g w m _ _ _ (pops a name t there p) = at_worker g m w a t (name ∷ []) [] [] [] there (pop_moves g (worker_at m a) t name p)
 step_moves g w m _ _ _ (steals a v name t u at from other r l) = steal_moves g m w a v name t u at from other r l
 step_moves g w m _ _ _ (looks a t there p) =
-    at_worker g m w a t [] [] [] [] there (silent g (seat_at m a) t (ap (λ (x : Seat). x.hand) p.after) (ap (λ (x : Seat). x.pieces) p.after) (ap (λ (x : Seat). x.left) p.after))
-step_moves g w m _ _ _ (works a worked t there p) = at_worker g m w a t [] [] [] [] there (work_moves g (seat_at m a) t worked p)
-step_moves g w m _ _ _ (pushes a t there p) = at_worker g m w a t [] (take 1 (names_in (seat_at m a).hand)) [] [] there (push_moves g (seat_at m a) t p)
-step_moves g w m _ _ _ (offers a v t there p) = at_worker g m w a t [] [] [] [] there (offer_moves g (seat_at m a) t v p)
+    at_worker g m w a t [] [] [] [] there (silent g (worker_at m a) t (ap (λ (x : Worker). x.hand) p.after) (ap (λ (x : Worker). x.pieces) p.after) (ap (λ (x : Worker). x.left) p.after))
+step_moves g w m _ _ _ (works a worked t there p) = at_worker g m w a t [] [] [] [] there (work_moves g (worker_at m a) t worked p)
+step_moves g w m _ _ _ (pushes a t there p) = at_worker g m w a t [] (take 1 (held_names (worker_at m a).hand)) [] [] there (push_moves g (worker_at m a) t p)
+step_moves g w m _ _ _ (offers a v t there p) = at_worker g m w a t [] [] [] [] there (offer_moves g (worker_at m a) t v p)
 step_moves g w m _ _ _ (rests a t there p) =
-    at_worker g m w a t [] [] (task_in (seat_at m a).hand) (take 1 (children_in (seat_at m a).hand)) there (rest_moves g (seat_at m a) t p)
+    at_worker g m w a t [] [] (task_in (worker_at m a).hand) (take 1 (children_in (worker_at m a).hand)) there (rest_moves g (worker_at m a) t p)
 
-abbrev tasks_left : ℕ → List Done → List Way
+abbrev tasks_left : ℕ → List Done → List Name
 tasks_left w dones = flat_map (λ (d : Done). of_worker w d.event (task_left d.before d.event)) dones
 
-abbrev children_kept : ℕ → List Done → List Way
+abbrev children_kept : ℕ → List Done → List Name
 children_kept w dones = flat_map (λ (d : Done). of_worker w d.event (child_left d.before d.event)) dones
 
-all_moves : (g : Way → ℕ) (w : ℕ) (m : Moment) (dones : List Done) (last : Moment) → Goes m dones last → Moves g (seat_at m w) (seat_at last w) (taken w dones) (pushed w dones) (tasks_left w dones) (children_kept w dones)
-all_moves g w _ _ _ (none m) = Moves-none g (seat_at m w)
+all_moves : (g : Name → ℕ) (w : ℕ) (m : World) (dones : List Done) (last : World) → Goes m dones last → Moves g (worker_at m w) (worker_at last w) (taken w dones) (pushed w dones) (tasks_left w dones) (children_kept w dones)
+all_moves g w _ _ _ (none m) = Moves-none g (worker_at m w)
 all_moves g w _ _ _ (more m event reply n step dones last others) =
     let first = step_moves g w m event n reply step in
     let rest = all_moves g w n dones last others in
@@ -253,7 +253,7 @@ all_moves g w _ _ _ (more m event reply n step dones last others) =
     }
 
 -- before the first event a worker has no pieces, no hand, and has left nothing
-record IsFresh (s : Seat) : Type 0 where
+record IsFresh (s : Worker) : Type 0 where
   hand : s.hand ≡ Empty
   pieces : s.pieces ≡ []
   left : s.left ≡ []
@@ -263,33 +263,33 @@ fresh_idle top zero w = record { hand = refl; pieces = refl; left = refl }
 fresh_idle top (suc count) zero = record { hand = refl; pieces = refl; left = refl }
 fresh_idle top (suc count) (suc w) = fresh_idle top count w
 
-fresh_start : (workers top w : ℕ) → IsFresh (seat_at (start workers top) w)
+fresh_start : (workers top w : ℕ) → IsFresh (worker_at (start workers top) w)
 fresh_start zero top w = record { hand = refl; pieces = refl; left = refl }
 fresh_start (suc count) top zero = record { hand = refl; pieces = refl; left = refl }
 fresh_start (suc count) top (suc w) = fresh_idle top count w
 
-hand_parts : (g : Way → ℕ) (hand : Hand) → weigh g (names_in hand) ≡ weigh g (task_in hand) + weigh g (children_in hand)
+hand_parts : (g : Name → ℕ) (hand : Hand) → weigh g (held_names hand) ≡ weigh g (task_in hand) + weigh g (children_in hand)
 hand_parts g Empty = refl
 hand_parts g (Task name) = omega arith
 hand_parts g (Children names) = omega arith
 hand_parts g (Value v) = refl
 
-pub accounted : (workers top : ℕ) (dones : List Done) (last : Moment) (w : ℕ) → Goes (start workers top) dones last → IsAccount w dones (seat_at last w)
+pub accounted : (workers top : ℕ) (dones : List Done) (last : World) (w : ℕ) → Goes (start workers top) dones last → IsAccount w dones (worker_at last w)
 accounted workers top dones last w run =
-    let s = seat_at last w in
+    let s = worker_at last w in
     let fresh = fresh_start workers top w in
     let held = task_in s.hand ++ tasks_left w dones in
     let unpushed = children_in s.hand ++ children_kept w dones in
-    let moves : (g : Way → ℕ) → Moves g (seat_at (start workers top) w) s (taken w dones) (pushed w dones) (tasks_left w dones) (children_kept w dones) = λ g. all_moves g w (start workers top) dones last run in
-    let no_task : (g : Way → ℕ) → weigh g (task_in (seat_at (start workers top) w).hand) ≡ 0 = λ g. ap (λ x. weigh g (task_in x)) fresh.hand in
-    let no_children : (g : Way → ℕ) → weigh g (children_in (seat_at (start workers top) w).hand) ≡ 0 = λ g. ap (λ x. weigh g (children_in x)) fresh.hand in
-    let no_names : (g : Way → ℕ) → namew g (seat_at (start workers top) w) ≡ 0 = λ g. ap (weigh (λ (piece : Piece). g piece.name)) fresh.pieces in
-    let no_below : (g : Way → ℕ) → beloww g (seat_at (start workers top) w) ≡ 0 = λ g. ap (weigh (λ (piece : Piece). weigh g (names_below piece))) fresh.pieces in
-    let no_left : (g : Way → ℕ) → weigh g (seat_at (start workers top) w).left ≡ 0 = λ g. ap (weigh g) fresh.left in
+    let moves : (g : Name → ℕ) → Moves g (worker_at (start workers top) w) s (taken w dones) (pushed w dones) (tasks_left w dones) (children_kept w dones) = λ g. all_moves g w (start workers top) dones last run in
+    let no_task : (g : Name → ℕ) → weigh g (task_in (worker_at (start workers top) w).hand) ≡ 0 = λ g. ap (λ x. weigh g (task_in x)) fresh.hand in
+    let no_children : (g : Name → ℕ) → weigh g (children_in (worker_at (start workers top) w).hand) ≡ 0 = λ g. ap (λ x. weigh g (children_in x)) fresh.hand in
+    let no_names : (g : Name → ℕ) → namew g (worker_at (start workers top) w) ≡ 0 = λ g. ap (weigh (λ (piece : Piece). g piece.name)) fresh.pieces in
+    let no_below : (g : Name → ℕ) → beloww g (worker_at (start workers top) w) ≡ 0 = λ g. ap (weigh (λ (piece : Piece). weigh g (names_below piece))) fresh.pieces in
+    let no_left : (g : Name → ℕ) → weigh g (worker_at (start workers top) w).left ≡ 0 = λ g. ap (weigh g) fresh.left in
     record {
       held = held;
       unpushed = unpushed;
-      rest = same_names (held ++ unpushed) (names_in s.hand ++ s.left) (λ g. omega (
+      rest = same_names (held ++ unpushed) (held_names s.hand ++ s.left) (λ g. omega (
         arith,
         (moves g).left,
         no_left g,
@@ -297,7 +297,7 @@ accounted workers top dones last w run =
         weigh-append g held unpushed,
         weigh-append g (task_in s.hand) (tasks_left w dones),
         weigh-append g (children_in s.hand) (children_kept w dones),
-        weigh-append g (names_in s.hand) s.left,
+        weigh-append g (held_names s.hand) s.left,
       ));
       report = record {
         took = same_names (taken w dones) (names_of s.pieces ++ held) (λ g. omega (
@@ -322,7 +322,7 @@ accounted workers top dones last w run =
     }
 
 -- the events of a run that were done
-pub done_in : (m : Moment) (events : List Event) (result : Result Unit Illegal) (last : Moment) → Runs m events result last
+pub done_in : (m : World) (events : List Event) (result : Result Unit Illegal) (last : World) → Runs m events result last
     → (dones : List Done) × ((rest : List Event) × (Goes m dones last × (map (λ (d : Done). d.event) dones ++ rest ≡ events)))
 done_in _ _ _ _ (ends m) = ([], ([], (none m, refl)))
 done_in _ _ _ _ (goes m event reply n step events result last run) =

@@ -9,7 +9,7 @@ use Rattle.std.proofs.lemmas.List.Sums.{sum_by-cons}
 use Rattle.std.proofs.lemmas.Bool.{cases_eq}
 use Rattle.certificate.specs.Trees.{children}
 use Rattle.branch_tree.specs.declared.piece.Piece.{Piece}
-use Rattle.branch_tree.specs.Names.{Way, root_name, child_name, child_names}
+use Rattle.branch_tree.specs.Name.{Name, root_name, child_name, child_names}
 use Rattle.branch_tree.specs.Pieces.{names_below, names_of, all_below}
 use Rattle.branch_tree.specs.Account.{IsWholeTree}
 use Rattle.search_core.specs.Once.{NoneTwice}
@@ -23,11 +23,11 @@ pub weigh-permutation : {A : Type 0} (g : A → ℕ) (xs ys : List A) → IsPerm
 weigh-permutation g xs ys h = weigh-sum g xs ∙ (sym (sum_by-IsPermutation g xs ys h) ∙ sym (weigh-sum g ys))
 
 -- no name and a longer one are the same
-pub no_child_is_root : (name : Way) (k : ℕ) → child_name name k ≢ root_name
+pub no_child_is_root : (name : Name) (k : ℕ) → child_name name k ≢ root_name
 no_child_is_root name k e = absurd (omega (arith, ap length e, length-append name (k ∷ [])))
 
 -- a name, and the last step to it
-pub parent_of : (name : Way) → name ≢ root_name → (parent : Way) × ((k : ℕ) × (name ≡ child_name parent k))
+pub parent_of : (name : Name) → name ≢ root_name → (parent : Name) × ((k : ℕ) × (name ≡ child_name parent k))
 parent_of [] h = absurd (h refl)
 parent_of (x ∷ []) h = ([], (x, refl))
 parent_of (x ∷ y ∷ ys) h =
@@ -35,7 +35,7 @@ parent_of (x ∷ y ∷ ys) h =
     (x ∷ r.0, (r.1.0, ap (λ zs. x ∷ zs) r.1.1))
 
 -- a child has one parent and one number
-pub child_parts : (a b : Way) (j k : ℕ) → child_name a j ≡ child_name b k → (a ≡ b) × (j ≡ k)
+pub child_parts : (a b : Name) (j k : ℕ) → child_name a j ≡ child_name b k → (a ≡ b) × (j ≡ k)
 child_parts [] [] j k e = (refl, cc)
 child_parts [] (y ∷ ys) j k e = absurd (omega (arith, ap length e, length-append ys (k ∷ [])))
 child_parts (x ∷ xs) [] j k e = absurd (omega (arith, ap length e, length-append xs (j ∷ [])))
@@ -47,20 +47,20 @@ child_parts (x ∷ xs) (y ∷ ys) j k e =
     (cc, r.1)
 
 -- among the children of a name a child of another has no place
-others_child : (a b : Way) (k first count : ℕ) → a ≢ b → weigh (only (child_name a k)) (map (child_name b) (range_with_len first count)) ≡ 0
+others_child : (a b : Name) (k first count : ℕ) → a ≢ b → weigh (only (child_name a k)) (map (child_name b) (range_with_len first count)) ≡ 0
 others_child a b k first zero h = refl
 others_child a b k first (suc count) h =
     omega (arith, only-other (child_name a k) (child_name b first) (λ e. h (child_parts a b k first e).0), others_child a b k (first + 1) count h)
 
 -- and a number below the first has none
-early_child : (a : Way) (k first count : ℕ) → k < first → weigh (only (child_name a k)) (map (child_name a) (range_with_len first count)) ≡ 0
+early_child : (a : Name) (k first count : ℕ) → k < first → weigh (only (child_name a k)) (map (child_name a) (range_with_len first count)) ≡ 0
 early_child a k first zero h = refl
 early_child a k first (suc count) h =
     let later : k < first + 1 = omega arith in
     omega (arith, only-other (child_name a k) (child_name a first) (λ e. absurd (omega (arith, (child_parts a a k first e).1))), early_child a k (first + 1) count later)
 
 -- a child stands once at most
-one_child : (a : Way) (k first count : ℕ) → weigh (only (child_name a k)) (map (child_name a) (range_with_len first count)) ≤ 1
+one_child : (a : Name) (k first count : ℕ) → weigh (only (child_name a k)) (map (child_name a) (range_with_len first count)) ≤ 1
 one_child a k first zero = omega arith
 one_child a k first (suc count) =
     elim (cases_eq k first) [
@@ -72,17 +72,17 @@ one_child a k first (suc count) =
     ]
 
 -- below a piece the child of a name stands only where the piece has that name
-below_piece : (a : Way) (k : ℕ) (piece : Piece) → weigh (only (child_name a k)) (names_below piece) ≤ only a piece.name
+below_piece : (a : Name) (k : ℕ) (piece : Piece) → weigh (only (child_name a k)) (names_below piece) ≤ only a piece.name
 below_piece a k piece =
     elim (same_or_other a piece.name) [
       | inl e ↦
           let one : only a piece.name ≡ 1 = rw (← e) (only-same a) in
-          let P : Way → Type 0 = λ b. weigh (only (child_name a k)) (child_names b (children piece.node)) ≤ 1 in
+          let P : Name → Type 0 = λ b. weigh (only (child_name a k)) (child_names b (children piece.node)) ≤ 1 in
           omega (arith, one, let h : P piece.name = subst P e (one_child a k 0 (children piece.node)) in h)
       | inr e ↦ omega (arith, others_child a piece.name k 0 (children piece.node) e)
     ]
 
-below_all : (a : Way) (k : ℕ) (pieces : List Piece) → weigh (only (child_name a k)) (all_below pieces) ≤ weigh (only a) (names_of pieces)
+below_all : (a : Name) (k : ℕ) (pieces : List Piece) → weigh (only (child_name a k)) (all_below pieces) ≤ weigh (only a) (names_of pieces)
 below_all a k pieces =
     omega (
       arith,
@@ -91,7 +91,7 @@ below_all a k pieces =
       weigh-le (λ (piece : Piece). weigh (only (child_name a k)) (names_below piece)) (λ (piece : Piece). only a piece.name) pieces (below_piece a k),
     )
 
-no_root : (a : Way) (first count : ℕ) → weigh (only root_name) (map (child_name a) (range_with_len first count)) ≡ 0
+no_root : (a : Name) (first count : ℕ) → weigh (only root_name) (map (child_name a) (range_with_len first count)) ≡ 0
 no_root a first zero = refl
 no_root a first (suc count) =
     omega (arith, only-other root_name (child_name a first) (λ e. no_child_is_root a first (sym e)), no_root a (first + 1) count)
@@ -101,20 +101,20 @@ root_below pieces =
     weigh-flat_map (only root_name) names_below pieces
     ∙ weigh-none (λ (piece : Piece). weigh (only root_name) (names_below piece)) pieces (λ piece. no_root piece.name 0 (children piece.node))
 
-at_root : (pieces : List Piece) (name : Way) → name ≡ root_name → weigh (only name) (root_name ∷ all_below pieces) ≤ 1
+at_root : (pieces : List Piece) (name : Name) → name ≡ root_name → weigh (only name) (root_name ∷ all_below pieces) ≤ 1
 at_root pieces name e =
-    let P : Way → Type 0 = λ x. weigh (only x) (root_name ∷ all_below pieces) ≤ 1 in
+    let P : Name → Type 0 = λ x. weigh (only x) (root_name ∷ all_below pieces) ≤ 1 in
     let here : P root_name = omega (arith, only-same root_name, root_below pieces) in
     subst P (sym e) here
 
-at_child : (pieces : List Piece) (parent name : Way) (k : ℕ) → name ≡ child_name parent k → weigh (only parent) (names_of pieces) ≤ 1 → weigh (only name) (root_name ∷ all_below pieces) ≤ 1
+at_child : (pieces : List Piece) (parent name : Name) (k : ℕ) → name ≡ child_name parent k → weigh (only parent) (names_of pieces) ≤ 1 → weigh (only name) (root_name ∷ all_below pieces) ≤ 1
 at_child pieces parent name k e h =
-    let P : Way → Type 0 = λ x. weigh (only x) (root_name ∷ all_below pieces) ≤ 1 in
+    let P : Name → Type 0 = λ x. weigh (only x) (root_name ∷ all_below pieces) ≤ 1 in
     let here : P (child_name parent k) = omega (arith, only-other (child_name parent k) root_name (no_child_is_root parent k), below_all parent k pieces, h) in
     subst P (sym e) here
 
 -- each name stands once at most
-pub weighs_one : (pieces : List Piece) (unworked : List Way) → IsWholeTree pieces unworked → (n : ℕ) (name : Way) → length name ≤ n → weigh (only name) (names_of pieces ++ unworked) ≤ 1
+pub weighs_one : (pieces : List Piece) (unworked : List Name) → IsWholeTree pieces unworked → (n : ℕ) (name : Name) → length name ≤ n → weigh (only name) (names_of pieces ++ unworked) ≤ 1
 weighs_one pieces unworked tree zero name h =
     let same = weigh-permutation (only name) (names_of pieces ++ unworked) (root_name ∷ all_below pieces) tree in
     elim (same_or_other name root_name) [
@@ -135,7 +135,7 @@ weighs_one pieces unworked tree (suc n) name h =
           omega (arith, same, at_child pieces r.0 name r.1.0 r.1.1 parents)
     ]
 
-pub none_twice : (pieces : List Piece) (unworked : List Way) → IsWholeTree pieces unworked → NoneTwice (names_of pieces ++ unworked)
+pub none_twice : (pieces : List Piece) (unworked : List Name) → IsWholeTree pieces unworked → NoneTwice (names_of pieces ++ unworked)
 none_twice pieces unworked tree j k lt h e =
     let names = names_of pieces ++ unworked in
     let name = get_or names j root_name in

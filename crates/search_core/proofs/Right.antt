@@ -6,12 +6,12 @@ use Rattle.std.proofs.lemmas.List.{get_or_default, length-append}
 use Rattle.std.proofs.lemmas.List.FromFn.{length-map-range_with_len, get_or-map-range_with_len}
 use Rattle.std.proofs.lemmas.List.Elements.{Contains-append_cases, Contains-append_left, Contains-append_right, Contains-push_cases}
 use Rattle.std.proofs.lemmas.List.Sorted.{Contains-permutation}
-use Rattle.ttp_model.specs.Problem.{Problem}
-use Rattle.tt_choice.specs.Choices.{Chosen}
+use Rattle.ttp_model.specs.Instance.{Instance}
+use Rattle.tt_choice.specs.Choice.{Choice}
 use Rattle.tt_choice.specs.Branches.{root_choice}
 use Rattle.certificate.specs.Trees.{children}
 use Rattle.branch_tree.specs.declared.piece.Piece.{Piece}
-use Rattle.branch_tree.specs.Names.{Way, root_name, child_name}
+use Rattle.branch_tree.specs.Name.{Name, root_name, child_name}
 use Rattle.branch_tree.specs.Pieces.{names_below, names_of, all_below, StandsAt, choice_below, IsRight, AreRight}
 use Rattle.branch_tree.specs.Pieces.StandsAt.{at_root, at_child}
 use Rattle.branch_tree.specs.Account.{IsWholeTree}
@@ -20,8 +20,8 @@ use Rattle.search_core.specs.declared.event.Worked.{Worked}
 use Rattle.search_core.specs.declared.reply.Reply.{Reply}
 use Rattle.search_core.specs.declared.reply.Illegal.{Illegal}
 use Rattle.search_core.specs.declared.event.Event.TheVariants.{Work}
-use Rattle.search_core.specs.Moments.{Seat, Moment, idle_seat, seat_at, put, start, open_names, all_pieces, names_in}
-use Rattle.search_core.specs.Turns.{Works, Receives, LosesFirst, node_made}
+use Rattle.search_core.specs.World.{Worker, World, idle_seat, worker_at, put, start, open_names, all_pieces, held_names}
+use Rattle.search_core.specs.Turns.{Works, TakesName, LosesFirst, node_made}
 use Rattle.search_core.specs.Steps.{Step, IsThere, Runs}
 use Rattle.search_core.specs.Steps.Step.{pops, steals, looks, works, pushes, offers, rests}
 use Rattle.search_core.specs.Steps.Runs.{ends, goes, stops}
@@ -60,14 +60,14 @@ piece_named pieces piece h =
     contained piece.name (names_of pieces) (omega (arith, le, one, weigh-map (only piece.name) (λ (x : Piece). x.name) pieces))
 
 -- the piece that a name stands below, and its number there
-record IsChild (pieces : List Piece) (name : Way) : Type 0 where
+record IsChild (pieces : List Piece) (name : Name) : Type 0 where
   parent : Piece
   number : ℕ
   there : Contains pieces parent
   inside : number < children parent.node
   is : name ≡ child_name parent.name number
 
-child_of : (pieces : List Piece) (name : Way) → Contains (all_below pieces) name → IsChild pieces name
+child_of : (pieces : List Piece) (name : Name) → Contains (all_below pieces) name → IsChild pieces name
 child_of pieces name h =
     let r = from_joined names_below pieces name h in
     let k = r.within.0 in
@@ -82,30 +82,30 @@ child_of pieces name h =
     }
 
 -- a choice, and that it stands at a name
-record Standing (i : Problem) (pieces : List Piece) (name : Way) : Type 0 where
-  choice : Chosen
+record Standing (i : Instance) (pieces : List Piece) (name : Name) : Type 0 where
+  choice : Choice
   stands : StandsAt i pieces name choice
 
-root_stands : (i : Problem) (pieces : List Piece) (name : Way) → name ≡ root_name → Standing i pieces name
+root_stands : (i : Instance) (pieces : List Piece) (name : Name) → name ≡ root_name → Standing i pieces name
 root_stands i pieces name e =
-    let P : Way → Type 0 = λ n. StandsAt i pieces n (root_choice i) in
+    let P : Name → Type 0 = λ n. StandsAt i pieces n (root_choice i) in
     record { choice = root_choice i; stands = subst P (sym e) at_root }
 
-child_stands : (i : Problem) (pieces : List Piece) (name : Way) (child : IsChild pieces name) → Standing i pieces child.parent.name → Standing i pieces name
+child_stands : (i : Instance) (pieces : List Piece) (name : Name) (child : IsChild pieces name) → Standing i pieces child.parent.name → Standing i pieces name
 child_stands i pieces name child above =
     let c = choice_below i above.choice child.parent.node child.number in
-    let P : Way → Type 0 = λ n. StandsAt i pieces n c in
+    let P : Name → Type 0 = λ n. StandsAt i pieces n c in
     record { choice = c; stands = subst P (sym child.is) (at_child child.parent above.choice child.number child.there above.stands child.inside) }
 
-no_steps : (name : Way) → length name ≤ 0 → name ≡ root_name
+no_steps : (name : Name) → length name ≤ 0 → name ≡ root_name
 no_steps [] h = refl
 no_steps (x ∷ xs) h = absurd (omega (arith, h))
 
-root_or_below : (pieces : List Piece) (name : Way) → Contains (root_name ∷ all_below pieces) name → (name ≡ root_name) ⊎ Contains (all_below pieces) name
+root_or_below : (pieces : List Piece) (name : Name) → Contains (root_name ∷ all_below pieces) name → (name ≡ root_name) ⊎ Contains (all_below pieces) name
 root_or_below pieces name (zero, inside, is) = inl (sym is)
 root_or_below pieces name (suc k, inside, is) = inr (k, omega (arith, inside), is)
 
-some_stands : (i : Problem) (pieces : List Piece) (unworked : List Way) → IsWholeTree pieces unworked → (n : ℕ) (name : Way) → length name ≤ n → Contains (names_of pieces ++ unworked) name → Standing i pieces name
+some_stands : (i : Instance) (pieces : List Piece) (unworked : List Name) → IsWholeTree pieces unworked → (n : ℕ) (name : Name) → length name ≤ n → Contains (names_of pieces ++ unworked) name → Standing i pieces name
 some_stands i pieces unworked tree zero name short h =
     root_stands i pieces name (no_steps name short)
 some_stands i pieces unworked tree (suc n) name short h =
@@ -119,14 +119,14 @@ some_stands i pieces unworked tree (suc n) name short h =
           child_stands i pieces name child (some_stands i pieces unworked tree n child.parent.name shorter parent)
     ]
 
-pub stands_somehow : (i : Problem) (pieces : List Piece) (unworked : List Way) (name : Way) → IsWholeTree pieces unworked → Contains (names_of pieces ++ unworked) name → (c : Chosen) × StandsAt i pieces name c
+pub stands_somehow : (i : Instance) (pieces : List Piece) (unworked : List Name) (name : Name) → IsWholeTree pieces unworked → Contains (names_of pieces ++ unworked) name → (c : Choice) × StandsAt i pieces name c
 stands_somehow i pieces unworked name tree h =
     let r = some_stands i pieces unworked tree (length name) name (omega arith) h in
     (r.choice, r.stands)
 
 -- no two pieces have one name
 abbrev IsNamedOnce : List Piece → Type 0
-IsNamedOnce pieces = (name : Way) → weigh (only name) (names_of pieces) ≤ 1
+IsNamedOnce pieces = (name : Name) → weigh (only name) (names_of pieces) ≤ 1
 
 two_places : (pieces : List Piece) (a b : Piece) (j k : ℕ) → IsNamedOnce pieces → j < k → k < length pieces → get_or pieces j a ≡ a → get_or pieces k b ≡ b → a.name ≡ b.name → a ≡ b
 two_places pieces a b j k once lt h first second e =
@@ -148,7 +148,7 @@ one_piece pieces a b once x y e =
       ]
     ]
 
-only_one : (i : Problem) (pieces : List Piece) → IsNamedOnce pieces → (a b : Way) (c d : Chosen) → StandsAt i pieces a c → StandsAt i pieces b d → a ≡ b → c ≡ d
+only_one : (i : Instance) (pieces : List Piece) → IsNamedOnce pieces → (a b : Name) (c d : Choice) → StandsAt i pieces a c → StandsAt i pieces b d → a ≡ b → c ≡ d
 only_one i pieces once _ _ _ _ at_root at_root e = refl
 only_one i pieces once _ _ _ _ at_root (at_child q d k there stands inside) e = absurd (no_child_is_root q.name k (sym e))
 only_one i pieces once _ _ _ _ (at_child p c j there stands inside) at_root e = absurd (no_child_is_root p.name j e)
@@ -158,16 +158,16 @@ only_one i pieces once _ _ _ _ (at_child p c j pt ps pi) (at_child q d k qt qs q
     let choice : c ≡ d = only_one i pieces once p.name q.name c d ps qs parts.0 in
     ap (λ x. choice_below i x p.node j) choice ∙ (ap (λ (x : Piece). choice_below i d x.node j) same ∙ ap (choice_below i d q.node) parts.1)
 
-named_once : (pieces : List Piece) (unworked : List Way) → IsWholeTree pieces unworked → IsNamedOnce pieces
+named_once : (pieces : List Piece) (unworked : List Name) → IsWholeTree pieces unworked → IsNamedOnce pieces
 named_once pieces unworked tree name =
     omega (arith, weighs_one pieces unworked tree (length name) name (omega arith), weigh-append (only name) (names_of pieces) unworked)
 
-pub stands_alone : (i : Problem) (pieces : List Piece) (unworked : List Way) (name : Way) (c d : Chosen) → IsWholeTree pieces unworked → StandsAt i pieces name c → StandsAt i pieces name d → c ≡ d
+pub stands_alone : (i : Instance) (pieces : List Piece) (unworked : List Name) (name : Name) (c d : Choice) → IsWholeTree pieces unworked → StandsAt i pieces name c → StandsAt i pieces name d → c ≡ d
 stands_alone i pieces unworked name c d tree one other = only_one i pieces (named_once pieces unworked tree) name name c d one other refl
 
 -- Pieces after an event: those before it, and the one that work makes.
 
-pieces_back : (xs : List Seat) (w : ℕ) (t d : Seat) (x : Piece) → w < length xs → Contains (flat_map pieces_of (set xs w t)) x → Contains (flat_map pieces_of xs) x ⊎ Contains t.pieces x
+pieces_back : (xs : List Worker) (w : ℕ) (t d : Worker) (x : Piece) → w < length xs → Contains (flat_map pieces_of (set xs w t)) x → Contains (flat_map pieces_of xs) x ⊎ Contains t.pieces x
 pieces_back [] w t d x h there = inl there
 pieces_back (s ∷ xs) zero t d x h there =
     elim (Contains-append_cases t.pieces (flat_map pieces_of xs) x there) [
@@ -185,10 +185,10 @@ pieces_back (s ∷ xs) (suc w) t d x h there =
     ]
 
 -- no piece is new
-abbrev NoneNew : Moment → Moment → Type 0
+abbrev NoneNew : World → World → Type 0
 NoneNew m n = (x : Piece) → Contains (all_pieces n) x → Contains (all_pieces m) x
 
-none_new : (m : Moment) (w : ℕ) (t : Seat) → IsThere m w → t.pieces ≡ (seat_at m w).pieces → NoneNew m (put m w t)
+none_new : (m : World) (w : ℕ) (t : Worker) → IsThere m w → t.pieces ≡ (worker_at m w).pieces → NoneNew m (put m w t)
 none_new m w t there same x h =
     elim (pieces_back m.seats w t (idle_seat 0) x there h) [
       | inl old ↦ old
@@ -198,31 +198,31 @@ none_new m w t there same x h =
     ]
 
 -- the choice at a piece's name is the one that stood there before
-still_right : (i : Problem) (m n : Moment) → IsWholeTree (all_pieces m) (open_names m) → IsWholeTree (all_pieces n) (open_names n)
-    → ((x : Piece) → Contains (all_pieces m) x → Contains (all_pieces n) x) → AreRight i (all_pieces m) → (x : Piece) (c : Chosen) → Contains (all_pieces m) x → StandsAt i (all_pieces n) x.name c → IsRight i c x.node
+still_right : (i : Instance) (m n : World) → IsWholeTree (all_pieces m) (open_names m) → IsWholeTree (all_pieces n) (open_names n)
+    → ((x : Piece) → Contains (all_pieces m) x → Contains (all_pieces n) x) → AreRight i (all_pieces m) → (x : Piece) (c : Choice) → Contains (all_pieces m) x → StandsAt i (all_pieces n) x.name c → IsRight i c x.node
 still_right i m n before after more right x c there stands =
     let r = stands_somehow i (all_pieces m) (open_names m) x.name before (Contains-append_left (names_of (all_pieces m)) (open_names m) x.name (piece_named (all_pieces m) x there)) in
     let same : r.0 ≡ c = stands_alone i (all_pieces n) (open_names n) x.name r.0 c after (stands_still i (all_pieces m) (all_pieces n) more x.name r.0 r.1) stands in
-    let P : Chosen → Type 0 = λ d. IsRight i d x.node in
+    let P : Choice → Type 0 = λ d. IsRight i d x.node in
     subst P same (right x r.0 there r.1)
 
-kept_right : (i : Problem) (m n : Moment) → IsWholeTree (all_pieces m) (open_names m) → IsWholeTree (all_pieces n) (open_names n)
+kept_right : (i : Instance) (m n : World) → IsWholeTree (all_pieces m) (open_names m) → IsWholeTree (all_pieces n) (open_names n)
     → ((x : Piece) → Contains (all_pieces m) x → Contains (all_pieces n) x) → NoneNew m n → AreRight i (all_pieces m) → AreRight i (all_pieces n)
 kept_right i m n before after more none right x c there stands = still_right i m n before after more right x c (none x there) stands
 
 -- the task in hand is open
-task_open : (m : Moment) (w : ℕ) (worked : Worked) (t : Seat) → IsThere m w → (p : Works (seat_at m w) worked t) → Contains (open_names m) p.name
+task_open : (m : World) (w : ℕ) (worked : Worked) (t : Worker) → IsThere m w → (p : Works (worker_at m w) worked t) → Contains (open_names m) p.name
 task_open m w worked t there p =
-    let s = seat_at m w in
-    let hand : weigh (only p.name) (names_in s.hand) ≡ only p.name p.name + 0 = ap (λ x. weigh (only p.name) (names_in x)) p.hand in
+    let s = worker_at m w in
+    let hand : weigh (only p.name) (held_names s.hand) ≡ only p.name p.name + 0 = ap (λ x. weigh (only p.name) (held_names x)) p.hand in
     contained p.name (open_names m)
     (omega (arith, hand, only-same p.name, open_weight (only p.name) m, weigh-get_or (openw (only p.name)) m.seats w (idle_seat 0) there))
 
-worked_right : (i : Problem) (m : Moment) (w : ℕ) (worked : Worked) (t : Seat) (there : IsThere m w) (p : Works (seat_at m w) worked t) → IsHonest i m (Work w worked)
+worked_right : (i : Instance) (m : World) (w : ℕ) (worked : Worked) (t : Worker) (there : IsThere m w) (p : Works (worker_at m w) worked t) → IsHonest i m (Work w worked)
     → IsWholeTree (all_pieces m) (open_names m) → IsWholeTree (all_pieces (put m w t)) (open_names (put m w t)) → AreRight i (all_pieces m) → AreRight i (all_pieces (put m w t))
 worked_right i m w worked t there p honest before after right x c at stands =
     let n = put m w t in
-    let s = seat_at m w in
+    let s = worker_at m w in
     let piece = piece_made s t worked p in
     let more = work_keeps m w worked t there p in
     elim (pieces_back m.seats w t (idle_seat 0) x there at) [
@@ -235,44 +235,44 @@ worked_right i m w worked t there p honest before after right x c at stands =
                 let r = stands_somehow i (all_pieces m) (open_names m) p.name before (Contains-append_right (names_of (all_pieces m)) (open_names m) p.name (task_open m w worked t there p)) in
                 let Q : Piece → Type 0 = λ y. StandsAt i (all_pieces n) y.name c in
                 let R : Piece → Type 0 = λ y. IsRight i c y.node in
-                let S : Chosen → Type 0 = λ d. IsRight i d (node_made worked) in
+                let S : Choice → Type 0 = λ d. IsRight i d (node_made worked) in
                 let same : r.0 ≡ c = stands_alone i (all_pieces n) (open_names n) p.name r.0 c after (stands_still i (all_pieces m) (all_pieces n) more p.name r.0 r.1) (subst Q (sym e) stands) in
                 subst R e (subst S same (honest.1 p.name r.0 p.hand r.1))
           ]
     ]
 
-local_right : (i : Problem) (m : Moment) (w : ℕ) (t : Seat) → IsThere m w → t.pieces ≡ (seat_at m w).pieces
+local_right : (i : Instance) (m : World) (w : ℕ) (t : Worker) → IsThere m w → t.pieces ≡ (worker_at m w).pieces
     → IsWholeTree (all_pieces m) (open_names m) → IsWholeTree (all_pieces (put m w t)) (open_names (put m w t)) → AreRight i (all_pieces m) → AreRight i (all_pieces (put m w t))
 local_right i m w t there same before after right =
-    kept_right i m (put m w t) before after (put_pieces m w t there (same_pieces (seat_at m w) t same)) (none_new m w t there same) right
+    kept_right i m (put m w t) before after (put_pieces m w t there (same_pieces (worker_at m w) t same)) (none_new m w t there same) right
 
-stolen_right : (i : Problem) (m : Moment) (w v : ℕ) (name : Way) (t u : Seat) → IsThere m w → IsThere m v → w ≢ v → Receives (seat_at m w) name t → LosesFirst (seat_at m v) name u
+stolen_right : (i : Instance) (m : World) (w v : ℕ) (name : Name) (t u : Worker) → IsThere m w → IsThere m v → w ≢ v → TakesName (worker_at m w) name t → LosesFirst (worker_at m v) name u
     → IsWholeTree (all_pieces m) (open_names m) → IsWholeTree (all_pieces (put (put m v u) w t)) (open_names (put (put m v u) w t)) → AreRight i (all_pieces m) → AreRight i (all_pieces (put (put m v u) w t))
 stolen_right i m w v name t u at from other r l before after right =
     let middle = put m v u in
-    let lost : u.pieces ≡ (seat_at m v).pieces = ap (λ (x : Seat). x.pieces) l.after in
-    let got : t.pieces ≡ (seat_at middle w).pieces = ap (λ (x : Seat). x.pieces) r.after ∙ ap (λ (x : Seat). x.pieces) (sym (seat_other m w v u other)) in
+    let lost : u.pieces ≡ (worker_at m v).pieces = ap (λ (x : Worker). x.pieces) l.after in
+    let got : t.pieces ≡ (worker_at middle w).pieces = ap (λ (x : Worker). x.pieces) r.after ∙ ap (λ (x : Worker). x.pieces) (sym (seat_other m w v u other)) in
     let here = there_still m w v u at in
     kept_right i m (put middle w t) before after
-    (λ x h. put_pieces middle w t here (same_pieces (seat_at middle w) t got) x (put_pieces m v u from (same_pieces (seat_at m v) u lost) x h))
+    (λ x h. put_pieces middle w t here (same_pieces (worker_at middle w) t got) x (put_pieces m v u from (same_pieces (worker_at m v) u lost) x h))
     (λ x h. none_new m v u from lost x (none_new middle w t here got x h)) right
 
-step_right : (i : Problem) (m : Moment) (event : Event) (n : Moment) (reply : Reply) → Step m event n reply → IsHonest i m event
+step_right : (i : Instance) (m : World) (event : Event) (n : World) (reply : Reply) → Step m event n reply → IsHonest i m event
     → IsWholeTree (all_pieces m) (open_names m) → IsWholeTree (all_pieces n) (open_names n) → AreRight i (all_pieces m) → AreRight i (all_pieces n)
-step_right i m _ _ _ (pops w name t there p) honest before after right = local_right i m w t there (ap (λ (x : Seat). x.pieces) p.after) before after right
+step_right i m _ _ _ (pops w name t there p) honest before after right = local_right i m w t there (ap (λ (x : Worker). x.pieces) p.after) before after right
 step_right i m _ _ _ (steals w v name t u at from other r l) honest before after right = stolen_right i m w v name t u at from other r l before after right
-step_right i m _ _ _ (looks w t there p) honest before after right = local_right i m w t there (ap (λ (x : Seat). x.pieces) p.after) before after right
+step_right i m _ _ _ (looks w t there p) honest before after right = local_right i m w t there (ap (λ (x : Worker). x.pieces) p.after) before after right
 step_right i m _ _ _ (works w worked t there p) honest before after right = worked_right i m w worked t there p honest before after right
-step_right i m _ _ _ (pushes w t there p) honest before after right = local_right i m w t there (ap (λ (x : Seat). x.pieces) p.after) before after right
-step_right i m _ _ _ (offers w v t there p) honest before after right = local_right i m w t there (ap (λ (x : Seat). x.pieces) p.after) before after right
-step_right i m _ _ _ (rests w t there p) honest before after right = local_right i m w t there (ap (λ (x : Seat). x.pieces) p.after) before after right
+step_right i m _ _ _ (pushes w t there p) honest before after right = local_right i m w t there (ap (λ (x : Worker). x.pieces) p.after) before after right
+step_right i m _ _ _ (offers w v t there p) honest before after right = local_right i m w t there (ap (λ (x : Worker). x.pieces) p.after) before after right
+step_right i m _ _ _ (rests w t there p) honest before after right = local_right i m w t there (ap (λ (x : Worker). x.pieces) p.after) before after right
 
-runs_right : (i : Problem) (m : Moment) (events : List Event) (result : Result Unit Illegal) (last : Moment) → Runs m events result last → AreHonest i m events
-    → ((g : Way → ℕ) → Balanced g m.seats) → AreRight i (all_pieces m) → AreRight i (all_pieces last)
+runs_right : (i : Instance) (m : World) (events : List Event) (result : Result Unit Illegal) (last : World) → Runs m events result last → AreHonest i m events
+    → ((g : Name → ℕ) → Balanced g m.seats) → AreRight i (all_pieces m) → AreRight i (all_pieces last)
 runs_right i _ _ _ _ (ends m) honest tree right = right
 runs_right i _ _ _ _ (goes m event reply n step events result last run) honest tree right =
     let now = honest n reply step in
-    let later : (g : Way → ℕ) → Balanced g n.seats = λ g. step_kept g m event n reply step (tree g) in
+    let later : (g : Name → ℕ) → Balanced g n.seats = λ g. step_kept g m event n reply step (tree g) in
     runs_right i n events result last run now.1 later (step_right i m event n reply step now.0 (tree_at m tree) (tree_at n later) right)
 runs_right i _ _ _ _ (stops m event fault events refused) honest tree right = right
 
@@ -284,10 +284,10 @@ empty_at_first : (workers top : ℕ) → 1 ≤ workers → length (all_pieces (s
 empty_at_first zero top some = absurd (omega arith)
 empty_at_first (suc count) top some = none_made top count
 
-no_pieces : (i : Problem) (workers top : ℕ) → 1 ≤ workers → AreRight i (all_pieces (start workers top))
+no_pieces : (i : Instance) (workers top : ℕ) → 1 ≤ workers → AreRight i (all_pieces (start workers top))
 no_pieces i workers top some x c there stands = absurd (omega (arith, there.1, empty_at_first workers top some))
 
-pub pieces_right : (i : Problem) (workers top : ℕ) (events : List Event) (result : Result Unit Illegal) (last : Moment) → 1 ≤ workers
+pub pieces_right : (i : Instance) (workers top : ℕ) (events : List Event) (result : Result Unit Illegal) (last : World) → 1 ≤ workers
     → AreHonest i (start workers top) events → Runs (start workers top) events result last → AreRight i (all_pieces last)
 pieces_right i workers top events result last some honest run =
     runs_right i (start workers top) events result last run honest (λ g. start_balanced g workers top some) (no_pieces i workers top some)

@@ -3,31 +3,31 @@ use Rattle.std.proofs.Common.{ℕ, zero, suc, ◌<◌, List, [], ◌∷◌, leng
 use Rattle.std.specs.List.{flat_map, Contains}
 use Rattle.std.proofs.lemmas.List.{get_or-set_same}
 use Rattle.std.proofs.lemmas.List.Elements.{Contains-append_cases, Contains-append_left, Contains-append_right}
-use Rattle.ttp_model.specs.Problem.{Problem}
-use Rattle.tt_choice.specs.Choices.{Chosen}
+use Rattle.ttp_model.specs.Instance.{Instance}
+use Rattle.tt_choice.specs.Choice.{Choice}
 use Rattle.branch_tree.specs.declared.piece.Piece.{Piece}
-use Rattle.branch_tree.specs.Names.{Way}
+use Rattle.branch_tree.specs.Name.{Name}
 use Rattle.branch_tree.specs.Pieces.{StandsAt}
 use Rattle.branch_tree.specs.Pieces.StandsAt.{at_root, at_child}
-use Rattle.search_core.specs.Moments.{Seat}
+use Rattle.search_core.specs.World.{Worker}
 
-pub stands_still : (i : Problem) (few many : List Piece) → ((x : Piece) → Contains few x → Contains many x) → (name : Way) (c : Chosen) → StandsAt i few name c → StandsAt i many name c
+pub stands_still : (i : Instance) (few many : List Piece) → ((x : Piece) → Contains few x → Contains many x) → (name : Name) (c : Choice) → StandsAt i few name c → StandsAt i many name c
 stands_still i few many more _ _ at_root = at_root
 stands_still i few many more _ _ (at_child piece c k there stands inside) =
     at_child piece c k (more piece there) (stands_still i few many more piece.name c stands) inside
 
 -- the pieces of workers
-abbrev pub pieces_of : Seat → List Piece
+abbrev pub pieces_of : Worker → List Piece
 pieces_of s = s.pieces
 
-pub pieces_at : (xs : List Seat) (w : ℕ) (d : Seat) (x : Piece) → w < length xs → Contains (get_or xs w d).pieces x → Contains (flat_map pieces_of xs) x
+pub pieces_at : (xs : List Worker) (w : ℕ) (d : Worker) (x : Piece) → w < length xs → Contains (get_or xs w d).pieces x → Contains (flat_map pieces_of xs) x
 pieces_at [] w d x h there = absurd (omega (arith, h))
 pieces_at (s ∷ xs) zero d x h there = Contains-append_left s.pieces (flat_map pieces_of xs) x there
 pieces_at (s ∷ xs) (suc w) d x h there =
     let less : w < length xs = omega arith in
     Contains-append_right s.pieces (flat_map pieces_of xs) x (pieces_at xs w d x less there)
 
-pub pieces_put : (xs : List Seat) (w : ℕ) (t d : Seat) (x : Piece) → w < length xs → (Contains (get_or xs w d).pieces x → Contains t.pieces x) → Contains (flat_map pieces_of xs) x → Contains (flat_map pieces_of (set xs w t)) x
+pub pieces_put : (xs : List Worker) (w : ℕ) (t d : Worker) (x : Piece) → w < length xs → (Contains (get_or xs w d).pieces x → Contains t.pieces x) → Contains (flat_map pieces_of xs) x → Contains (flat_map pieces_of (set xs w t)) x
 pieces_put [] w t d x h more there = there
 pieces_put (s ∷ xs) zero t d x h more there =
     elim (Contains-append_cases s.pieces (flat_map pieces_of xs) x there) [
@@ -41,7 +41,7 @@ pieces_put (s ∷ xs) (suc w) t d x h more there =
       | inr behind ↦ Contains-append_right s.pieces (flat_map pieces_of (set xs w t)) x (pieces_put xs w t d x less more behind)
     ]
 
-pub pieces_new : (xs : List Seat) (w : ℕ) (t d : Seat) (x : Piece) → w < length (set xs w t) → w < length xs → Contains t.pieces x → Contains (flat_map pieces_of (set xs w t)) x
+pub pieces_new : (xs : List Worker) (w : ℕ) (t d : Worker) (x : Piece) → w < length (set xs w t) → w < length xs → Contains t.pieces x → Contains (flat_map pieces_of (set xs w t)) x
 pieces_new xs w t d x there h here =
-    let P : Seat → Type 0 = λ s. Contains s.pieces x in
+    let P : Worker → Type 0 = λ s. Contains s.pieces x in
     pieces_at (set xs w t) w d x there (subst P (sym (get_or-set_same xs w t d h)) here)

@@ -2,14 +2,14 @@
 use Rattle.std.specs.Prelude.{◌≡◌, ℕ, ◌+◌, ◌<◌, ◌≤◌, ◌⊎◌, min, List, [], ◌∷◌, Contains}
 use Rattle.ttp_model.specs.declared.plan.Plan.{Plan}
 use Rattle.ttp_model.specs.declared.step.Leaf.{Leaf}
-use Rattle.ttp_model.specs.Problem.{Problem}
+use Rattle.ttp_model.specs.Instance.{Instance}
 use Rattle.ttp_model.specs.Plans.{IsValid}
 use Rattle.ttp_model.specs.Delays.{delay, IsLeastDelay, HasNoPlan}
 use Rattle.ttp_model.specs.Moves.{IsSettled}
-use Rattle.tt_choice.specs.Choices.{Chosen, IsIn}
+use Rattle.tt_choice.specs.Choice.{Choice, IsIn}
 use Rattle.certificate.specs.declared.node.Node.TheVariants as node
 use Rattle.branch_tree.specs.declared.piece.Piece.{Piece}
-use Rattle.branch_tree.specs.Names.{Way}
+use Rattle.branch_tree.specs.Name.{Name}
 use Rattle.branch_tree.specs.Pieces.{StandsAt, IsRight}
 use Rattle.search_core.specs.declared.event.Event.{Event}
 use Rattle.search_core.specs.declared.event.Event.TheVariants.{Pop, Steal, Look, Work, Push, Offer, Rest}
@@ -18,7 +18,7 @@ use Rattle.search_core.specs.declared.event.Worked.TheVariants.{Split, Closed, F
 use Rattle.search_core.specs.declared.reply.Reply.{Reply}
 use Rattle.search_core.specs.declared.hand.Hand.{Hand}
 use Rattle.search_core.specs.declared.hand.Hand.TheVariants.{Empty, Task, Children, Value}
-use Rattle.search_core.specs.Moments.{Seat, Moment, seat_at, open_names, all_pieces}
+use Rattle.search_core.specs.World.{Worker, World, worker_at, open_names, all_pieces}
 use Rattle.search_core.specs.Turns.{node_made}
 use Rattle.search_core.specs.Steps.{Step}
 
@@ -30,51 +30,51 @@ with_hand (Children names) known = known
 with_hand (Value v) known = min v known
 
 -- the least of a delay and all values in hands
-abbrev pub least_with : ℕ → List Seat → ℕ
+abbrev pub least_with : ℕ → List Worker → ℕ
 least_with best [] = best
 least_with best (s ∷ seats) = with_hand s.hand (least_with best seats)
 
 -- the delay that is known: the least of the best delay and all values in hands
-abbrev pub known : Moment → ℕ
+abbrev pub known : World → ℕ
 known m = least_with m.best m.seats
 
 -- some valid plan has this delay
-pub record IsDelay (i : Problem) (d : ℕ) : Type 0 where
+pub record IsDelay (i : Instance) (d : ℕ) : Type 0 where
   pub plan : Plan
   pub valid : IsValid i plan
   pub reached : delay i plan ≡ d
 
 -- what a search may begin with: one past the horizon, or the delay of a valid plan
-abbrev pub IsTop : Problem → ℕ → Type 0
+abbrev pub IsTop : Instance → ℕ → Type 0
 IsTop i top = (top ≡ i.cluster.horizon + 1) ⊎ IsDelay i top
 
 -- a value that is found is the delay of a valid plan
-abbrev pub HasHonestValue : Problem → Worked → Type 0
+abbrev pub HasHonestValue : Instance → Worked → Type 0
 HasHonestValue i (Split kind k) = Unit {0}
 HasHonestValue i (Closed leaf) = Unit {0}
 HasHonestValue i (Found leaf v) = IsDelay i v
 
 -- Work is honest where its node is right for the choice that stands at the task's name, by the
 -- pieces made so far, and its value is a delay. All else that workers do is honest.
-abbrev pub IsHonest : Problem → Moment → Event → Type 0
+abbrev pub IsHonest : Instance → World → Event → Type 0
 IsHonest i m (Pop w) = Unit {0}
 IsHonest i m (Steal w v) = Unit {0}
 IsHonest i m (Look w) = Unit {0}
 IsHonest i m (Work w worked) = HasHonestValue i worked
-    × ((name : Way) (c : Chosen) → (seat_at m w).hand ≡ Task name → StandsAt i (all_pieces m) name c → IsRight i c (node_made worked))
+    × ((name : Name) (c : Choice) → (worker_at m w).hand ≡ Task name → StandsAt i (all_pieces m) name c → IsRight i c (node_made worked))
 IsHonest i m (Push w) = Unit {0}
 IsHonest i m (Offer w) = Unit {0}
 IsHonest i m (Rest w) = Unit {0}
 
 -- each event that is done is honest when it comes
-abbrev pub AreHonest : Problem → Moment → List Event → Type 0
+abbrev pub AreHonest : Instance → World → List Event → Type 0
 AreHonest i m [] = Unit {0}
-AreHonest i m (event ∷ events) = (n : Moment) (reply : Reply) → Step m event n reply → IsHonest i m event × AreHonest i n events
+AreHonest i m (event ∷ events) = (n : World) (reply : Reply) → Step m event n reply → IsHonest i m event × AreHonest i n events
 
 -- A settled plan stands open: it is in the choice that stands at an open name.
-pub record IsOpenPlan (i : Problem) (m : Moment) (plan : Plan) : Type 0 where
-  pub name : Way
-  pub choice : Chosen
+pub record IsOpenPlan (i : Instance) (m : World) (plan : Plan) : Type 0 where
+  pub name : Name
+  pub choice : Choice
   pub is_open : Contains (open_names m) name
   pub stands : StandsAt i (all_pieces m) name choice
   pub within : IsIn i choice plan
@@ -82,7 +82,7 @@ pub record IsOpenPlan (i : Problem) (m : Moment) (plan : Plan) : Type 0 where
 -- What a search knows at a moment: no leaf has a goal below the known delay; that is a delay, or what
 -- the search began with; and for each valid plan below it a settled one with no larger delay stands
 -- open. With no open name it is the least delay, or no plan is valid.
-pub record Bounds (i : Problem) (top : ℕ) (m : Moment) : Type 0 where
+pub record Bounds (i : Instance) (top : ℕ) (m : World) : Type 0 where
   pub leaves : (piece : Piece) (leaf : Leaf) → Contains (all_pieces m) piece → piece.node ≡ node.Leaf leaf → known m ≤ leaf.goal
   pub reached : (known m ≡ top) ⊎ IsDelay i (known m)
   pub cover : (plan : Plan) → IsValid i plan → delay i plan < known m

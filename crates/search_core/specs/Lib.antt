@@ -1,4 +1,4 @@
-pub mod Moments
+pub mod World
 pub mod Turns
 pub mod Steps
 pub mod Once

@@ -1,31 +1,31 @@
 -- What each event needs of its worker, and what it does to it. Own profile.
 use Rattle.std.specs.Prelude.{◌≡◌, ◌≢◌, ℕ, ◌<◌, ◌≤◌, List, [], ◌∷◌, ◌++◌}
-use Rattle.ttp_model.specs.declared.step.Kind.{Kind}
-use Rattle.ttp_model.specs.declared.step.Kind.TheVariants.{Place, Cap, Pair, Round}
+use Rattle.ttp_model.specs.Kinds.{HasOwnCount}
+use Rattle.certificate.specs.Branch.{branch_of}
 use Rattle.certificate.specs.declared.node.Node.{Node}
 use Rattle.certificate.specs.declared.node.Node.TheVariants as node
-use Rattle.branch_tree.specs.Names.{Way, child_names}
+use Rattle.branch_tree.specs.Name.{Name, child_names}
 use Rattle.search_core.specs.declared.event.Worked.{Worked}
 use Rattle.search_core.specs.declared.event.Worked.TheVariants.{Split, Closed, Found}
 use Rattle.search_core.specs.declared.hand.Hand.{Hand}
 use Rattle.search_core.specs.declared.hand.Hand.TheVariants.{Empty, Task, Children, Value}
 use Rattle.search_core.specs.declared.reply.Illegal.{Illegal}
 use Rattle.search_core.specs.declared.reply.Illegal.TheVariants.{NoSuchWorker, WrongHand, EmptyDeque, Misfit, OutOfMemory}
-use Rattle.search_core.specs.Moments.{Seat, names_in}
+use Rattle.search_core.specs.World.{Worker, held_names}
 
 -- what a hand may be asked to be
 abbrev pub HasTask : Hand → Type 0
-HasTask hand = (name : Way) × (hand ≡ Task name)
+HasTask hand = (name : Name) × (hand ≡ Task name)
 
 abbrev pub HasChildren : Hand → Type 0
-HasChildren hand = (names : List Way) × (hand ≡ Children names)
+HasChildren hand = (names : List Name) × (hand ≡ Children names)
 
 abbrev pub HasValue : Hand → Type 0
 HasValue hand = (v : ℕ) × (hand ≡ Value v)
 
 -- a task, or children
 abbrev pub HasNames : Hand → Type 0
-HasNames hand = names_in hand ≢ []
+HasNames hand = held_names hand ≢ []
 
 -- The first that fails of: the hand is as the event asks, the deque isn't empty, and the count or goal fits.
 -- Memory is refused only where all three hold.
@@ -37,45 +37,31 @@ IsUnmet hand deque fit Misfit = hand × deque × ¬ fit
 IsUnmet hand deque fit OutOfMemory = hand × deque × fit
 
 -- Pop: with an empty hand, the deque's last name goes to the hand.
-pub record Pops (s : Seat) (name : Way) (t : Seat) : Type 0 where
-  pub front : List Way
+pub record Pops (s : Worker) (name : Name) (t : Worker) : Type 0 where
+  pub front : List Name
   pub hand : s.hand ≡ Empty
   pub deque : s.deque ≡ front ++ name ∷ []
   pub after : t ≡ record s { deque = front; hand = Task name }
 
 -- a deque's first name is taken by another worker
-pub record LosesFirst (s : Seat) (name : Way) (t : Seat) : Type 0 where
-  pub rest : List Way
+pub record LosesFirst (s : Worker) (name : Name) (t : Worker) : Type 0 where
+  pub rest : List Name
   pub deque : s.deque ≡ name ∷ rest
   pub after : t ≡ record s { deque = rest }
 
 -- with an empty hand, a name goes to the hand
-pub record Receives (s : Seat) (name : Way) (t : Seat) : Type 0 where
+pub record TakesName (s : Worker) (name : Name) (t : Worker) : Type 0 where
   pub hand : s.hand ≡ Empty
   pub after : t ≡ record s { hand = Task name }
 
 -- Look: with a task in hand, the best delay is seen.
-pub record Looks (s : Seat) (best : ℕ) (t : Seat) : Type 0 where
+pub record Looks (s : Worker) (best : ℕ) (t : Worker) : Type 0 where
   pub hand : HasTask s.hand
   pub after : t ≡ record s { seen = best }
 
--- how many children a branch has where its kind says so
-abbrev pub HasOwnCount : Kind → ℕ → Type 0
-HasOwnCount Place k = Unit {0}
-HasOwnCount (Cap n) k = Unit {0}
-HasOwnCount (Pair p q) k = k ≡ 2
-HasOwnCount (Round m r) k = k ≡ 2
-
--- the node of a branch with so many children
-abbrev pub branch_node : Kind → ℕ → Node
-branch_node Place k = node.Place k
-branch_node (Cap n) k = node.Cap n k
-branch_node (Pair p q) k = node.Pair p q
-branch_node (Round m r) k = node.Round m r
-
 -- the node that work makes
 abbrev pub node_made : Worked → Node
-node_made (Split kind k) = branch_node kind k
+node_made (Split kind k) = node.Branch (branch_of kind k)
 node_made (Closed leaf) = node.Leaf leaf
 node_made (Found leaf v) = node.Leaf leaf
 
@@ -87,14 +73,14 @@ IsFitting seen (Closed leaf) = leaf.goal ≡ seen
 IsFitting seen (Found leaf v) = (v ≤ leaf.goal) × (leaf.goal < seen)
 
 -- what the hand holds after work on a task of this name
-abbrev pub hand_after : Way → Worked → Hand
+abbrev pub hand_after : Name → Worked → Hand
 hand_after name (Split kind k) = Children (child_names name k)
 hand_after name (Closed leaf) = Empty
 hand_after name (Found leaf v) = Value v
 
 -- Work: the task in hand becomes a piece.
-pub record Works (s : Seat) (worked : Worked) (t : Seat) : Type 0 where
-  pub name : Way
+pub record Works (s : Worker) (worked : Worked) (t : Worker) : Type 0 where
+  pub name : Name
   pub hand : s.hand ≡ Task name
   pub fits : IsFitting s.seen worked
   pub after : t ≡ record s {
@@ -103,25 +89,25 @@ pub record Works (s : Seat) (worked : Worked) (t : Seat) : Type 0 where
   }
 
 -- the hand with these children: empty after the last
-abbrev pub children_left : List Way → Hand
+abbrev pub children_left : List Name → Hand
 children_left [] = Empty
 children_left (name ∷ names) = Children (name ∷ names)
 
 -- Push: the first child in hand goes to the back of the deque.
-pub record Pushes (s : Seat) (t : Seat) : Type 0 where
-  pub name : Way
-  pub others : List Way
+pub record Pushes (s : Worker) (t : Worker) : Type 0 where
+  pub name : Name
+  pub others : List Name
   pub hand : s.hand ≡ Children (name ∷ others)
   pub after : t ≡ record s { deque = s.deque ++ name ∷ []; hand = children_left others }
 
 -- Offer: the value in hand is handed on.
-pub record Offers (s : Seat) (v : ℕ) (t : Seat) : Type 0 where
+pub record Offers (s : Worker) (v : ℕ) (t : Worker) : Type 0 where
   pub hand : s.hand ≡ Value v
   pub after : t ≡ record s { hand = Empty }
 
 -- Rest: the hand's one or first name is left.
-pub record Rests (s : Seat) (t : Seat) : Type 0 where
-  pub name : Way
-  pub others : List Way
-  pub hand : names_in s.hand ≡ name ∷ others
+pub record Rests (s : Worker) (t : Worker) : Type 0 where
+  pub name : Name
+  pub others : List Name
+  pub hand : held_names s.hand ≡ name ∷ others
   pub after : t ≡ record s { left = s.left ++ name ∷ []; hand = children_left others }

@@ -1,7 +1,7 @@
 //! Which children of a branch are still in hand?
 
 ghost use Rattle.std.specs.Prelude.{◌≡◌, ◌≢◌, ◌≤◌, ◌∷◌, [], drop, length, IfOk, MatchOption};
-ghost use Rattle.branch_tree.specs.Names.{child_names};
+ghost use Rattle.branch_tree.specs.Name.{child_names};
 
 use branch_tree::Name;
 use std::alloc::Global;
@@ -20,9 +20,9 @@ pub struct Brood {
 impl Model for Brood {
     ghost use Rattle.std.specs.Prelude.{List, ◌-◌, ◌<◌, map};
     ghost use Rattle.std.specs.List.{range_with_len};
-    ghost use Rattle.branch_tree.specs.Names.{Way, child_name};
+    ghost use Rattle.branch_tree.specs.Name.{Name, child_name};
 
-    ghost Value = { List Way };
+    ghost Value = { List Name };
 
     ghost view = { λ s. map (child_name s.parent) (range_with_len s.next (s.end - s.next)) };
 

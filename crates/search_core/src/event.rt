@@ -1,12 +1,12 @@
 //! What can happen in a search?
 
 ghost use Rattle.std.specs.Prelude.{◌≡◌, ℕ, ◌↔◌, IsTrue};
-ghost use Rattle.search_core.specs.Turns.{HasOwnCount, IsFitting, branch_node, node_made, hand_after};
+ghost use Rattle.search_core.specs.Turns.{IsFitting, node_made, hand_after};
 
 use crate::brood::Brood;
 use crate::hand::Hand;
 use branch_tree::Name;
-use certificate::Node;
+use certificate::{Branch, Node};
 use ttp_model::{Kind, Leaf};
 
 /// What became of the task in a worker's hand.
@@ -39,35 +39,13 @@ pub enum Event {
     Rest(u32),
 }
 
-/// Is this the kind's count of children, where it has one?
-fn has_own_count(kind: Kind, count: u32) -> bool
-    ensures { IsTrue result ↔ HasOwnCount kind count }
-{
-    match kind {
-        Kind::Place | Kind::Cap(_) => true,
-        Kind::Pair(_, _) | Kind::Round(_, _) => count == 2,
-    }
-}
-
-/// The node of a branch.
-fn branch_node(kind: Kind, children: u32) -> Node
-    ensures { result ≡ branch_node kind children }
-{
-    match kind {
-        Kind::Place => Node::Place { children },
-        Kind::Cap(node) => Node::Cap { node, children },
-        Kind::Pair(first, second) => Node::Pair { first, second },
-        Kind::Round(message, round) => Node::Round { message, round },
-    }
-}
-
 impl Worked {
     /// Does its count, or its goal, fit a worker that saw this delay?
     pub(crate) fn is_fitting(&self, seen: u32) -> bool
         ensures { IsTrue result ↔ IsFitting seen self.now }
     {
         match self {
-            Worked::Split(kind, count) => 1 <= *count && has_own_count(*kind, *count),
+            Worked::Split(kind, count) => 1 <= *count && *count == kind.children(*count),
             Worked::Closed(leaf) => leaf.goal == seen,
             Worked::Found(leaf, delay) => *delay <= leaf.goal && leaf.goal < seen,
         }
@@ -81,7 +59,7 @@ impl Worked {
     {
         match self {
             Worked::Split(kind, count) => (
-                branch_node(kind, count),
+                Node::Branch(Branch::new(kind, count)),
                 Hand::Children(Brood::of(name, count)),
             ),
             Worked::Closed(leaf) => (Node::Leaf(leaf), Hand::Empty),

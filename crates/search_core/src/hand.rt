@@ -1,7 +1,7 @@
 //! What does a worker hold?
 
 ghost use Rattle.std.specs.Prelude.{◌≡◌, ◌∷◌, drop, MatchResult};
-ghost use Rattle.search_core.specs.Moments.{names_in};
+ghost use Rattle.search_core.specs.World.{held_names};
 ghost use Rattle.search_core.specs.Turns.{children_left, HasNames, IsUnmet};
 
 use crate::brood::Brood;
@@ -22,7 +22,7 @@ pub enum Hand {
 impl Hand {
     /// The task, or the first child, in memory of its own.
     pub(crate) fn first(&self, alloc: Global) -> Result<Name, Illegal>
-        ensures { MatchResult result (λ name. names_in self.now ≡ name ∷ drop 1 (names_in self.now)) (IsUnmet (HasNames self.now) (Unit {0}) (Unit {0})) }
+        ensures { MatchResult result (λ name. held_names self.now ≡ name ∷ drop 1 (held_names self.now)) (IsUnmet (HasNames self.now) (Unit {0}) (Unit {0})) }
     {
         match self {
             Hand::Task(name) => Ok(name.copy(alloc)?),
@@ -33,7 +33,7 @@ impl Hand {
 
     /// What is held behind the first name.
     pub(crate) fn rest(self) -> Self
-        ensures { result ≡ children_left (drop 1 (names_in self)) }
+        ensures { result ≡ children_left (drop 1 (held_names self)) }
     {
         match self {
             Hand::Children(brood) => match brood.rest() {

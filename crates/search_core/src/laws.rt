@@ -1,16 +1,16 @@
 //! What holds after any events? These functions do nothing: their contracts are laws.
 
 ghost use Rattle.std.specs.Prelude.{◌≡◌, ℕ, List, ◌++◌, ◌≤◌, Result, map, Contains};
-ghost use Rattle.ttp_model.specs.Problem.{Problem};
+ghost use Rattle.ttp_model.specs.Instance.{Instance};
 ghost use Rattle.ttp_model.specs.Rules.{IsInstance};
-ghost use Rattle.tt_choice.specs.Choices.{Chosen};
+ghost use Rattle.tt_choice.specs.Choice.{Choice};
 ghost use Rattle.branch_tree.specs.declared.piece.Piece.{Piece};
-ghost use Rattle.branch_tree.specs.Names.{Way};
+ghost use Rattle.branch_tree.specs.Name.{Name};
 ghost use Rattle.branch_tree.specs.Pieces.{names_of, StandsAt, AreRight};
 ghost use Rattle.branch_tree.specs.Account.{IsWholeTree};
 ghost use Rattle.search_core.specs.declared.event.Event.{Event};
 ghost use Rattle.search_core.specs.declared.reply.Illegal.{Illegal};
-ghost use Rattle.search_core.specs.Moments.{Moment, start, seat_at, open_names, all_pieces};
+ghost use Rattle.search_core.specs.World.{World, start, worker_at, open_names, all_pieces};
 ghost use Rattle.search_core.specs.Bounds.{IsTop, AreHonest, Bounds};
 ghost use Rattle.search_core.specs.Ledger.{Done, Goes, IsAccount};
 ghost use Rattle.search_core.specs.Once.{NoneTwice};
@@ -19,10 +19,10 @@ ghost use Rattle.search_core.specs.Steps.{Runs};
 /// After any events, legal or not, the names of all pieces and the open names are those of a tree;
 /// and in a tree no name stands twice.
 pub fn names_are_a_tree()
-    ensures whole { (workers top : ℕ) (events : List Event) (result : Result Unit Illegal) (last : Moment)
+    ensures whole { (workers top : ℕ) (events : List Event) (result : Result Unit Illegal) (last : World)
         → 1 ≤ workers → Runs (start workers top) events result last
         → IsWholeTree (all_pieces last) (open_names last) }
-    ensures once { (pieces : List Piece) (unworked : List Way)
+    ensures once { (pieces : List Piece) (unworked : List Name)
         → IsWholeTree pieces unworked → NoneTwice (names_of pieces ++ unworked) }
 {}
 
@@ -30,9 +30,9 @@ pub fn names_are_a_tree()
 /// pieces are and what it still holds or left, and what stands below its pieces is what it pushed, and
 /// what it still holds or left. The events that a run does are the first of those that it is given.
 pub fn accounts_balance()
-    ensures balance { (workers top : ℕ) (dones : List Done) (last : Moment) (w : ℕ)
-        → Goes (start workers top) dones last → IsAccount w dones (seat_at last w) }
-    ensures done { (m : Moment) (events : List Event) (result : Result Unit Illegal) (last : Moment)
+    ensures balance { (workers top : ℕ) (dones : List Done) (last : World) (w : ℕ)
+        → Goes (start workers top) dones last → IsAccount w dones (worker_at last w) }
+    ensures done { (m : World) (events : List Event) (result : Result Unit Illegal) (last : World)
         → Runs m events result last
         → (dones : List Done) × ((rest : List Event) × (Goes m dones last × (map (λ d. d.event) dones ++ rest ≡ events))) }
 {}
@@ -40,7 +40,7 @@ pub fn accounts_balance()
 /// After any events of which each is honest when it comes, the bounds hold: no leaf has a goal below
 /// the known delay, that is a delay or what the search began with, and what is below it stands open.
 pub fn bounds_hold()
-    ensures { (i : Problem) (workers top : ℕ) (events : List Event) (result : Result Unit Illegal) (last : Moment)
+    ensures { (i : Instance) (workers top : ℕ) (events : List Event) (result : Result Unit Illegal) (last : World)
         → IsInstance i → 1 ≤ workers → IsTop i top
         → AreHonest i (start workers top) events → Runs (start workers top) events result last
         → Bounds i top last }
@@ -48,16 +48,16 @@ pub fn bounds_hold()
 
 /// In a tree just one choice stands at each name, by the branches of its pieces.
 pub fn one_choice_stands()
-    ensures some { (i : Problem) (pieces : List Piece) (unworked : List Way) (name : Way)
+    ensures some { (i : Instance) (pieces : List Piece) (unworked : List Name) (name : Name)
         → IsWholeTree pieces unworked → Contains (names_of pieces ++ unworked) name
-        → (c : Chosen) × StandsAt i pieces name c }
-    ensures one { (i : Problem) (pieces : List Piece) (unworked : List Way) (name : Way) (c d : Chosen)
+        → (c : Choice) × StandsAt i pieces name c }
+    ensures one { (i : Instance) (pieces : List Piece) (unworked : List Name) (name : Name) (c d : Choice)
         → IsWholeTree pieces unworked → StandsAt i pieces name c → StandsAt i pieces name d → c ≡ d }
 {}
 
 /// After any events of which each is honest when it comes, each piece is right for the choice at its name.
 pub fn pieces_are_right()
-    ensures { (i : Problem) (workers top : ℕ) (events : List Event) (result : Result Unit Illegal) (last : Moment)
+    ensures { (i : Instance) (workers top : ℕ) (events : List Event) (result : Result Unit Illegal) (last : World)
         → 1 ≤ workers → AreHonest i (start workers top) events → Runs (start workers top) events result last
         → AreRight i (all_pieces last) }
 {}

@@ -1,10 +1,10 @@
 //! What does one worker of a search have, and what can it do?
 
 ghost use Rattle.std.specs.Prelude.{◌≡◌, ◌≢◌, [], ◌∷◌, ◌++◌, List, IsTrue, ◌↔◌, MatchResult, IfOk, IfErr, OnErr, OnOk};
-ghost use Rattle.search_core.specs.Moments.{idle_seat};
-ghost use Rattle.search_core.specs.Turns.{Pops, LosesFirst, Receives, Looks, Works, Pushes, Offers, Rests, IsUnmet, HasTask, HasChildren, HasValue, HasNames, IsFitting};
+ghost use Rattle.search_core.specs.World.{idle_seat};
+ghost use Rattle.search_core.specs.Turns.{Pops, LosesFirst, TakesName, Looks, Works, Pushes, Offers, Rests, IsUnmet, HasTask, HasChildren, HasValue, HasNames, IsFitting};
 ghost use Rattle.search_core.specs.declared.hand.Hand.TheVariants.{Empty};
-ghost use Rattle.branch_tree.specs.Names.{Way};
+ghost use Rattle.branch_tree.specs.Name.{Name};
 
 use crate::event::Worked;
 use crate::hand::Hand;
@@ -28,9 +28,9 @@ pub struct Worker {
 }
 
 impl Model for Worker {
-    ghost use Rattle.search_core.specs.Moments.{Seat};
+    ghost use Rattle.search_core.specs.World.{Worker};
 
-    ghost Value = { Seat };
+    ghost Value = { Worker };
 
     ghost view = { λ s. record {
       deque = s.deque.items;
@@ -73,7 +73,7 @@ impl Worker {
 
     /// The last name of its deque, in memory of its own.
     fn last(&self, alloc: Global) -> Result<Name, Illegal>
-        ensures { MatchResult result (λ name. (front : List Way) × (self.now.deque ≡ front ++ name ∷ [])) (IsUnmet (Unit {0}) (self.now.deque ≢ []) (Unit {0})) }
+        ensures { MatchResult result (λ name. (front : List Name) × (self.now.deque ≡ front ++ name ∷ [])) (IsUnmet (Unit {0}) (self.now.deque ≢ []) (Unit {0})) }
     {
         match self.deque.back() {
             Some(name) => Ok(name.copy(alloc)?),
@@ -117,7 +117,7 @@ impl Worker {
     /// A task goes to its hand.
     pub(crate) fn receive(&mut self, name: Name)
         requires { self.old.hand ≡ Empty }
-        ensures { Receives self.old name self.new }
+        ensures { TakesName self.old name self.new }
     {
         self.hand = Hand::Task(name);
     }

@@ -1,7 +1,7 @@
 //! What is a search at one moment, and what does an event make of it?
 
 ghost use Rattle.std.specs.Prelude.{◌≡◌, ◌≤◌, IfOk};
-ghost use Rattle.search_core.specs.Moments.{start};
+ghost use Rattle.search_core.specs.World.{start};
 ghost use Rattle.search_core.specs.Steps.{Answers, Runs};
 ghost use Rattle.search_core.specs.declared.event.Event.TheVariants.{Pop, Steal, Look, Work, Push, Offer, Rest};
 
@@ -22,9 +22,9 @@ pub struct World {
 }
 
 impl Model for World {
-    ghost use Rattle.search_core.specs.Moments.{Moment};
+    ghost use Rattle.search_core.specs.World.{World};
 
-    ghost Value = { Moment };
+    ghost Value = { World };
 
     ghost view = { λ s. record { best = s.best; seats = s.workers.items } };
 }

@@ -4,11 +4,11 @@ ghost use Rattle.std.specs.Prelude.{◌≤◌, ◌↔◌, IsTrue, MatchBool, len
 ghost use Rattle.planner.specs.Gathering.{AreShallow};
 
 use branch_tree::{Name, Piece};
-use certificate::{MOST_BRANCHES_ABOVE, Node, print};
+use certificate::{Branch, MOST_BRANCHES_ABOVE, Node, print};
 use planner::{GatherFault, gather};
 use std::alloc::Global;
 use std::test::Fail;
-use ttp_model::{Leaf, Steps};
+use ttp_model::{Kind, Leaf, Steps};
 
 /// What stands at a name.
 #[derive(Clone, Copy, Debug)]
@@ -24,8 +24,8 @@ enum Part {
 impl Part {
     fn node(self, alloc: Global) -> Node {
         match self {
-            Part::Place(children) => Node::Place { children },
-            Part::Pair(first, second) => Node::Pair { first, second },
+            Part::Place(children) => Node::Branch(Branch::new(Kind::Place, children)),
+            Part::Pair(first, second) => Node::Branch(Branch::new(Kind::Pair(first, second), 0)),
             Part::Leaf(goal) => Node::Leaf(Leaf {
                 goal,
                 steps: Steps::new(Vec::new(alloc)),

@@ -8,15 +8,15 @@ use Rattle.planner.specs.Answers as answers
 use Rattle.solve_command.specs.declared.solve.Solved.{Solved}
 use Rattle.command_streams.specs.declared.ending.Sink.TheVariants as sink
 use Rattle.command_streams.specs.declared.ending.Fault.{Fault}
-use Rattle.command_streams.specs.declared.ending.Fault.TheVariants.{NoMark, LossForm, Instance, Memory, PlanText, Plan, StatedDelay, CertificateText, Certificate, TooFewNodes, WrongLoss, Search, Unread, Unwritten}
+use Rattle.command_streams.specs.declared.ending.Fault.TheVariants.{NoMark, LossForm, InstanceText, Memory, PlanText, Plan, StatedDelay, CertificateText, Certificate, TooFewNodes, WrongLoss, Search, Unread, Unwritten}
 use Rattle.command_streams.specs.declared.ending.End.{End}
 use Rattle.command_streams.specs.declared.ending.End.TheVariants.{Refused}
-use Rattle.command_streams.specs.Outcomes.{IsOutcome}
-use Rattle.solve_command.specs.Solved.{IsCertified, IsCertifying, IsSolveAnswer, IsSolved, IsToldAnswer, IsUntold, IsWritingTo, end_of}
+use Rattle.command_streams.specs.Outcomes.{IsCommandAnswer}
+use Rattle.solve_command.specs.Solved.{IsCertified, IsCertifying, IsSolveAnswer, IsSolved, IsToldAnswer, IsUntold, IsWritingTo, end_told}
 use Rattle.command_streams.proofs.Outcomes.{keeps}
 
 -- an answer's text at the end of that answer
-at_end : (outcome : Outcome) (IsTextAt : End → List ℕ → Type 0) (IsRefusedBy : Fault → Type 0) (text : List ℕ) (old new : Option (List ℕ)) → IsTextAt (end_of outcome) text → Appends old new text → IsOutcome IsTextAt IsRefusedBy old new (end_of outcome)
+at_end : (outcome : Outcome) (IsTextAt : End → List ℕ → Type 0) (IsRefusedBy : Fault → Type 0) (text : List ℕ) (old new : Option (List ℕ)) → IsTextAt (end_told outcome) text → Appends old new text → IsCommandAnswer IsTextAt IsRefusedBy old new (end_told outcome)
 at_end (answer.Optimal plan ticks cert) IsTextAt IsRefusedBy text old new is appends = record { text = text; is = is; appends = appends }
 at_end (answer.Infeasible cert) IsTextAt IsRefusedBy text old new is appends = record { text = text; is = is; appends = appends }
 at_end (answer.Stopped why low best cert) IsTextAt IsRefusedBy text old new is appends = record { text = text; is = is; appends = appends }
@@ -24,14 +24,14 @@ at_end (answer.Stopped why low best cert) IsTextAt IsRefusedBy text old new is a
 module _ (bytes : List ℕ) (options : Options) where
   module _ (from to : Option (List ℕ)) (solved : Solved) (is : IsSolved bytes options solved) (old : Option (List ℕ)) where
     -- it is certified, and its text is written or the writer fails
-    told : (wanted : Bool) → IsCertified (answers.cert_of solved.outcome) from to → (new : Option (List ℕ)) (end : End) → IsWritingTo (end_of solved.outcome) solved.text.items old new end → IsSolveAnswer bytes options wanted from to old new end
+    told : (wanted : Bool) → IsCertified (answers.cert_of solved.outcome) from to → (new : Option (List ℕ)) (end : End) → IsWritingTo (end_told solved.outcome) solved.text.items old new end → IsSolveAnswer bytes options wanted from to old new end
     unfolding IsSolveAnswer
     told wanted certified new end writing =
-        let said : IsToldAnswer bytes options wanted from to (end_of solved.outcome) solved.text.items =
+        let said : IsToldAnswer bytes options wanted from to (end_told solved.outcome) solved.text.items =
         record { solved = solved; is = is; ends = refl; text_is = refl; certified = certified } in
         elim writing [
           | inl whole ↦ rw whole.0 (at_end solved.outcome (IsToldAnswer bytes options wanted from to) (IsUntold bytes options wanted from to) solved.text.items old new said whole.1)
-          | inr part ↦ rw part.0 (record { at = end_of solved.outcome; text = solved.text.items; is = said; part = part.1 })
+          | inr part ↦ rw part.0 (record { at = end_told solved.outcome; text = solved.text.items; is = said; part = part.1 })
         ]
 
     -- it isn't certified, and no text is written
@@ -42,7 +42,7 @@ module _ (bytes : List ℕ) (options : Options) where
     uncertified (Unwritten sink.Out) never = absurd never
     uncertified NoMark never = absurd never
     uncertified (LossForm k) never = absurd never
-    uncertified (Instance error) never = absurd never
+    uncertified (InstanceText error) never = absurd never
     uncertified (PlanText error) never = absurd never
     uncertified (Plan fault) never = absurd never
     uncertified (StatedDelay d) never = absurd never
@@ -54,7 +54,7 @@ module _ (bytes : List ℕ) (options : Options) where
     uncertified (Unread source) never = absurd never
 
 -- so it is of what a reader gives, where it tells
-pub told_of_reader : (a : Option (List ℕ)) (options : Options) (wanted : Bool) (from to old : Option (List ℕ)) (solved : Solved) → IfSome a (λ bytes. IsSolved bytes options solved) → IsCertified (answers.cert_of solved.outcome) from to → (new : Option (List ℕ)) (end : End) → IsWritingTo (end_of solved.outcome) solved.text.items old new end → IfSome a (λ bytes. IsSolveAnswer bytes options wanted from to old new end)
+pub told_of_reader : (a : Option (List ℕ)) (options : Options) (wanted : Bool) (from to old : Option (List ℕ)) (solved : Solved) → IfSome a (λ bytes. IsSolved bytes options solved) → IsCertified (answers.cert_of solved.outcome) from to → (new : Option (List ℕ)) (end : End) → IsWritingTo (end_told solved.outcome) solved.text.items old new end → IfSome a (λ bytes. IsSolveAnswer bytes options wanted from to old new end)
 told_of_reader None options wanted from to old solved is certified new end writing = tt
 told_of_reader (Some bytes) options wanted from to old solved is certified new end writing = told bytes options from to solved is old wanted certified new end writing
 

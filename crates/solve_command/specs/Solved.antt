@@ -4,9 +4,9 @@ use Rattle.std.proofs.Common.{inl, inr}
 use Rattle.std.specs.Borrow.{MutBor}
 use Rattle.std.specs.Io.KnownBytes.{Appends, Keeps}
 use Rattle.ttp_model.specs.declared.plan.Plan.{Plan as Table}
-use Rattle.ttp_model.specs.Problem.{Problem}
+use Rattle.ttp_model.specs.Instance.{Instance}
 use Rattle.plan_format.specs.Spelling as plan_text
-use Rattle.certificate.specs.Certificate.{Certificate as Cert}
+use Rattle.certificate.specs.Cert.{Cert}
 use Rattle.certificate.specs.Spelling as certificate_text
 use Rattle.planner.specs.declared.outcome.Options.{Options}
 use Rattle.planner.specs.declared.outcome.Outcome.{Outcome}
@@ -23,18 +23,18 @@ use Rattle.command_streams.specs.declared.ending.Sink.TheVariants as sink
 use Rattle.command_streams.specs.declared.ending.SearchFault.{SearchFault}
 use Rattle.command_streams.specs.declared.ending.SearchFault.TheVariants as search
 use Rattle.command_streams.specs.declared.ending.Fault.{Fault}
-use Rattle.command_streams.specs.declared.ending.Fault.TheVariants.{Instance, Memory, Search, Unread, Unwritten}
+use Rattle.command_streams.specs.declared.ending.Fault.TheVariants.{InstanceText, Memory, Search, Unread, Unwritten}
 use Rattle.command_streams.specs.declared.ending.End.{End}
 use Rattle.command_streams.specs.declared.ending.End.TheVariants.{Done, Absent, Stopped, Refused}
 use Rattle.command_streams.specs.Streams.{AppendsPart}
-use Rattle.command_streams.specs.Outcomes.{IsOutcome, IsWritten}
+use Rattle.command_streams.specs.Outcomes.{IsCommandAnswer, IsWritten}
 use Rattle.command_streams.specs.Instances.{HasInstance, IsInstanceFault, StatesSome}
 
 -- the end at which each answer is told
-abbrev pub end_of : Outcome → End
-end_of (answer.Optimal plan ticks cert) = Done
-end_of (answer.Infeasible cert) = Absent
-end_of (answer.Stopped why low best cert) = Stopped
+abbrev pub end_told : Outcome → End
+end_told (answer.Optimal plan ticks cert) = Done
+end_told (answer.Infeasible cert) = Absent
+end_told (answer.Stopped why low best cert) = Stopped
 
 -- what each fault of a search is told as
 abbrev pub fault_of : SolveFault → SearchFault
@@ -62,14 +62,14 @@ stopped_line why low best =
     codes "stopped " ++ (why_word why ++ (codes " " ++ (decimal low ++ (codes " " ++ (best_word best ++ 10 ∷ [])))))
 
 -- the text of a search that stopped: its line, and then the best plan found, where one was
-abbrev pub IsStoppedText : Problem → Why → ℕ → Option (Table × ℕ) → List ℕ → Type 0
+abbrev pub IsStoppedText : Instance → Why → ℕ → Option (Table × ℕ) → List ℕ → Type 0
 IsStoppedText i why low None text = text ≡ stopped_line why low None
 IsStoppedText i why low (Some best) text =
-    (plan : List ℕ) × plan_text.IsSpelled i plan best.0 best.1 × (text ≡ stopped_line why low (Some best.1) ++ plan)
+    (plan : List ℕ) × plan_text.SpellsPlan i plan best.0 best.1 × (text ≡ stopped_line why low (Some best.1) ++ plan)
 
 -- what is written of each answer
-abbrev pub IsAnswerText : Problem → Outcome → List ℕ → Type 0
-IsAnswerText i (answer.Optimal plan ticks cert) text = plan_text.IsSpelled i text plan ticks
+abbrev pub IsAnswerText : Instance → Outcome → List ℕ → Type 0
+IsAnswerText i (answer.Optimal plan ticks cert) text = plan_text.SpellsPlan i text plan ticks
 IsAnswerText i (answer.Infeasible cert) text = text ≡ codes "none\n"
 IsAnswerText i (answer.Stopped why low best cert) text = IsStoppedText i why low best text
 
@@ -84,7 +84,7 @@ pub record IsSolved (bytes : List ℕ) (options : Options) (solved : Solved) : T
 abbrev pub IsUnsolved : List ℕ → Fault → Type 0
 IsUnsolved bytes Memory = Unit {0}
 IsUnsolved bytes (Unread source.Instance) = Unit {0}
-IsUnsolved bytes (Instance error) = IsInstanceFault bytes (Instance error)
+IsUnsolved bytes (InstanceText error) = IsInstanceFault bytes (InstanceText error)
 IsUnsolved bytes (Search search.Memory) = StatesSome bytes
 IsUnsolved bytes _ = ⊥
 
@@ -96,12 +96,12 @@ IsWritingTo last text old new end =
 -- the writer gained a prefix of the certificate's text
 pub record IsCertificatePart (cert : Cert) (old new : Option (List ℕ)) : Type 0 where
   pub text : List ℕ
-  pub spelled : certificate_text.IsSpelled text cert
+  pub spelled : certificate_text.SpellsCert text cert
   pub part : AppendsPart old new text
 
 -- a writer that tells its bytes gained the certificate's text
 abbrev pub IsCertified : Cert → Option (List ℕ) → Option (List ℕ) → Type 0
-IsCertified cert old new = IfSome old (λ before. IsWritten (λ text. certificate_text.IsSpelled text cert) old new)
+IsCertified cert old new = IfSome old (λ before. IsWritten (λ text. certificate_text.SpellsCert text cert) old new)
 
 -- how the writing of a certificate ends: the writer gained its text, or a prefix where it failed, or nothing where
 -- memory was refused
@@ -117,7 +117,7 @@ module _ (bytes : List ℕ) (options : Options) (wanted : Bool) (from to : Optio
   pub record IsToldAnswer (end : End) (text : List ℕ) : Type 0 where
     pub solved : Solved
     pub is : IsSolved bytes options solved
-    pub ends : end ≡ end_of solved.outcome
+    pub ends : end ≡ end_told solved.outcome
     pub text_is : text ≡ solved.text.items
     pub certified : IsCertified (answers.cert_of solved.outcome) from to
 
@@ -135,7 +135,7 @@ module _ (bytes : List ℕ) (options : Options) (wanted : Bool) (from to : Optio
 
   -- what `solve` answers of the bytes of an instance, and what it writes: the certificate, and then the answer's text
   unfoldable pub IsSolveAnswer : Option (List ℕ) → Option (List ℕ) → End → Type 0
-  IsSolveAnswer = IsOutcome IsToldAnswer IsUntold
+  IsSolveAnswer = IsCommandAnswer IsToldAnswer IsUntold
 
 -- what the certificate's writer holds, where there is one
 abbrev pub held : {C : Type 0} → (C → Option (List ℕ)) → Option (MutBor C) → Option (List ℕ)

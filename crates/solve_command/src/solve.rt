@@ -2,7 +2,7 @@
 
 ghost use Rattle.std.specs.Prelude.{◌≡◌, None, true, false, is_some, string_bytes, IfOk, IfSome, MatchResult};
 ghost use Rattle.planner.specs.Answers.{cert_of, IsBestPlan, Shows};
-ghost use Rattle.solve_command.specs.Solved.{best_word, end_of, fault_of, held, left, stopped_line, why_word, IsAnswerText, IsCertifying, IsSolveAnswer, IsSolved, IsStoppedText, IsUnsolved, IsWritingTo};
+ghost use Rattle.solve_command.specs.Solved.{best_word, end_told, fault_of, held, left, stopped_line, why_word, IsAnswerText, IsCertifying, IsSolveAnswer, IsSolved, IsStoppedText, IsUnsolved, IsWritingTo};
 
 use certificate::Cert;
 use command_streams::{End, Fault, SearchFault, Sink, read_instance, write_text};
@@ -106,7 +106,7 @@ fn answer_text(
 
 /// The end at which an answer is told.
 fn end_of(outcome: &Outcome) -> End
-    ensures { result ≡ end_of outcome.now }
+    ensures { result ≡ end_told outcome.now }
 {
     match outcome {
         Outcome::Optimal { .. } => End::Done,
@@ -182,7 +182,7 @@ fn write_certificate<C: Write>(alloc: Global, cert: &Cert, out: &mut C) -> Resul
 
 /// Writes an answer's text, and ends as the answer does.
 fn write_answer<W: Write>(solved: &Solved, out: &mut W) -> End
-    ensures { IsWritingTo (end_of solved.now.outcome) solved.now.text.items
+    ensures { IsWritingTo (end_told solved.now.outcome) solved.now.text.items
         (W.contents out.old) (W.contents out.new) result }
 {
     match write_text(out, solved.text.as_slice()) {

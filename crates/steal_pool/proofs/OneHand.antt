@@ -4,7 +4,7 @@ use Rattle.std.specs.Prelude.{IsPermutation, Option, Some, None, MatchOption, If
 use Rattle.std.specs.List.{flat_map}
 use Rattle.std.proofs.lemmas.List.Sorted.{IsPermutation-trans, IsPermutation-append_right, IsPermutation-middle}
 use Rattle.crossbeam_deque.proofs.Lists.{at_index}
-use Rattle.branch_tree.specs.Tasks.{Subtree as Task}
+use Rattle.branch_tree.specs.Task.{Task}
 use Rattle.steal_pool.specs.declared.door.Door.{Door}
 use Rattle.steal_pool.specs.declared.account.Tally.{Tally}
 use Rattle.steal_pool.specs.Account.{Took}

@@ -3,7 +3,7 @@ use Rattle.std.specs.Prelude.{◌≡◌, ℕ, ◌+◌, ◌-◌, ◌≤◌, List,
 use Rattle.std.specs.List.{flat_map}
 use mathlib.Core.Option.{some}
 use lib.ListN.{get_elem?}
-use Rattle.branch_tree.specs.Tasks.{Subtree as Task}
+use Rattle.branch_tree.specs.Task.{Task}
 use Rattle.steal_pool.specs.declared.account.Tally.{Tally}
 
 -- the owner's pass, at first

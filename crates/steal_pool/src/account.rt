@@ -10,9 +10,9 @@ use std::marker::PhantomData;
 
 /// The instance whose tasks a pool holds. It exists in proofs alone, and who makes a pool picks it.
 pub trait Searched {
-    ghost use Rattle.ttp_model.specs.Problem.{Problem};
+    ghost use Rattle.ttp_model.specs.Instance.{Instance};
 
-    ghost instance: { Problem };
+    ghost instance: { Instance };
 }
 
 /// What a pass for a deque knows: the tasks that it pushed and took, and, for the owner's, how many others were made and
@@ -31,7 +31,7 @@ pub struct Fair<J: Searched> {
 }
 
 impl<J: Searched> Protocol<Task, Tally> for Fair<J> {
-    ghost use Rattle.branch_tree.specs.Tasks.{IsTask};
+    ghost use Rattle.branch_tree.specs.Task.{IsTask};
     ghost use Rattle.steal_pool.specs.Account.{Fits, opened, spent};
 
     ghost holds = { λ items views. Fits (IsTask J.instance) items views };
@@ -56,7 +56,7 @@ pub struct Takes<J: Searched> {
 }
 
 impl<J: Searched> Outcome<Task, Tally> for Takes<J> {
-    ghost use Rattle.branch_tree.specs.Tasks.{IsTask};
+    ghost use Rattle.branch_tree.specs.Task.{IsTask};
     ghost use Rattle.steal_pool.specs.Account.{Took, IsEmptied};
 
     ghost then = { λ v tasks w. Took (IsTask J.instance) v tasks w };

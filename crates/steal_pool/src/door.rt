@@ -18,7 +18,7 @@ pub struct Door<J: Searched> {
 
 impl<J: Searched> Door<J> {
     ghost use Rattle.std.specs.Prelude.{◌≡◌, [], ◌∷◌, ◌++◌, IfSome, MatchOption};
-    ghost use Rattle.branch_tree.specs.Tasks.{IsTask};
+    ghost use Rattle.branch_tree.specs.Task.{IsTask};
     ghost use Rattle.steal_pool.specs.Door.{deque_of, taken_by};
 
     /// The task at the front, if there was one and nobody else took it.

@@ -17,7 +17,7 @@ pub struct Drained<J: Searched> {
 
 impl<J: Searched> Drained<J> {
     ghost use Rattle.std.specs.Prelude.{◌≡◌, ◌∷◌, ◌<◌, IfNone, IfSome, IsPermutation};
-    ghost use Rattle.branch_tree.specs.Tasks.{IsTask};
+    ghost use Rattle.branch_tree.specs.Task.{IsTask};
     ghost use Rattle.steal_pool.specs.Drained.{left_there, pushed_there, taken_there};
 
     /// A task that is still in a deque, by its owner's pop; none once all are empty. Then each task was taken as often as it

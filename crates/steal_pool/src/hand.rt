@@ -21,7 +21,7 @@ pub struct Hand<J: Searched> {
 
 impl<J: Searched> Hand<J> {
     ghost use Rattle.std.specs.Prelude.{◌≡◌, ◌+◌, ◌-◌, [], ◌∷◌, ◌++◌, IfOk, OnOk, IfErr, IfSome, IfNone, OnErr, IsPermutation, vec_len, vec_capacity, ◌<◌, ◌≤◌};
-    ghost use Rattle.branch_tree.specs.Tasks.{IsTask};
+    ghost use Rattle.branch_tree.specs.Task.{IsTask};
     ghost use Rattle.steal_pool.specs.Hand.{pushed, taken, own_taken, own_deque, out_count, IsSameHand, IsFresh, OpensDoor, ClosesDoor, CountsOwn, IsWithin, BalancesAlone};
     ghost use Rattle.steal_pool.specs.Door.{deque_of, taken_by, deques_of};
 

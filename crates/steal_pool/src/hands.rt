@@ -2,7 +2,7 @@
 ghost use Rattle.std.specs.Prelude.{◌≡◌, ℕ, ◌<◌, [], ◌∷◌, length, vec_len, IfOk, OnOk, IfSome, IfNone, MatchOption, IsPermutation};
 ghost use mathlib.Core.Option.{some};
 ghost use lib.ListN.{get_elem?};
-ghost use Rattle.branch_tree.specs.Tasks.{IsTask};
+ghost use Rattle.branch_tree.specs.Task.{IsTask};
 ghost use Rattle.steal_pool.specs.Door.{deque_of};
 ghost use Rattle.steal_pool.specs.Hand.{own_deque, IsPool, all_pushed, all_taken, ChangesAt, AddsDoor, OpensDoor, ClosesDoor, PopsTask, PopsNone, CountsOwn, IsClosed, AllWithin};
 

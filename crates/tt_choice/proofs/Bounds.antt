@@ -1,31 +1,22 @@
 -- Each order and capacities that agree with a choice have times between the extremes.
-use Rattle.std.proofs.Common.{◌≡◌, ℕ, zero, suc, ◌-◌, ◌<◌, ◌≤◌, ◌==◌, List, ◌∷◌, length, slice_index, take, sum_by, arith, inl, inr, refl, add-one, ◌∙◌, sym, ap, length-take, Option, None, Some, Contains}
+use Rattle.std.proofs.Common.{◌≡◌, ℕ, zero, suc, ◌-◌, ◌<◌, ◌≤◌, ◌==◌, List, ◌∷◌, length, slice_index, take, arith, inl, inr, ◌∙◌, sym, ap, length-take, Option, None, Some, Contains}
 use Rattle.std.specs.List.Sorted.{IsStrictlyIncreasing}
 use Rattle.std.proofs.Math.Nat.{mul-le-mul_left, mul-le-mul_right}
-use Rattle.std.proofs.lemmas.List.Sums.{sum_by-cons, sum_by_more, prefix_len-le-length, fails_before_first, passes_at_first, position_or_len_is}
-use Rattle.std.proofs.lemmas.Bool.{cases_eq, cases_lt, eqb-true, eqb-false, lt-ltb, le-ltb}
+use Rattle.std.proofs.lemmas.List.Sums.{sum_by-cons, prefix_len-le-length, fails_before_first, passes_at_first, position_or_len_is}
+use Rattle.std.proofs.lemmas.Bool.{cases_lt, eqb-true, eqb-false, lt-ltb, le-ltb}
 use Rattle.std.proofs.lemmas.Grind.{common_steps, get_or_default_zero}
 use Rattle.ttp_model.specs.Lists.{HasNoRepeats}
-use Rattle.ttp_model.specs.Problem.{Problem, node_at}
+use Rattle.ttp_model.specs.Instance.{Instance, node_at}
 use Rattle.ttp_model.specs.Rules.{IsInstance}
 use Rattle.ttp_model.specs.Slots.{slot_duration, round_length, slot_start, slot_end, offset, duration}
-use Rattle.tt_choice.specs.Totals.{total}
-use Rattle.tt_choice.specs.Choices.{Chosen, fixed_cap, Agrees, IsFixedTo, IsChoice}
+use Rattle.ttp_model.specs.Totals.{total}
+use Rattle.ttp_model.proofs.Times.{rising_le}
+use Rattle.ttp_model.proofs.Totals.{total_le, total_longer, part_of_total, list_total, take_total}
+use Rattle.tt_choice.specs.Choice.{Choice, fixed_cap, Agrees, IsFixedTo, IsChoice}
 use Rattle.tt_choice.specs.Extremes.{least_option, most_option, cap_least, cap_most, dur_least, dur_most, place_of, offset_least, offset_most, start_least, start_most, end_least, end_most}
-use Rattle.tt_choice.proofs.Totals.{total_more, total_le, part_of_total}
 
 -- Capacities and durations.
-rising_le : (xs : List ℕ) → IsStrictlyIncreasing xs → (j k : ℕ) → j ≤ k → k < length xs → slice_index xs j ≤ slice_index xs k
-rising_le xs rising j zero le h = let same : j ≡ 0 = omega arith in omega (arith, ap (slice_index xs) same)
-rising_le xs rising j (suc k) le h = elim (cases_eq j (suc k)) [
-  | inl same ↦ omega (arith, ap (slice_index xs) same)
-  | inr other ↦
-      let rest = rising_le xs rising j k (omega (arith, other)) (omega arith) in
-      let next = rw add-one at (rising k (omega arith)) in
-      omega (arith, rest, next)
-]
-
-between : (i : Problem) (n capacity : ℕ) (o : Option ℕ) → IsStrictlyIncreasing (node_at i n).capacities → Contains (node_at i n).capacities capacity → IsFixedTo o capacity → (least_option i n o ≤ capacity) × (capacity ≤ most_option i n o)
+between : (i : Instance) (n capacity : ℕ) (o : Option ℕ) → IsStrictlyIncreasing (node_at i n).capacities → Contains (node_at i n).capacities capacity → IsFixedTo o capacity → (least_option i n o ≤ capacity) × (capacity ≤ most_option i n o)
 between i n capacity None rising own fixed =
     let xs = (node_at i n).capacities in
     let here : slice_index xs own.0 ≡ capacity = sym (get_or_default_zero xs own.0 capacity own.1) ∙ own.2 in
@@ -34,36 +25,16 @@ between i n capacity None rising own fixed =
     (omega (arith, here, low), omega (arith, here, high))
 between i n capacity (Some k) rising own fixed = (omega (arith, fixed), omega (arith, fixed))
 
-pub capacity_between : (i : Problem) (c : Chosen) (order caps : List ℕ) (n : ℕ) → IsInstance i → Agrees i c order caps → n < length i.nodes → (cap_least i c n ≤ slice_index caps n) × (slice_index caps n ≤ cap_most i c n)
+pub capacity_between : (i : Instance) (c : Choice) (order caps : List ℕ) (n : ℕ) → IsInstance i → Agrees i c order caps → n < length i.nodes → (cap_least i c n ≤ slice_index caps n) × (slice_index caps n ≤ cap_most i c n)
 capacity_between i c order caps n w a h = between i n (slice_index caps n) (fixed_cap c n) (w.capacities n h).rising (a.own n h).own (a.fixed n h)
 
-pub duration_between : (i : Problem) (c : Chosen) (order caps : List ℕ) (n : ℕ) → IsInstance i → Agrees i c order caps → n < length i.nodes → (dur_least i c n ≤ duration i.cluster caps n) × (duration i.cluster caps n ≤ dur_most i c n)
+pub duration_between : (i : Instance) (c : Choice) (order caps : List ℕ) (n : ℕ) → IsInstance i → Agrees i c order caps → n < length i.nodes → (dur_least i c n ≤ duration i.cluster caps n) × (duration i.cluster caps n ≤ dur_most i c n)
 duration_between i c order caps n w a h =
     let b = capacity_between i c order caps n w a h in
     (omega (arith, mul-le-mul_left i.cluster.per_byte b.0), omega (arith, mul-le-mul_left i.cluster.per_byte b.1))
 
--- Sums over lists, as sums over places.
-pub take_total : (f : ℕ → ℕ) (xs : List ℕ) (j : ℕ) → j ≤ length xs → sum_by f (take j xs) ≡ total (λ k. f (slice_index xs k)) j
-take_total f xs zero h = refl
-take_total f xs (suc j) h =
-    let rest = take_total f xs j (omega arith) in
-    let more = rw add-one at (sum_by_more f xs j 0 (omega arith)) in
-    omega (arith, rest, more, total_more (λ k. f (slice_index xs k)) j)
-
-take_whole : (xs : List ℕ) → take (length xs) xs ≡ xs
-take_whole xs = grind (arith, common_steps)
-
-pub list_total : (f : ℕ → ℕ) (xs : List ℕ) → sum_by f xs ≡ total (λ k. f (slice_index xs k)) (length xs)
-list_total f xs = sym (ap (sum_by f) (take_whole xs)) ∙ take_total f xs (length xs) (omega arith)
-
-pub total_longer : (f : ℕ → ℕ) (j k : ℕ) → j ≤ k → total f j ≤ total f k
-total_longer f j zero le = let same : j ≡ 0 = omega arith in omega (arith, ap (total f) same)
-total_longer f j (suc k) le = elim (cases_eq j (suc k)) [
-  | inl same ↦ omega (arith, ap (total f) same)
-  | inr other ↦ omega (arith, total_more f k, total_longer f j k (omega (arith, other)))
-]
-
-pub round_between : (i : Problem) (c : Chosen) (order caps : List ℕ) → IsInstance i → Agrees i c order caps → (total (dur_least i c) (length i.nodes) ≤ round_length i.cluster caps) × (round_length i.cluster caps ≤ total (dur_most i c) (length i.nodes))
+-- Rounds.
+pub round_between : (i : Instance) (c : Choice) (order caps : List ℕ) → IsInstance i → Agrees i c order caps → (total (dur_least i c) (length i.nodes) ≤ round_length i.cluster caps) × (round_length i.cluster caps ≤ total (dur_most i c) (length i.nodes))
 round_between i c order caps w a =
     let is = list_total (slot_duration i.cluster) caps in
     let count = ap (total (duration i.cluster caps)) a.caps_length in
@@ -76,7 +47,7 @@ pub place_le : (n : ℕ) (xs : List ℕ) → place_of n xs ≤ length xs
 place_le n xs = prefix_len-le-length _ xs
 
 -- the place in the prefix is at most that in the order, and the same where n is placed
-place_below : (i : Problem) (c : Chosen) (order caps : List ℕ) (n : ℕ) → IsChoice i c → Agrees i c order caps → place_of n c.prefix ≤ place_of n order
+place_below : (i : Instance) (c : Choice) (order caps : List ℕ) (n : ℕ) → IsChoice i c → Agrees i c order caps → place_of n c.prefix ≤ place_of n order
 place_below i c order caps n ok a = elim (cases_lt (place_of n order) (place_of n c.prefix)) [
   | inl sooner ↦
       let within : place_of n order < length order = omega (arith, sooner, place_le n c.prefix, ok.few, a.nodes.all) in
@@ -87,20 +58,20 @@ place_below i c order caps n ok a = elim (cases_lt (place_of n order) (place_of 
   | inr later ↦ later
 ]
 
-pub place_same : (i : Problem) (c : Chosen) (order caps : List ℕ) (n : ℕ) → IsChoice i c → Agrees i c order caps → place_of n c.prefix < length c.prefix → place_of n order ≡ place_of n c.prefix
+pub place_same : (i : Instance) (c : Choice) (order caps : List ℕ) (n : ℕ) → IsChoice i c → Agrees i c order caps → place_of n c.prefix < length c.prefix → place_of n order ≡ place_of n c.prefix
 place_same i c order caps n ok a h =
     position_or_len_is (λ m. m == n) order (place_of n c.prefix) 0 (omega (arith, h, ok.few, a.nodes.all))
     (λ k lt. rw (a.prefix k (omega (arith, lt, h))) (fails_before_first (λ m. m == n) c.prefix k 0 lt))
     (λ lt. rw (a.prefix (place_of n c.prefix) h) (passes_at_first (λ m. m == n) c.prefix 0 h))
 
 -- a node of the order is one of the instance
-node_at_place : (i : Problem) (c : Chosen) (order caps : List ℕ) (k : ℕ) → Agrees i c order caps → k < length order → slice_index order k < length i.nodes
+node_at_place : (i : Instance) (c : Choice) (order caps : List ℕ) (k : ℕ) → Agrees i c order caps → k < length order → slice_index order k < length i.nodes
 node_at_place i c order caps k a h = (a.nodes.each k (omega (arith, h, a.nodes.all))).node
 
-pub offset_is : (i : Problem) (caps order : List ℕ) (n : ℕ) → offset i.cluster order caps n ≡ total (λ k. duration i.cluster caps (slice_index order k)) (place_of n order)
+pub offset_is : (i : Instance) (caps order : List ℕ) (n : ℕ) → offset i.cluster order caps n ≡ total (λ k. duration i.cluster caps (slice_index order k)) (place_of n order)
 offset_is i caps order n = take_total (duration i.cluster caps) order (place_of n order) (place_le n order)
 
-pub offset_above : (i : Problem) (c : Chosen) (order caps : List ℕ) (n : ℕ) → IsInstance i → IsChoice i c → Agrees i c order caps → offset_least i c n ≤ offset i.cluster order caps n
+pub offset_above : (i : Instance) (c : Choice) (order caps : List ℕ) (n : ℕ) → IsInstance i → IsChoice i c → Agrees i c order caps → offset_least i c n ≤ offset i.cluster order caps n
 offset_above i c order caps n w ok a =
     let j = place_of n c.prefix in
     let f = λ (k : ℕ). duration i.cluster caps (slice_index order k) in
@@ -121,7 +92,7 @@ before_whole : (xs : List ℕ) (j k : ℕ) → k < length (take j xs) → k < le
 before_whole xs j k lt = omega (arith, length-take j xs)
 
 -- n and the nodes before it are different
-before_once : (i : Problem) (c : Chosen) (order caps : List ℕ) (n : ℕ) → Agrees i c order caps → HasNoRepeats (n ∷ take (place_of n order) order)
+before_once : (i : Instance) (c : Choice) (order caps : List ℕ) (n : ℕ) → Agrees i c order caps → HasNoRepeats (n ∷ take (place_of n order) order)
 before_once i c order caps n a zero zero lt within = absurd (omega arith)
 before_once i c order caps n a (suc j) zero lt within = absurd (omega arith)
 before_once i c order caps n a zero (suc k) lt within =
@@ -134,7 +105,7 @@ before_once i c order caps n a (suc j) (suc k) lt within =
     let not = (a.nodes.each k (omega (arith, here, place_le n order, a.nodes.all))).first j (omega arith) in
     λ same. not (sym (at_take order (place_of n order) j there) ∙ same ∙ at_take order (place_of n order) k here)
 
-pub offset_below : (i : Problem) (c : Chosen) (order caps : List ℕ) (n : ℕ) → IsInstance i → IsChoice i c → Agrees i c order caps → n < length i.nodes → offset i.cluster order caps n ≤ offset_most i c n
+pub offset_below : (i : Instance) (c : Choice) (order caps : List ℕ) (n : ℕ) → IsInstance i → IsChoice i c → Agrees i c order caps → n < length i.nodes → offset i.cluster order caps n ≤ offset_most i c n
 offset_below i c order caps n w ok a inside =
     let f = λ (k : ℕ). duration i.cluster caps (slice_index order k) in
     let g = λ (k : ℕ). dur_most i c (slice_index order k) in
@@ -165,26 +136,26 @@ offset_below i c order caps n w ok a inside =
         rw (at_take order spot k here) (node_at_place i c order caps k a there)
 
 -- Times.
-pub start_between : (i : Problem) (c : Chosen) (order caps : List ℕ) (n r : ℕ) → IsInstance i → IsChoice i c → Agrees i c order caps → n < length i.nodes → (start_least i c n r ≤ slot_start i.cluster order caps n r) × (slot_start i.cluster order caps n r ≤ start_most i c n r)
+pub start_between : (i : Instance) (c : Choice) (order caps : List ℕ) (n r : ℕ) → IsInstance i → IsChoice i c → Agrees i c order caps → n < length i.nodes → (start_least i c n r ≤ slot_start i.cluster order caps n r) × (slot_start i.cluster order caps n r ≤ start_most i c n r)
 start_between i c order caps n r w ok a h =
     let round = round_between i c order caps w a in
     (omega (arith, mul-le-mul_left r round.0, offset_above i c order caps n w ok a), omega (arith, mul-le-mul_left r round.1, offset_below i c order caps n w ok a h))
 
-pub end_between : (i : Problem) (c : Chosen) (order caps : List ℕ) (n r : ℕ) → IsInstance i → IsChoice i c → Agrees i c order caps → n < length i.nodes → (end_least i c n r ≤ slot_end i.cluster order caps n r) × (slot_end i.cluster order caps n r ≤ end_most i c n r)
+pub end_between : (i : Instance) (c : Choice) (order caps : List ℕ) (n r : ℕ) → IsInstance i → IsChoice i c → Agrees i c order caps → n < length i.nodes → (end_least i c n r ≤ slot_end i.cluster order caps n r) × (slot_end i.cluster order caps n r ≤ end_most i c n r)
 end_between i c order caps n r w ok a h =
     let s = start_between i c order caps n r w ok a h in
     let d = duration_between i c order caps n w a h in
     (omega (arith, s.0, d.0), omega (arith, s.1, d.1))
 
 -- a later round is later
-pub start_least_later : (i : Problem) (c : Chosen) (n r s : ℕ) → r ≤ s → start_least i c n r ≤ start_least i c n s
+pub start_least_later : (i : Instance) (c : Choice) (n r s : ℕ) → r ≤ s → start_least i c n r ≤ start_least i c n s
 start_least_later i c n r s le = omega (arith, mul-le-mul_right (total (dur_least i c) (length i.nodes)) le)
 
-pub start_most_later : (i : Problem) (c : Chosen) (n r s : ℕ) → r ≤ s → start_most i c n r ≤ start_most i c n s
+pub start_most_later : (i : Instance) (c : Choice) (n r s : ℕ) → r ≤ s → start_most i c n r ≤ start_most i c n s
 start_most_later i c n r s le = omega (arith, mul-le-mul_right (total (dur_most i c) (length i.nodes)) le)
 
-pub end_least_later : (i : Problem) (c : Chosen) (n r s : ℕ) → r ≤ s → end_least i c n r ≤ end_least i c n s
+pub end_least_later : (i : Instance) (c : Choice) (n r s : ℕ) → r ≤ s → end_least i c n r ≤ end_least i c n s
 end_least_later i c n r s le = omega (arith, start_least_later i c n r s le)
 
-pub end_most_later : (i : Problem) (c : Chosen) (n r s : ℕ) → r ≤ s → end_most i c n r ≤ end_most i c n s
+pub end_most_later : (i : Instance) (c : Choice) (n r s : ℕ) → r ≤ s → end_most i c n r ≤ end_most i c n s
 end_most_later i c n r s le = omega (arith, start_most_later i c n r s le)

@@ -2,14 +2,14 @@
 use Rattle.std.proofs.Common.{ℕ, ◌+◌, ◌*◌, ◌<◌, ◌≤◌, [], ◌∷◌, ◌++◌, length, slice_index, true, IsTrue, None, Some, arith, inl, inr, sym, ◌∙◌, get_or-set_other, get_or-set_same, length-set}
 use Rattle.std.proofs.lemmas.Bool.{cases_eq}
 use Rattle.std.proofs.lemmas.List.Elements.{Contains-get_or}
-use Rattle.ttp_model.specs.Problem.{Problem, node_at}
-use Rattle.tt_choice.specs.Choices.{Chosen, fixed_cap, is_before, hi_of, IsOption, ArePair, IsChoice}
+use Rattle.ttp_model.specs.Instance.{Instance, node_at}
+use Rattle.tt_choice.specs.Choice.{Choice, fixed_cap, is_before, greatest_round, IsOption, ArePair, IsChoice}
 use Rattle.tt_choice.specs.Branches.{place_next, fix_option, order_pair, at_most, at_least, IsUnplaced, IsUnorderedPair, CutsRange}
 use Rattle.tt_choice.proofs.Extend.{AreNodes, one_more, off, length_le}
 use Rattle.tt_choice.proofs.Pairs.{pair_then, order_pair_left}
 
 -- a pair of the new choice is the new one or an old one
-new_pairs : (i : Problem) (c : Chosen) (p q : ℕ) → IsChoice i c → ArePair i p q → (j k : ℕ) → IsTrue (is_before (order_pair c p q) j k) → ArePair i j k
+new_pairs : (i : Instance) (c : Choice) (p q : ℕ) → IsChoice i c → ArePair i p q → (j k : ℕ) → IsTrue (is_before (order_pair c p q) j k) → ArePair i j k
 new_pairs i c p q ok pair j k holds = elim (cases_eq j p) [
   | inr row ↦ ok.pairs j k (sym (pair_then i c p q j k ok pair (inl row)) ∙ holds)
   | inl first ↦ elim (cases_eq k q) [
@@ -18,7 +18,7 @@ new_pairs i c p q ok pair j k holds = elim (cases_eq j p) [
   ]
 ]
 
-pub IsChoice-place : (i : Problem) (c : Chosen) (n : ℕ) → IsChoice i c → IsUnplaced i c n → IsChoice i (place_next c n)
+pub IsChoice-place : (i : Instance) (c : Choice) (n : ℕ) → IsChoice i c → IsUnplaced i c n → IsChoice i (place_next c n)
 unfolding AreNodes
 IsChoice-place i c n ok is =
     let more = one_more (length i.nodes) c.prefix n (ok.nodes, ok.once) is.node (off n c.prefix is.new) in
@@ -38,7 +38,7 @@ IsChoice-place i c n ok is =
       within = ok.within;
     }
 
-pub IsChoice-fix : (i : Problem) (c : Chosen) (n k : ℕ) → IsChoice i c → n < length i.nodes → k < length (node_at i n).capacities → IsChoice i (fix_option i c n k)
+pub IsChoice-fix : (i : Instance) (c : Choice) (n k : ℕ) → IsChoice i c → n < length i.nodes → k < length (node_at i n).capacities → IsChoice i (fix_option i c n k)
 IsChoice-fix i c n k ok inside option = record {
   few = ok.few;
   nodes = ok.nodes;
@@ -63,7 +63,7 @@ IsChoice-fix i c n k ok inside option = record {
       | inr other ↦ rw (get_or-set_other c.fixed n m (Some (slice_index (node_at i n).capacities k)) None other) (ok.options m h)
     ]
 
-pub IsChoice-order : (i : Problem) (c : Chosen) (p q : ℕ) → IsChoice i c → IsUnorderedPair i c p q → IsChoice i (order_pair c p q)
+pub IsChoice-order : (i : Instance) (c : Choice) (p q : ℕ) → IsChoice i c → IsUnorderedPair i c p q → IsChoice i (order_pair c p q)
 IsChoice-order i c p q ok is = record {
   few = ok.few;
   nodes = ok.nodes;
@@ -80,7 +80,7 @@ IsChoice-order i c p q ok is = record {
   within = ok.within;
 }
 
-pub IsChoice-at_most : (i : Problem) (c : Chosen) (m r : ℕ) → IsChoice i c → CutsRange i c m r → IsChoice i (at_most c m r)
+pub IsChoice-at_most : (i : Instance) (c : Choice) (m r : ℕ) → IsChoice i c → CutsRange i c m r → IsChoice i (at_most c m r)
 IsChoice-at_most i c m r ok is = record {
   few = ok.few;
   nodes = ok.nodes;
@@ -103,7 +103,7 @@ IsChoice-at_most i c m r ok is = record {
   ];
 }
 
-pub IsChoice-at_least : (i : Problem) (c : Chosen) (m r : ℕ) → IsChoice i c → m < length i.messages → r ≤ hi_of c m → IsChoice i (at_least c m r)
+pub IsChoice-at_least : (i : Instance) (c : Choice) (m r : ℕ) → IsChoice i c → m < length i.messages → r ≤ greatest_round c m → IsChoice i (at_least c m r)
 IsChoice-at_least i c m r ok inside to = record {
   few = ok.few;
   nodes = ok.nodes;

@@ -1,5 +1,5 @@
 -- All children of a branch, listed one after another.
-use Rattle.std.proofs.Common.{◌≡◌, ℕ, zero, suc, ◌+◌, ◌<◌, not, List, [], ◌∷◌, ◌++◌, All, length, slice_index, filter, map, Bool, true, false, arith, refl, sym, ap, ◌∙◌, add-one, zero-add}
+use Rattle.std.proofs.Common.{◌≡◌, ℕ, ◌+◌, ◌<◌, not, List, [], ◌∷◌, ◌++◌, All, length, slice_index, filter, map, Bool, true, false, arith, sym, ap, ◌∙◌, zero-add}
 use Rattle.std.specs.List.{range_with_len}
 use Rattle.std.proofs.lemmas.List.{same_lists, get_or-map, length-map, map-append}
 use Rattle.std.proofs.lemmas.List.Elements.{filter-append}
@@ -7,20 +7,11 @@ use Rattle.std.proofs.lemmas.List.FromFn.{length-map-range_with_len, get_or-map-
 use Rattle.std.proofs.lemmas.Grind.{common_steps}
 use Rattle.ttp_model.specs.declared.step.Kind.{Kind}
 use Rattle.ttp_model.specs.declared.step.Kind.TheVariants.{Place}
-use Rattle.ttp_model.specs.Problem.{Problem}
-use Rattle.tt_choice.specs.Choices.{Chosen, IsChoice}
+use Rattle.ttp_model.specs.Instance.{Instance}
+use Rattle.ttp_model.proofs.Ranges.{range_more}
+use Rattle.tt_choice.specs.Choice.{Choice, IsChoice}
 use Rattle.tt_choice.specs.Branches.{is_placed, unplaced, place_next, IsOpen, children, child, child_choices}
 use Rattle.tt_choice.proofs.Children.{IsChoice-child}
-
-range_after : (a n : ℕ) → range_with_len a (suc n) ≡ range_with_len a n ++ (a + n) ∷ []
-range_after a zero = let here : a ≡ a + 0 = omega arith in ap (λ x. x ∷ []) here
-range_after a (suc n) =
-    let last : a + 1 + n ≡ a + suc n = omega arith in
-    rw (range_after (a + 1) n, last) refl
-
--- one number more
-range_more : (n : ℕ) → range_with_len 0 (n + 1) ≡ range_with_len 0 n ++ n ∷ []
-range_more n = rw (add-one, range_after 0 n) (ap (λ x. range_with_len 0 n ++ x ∷ []) (zero-add n))
 
 -- a list's elements, one after another
 each_again : {X : Type 0} (g : ℕ → X) (xs : List ℕ) → map (λ k. g (slice_index xs k)) (range_with_len 0 (length xs)) ≡ map g xs
@@ -35,19 +26,23 @@ passing_more : (p : ℕ → Bool) (n : ℕ) → filter p (range_with_len 0 (n + 
 passing_more p n = ap (filter p) (range_more n) ∙ filter-append p (range_with_len 0 n) (n ∷ [])
 
 -- a node that isn't placed is one child more
-pub next_more : (c : Chosen) (n : ℕ) → is_placed c n ≡ false → map (place_next c) (filter (λ m. not (is_placed c m)) (range_with_len 0 n)) ++ place_next c n ∷ [] ≡ map (place_next c) (filter (λ m. not (is_placed c m)) (range_with_len 0 (n + 1)))
+pub next_more : (c : Choice) (n : ℕ) → is_placed c n ≡ false → map (place_next c) (filter (λ m. not (is_placed c m)) (range_with_len 0 n)) ++ place_next c n ∷ [] ≡ map (place_next c) (filter (λ m. not (is_placed c m)) (range_with_len 0 (n + 1)))
 next_more c n new = rw (passing_more (λ m. not (is_placed c m)) n, new) (sym (map-append (place_next c) (filter (λ m. not (is_placed c m)) (range_with_len 0 n)) (n ∷ [])))
 
 -- a node that is placed is none
-pub next_same : (c : Chosen) (n : ℕ) → is_placed c n ≡ true → map (place_next c) (filter (λ m. not (is_placed c m)) (range_with_len 0 n)) ≡ map (place_next c) (filter (λ m. not (is_placed c m)) (range_with_len 0 (n + 1)))
+pub next_same : (c : Choice) (n : ℕ) → is_placed c n ≡ true → map (place_next c) (filter (λ m. not (is_placed c m)) (range_with_len 0 n)) ≡ map (place_next c) (filter (λ m. not (is_placed c m)) (range_with_len 0 (n + 1)))
 next_same c n placed = rw (passing_more (λ m. not (is_placed c m)) n, placed) (grind (arith, common_steps))
 
 -- the unplaced nodes put next are the children of a place
-pub placed_each : (i : Problem) (c : Chosen) → map (place_next c) (unplaced i c) ≡ child_choices i c Place
+pub placed_each : (i : Instance) (c : Choice) → map (place_next c) (unplaced i c) ≡ child_choices i c Place
 placed_each i c = sym (each_again (place_next c) (unplaced i c))
 
+-- as many as the branch has
+pub length-child_choices : (i : Instance) (c : Choice) (kind : Kind) → length (child_choices i c kind) ≡ children i c kind
+length-child_choices i c kind = length-map-range_with_len (child i c kind) 0 (children i c kind)
+
 -- each child is a choice of the instance
-pub children_are : (i : Problem) (c : Chosen) (kind : Kind) → IsChoice i c → IsOpen i c kind → All (IsChoice i) (child_choices i c kind)
+pub children_are : (i : Instance) (c : Choice) (kind : Kind) → IsChoice i c → IsOpen i c kind → All (IsChoice i) (child_choices i c kind)
 children_are i c kind ok is_open = λ k d h.
-    let inside : k < children i c kind = rw (← length-map-range_with_len (child i c kind) 0 (children i c kind)) h in
+    let inside : k < children i c kind = rw (← length-child_choices i c kind) h in
     rw (get_or-map-range_with_len (child i c kind) 0 (children i c kind) k k d inside (zero-add k)) (IsChoice-child i c kind k ok is_open inside)

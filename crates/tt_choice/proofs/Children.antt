@@ -5,15 +5,15 @@ use Rattle.std.proofs.lemmas.Grind.{get_or_default_zero}
 use Rattle.ttp_model.specs.declared.plan.Plan.{Plan}
 use Rattle.ttp_model.specs.declared.step.Kind.{Kind}
 use Rattle.ttp_model.specs.declared.step.Kind.TheVariants.{Place, Cap, Pair, Round}
-use Rattle.ttp_model.specs.Problem.{Problem, node_at}
+use Rattle.ttp_model.specs.Instance.{Instance, node_at}
 use Rattle.ttp_model.specs.Plans.{IsValid, EndsBefore, round_of}
-use Rattle.tt_choice.specs.Choices.{Chosen, IsIn, ArePair, IsChoice}
+use Rattle.tt_choice.specs.Choice.{Choice, IsIn, ArePair, IsChoice}
 use Rattle.tt_choice.specs.Branches.{unplaced, IsUnorderedPair, IsOpen, children, child}
 use Rattle.tt_choice.proofs.Unplaced.{IsUnplaced-listed, unplaced_place, IsUnplaced-next}
 use Rattle.tt_choice.proofs.Members.{IsIn-place, IsIn-fix, IsIn-order, IsIn-at_most, IsIn-at_least}
 use Rattle.tt_choice.proofs.Changes.{IsChoice-place, IsChoice-fix, IsChoice-order, IsChoice-at_most, IsChoice-at_least}
 
-pub turned : (i : Problem) (c : Chosen) (p q : ℕ) → IsUnorderedPair i c p q → IsUnorderedPair i c q p
+pub turned : (i : Instance) (c : Choice) (p q : ℕ) → IsUnorderedPair i c p q → IsUnorderedPair i c q p
 turned i c p q is = record {
   pair = record { first = is.pair.second; second = is.pair.first; two = λ same. is.pair.two (sym same); one_node = sym is.pair.one_node };
   not_before = is.not_after;
@@ -21,7 +21,7 @@ turned i c p q is = record {
 }
 
 -- a child is a choice of the instance
-pub IsChoice-child : (i : Problem) (c : Chosen) (kind : Kind) (k : ℕ) → IsChoice i c → IsOpen i c kind → k < children i c kind → IsChoice i (child i c kind k)
+pub IsChoice-child : (i : Instance) (c : Choice) (kind : Kind) (k : ℕ) → IsChoice i c → IsOpen i c kind → k < children i c kind → IsChoice i (child i c kind k)
 IsChoice-child i c Place k ok is inside = IsChoice-place i c (slice_index (unplaced i c) k) ok (IsUnplaced-listed i c k inside)
 IsChoice-child i c (Cap n) k ok is inside = IsChoice-fix i c n k ok is.0 inside
 IsChoice-child i c (Pair p q) zero ok is inside = IsChoice-order i c p q ok is
@@ -30,7 +30,7 @@ IsChoice-child i c (Round m r) zero ok is inside = IsChoice-at_most i c m r ok i
 IsChoice-child i c (Round m r) (suc k) ok is inside = IsChoice-at_least i c m (r + 1) ok is.message (omega (arith, is.below))
 
 -- a plan of a child is one of the choice
-pub IsIn-child : (i : Problem) (c : Chosen) (kind : Kind) (k : ℕ) (plan : Plan) → IsChoice i c → IsOpen i c kind → k < children i c kind → IsIn i (child i c kind k) plan → IsIn i c plan
+pub IsIn-child : (i : Instance) (c : Choice) (kind : Kind) (k : ℕ) (plan : Plan) → IsChoice i c → IsOpen i c kind → k < children i c kind → IsIn i (child i c kind k) plan → IsIn i c plan
 IsIn-child i c Place k plan ok is inside v = ((IsIn-place i c plan (slice_index (unplaced i c) k)).0 v).0
 IsIn-child i c (Cap n) k plan ok is inside v = ((IsIn-fix i c plan n k ok is.0 is.1).0 v).0
 IsIn-child i c (Pair p q) zero plan ok is inside v = ((IsIn-order i c plan p q ok is).0 v).0
@@ -39,7 +39,7 @@ IsIn-child i c (Round m r) zero plan ok is inside v = ((IsIn-at_most i c plan m 
 IsIn-child i c (Round m r) (suc k) plan ok is inside v = ((IsIn-at_least i c plan m (r + 1) ok is.message (omega (arith, is.from))).0 v).0
 
 -- two processes of one node in a valid plan
-one_first : (i : Problem) (plan : Plan) (p q : ℕ) → IsValid i plan → ArePair i p q → EndsBefore i plan p q ⊎ EndsBefore i plan q p
+one_first : (i : Instance) (plan : Plan) (p q : ℕ) → IsValid i plan → ArePair i p q → EndsBefore i plan p q ⊎ EndsBefore i plan q p
 one_first i plan p q v is = elim (cases_order p q) [
   | inl same ↦ absurd (is.two same)
   | inr apart ↦ elim apart [
@@ -49,7 +49,7 @@ one_first i plan p q v is = elim (cases_order p q) [
 ]
 
 -- a valid plan of the choice is one of a child
-pub child-IsIn : (i : Problem) (c : Chosen) (kind : Kind) (plan : Plan) → IsChoice i c → IsOpen i c kind → IsValid i plan → IsIn i c plan → (k : ℕ) × (k < children i c kind) × IsIn i (child i c kind k) plan
+pub child-IsIn : (i : Instance) (c : Choice) (kind : Kind) (plan : Plan) → IsChoice i c → IsOpen i c kind → IsValid i plan → IsIn i c plan → (k : ℕ) × (k < children i c kind) × IsIn i (child i c kind k) plan
 child-IsIn i c Place plan ok is v there =
     let n = slice_index plan.order (length c.prefix) in
     let place = unplaced_place i c n (IsUnplaced-next i c plan.order v.order there.prefix is) in

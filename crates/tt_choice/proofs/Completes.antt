@@ -1,13 +1,13 @@
 -- A choice is complete where nothing is left to choose.
 use Rattle.std.proofs.Common.{◌≡◌, ℕ, ◌<◌, ◌==◌, length, IsSome, arith, inl, inr, sym, ◌∙◌}
 use Rattle.std.proofs.lemmas.Bool.{cases_Bool, eqb-true, or_left, or_right}
-use Rattle.ttp_model.specs.Problem.{Problem, node_of}
-use Rattle.tt_choice.specs.Choices.{Chosen, fixed_cap, is_before, lo_of, hi_of, unordered_below, unordered_pairs, IsOrdered, IsChoice, IsComplete}
-use Rattle.tt_choice.proofs.Totals.{total_zero, total_none}
+use Rattle.ttp_model.specs.Instance.{Instance, node_of}
+use Rattle.ttp_model.proofs.Totals.{total_zero, total_none}
+use Rattle.tt_choice.specs.Choice.{Choice, fixed_cap, is_before, least_round, greatest_round, unordered_below, unordered_pairs, IsOrdered, IsChoice, IsComplete}
 use Rattle.tt_choice.proofs.Pairs.{count_of, free_count, ordered_count, strange_count}
 
 -- no pair is left
-ordered_from : (i : Problem) (c : Chosen) → unordered_pairs i c ≡ 0 → (p q : ℕ) → q < p → p < length i.processes → IsOrdered i c p q
+ordered_from : (i : Instance) (c : Choice) → unordered_pairs i c ≡ 0 → (p q : ℕ) → q < p → p < length i.processes → IsOrdered i c p q
 unfolding count_of
 ordered_from i c none p q below inside same =
     let row = total_zero (unordered_below i c) (length i.processes) none p inside in
@@ -20,7 +20,7 @@ ordered_from i c none p q below inside same =
       ]
     ]
 
-none_from : (i : Problem) (c : Chosen) → ((p q : ℕ) → q < p → p < length i.processes → IsOrdered i c p q) → unordered_pairs i c ≡ 0
+none_from : (i : Instance) (c : Choice) → ((p q : ℕ) → q < p → p < length i.processes → IsOrdered i c p q) → unordered_pairs i c ≡ 0
 unfolding count_of
 none_from i c all =
     total_none (unordered_below i c) (length i.processes) (λ p inside. total_none (count_of i c p) p (λ q below. entry p q (all p q below inside)))
@@ -34,7 +34,7 @@ none_from i c all =
       ]
     ]
 
-pub IsComplete-from : (i : Problem) (c : Chosen) → IsChoice i c → length c.prefix ≡ length i.nodes → c.unordered ≡ 0 → ((n : ℕ) → n < length c.fixed → IsSome (fixed_cap c n)) → ((m : ℕ) → m < length c.hi → lo_of c m ≡ hi_of c m) → IsComplete i c
+pub IsComplete-from : (i : Instance) (c : Choice) → IsChoice i c → length c.prefix ≡ length i.nodes → c.unordered ≡ 0 → ((n : ℕ) → n < length c.fixed → IsSome (fixed_cap c n)) → ((m : ℕ) → m < length c.hi → least_round c m ≡ greatest_round c m) → IsComplete i c
 IsComplete-from i c ok placed none fixed rounds = record {
   placed = placed;
   fixed = λ n h. fixed n (omega (arith, h, ok.fixed_length));
@@ -42,5 +42,5 @@ IsComplete-from i c ok placed none fixed rounds = record {
   rounds = λ m h. rounds m (omega (arith, h, ok.hi_length));
 }
 
-pub unordered-IsComplete : (i : Problem) (c : Chosen) → IsChoice i c → IsComplete i c → c.unordered ≡ 0
+pub unordered-IsComplete : (i : Instance) (c : Choice) → IsChoice i c → IsComplete i c → c.unordered ≡ 0
 unordered-IsComplete i c ok is = ok.unordered ∙ none_from i c is.ordered

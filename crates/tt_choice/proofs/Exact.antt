@@ -7,16 +7,16 @@ use Rattle.std.proofs.lemmas.List.FromFn.{get_or-map-range_with_len, length-map-
 use Rattle.std.proofs.lemmas.List.Elements.{Contains-get_or}
 use Rattle.std.proofs.lemmas.Grind.{common_steps, get_or_default_zero}
 use Rattle.ttp_model.specs.Lists.{HasNoRepeats}
-use Rattle.ttp_model.specs.Problem.{Problem, node_at}
+use Rattle.ttp_model.specs.Instance.{Instance, node_at}
 use Rattle.ttp_model.specs.Rules.{IsInstance}
 use Rattle.ttp_model.specs.Plans.{IsNodeOrder}
 use Rattle.ttp_model.specs.Slots.{slot_duration, round_length, slot_start, duration}
+use Rattle.ttp_model.specs.Totals.{total}
 use Rattle.ttp_model.proofs.Orders.{every_node}
-use Rattle.tt_choice.specs.Totals.{total}
-use Rattle.tt_choice.specs.Choices.{Chosen, fixed_cap, Agrees, IsFixedTo, IsOption, IsChoice}
+use Rattle.ttp_model.proofs.Totals.{total_more, total_same, part_of_total, term_in_total, list_total, take_total}
+use Rattle.tt_choice.specs.Choice.{Choice, fixed_cap, Agrees, IsFixedTo, IsOption, IsChoice}
 use Rattle.tt_choice.specs.Extremes.{IsLeastOf, IsMostOf, start_at, end_at, cap_at, dur_at, least_option, most_option, cap_least, cap_most, dur_least, dur_most, place_of, offset_most, start_least, start_most, end_least, end_most}
-use Rattle.tt_choice.proofs.Totals.{total_more, total_same, part_of_total, term_in_total}
-use Rattle.tt_choice.proofs.Bounds.{list_total, take_total, place_le, offset_is, capacity_between, duration_between, start_between, end_between}
+use Rattle.tt_choice.proofs.Bounds.{place_le, offset_is, capacity_between, duration_between, start_between, end_between}
 use Rattle.tt_choice.proofs.Extend.{AreNodes, one_more, order_of, from_parts, extend}
 
 -- what is left of a bound
@@ -43,21 +43,21 @@ order_total f count order o =
     omega (arith, up, down, as_up, as_down, count_up, count_down, all, listed)
 
 -- Capacities that are chosen for each node.
-chosen_caps : Problem → (ℕ → ℕ) → List ℕ
+chosen_caps : Instance → (ℕ → ℕ) → List ℕ
 chosen_caps i choose = map choose (range_with_len 0 (length i.nodes))
 
-chosen_at : (i : Problem) (choose : ℕ → ℕ) (n : ℕ) → n < length i.nodes → slice_index (chosen_caps i choose) n ≡ choose n
+chosen_at : (i : Instance) (choose : ℕ → ℕ) (n : ℕ) → n < length i.nodes → slice_index (chosen_caps i choose) n ≡ choose n
 unfolding chosen_caps
 chosen_at i choose n h = get_or-map-range_with_len choose 0 (length i.nodes) n n 0 h (omega arith)
 
-chosen_length : (i : Problem) (choose : ℕ → ℕ) → length (chosen_caps i choose) ≡ length i.nodes
+chosen_length : (i : Instance) (choose : ℕ → ℕ) → length (chosen_caps i choose) ≡ length i.nodes
 unfolding chosen_caps
 chosen_length i choose = length-map-range_with_len choose 0 (length i.nodes)
 
-IsLawfulFor : Problem → Chosen → (ℕ → ℕ) → Type 0
+IsLawfulFor : Instance → Choice → (ℕ → ℕ) → Type 0
 IsLawfulFor i c choose = (n : ℕ) → n < length i.nodes → Contains (node_at i n).capacities (choose n) × IsFixedTo (fixed_cap c n) (choose n)
 
-chosen_agrees : (i : Problem) (c : Chosen) (choose : ℕ → ℕ) (order : List ℕ) → IsLawfulFor i c choose → IsNodeOrder (length i.nodes) order → ((k : ℕ) → k < length c.prefix → slice_index order k ≡ slice_index c.prefix k) → Agrees i c order (chosen_caps i choose)
+chosen_agrees : (i : Instance) (c : Choice) (choose : ℕ → ℕ) (order : List ℕ) → IsLawfulFor i c choose → IsNodeOrder (length i.nodes) order → ((k : ℕ) → k < length c.prefix → slice_index order k ≡ slice_index c.prefix k) → Agrees i c order (chosen_caps i choose)
 unfolding IsLawfulFor
 chosen_agrees i c choose order lawful nodes prefix = record {
   nodes = nodes;
@@ -67,7 +67,7 @@ chosen_agrees i c choose order lawful nodes prefix = record {
   fixed = λ n h. subst (IsFixedTo (fixed_cap c n)) (sym (chosen_at i choose n h)) (lawful n h).1;
 }
 
-start_is : (i : Problem) (choose : ℕ → ℕ) (order : List ℕ) (n r : ℕ) → IsNodeOrder (length i.nodes) order → slot_start i.cluster order (chosen_caps i choose) n r ≡ r * total (λ k. slot_duration i.cluster (choose k)) (length i.nodes) + total (λ k. slot_duration i.cluster (choose (slice_index order k))) (place_of n order)
+start_is : (i : Instance) (choose : ℕ → ℕ) (order : List ℕ) (n r : ℕ) → IsNodeOrder (length i.nodes) order → slot_start i.cluster order (chosen_caps i choose) n r ≡ r * total (λ k. slot_duration i.cluster (choose k)) (length i.nodes) + total (λ k. slot_duration i.cluster (choose (slice_index order k))) (place_of n order)
 start_is i choose order n r o =
     let caps = chosen_caps i choose in
     let whole = list_total (slot_duration i.cluster) caps in
@@ -78,7 +78,7 @@ start_is i choose order n r o =
     omega (arith, ap (λ t. r * t) round, offset_is i caps order n, before)
 
 -- Orders.
-prefix_nodes : (i : Problem) (c : Chosen) → IsChoice i c → AreNodes (length i.nodes) c.prefix
+prefix_nodes : (i : Instance) (c : Choice) → IsChoice i c → AreNodes (length i.nodes) c.prefix
 unfolding AreNodes
 prefix_nodes i c ok = (ok.nodes, ok.once)
 
@@ -92,7 +92,7 @@ unplaced : (n : ℕ) (xs : List ℕ) → length xs ≤ place_of n xs → (j : �
 unplaced n xs h j lt = eqb-false _ _ (fails_before_first (λ m. m == n) xs j 0 (omega (arith, h)))
 
 -- a node that isn't placed leaves room in the prefix
-room : (i : Problem) (c : Chosen) (n : ℕ) → IsChoice i c → n < length i.nodes → length c.prefix ≤ place_of n c.prefix → length c.prefix < length i.nodes
+room : (i : Instance) (c : Choice) (n : ℕ) → IsChoice i c → n < length i.nodes → length c.prefix ≤ place_of n c.prefix → length c.prefix < length i.nodes
 room i c n ok inside free = elim (cases_lt (length c.prefix) (length i.nodes)) [
   | inl is ↦ is
   | inr full ↦
@@ -100,13 +100,13 @@ room i c n ok inside free = elim (cases_lt (length c.prefix) (length i.nodes)) [
       absurd (unplaced n c.prefix free there.0 there.1 (sym (get_or_default_zero c.prefix there.0 n there.1) ∙ there.2))
 ]
 
-pub record Soonest (i : Problem) (c : Chosen) (n : ℕ) : Type 0 where
+pub record Soonest (i : Instance) (c : Choice) (n : ℕ) : Type 0 where
   pub order : List ℕ
   pub nodes : IsNodeOrder (length i.nodes) order
   pub prefix : (k : ℕ) → k < length c.prefix → slice_index order k ≡ slice_index c.prefix k
   pub place : place_of n order ≡ place_of n c.prefix
 
-soonest : (i : Problem) (c : Chosen) (n : ℕ) → IsChoice i c → n < length i.nodes → Soonest i c n
+soonest : (i : Instance) (c : Choice) (n : ℕ) → IsChoice i c → n < length i.nodes → Soonest i c n
 soonest i c n ok inside = elim (cases_lt (place_of n c.prefix) (length c.prefix)) [
   | inl placed ↦
       let rest = extend (length i.nodes - length c.prefix) (length i.nodes) c.prefix (omega (arith, ok.few)) (prefix_nodes i c ok) in
@@ -136,7 +136,7 @@ soonest i c n ok inside = elim (cases_lt (place_of n c.prefix) (length c.prefix)
       }
 ]
 
-least_lawful : (i : Problem) (c : Chosen) → IsInstance i → IsChoice i c → IsLawfulFor i c (cap_least i c)
+least_lawful : (i : Instance) (c : Choice) → IsInstance i → IsChoice i c → IsLawfulFor i c (cap_least i c)
 unfolding IsLawfulFor
 least_lawful i c w ok n h = pick (fixed_cap c n) (ok.options n h)
   where
@@ -144,7 +144,7 @@ least_lawful i c w ok n h = pick (fixed_cap c n) (ok.options n h)
     pick None is = (Contains-get_or (node_at i n).capacities 0 0 (omega (arith, (w.capacities n h).some)), tt)
     pick (Some k) is = (is, refl)
 
-least_at : (i : Problem) (c : Chosen) (n r : ℕ) → (s : Soonest i c n) → slot_start i.cluster s.order (chosen_caps i (cap_least i c)) n r ≡ start_least i c n r
+least_at : (i : Instance) (c : Choice) (n r : ℕ) → (s : Soonest i c n) → slot_start i.cluster s.order (chosen_caps i (cap_least i c)) n r ≡ start_least i c n r
 least_at i c n r s =
     let is = start_is i (cap_least i c) s.order n r s.nodes in
     let cut = ap (total (λ k. dur_least i c (slice_index s.order k))) s.place in
@@ -152,7 +152,7 @@ least_at i c n r s =
     let offset = take_total (dur_least i c) c.prefix (place_of n c.prefix) (place_le n c.prefix) in
     omega (arith, is, cut, same, offset)
 
-pub start_least_is_least : (i : Problem) (c : Chosen) (n r : ℕ) → IsInstance i → IsChoice i c → n < length i.nodes → IsLeastOf i c (start_at i n r) (start_least i c n r)
+pub start_least_is_least : (i : Instance) (c : Choice) (n r : ℕ) → IsInstance i → IsChoice i c → n < length i.nodes → IsLeastOf i c (start_at i n r) (start_least i c n r)
 start_least_is_least i c n r w ok inside =
     let s = soonest i c n ok inside in
     record {
@@ -163,7 +163,7 @@ start_least_is_least i c n r w ok inside =
       bound = λ others capacities a. (start_between i c others capacities n r w ok a inside).0;
     }
 
-pub end_least_is_least : (i : Problem) (c : Chosen) (n r : ℕ) → IsInstance i → IsChoice i c → n < length i.nodes → IsLeastOf i c (end_at i n r) (end_least i c n r)
+pub end_least_is_least : (i : Instance) (c : Choice) (n r : ℕ) → IsInstance i → IsChoice i c → n < length i.nodes → IsLeastOf i c (end_at i n r) (end_least i c n r)
 end_least_is_least i c n r w ok inside =
     let s = soonest i c n ok inside in
     record {
@@ -174,7 +174,7 @@ end_least_is_least i c n r w ok inside =
       bound = λ others capacities a. (end_between i c others capacities n r w ok a inside).0;
     }
 
-most_lawful : (i : Problem) (c : Chosen) → IsInstance i → IsChoice i c → IsLawfulFor i c (cap_most i c)
+most_lawful : (i : Instance) (c : Choice) → IsInstance i → IsChoice i c → IsLawfulFor i c (cap_most i c)
 unfolding IsLawfulFor
 most_lawful i c w ok n h = pick (fixed_cap c n) (ok.options n h)
   where
@@ -183,7 +183,7 @@ most_lawful i c w ok n h = pick (fixed_cap c n) (ok.options n h)
     pick (Some k) is = (is, refl)
 
 -- an order in which n stands as late as it can
-pub record Latest (i : Problem) (c : Chosen) (n : ℕ) : Type 0 where
+pub record Latest (i : Instance) (c : Choice) (n : ℕ) : Type 0 where
   pub order : List ℕ
   pub nodes : IsNodeOrder (length i.nodes) order
   pub prefix : (k : ℕ) → k < length c.prefix → slice_index order k ≡ slice_index c.prefix k
@@ -210,7 +210,7 @@ turned count n xs o inside = order_of count (xs ++ n ∷ []) (one_more count xs 
     tail : AreNodes count xs
     tail = from_parts count xs (λ k h. (o.each (suc k) (omega (arith, o.all, h))).node) (λ j k lt h. (o.each (suc k) (omega (arith, o.all, h))).first (suc j) (omega arith))
 
-latest : (i : Problem) (c : Chosen) (n : ℕ) → IsChoice i c → n < length i.nodes → Latest i c n
+latest : (i : Instance) (c : Choice) (n : ℕ) → IsChoice i c → n < length i.nodes → Latest i c n
 latest i c n ok inside = elim (cases_lt (place_of n c.prefix) (length c.prefix)) [
   | inl placed ↦
       let s = soonest i c n ok inside in
@@ -241,10 +241,10 @@ latest i c n ok inside = elim (cases_lt (place_of n c.prefix) (length c.prefix))
       }
 ]
 
-most_at : (i : Problem) (c : Chosen) (n r : ℕ) → (s : Latest i c n) → slot_start i.cluster s.order (chosen_caps i (cap_most i c)) n r ≡ start_most i c n r
+most_at : (i : Instance) (c : Choice) (n r : ℕ) → (s : Latest i c n) → slot_start i.cluster s.order (chosen_caps i (cap_most i c)) n r ≡ start_most i c n r
 most_at i c n r s = omega (arith, start_is i (cap_most i c) s.order n r s.nodes, s.offset)
 
-pub start_most_is_most : (i : Problem) (c : Chosen) (n r : ℕ) → IsInstance i → IsChoice i c → n < length i.nodes → IsMostOf i c (start_at i n r) (start_most i c n r)
+pub start_most_is_most : (i : Instance) (c : Choice) (n r : ℕ) → IsInstance i → IsChoice i c → n < length i.nodes → IsMostOf i c (start_at i n r) (start_most i c n r)
 start_most_is_most i c n r w ok inside =
     let s = latest i c n ok inside in
     record {
@@ -255,7 +255,7 @@ start_most_is_most i c n r w ok inside =
       bound = λ others capacities a. (start_between i c others capacities n r w ok a inside).1;
     }
 
-pub end_most_is_most : (i : Problem) (c : Chosen) (n r : ℕ) → IsInstance i → IsChoice i c → n < length i.nodes → IsMostOf i c (end_at i n r) (end_most i c n r)
+pub end_most_is_most : (i : Instance) (c : Choice) (n r : ℕ) → IsInstance i → IsChoice i c → n < length i.nodes → IsMostOf i c (end_at i n r) (end_most i c n r)
 end_most_is_most i c n r w ok inside =
     let s = latest i c n ok inside in
     record {
@@ -267,7 +267,7 @@ end_most_is_most i c n r w ok inside =
     }
 
 -- Capacities and durations.
-pub cap_least_is_least : (i : Problem) (c : Chosen) (n : ℕ) → IsInstance i → IsChoice i c → n < length i.nodes → IsLeastOf i c (cap_at n) (cap_least i c n)
+pub cap_least_is_least : (i : Instance) (c : Choice) (n : ℕ) → IsInstance i → IsChoice i c → n < length i.nodes → IsLeastOf i c (cap_at n) (cap_least i c n)
 cap_least_is_least i c n w ok inside =
     let s = soonest i c n ok inside in
     record {
@@ -278,7 +278,7 @@ cap_least_is_least i c n w ok inside =
       bound = λ others capacities a. (capacity_between i c others capacities n w a inside).0;
     }
 
-pub cap_most_is_most : (i : Problem) (c : Chosen) (n : ℕ) → IsInstance i → IsChoice i c → n < length i.nodes → IsMostOf i c (cap_at n) (cap_most i c n)
+pub cap_most_is_most : (i : Instance) (c : Choice) (n : ℕ) → IsInstance i → IsChoice i c → n < length i.nodes → IsMostOf i c (cap_at n) (cap_most i c n)
 cap_most_is_most i c n w ok inside =
     let s = soonest i c n ok inside in
     record {
@@ -289,7 +289,7 @@ cap_most_is_most i c n w ok inside =
       bound = λ others capacities a. (capacity_between i c others capacities n w a inside).1;
     }
 
-pub dur_least_is_least : (i : Problem) (c : Chosen) (n : ℕ) → IsInstance i → IsChoice i c → n < length i.nodes → IsLeastOf i c (dur_at i n) (dur_least i c n)
+pub dur_least_is_least : (i : Instance) (c : Choice) (n : ℕ) → IsInstance i → IsChoice i c → n < length i.nodes → IsLeastOf i c (dur_at i n) (dur_least i c n)
 dur_least_is_least i c n w ok inside =
     let s = soonest i c n ok inside in
     record {

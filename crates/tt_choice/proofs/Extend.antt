@@ -9,8 +9,8 @@ use Rattle.std.proofs.lemmas.List.Sums.{sum_by-cons}
 use Rattle.std.proofs.lemmas.Grind.{common_steps}
 use Rattle.ttp_model.specs.Lists.{HasNoRepeats}
 use Rattle.ttp_model.specs.Plans.{IsNodeOrder}
-use Rattle.tt_choice.specs.Totals.{total}
-use Rattle.tt_choice.proofs.Totals.{total_more, total_shared, total_none, total_bound, part_of_total}
+use Rattle.ttp_model.specs.Totals.{total}
+use Rattle.ttp_model.proofs.Totals.{total_more, total_shared, total_none, total_bound, part_of_total}
 
 -- 1 where k is in the list
 unfoldable pub held : List ℕ → ℕ → ℕ

@@ -1,4 +1,3 @@
-pub mod Totals
 pub mod Digits
 pub mod Before
 pub mod Pairs

@@ -2,14 +2,14 @@
 use Rattle.std.proofs.Common.{◌≡◌, ◌≢◌, ℕ, ◌+◌, ◌<◌, ◌≤◌, ◌↔◌, [], ◌∷◌, ◌++◌, length, length-append, slice_index, IsTrue, Option, None, Some, arith, inl, inr, refl, sym, ap, ◌∙◌, get_or-set_other, get_or-set_same}
 use Rattle.std.proofs.lemmas.Bool.{cases_eq, cases_lt}
 use Rattle.ttp_model.specs.declared.plan.Plan.{Plan}
-use Rattle.ttp_model.specs.Problem.{Problem, node_at}
+use Rattle.ttp_model.specs.Instance.{Instance, node_at}
 use Rattle.ttp_model.specs.Plans.{EndsBefore, round_of}
-use Rattle.tt_choice.specs.Choices.{Chosen, fixed_cap, is_before, lo_of, hi_of, IsIn, IsChoice}
+use Rattle.tt_choice.specs.Choice.{Choice, fixed_cap, is_before, least_round, greatest_round, IsIn, IsChoice}
 use Rattle.tt_choice.specs.Branches.{place_next, fix_option, order_pair, at_most, at_least, IsUnorderedPair}
 use Rattle.tt_choice.proofs.Extend.{first_part, last_part}
 use Rattle.tt_choice.proofs.Pairs.{pair_now, pair_then}
 
-pub IsIn-place : (i : Problem) (c : Chosen) (plan : Plan) (n : ℕ) → IsIn i (place_next c n) plan ↔ (IsIn i c plan × (slice_index plan.order (length c.prefix) ≡ n))
+pub IsIn-place : (i : Instance) (c : Choice) (plan : Plan) (n : ℕ) → IsIn i (place_next c n) plan ↔ (IsIn i c plan × (slice_index plan.order (length c.prefix) ≡ n))
 IsIn-place i c plan n = (old, new)
   where
     long : length (c.prefix ++ n ∷ []) ≡ length c.prefix + 1
@@ -40,7 +40,7 @@ IsIn-place i c plan n = (old, new)
       ranges = is.0.ranges;
     }
 
-pub IsIn-fix : (i : Problem) (c : Chosen) (plan : Plan) (n k : ℕ) → IsChoice i c → n < length i.nodes → fixed_cap c n ≡ None → IsIn i (fix_option i c n k) plan ↔ (IsIn i c plan × (slice_index plan.caps n ≡ slice_index (node_at i n).capacities k))
+pub IsIn-fix : (i : Instance) (c : Choice) (plan : Plan) (n k : ℕ) → IsChoice i c → n < length i.nodes → fixed_cap c n ≡ None → IsIn i (fix_option i c n k) plan ↔ (IsIn i c plan × (slice_index plan.caps n ≡ slice_index (node_at i n).capacities k))
 IsIn-fix i c plan n k ok inside none = (old, new)
   where
     option : Option ℕ
@@ -81,7 +81,7 @@ IsIn-fix i c plan n k ok inside none = (old, new)
       ranges = is.0.ranges;
     }
 
-pub IsIn-order : (i : Problem) (c : Chosen) (plan : Plan) (p q : ℕ) → IsChoice i c → IsUnorderedPair i c p q → IsIn i (order_pair c p q) plan ↔ (IsIn i c plan × EndsBefore i plan p q)
+pub IsIn-order : (i : Instance) (c : Choice) (plan : Plan) (p q : ℕ) → IsChoice i c → IsUnorderedPair i c p q → IsIn i (order_pair c p q) plan ↔ (IsIn i c plan × EndsBefore i plan p q)
 IsIn-order i c plan p q ok is = (old, new)
   where
     kept : (j k : ℕ) → IsTrue (is_before c j k) → IsTrue (is_before (order_pair c p q) j k)
@@ -118,13 +118,13 @@ IsIn-order i c plan p q ok is = (old, new)
       ranges = v.0.ranges;
     }
 
-pub IsIn-at_most : (i : Problem) (c : Chosen) (plan : Plan) (m r : ℕ) → IsChoice i c → m < length i.messages → r < hi_of c m → IsIn i (at_most c m r) plan ↔ (IsIn i c plan × (round_of plan m ≤ r))
+pub IsIn-at_most : (i : Instance) (c : Choice) (plan : Plan) (m r : ℕ) → IsChoice i c → m < length i.messages → r < greatest_round c m → IsIn i (at_most c m r) plan ↔ (IsIn i c plan × (round_of plan m ≤ r))
 IsIn-at_most i c plan m r ok inside below = (old, new)
   where
-    here : hi_of (at_most c m r) m ≡ r
+    here : greatest_round (at_most c m r) m ≡ r
     here = get_or-set_same c.hi m r 0 (omega (arith, inside, ok.hi_length))
 
-    others : (k : ℕ) → k ≢ m → hi_of (at_most c m r) k ≡ hi_of c k
+    others : (k : ℕ) → k ≢ m → greatest_round (at_most c m r) k ≡ greatest_round c k
     others k differ = get_or-set_other c.hi m k r 0 differ
 
     old : IsIn i (at_most c m r) plan → IsIn i c plan × (round_of plan m ≤ r)
@@ -152,13 +152,13 @@ IsIn-at_most i c plan m r ok inside below = (old, new)
       ];
     }
 
-pub IsIn-at_least : (i : Problem) (c : Chosen) (plan : Plan) (m r : ℕ) → IsChoice i c → m < length i.messages → lo_of c m < r → IsIn i (at_least c m r) plan ↔ (IsIn i c plan × (r ≤ round_of plan m))
+pub IsIn-at_least : (i : Instance) (c : Choice) (plan : Plan) (m r : ℕ) → IsChoice i c → m < length i.messages → least_round c m < r → IsIn i (at_least c m r) plan ↔ (IsIn i c plan × (r ≤ round_of plan m))
 IsIn-at_least i c plan m r ok inside above = (old, new)
   where
-    here : lo_of (at_least c m r) m ≡ r
+    here : least_round (at_least c m r) m ≡ r
     here = get_or-set_same c.lo m r 0 (omega (arith, inside, ok.lo_length))
 
-    others : (k : ℕ) → k ≢ m → lo_of (at_least c m r) k ≡ lo_of c k
+    others : (k : ℕ) → k ≢ m → least_round (at_least c m r) k ≡ least_round c k
     others k differ = get_or-set_other c.lo m k r 0 differ
 
     old : IsIn i (at_least c m r) plan → IsIn i c plan × (r ≤ round_of plan m)

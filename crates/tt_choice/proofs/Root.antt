@@ -4,27 +4,27 @@ use Rattle.std.proofs.lemmas.Bool.{both_ways}
 use Rattle.std.proofs.lemmas.List.{length-replicate, get_or-replicate}
 use Rattle.ttp_model.specs.declared.plan.Plan.{Plan}
 use Rattle.ttp_model.specs.declared.error.Place.TheVariants.{AtCluster}
-use Rattle.ttp_model.specs.Problem.{Problem}
+use Rattle.ttp_model.specs.Instance.{Instance}
 use Rattle.ttp_model.specs.Rules.{IsInstance}
 use Rattle.ttp_model.specs.Plans.{IsValid}
-use Rattle.tt_choice.specs.Choices.{fixed_cap, IsIn, IsChoice}
+use Rattle.tt_choice.specs.Choice.{fixed_cap, IsIn, IsChoice}
 use Rattle.tt_choice.specs.Branches.{root_choice}
 use Rattle.ttp_model.proofs.PlanNumbers.{round_below_horizon}
 use Rattle.tt_choice.proofs.Before.{nothing_goes}
 
-horizon_some : (i : Problem) → IsInstance i → 1 ≤ i.cluster.horizon
+horizon_some : (i : Instance) → IsInstance i → 1 ≤ i.cluster.horizon
 horizon_some i w = (w.ranges AtCluster).horizon_least
 
-none_fixed : (i : Problem) (n : ℕ) → n < length i.nodes → fixed_cap (root_choice i) n ≡ None
+none_fixed : (i : Instance) (n : ℕ) → n < length i.nodes → fixed_cap (root_choice i) n ≡ None
 none_fixed i n h = get_or-replicate (length i.nodes) n None None h
 
-first_round : (i : Problem) (m : ℕ) → m < length i.messages → slice_index (root_choice i).lo m ≡ 0
+first_round : (i : Instance) (m : ℕ) → m < length i.messages → slice_index (root_choice i).lo m ≡ 0
 first_round i m h = get_or-replicate (length i.messages) m 0 0 h
 
-last_round : (i : Problem) (m : ℕ) → m < length i.messages → slice_index (root_choice i).hi m ≡ i.cluster.horizon - 1
+last_round : (i : Instance) (m : ℕ) → m < length i.messages → slice_index (root_choice i).hi m ≡ i.cluster.horizon - 1
 last_round i m h = get_or-replicate (length i.messages) m (i.cluster.horizon - 1) 0 h
 
-pub IsChoice-root : (i : Problem) → IsInstance i → IsChoice i (root_choice i)
+pub IsChoice-root : (i : Instance) → IsInstance i → IsChoice i (root_choice i)
 IsChoice-root i w = record {
   few = omega arith;
   nodes = λ k h. absurd (omega arith);
@@ -41,7 +41,7 @@ IsChoice-root i w = record {
   within = λ m h. omega (arith, last_round i m h, horizon_some i w);
 }
 
-pub IsIn-root : (i : Problem) (plan : Plan) → IsInstance i → IsValid i plan → IsIn i (root_choice i) plan
+pub IsIn-root : (i : Instance) (plan : Plan) → IsInstance i → IsValid i plan → IsIn i (root_choice i) plan
 IsIn-root i plan w v = record {
   prefix = λ k h. absurd (omega arith);
   fixed = λ n h. rw (none_fixed i n h) tt;

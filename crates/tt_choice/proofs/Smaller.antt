@@ -4,50 +4,50 @@ use Rattle.std.proofs.lemmas.Bool.{cases_eq}
 use Rattle.std.proofs.lemmas.List.Sums.{sum_by-set}
 use Rattle.ttp_model.specs.declared.step.Kind.{Kind}
 use Rattle.ttp_model.specs.declared.step.Kind.TheVariants.{Place, Cap, Pair, Round}
-use Rattle.ttp_model.specs.Problem.{Problem, node_at}
-use Rattle.tt_choice.specs.Choices.{Chosen, fixed_cap, lo_of, hi_of, IsChoice}
+use Rattle.ttp_model.specs.Instance.{Instance, node_at}
+use Rattle.ttp_model.proofs.Totals.{total_le, total_less}
+use Rattle.tt_choice.specs.Choice.{Choice, fixed_cap, least_round, greatest_round, IsChoice}
 use Rattle.tt_choice.specs.Branches.{unplaced, fix_option, at_most, at_least, CutsRange, IsOpen, child}
 use Rattle.tt_choice.specs.Sizes.{range_size, size_left, Halves}
-use Rattle.tt_choice.proofs.Totals.{total_le, total_less}
 use Rattle.tt_choice.proofs.Digits.{half_digits, digits_le}
 use Rattle.tt_choice.proofs.Pairs.{order_pair_left}
 use Rattle.tt_choice.proofs.Children.{turned}
 
-fewer_free : (i : Problem) (c : Chosen) (n k : ℕ) → IsChoice i c → n < length i.nodes → fixed_cap c n ≡ None → count_by is_none (fix_option i c n k).fixed + 1 ≡ count_by is_none c.fixed
+fewer_free : (i : Instance) (c : Choice) (n k : ℕ) → IsChoice i c → n < length i.nodes → fixed_cap c n ≡ None → count_by is_none (fix_option i c n k).fixed + 1 ≡ count_by is_none c.fixed
 fewer_free i c n k ok inside none =
     let was = ap {B = ℕ} (λ (o : Option ℕ). cond (is_none o) 1 0) none in
     let change = sum_by-set (λ (o : Option ℕ). cond (is_none o) 1 0) c.fixed n (Some (slice_index (node_at i n).capacities k)) None (omega (arith, inside, ok.fixed_length)) in
     omega (arith, change, was)
 
 -- a range that ends sooner, or begins later
-shorter_at_most : (i : Problem) (c : Chosen) (m r k : ℕ) → IsChoice i c → CutsRange i c m r → range_size (at_most c m r) k ≤ range_size c k
+shorter_at_most : (i : Instance) (c : Choice) (m r k : ℕ) → IsChoice i c → CutsRange i c m r → range_size (at_most c m r) k ≤ range_size c k
 shorter_at_most i c m r k ok is = elim (cases_eq k m) [
   | inl same ↦
       let now = get_or-set_same c.hi m r 0 (omega (arith, is.message, ok.hi_length)) in
-      rw (same, now) (digits_le (r - lo_of c m) (hi_of c m - lo_of c m) (omega (arith, is.below)))
+      rw (same, now) (digits_le (r - least_round c m) (greatest_round c m - least_round c m) (omega (arith, is.below)))
   | inr differ ↦ let now = get_or-set_other c.hi m k r 0 differ in rw now (omega arith)
 ]
 
-shorter_at_least : (i : Problem) (c : Chosen) (m r k : ℕ) → IsChoice i c → CutsRange i c m r → range_size (at_least c m (r + 1)) k ≤ range_size c k
+shorter_at_least : (i : Instance) (c : Choice) (m r k : ℕ) → IsChoice i c → CutsRange i c m r → range_size (at_least c m (r + 1)) k ≤ range_size c k
 shorter_at_least i c m r k ok is = elim (cases_eq k m) [
   | inl same ↦
       let now = get_or-set_same c.lo m (r + 1) 0 (omega (arith, is.message, ok.lo_length)) in
-      rw (same, now) (digits_le (hi_of c m - (r + 1)) (hi_of c m - lo_of c m) (omega (arith, is.from)))
+      rw (same, now) (digits_le (greatest_round c m - (r + 1)) (greatest_round c m - least_round c m) (omega (arith, is.from)))
   | inr differ ↦ let now = get_or-set_other c.lo m k (r + 1) 0 differ in rw now (omega arith)
 ]
 
-half_at_most : (i : Problem) (c : Chosen) (m r : ℕ) → IsChoice i c → CutsRange i c m r → 2 * (r - lo_of c m) ≤ hi_of c m - lo_of c m → range_size (at_most c m r) m < range_size c m
+half_at_most : (i : Instance) (c : Choice) (m r : ℕ) → IsChoice i c → CutsRange i c m r → 2 * (r - least_round c m) ≤ greatest_round c m - least_round c m → range_size (at_most c m r) m < range_size c m
 half_at_most i c m r ok is half =
     let now = get_or-set_same c.hi m r 0 (omega (arith, is.message, ok.hi_length)) in
-    rw now (half_digits (hi_of c m - lo_of c m) (r - lo_of c m) (omega (arith, is.from, is.below)) half)
+    rw now (half_digits (greatest_round c m - least_round c m) (r - least_round c m) (omega (arith, is.from, is.below)) half)
 
-half_at_least : (i : Problem) (c : Chosen) (m r : ℕ) → IsChoice i c → CutsRange i c m r → 2 * (hi_of c m - (r + 1)) ≤ hi_of c m - lo_of c m → range_size (at_least c m (r + 1)) m < range_size c m
+half_at_least : (i : Instance) (c : Choice) (m r : ℕ) → IsChoice i c → CutsRange i c m r → 2 * (greatest_round c m - (r + 1)) ≤ greatest_round c m - least_round c m → range_size (at_least c m (r + 1)) m < range_size c m
 half_at_least i c m r ok is half =
     let now = get_or-set_same c.lo m (r + 1) 0 (omega (arith, is.message, ok.lo_length)) in
-    rw now (half_digits (hi_of c m - lo_of c m) (hi_of c m - (r + 1)) (omega (arith, is.from, is.below)) half)
+    rw now (half_digits (greatest_round c m - least_round c m) (greatest_round c m - (r + 1)) (omega (arith, is.from, is.below)) half)
 
 -- of an instance's open branch
-pub size_left-child : (i : Problem) (c : Chosen) (kind : Kind) (k : ℕ) → IsChoice i c → IsOpen i c kind → Halves c kind → size_left i (child i c kind k) < size_left i c
+pub size_left-child : (i : Instance) (c : Choice) (kind : Kind) (k : ℕ) → IsChoice i c → IsOpen i c kind → Halves c kind → size_left i (child i c kind k) < size_left i c
 size_left-child i c Place k ok is halves = omega (arith, is, length-append c.prefix (slice_index (unplaced i c) k ∷ []))
 size_left-child i c (Cap n) k ok is halves = omega (arith, fewer_free i c n k ok is.0 is.1)
 size_left-child i c (Pair p q) zero ok is halves = omega (arith, order_pair_left i c p q ok is)
@@ -60,7 +60,7 @@ size_left-child i c (Round m r) (suc k) ok is halves =
     omega (arith, sizes)
 
 -- a round that doesn't halve the range leaves no more than before
-pub size_left-child_le : (i : Problem) (c : Chosen) (kind : Kind) (k : ℕ) → IsChoice i c → IsOpen i c kind → size_left i (child i c kind k) ≤ size_left i c
+pub size_left-child_le : (i : Instance) (c : Choice) (kind : Kind) (k : ℕ) → IsChoice i c → IsOpen i c kind → size_left i (child i c kind k) ≤ size_left i c
 size_left-child_le i c Place k ok is = omega (arith, size_left-child i c Place k ok is tt)
 size_left-child_le i c (Cap n) k ok is = omega (arith, size_left-child i c (Cap n) k ok is tt)
 size_left-child_le i c (Pair p q) k ok is = omega (arith, size_left-child i c (Pair p q) k ok is tt)

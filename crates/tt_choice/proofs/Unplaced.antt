@@ -8,12 +8,12 @@ use Rattle.std.proofs.lemmas.List.Sums.{length-filter, sum-map, sum_by-cons}
 use Rattle.std.proofs.lemmas.List.Folds.{list_any_at}
 use Rattle.std.proofs.lemmas.List.FromFn.{length-range_with_len, get_or-range_with_len}
 use Rattle.std.proofs.lemmas.Grind.{get_or_default_zero}
-use Rattle.ttp_model.specs.Problem.{Problem}
+use Rattle.ttp_model.specs.Instance.{Instance}
 use Rattle.ttp_model.specs.Plans.{IsNodeOrder}
-use Rattle.tt_choice.specs.Totals.{total}
-use Rattle.tt_choice.specs.Choices.{Chosen, BeginsWith, IsChoice}
+use Rattle.ttp_model.specs.Totals.{total}
+use Rattle.ttp_model.proofs.Totals.{part_of_total}
+use Rattle.tt_choice.specs.Choice.{Choice, BeginsWith, IsChoice}
 use Rattle.tt_choice.specs.Branches.{is_placed, IsUnplaced, unplaced}
-use Rattle.tt_choice.proofs.Totals.{part_of_total}
 use Rattle.tt_choice.proofs.Extend.{held, held_total}
 
 -- what passes stays in a filter
@@ -36,14 +36,14 @@ range_below count k d h =
     omega (arith, get_or-range_with_len 0 count k d inside, inside)
 
 -- each that is listed is unplaced
-pub IsUnplaced-listed : (i : Problem) (c : Chosen) (k : ℕ) → k < length (unplaced i c) → IsUnplaced i c (slice_index (unplaced i c) k)
+pub IsUnplaced-listed : (i : Instance) (c : Choice) (k : ℕ) → k < length (unplaced i c) → IsUnplaced i c (slice_index (unplaced i c) k)
 IsUnplaced-listed i c k h = record {
   node = All-filter (λ n. not (is_placed c n)) (λ n. n < length i.nodes) (range_with_len 0 (length i.nodes)) (λ j d lt. range_below (length i.nodes) j d lt) k 0 h;
   new = not-true _ (filter_passes (λ n. not (is_placed c n)) (range_with_len 0 (length i.nodes)) k 0 h);
 }
 
 -- each that is unplaced is listed
-pub unplaced_place : (i : Problem) (c : Chosen) (n : ℕ) → IsUnplaced i c n → (k : ℕ) × (k < length (unplaced i c)) × (slice_index (unplaced i c) k ≡ n)
+pub unplaced_place : (i : Instance) (c : Choice) (n : ℕ) → IsUnplaced i c n → (k : ℕ) × (k < length (unplaced i c)) × (slice_index (unplaced i c) k ≡ n)
 unplaced_place i c n is =
     let there = Contains-filter (λ m. not (is_placed c m)) (range_with_len 0 (length i.nodes)) n (not_from_false _ is.new) (range_has (length i.nodes) n is.node) in
     (there.0, there.1, sym (get_or_default_zero (unplaced i c) there.0 n there.1) ∙ there.2)
@@ -56,7 +56,7 @@ placed_at n (x ∷ xs) is = elim (or_cases (x == n) (list_any (λ m. m == n) xs)
 ]
 
 -- the node that an order has after the prefix is unplaced
-pub IsUnplaced-next : (i : Problem) (c : Chosen) (order : List ℕ) → IsNodeOrder (length i.nodes) order → BeginsWith c.prefix order → length c.prefix < length i.nodes → IsUnplaced i c (slice_index order (length c.prefix))
+pub IsUnplaced-next : (i : Instance) (c : Choice) (order : List ℕ) → IsNodeOrder (length i.nodes) order → BeginsWith c.prefix order → length c.prefix < length i.nodes → IsUnplaced i c (slice_index order (length c.prefix))
 IsUnplaced-next i c order nodes begins some = record {
   node = (nodes.each (length c.prefix) some).node;
   new = false_from_ne_true _ (λ placed.
@@ -76,7 +76,7 @@ held_all xs (y ∷ ys) all =
     let first : held xs y ≡ 1 = rw (all 0 (omega arith)) refl in
     omega (arith, rest, first, sum_by-cons (held xs) y ys)
 
-pub length-unplaced : (i : Problem) (c : Chosen) → IsChoice i c → length (unplaced i c) ≡ length i.nodes - length c.prefix
+pub length-unplaced : (i : Instance) (c : Choice) → IsChoice i c → length (unplaced i c) ≡ length i.nodes - length c.prefix
 unfolding held
 length-unplaced i c ok =
     let xs = c.prefix in

@@ -1,15 +1,16 @@
--- The branches of a choice: which are open, and the choices that they lead to. Own profile.
-use Rattle.std.specs.Prelude.{◌≡◌, ℕ, zero, suc, ◌+◌, ◌-◌, ◌<◌, ◌≤◌, ◌==◌, not, List, [], ◌∷◌, ◌++◌, length, slice_index, slice_index_or, slice_set, filter, map, replicate, None, Some, Bool, IsFalse}
+-- The branches of a choice: when each is open, and the choices that it leads to. Own profile.
+use Rattle.std.specs.Prelude.{◌≡◌, ℕ, zero, suc, ◌+◌, ◌-◌, ◌<◌, ◌≤◌, ◌==◌, not, List, [], ◌∷◌, ◌++◌, length, slice_index, slice_set, filter, map, replicate, None, Some, Bool, IsFalse}
 use Rattle.std.specs.List.{range_with_len, list_any}
 use Rattle.ttp_model.specs.declared.step.Kind.{Kind}
 use Rattle.ttp_model.specs.declared.step.Kind.TheVariants.{Place, Cap, Pair, Round}
-use Rattle.ttp_model.specs.Problem.{Problem, node_at}
-use Rattle.tt_choice.specs.Before.{nothing_before, put_before}
-use Rattle.tt_choice.specs.Choices.{Chosen, fixed_cap, is_before, lo_of, hi_of, ArePair, unordered_pairs}
+use Rattle.ttp_model.specs.Kinds.{children_of}
+use Rattle.ttp_model.specs.Instance.{Instance, node_at}
+use Rattle.tt_choice.specs.Precedence.{nothing_before, put_before}
+use Rattle.tt_choice.specs.Choice.{Choice, fixed_cap, is_before, least_round, greatest_round, ArePair, unordered_pairs}
 
 -- nothing is chosen, each round below the horizon is possible, and of pairs so many are in neither
 -- order
-abbrev pub open_choice : Problem → ℕ → Chosen
+abbrev pub open_choice : Instance → ℕ → Choice
 open_choice i unordered = record {
   prefix = [];
   fixed = replicate (length i.nodes) None;
@@ -20,87 +21,101 @@ open_choice i unordered = record {
 }
 
 -- the choice in which nothing is chosen: all pairs of processes of one node are in neither order
-abbrev pub root_choice : Problem → Chosen
+abbrev pub root_choice : Instance → Choice
 root_choice i = open_choice i (unordered_pairs i (open_choice i 0))
 
 -- The changes of a choice follow: each is one decision.
 
 -- node n comes next in the order
-abbrev pub place_next : Chosen → ℕ → Chosen
+abbrev pub place_next : Choice → ℕ → Choice
 place_next c n = record c { prefix = c.prefix ++ n ∷ [] }
 
 -- the capacity of node n is that at place k of its options
-abbrev pub fix_option : Problem → Chosen → ℕ → ℕ → Chosen
+abbrev pub fix_option : Instance → Choice → ℕ → ℕ → Choice
 fix_option i c n k =
     record c { fixed = slice_set c.fixed n (Some (slice_index (node_at i n).capacities k)) }
 
 -- process p goes before q
-abbrev pub order_pair : Chosen → ℕ → ℕ → Chosen
+abbrev pub order_pair : Choice → ℕ → ℕ → Choice
 order_pair c p q = record c { before = put_before c.before p q; unordered = c.unordered - 1 }
 
 -- message m is sent in round r at most
-abbrev pub at_most : Chosen → ℕ → ℕ → Chosen
+abbrev pub at_most : Choice → ℕ → ℕ → Choice
 at_most c m r = record c { hi = slice_set c.hi m r }
 
 -- message m is sent in round r at least
-abbrev pub at_least : Chosen → ℕ → ℕ → Chosen
+abbrev pub at_least : Choice → ℕ → ℕ → Choice
 at_least c m r = record c { lo = slice_set c.lo m r }
 
 -- node n stands in the prefix
-abbrev pub is_placed : Chosen → ℕ → Bool
+abbrev pub is_placed : Choice → ℕ → Bool
 is_placed c n = list_any (λ m. m == n) c.prefix
 
 -- a node that isn't in the prefix
-pub record IsUnplaced (i : Problem) (c : Chosen) (n : ℕ) : Type 0 where
+pub record IsUnplaced (i : Instance) (c : Choice) (n : ℕ) : Type 0 where
   pub node : n < length i.nodes
   pub new : IsFalse (is_placed c n)
 
 -- the nodes that aren't in the prefix, rising
-abbrev pub unplaced : Problem → Chosen → List ℕ
+abbrev pub unplaced : Instance → Choice → List ℕ
 unplaced i c = filter (λ n. not (is_placed c n)) (range_with_len 0 (length i.nodes))
 
 -- two processes of one node, in neither order
-pub record IsUnorderedPair (i : Problem) (c : Chosen) (p q : ℕ) : Type 0 where
+pub record IsUnorderedPair (i : Instance) (c : Choice) (p q : ℕ) : Type 0 where
   pub pair : ArePair i p q
   pub not_before : IsFalse (is_before c p q)
   pub not_after : IsFalse (is_before c q p)
 
 -- a round that cuts the message's range in two
-pub record CutsRange (i : Problem) (c : Chosen) (m r : ℕ) : Type 0 where
+pub record CutsRange (i : Instance) (c : Choice) (m r : ℕ) : Type 0 where
   pub message : m < length i.messages
-  pub from : lo_of c m ≤ r
-  pub below : r < hi_of c m
+  pub from : least_round c m ≤ r
+  pub below : r < greatest_round c m
+
+-- the first of two, and else the second
+abbrev pub one_of : Choice → Choice → ℕ → Choice
+one_of first second zero = first
+one_of first second (suc k) = second
+
+-- A row of the table of branches: when a branch is open; from how many nodes or capacities one is taken,
+-- if one is; and the child of a number, from 0.
+pub record Row : Type 1 where
+  pub is_open : Type 0
+  pub options : ℕ
+  pub child : ℕ → Choice
+
+-- a child for each of so many options
+abbrev pub one_each : Type 0 → ℕ → (ℕ → Choice) → Row
+one_each is_open options child = record { is_open = is_open; options = options; child = child }
+
+-- one child, and then the other
+abbrev pub either : Type 0 → Choice → Choice → Row
+either is_open first second = record { is_open = is_open; options = 0; child = one_of first second }
+
+-- The table. Nodes come rising, options in their order.
+abbrev pub branch : Instance → Choice → Kind → Row
+branch i c Place = one_each (length c.prefix < length i.nodes) (length (unplaced i c)) (λ k. place_next c (slice_index (unplaced i c) k))
+branch i c (Cap n) = one_each ((n < length i.nodes) × (fixed_cap c n ≡ None)) (length (node_at i n).capacities) (fix_option i c n)
+branch i c (Pair p q) = either (IsUnorderedPair i c p q) (order_pair c p q) (order_pair c q p)
+branch i c (Round m r) = either (CutsRange i c m r) (at_most c m r) (at_least c m (r + 1))
 
 -- what a branch decides is there and isn't decided yet
-abbrev pub IsOpen : Problem → Chosen → Kind → Type 0
-IsOpen i c Place = length c.prefix < length i.nodes
-IsOpen i c (Cap n) = (n < length i.nodes) × (fixed_cap c n ≡ None)
-IsOpen i c (Pair p q) = IsUnorderedPair i c p q
-IsOpen i c (Round m r) = CutsRange i c m r
+abbrev pub IsOpen : Instance → Choice → Kind → Type 0
+IsOpen i c kind = (branch i c kind).is_open
 
 -- how many children an open branch has
-abbrev pub children : Problem → Chosen → Kind → ℕ
-children i c Place = length (unplaced i c)
-children i c (Cap n) = length (node_at i n).capacities
-children i c (Pair p q) = 2
-children i c (Round m r) = 2
+abbrev pub children : Instance → Choice → Kind → ℕ
+children i c kind = children_of kind (branch i c kind).options
 
--- The child of a number: the unplaced nodes rising, the options in their order, p first and then
--- q first, the early rounds and then the later ones.
-abbrev pub child : Problem → Chosen → Kind → ℕ → Chosen
-child i c Place k = place_next c (slice_index (unplaced i c) k)
-child i c (Cap n) k = fix_option i c n k
-child i c (Pair p q) zero = order_pair c p q
-child i c (Pair p q) (suc k) = order_pair c q p
-child i c (Round m r) zero = at_most c m r
-child i c (Round m r) (suc k) = at_least c m (r + 1)
+-- the child of a number
+abbrev pub child : Instance → Choice → Kind → ℕ → Choice
+child i c kind = (branch i c kind).child
 
 -- all children of a branch, in order
-abbrev pub child_choices : Problem → Chosen → Kind → List Chosen
+abbrev pub child_choices : Instance → Choice → Kind → List Choice
 child_choices i c kind = map (child i c kind) (range_with_len 0 (children i c kind))
 
--- an open branch with just its children, in order
-pub record IsBranch (i : Problem) (c : Chosen) (kind : Kind) (cs : List Chosen) : Type 0 where
+-- a branch is open, and has just so many children
+pub record IsBranch (i : Instance) (c : Choice) (kind : Kind) (count : ℕ) : Type 0 where
   pub is_open : IsOpen i c kind
-  pub count : length cs ≡ children i c kind
-  pub each : (k : ℕ) (d : Chosen) → k < length cs → slice_index_or cs k d ≡ child i c kind k
+  pub just : count ≡ children i c kind

@@ -1,10 +1,9 @@
-pub mod Totals
-pub mod Before
-pub mod Choices
+pub mod Precedence
+pub mod Choice
 pub mod Extremes
 pub mod Branches
 pub mod Sizes
-pub use Rattle.ttp_model.specs.Problem
+pub use Rattle.ttp_model.specs.Instance
 pub use Rattle.ttp_model.specs.Rules
 pub use Rattle.ttp_model.specs.Slots
 pub use Rattle.ttp_model.specs.Plans

@@ -1,31 +1,31 @@
 -- How much of a choice is left to choose.
 use Rattle.std.specs.Prelude.{ℕ, ◌+◌, ◌-◌, ◌*◌, ◌≤◌, length, count_by, is_none}
 use Rattle.std.specs.Int.Digits.{digits_of}
-use Rattle.ttp_model.specs.Problem.{Problem}
+use Rattle.ttp_model.specs.Instance.{Instance}
 use Rattle.ttp_model.specs.declared.step.Kind.{Kind}
 use Rattle.ttp_model.specs.declared.step.Kind.TheVariants.{Place, Cap, Pair, Round}
-use Rattle.tt_choice.specs.Totals.{total}
-use Rattle.tt_choice.specs.Choices.{Chosen, lo_of, hi_of, unordered_pairs}
+use Rattle.ttp_model.specs.Totals.{total}
+use Rattle.tt_choice.specs.Choice.{Choice, least_round, greatest_round, unordered_pairs}
 
 -- how many binary digits a number has; none for 0
 abbrev pub binary_digits : ℕ → ℕ
 binary_digits n = length (digits_of 2 n)
 
 -- how often the range of a message can be halved: the binary digits of how far it goes
-abbrev pub range_size : Chosen → ℕ → ℕ
-range_size c m = binary_digits (hi_of c m - lo_of c m)
+abbrev pub range_size : Choice → ℕ → ℕ
+range_size c m = binary_digits (greatest_round c m - least_round c m)
 
 -- unplaced nodes, free capacities, pairs in neither order, and the sizes of all ranges
-abbrev pub size_left : Problem → Chosen → ℕ
+abbrev pub size_left : Instance → Choice → ℕ
 size_left i c =
     (length i.nodes - length c.prefix) + count_by is_none c.fixed + unordered_pairs i c
     + total (range_size c) (length i.messages)
 
 -- each side of a cut has at most half of the range
-abbrev pub Halves : Chosen → Kind → Type 0
+abbrev pub Halves : Choice → Kind → Type 0
 Halves c Place = Unit {0}
 Halves c (Cap n) = Unit {0}
 Halves c (Pair p q) = Unit {0}
 Halves c (Round m r) =
-    (2 * (r - lo_of c m) ≤ hi_of c m - lo_of c m)
-    × (2 * (hi_of c m - (r + 1)) ≤ hi_of c m - lo_of c m)
+    (2 * (r - least_round c m) ≤ greatest_round c m - least_round c m)
+    × (2 * (greatest_round c m - (r + 1)) ≤ greatest_round c m - least_round c m)

@@ -4,7 +4,7 @@ ghost use Rattle.std.specs.Prelude.{◌≡◌, ◌-◌, ◌<◌, ◌≤◌, leng
 ghost use Rattle.ttp_model.specs.declared.limits.TheConstants.{MOST_PROCESSES};
 ghost use Rattle.ttp_model.specs.Plans.{IsValid};
 ghost use Rattle.ttp_model.specs.declared.plan.Plan.{Plan};
-ghost use Rattle.tt_choice.specs.Choices.{IsChoice, IsIn, fixed_cap, is_before, lo_of, hi_of, unordered_below, unordered_pairs};
+ghost use Rattle.tt_choice.specs.Choice.{IsChoice, IsIn, fixed_cap, is_before, least_round, greatest_round, unordered_below, unordered_pairs};
 ghost use Rattle.tt_choice.specs.Branches.{open_choice, root_choice};
 
 mod changes;
@@ -39,9 +39,9 @@ pub struct Choice {
 }
 
 impl Model for Choice {
-    ghost use Rattle.tt_choice.specs.Choices.{Chosen};
+    ghost use Rattle.tt_choice.specs.Choice.{Choice};
 
-    ghost Value = { Chosen };
+    ghost Value = { Choice };
 
     ghost view = { λ s. record {
       prefix = s.prefix.items;
@@ -130,7 +130,7 @@ impl Choice {
     /// The least round that message `m` may be sent in.
     pub fn lo(&self, m: u32) -> u32
         requires { m < length self.now.lo }
-        ensures { result ≡ lo_of self.now m }
+        ensures { result ≡ least_round self.now m }
     {
         self.lo[m as usize]
     }
@@ -138,7 +138,7 @@ impl Choice {
     /// The greatest round that message `m` may be sent in.
     pub fn hi(&self, m: u32) -> u32
         requires { m < length self.now.hi }
-        ensures { result ≡ hi_of self.now m }
+        ensures { result ≡ greatest_round self.now m }
     {
         self.hi[m as usize]
     }

@@ -4,9 +4,9 @@ ghost use Rattle.std.specs.Prelude.{◌≡◌, ◌-◌, ◌<◌, ◌≤◌, ℕ,
 ghost use Rattle.ttp_model.specs.declared.plan.Plan.{Plan};
 ghost use Rattle.ttp_model.specs.declared.step.Kind.{Kind};
 ghost use Rattle.ttp_model.specs.declared.step.Kind.TheVariants.{Place};
-ghost use Rattle.ttp_model.specs.Problem.{Problem};
+ghost use Rattle.ttp_model.specs.Instance.{Instance};
 ghost use Rattle.ttp_model.specs.Plans.{IsValid};
-ghost use Rattle.tt_choice.specs.Choices.{Chosen, IsChoice, IsIn};
+ghost use Rattle.tt_choice.specs.Choice.{Choice, IsChoice, IsIn};
 ghost use Rattle.tt_choice.specs.Branches.{IsOpen, children, child};
 ghost use Rattle.tt_choice.specs.Sizes.{size_left, Halves};
 
@@ -14,23 +14,23 @@ ghost use Rattle.tt_choice.specs.Sizes.{size_left, Halves};
 /// choice and no others, and each leaves less to choose. A round has to halve its range for that,
 /// as the search's do; else it leaves no more than before.
 pub fn children_share_the_plans()
-    ensures none_lost { (i : Problem) (c : Chosen) (kind : Kind) (plan : Plan)
+    ensures none_lost { (i : Instance) (c : Choice) (kind : Kind) (plan : Plan)
         → IsChoice i c → IsOpen i c kind → IsValid i plan → IsIn i c plan
         → (k : ℕ) × (k < children i c kind) × IsIn i (child i c kind k) plan }
-    ensures none_gained { (i : Problem) (c : Chosen) (kind : Kind) (k : ℕ) (plan : Plan)
+    ensures none_gained { (i : Instance) (c : Choice) (kind : Kind) (k : ℕ) (plan : Plan)
         → IsChoice i c → IsOpen i c kind → k < children i c kind
         → IsIn i (child i c kind k) plan → IsIn i c plan }
-    ensures choices { (i : Problem) (c : Chosen) (kind : Kind) (k : ℕ)
+    ensures choices { (i : Instance) (c : Choice) (kind : Kind) (k : ℕ)
         → IsChoice i c → IsOpen i c kind → k < children i c kind → IsChoice i (child i c kind k) }
-    ensures smaller { (i : Problem) (c : Chosen) (kind : Kind) (k : ℕ)
+    ensures smaller { (i : Instance) (c : Choice) (kind : Kind) (k : ℕ)
         → IsChoice i c → IsOpen i c kind → Halves c kind
         → size_left i (child i c kind k) < size_left i c }
-    ensures no_larger { (i : Problem) (c : Chosen) (kind : Kind) (k : ℕ)
+    ensures no_larger { (i : Instance) (c : Choice) (kind : Kind) (k : ℕ)
         → IsChoice i c → IsOpen i c kind → size_left i (child i c kind k) ≤ size_left i c }
 {}
 
 /// A place has as many children as there are nodes beside the prefix.
 pub fn unplaced_nodes_are_the_rest()
-    ensures { (i : Problem) (c : Chosen)
+    ensures { (i : Instance) (c : Choice)
         → IsChoice i c → children i c Place ≡ length i.nodes - length c.prefix }
 {}

@@ -1,7 +1,7 @@
 //! Which processes go before which?
 
 ghost use Rattle.std.specs.Prelude.{◌≡◌, ℕ, ◌<◌, ◌⊎◌, IfOk, IsTrue};
-ghost use Rattle.tt_choice.specs.Before.{goes_before, nothing_before, put_before};
+ghost use Rattle.tt_choice.specs.Precedence.{goes_before, nothing_before, put_before};
 
 use std::alloc::Global;
 use std::marker::Model;
@@ -19,9 +19,9 @@ pub struct Precedence {
 
 impl Model for Precedence {
     ghost use Rattle.std.specs.Prelude.{◌≡◌, ◌*◌, length};
-    ghost use Rattle.tt_choice.specs.Before.{Before};
+    ghost use Rattle.tt_choice.specs.Precedence.{Precedence};
 
-    ghost Value = { Before };
+    ghost Value = { Precedence };
 
     ghost view = { λ s. record { processes = s.processes; tests = s.tests.items } };
 

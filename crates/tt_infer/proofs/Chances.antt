@@ -6,14 +6,14 @@ use Rattle.std.proofs.Math.Nat.{mul-le-mul_left}
 use Rattle.ttp_model.specs.declared.step.Step.{Step}
 use Rattle.ttp_model.specs.declared.step.Step.TheVariants.{EsRelease, EsLink, EsBefore, EsArrive, EsMessage, LoSend, LeOwn, LeLink, LeBefore, LeMessage, LeSend, HiArrive, OrdWindow, OrdTwin, UsSettled, XWindow, XRound, XCycle, XLoad, XFrame, XFrames, XLate, XSilent}
 use Rattle.ttp_model.specs.declared.error.Place.TheVariants.{AtCluster}
-use Rattle.ttp_model.specs.Problem.{Problem, source_of}
+use Rattle.ttp_model.specs.Instance.{Instance, source_of}
 use Rattle.ttp_model.specs.Rules.{IsInstance}
-use Rattle.tt_choice.specs.Totals.{total}
-use Rattle.tt_choice.specs.Choices.{Chosen}
+use Rattle.ttp_model.specs.Totals.{total}
+use Rattle.ttp_model.proofs.Totals.{term_in_total}
+use Rattle.tt_choice.specs.Choice.{Choice}
 use Rattle.tt_choice.specs.Extremes.{start_most, end_least, dur_least, dur_most}
 use Rattle.tt_choice.proofs.Bounds.{end_least_later}
-use Rattle.tt_choice.proofs.Totals.{term_in_total}
-use Rattle.tt_infer.specs.Facts.{Known, le_of}
+use Rattle.tt_infer.specs.Known.{Known, le_of}
 use Rattle.tt_infer.specs.Conclusions.{Conclusion}
 use Rattle.tt_infer.specs.Premises.{IsFirstChance, AreChances, least_ready, wcet_of}
 use Rattle.tt_infer.specs.Table.{rule}
@@ -52,31 +52,31 @@ least_of test some passes = elim (search test (suc some)) [
 ]
 
 -- a later round begins later, by a tick at least
-round_le_start_most : (i : Problem) (c : Chosen) (n r : ℕ) → IsInstance i → r ≤ start_most i c n r
+round_le_start_most : (i : Instance) (c : Choice) (n r : ℕ) → IsInstance i → r ≤ start_most i c n r
 round_le_start_most i c n r w =
     let term = term_in_total (dur_most i c) (length i.nodes) 0 (omega (arith, w.limits.nodes_least)) in
     let head = (w.ranges AtCluster).head_least in
     let long : 1 ≤ total (dur_most i c) (length i.nodes) = omega (arith, term, head) in
     omega (arith, mul-le-mul_left r long)
 
-round_le_end_least : (i : Problem) (c : Chosen) (n r : ℕ) → IsInstance i → r ≤ end_least i c n r
+round_le_end_least : (i : Instance) (c : Choice) (n r : ℕ) → IsInstance i → r ≤ end_least i c n r
 round_le_end_least i c n r w =
     let term = term_in_total (dur_least i c) (length i.nodes) 0 (omega (arith, w.limits.nodes_least)) in
     let head = (w.ranges AtCluster).head_least in
     let long : 1 ≤ total (dur_least i c) (length i.nodes) = omega (arith, term, head) in
     omega (arith, mul-le-mul_left r long)
 
-pub first_chance : (i : Problem) (c : Chosen) (f : Known) (m : ℕ) → IsInstance i → (r : ℕ) × IsFirstChance i c f m r
+pub first_chance : (i : Instance) (c : Choice) (f : Known) (m : ℕ) → IsInstance i → (r : ℕ) × IsFirstChance i c f m r
 first_chance i c f m w =
     let time = least_ready i f m in
     let enough = round_le_start_most i c (source_of i m) (least_ready i f m) w in
     let found = least_of (λ r. nat_le (least_ready i f m) (start_most i c (source_of i m) r)) (least_ready i f m) (le-leb _ _ enough) in
     (found.number, record { late_enough = leb-true _ _ found.passes; least = λ s h. found.least s (le-leb _ _ h) })
 
-arrival : Problem → Chosen → ℕ → ℕ → ℕ → ℕ
+arrival : Instance → Choice → ℕ → ℕ → ℕ → ℕ
 arrival i c m q s = end_least i c (source_of i m) s + i.cluster.copy_in + wcet_of i q
 
-pub chances : (i : Problem) (c : Chosen) (f : Known) (m q : ℕ) → IsInstance i → (r : ℕ) × AreChances i c f m q r
+pub chances : (i : Instance) (c : Choice) (f : Known) (m q : ℕ) → IsInstance i → (r : ℕ) × AreChances i c f m q r
 unfolding arrival
 chances i c f m q w =
     let enough = round_le_end_least i c (source_of i m) (suc (le_of f q)) w in
@@ -98,7 +98,7 @@ chances i c f m q w =
       ),
     )
 
-pub concludes_some : (i : Problem) (c : Chosen) (goal : ℕ) (f : Known) (step : Step) → IsInstance i → (rule i c goal f step).premise → (k : Conclusion) × (rule i c goal f step).concludes k
+pub concludes_some : (i : Instance) (c : Choice) (goal : ℕ) (f : Known) (step : Step) → IsInstance i → (rule i c goal f step).premise → (k : Conclusion) × (rule i c goal f step).concludes k
 concludes_some i c goal f (EsRelease p) w premise = (_, refl)
 concludes_some i c goal f (EsLink l) w premise = (_, refl)
 concludes_some i c goal f (EsBefore p q) w premise = (_, refl)

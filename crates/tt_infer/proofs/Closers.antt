@@ -3,45 +3,45 @@ use Rattle.std.proofs.Common.{◌≡◌, ℕ, zero, suc, ◌+◌, ◌-◌, ◌<�
 use Rattle.std.proofs.lemmas.Bool.{and_from, eq-eqb}
 use Rattle.std.proofs.Math.Nat.{mul-le-mul_left}
 use Rattle.ttp_model.specs.declared.plan.Plan.{Plan}
-use Rattle.ttp_model.specs.Problem.{Problem, message_at, source_of}
+use Rattle.ttp_model.specs.Instance.{Instance, message_at, source_of}
 use Rattle.ttp_model.specs.Rules.{IsInstance}
 use Rattle.ttp_model.specs.Lists.{EachBelow}
 use Rattle.ttp_model.specs.Plans.{IsValid, start_of, round_of, load_of, bytes_in}
-use Rattle.tt_choice.specs.Choices.{Chosen}
-use Rattle.tt_choice.proofs.Totals.{term_in_total}
+use Rattle.tt_choice.specs.Choice.{Choice}
 use Rattle.tt_choice.proofs.Bounds.{capacity_between}
-use Rattle.tt_infer.specs.Facts.{Known, IsSought, AreTrueOf}
+use Rattle.tt_infer.specs.Known.{Known, IsSought, AreTrueOf}
 use Rattle.tt_infer.specs.Premises.{IsRing}
 use Rattle.tt_infer.specs.Table.{IsProcess}
 use Rattle.ttp_model.specs.declared.step.Step.TheVariants.{XWindow, XRound, XCycle, XLoad, XFrame, XFrames}
+use Rattle.ttp_model.proofs.Totals.{term_in_total}
 use Rattle.tt_infer.proofs.Soundness.{IsSoundFor}
 use Rattle.tt_infer.proofs.Sending.{agrees, capacity_most}
 use Rattle.tt_infer.proofs.Loads.{loads_fit, bytes_fit}
 use Rattle.tt_infer.proofs.Orders.{ahead_starts}
 
 -- a process ends a whole run after it starts
-pub x_window_sound : (i : Problem) (c : Chosen) (goal : ℕ) (f : Known) (plan : Plan) (p : ℕ) → AreTrueOf i plan f → IsSoundFor i c goal f plan (XWindow p)
+pub x_window_sound : (i : Instance) (c : Choice) (goal : ℕ) (f : Known) (plan : Plan) (p : ℕ) → AreTrueOf i plan f → IsSoundFor i c goal f plan (XWindow p)
 x_window_sound i c goal f plan p t k there premise is =
     let low = t.es p there in
     let high = t.le p there in
     absurd (omega (arith, low, high, premise))
 
 -- a message is sent in some round
-pub x_round_sound : (i : Problem) (c : Chosen) (goal : ℕ) (f : Known) (plan : Plan) (m : ℕ) → AreTrueOf i plan f → IsSoundFor i c goal f plan (XRound m)
+pub x_round_sound : (i : Instance) (c : Choice) (goal : ℕ) (f : Known) (plan : Plan) (m : ℕ) → AreTrueOf i plan f → IsSoundFor i c goal f plan (XRound m)
 x_round_sound i c goal f plan m t k there premise is =
     let low = t.lo m there in
     let high = t.top m there in
     absurd (omega (arith, low, high, premise))
 
 -- along a ring starts rise, so it doesn't close
-rises : (i : Problem) (plan : Plan) (f : Known) (ps : List ℕ) → IsInstance i → IsValid i plan → AreTrueOf i plan f → EachBelow (length ps) (λ k. IsProcess i (slice_index ps k)) → IsRing i f ps → (k : ℕ) → k < length ps → start_of plan (slice_index ps 0) ≤ start_of plan (slice_index ps k)
+rises : (i : Instance) (plan : Plan) (f : Known) (ps : List ℕ) → IsInstance i → IsValid i plan → AreTrueOf i plan f → EachBelow (length ps) (λ k. IsProcess i (slice_index ps k)) → IsRing i f ps → (k : ℕ) → k < length ps → start_of plan (slice_index ps 0) ≤ start_of plan (slice_index ps k)
 rises i plan f ps w v t there ring zero h = omega arith
 rises i plan f ps w v t there ring (suc k) h =
     let rest = rises i plan f ps w v t there ring k (omega arith) in
     let next = rw add-one at (ahead_starts i plan f (slice_index ps k) (slice_index ps (k + 1)) w v t (there k (omega arith)) (ring.each k (omega arith))) in
     omega (arith, rest, next)
 
-pub x_cycle_sound : (i : Problem) (c : Chosen) (goal : ℕ) (f : Known) (plan : Plan) (ps : List ℕ) → IsInstance i → IsValid i plan → AreTrueOf i plan f → IsSoundFor i c goal f plan (XCycle ps)
+pub x_cycle_sound : (i : Instance) (c : Choice) (goal : ℕ) (f : Known) (plan : Plan) (ps : List ℕ) → IsInstance i → IsValid i plan → AreTrueOf i plan f → IsSoundFor i c goal f plan (XCycle ps)
 x_cycle_sound i c goal f plan ps w v t k there premise is =
     let some = there.0 in
     let up = rises i plan f ps w v t there.1 premise (length ps - 1) (omega (arith, some)) in
@@ -49,20 +49,20 @@ x_cycle_sound i c goal f plan ps w v t k there premise is =
     absurd (omega (arith, up, down))
 
 -- processes of one node run one after another
-pub x_load_sound : (i : Problem) (c : Chosen) (goal : ℕ) (f : Known) (plan : Plan) (n a b : ℕ) → IsValid i plan → AreTrueOf i plan f → IsSoundFor i c goal f plan (XLoad n a b)
+pub x_load_sound : (i : Instance) (c : Choice) (goal : ℕ) (f : Known) (plan : Plan) (n a b : ℕ) → IsValid i plan → AreTrueOf i plan f → IsSoundFor i c goal f plan (XLoad n a b)
 x_load_sound i c goal f plan n a b v t k there premise is =
     let fit = loads_fit i plan f n a b v t premise.span in
     absurd (omega (arith, fit, premise.span, premise.load))
 
 -- the bytes of a message are in its frame
-bytes_le : (i : Problem) (plan : Plan) (m : ℕ) → m < length i.messages → (message_at i m).bytes ≤ load_of i plan (source_of i m) (round_of plan m)
+bytes_le : (i : Instance) (plan : Plan) (m : ℕ) → m < length i.messages → (message_at i m).bytes ≤ load_of i plan (source_of i m) (round_of plan m)
 bytes_le i plan m h =
     let term = term_in_total (bytes_in i plan (source_of i m) (round_of plan m)) (length i.messages) m h in
     let own : bytes_in i plan (source_of i m) (round_of plan m) m ≡ (message_at i m).bytes = rw (and_from _ _ (eq-eqb (source_of i m) (source_of i m) refl) (eq-eqb (round_of plan m) (round_of plan m) refl)) refl in
     omega (arith, term, own)
 
 -- a message is no larger than its frame
-pub x_frame_sound : (i : Problem) (c : Chosen) (goal : ℕ) (f : Known) (plan : Plan) (m : ℕ) → IsInstance i → IsSought i c goal plan → IsSoundFor i c goal f plan (XFrame m)
+pub x_frame_sound : (i : Instance) (c : Choice) (goal : ℕ) (f : Known) (plan : Plan) (m : ℕ) → IsInstance i → IsSought i c goal plan → IsSoundFor i c goal f plan (XFrame m)
 x_frame_sound i c goal f plan m w sought k there premise is =
     let own = bytes_le i plan m there in
     let fit = sought.settled.valid.frames m there in
@@ -70,7 +70,7 @@ x_frame_sound i c goal f plan m w sought k there premise is =
     absurd (omega (arith, own, fit, capacity, premise))
 
 -- a node has a frame a round
-pub x_frames_sound : (i : Problem) (c : Chosen) (goal : ℕ) (f : Known) (plan : Plan) (n a b : ℕ) → IsInstance i → IsSought i c goal plan → AreTrueOf i plan f → IsSoundFor i c goal f plan (XFrames n a b)
+pub x_frames_sound : (i : Instance) (c : Choice) (goal : ℕ) (f : Known) (plan : Plan) (n a b : ℕ) → IsInstance i → IsSought i c goal plan → AreTrueOf i plan f → IsSoundFor i c goal f plan (XFrames n a b)
 x_frames_sound i c goal f plan n a b w sought t k there premise is =
     let capacity = (capacity_between i c plan.order plan.caps n w (agrees i c plan sought.settled.valid sought.chosen) there).1 in
     let fit = bytes_fit i plan f n a b sought.settled.valid t premise.span in

@@ -4,9 +4,9 @@ use Rattle.std.proofs.lemmas.Bool.{cases_order, both_ways}
 use Rattle.std.proofs.Math.Nat.{le_antisymm}
 use Rattle.ttp_model.specs.declared.step.Step.{Step}
 use Rattle.ttp_model.specs.declared.step.Step.TheVariants.{EsRelease, EsLink, EsBefore, EsArrive, EsMessage, LoSend, LeOwn, LeLink, LeBefore, LeMessage, LeSend, HiArrive, OrdWindow, OrdTwin, UsSettled, XWindow, XRound, XCycle, XLoad, XFrame, XFrames, XLate, XSilent}
-use Rattle.ttp_model.specs.Problem.{Problem}
-use Rattle.tt_choice.specs.Choices.{Chosen}
-use Rattle.tt_infer.specs.Facts.{Known}
+use Rattle.ttp_model.specs.Instance.{Instance}
+use Rattle.tt_choice.specs.Choice.{Choice}
+use Rattle.tt_infer.specs.Known.{Known}
 use Rattle.tt_infer.specs.Conclusions.{Conclusion, EndsUntil, SentFrom, SentBefore, sharpened}
 use Rattle.tt_infer.specs.Premises.{IsFirstChance, AreChances, wcet_of}
 use Rattle.tt_infer.specs.Dominance.{IsGreatestWait}
@@ -16,10 +16,10 @@ use Rattle.tt_infer.specs.declared.fault.StepFault.{StepFault}
 use Rattle.tt_infer.specs.declared.fault.StepFault.TheVariants.{NoSuchIndex, NoPremise, AlreadyClosed}
 use Rattle.tt_infer.specs.Answers.{IsStepFault, Takes}
 
-pub first_chance_is_one : (i : Problem) (c : Chosen) (f : Known) (m r s : ℕ) → IsFirstChance i c f m r → IsFirstChance i c f m s → r ≡ s
+pub first_chance_is_one : (i : Instance) (c : Choice) (f : Known) (m r s : ℕ) → IsFirstChance i c f m r → IsFirstChance i c f m s → r ≡ s
 first_chance_is_one i c f m r s one other = le_antisymm (one.least s other.late_enough) (other.least r one.late_enough)
 
-pub chances_are_one : (i : Problem) (c : Chosen) (f : Known) (m q r s : ℕ) → AreChances i c f m q r → AreChances i c f m q s → r ≡ s
+pub chances_are_one : (i : Instance) (c : Choice) (f : Known) (m q r s : ℕ) → AreChances i c f m q r → AreChances i c f m q s → r ≡ s
 chances_are_one i c f m q r s one other = elim (cases_order r s) [
   | inl is ↦ is
   | inr apart ↦ elim apart [
@@ -28,10 +28,10 @@ chances_are_one i c f m q r s one other = elim (cases_order r s) [
   ]
 ]
 
-pub greatest_wait_is_one : (i : Problem) (c : Chosen) (f : Known) (p time other : ℕ) → IsGreatestWait i c f p time → IsGreatestWait i c f p other → time ≡ other
+pub greatest_wait_is_one : (i : Instance) (c : Choice) (f : Known) (p time other : ℕ) → IsGreatestWait i c f p time → IsGreatestWait i c f p other → time ≡ other
 greatest_wait_is_one i c f p time other one also = le_antisymm (one.least other also.wait) (also.least time one.wait)
 
-pub concludes_one : (i : Problem) (c : Chosen) (goal : ℕ) (f : Known) (step : Step) (j k : Conclusion) → (rule i c goal f step).concludes j → (rule i c goal f step).concludes k → j ≡ k
+pub concludes_one : (i : Instance) (c : Choice) (goal : ℕ) (f : Known) (step : Step) (j k : Conclusion) → (rule i c goal f step).concludes j → (rule i c goal f step).concludes k → j ≡ k
 concludes_one i c goal f (EsRelease p) j k one other = one ∙ sym other
 concludes_one i c goal f (EsLink l) j k one other = one ∙ sym other
 concludes_one i c goal f (EsBefore p q) j k one other = one ∙ sym other
@@ -56,23 +56,23 @@ concludes_one i c goal f (XFrames n a b) j k one other = one ∙ sym other
 concludes_one i c goal f (XLate m r) j k one other = one ∙ sym other
 concludes_one i c goal f (XSilent a b) j k one other = one ∙ sym other
 
-pub IsLawful-determined : (i : Problem) (c : Chosen) (goal : ℕ) (f : Known) (step : Step) (g h : Known) → IsLawful i c goal f step g → IsLawful i c goal f step h → g ≡ h
+pub IsLawful-determined : (i : Instance) (c : Choice) (goal : ℕ) (f : Known) (step : Step) (g h : Known) → IsLawful i c goal f step g → IsLawful i c goal f step h → g ≡ h
 IsLawful-determined i c goal f step g h one other =
     one.known ∙ ap (sharpened i f) (concludes_one i c goal f step one.conclusion other.conclusion one.concludes other.concludes) ∙ sym other.known
 
-pub Lead-determined : (i : Problem) (c : Chosen) (goal : ℕ) (f : Known) (steps : List Step) (g h : Known) → Lead i c goal f steps g → Lead i c goal f steps h → g ≡ h
+pub Lead-determined : (i : Instance) (c : Choice) (goal : ℕ) (f : Known) (steps : List Step) (g h : Known) → Lead i c goal f steps g → Lead i c goal f steps h → g ≡ h
 Lead-determined i c goal f [] g h one other = one ∙ sym other
 Lead-determined i c goal f (step ∷ steps) g h one other =
     let same = IsLawful-determined i c goal f step one.1.0 other.1.0 one.1.1 other.1.1 in
     Lead-determined i c goal other.1.0 steps g h (rw same at one.1.2) other.1.2
 
 -- a fault tells that the step isn't lawful
-pub fault-not_lawful : (i : Problem) (c : Chosen) (goal : ℕ) (f : Known) (step : Step) (g : Known) (fault : StepFault) → IsStepFault i c goal f step fault → IsFalse f.closed → ¬ IsLawful i c goal f step g
+pub fault-not_lawful : (i : Instance) (c : Choice) (goal : ℕ) (f : Known) (step : Step) (g : Known) (fault : StepFault) → IsStepFault i c goal f step fault → IsFalse f.closed → ¬ IsLawful i c goal f step g
 fault-not_lawful i c goal f step g AlreadyClosed is left lawful = both_ways _ left is
 fault-not_lawful i c goal f step g NoSuchIndex is left lawful = is.1 lawful.there
 fault-not_lawful i c goal f step g NoPremise is left lawful = is.1.1 lawful.premise
 
-one_fault : (i : Problem) (c : Chosen) (goal : ℕ) (f : Known) (step : Step) (one other : StepFault) → IsStepFault i c goal f step one → IsStepFault i c goal f step other → one ≡ other
+one_fault : (i : Instance) (c : Choice) (goal : ℕ) (f : Known) (step : Step) (one other : StepFault) → IsStepFault i c goal f step one → IsStepFault i c goal f step other → one ≡ other
 one_fault i c goal f step AlreadyClosed AlreadyClosed is also = refl
 one_fault i c goal f step AlreadyClosed NoSuchIndex is also = absurd (both_ways _ also.0 is)
 one_fault i c goal f step AlreadyClosed NoPremise is also = absurd (both_ways _ also.0 is)
@@ -84,7 +84,7 @@ one_fault i c goal f step NoPremise NoSuchIndex is also = absurd (also.1 is.1.0)
 one_fault i c goal f step NoPremise NoPremise is also = refl
 
 -- the answer to a step is determined, with what is known after it
-pub Takes-determined : (i : Problem) (c : Chosen) (goal : ℕ) (f : Known) (step : Step) (g h : Known) (one other : Result Unit StepFault) → Takes i c goal f step g one → Takes i c goal f step h other → (g ≡ h) × (one ≡ other)
+pub Takes-determined : (i : Instance) (c : Choice) (goal : ℕ) (f : Known) (step : Step) (g h : Known) (one other : Result Unit StepFault) → Takes i c goal f step g one → Takes i c goal f step h other → (g ≡ h) × (one ≡ other)
 Takes-determined i c goal f step g h (Ok done) (Ok finished) is also = (IsLawful-determined i c goal f step g h is.1 also.1, refl)
 Takes-determined i c goal f step g h (Ok done) (Err fault) is also = absurd (fault-not_lawful i c goal f step g fault also.0 is.0 is.1)
 Takes-determined i c goal f step g h (Err fault) (Ok done) is also = absurd (fault-not_lawful i c goal f step h fault is.0 also.0 also.1)

@@ -1,13 +1,13 @@
 -- What is known at first holds.
 use Rattle.std.proofs.Common.{ℕ, ◌+◌, length, arith, refl, ◌∙◌}
 use Rattle.std.proofs.lemmas.List.{length-map, length-replicate, get_or-replicate, get_or-map}
-use Rattle.ttp_model.specs.Problem.{Problem}
+use Rattle.ttp_model.specs.Instance.{Instance}
 use Rattle.ttp_model.specs.Rules.{IsInstance}
-use Rattle.tt_choice.specs.Choices.{Chosen, IsChoice}
-use Rattle.tt_infer.specs.Facts.{Fits, Hold, first_facts}
-use Rattle.tt_infer.specs.Inference.{IsInference}
+use Rattle.tt_choice.specs.Choice.{Choice, IsChoice}
+use Rattle.tt_infer.specs.Known.{Fits, Hold, first_facts}
+use Rattle.tt_infer.specs.Facts.{AreFacts}
 
-pub first_facts_fit : (i : Problem) (c : Chosen) → IsChoice i c → Fits i (first_facts i c)
+pub first_facts_fit : (i : Instance) (c : Choice) → IsChoice i c → Fits i (first_facts i c)
 first_facts_fit i c ok = record {
   es = length-replicate (length i.processes) 0;
   le = length-replicate (length i.processes) i.cluster.horizon;
@@ -17,7 +17,7 @@ first_facts_fit i c ok = record {
   tests = ok.tests;
 }
 
-pub first_facts_hold : (i : Problem) (c : Chosen) (goal : ℕ) → IsChoice i c → Hold i c goal (first_facts i c)
+pub first_facts_hold : (i : Instance) (c : Choice) (goal : ℕ) → IsChoice i c → Hold i c goal (first_facts i c)
 first_facts_hold i c goal ok plan sought = record {
   es = λ p h. omega (arith, get_or-replicate {A = ℕ} (length i.processes) p 0 0 h);
   le = λ p h. omega (arith, get_or-replicate {A = ℕ} (length i.processes) p i.cluster.horizon 0 h, sought.settled.valid.in_time p h);
@@ -27,5 +27,5 @@ first_facts_hold i c goal ok plan sought = record {
   some_left = refl;
 }
 
-pub first_inference : (i : Problem) (c : Chosen) (goal : ℕ) → IsInstance i → IsChoice i c → IsInference (record { instance = i; choice = c; goal = goal; known = first_facts i c })
+pub first_inference : (i : Instance) (c : Choice) (goal : ℕ) → IsInstance i → IsChoice i c → AreFacts (record { instance = i; choice = c; goal = goal; known = first_facts i c })
 first_inference i c goal w ok = record { instance = w; choice = ok; fits = first_facts_fit i c ok; holds = first_facts_hold i c goal ok }

@@ -3,10 +3,10 @@ use Rattle.std.proofs.Common.{◌≡◌, ◌≢◌, ℕ, suc, ◌<◌, ◌≤◌
 use Rattle.std.proofs.lemmas.Bool.{cases_eq}
 use Rattle.std.proofs.lemmas.Grind.{common_steps}
 use Rattle.ttp_model.specs.declared.plan.Plan.{Plan}
-use Rattle.ttp_model.specs.Problem.{Problem}
+use Rattle.ttp_model.specs.Instance.{Instance}
 use Rattle.ttp_model.specs.Plans.{start_of, end_of, round_of}
 use Rattle.tt_choice.proofs.Before.{put_only}
-use Rattle.tt_infer.specs.Facts.{Known, Fits, AreTrueOf}
+use Rattle.tt_infer.specs.Known.{Known, Fits, AreTrueOf}
 use Rattle.tt_infer.specs.Conclusions.{Conclusion, StartsFrom, EndsUntil, SentFrom, SentBefore, GoesFirst, NothingLeft, IsTrueOf, IsAbout, sharpened, capped}
 
 pub changed_here : (xs : List ℕ) (k j x : ℕ) → k < length xs → j ≡ k → slice_index (slice_set xs k x) j ≡ x
@@ -29,7 +29,7 @@ lowered xs time count k high size there h old j hj = elim (cases_eq j k) [
   | inr other ↦ omega (arith, changed_there xs k j (min (slice_index xs k) high) other, old j hj)
 ]
 
-pub AreTrueOf-sharpened : (i : Problem) (plan : Plan) (f : Known) (k : Conclusion) → Fits i f → AreTrueOf i plan f → IsAbout i k → IsTrueOf i plan k → AreTrueOf i plan (sharpened i f k)
+pub AreTrueOf-sharpened : (i : Instance) (plan : Plan) (f : Known) (k : Conclusion) → Fits i f → AreTrueOf i plan f → IsAbout i k → IsTrueOf i plan k → AreTrueOf i plan (sharpened i f k)
 AreTrueOf-sharpened i plan f (StartsFrom p time) fits t about h = record {
   es = raised f.es (start_of plan) (length i.processes) p (capped i time) fits.es about (omega (arith, h)) t.es;
   le = t.le;
@@ -75,7 +75,7 @@ AreTrueOf-sharpened i plan f (GoesFirst p q) fits t about h = record {
 }
 AreTrueOf-sharpened i plan f NothingLeft fits t about h = absurd h
 
-pub Fits-sharpened : (i : Problem) (f : Known) (k : Conclusion) → Fits i f → Fits i (sharpened i f k)
+pub Fits-sharpened : (i : Instance) (f : Known) (k : Conclusion) → Fits i f → Fits i (sharpened i f k)
 Fits-sharpened i f (StartsFrom p time) h = record { es = length-set _ _ _ ∙ h.es; le = h.le; lo = h.lo; top = h.top; processes = h.processes; tests = h.tests }
 Fits-sharpened i f (EndsUntil p time) h = record { es = h.es; le = length-set _ _ _ ∙ h.le; lo = h.lo; top = h.top; processes = h.processes; tests = h.tests }
 Fits-sharpened i f (SentFrom m r) h = record { es = h.es; le = h.le; lo = length-set _ _ _ ∙ h.lo; top = h.top; processes = h.processes; tests = h.tests }

@@ -2,16 +2,16 @@
 use Rattle.std.proofs.Common.{ℕ, zero, suc, ◌<◌, ◌≤◌, [], ◌∷◌, arith, refl, lit<}
 use Rattle.ttp_model.specs.declared.step.Step.TheVariants.{UsSettled, XLate}
 use Rattle.ttp_model.specs.Worked.{one_message}
-use Rattle.tt_choice.specs.Choices.{Chosen}
+use Rattle.tt_choice.specs.Choice.{Choice}
 use Rattle.tt_choice.specs.Branches.{root_choice, at_least}
-use Rattle.tt_infer.specs.Facts.{Known, first_facts, le_of}
+use Rattle.tt_infer.specs.Known.{Known, first_facts, le_of}
 use Rattle.tt_infer.specs.Conclusions.{EndsUntil, NothingLeft, sharpened}
 use Rattle.tt_infer.specs.Premises.{Receives}
 use Rattle.tt_infer.specs.Dominance.{MayGoBefore, IsGreatestWait, CouldBeEarlier}
 use Rattle.tt_infer.specs.Table.{IsLawful}
 use Rattle.tt_infer.specs.Leaves.{ClosesLeaf}
 
-abbrev later : Chosen
+abbrev later : Choice
 later = at_least (root_choice one_message) 0 2
 
 -- What is known at first, once p is known to end by 3, and once no plan is left.

@@ -7,7 +7,6 @@ pub mod Ends
 pub mod Rounds
 pub mod Orders
 pub mod Closers
-pub mod Changed
 pub mod Twins
 pub mod Waits
 pub mod LateMessages

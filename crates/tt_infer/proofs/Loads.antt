@@ -1,45 +1,36 @@
 -- Processes of one node that run within a span take no more than it, and frames hold no more than their capacities.
-use Rattle.std.proofs.Common.{◌≡◌, ◌≢◌, ℕ, zero, suc, ◌+◌, ◌-◌, ◌*◌, ◌<◌, ◌≤◌, ◌==◌, ◌&&◌, nat_le, nat_lt, if◌then◌else◌, Bool, true, length, slice_index, arith, inl, inr, refl, ◌⊎◌, ◌∙◌, sym}
-use Rattle.std.proofs.lemmas.Bool.{cases_Bool, cases_order, cases_eq, ltb-true, lt-ltb, and_parts, and_from, leb-true, le-leb, eqb-true, eq-eqb}
+use Rattle.std.proofs.Common.{◌≡◌, ℕ, zero, suc, ◌+◌, ◌-◌, ◌*◌, ◌<◌, ◌≤◌, ◌==◌, ◌&&◌, nat_le, nat_lt, if◌then◌else◌, Bool, true, length, slice_index, arith, inl, inr, refl, ◌∙◌, sym}
+use Rattle.std.proofs.lemmas.Bool.{cases_Bool, cases_eq, ltb-true, lt-ltb, and_parts, and_from, leb-true, le-leb, eqb-true, eq-eqb}
 use Rattle.ttp_model.specs.declared.plan.Plan.{Plan}
-use Rattle.ttp_model.specs.Problem.{Problem, message_at, node_of, source_of}
+use Rattle.ttp_model.specs.Instance.{Instance, message_at, node_of, source_of}
 use Rattle.ttp_model.specs.Plans.{IsValid, start_of, end_of, round_of, bytes_in}
-use Rattle.ttp_model.proofs.ValidPlans.{frames_fit_lem}
-use Rattle.tt_choice.specs.Totals.{total}
-use Rattle.tt_choice.proofs.Totals.{total_more, total_le, total_shared, total_none}
-use Rattle.tt_infer.specs.Facts.{Known, AreTrueOf, es_of, le_of, lo_of, top_of}
+use Rattle.ttp_model.specs.Totals.{total}
+use Rattle.ttp_model.proofs.ValidPlans.{frames_fit_lem, two_apart}
+use Rattle.ttp_model.proofs.Totals.{total_more, total_le, total_shared, total_none}
+use Rattle.tt_infer.specs.Known.{Known, AreTrueOf, es_of, le_of, lo_of, top_of}
 use Rattle.tt_infer.specs.Premises.{wcet_of, runs_within, load_within, sent_within, bytes_within}
 use Rattle.tt_infer.proofs.Selected.{selected_le, selected_split, span_tells}
 
 -- the wcet of a process of n that really runs from a to b
-really_runs : Problem → Plan → ℕ → ℕ → ℕ → ℕ → Bool
+really_runs : Instance → Plan → ℕ → ℕ → ℕ → ℕ → Bool
 really_runs i plan n a b p = (node_of i p == n) && (nat_le a (start_of plan p) && nat_le (end_of i plan p) b)
 
-runs_from : (i : Problem) (plan : Plan) (n a b p : ℕ) → node_of i p ≡ n → a ≤ start_of plan p → end_of i plan p ≤ b → really_runs i plan n a b p ≡ true
+runs_from : (i : Instance) (plan : Plan) (n a b p : ℕ) → node_of i p ≡ n → a ≤ start_of plan p → end_of i plan p ≤ b → really_runs i plan n a b p ≡ true
 unfolding really_runs
 runs_from i plan n a b p node from until = and_from _ _ (eq-eqb _ _ node) (and_from _ _ (le-leb _ _ from) (le-leb _ _ until))
 
-runs_tells : (i : Problem) (plan : Plan) (n a b p : ℕ) → really_runs i plan n a b p ≡ true → (node_of i p ≡ n) × (a ≤ start_of plan p) × (end_of i plan p ≤ b)
+runs_tells : (i : Instance) (plan : Plan) (n a b p : ℕ) → really_runs i plan n a b p ≡ true → (node_of i p ≡ n) × (a ≤ start_of plan p) × (end_of i plan p ≤ b)
 unfolding really_runs
 runs_tells i plan n a b p h =
     let both = and_parts _ _ h in
     let span = and_parts _ _ both.1 in
     (eqb-true _ _ both.0, leb-true _ _ span.0, leb-true _ _ span.1)
 
-run_load : Problem → Plan → ℕ → ℕ → ℕ → ℕ → ℕ
+run_load : Instance → Plan → ℕ → ℕ → ℕ → ℕ → ℕ
 run_load i plan n a b p = if really_runs i plan n a b p then wcet_of i p else 0
 
-pub apart : (i : Problem) (plan : Plan) (p q : ℕ) → IsValid i plan → p < length i.processes → q < length i.processes → p ≢ q → node_of i p ≡ node_of i q → (end_of i plan p ≤ start_of plan q) ⊎ (end_of i plan q ≤ start_of plan p)
-apart i plan p q v hp hq two same = elim (cases_order p q) [
-  | inl is ↦ absurd (two is)
-  | inr other ↦ elim other [
-    | inl below ↦ v.apart p hp q below hq same
-    | inr above ↦ elim (v.apart q hq p above hp (sym same)) [ inl x ↦ inr x | inr x ↦ inl x ]
-  ]
-]
-
 -- By the number of processes: the last one, where it runs in the span, cuts it in two.
-runs_fit : (i : Problem) (plan : Plan) (n count a b : ℕ) → IsValid i plan → count ≤ length i.processes → a ≤ b → total (run_load i plan n a b) count + a ≤ b
+runs_fit : (i : Instance) (plan : Plan) (n count a b : ℕ) → IsValid i plan → count ≤ length i.processes → a ≤ b → total (run_load i plan n a b) count + a ≤ b
 unfolding run_load
 runs_fit i plan n zero a b v few le = omega arith
 runs_fit i plan n (suc count) a b v few le = elim (cases_Bool (really_runs i plan n a b count)) [
@@ -52,7 +43,7 @@ runs_fit i plan n (suc count) a b v few le = elim (cases_Bool (really_runs i pla
       let shared = total_shared (run_load i plan n a b) (run_load i plan n a from) (run_load i plan n until b) count (λ k lt.
       selected_split (really_runs i plan n a b k) (really_runs i plan n a from k) (really_runs i plan n until b k) (wcet_of i k) (λ other.
       let its = runs_tells i plan n a b k other in
-      elim (apart i plan k count v (omega arith) (omega arith) (omega arith) (its.0 ∙ sym tells.0)) [
+      elim (two_apart i plan k count v (omega arith) (omega arith) (omega arith) (its.0 ∙ sym tells.0)) [
         | inl first ↦ inl (runs_from i plan n a from k its.0 its.1 first)
         | inr later ↦ inr (runs_from i plan n until b k its.0 later its.2)
       ])) in
@@ -64,7 +55,7 @@ runs_fit i plan n (suc count) a b v few le = elim (cases_Bool (really_runs i pla
       omega (arith, total_more (run_load i plan n a b) count, rest, last)
 ]
 
-pub loads_fit : (i : Problem) (plan : Plan) (f : Known) (n a b : ℕ) → IsValid i plan → AreTrueOf i plan f → a ≤ b → total (load_within i f n a b) (length i.processes) + a ≤ b
+pub loads_fit : (i : Instance) (plan : Plan) (f : Known) (n a b : ℕ) → IsValid i plan → AreTrueOf i plan f → a ≤ b → total (load_within i f n a b) (length i.processes) + a ≤ b
 unfolding run_load
 loads_fit i plan f n a b v t le =
     let less = total_le (load_within i f n a b) (run_load i plan n a b) (length i.processes) (λ p h.
@@ -74,25 +65,25 @@ loads_fit i plan f n a b v t le =
     omega (arith, less, runs_fit i plan n (length i.processes) a b v (omega arith) le)
 
 -- the bytes of a message of n that is really sent in a round from a on and before b
-really_sent : Problem → Plan → ℕ → ℕ → ℕ → ℕ → Bool
+really_sent : Instance → Plan → ℕ → ℕ → ℕ → ℕ → Bool
 really_sent i plan n a b m = (source_of i m == n) && (nat_le a (round_of plan m) && nat_lt (round_of plan m) b)
 
-sent_from : (i : Problem) (plan : Plan) (n a b m : ℕ) → source_of i m ≡ n → a ≤ round_of plan m → round_of plan m < b → really_sent i plan n a b m ≡ true
+sent_from : (i : Instance) (plan : Plan) (n a b m : ℕ) → source_of i m ≡ n → a ≤ round_of plan m → round_of plan m < b → really_sent i plan n a b m ≡ true
 unfolding really_sent
 sent_from i plan n a b m node from until = and_from _ _ (eq-eqb _ _ node) (and_from _ _ (le-leb _ _ from) (lt-ltb _ _ until))
 
-sent_tells : (i : Problem) (plan : Plan) (n a b m : ℕ) → really_sent i plan n a b m ≡ true → (source_of i m ≡ n) × (a ≤ round_of plan m) × (round_of plan m < b)
+sent_tells : (i : Instance) (plan : Plan) (n a b m : ℕ) → really_sent i plan n a b m ≡ true → (source_of i m ≡ n) × (a ≤ round_of plan m) × (round_of plan m < b)
 unfolding really_sent
 sent_tells i plan n a b m h =
     let both = and_parts _ _ h in
     let span = and_parts _ _ both.1 in
     (eqb-true _ _ both.0, leb-true _ _ span.0, ltb-true _ _ span.1)
 
-sent_bytes : Problem → Plan → ℕ → ℕ → ℕ → ℕ → ℕ
+sent_bytes : Instance → Plan → ℕ → ℕ → ℕ → ℕ → ℕ
 sent_bytes i plan n a b m = if really_sent i plan n a b m then (message_at i m).bytes else 0
 
 -- By the number of rounds: the last frame holds no more than its capacity.
-frames_hold : (i : Problem) (plan : Plan) (n a rounds : ℕ) → IsValid i plan → total (sent_bytes i plan n a (a + rounds)) (length i.messages) ≤ rounds * slice_index plan.caps n
+frames_hold : (i : Instance) (plan : Plan) (n a rounds : ℕ) → IsValid i plan → total (sent_bytes i plan n a (a + rounds)) (length i.messages) ≤ rounds * slice_index plan.caps n
 unfolding sent_bytes
 frames_hold i plan n a zero v =
     let none = total_none (sent_bytes i plan n a (a + 0)) (length i.messages) (λ m h. elim (cases_Bool (really_sent i plan n a (a + 0) m)) [
@@ -112,7 +103,7 @@ frames_hold i plan n a (suc rounds) v =
     ])) in
     omega (arith, rest, frame, shared)
 
-pub bytes_fit : (i : Problem) (plan : Plan) (f : Known) (n a b : ℕ) → IsValid i plan → AreTrueOf i plan f → a ≤ b → total (bytes_within i f n a b) (length i.messages) ≤ (b - a) * slice_index plan.caps n
+pub bytes_fit : (i : Instance) (plan : Plan) (f : Known) (n a b : ℕ) → IsValid i plan → AreTrueOf i plan f → a ≤ b → total (bytes_within i f n a b) (length i.messages) ≤ (b - a) * slice_index plan.caps n
 unfolding sent_bytes
 bytes_fit i plan f n a b v t le =
     let is : a + (b - a) ≡ b = omega arith in

@@ -11,7 +11,7 @@ use Rattle.tt_choice.specs.Branches.{root_choice}
 use Rattle.tt_choice.specs.Extremes.{start_most, end_least}
 use Rattle.tt_choice.proofs.Bounds.{start_between, end_between, end_least_later}
 use Rattle.tt_choice.proofs.Root.{IsChoice-root, IsIn-root}
-use Rattle.tt_infer.specs.Facts.{Known, first_facts, le_of}
+use Rattle.tt_infer.specs.Known.{Known, first_facts, le_of}
 use Rattle.tt_infer.specs.Conclusions.{StartsFrom, SentFrom, EndsUntil, NothingLeft, sharpened}
 use Rattle.tt_infer.specs.Premises.{IsFirstChance, least_end}
 use Rattle.tt_infer.specs.Table.{IsLawful}

@@ -1,35 +1,28 @@
 -- The worked example with one message keeps the rules of an instance.
-use Rattle.std.proofs.Common.{◌≡◌, ◌≢◌, ℕ, zero, suc, ◌+◌, ◌-◌, ◌<◌, ◌≤◌, [], ◌∷◌, length, slice_index, slice_index_or, Contains, All, IsTrue, arith, inl, inr, refl, sym, ap, lit<}
+use Rattle.std.proofs.Common.{◌≡◌, ◌≢◌, ℕ, zero, suc, ◌+◌, ◌-◌, ◌<◌, ◌≤◌, [], ◌∷◌, length, slice_index, slice_index_or, All, IsTrue, arith, inl, inr, refl, ap, lit<}
 use Rattle.std.proofs.lemmas.Bool.{cases_order}
 use Rattle.ttp_model.specs.declared.error.Place.{Place}
 use Rattle.ttp_model.specs.declared.error.Place.TheVariants.{AtCluster, AtNode, AtProcess, AtLink, AtMessage}
-use Rattle.ttp_model.specs.Problem.{node_at, process_at, message_at, node_of}
+use Rattle.ttp_model.specs.Instance.{node_at, process_at, message_at, node_of}
 use Rattle.ttp_model.specs.Graph.{Leads, IsAcyclic}
 use Rattle.ttp_model.specs.Rules.{IsInstance, IsName, IsNamed, IsNewName, IsInRange, IsProcess, IsProcessInRange, IsCapacityList, NamesWhatIsThere, begins_name, continues_name}
 use Rattle.ttp_model.specs.Worked.{one_message}
+use Rattle.ttp_model.proofs.OneMessage.{message_is}
 
--- Its message leads from p to q, so it has no cycle.
-message_is : (p q : ℕ) → Leads one_message p q → (p ≡ 0) × (q ≡ 1)
-message_is p q (inl link) = absurd (omega (arith, link.is_there))
-message_is p q (inr message) = at message.message message.is_there message.sender message.receiver
-  where
-    place : (k : ℕ) → k < 1 → slice_index_or (1 ∷ []) k q ≡ q → q ≡ 1
-    place zero lt is = sym is
-    place (suc k) lt is = absurd (omega arith)
-
-    at : (m : ℕ) → m < 1 → (message_at one_message m).sender ≡ p → Contains (message_at one_message m).receivers q → (p ≡ 0) × (q ≡ 1)
-    at zero lt sender receiver = (sym sender, place receiver.0 receiver.1 receiver.2)
-    at (suc m) lt sender receiver = absurd (omega arith)
+-- It leads from p to q alone, so it has no cycle.
+leads_is : (p q : ℕ) → Leads one_message p q → (p ≡ 0) × (q ≡ 1)
+leads_is p q (inl link) = absurd (omega (arith, link.is_there))
+leads_is p q (inr message) = message_is p q message
 
 acyclic : IsAcyclic one_message
 acyclic ps walk =
-    let first = (message_is (slice_index ps (length ps - 1)) (slice_index ps 0) walk.closes).1 in
-    let last = (message_is (slice_index ps (length ps - 1)) (slice_index ps 0) walk.closes).0 in
+    let first = (leads_is (slice_index ps (length ps - 1)) (slice_index ps 0) walk.closes).1 in
+    let last = (leads_is (slice_index ps (length ps - 1)) (slice_index ps 0) walk.closes).0 in
     elim (cases_order (length ps) 1) [
       | inl one ↦ (let same : length ps - 1 ≡ 0 = omega (arith, one) in absurd (omega (arith, first, last, ap (slice_index ps) same)))
       | inr apart ↦ elim apart [
         | inl none ↦ (let some = walk.some in absurd (omega (arith, none, some)))
-        | inr more ↦ (let zeroth = (message_is (slice_index ps 0) (slice_index ps (0 + 1)) (walk.each 0 (omega (arith, more)))).0 in absurd (omega (arith, first, zeroth)))
+        | inr more ↦ (let zeroth = (leads_is (slice_index ps 0) (slice_index ps (0 + 1)) (walk.each 0 (omega (arith, more)))).0 in absurd (omega (arith, first, zeroth)))
       ]
     ]
 

@@ -2,11 +2,11 @@
 use Rattle.std.proofs.Common.{ℕ, ◌<◌, ◌≤◌, min, max, List, length, slice_index, slice_set, IsTrue, arith, inl, inr, refl, ap}
 use Rattle.std.proofs.lemmas.Bool.{cases_eq}
 use Rattle.ttp_model.specs.declared.step.Step.{Step}
-use Rattle.ttp_model.specs.Problem.{Problem}
+use Rattle.ttp_model.specs.Instance.{Instance}
 use Rattle.ttp_model.specs.Rules.{IsInstance}
-use Rattle.tt_choice.specs.Choices.{Chosen}
+use Rattle.tt_choice.specs.Choice.{Choice}
 use Rattle.tt_choice.proofs.Before.{put_kept}
-use Rattle.tt_infer.specs.Facts.{Known, Fits, es_of, le_of, lo_of, top_of, bef_of}
+use Rattle.tt_infer.specs.Known.{Known, Fits, es_of, le_of, lo_of, top_of, bef_of}
 use Rattle.tt_infer.specs.Conclusions.{Conclusion, StartsFrom, EndsUntil, SentFrom, SentBefore, GoesFirst, NothingLeft, IsAbout, sharpened, capped}
 use Rattle.tt_infer.specs.Table.{IsLawful}
 use Rattle.tt_infer.proofs.Keeps.{changed_here, changed_there}
@@ -36,7 +36,7 @@ falls xs k high there j = elim (cases_eq j k) [
 alike : (xs : List ℕ) (j : ℕ) → slice_index xs j ≤ slice_index xs j
 alike xs j = omega arith
 
-IsSharper-sharpened : (i : Problem) (f : Known) (k : Conclusion) → Fits i f → IsAbout i k → IsSharper f (sharpened i f k)
+IsSharper-sharpened : (i : Instance) (f : Known) (k : Conclusion) → Fits i f → IsAbout i k → IsSharper f (sharpened i f k)
 IsSharper-sharpened i f (StartsFrom p time) fits there = record {
   es = rises f.es p (capped i time) (omega (arith, fits.es, there));
   le = alike f.le;
@@ -86,7 +86,7 @@ IsSharper-sharpened i f NothingLeft fits there = record {
   closed = λ is. refl;
 }
 
-pub IsSharper-step : (i : Problem) (c : Chosen) (goal : ℕ) (f : Known) (step : Step) (g : Known) → IsInstance i → Fits i f → IsLawful i c goal f step g → IsSharper f g
+pub IsSharper-step : (i : Instance) (c : Choice) (goal : ℕ) (f : Known) (step : Step) (g : Known) → IsInstance i → Fits i f → IsLawful i c goal f step g → IsSharper f g
 IsSharper-step i c goal f step g w fits lawful =
     let there = step_is_about i c goal f step lawful.conclusion w lawful.there lawful.premise lawful.concludes in
     rw lawful.known (IsSharper-sharpened i f lawful.conclusion fits there)

@@ -4,10 +4,10 @@ use Rattle.ttp_model.specs.declared.plan.Plan.{Plan}
 use Rattle.ttp_model.specs.declared.step.Step.{Step}
 use Rattle.ttp_model.specs.declared.step.Step.TheVariants.{EsRelease, EsLink, EsBefore, EsArrive, EsMessage, LoSend, LeOwn, LeLink, LeBefore, LeMessage, LeSend, HiArrive, OrdWindow, OrdTwin, UsSettled, XWindow, XRound, XCycle, XLoad, XFrame, XFrames, XLate, XSilent}
 use Rattle.ttp_model.specs.declared.error.Place.TheVariants.{AtLink}
-use Rattle.ttp_model.specs.Problem.{Problem}
+use Rattle.ttp_model.specs.Instance.{Instance}
 use Rattle.ttp_model.specs.Rules.{IsInstance}
-use Rattle.tt_choice.specs.Choices.{Chosen, IsChoice}
-use Rattle.tt_infer.specs.Facts.{Known, Fits, IsSought, AreTrueOf, Hold}
+use Rattle.tt_choice.specs.Choice.{Choice, IsChoice}
+use Rattle.tt_infer.specs.Known.{Known, Fits, IsSought, AreTrueOf, Hold}
 use Rattle.tt_infer.specs.Conclusions.{Conclusion, IsAbout}
 use Rattle.tt_infer.specs.Table.{rule, IsLawful}
 use Rattle.tt_infer.proofs.Soundness.{IsSoundFor}
@@ -24,7 +24,7 @@ use Rattle.tt_infer.proofs.SilentTwins.{x_silent_sound}
 use Rattle.tt_infer.proofs.Keeps.{AreTrueOf-sharpened, Fits-sharpened}
 
 -- what a step concludes is about what the instance has
-pub step_is_about : (i : Problem) (c : Chosen) (goal : ℕ) (f : Known) (step : Step) (k : Conclusion) → IsInstance i → (rule i c goal f step).there → (rule i c goal f step).premise → (rule i c goal f step).concludes k → IsAbout i k
+pub step_is_about : (i : Instance) (c : Choice) (goal : ℕ) (f : Known) (step : Step) (k : Conclusion) → IsInstance i → (rule i c goal f step).there → (rule i c goal f step).premise → (rule i c goal f step).concludes k → IsAbout i k
 step_is_about i c goal f (EsRelease p) k w there premise is = rw is there
 step_is_about i c goal f (EsLink l) k w there premise is = rw is (w.indices (AtLink l) there).1
 step_is_about i c goal f (EsBefore p q) k w there premise is = rw is there.second
@@ -50,7 +50,7 @@ step_is_about i c goal f (XLate m r) k w there premise is = rw is tt
 step_is_about i c goal f (XSilent a b) k w there premise is = rw is tt
 
 -- and is true of each sought plan of which the facts are true
-pub step_is_true : (i : Problem) (c : Chosen) (goal : ℕ) (f : Known) (plan : Plan) (step : Step) → IsInstance i → IsChoice i c → IsSought i c goal plan → AreTrueOf i plan f → IsSoundFor i c goal f plan step
+pub step_is_true : (i : Instance) (c : Choice) (goal : ℕ) (f : Known) (plan : Plan) (step : Step) → IsInstance i → IsChoice i c → IsSought i c goal plan → AreTrueOf i plan f → IsSoundFor i c goal f plan step
 step_is_true i c goal f plan (EsRelease p) w ok sought t = es_release_sound i c goal f plan p sought.settled.valid
 step_is_true i c goal f plan (EsLink l) w ok sought t = es_link_sound i c goal f plan l w sought.settled.valid t
 step_is_true i c goal f plan (EsBefore p q) w ok sought t = es_before_sound i c goal f plan p q t
@@ -76,11 +76,11 @@ step_is_true i c goal f plan (XLate m r) w ok sought t = x_late_sound i c goal f
 step_is_true i c goal f plan (XSilent a b) w ok sought t = x_silent_sound i c goal f plan a b ok sought
 
 -- after a lawful step the facts are about the instance
-pub Fits-step : (i : Problem) (c : Chosen) (goal : ℕ) (f : Known) (step : Step) (g : Known) → Fits i f → IsLawful i c goal f step g → Fits i g
+pub Fits-step : (i : Instance) (c : Choice) (goal : ℕ) (f : Known) (step : Step) (g : Known) → Fits i f → IsLawful i c goal f step g → Fits i g
 Fits-step i c goal f step g fits lawful = rw lawful.known (Fits-sharpened i f lawful.conclusion fits)
 
 -- and hold, where they held before it
-pub Hold-step : (i : Problem) (c : Chosen) (goal : ℕ) (f : Known) (step : Step) (g : Known) → IsInstance i → IsChoice i c → Fits i f → IsLawful i c goal f step g → Hold i c goal f → Hold i c goal g
+pub Hold-step : (i : Instance) (c : Choice) (goal : ℕ) (f : Known) (step : Step) (g : Known) → IsInstance i → IsChoice i c → Fits i f → IsLawful i c goal f step g → Hold i c goal f → Hold i c goal g
 Hold-step i c goal f step g w ok fits lawful holds plan sought =
     let t = holds plan sought in
     let about = step_is_about i c goal f step lawful.conclusion w lawful.there lawful.premise lawful.concludes in

@@ -2,11 +2,11 @@
 use Rattle.std.proofs.Common.{◌≡◌, ℕ, ◌-◌, ◌<◌, min, List, [], ◌∷◌, arith, refl, lit<}
 use Rattle.ttp_model.specs.declared.step.Step.{Step}
 use Rattle.ttp_model.specs.declared.step.Step.TheVariants.{LeOwn, XLoad}
-use Rattle.ttp_model.specs.Problem.{process_at}
+use Rattle.ttp_model.specs.Instance.{process_at}
 use Rattle.ttp_model.specs.Worked.{three_alike}
+use Rattle.ttp_model.specs.Totals.{total}
 use Rattle.tt_choice.specs.Branches.{root_choice}
-use Rattle.tt_choice.specs.Totals.{total}
-use Rattle.tt_infer.specs.Facts.{Known, first_facts}
+use Rattle.tt_infer.specs.Known.{Known, first_facts}
 use Rattle.tt_infer.specs.Conclusions.{EndsUntil, NothingLeft, sharpened}
 use Rattle.tt_infer.specs.Premises.{load_within}
 use Rattle.tt_infer.specs.Table.{IsLawful}

@@ -3,14 +3,14 @@
 use Rattle.std.proofs.Common.{◌≡◌, ◌≢◌, ℕ, zero, suc, ◌<◌, ◌≤◌, [], ◌∷◌, length, arith, refl, lit<}
 use Rattle.std.proofs.lemmas.Bool.{both_ways}
 use Rattle.ttp_model.specs.declared.step.Step.TheVariants.{OrdTwin, UsSettled}
-use Rattle.ttp_model.specs.Problem.{process_at}
+use Rattle.ttp_model.specs.Instance.{process_at}
 use Rattle.ttp_model.specs.Worked.{three_alike}
 use Rattle.ttp_model.specs.Graph.{HasLink}
 use Rattle.ttp_model.specs.Twins.{AreTwins}
 use Rattle.tt_choice.specs.Branches.{root_choice}
 use Rattle.tt_infer.specs.declared.fault.StepFault.TheVariants.{NoPremise}
 use Rattle.tt_infer.specs.Answers.{IsStepFault}
-use Rattle.tt_infer.specs.Facts.{Known, first_facts, le_of}
+use Rattle.tt_infer.specs.Known.{Known, first_facts, le_of}
 use Rattle.tt_infer.specs.Conclusions.{EndsUntil, GoesFirst, sharpened}
 use Rattle.tt_infer.specs.Dominance.{MayGoBefore, IsGreatestWait}
 use Rattle.tt_infer.specs.Table.{IsLawful}

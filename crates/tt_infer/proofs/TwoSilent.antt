@@ -2,11 +2,11 @@
 use Rattle.std.proofs.Common.{◌≡◌, ◌≢◌, ℕ, zero, suc, ◌<◌, [], ◌∷◌, length, slice_index, arith, refl, lit<}
 use Rattle.ttp_model.specs.declared.step.Step.TheVariants.{XSilent}
 use Rattle.ttp_model.specs.Twins.{AreSilentTwins}
-use Rattle.tt_choice.specs.Choices.{Chosen}
+use Rattle.tt_choice.specs.Choice.{Choice}
 use Rattle.tt_choice.specs.Branches.{root_choice, place_next}
 use Rattle.tt_infer.specs.declared.fault.StepFault.TheVariants.{NoPremise}
 use Rattle.tt_infer.specs.Answers.{IsStepFault}
-use Rattle.tt_infer.specs.Facts.{Known, first_facts}
+use Rattle.tt_infer.specs.Known.{Known, first_facts}
 use Rattle.tt_infer.specs.Conclusions.{NothingLeft, sharpened}
 use Rattle.tt_infer.specs.Dominance.{StandTurned}
 use Rattle.tt_infer.specs.Leaves.{ClosesLeaf}
@@ -20,7 +20,7 @@ twins : AreSilentTwins two_silent 0 1
 twins = record { u_is = lit< tt; v_is = lit< tt; two = λ is. omega (arith, is); u_silent = λ m h. no_message m h; v_silent = λ m h. no_message m h; capacities = refl }
 
 -- the second first
-abbrev turned : Chosen
+abbrev turned : Choice
 turned = place_next (root_choice two_silent) 1
 
 abbrev at_first : Known
@@ -36,7 +36,7 @@ pub closes_second_first : (goal : ℕ) → ClosesLeaf two_silent turned (record 
 closes_second_first goal = (sharpened two_silent at_first NothingLeft, (refl, (sharpened two_silent at_first NothingLeft, step_closes goal, refl)), refl)
 
 -- in their order
-abbrev in_order : Chosen
+abbrev in_order : Choice
 in_order = place_next (place_next (root_choice two_silent) 0) 1
 
 not_turned : ¬ StandTurned two_silent in_order 0 1

@@ -1,4 +1,4 @@
-pub mod Facts
+pub mod Known
 pub mod Conclusions
 pub mod Premises
 pub mod Dominance
@@ -6,10 +6,10 @@ pub mod Table
 pub mod Leaves
 pub mod Worked
 pub mod Answers
-pub mod Inference
-pub mod Sought
-pub use Rattle.ttp_model.specs.Problem
+pub mod Facts
+pub mod Setting
+pub use Rattle.ttp_model.specs.Instance
 pub use Rattle.ttp_model.specs.Rules
 pub use Rattle.ttp_model.specs.Plans
-pub use Rattle.tt_choice.specs.Choices
+pub use Rattle.tt_choice.specs.Choice
 pub use Rattle.tt_choice.specs.Extremes

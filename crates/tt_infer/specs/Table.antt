@@ -3,38 +3,38 @@ use Rattle.std.specs.Prelude.{◌≡◌, ℕ, ◌+◌, ◌-◌, ◌<◌, ◌≤�
 use Rattle.ttp_model.specs.declared.step.Step.{Step}
 use Rattle.ttp_model.specs.declared.step.Step.TheVariants.{EsRelease, EsLink, EsBefore, EsArrive, EsMessage, LoSend, LeOwn, LeLink, LeBefore, LeMessage, LeSend, HiArrive, OrdWindow, OrdTwin, UsSettled, XWindow, XRound, XCycle, XLoad, XFrame, XFrames, XLate, XSilent}
 use Rattle.ttp_model.specs.Lists.{EachBelow}
-use Rattle.ttp_model.specs.Problem.{Problem, process_at, message_at, link_at, source_of}
-use Rattle.tt_choice.specs.Choices.{Chosen, ArePair}
+use Rattle.ttp_model.specs.Instance.{Instance, process_at, message_at, link_at, source_of}
+use Rattle.tt_choice.specs.Choice.{Choice, ArePair}
 use Rattle.tt_choice.specs.Extremes.{start_most, end_least, cap_most, dur_least}
-use Rattle.tt_infer.specs.Facts.{Known, le_of, lo_of, top_of, bef_of}
+use Rattle.tt_infer.specs.Known.{Known, le_of, lo_of, top_of, bef_of}
 use Rattle.tt_infer.specs.Conclusions.{Conclusion, StartsFrom, EndsUntil, SentFrom, SentBefore, GoesFirst, NothingLeft, sharpened}
 use Rattle.tt_infer.specs.Dominance.{AreTwinsInOrder, HasRounds, IsGreatestWait, CouldBeEarlier, StandTurned}
 use Rattle.tt_infer.specs.Premises.{Receives, wcet_of, sender_of, least_end, most_start, least_ready, IsFirstChance, AreChances, IsRing, IsOverloaded, AreOverfull}
 
 -- a row: what the step names is there, its premise, and what it concludes
-pub record Row : Type 1 where
+pub record StepRow : Type 1 where
   pub there : Type 0
   pub premise : Type 0
   pub concludes : Conclusion → Type 0
 
-abbrev pub row : Type 0 → Type 0 → (Conclusion → Type 0) → Row
+abbrev pub row : Type 0 → Type 0 → (Conclusion → Type 0) → StepRow
 row there premise concludes = record { there = there; premise = premise; concludes = concludes }
 
 -- the index is one of a process, a link, a message, a node
-abbrev pub IsProcess : Problem → ℕ → Type 0
+abbrev pub IsProcess : Instance → ℕ → Type 0
 IsProcess i p = p < length i.processes
 
-abbrev pub IsLink : Problem → ℕ → Type 0
+abbrev pub IsLink : Instance → ℕ → Type 0
 IsLink i l = l < length i.links
 
-abbrev pub IsMessage : Problem → ℕ → Type 0
+abbrev pub IsMessage : Instance → ℕ → Type 0
 IsMessage i m = m < length i.messages
 
-abbrev pub IsNode : Problem → ℕ → Type 0
+abbrev pub IsNode : Instance → ℕ → Type 0
 IsNode i n = n < length i.nodes
 
 -- two processes or more, which are there
-abbrev pub AreProcesses : Problem → List ℕ → Type 0
+abbrev pub AreProcesses : Instance → List ℕ → Type 0
 AreProcesses i ps = (2 ≤ length ps) × EachBelow (length ps) (λ k. IsProcess i (slice_index ps k))
 
 -- a step that asks for nothing more
@@ -46,7 +46,7 @@ abbrev pub Just : Conclusion → Conclusion → Type 0
 Just this other = other ≡ this
 
 -- The table.
-abbrev pub rule : Problem → Chosen → ℕ → Known → Step → Row
+abbrev pub rule : Instance → Choice → ℕ → Known → Step → StepRow
 rule i c goal f (EsRelease p) = row (IsProcess i p) Always (Just (StartsFrom p (process_at i p).release))
 rule i c goal f (EsLink l) = row (IsLink i l) Always (Just (StartsFrom (link_at i l).after (least_end i f (link_at i l).before)))
 rule i c goal f (EsBefore p q) = row (ArePair i p q) (IsTrue (bef_of f p q)) (Just (StartsFrom q (least_end i f p)))
@@ -73,7 +73,7 @@ rule i c goal f (XSilent u v) = row (IsNode i u × IsNode i v) (StandTurned i c 
 
 -- a step of the table: what it names is there, its premise holds, and what is known after it is what
 -- was known before, sharpened by its conclusion
-pub record IsLawful (i : Problem) (c : Chosen) (goal : ℕ) (f : Known) (step : Step) (g : Known) : Type 0 where
+pub record IsLawful (i : Instance) (c : Choice) (goal : ℕ) (f : Known) (step : Step) (g : Known) : Type 0 where
   pub there : (rule i c goal f step).there
   pub premise : (rule i c goal f step).premise
   pub conclusion : Conclusion

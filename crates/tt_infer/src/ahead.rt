@@ -4,8 +4,7 @@ ghost use Rattle.std.specs.Prelude.{◌↔◌, IsTrue};
 ghost use Rattle.ttp_model.specs.Graph.{HasMessage};
 ghost use Rattle.tt_infer.specs.Premises.{IsAhead};
 
-use crate::indices::has;
-use crate::known::Bounds;
+use crate::known::Known;
 use ttp_model::{Instance, has_link};
 
 /// Whether `p` sends a message to `q`.
@@ -14,7 +13,7 @@ fn has_message(instance: &Instance, p: u32, q: u32) -> bool
 {
     for m in 0..instance.messages().len() {
         let message = instance.message_at(m);
-        if message.sender == p && has(message.receivers.as_slice(), q) {
+        if message.sender == p && message.receivers.contains(q) {
             return true;
         }
     }
@@ -22,7 +21,7 @@ fn has_message(instance: &Instance, p: u32, q: u32) -> bool
 }
 
 /// Whether `p` is known to go before `q`, or a link or a message leads from `p` to `q`.
-pub fn is_ahead(known: &Bounds, instance: &Instance, p: u32, q: u32) -> bool
+pub fn is_ahead(known: &Known, instance: &Instance, p: u32, q: u32) -> bool
     ensures { IsTrue result ↔ IsAhead instance.now known.now p q }
 {
     known.bef(p, q) || has_link(instance, p, q) || has_message(instance, p, q)

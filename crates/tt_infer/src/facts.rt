@@ -2,13 +2,13 @@
 
 ghost use Rattle.std.specs.Prelude.{◌≡◌, ◌<◌, IfOk, IsTrue, length};
 ghost use Rattle.ttp_model.specs.declared.plan.Plan.{Plan};
-ghost use Rattle.tt_choice.specs.Choices.{IsChoice};
-ghost use Rattle.tt_infer.specs.Facts.{IsSought, es_of, le_of, lo_of, top_of, bef_of, first_facts};
-ghost use Rattle.tt_infer.specs.Inference.{IsInference, after};
+ghost use Rattle.tt_choice.specs.Choice.{IsChoice};
+ghost use Rattle.tt_infer.specs.Known.{IsSought, es_of, le_of, lo_of, top_of, bef_of, first_facts};
+ghost use Rattle.tt_infer.specs.Facts.{AreFacts, after};
 ghost use Rattle.tt_infer.specs.Answers.{Takes};
 
 use crate::fault::StepFault;
-use crate::known::Bounds;
+use crate::known::Known;
 use crate::rules;
 use crate::setting::Setting;
 use std::alloc::Global;
@@ -22,18 +22,18 @@ use ttp_model::{Instance, MemoryFault, Step};
 #[derive(Drop)]
 pub struct Facts<'a> {
     setting: Setting<'a>,
-    known: Bounds,
+    known: Known,
 }
 
 impl<'a> Model for Facts<'a> {
-    ghost use Rattle.tt_infer.specs.Inference.{Inference, IsInference};
-    ghost use Rattle.tt_infer.specs.Sought.{inference};
+    ghost use Rattle.tt_infer.specs.Facts.{Facts, AreFacts};
+    ghost use Rattle.tt_infer.specs.Setting.{inference};
 
-    ghost Value = { Inference };
+    ghost Value = { Facts };
 
     ghost view = { λ s. inference s.setting s.known };
 
-    ghost invariant = { λ s. IsInference (inference s.setting s.known) };
+    ghost invariant = { λ s. AreFacts (inference s.setting s.known) };
 }
 
 impl<'a> Facts<'a> {
@@ -55,7 +55,7 @@ impl<'a> Facts<'a> {
     {
         let _nodes = instance.nodes();
         let setting = Setting::new(alloc, instance, choice, goal)?;
-        let known = Bounds::first(alloc, instance, choice)?;
+        let known = Known::first(alloc, instance, choice)?;
         Ok(Facts { setting, known })
     }
 
@@ -123,7 +123,7 @@ impl<'a> Facts<'a> {
     /// The instance whose plans are sought.
     pub fn instance(&self) -> &'a Instance
         ensures value { result.now ≡ self.now.instance }
-        ensures inference { IsInference self.now }
+        ensures inference { AreFacts self.now }
     {
         self.setting.instance()
     }
@@ -131,7 +131,7 @@ impl<'a> Facts<'a> {
     /// The choice that they are in.
     pub fn choice(&self) -> &Choice
         ensures value { result.now ≡ self.now.choice }
-        ensures inference { IsInference self.now }
+        ensures inference { AreFacts self.now }
     {
         self.setting.choice()
     }

@@ -1,7 +1,7 @@
 //! Is what a step names there?
 
-ghost use Rattle.std.specs.Prelude.{ℕ, ◌<◌, ◌↔◌, length, Contains, IsTrue};
-ghost use Rattle.tt_choice.specs.Choices.{ArePair};
+ghost use Rattle.std.specs.Prelude.{ℕ, ◌<◌, ◌↔◌, length, IsTrue};
+ghost use Rattle.tt_choice.specs.Choice.{ArePair};
 ghost use Rattle.tt_infer.specs.Premises.{Receives};
 
 use ttp_model::Instance;
@@ -17,13 +17,6 @@ pub fn are_pair(instance: &Instance, p: u32, q: u32) -> bool
     instance.node_of(p as usize) == instance.node_of(q as usize)
 }
 
-/// Whether the number is among them.
-pub fn has(numbers: &[u32], number: u32) -> bool
-    ensures { IsTrue result ↔ Contains numbers.now number }
-{
-    numbers.contains(&number)
-}
-
 /// Whether message `m` is there, and process `q` receives it. One pass over its receivers.
 pub fn receives(instance: &Instance, m: u32, q: u32) -> bool
     ensures is { IsTrue result ↔ Receives instance.now m q }
@@ -32,5 +25,5 @@ pub fn receives(instance: &Instance, m: u32, q: u32) -> bool
     if m as usize >= instance.messages().len() {
         return false;
     }
-    has(instance.message_at(m as usize).receivers.as_slice(), q)
+    instance.message_at(m as usize).receivers.contains(q)
 }

@@ -2,8 +2,8 @@
 
 ghost use Rattle.std.specs.Prelude.{◌≡◌, ℕ, ◌+◌, ◌<◌, ◌≤◌, length, min, max, map, IfOk};
 ghost use Rattle.ttp_model.specs.declared.limits.TheConstants.{MOST_TICKS};
-ghost use Rattle.tt_choice.specs.Choices.{IsChoice, hi_of};
-ghost use Rattle.tt_infer.specs.Facts.{Known, Fits, es_of, le_of, lo_of, top_of, bef_of, first_facts};
+ghost use Rattle.tt_choice.specs.Choice.{IsChoice, greatest_round};
+ghost use Rattle.tt_infer.specs.Known.{Known, Fits, es_of, le_of, lo_of, top_of, bef_of, first_facts};
 ghost use Rattle.tt_infer.specs.Conclusions.{StartsFrom, EndsUntil, SentFrom, SentBefore, GoesFirst, NothingLeft, sharpened};
 
 use std::alloc::Global;
@@ -11,9 +11,9 @@ use std::marker::Model;
 use tt_choice::{Choice, Precedence};
 use ttp_model::{Instance, MemoryFault};
 
-/// Bounds on starts, ends and rounds, and which processes go before which.
+/// Known on starts, ends and rounds, and which processes go before which.
 #[derive(Debug, Drop)]
-pub struct Bounds {
+pub struct Known {
     /// By process, when it starts at least.
     es: Vec<u32>,
     /// By process, when it ends at most.
@@ -26,8 +26,8 @@ pub struct Bounds {
     closed: bool,
 }
 
-impl Model for Bounds {
-    ghost use Rattle.tt_infer.specs.Facts.{Known};
+impl Model for Known {
+    ghost use Rattle.tt_infer.specs.Known.{Known};
 
     ghost Value = { Known };
 
@@ -56,7 +56,7 @@ fn least_rounds(alloc: Global, choice: &Choice, messages: u32) -> Result<Vec<u32
 /// The first round of each message that is too late.
 fn late_rounds(alloc: Global, choice: &Choice, messages: u32) -> Result<Vec<u32>, MemoryFault>
     requires all { length choice.now.hi ≡ messages }
-    requires early { (m : ℕ) → m < messages → hi_of choice.now m < MOST_TICKS }
+    requires early { (m : ℕ) → m < messages → greatest_round choice.now m < MOST_TICKS }
     ensures { IfOk result (λ rounds. rounds.items ≡ map (λ r. r + 1) choice.now.hi) }
 {
     let mut rounds = Vec::new(alloc);
@@ -66,7 +66,7 @@ fn late_rounds(alloc: Global, choice: &Choice, messages: u32) -> Result<Vec<u32>
     Ok(rounds)
 }
 
-impl Bounds {
+impl Known {
     /// What is known at first.
     pub fn first(alloc: Global, instance: &Instance, choice: &Choice) -> Result<Self, MemoryFault>
         requires { IsChoice instance.now choice.now }
@@ -74,7 +74,7 @@ impl Bounds {
     {
         let processes = instance.processes().len();
         let messages = instance.messages().len() as u32;
-        Ok(Bounds {
+        Ok(Known {
             es: vec![in alloc; 0u32; processes]?,
             le: vec![in alloc; instance.cluster().horizon; processes]?,
             lo: least_rounds(alloc, choice, messages)?,

@@ -2,17 +2,17 @@
 
 ghost use Rattle.std.specs.Prelude.{◌≡◌, ◌≤◌, ◌<◌, ◌↔◌, IsTrue, length};
 ghost use Rattle.ttp_model.specs.declared.limits.TheConstants.{MOST_BYTES};
-ghost use Rattle.tt_choice.specs.Totals.{total};
-ghost use Rattle.tt_infer.specs.Facts.{Fits};
+ghost use Rattle.ttp_model.specs.Totals.{total};
+ghost use Rattle.tt_infer.specs.Known.{Fits};
 ghost use Rattle.tt_infer.specs.Dominance.{CouldBeEarlier, bytes_beside};
 
-use crate::known::Bounds;
+use crate::known::Known;
 use crate::setting::Setting;
 use ttp_model::Instance;
 
 /// How many bytes message `k` can put into the frame of round `r` in which message `m` would be: all
 /// of its own where it is `m`, and where it is of the same node and can be sent in that round.
-fn bytes_beside(known: &Bounds, instance: &Instance, m: u32, r: u32, k: u32) -> u64
+fn bytes_beside(known: &Known, instance: &Instance, m: u32, r: u32, k: u32) -> u64
     requires fits { Fits instance.now known.now }
     requires first { m < length instance.now.messages }
     requires second { k < length instance.now.messages }
@@ -28,7 +28,7 @@ fn bytes_beside(known: &Bounds, instance: &Instance, m: u32, r: u32, k: u32) -> 
 }
 
 /// How many bytes are in that frame at most. One pass over the messages.
-fn bytes_in_frame(known: &Bounds, instance: &Instance, m: u32, r: u32) -> u64
+fn bytes_in_frame(known: &Known, instance: &Instance, m: u32, r: u32) -> u64
     requires fits { Fits instance.now known.now }
     requires message { m < length instance.now.messages }
     ensures { result ≡ total (bytes_beside instance.now known.now m r) (length instance.now.messages) }
@@ -43,7 +43,7 @@ fn bytes_in_frame(known: &Bounds, instance: &Instance, m: u32, r: u32) -> u64
 
 /// Whether message `m` could be sent in round `r`, which is earlier than any in which it is: it is
 /// ready then, and its frame has room for it. One pass over the messages.
-pub fn could_be_earlier(known: &Bounds, setting: &Setting, m: u32, r: u32) -> bool
+pub fn could_be_earlier(known: &Known, setting: &Setting, m: u32, r: u32) -> bool
     requires fits { Fits setting.now.instance known.now }
     requires message { m < length setting.now.instance.messages }
     ensures { IsTrue result ↔ CouldBeEarlier setting.now.instance setting.now.choice known.now m r }

@@ -4,10 +4,10 @@ ghost use Rattle.std.specs.Prelude.{◌≡◌, ◌≤◌, IsTrue, ◌∷◌, ◌
 ghost use Rattle.ttp_model.specs.declared.plan.Plan.{Plan};
 ghost use Rattle.ttp_model.specs.declared.step.Step.{Step};
 ghost use Rattle.ttp_model.specs.declared.step.Leaf.{Leaf};
-ghost use Rattle.ttp_model.specs.Problem.{Problem};
+ghost use Rattle.ttp_model.specs.Instance.{Instance};
 ghost use Rattle.ttp_model.specs.Rules.{IsInstance};
-ghost use Rattle.tt_choice.specs.Choices.{Chosen, IsChoice};
-ghost use Rattle.tt_infer.specs.Facts.{Known, Fits, IsSought, AreTrueOf, Hold, es_of, le_of, lo_of, top_of, bef_of, first_facts};
+ghost use Rattle.tt_choice.specs.Choice.{Choice, IsChoice};
+ghost use Rattle.tt_infer.specs.Known.{Known, Fits, IsSought, AreTrueOf, Hold, es_of, le_of, lo_of, top_of, bef_of, first_facts};
 ghost use Rattle.tt_infer.specs.Conclusions.{Conclusion, IsTrueOf, IsAbout};
 ghost use Rattle.tt_infer.specs.Table.{rule, IsLawful};
 ghost use Rattle.tt_infer.specs.declared.fault.StepFault.{StepFault};
@@ -17,11 +17,11 @@ ghost use Rattle.tt_infer.specs.Leaves.{Lead, ClosesLeaf};
 /// Each rule of the table is sound: of a sought plan of which the facts are true, what the rule
 /// concludes is true too, and it is about processes and messages that are there.
 pub fn rules_are_sound()
-    ensures true_of_the_plan { (i : Problem) (c : Chosen) (goal : ℕ) (f : Known) (step : Step) (k : Conclusion) (plan : Plan)
+    ensures true_of_the_plan { (i : Instance) (c : Choice) (goal : ℕ) (f : Known) (step : Step) (k : Conclusion) (plan : Plan)
         → IsInstance i → IsChoice i c → IsSought i c goal plan → AreTrueOf i plan f
         → (rule i c goal f step).there → (rule i c goal f step).premise → (rule i c goal f step).concludes k
         → IsTrueOf i plan k }
-    ensures about_the_instance { (i : Problem) (c : Chosen) (goal : ℕ) (f : Known) (step : Step) (k : Conclusion)
+    ensures about_the_instance { (i : Instance) (c : Choice) (goal : ℕ) (f : Known) (step : Step) (k : Conclusion)
         → IsInstance i
         → (rule i c goal f step).there → (rule i c goal f step).premise → (rule i c goal f step).concludes k
         → IsAbout i k }
@@ -29,50 +29,50 @@ pub fn rules_are_sound()
 
 /// After a lawful step the facts hold again.
 pub fn steps_are_sound()
-    ensures holds { (i : Problem) (c : Chosen) (goal : ℕ) (f : Known) (step : Step) (g : Known)
+    ensures holds { (i : Instance) (c : Choice) (goal : ℕ) (f : Known) (step : Step) (g : Known)
         → IsInstance i → IsChoice i c → Fits i f → IsLawful i c goal f step g
         → Hold i c goal f → Hold i c goal g }
-    ensures fits { (i : Problem) (c : Chosen) (goal : ℕ) (f : Known) (step : Step) (g : Known)
+    ensures fits { (i : Instance) (c : Choice) (goal : ℕ) (f : Known) (step : Step) (g : Known)
         → Fits i f → IsLawful i c goal f step g → Fits i g }
 {}
 
 /// After a lawful step at least as much is known as before it: times and rounds are bounded as
 /// closely, the same processes go before the same, and where no plan was left none is.
 pub fn steps_only_sharpen()
-    ensures starts { (i : Problem) (c : Chosen) (goal : ℕ) (f : Known) (step : Step) (g : Known)
+    ensures starts { (i : Instance) (c : Choice) (goal : ℕ) (f : Known) (step : Step) (g : Known)
         → IsInstance i → Fits i f → IsLawful i c goal f step g
         → (p : ℕ) → es_of f p ≤ es_of g p }
-    ensures ends { (i : Problem) (c : Chosen) (goal : ℕ) (f : Known) (step : Step) (g : Known)
+    ensures ends { (i : Instance) (c : Choice) (goal : ℕ) (f : Known) (step : Step) (g : Known)
         → IsInstance i → Fits i f → IsLawful i c goal f step g
         → (p : ℕ) → le_of g p ≤ le_of f p }
-    ensures from { (i : Problem) (c : Chosen) (goal : ℕ) (f : Known) (step : Step) (g : Known)
+    ensures from { (i : Instance) (c : Choice) (goal : ℕ) (f : Known) (step : Step) (g : Known)
         → IsInstance i → Fits i f → IsLawful i c goal f step g
         → (m : ℕ) → lo_of f m ≤ lo_of g m }
-    ensures before { (i : Problem) (c : Chosen) (goal : ℕ) (f : Known) (step : Step) (g : Known)
+    ensures before { (i : Instance) (c : Choice) (goal : ℕ) (f : Known) (step : Step) (g : Known)
         → IsInstance i → Fits i f → IsLawful i c goal f step g
         → (m : ℕ) → top_of g m ≤ top_of f m }
-    ensures orders { (i : Problem) (c : Chosen) (goal : ℕ) (f : Known) (step : Step) (g : Known)
+    ensures orders { (i : Instance) (c : Choice) (goal : ℕ) (f : Known) (step : Step) (g : Known)
         → IsInstance i → Fits i f → IsLawful i c goal f step g
         → (p q : ℕ) → IsTrue (bef_of f p q) → IsTrue (bef_of g p q) }
-    ensures closed { (i : Problem) (c : Chosen) (goal : ℕ) (f : Known) (step : Step) (g : Known)
+    ensures closed { (i : Instance) (c : Choice) (goal : ℕ) (f : Known) (step : Step) (g : Known)
         → IsInstance i → Fits i f → IsLawful i c goal f step g
         → IsTrue f.closed → IsTrue g.closed }
 {}
 
 /// What is known at first holds at each goal.
 pub fn first_facts_hold()
-    ensures holds { (i : Problem) (c : Chosen) (goal : ℕ)
+    ensures holds { (i : Instance) (c : Choice) (goal : ℕ)
         → IsChoice i c → Hold i c goal (first_facts i c) }
-    ensures fits { (i : Problem) (c : Chosen) → IsChoice i c → Fits i (first_facts i c) }
+    ensures fits { (i : Instance) (c : Choice) → IsChoice i c → Fits i (first_facts i c) }
 {}
 
 /// A leaf that closes a choice leaves no plan of it below the leaf's goal; and none closes it whose
 /// steps lead to one that is refused there, whatever follows it.
 pub fn leaves_rule_out()
-    ensures none_left { (i : Problem) (c : Chosen) (leaf : Leaf)
+    ensures none_left { (i : Instance) (c : Choice) (leaf : Leaf)
         → IsInstance i → IsChoice i c → ClosesLeaf i c leaf
         → (plan : Plan) → ¬ IsSought i c leaf.goal plan }
-    ensures refused { (i : Problem) (c : Chosen) (goal : ℕ) (steps others : List Step) (g : Known) (step : Step) (fault : StepFault)
+    ensures refused { (i : Instance) (c : Choice) (goal : ℕ) (steps others : List Step) (g : Known) (step : Step) (fault : StepFault)
         → Lead i c goal (first_facts i c) steps g → IsStepFault i c goal g step fault
         → ¬ ClosesLeaf i c (record { goal = goal; steps = steps ++ step ∷ others }) }
 {}
@@ -80,17 +80,17 @@ pub fn leaves_rule_out()
 /// A step gives one thing at most, and so steps lead from what is known to one place at most. One
 /// answer is right, with what is known after it.
 pub fn steps_are_determined()
-    ensures one { (i : Problem) (c : Chosen) (goal : ℕ) (f : Known) (step : Step) (g h : Known)
+    ensures one { (i : Instance) (c : Choice) (goal : ℕ) (f : Known) (step : Step) (g h : Known)
         → IsLawful i c goal f step g → IsLawful i c goal f step h → g ≡ h }
-    ensures several { (i : Problem) (c : Chosen) (goal : ℕ) (f : Known) (steps : List Step) (g h : Known)
+    ensures several { (i : Instance) (c : Choice) (goal : ℕ) (f : Known) (steps : List Step) (g h : Known)
         → Lead i c goal f steps g → Lead i c goal f steps h → g ≡ h }
-    ensures answers { (i : Problem) (c : Chosen) (goal : ℕ) (f : Known) (step : Step) (g h : Known) (one other : Result Unit StepFault)
+    ensures answers { (i : Instance) (c : Choice) (goal : ℕ) (f : Known) (step : Step) (g h : Known) (one other : Result Unit StepFault)
         → Takes i c goal f step g one → Takes i c goal f step h other → (g ≡ h) × (one ≡ other) }
 {}
 
 /// A step whose premise holds concludes something, so none is refused for want of a conclusion.
 pub fn rules_conclude()
-    ensures { (i : Problem) (c : Chosen) (goal : ℕ) (f : Known) (step : Step)
+    ensures { (i : Instance) (c : Choice) (goal : ℕ) (f : Known) (step : Step)
         → IsInstance i → (rule i c goal f step).premise
         → (k : Conclusion) × (rule i c goal f step).concludes k }
 {}

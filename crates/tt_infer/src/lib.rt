@@ -2,7 +2,6 @@
 #![tactic(auto)]
 
 mod ahead;
-mod exchanges;
 mod facts;
 mod fault;
 mod indices;

@@ -1,7 +1,7 @@
 //! Which rule does a step stand for?
 
-ghost use Rattle.tt_infer.specs.Facts.{Fits};
-ghost use Rattle.tt_infer.specs.Sought.{TakesOf};
+ghost use Rattle.tt_infer.specs.Known.{Fits};
+ghost use Rattle.tt_infer.specs.Setting.{TakesOf};
 
 mod closers;
 mod dominance;
@@ -12,12 +12,12 @@ mod rounds;
 mod starts;
 
 use crate::fault::StepFault;
-use crate::known::Bounds;
+use crate::known::Known;
 use crate::setting::Setting;
 use ttp_model::Step;
 
 /// Takes a step of the table, or refuses it.
-pub fn take(known: &mut Bounds, setting: &Setting, step: &Step) -> Result<(), StepFault>
+pub fn take(known: &mut Known, setting: &Setting, step: &Step) -> Result<(), StepFault>
     requires { Fits setting.now.instance known.old }
     ensures { TakesOf setting.now known.old step.now known.new result }
 {

@@ -2,9 +2,9 @@
 
 ghost use Rattle.std.specs.Prelude.{◌≡◌, ℕ, ◌+◌, ◌^◌, ◌<◌, ◌≤◌, ◌↔◌, IfOk, length};
 ghost use Rattle.ttp_model.specs.declared.limits.TheConstants.{MOST_BYTES, MOST_DURATION};
-ghost use Rattle.tt_choice.specs.Choices.{IsChoice};
+ghost use Rattle.tt_choice.specs.Choice.{IsChoice};
 ghost use Rattle.tt_choice.specs.Extremes.{start_least, start_most, end_least, end_most, cap_least, cap_most, dur_least};
-ghost use Rattle.tt_infer.specs.Sought.{AreSlotTimes, AreShort};
+ghost use Rattle.tt_infer.specs.Setting.{AreSlotTimes, AreShort};
 
 use crate::slots::{self, SlotTimes};
 use std::alloc::Global;
@@ -24,9 +24,9 @@ pub struct Setting<'a> {
 }
 
 impl<'a> Model for Setting<'a> {
-    ghost use Rattle.tt_infer.specs.Sought.{Sought, IsSetting};
+    ghost use Rattle.tt_infer.specs.Setting.{Setting, IsSetting};
 
-    ghost Value = { Sought };
+    ghost Value = { Setting };
 
     ghost view = { λ s. record { instance = s.instance.now; choice = s.choice; goal = s.goal } };
 

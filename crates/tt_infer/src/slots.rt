@@ -1,8 +1,8 @@
 //! How far does each slot move in the plans of a choice?
 
 ghost use Rattle.std.specs.Prelude.{◌≡◌, ◌<◌, IfOk, length};
-ghost use Rattle.tt_choice.specs.Choices.{IsChoice};
-ghost use Rattle.tt_infer.specs.Sought.{AreSlotTimes, AreShort, AreSlots};
+ghost use Rattle.tt_choice.specs.Choice.{IsChoice};
+ghost use Rattle.tt_infer.specs.Setting.{AreSlotTimes, AreShort, AreSlots};
 
 use std::alloc::Global;
 use tt_choice::Choice;

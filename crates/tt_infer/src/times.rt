@@ -1,14 +1,14 @@
 //! When do processes end at least and start at most?
 
 ghost use Rattle.std.specs.Prelude.{◌≡◌, ◌^◌, ◌<◌, length};
-ghost use Rattle.tt_infer.specs.Facts.{Fits};
+ghost use Rattle.tt_infer.specs.Known.{Fits};
 ghost use Rattle.tt_infer.specs.Premises.{least_end, least_ready, most_start};
 
-use crate::known::Bounds;
+use crate::known::Known;
 use ttp_model::Instance;
 
 /// When process `p` ends at least, in ticks.
-pub fn least_end(known: &Bounds, instance: &Instance, p: u32) -> u64
+pub fn least_end(known: &Known, instance: &Instance, p: u32) -> u64
     requires fits { Fits instance.now known.now }
     requires process { p < length instance.now.processes }
     ensures value { result ≡ least_end instance.now known.now p }
@@ -18,7 +18,7 @@ pub fn least_end(known: &Bounds, instance: &Instance, p: u32) -> u64
 }
 
 /// When message `m` is copied out at least, in ticks.
-pub fn least_ready(known: &Bounds, instance: &Instance, m: u32) -> u64
+pub fn least_ready(known: &Known, instance: &Instance, m: u32) -> u64
     requires fits { Fits instance.now known.now }
     requires message { m < length instance.now.messages }
     ensures value { result ≡ least_ready instance.now known.now m }
@@ -29,7 +29,7 @@ pub fn least_ready(known: &Bounds, instance: &Instance, m: u32) -> u64
 }
 
 /// When process `p` starts at most, in ticks: 0 where it can't end in time.
-pub fn most_start(known: &Bounds, instance: &Instance, p: u32) -> u32
+pub fn most_start(known: &Known, instance: &Instance, p: u32) -> u32
     requires fits { Fits instance.now known.now }
     requires process { p < length instance.now.processes }
     ensures { result ≡ most_start instance.now known.now p }

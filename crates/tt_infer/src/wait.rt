@@ -1,19 +1,19 @@
 //! How long may a process have to wait?
 
 ghost use Rattle.std.specs.Prelude.{◌≡◌, ◌^◌, ◌<◌, ◌≤◌, ◌↔◌, IfNone, IfSome, IsTrue, length};
-ghost use Rattle.ttp_model.specs.Problem.{process_at};
-ghost use Rattle.tt_infer.specs.Facts.{Fits, le_of, top_of};
+ghost use Rattle.ttp_model.specs.Instance.{process_at};
+ghost use Rattle.ttp_model.specs.Raising.{IsRaised};
+ghost use Rattle.tt_infer.specs.Known.{Fits, le_of, top_of};
 ghost use Rattle.tt_infer.specs.Dominance.{HasRounds, IsGreatestWait, IsSentTo, MayGoBefore, last_arrival};
-ghost use Rattle.tt_infer.specs.Sought.{IsGreatestOf};
 
 use crate::indices::receives;
-use crate::known::Bounds;
+use crate::known::Known;
 use crate::setting::Setting;
 use ttp_model::{Instance, has_link};
 
 /// Whether process `x` may run before process `p`: it is another of its node, and `p` isn't known to
 /// go before it. A pass over the links where all else allows it.
-fn may_go_before(known: &Bounds, instance: &Instance, p: u32, x: u32) -> bool
+fn may_go_before(known: &Known, instance: &Instance, p: u32, x: u32) -> bool
     requires first { p < length instance.now.processes }
     requires second { x < length instance.now.processes }
     ensures { IsTrue result ↔ MayGoBefore instance.now known.now p x }
@@ -26,11 +26,11 @@ fn may_go_before(known: &Bounds, instance: &Instance, p: u32, x: u32) -> bool
 
 /// The release of process `p`, or the latest end of those that may run before it. One pass over the
 /// processes; links are looked at where one of them ends later than all before.
-fn last_end(known: &Bounds, instance: &Instance, p: u32) -> u32
+fn last_end(known: &Known, instance: &Instance, p: u32) -> u32
     requires fits { Fits instance.now known.now }
     requires process { p < length instance.now.processes }
-    ensures { IsGreatestOf (MayGoBefore instance.now known.now p) (le_of known.now)
-        (process_at instance.now p).release (length instance.now.processes) result }
+    ensures { IsRaised (length instance.now.processes) (MayGoBefore instance.now known.now p)
+        (le_of known.now) (process_at instance.now p).release result }
 {
     let count = instance.processes().len() as u32;
     let mut time = instance.process_at(p as usize).release;
@@ -44,7 +44,7 @@ fn last_end(known: &Bounds, instance: &Instance, p: u32) -> u32
 }
 
 /// When message `m` has arrived at most, in ticks: after the slot of its greatest round, and the copy.
-fn last_arrival(known: &Bounds, setting: &Setting, m: u32) -> u64
+fn last_arrival(known: &Known, setting: &Setting, m: u32) -> u64
     requires fits { Fits setting.now.instance known.now }
     requires message { m < length setting.now.instance.messages }
     requires round { 1 ≤ top_of known.now m }
@@ -58,14 +58,13 @@ fn last_arrival(known: &Bounds, setting: &Setting, m: u32) -> u64
 
 /// The time given, or the last at which a message to process `p` has arrived: none where one of them
 /// has no round. One pass over the messages and their receivers.
-fn all_arrived(known: &Bounds, setting: &Setting, p: u32, ended: u64) -> Option<u64>
+fn all_arrived(known: &Known, setting: &Setting, p: u32, ended: u64) -> Option<u64>
     requires fits { Fits setting.now.instance known.now }
     requires short { ended < 2 ^ 60 }
     ensures rounds { IfSome result (λ time. HasRounds setting.now.instance known.now p) }
-    ensures last { IfSome result (λ time. IsGreatestOf
+    ensures last { IfSome result (λ time. IsRaised (length setting.now.instance.messages)
         (IsSentTo setting.now.instance p)
-        (last_arrival setting.now.instance setting.now.choice known.now)
-        ended (length setting.now.instance.messages) time) }
+        (last_arrival setting.now.instance setting.now.choice known.now) ended time) }
     ensures bound { IfSome result (λ time. time < 2 ^ 60) }
     ensures none { IfNone result (¬ HasRounds setting.now.instance known.now p) }
 {
@@ -85,7 +84,7 @@ fn all_arrived(known: &Bounds, setting: &Setting, p: u32, ended: u64) -> Option<
 
 /// When all is over that process `p` may have to wait for, in ticks: none where a message to it has
 /// no round. One pass over the processes, and one over the messages and their receivers.
-pub fn greatest_wait(known: &Bounds, setting: &Setting, p: u32) -> Option<u64>
+pub fn greatest_wait(known: &Known, setting: &Setting, p: u32) -> Option<u64>
     requires fits { Fits setting.now.instance known.now }
     requires process { p < length setting.now.instance.processes }
     ensures rounds { IfSome result (λ time. HasRounds setting.now.instance known.now p) }

@@ -5,7 +5,7 @@ use Rattle.std.proofs.lemmas.List.Sums.{get_or-le-sum_by}
 use Rattle.std.proofs.lemmas.Grind.{common_steps}
 use Rattle.ttp_model.specs.declared.parts.Cluster.{Cluster}
 use Rattle.ttp_model.specs.Lists.{EachBelow}
-use Rattle.ttp_model.specs.Problem.{Problem}
+use Rattle.ttp_model.specs.Instance.{Instance}
 use Rattle.ttp_model.specs.Plans.{IsNodeOrder, HasOwnCapacity}
 use Rattle.ttp_model.specs.Rules.{IsClusterInRange, IsInstance}
 use Rattle.ttp_model.specs.Slots.{slot_duration, round_length}
@@ -22,7 +22,7 @@ pub round_positive : (c : Cluster) (caps : List ℕ) → IsClusterInRange c → 
 round_positive c caps ranges some = omega (arith, ranges.head_least, get_or-le-sum_by (slot_duration c) caps 0 0 some)
 
 -- the capacities and the order of an instance are bounded
-pub bounded : (i : Problem) (order caps : List ℕ) → IsInstance i → IsNodeOrder (length i.nodes) order → length caps ≡ length i.nodes → EachBelow (length i.nodes) (HasOwnCapacity i caps) → IsBounded i.cluster order caps
+pub bounded : (i : Instance) (order caps : List ℕ) → IsInstance i → IsNodeOrder (length i.nodes) order → length caps ≡ length i.nodes → EachBelow (length i.nodes) (HasOwnCapacity i caps) → IsBounded i.cluster order caps
 bounded i order caps w o same own = record {
   ranges = w.ranges AtCluster;
   some = omega (arith, w.limits.nodes_least);

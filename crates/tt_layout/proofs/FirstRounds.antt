@@ -2,9 +2,9 @@
 use Rattle.std.proofs.Common.{◌≡◌, ℕ, ◌+◌, ◌-◌, ◌*◌, ◌/◌, ◌<◌, ◌≤◌, arith, refl}
 use Rattle.std.proofs.Math.Nat.{lt-div-mul-add, div-lt_iff_lt-mul}
 use Rattle.ttp_model.specs.Slots.{round_length, offset}
-use Rattle.tt_layout.specs.Timing.{Timing, IsFirstRound}
+use Rattle.tt_layout.specs.Layout.{Layout, IsFirstRound}
 
-pub first_round : (t : Timing) (n time : ℕ) → 0 < round_length t.cluster t.caps → offset t.cluster t.order t.caps n < time → IsFirstRound t n time ((time - offset t.cluster t.order t.caps n - 1) / round_length t.cluster t.caps + 1)
+pub first_round : (t : Layout) (n time : ℕ) → 0 < round_length t.cluster t.caps → offset t.cluster t.order t.caps n < time → IsFirstRound t n time ((time - offset t.cluster t.order t.caps n - 1) / round_length t.cluster t.caps + 1)
 first_round t n time some later =
     let round : ℕ = round_length t.cluster t.caps in
     let rest : ℕ = time - offset t.cluster t.order t.caps n - 1 in

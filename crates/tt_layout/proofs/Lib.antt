@@ -1,7 +1,5 @@
 pub mod Bounds
 pub mod FirstRounds
-pub mod SlotsBefore
-pub mod NodeSums
 pub mod SlotTimes
 pub mod CycleBounds
 pub mod Ranges

@@ -1,20 +1,13 @@
 -- Lists that are made round by round.
-use Rattle.std.proofs.Common.{◌≡◌, ◌∙◌, ℕ, zero, suc, ◌+◌, List, [], ◌∷◌, ◌++◌, All, append_assoc, arith, refl, ap, add-one, zero-add}
+use Rattle.std.proofs.Common.{◌≡◌, ◌∙◌, ℕ, ◌+◌, List, [], ◌∷◌, ◌++◌, All, append_assoc, arith, ap}
 use Rattle.std.specs.List.{flat_map, range_with_len}
 use Rattle.std.proofs.lemmas.List.{flat_map_more}
 use Rattle.std.proofs.lemmas.List.Elements.{All-append}
-
-range_with_len-more : (a n : ℕ) → range_with_len a (suc n) ≡ range_with_len a n ++ (a + n) ∷ []
-range_with_len-more a zero = let here : a ≡ a + 0 = omega arith in ap (λ x. x ∷ []) here
-range_with_len-more a (suc n) =
-    let last : a + 1 + n ≡ a + suc n = omega arith in
-    rw (range_with_len-more (a + 1) n, last) refl
+use Rattle.ttp_model.proofs.Ranges.{range_more}
 
 -- the lists of one round more
 pub flat_map-range_with_len_more : {X : Type 0} (f : ℕ → List X) (r : ℕ) → flat_map f (range_with_len 0 r) ++ f r ≡ flat_map f (range_with_len 0 (r + 1))
-flat_map-range_with_len_more f r =
-    let more : range_with_len 0 (r + 1) ≡ range_with_len 0 r ++ r ∷ [] = rw (add-one, range_with_len-more 0 r) (ap (λ x. range_with_len 0 r ++ x ∷ []) (zero-add r)) in
-    rw more (flat_map_more f [] (range_with_len 0 r) r)
+flat_map-range_with_len_more f r = rw (range_more r) (flat_map_more f [] (range_with_len 0 r) r)
 
 -- what holds of each list's elements
 pub All-flat_map : {X Y : Type 0} (P : Y → Type 0) (f : X → List Y) (xs : List X) → ((x : X) → All P (f x)) → All P (flat_map f xs)

@@ -6,8 +6,8 @@ use Rattle.std.proofs.lemmas.List.{take-take}
 use Rattle.std.proofs.lemmas.List.Sums.{position_or_len_is, sum_by_more, sum_by_more_le, sum_by-take-le}
 use Rattle.ttp_model.specs.declared.parts.Cluster.{Cluster}
 use Rattle.ttp_model.specs.Plans.{IsNodeOrder}
-use Rattle.ttp_model.specs.Slots.{duration, nodes_before, offset, round_length, slot_end, slot_start}
-use Rattle.tt_layout.proofs.NodeSums.{durations-le-round}
+use Rattle.ttp_model.specs.Slots.{duration, nodes_before, offset, round_length, slot_duration, slot_end, slot_start}
+use Rattle.ttp_model.proofs.Totals.{list_total, part_of_total}
 
 -- before the node at a position of the order stand those of the lesser positions
 pub nodes_before-at : (count : ℕ) (order : List ℕ) (k : ℕ) → IsNodeOrder count order → k < length order → nodes_before (slice_index order k) order ≡ take k order
@@ -21,6 +21,13 @@ nodes_before-at count order k o inside = ap (λ i. take i order) (position_or_le
 
     here : (slice_index order k == slice_index order k) ≡ true
     here = elim (eqb_tells (slice_index order k) (slice_index order k)) [ inl same ↦ same.0 | inr differ ↦ absurd (differ.1 refl) ]
+
+-- the slots of an order take no longer than a round
+durations-le-round : (c : Cluster) (order caps : List ℕ) → IsNodeOrder (length caps) order → sum_by (duration c caps) order ≤ round_length c caps
+durations-le-round c order caps o =
+    let inside = λ (k : ℕ) (h : k < length order). (o.each k (omega (arith, h, o.all))).node in
+    let once = λ (j k : ℕ) (lt : j < k) (h : k < length order). (o.each k (omega (arith, h, o.all))).first j lt in
+    omega (arith, part_of_total (duration c caps) (length caps) order inside once, list_total (slot_duration c) caps)
 
 module _ (c : Cluster) (order caps : List ℕ) (o : IsNodeOrder (length caps) order) where
   pub offset-at : (k : ℕ) → k < length order → offset c order caps (slice_index order k) ≡ sum_by (duration c caps) (take k order)

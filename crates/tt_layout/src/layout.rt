@@ -28,10 +28,10 @@ pub struct Layout<'a> {
 }
 
 impl<'a> Model for Layout<'a> {
-    ghost use Rattle.tt_layout.specs.Timing.{Timing, timing};
+    ghost use Rattle.tt_layout.specs.Layout.{Layout, timing};
     ghost use Rattle.tt_layout.specs.Bounds.{IsBounded, IsRoundLength};
 
-    ghost Value = { Timing };
+    ghost Value = { Layout };
 
     ghost view = { λ s. timing s.instance.now.cluster s.order.now s.caps.now };
 
@@ -40,7 +40,7 @@ impl<'a> Model for Layout<'a> {
 }
 
 impl<'a> Layout<'a> {
-    ghost use Rattle.tt_layout.specs.Timing.{timing, IsFirstRound};
+    ghost use Rattle.tt_layout.specs.Layout.{timing, IsFirstRound};
 
     /// The slots of an order and of capacities, by node. Takes no memory; one pass over the
     /// capacities.

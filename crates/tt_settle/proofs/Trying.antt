@@ -1,9 +1,9 @@
 -- One attempt after another to better a plan is an attempt.
-use Rattle.std.proofs.Common.{◌≡◌, ℕ, ◌+◌, ◌≤◌, ◌||◌, Bool, true, false, arith, inl, inr, refl, subst, sym, ap, ◌∙◌}
-use Rattle.std.proofs.lemmas.Bool.{cases_eq, false≢true}
+use Rattle.std.proofs.Common.{◌≡◌, ℕ, ◌+◌, ◌≤◌, ◌||◌, Bool, true, false, arith, inl, inr, refl, subst, sym, ap, ◌∙◌, below_more}
+use Rattle.std.proofs.lemmas.Bool.{false≢true}
 use Rattle.ttp_model.specs.declared.plan.Plan.{Plan}
 use Rattle.ttp_model.specs.Lists.{EachBelow}
-use Rattle.ttp_model.specs.Problem.{Problem}
+use Rattle.ttp_model.specs.Instance.{Instance}
 use Rattle.ttp_model.specs.Rules.{IsInstance}
 use Rattle.ttp_model.specs.Plans.{IsValid}
 use Rattle.ttp_model.specs.Delays.{delay}
@@ -19,21 +19,21 @@ lighter_still a b c (inr one) (inl two) = inl (omega (arith, one.0, two))
 lighter_still a b c (inr one) (inr two) = inr (two.0 ∙ one.0, omega (arith, one.1, two.1))
 
 -- a move to a valid plan betters a plan
-pub better_by_move : (i : Problem) (plan moved : Plan) → IsInstance i → IsValid i plan → IsValid i moved → Move i plan moved → IsBetter i plan moved
+pub better_by_move : (i : Instance) (plan moved : Plan) → IsInstance i → IsValid i plan → IsValid i moved → Move i plan moved → IsBetter i plan moved
 better_by_move i plan moved w v after move = record {
   valid = after;
   delay = keeps_delay i plan moved w v after move;
   lighter = lowers_weight i plan moved w v after move;
 }
 
-better_still : (i : Problem) (a b c : Plan) → IsBetter i a b → IsBetter i b c → IsBetter i a c
+better_still : (i : Instance) (a b c : Plan) → IsBetter i a b → IsBetter i b c → IsBetter i a c
 better_still i a b c one two = record {
   valid = two.valid;
   delay = omega (arith, one.delay, two.delay);
   lighter = lighter_still (weight i a) (weight i b) (weight i c) one.lighter two.lighter;
 }
 
-module _ (i : Problem) (plan : Plan) where
+module _ (i : Instance) (plan : Plan) where
   -- there was a move
   pub tried_moved : (R : Plan → Type 0) (next : Plan) → IsBetter i plan next → IsTried i plan R next true
   tried_moved R next better = record {
@@ -76,10 +76,4 @@ module _ (i : Problem) (plan : Plan) where
 
   -- one more of those below a count
   pub tried_more : (R : Plan → ℕ → Type 0) (k : ℕ) (next last : Plan) (moved again : Bool) → IsTried i plan (λ q. EachBelow k (R q)) next moved → IsTried i next (λ q. R q k) last again → IsTried i plan (λ q. EachBelow (k + 1) (R q)) last (moved || again)
-  tried_more R k next last moved again t u = tried_then (λ q. EachBelow k (R q)) (λ q. R q k) (λ q. EachBelow (k + 1) (R q)) next last moved again more t u
-    where
-      more : EachBelow k (R next) → R next k → EachBelow (k + 1) (R next)
-      more each here j lt = elim (cases_eq j k) [
-        | inl same ↦ subst (R next) (sym same) here
-        | inr other ↦ each j (omega (arith, lt, other))
-      ]
+  tried_more R k next last moved again t u = tried_then (λ q. EachBelow k (R q)) (λ q. R q k) (λ q. EachBelow (k + 1) (R q)) next last moved again (below_more (R next) k) t u

@@ -1,40 +1,35 @@
 -- What a process and a message of a plan wait for (our own profile).
-use Rattle.std.specs.Prelude.{◌≡◌, ℕ, ◌+◌, ◌<◌, ◌≤◌, ◌⊎◌, Contains, List, length, slice_index}
+use Rattle.std.specs.Prelude.{◌≡◌, ℕ, ◌+◌, ◌<◌, ◌≤◌, Contains, List, length, slice_index}
 use Rattle.ttp_model.specs.declared.plan.Plan.{Plan}
 use Rattle.ttp_model.specs.Lists.{EachBelow}
+use Rattle.ttp_model.specs.Raising.{IsRaised}
 use Rattle.ttp_model.specs.Slots.{slot_start}
-use Rattle.ttp_model.specs.Problem.{Problem, process_at, link_at, message_at, node_of, source_of}
+use Rattle.ttp_model.specs.Instance.{Instance, process_at, link_at, message_at, node_of, source_of}
 use Rattle.ttp_model.specs.Plans.{start_of, end_of, round_of, sent_until, load_of}
 
 -- link l leads to process p
-abbrev pub LeadsTo : Problem → ℕ → ℕ → Type 0
+abbrev pub LeadsTo : Instance → ℕ → ℕ → Type 0
 LeadsTo i p l = (link_at i l).after ≡ p
 
 -- when its first process ends
-abbrev pub link_end : Problem → Plan → ℕ → ℕ
+abbrev pub link_end : Instance → Plan → ℕ → ℕ
 link_end i plan l = end_of i plan (link_at i l).before
 
 -- p receives message m
-abbrev pub Receives : Problem → ℕ → ℕ → Type 0
+abbrev pub Receives : Instance → ℕ → ℕ → Type 0
 Receives i p m = Contains (message_at i m).receivers p
 
 -- when the message has been copied in
-abbrev pub arrival : Problem → Plan → ℕ → ℕ
+abbrev pub arrival : Instance → Plan → ℕ → ℕ
 arrival i plan m = sent_until i plan m + i.cluster.copy_in
 
 -- process q of the same node ends before p starts, or just then
-abbrev pub GoesBefore : Problem → Plan → ℕ → ℕ → Type 0
+abbrev pub GoesBefore : Instance → Plan → ℕ → ℕ → Type 0
 GoesBefore i plan p q = (node_of i q ≡ node_of i p) × (end_of i plan q ≤ start_of plan p)
-
--- a time was raised to the last of those below a count for which P holds
-pub record IsRaised (count : ℕ) (P : ℕ → Type 0) (time_of : ℕ → ℕ) (floor time : ℕ) : Type 0 where
-  pub least : floor ≤ time
-  pub each : (k : ℕ) → k < count → P k → time_of k ≤ time
-  pub met : (time ≡ floor) ⊎ ((k : ℕ) × (k < count) × (P k × (time_of k ≡ time)))
 
 -- p waits until this time: for its release, for the end of a process that is linked to it or goes before it, or for the
 -- arrival of a message
-pub record IsWait (i : Problem) (plan : Plan) (p time : ℕ) : Type 0 where
+pub record IsWait (i : Instance) (plan : Plan) (p time : ℕ) : Type 0 where
   pub release : ℕ
   pub linked : ℕ
   pub arrived : ℕ
@@ -44,20 +39,20 @@ pub record IsWait (i : Problem) (plan : Plan) (p time : ℕ) : Type 0 where
   pub others : IsRaised (length i.processes) (GoesBefore i plan p) (end_of i plan) arrived time
 
 -- when message m has been copied out
-abbrev pub ready_at : Problem → Plan → ℕ → ℕ
+abbrev pub ready_at : Instance → Plan → ℕ → ℕ
 ready_at i plan m = end_of i plan (message_at i m).sender + i.cluster.copy_out
 
 -- when the slot of its node begins in a round
-abbrev pub slot_of : Problem → Plan → ℕ → ℕ → ℕ
+abbrev pub slot_of : Instance → Plan → ℕ → ℕ → ℕ
 slot_of i plan m r = slot_start i.cluster plan.order plan.caps (source_of i m) r
 
 -- the frame of a round has room for it beside what is there
-abbrev pub HasRoom : Problem → Plan → ℕ → ℕ → Type 0
+abbrev pub HasRoom : Instance → Plan → ℕ → ℕ → Type 0
 HasRoom i plan m r = load_of i plan (source_of i m) r + (message_at i m).bytes ≤ slice_index plan.caps (source_of i m)
 
 -- the first round that it could be sent in: it is ready by then, and there is room unless it is there already; in no
 -- earlier one it is both
-pub record IsFirstRoom (i : Problem) (plan : Plan) (m round : ℕ) : Type 0 where
+pub record IsFirstRoom (i : Instance) (plan : Plan) (m round : ℕ) : Type 0 where
   pub bound : round ≤ round_of plan m
   pub ready : ready_at i plan m ≤ slot_of i plan m round
   pub room : round < round_of plan m → HasRoom i plan m round

@@ -1,78 +1,62 @@
--- Plans that differ in one place, and what settling a plan reaches, kind of move by kind of move (our own profile).
-use Rattle.std.specs.Prelude.{◌≡◌, ℕ, ◌-◌, ◌<◌, ◌≤◌, Bool, IsTrue, IsFalse, length, slice_set, swap}
+-- What settling a plan reaches, kind of move by kind of move (our own profile).
+use Rattle.std.specs.Prelude.{◌≡◌, ℕ, ◌-◌, ◌<◌, ◌≤◌, Bool, IsTrue, IsFalse, length}
 use Rattle.ttp_model.specs.declared.plan.Plan.{Plan}
 use Rattle.ttp_model.specs.Lists.{EachBelow}
-use Rattle.ttp_model.specs.Problem.{Problem, message_at}
+use Rattle.ttp_model.specs.Instance.{Instance, message_at}
 use Rattle.ttp_model.specs.Plans.{IsValid, start_of, round_of}
 use Rattle.ttp_model.specs.Delays.{delay}
 use Rattle.ttp_model.specs.Twins.{AreTwins, AreSilentTwins}
-use Rattle.ttp_model.specs.Moves.{IsLighter, position_of, weight}
-
--- the plan with another start of process p
-abbrev pub started : Plan → ℕ → ℕ → Plan
-started plan p start = record plan { starts = slice_set plan.starts p start }
-
--- with another round of message m
-abbrev pub sent : Plan → ℕ → ℕ → Plan
-sent plan m round = record plan { rounds = slice_set plan.rounds m round }
-
--- with the starts of two processes exchanged
-abbrev pub swapped : Plan → ℕ → ℕ → Plan
-swapped plan p q = record plan { starts = swap plan.starts p q }
-
--- with the positions and the capacities of two nodes exchanged
-abbrev pub exchanged : Plan → ℕ → ℕ → Plan
-exchanged plan u v = record plan { order = swap plan.order (position_of plan u) (position_of plan v); caps = swap plan.caps u v }
+use Rattle.ttp_model.specs.Moves.{IsLighter, exchanged, position_of, sent, started, swapped, weight}
 
 -- process p can't start a tick earlier
-abbrev pub RestsAtStart : Problem → Plan → ℕ → Type 0
+abbrev pub RestsAtStart : Instance → Plan → ℕ → Type 0
 RestsAtStart i plan p = 0 < start_of plan p → ¬ IsValid i (started plan p (start_of plan p - 1))
 
 -- message m can't be sent in an earlier round
-abbrev pub RestsInRound : Problem → Plan → ℕ → Type 0
+abbrev pub RestsInRound : Instance → Plan → ℕ → Type 0
 RestsInRound i plan m = (r : ℕ) → r < round_of plan m → ¬ IsValid i (sent plan m r)
 
 -- p and q aren't twins that can exchange their starts, so that p starts first
-abbrev pub RestAsTwins : Problem → Plan → ℕ → ℕ → Type 0
+abbrev pub RestAsTwins : Instance → Plan → ℕ → ℕ → Type 0
 RestAsTwins i plan p q = AreTwins i p q → start_of plan q < start_of plan p → ¬ IsValid i (swapped plan p q)
 
 -- so it is of p and each process after it in the list
-abbrev pub RestsAmongTwins : Problem → Plan → ℕ → Type 0
+abbrev pub RestsAmongTwins : Instance → Plan → ℕ → Type 0
 RestsAmongTwins i plan p = (q : ℕ) → p < q → q < length i.processes → RestAsTwins i plan p q
 
 -- u and v aren't silent twins that can exchange their positions and capacities, so that u stands first
-abbrev pub RestAsSilentTwins : Problem → Plan → ℕ → ℕ → Type 0
+abbrev pub RestAsSilentTwins : Instance → Plan → ℕ → ℕ → Type 0
 RestAsSilentTwins i plan u v = AreSilentTwins i u v → position_of plan v < position_of plan u → ¬ IsValid i (exchanged plan u v)
 
 -- process p can't start earlier, nor any message that it sends be sent earlier
-pub record RestsWithMessages (i : Problem) (plan : Plan) (p : ℕ) : Type 0 where
+pub record RestsWithMessages (i : Instance) (plan : Plan) (p : ℕ) : Type 0 where
   pub start : RestsAtStart i plan p
   pub rounds : EachBelow (length i.messages) (λ m. (message_at i m).sender ≡ p → RestsInRound i plan m)
 
 -- so it is of each process that starts before a time
-abbrev pub RestsBefore : Problem → ℕ → Plan → Type 0
+abbrev pub RestsBefore : Instance → ℕ → Plan → Type 0
 RestsBefore i from plan = EachBelow (length i.processes) (λ p. start_of plan p < from → RestsWithMessages i plan p)
 
 -- no process can start earlier, and no message be sent earlier
-pub record RestsInTime (i : Problem) (plan : Plan) : Type 0 where
+pub record RestsInTime (i : Instance) (plan : Plan) : Type 0 where
   pub starts : EachBelow (length i.processes) (RestsAtStart i plan)
   pub rounds : EachBelow (length i.messages) (RestsInRound i plan)
 
 -- no move of any kind is left
-pub record RestsWhole (i : Problem) (plan : Plan) : Type 0 where
+pub record RestsWhole (i : Instance) (plan : Plan) : Type 0 where
   pub in_time : RestsInTime i plan
   pub twins : EachBelow (length i.processes) (RestsAmongTwins i plan)
   pub silent_twins : EachBelow (length i.nodes) (λ v. EachBelow v (λ u. RestAsSilentTwins i plan u v))
 
 -- another plan is valid, ends no later and is lighter
-pub record IsBetter (i : Problem) (plan better : Plan) : Type 0 where
+pub record IsBetter (i : Instance) (plan better : Plan) : Type 0 where
   pub valid : IsValid i better
   pub delay : delay i better ≤ delay i plan
   pub lighter : IsLighter (weight i better) (weight i plan)
 
 -- what comes of trying to better a plan: a better one where there was a move; the same one where there was none, and
 -- then it rests
-pub record IsTried (i : Problem) (plan : Plan) (Rests : Plan → Type 0) (next : Plan) (moved : Bool) : Type 0 where
+pub record IsTried (i : Instance) (plan : Plan) (Rests : Plan → Type 0) (next : Plan) (moved : Bool) : Type 0 where
   pub better : IsTrue moved → IsBetter i plan next
   pub same : IsFalse moved → next ≡ plan
   pub rests : IsFalse moved → Rests plan

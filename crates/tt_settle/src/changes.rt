@@ -1,7 +1,7 @@
 //! A plan with one of its numbers changed, or two of them exchanged.
 
 ghost use Rattle.std.specs.Prelude.{◌≡◌, ◌<◌, length, swap};
-ghost use Rattle.tt_settle.specs.Settling.{started, sent, swapped};
+ghost use Rattle.ttp_model.specs.Moves.{started, sent, swapped};
 
 use ttp_model::{Numbers, Plan};
 

@@ -2,7 +2,6 @@
 #![tactic(auto)]
 
 mod changes;
-mod exchanges;
 mod laws;
 mod passes;
 mod rounds;
@@ -10,8 +9,8 @@ mod settling;
 mod starts;
 mod swaps;
 
-pub use exchanges::{silent_twins, twins};
 pub use laws::{
     a_settled_plan_is_reached, moves_keep_the_delay, moves_lower_the_weight, weights_end,
 };
 pub use settling::settle;
+pub use tt_moves::{silent_twins, twins};

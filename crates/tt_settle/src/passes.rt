@@ -3,7 +3,7 @@
 
 ghost use Rattle.std.specs.Prelude.{◌≡◌, ◌<◌, ◌≤◌, ℕ, length, slice_index};
 ghost use Rattle.ttp_model.specs.Lists.{EachBelow};
-ghost use Rattle.ttp_model.specs.Problem.{message_at};
+ghost use Rattle.ttp_model.specs.Instance.{message_at};
 ghost use Rattle.ttp_model.specs.Rules.{IsInstance};
 ghost use Rattle.ttp_model.specs.Plans.{IsValid, start_of};
 ghost use Rattle.tt_settle.specs.Settling.{IsTried, RestsInRound, RestsInTime, RestsWithMessages};

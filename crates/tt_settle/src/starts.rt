@@ -1,13 +1,13 @@
 //! How early can a process start, where nothing else changes?
 
 ghost use Rattle.std.specs.Prelude.{◌≡◌, ◌^◌, ◌<◌, ◌≤◌, length};
+ghost use Rattle.ttp_model.specs.Raising.{IsRaised};
 ghost use Rattle.ttp_model.specs.Rules.{IsInstance};
 ghost use Rattle.ttp_model.specs.Plans.{HasLengths, IsValid, end_of};
 ghost use Rattle.tt_settle.specs.Settling.{IsTried, RestsAtStart};
-ghost use Rattle.tt_settle.specs.Reasons.{IsRaised, IsWait, LeadsTo, Receives, GoesBefore, link_end, arrival};
+ghost use Rattle.tt_settle.specs.Reasons.{IsWait, LeadsTo, Receives, GoesBefore, link_end, arrival};
 
 use crate::changes::start_at;
-use crate::exchanges::contains;
 use tt_layout::Layout;
 use ttp_model::{Instance, Plan, end_of};
 
@@ -64,8 +64,7 @@ fn after_messages(instance: &Instance, plan: &Plan, p: usize, floor: u64) -> u64
 {
     let mut time = floor;
     for m in 0..instance.messages().len() {
-        let receivers = instance.message_at(m).receivers.as_slice();
-        if contains(receivers, p as u32) {
+        if instance.message_at(m).receivers.contains(p as u32) {
             time = time.max(arrival_of(instance, plan, m));
         }
     }

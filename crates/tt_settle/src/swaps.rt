@@ -1,6 +1,6 @@
 //! Which twins can exchange their places?
 
-ghost use Rattle.std.specs.Prelude.{◌≡◌, ◌==◌, ◌<◌, ◌↔◌, IsTrue, length};
+ghost use Rattle.std.specs.Prelude.{◌≡◌, ◌==◌, ◌<◌, length};
 ghost use Rattle.std.specs.List.{position_or_len};
 ghost use Rattle.ttp_model.specs.Lists.{EachBelow};
 ghost use Rattle.ttp_model.specs.Rules.{IsInstance};
@@ -9,12 +9,11 @@ ghost use Rattle.ttp_model.specs.Moves.{position_of};
 ghost use Rattle.tt_settle.specs.Settling.{IsTried, RestAsTwins, RestsAmongTwins, RestAsSilentTwins};
 
 use crate::changes::{swap_nodes, swap_starts};
-use crate::exchanges::{silent_twins, twins};
-use plan_check::check;
+use tt_moves::{silent_twins, twins};
 use ttp_model::{Instance, Plan};
 
 /// Lets each two twins exchange their starts where that puts the first first, and tells whether
-/// any do.
+/// any do. An exchange of twins keeps a plan valid.
 pub fn order_twins(instance: &Instance, mut plan: Plan) -> (Plan, bool)
     requires { IsValid instance.now plan }
     ensures { IsTried instance.now plan
@@ -60,19 +59,7 @@ fn order_pair(instance: &Instance, plan: Plan, p: u32, q: u32) -> (Plan, bool)
     if starts[p as usize] <= starts[q as usize] || !twins(instance, p, q) {
         return (plan, false);
     }
-    let swapped = swap_starts(plan, p as usize, q as usize);
-    if is_valid(instance, &swapped) {
-        (swapped, true)
-    } else {
-        (swap_starts(swapped, p as usize, q as usize), false)
-    }
-}
-
-/// Whether a plan is valid.
-fn is_valid(instance: &Instance, plan: &Plan) -> bool
-    ensures { IsTrue result ↔ IsValid instance.now plan.now }
-{
-    check(instance, plan).is_ok()
+    (swap_starts(plan, p as usize, q as usize), true)
 }
 
 /// Lets each two silent twins exchange their positions and capacities where that puts the first
@@ -125,14 +112,7 @@ fn order_silent_pair(instance: &Instance, plan: Plan, u: u32, v: u32) -> (Plan, 
         return (plan, false);
     }
     let swapped = swap_nodes(plan, first, second, u as usize, v as usize);
-    if is_valid(instance, &swapped) {
-        (swapped, true)
-    } else {
-        (
-            swap_nodes(swapped, first, second, u as usize, v as usize),
-            false,
-        )
-    }
+    (swapped, true)
 }
 
 /// Where a node stands in an order: the order's length where it doesn't.

@@ -1,11 +1,11 @@
 -- Whether processes or nodes are twins can be told.
 use Rattle.std.proofs.Common.{◌≡◌, ◌≢◌, ℕ, ◌<◌, ◌↔◌, length, Contains, refl, subst}
-use Rattle.ttp_model.specs.Problem.{Problem, node_at, process_at, link_at, message_at, source_of}
+use Rattle.ttp_model.specs.Instance.{Instance, node_at, process_at, link_at, message_at, source_of}
 use Rattle.ttp_model.specs.Graph.{HasLink}
 use Rattle.ttp_model.specs.Twins.{AreTwins, AreSilentTwins, SendsNothing, ReceivesNothing}
 use Rattle.ttp_model.proofs.Decide.{Decision, like, both, implied, refuted, equal, below, each_below, some_below, contained, equal_lists}
 
-module _ (i : Problem) where
+module _ (i : Instance) where
   pub link_or_not : (p q : ℕ) → Decision (HasLink i p q)
   link_or_not p q = like ((l : ℕ) × (l < length i.links) × (((link_at i l).before ≡ p) × ((link_at i l).after ≡ q))) (HasLink i p q)
       (λ some. record { link = some.0; is_there = some.1; before = some.2.0; after = some.2.1 })

@@ -8,7 +8,7 @@ use Rattle.std.proofs.lemmas.Grind.{common_steps}
 use Rattle.std.specs.List.{IsFirstBest}
 use Rattle.ttp_model.specs.declared.error.Place.{Place}
 use Rattle.ttp_model.specs.declared.error.Place.TheVariants.{AtLink, AtMessage}
-use Rattle.ttp_model.specs.Problem.{Problem}
+use Rattle.ttp_model.specs.Instance.{Instance}
 use Rattle.ttp_model.specs.Lists.{HasNoRepeats}
 use Rattle.ttp_model.specs.Rules.{NamesWhatIsThere}
 use Rattle.ttp_model.specs.Graph.{Leads, IsClosedWalk, IsCycle, IsAcyclic}
@@ -28,7 +28,7 @@ module _ (k : ℕ) (xs : List ℕ) (within : k < length xs) where
       let there : j - length (drop k xs) ≡ m = omega arith in
       get_or-append_right (drop k xs) (take k xs) j 0 (omega arith) ∙ ap (slice_index (take k xs)) there ∙ get_or-take k xs m 0 h
 
-  told_each : (i : Problem) → IsClosedWalk i xs → (j : ℕ) → j + 1 < length (drop k xs ++ take k xs) → Leads i (slice_index (drop k xs ++ take k xs) j) (slice_index (drop k xs ++ take k xs) (j + 1))
+  told_each : (i : Instance) → IsClosedWalk i xs → (j : ℕ) → j + 1 < length (drop k xs ++ take k xs) → Leads i (slice_index (drop k xs ++ take k xs) j) (slice_index (drop k xs ++ take k xs) (j + 1))
   told_each i r j h =
       let long = length-told in
       elim (cases_order (k + j + 1) (length xs)) [
@@ -39,7 +39,7 @@ module _ (k : ℕ) (xs : List ℕ) (within : k < length xs) where
         ]
       ]
 
-  told_closes : (i : Problem) → IsClosedWalk i xs → Leads i (slice_index (drop k xs ++ take k xs) (length (drop k xs ++ take k xs) - 1)) (slice_index (drop k xs ++ take k xs) 0)
+  told_closes : (i : Instance) → IsClosedWalk i xs → Leads i (slice_index (drop k xs ++ take k xs) (length (drop k xs ++ take k xs) - 1)) (slice_index (drop k xs ++ take k xs) 0)
   told_closes i r =
       let long = length-told in
       let last : length (drop k xs ++ take k xs) - 1 ≡ length xs - 1 = omega arith in
@@ -69,7 +69,7 @@ module _ (k : ℕ) (xs : List ℕ) (within : k < length xs) where
         | inr other ↦ elim other [ inl low ↦ once p.0 q.0 low q.1 e | inr high ↦ once q.0 p.0 high p.1 (sym e) ]
       ]
 
-  pub IsCycle_told : (i : Problem) → IsClosedWalk i xs → HasNoRepeats xs → IsFirstBest nat_lt xs (length xs) k → IsCycle i (drop k xs ++ take k xs)
+  pub IsCycle_told : (i : Instance) → IsClosedWalk i xs → HasNoRepeats xs → IsFirstBest nat_lt xs (length xs) k → IsCycle i (drop k xs ++ take k xs)
   IsCycle_told i r once best =
       let long = length-told in
       record {
@@ -84,7 +84,7 @@ module _ (k : ℕ) (xs : List ℕ) (within : k < length xs) where
       }
 
 -- who leads and who is led to are there
-pub Leads_inside : (i : Problem) (p q : ℕ) → ((at : Place) → NamesWhatIsThere i at) → Leads i p q → (p < length i.processes) × (q < length i.processes)
+pub Leads_inside : (i : Instance) (p q : ℕ) → ((at : Place) → NamesWhatIsThere i at) → Leads i p q → (p < length i.processes) × (q < length i.processes)
 Leads_inside i p q there (inl link) =
     let h = there (AtLink link.link) link.is_there in
     (rw link.before at h.0, rw link.after at h.1)
@@ -92,7 +92,7 @@ Leads_inside i p q there (inr message) =
     let h = there (AtMessage message.message) message.is_there in
     (rw message.sender at h.0, grind (arith, common_steps, h.1, message.receiver))
 
-module _ (i : Problem) (turns : List ℕ) (there : (at : Place) → NamesWhatIsThere i at) (given : AreTurns i turns) (all : (p : ℕ) → p < length i.processes → 0 < slice_index turns p) where
+module _ (i : Instance) (turns : List ℕ) (there : (at : Place) → NamesWhatIsThere i at) (given : AreTurns i turns) (all : (p : ℕ) → p < length i.processes → 0 < slice_index turns p) where
   falls : (p q : ℕ) → Leads i p q → slice_index turns q < slice_index turns p
   falls p q leads = (given p q leads (all p (Leads_inside i p q there leads).0)).1
 

@@ -4,7 +4,7 @@ use Rattle.std.proofs.lemmas.Bool.{cases_order}
 use Rattle.std.proofs.lemmas.Grind.{common_steps}
 use Rattle.std.proofs.lemmas.List.Edits.{swapped_from_swap}
 use Rattle.ttp_model.specs.declared.plan.Plan.{Plan}
-use Rattle.ttp_model.specs.Problem.{Problem}
+use Rattle.ttp_model.specs.Instance.{Instance}
 use Rattle.ttp_model.specs.Rules.{IsInstance}
 use Rattle.ttp_model.specs.Plans.{IsValid, start_of, end_of}
 use Rattle.ttp_model.specs.Delays.{delay}
@@ -18,7 +18,7 @@ set_lower xs at value k inside lower = elim (cases_order k at) [
   | inr other ↦ (let is : slice_index (slice_set xs at value) k ≡ slice_index xs k = grind (arith, common_steps, other) in omega (arith, is))
 ]
 
-module _ (i : Problem) (plan moved : Plan) (w : IsInstance i) (v : IsValid i plan) where
+module _ (i : Instance) (plan moved : Plan) (w : IsInstance i) (v : IsValid i plan) where
   -- a plan ends no later if each process ends by then
   ends_by : ((p : ℕ) → p < length i.processes → end_of i moved p ≤ delay i plan) → delay i moved ≤ delay i plan
   ends_by each =
@@ -28,7 +28,8 @@ module _ (i : Problem) (plan moved : Plan) (w : IsInstance i) (v : IsValid i pla
   own : (p : ℕ) → p < length i.processes → end_of i plan p ≤ delay i plan
   own p inside = greatest_each (end_of i plan) (length i.processes) p inside
 
-  by_starts : ((p : ℕ) → p < length i.processes → start_of moved p ≤ start_of plan p) → delay i moved ≤ delay i plan
+  -- so it does if each starts no later
+  pub by_starts : ((p : ℕ) → p < length i.processes → start_of moved p ≤ start_of plan p) → delay i moved ≤ delay i plan
   by_starts each = ends_by (λ p inside. omega (arith, each p inside, own p inside))
 
   starts_earlier : StartsEarlier i plan moved → delay i moved ≤ delay i plan
@@ -59,7 +60,7 @@ module _ (i : Problem) (plan moved : Plan) (w : IsInstance i) (v : IsValid i pla
             ]
           ]
 
-pub keeps_delay : (i : Problem) (plan moved : Plan) → IsInstance i → IsValid i plan → IsValid i moved → Move i plan moved → delay i moved ≤ delay i plan
+pub keeps_delay : (i : Instance) (plan moved : Plan) → IsInstance i → IsValid i plan → IsValid i moved → Move i plan moved → delay i moved ≤ delay i plan
 keeps_delay i plan moved w v after (inl (inl move)) = starts_earlier i plan moved w v move
 keeps_delay i plan moved w v after (inl (inr move)) = sends_earlier i plan moved w v move
 keeps_delay i plan moved w v after (inr (inl move)) = swaps_twins i plan moved w v move

@@ -1,7 +1,7 @@
 -- Pairs can't fall for ever when the first component is compared first.
 use Rattle.std.proofs.Common.{◌≡◌, ℕ, zero, suc, ◌+◌, ◌<◌, arith, inl, inr, refl, subst}
 use Rattle.ttp_model.specs.declared.plan.Plan.{Plan}
-use Rattle.ttp_model.specs.Problem.{Problem}
+use Rattle.ttp_model.specs.Instance.{Instance}
 use Rattle.ttp_model.specs.Moves.{IsLighter, weight}
 
 module _ (A : Type 0) (of : A → ℕ × ℕ) (P : A → Type 0) (step : (x : A) → ((y : A) → IsLighter (of y) (of x) → P y) → P x) where
@@ -20,14 +20,14 @@ module _ (A : Type 0) (of : A → ℕ × ℕ) (P : A → Type 0) (step : (x : A)
   pub by_pairs : (x : A) → P x
   by_pairs x = outer (suc (of x).0) x (omega arith)
 
-pub by_weight : (i : Problem) (P : Plan → Type 0) → ((plan : Plan) → ((lighter : Plan) → IsLighter (weight i lighter) (weight i plan) → P lighter) → P plan) → (plan : Plan) → P plan
+pub by_weight : (i : Instance) (P : Plan → Type 0) → ((plan : Plan) → ((lighter : Plan) → IsLighter (weight i lighter) (weight i plan) → P lighter) → P plan) → (plan : Plan) → P plan
 by_weight i P step plan = by_pairs Plan (weight i) P step plan
 
-StartsNoFall : Problem → Plan → Type 0
+StartsNoFall : Instance → Plan → Type 0
 StartsNoFall i plan = (plans : ℕ → Plan) → plans 0 ≡ plan → ¬ ((k : ℕ) → IsLighter (weight i (plans (k + 1))) (weight i (plans k)))
 
 -- no sequence of plans grows lighter for ever
-pub weights_end_lem : (i : Problem) (plans : ℕ → Plan) → ¬ ((k : ℕ) → IsLighter (weight i (plans (k + 1))) (weight i (plans k)))
+pub weights_end_lem : (i : Instance) (plans : ℕ → Plan) → ¬ ((k : ℕ) → IsLighter (weight i (plans (k + 1))) (weight i (plans k)))
 unfolding StartsNoFall
 weights_end_lem i plans = by_weight i (StartsNoFall i) step (plans 0) plans refl
   where

@@ -4,11 +4,11 @@ use Rattle.ttp_model.specs.declared.plan.Plan.{Plan}
 use Rattle.ttp_model.specs.declared.fault.PlanPart.TheVariants as part
 use Rattle.ttp_model.specs.declared.fault.PlanFault.{PlanFault}
 use Rattle.ttp_model.specs.declared.fault.PlanFault.TheVariants.{WrongLength, WrongOrder, WrongCapacity, TooEarly, TooLate, Overlap, BrokenLink, NotReady, NotArrived, Overfull}
-use Rattle.ttp_model.specs.Problem.{Problem}
+use Rattle.ttp_model.specs.Instance.{Instance}
 use Rattle.ttp_model.specs.Plans.{IsValid}
 use Rattle.ttp_model.specs.Faults.{IsFirstFault}
 
-pub faulty_is_not_valid : (i : Problem) (plan : Plan) (fault : PlanFault) → IsFirstFault i plan fault → ¬ IsValid i plan
+pub faulty_is_not_valid : (i : Instance) (plan : Plan) (fault : PlanFault) → IsFirstFault i plan fault → ¬ IsValid i plan
 faulty_is_not_valid i plan (WrongLength part.Order) f v = f.1 v.lengths.order
 faulty_is_not_valid i plan (WrongLength part.Capacities) f v = f.1.1 v.lengths.capacities
 faulty_is_not_valid i plan (WrongLength part.Starts) f v = f.1.2 v.lengths.starts

@@ -1,3 +1,5 @@
+pub mod Totals
+pub mod Ranges
 pub mod TurnSteps
 pub mod Paths
 pub mod ClosedWalks
@@ -9,14 +11,14 @@ pub mod PlanNumbers
 pub mod FaultyPlans
 pub mod Orders
 pub mod OneMessage
+pub mod OneMessagePlan
 pub mod Decide
+pub mod Raising
 pub mod Validity
 pub mod Alike
 pub mod Descent
 pub mod NextMoves
 pub mod Delays
-pub mod TwoPlaces
 pub mod Positions
 pub mod Lighter
 pub mod Reached
-pub mod Agreeing

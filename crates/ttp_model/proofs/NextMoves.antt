@@ -1,60 +1,51 @@
 -- Whether some move from a plan gives a valid plan can be told, and the plan that it gives is found.
-use Rattle.std.proofs.Common.{ℕ, ◌-◌, ◌<◌, ◌⊎◌, length, slice_set, swap, inl, inr, refl, subst}
+use Rattle.std.proofs.Common.{ℕ, ◌-◌, ◌<◌, ◌⊎◌, length, inl, inr, refl, subst}
 use Rattle.ttp_model.specs.declared.plan.Plan.{Plan}
-use Rattle.ttp_model.specs.Problem.{Problem}
+use Rattle.ttp_model.specs.Instance.{Instance}
 use Rattle.ttp_model.specs.Plans.{IsValid, start_of, round_of}
 use Rattle.ttp_model.specs.Twins.{AreTwins, AreSilentTwins}
-use Rattle.ttp_model.specs.Moves.{Move, StartsEarlier, SendsEarlier, SwapsTwins, SwapsSilentTwins, position_of}
+use Rattle.ttp_model.specs.Moves.{Move, StartsEarlier, SendsEarlier, SwapsTwins, SwapsSilentTwins, position_of, started, sent, swapped, exchanged}
 use Rattle.ttp_model.proofs.Decide.{Decision, like, both, one_of, below, some_below}
 use Rattle.ttp_model.proofs.Validity.{valid_or_not}
 use Rattle.ttp_model.proofs.Alike.{twins_or_not, silent_twins_or_not}
 
-module _ (i : Problem) (plan : Plan) where
-  abbrev started : ℕ → Plan
-  started p = record plan { starts = slice_set plan.starts p (start_of plan p - 1) }
-
-  abbrev sent : ℕ → ℕ → Plan
-  sent m r = record plan { rounds = slice_set plan.rounds m r }
-
-  abbrev swapped : ℕ → ℕ → Plan
-  swapped a b = record plan { starts = swap plan.starts a b }
-
-  abbrev exchanged : ℕ → ℕ → Plan
-  exchanged u v = record plan { order = swap plan.order (position_of plan u) (position_of plan v); caps = swap plan.caps u v }
+module _ (i : Instance) (plan : Plan) where
+  abbrev sooner : ℕ → Plan
+  sooner p = started plan p (start_of plan p - 1)
 
   earlier_start : Decision ((moved : Plan) × StartsEarlier i plan moved × IsValid i moved)
-  earlier_start = like ((p : ℕ) × (p < length i.processes) × ((0 < start_of plan p) × IsValid i (started p))) _
-      (λ some. (started some.0, record { process = some.0; is_there = some.1; above = some.2.0; moved_is = refl }, some.2.1))
+  earlier_start = like ((p : ℕ) × (p < length i.processes) × ((0 < start_of plan p) × IsValid i (sooner p))) _
+      (λ some. (sooner some.0, record { process = some.0; is_there = some.1; above = some.2.0; moved_is = refl }, some.2.1))
       (λ found. let move = found.1 in (move.process, move.is_there, (move.above, subst (IsValid i) move.moved_is found.2)))
-      (some_below (λ p. (0 < start_of plan p) × IsValid i (started p)) (length i.processes) (λ p. both _ _ (below _ _) (valid_or_not i (started p))))
+      (some_below (λ p. (0 < start_of plan p) × IsValid i (sooner p)) (length i.processes) (λ p. both _ _ (below _ _) (valid_or_not i (sooner p))))
 
   earlier_round : Decision ((moved : Plan) × SendsEarlier i plan moved × IsValid i moved)
-  earlier_round = like ((m : ℕ) × (m < length i.messages) × ((r : ℕ) × (r < round_of plan m) × IsValid i (sent m r))) _
-      (λ some. (sent some.0 some.2.0, record { message = some.0; round = some.2.0; is_there = some.1; earlier = some.2.1; moved_is = refl }, some.2.2))
+  earlier_round = like ((m : ℕ) × (m < length i.messages) × ((r : ℕ) × (r < round_of plan m) × IsValid i (sent plan m r))) _
+      (λ some. (sent plan some.0 some.2.0, record { message = some.0; round = some.2.0; is_there = some.1; earlier = some.2.1; moved_is = refl }, some.2.2))
       (λ found. let move = found.1 in (move.message, move.is_there, (move.round, move.earlier, subst (IsValid i) move.moved_is found.2)))
-      (some_below (λ m. (r : ℕ) × (r < round_of plan m) × IsValid i (sent m r)) (length i.messages) (λ m. some_below (λ r. IsValid i (sent m r)) (round_of plan m) (λ r. valid_or_not i (sent m r))))
+      (some_below (λ m. (r : ℕ) × (r < round_of plan m) × IsValid i (sent plan m r)) (length i.messages) (λ m. some_below (λ r. IsValid i (sent plan m r)) (round_of plan m) (λ r. valid_or_not i (sent plan m r))))
 
   abbrev TwinsSwap : ℕ → ℕ → Type 0
-  TwinsSwap a b = AreTwins i a b × ((start_of plan b < start_of plan a) × IsValid i (swapped a b))
+  TwinsSwap a b = AreTwins i a b × ((start_of plan b < start_of plan a) × IsValid i (swapped plan a b))
 
   twins_swap : (a b : ℕ) → Decision (TwinsSwap a b)
-  twins_swap a b = both _ _ (twins_or_not i a b) (both _ _ (below _ _) (valid_or_not i (swapped a b)))
+  twins_swap a b = both _ _ (twins_or_not i a b) (both _ _ (below _ _) (valid_or_not i (swapped plan a b)))
 
   swapped_twins : Decision ((moved : Plan) × SwapsTwins i plan moved × IsValid i moved)
   swapped_twins = like ((b : ℕ) × (b < length i.processes) × ((a : ℕ) × (a < b) × TwinsSwap a b)) _
-      (λ some. let rest = some.2 in (swapped rest.0 some.0, record { first = rest.0; second = some.0; twins = rest.2.0; in_order = rest.1; later = rest.2.1.0; moved_is = refl }, rest.2.1.1))
+      (λ some. let rest = some.2 in (swapped plan rest.0 some.0, record { first = rest.0; second = some.0; twins = rest.2.0; in_order = rest.1; later = rest.2.1.0; moved_is = refl }, rest.2.1.1))
       (λ found. let move = found.1 in (move.second, move.twins.q_is, (move.first, move.in_order, (move.twins, (move.later, subst (IsValid i) move.moved_is found.2)))))
       (some_below (λ b. (a : ℕ) × (a < b) × TwinsSwap a b) (length i.processes) (λ b. some_below (λ a. TwinsSwap a b) b (λ a. twins_swap a b)))
 
   abbrev SilentTwinsSwap : ℕ → ℕ → Type 0
-  SilentTwinsSwap u v = AreSilentTwins i u v × ((position_of plan v < position_of plan u) × IsValid i (exchanged u v))
+  SilentTwinsSwap u v = AreSilentTwins i u v × ((position_of plan v < position_of plan u) × IsValid i (exchanged plan u v))
 
   silent_twins_swap : (u v : ℕ) → Decision (SilentTwinsSwap u v)
-  silent_twins_swap u v = both _ _ (silent_twins_or_not i u v) (both _ _ (below _ _) (valid_or_not i (exchanged u v)))
+  silent_twins_swap u v = both _ _ (silent_twins_or_not i u v) (both _ _ (below _ _) (valid_or_not i (exchanged plan u v)))
 
   swapped_silent_twins : Decision ((moved : Plan) × SwapsSilentTwins i plan moved × IsValid i moved)
   swapped_silent_twins = like ((v : ℕ) × (v < length i.nodes) × ((u : ℕ) × (u < v) × SilentTwinsSwap u v)) _
-      (λ some. let rest = some.2 in (exchanged rest.0 some.0, record { first = rest.0; second = some.0; twins = rest.2.0; in_order = rest.1; later = rest.2.1.0; moved_is = refl }, rest.2.1.1))
+      (λ some. let rest = some.2 in (exchanged plan rest.0 some.0, record { first = rest.0; second = some.0; twins = rest.2.0; in_order = rest.1; later = rest.2.1.0; moved_is = refl }, rest.2.1.1))
       (λ found. let move = found.1 in (move.second, move.twins.v_is, (move.first, move.in_order, (move.twins, (move.later, subst (IsValid i) move.moved_is found.2)))))
       (some_below (λ v. (u : ℕ) × (u < v) × SilentTwinsSwap u v) (length i.nodes) (λ v. some_below (λ u. SilentTwinsSwap u v) v (λ u. silent_twins_swap u v)))
 

@@ -1,12 +1,12 @@
 -- The chains of the worked example with one message.
 use Rattle.std.proofs.Common.{◌≡◌, ℕ, zero, suc, ◌+◌, ◌<◌, ◌≤◌, [], ◌∷◌, Contains, slice_index_or, arith, sym, refl, lit<}
-use Rattle.ttp_model.specs.Problem.{message_at, node_of, process_at}
+use Rattle.ttp_model.specs.Instance.{message_at, node_of, process_at}
 use Rattle.ttp_model.specs.Graph.{HasMessage}
 use Rattle.ttp_model.specs.Chains.{ChainEnds, one, by_link, by_message, IsPathBound, least_transfer}
 use Rattle.ttp_model.specs.Worked.{one_message}
 
 -- its message leads from process 0 to process 1
-message_is : (p q : ℕ) → HasMessage one_message p q → (p ≡ 0) × (q ≡ 1)
+pub message_is : (p q : ℕ) → HasMessage one_message p q → (p ≡ 0) × (q ≡ 1)
 message_is p q h = at h.message h.is_there h.sender h.receiver
   where
     place : (k : ℕ) → k < 1 → slice_index_or (1 ∷ []) k q ≡ q → q ≡ 1

@@ -4,12 +4,12 @@ use Rattle.std.proofs.lemmas.List.{get_or-drop}
 use Rattle.std.proofs.lemmas.Bool.{cases_eq}
 use Rattle.std.proofs.lemmas.Grind.{common_steps}
 use Rattle.std.proofs.lemmas.List.Sums.{sum_by-set}
-use Rattle.ttp_model.specs.Problem.{Problem}
+use Rattle.ttp_model.specs.Instance.{Instance}
 use Rattle.ttp_model.specs.Lists.{HasNoRepeats}
 use Rattle.ttp_model.specs.Graph.{Leads, IsClosedWalk}
 use Rattle.ttp_model.specs.Turns.{IsPath}
 
-pub Leads_as : (i : Problem) (a b c d : ℕ) → a ≡ c → b ≡ d → Leads i c d → Leads i a b
+pub Leads_as : (i : Instance) (a b c d : ℕ) → a ≡ c → b ≡ d → Leads i c d → Leads i a b
 Leads_as i a b c d e f h = subst (λ x. Leads i x b) (sym e) (subst (λ y. Leads i c y) (sym f) h)
 
 pub count_step : (places : List ℕ) (at place n total : ℕ) → at < length places → slice_index places at ≡ 0 → 0 < place → n + count_by (λ t. t == 0) places ≡ total → n + 1 + count_by (λ t. t == 0) (slice_set places at place) ≡ total
@@ -31,7 +31,7 @@ module _ (path places : List ℕ) (at : ℕ) (inside : at < length places) (zero
     | inr other ↦ grind (arith, common_steps)
   ]
 
-pub IsPath_start : (i : Problem) (turns places : List ℕ) (at : ℕ) → at < length turns → slice_index turns at ≡ 0 → length places ≡ length turns → ((p : ℕ) → slice_index places p ≡ 0) → IsPath i turns [] places at
+pub IsPath_start : (i : Instance) (turns places : List ℕ) (at : ℕ) → at < length turns → slice_index turns at ≡ 0 → length places ≡ length turns → ((p : ℕ) → slice_index places p ≡ 0) → IsPath i turns [] places at
 IsPath_start i turns places at inside stuck same none = record {
   inside = inside;
   stuck = stuck;
@@ -42,7 +42,7 @@ IsPath_start i turns places at inside stuck same none = record {
   last = λ h. absurd (omega arith);
 }
 
-pub IsPath_step : (i : Problem) (turns path places : List ℕ) (at next : ℕ) → IsPath i turns path places at → slice_index places at ≡ 0 → Leads i at next → slice_index turns next ≡ 0 → next < length turns → IsPath i turns (path ++ at ∷ []) (slice_set places at (length path + 1)) next
+pub IsPath_step : (i : Instance) (turns path places : List ℕ) (at next : ℕ) → IsPath i turns path places at → slice_index places at ≡ 0 → Leads i at next → slice_index turns next ≡ 0 → next < length turns → IsPath i turns (path ++ at ∷ []) (slice_set places at (length path + 1)) next
 IsPath_step i turns path places at next old zero leads stuck inside =
     let within : at < length places = omega (arith, old.inside, old.places_length) in
     let longer : length (path ++ at ∷ []) ≡ length path + 1 = grind (arith, common_steps) in
@@ -64,7 +64,7 @@ pub drop_at : (n : ℕ) (xs : List ℕ) (k m : ℕ) → n + k ≡ m → slice_in
 drop_at n xs k m e = get_or-drop n xs k 0 ∙ ap (slice_index xs) e
 
 -- the part of the path from the place that the search came back to
-module _ (i : Problem) (turns path places : List ℕ) (at first : ℕ) (p : IsPath i turns path places at) (seen : slice_index places at ≡ first + 1) where
+module _ (i : Instance) (turns path places : List ℕ) (at first : ℕ) (p : IsPath i turns path places at) (seen : slice_index places at ≡ first + 1) where
   pub first_below : first < length path
   first_below = let here = p.place_path at (omega arith) in omega (arith, here.0)
 

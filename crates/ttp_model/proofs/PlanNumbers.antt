@@ -4,16 +4,16 @@ use Rattle.std.proofs.lemmas.Grind.{common_steps}
 use Rattle.ttp_model.specs.declared.limits.TheConstants.{MOST_BYTES}
 use Rattle.ttp_model.specs.declared.plan.Plan.{Plan}
 use Rattle.ttp_model.specs.declared.error.Place.TheVariants.{AtCluster, AtProcess, AtLink, AtMessage}
-use Rattle.ttp_model.specs.Problem.{Problem, message_at, node_of, source_of}
+use Rattle.ttp_model.specs.Instance.{Instance, message_at, node_of, source_of}
 use Rattle.ttp_model.specs.Rules.{IsInstance}
-use Rattle.ttp_model.specs.Graph.{HasLink, HasMessage}
+use Rattle.ttp_model.specs.Graph.{HasMessage}
 use Rattle.ttp_model.specs.Plans.{IsValid, start_of, end_of, round_of, HasArrived}
 use Rattle.ttp_model.specs.Delays.{delay}
 use Rattle.ttp_model.specs.Chains.{ChainEnds, one, by_link, by_message, least_transfer, IsPathBound}
-use Rattle.ttp_model.proofs.ValidPlans.{greatest_each, greatest_reached}
+use Rattle.ttp_model.proofs.ValidPlans.{greatest_each, greatest_reached, link_kept}
 use Rattle.ttp_model.proofs.Times.{round_length-positive, least_duration-le, round-le-slot_start}
 
-module _ (i : Problem) (plan : Plan) (w : IsInstance i) (v : IsValid i plan) where
+module _ (i : Instance) (plan : Plan) (w : IsInstance i) (v : IsValid i plan) where
   pub some_caps : 0 < length plan.caps
   some_caps = omega (arith, v.lengths.capacities, w.limits.nodes_least)
 
@@ -42,9 +42,6 @@ module _ (i : Problem) (plan : Plan) (w : IsInstance i) (v : IsValid i plan) whe
       let slot = least_duration-le i plan.caps (source_of i m) (w.capacities (source_of i m) node).rising (v.capacities (source_of i m) node) in
       omega (arith, arrived, v.ready m h, slot)
 
-  link-le : (p q : ℕ) → HasLink i p q → end_of i plan p ≤ start_of plan q
-  link-le p q link = rw (← link.before, ← link.after) (v.links link.link link.is_there)
-
   message-le : (p q : ℕ) → HasMessage i p q → end_of i plan p + least_transfer i (node_of i p) ≤ start_of plan q
   message-le p q message =
       let place = message.receiver in
@@ -54,7 +51,7 @@ module _ (i : Problem) (plan : Plan) (w : IsInstance i) (v : IsValid i plan) whe
 
   pub chain-le : (p time : ℕ) → ChainEnds i p time → time ≤ end_of i plan p
   chain-le _ _ (one p inside) = omega (arith, v.released p inside)
-  chain-le _ _ (by_link p q before chain link) = omega (arith, chain-le p before chain, link-le p q link)
+  chain-le _ _ (by_link p q before chain link) = omega (arith, chain-le p before chain, link_kept i plan p q v link)
   chain-le _ _ (by_message p q before chain message) = omega (arith, chain-le p before chain, message-le p q message)
 
   chain_inside : (p time : ℕ) → ChainEnds i p time → p < length i.processes
@@ -69,23 +66,23 @@ module _ (i : Problem) (plan : Plan) (w : IsInstance i) (v : IsValid i plan) whe
   path_bound-le-delay bound is =
       omega (arith, chain-le is.last bound is.reached, greatest_each (end_of i plan) (length i.processes) is.last (chain_inside is.last bound is.reached))
 
-pub order_small : (i : Problem) (plan : Plan) → IsValid i plan → All (λ n. n < length i.nodes) plan.order
+pub order_small : (i : Instance) (plan : Plan) → IsValid i plan → All (λ n. n < length i.nodes) plan.order
 order_small i plan v k d h = grind (arith, common_steps, (v.order.each k (omega (arith, h, v.order.all))).node)
 
-pub capacities_small : (i : Problem) (plan : Plan) → IsInstance i → IsValid i plan → All (λ capacity. capacity ≤ MOST_BYTES) plan.caps
+pub capacities_small : (i : Instance) (plan : Plan) → IsInstance i → IsValid i plan → All (λ capacity. capacity ≤ MOST_BYTES) plan.caps
 capacities_small i plan w v n d h =
     let inside : n < length i.nodes = omega (arith, h, v.lengths.capacities) in
     let place = (v.capacities n inside).own in
     let small = (w.capacities n inside).small place.0 (slice_index plan.caps n) place.1 in
     grind (arith, common_steps, small, place.2)
 
-pub starts_small : (i : Problem) (plan : Plan) → IsInstance i → IsValid i plan → All (λ start. start < i.cluster.horizon) plan.starts
+pub starts_small : (i : Instance) (plan : Plan) → IsInstance i → IsValid i plan → All (λ start. start < i.cluster.horizon) plan.starts
 starts_small i plan w v p d h = grind (arith, common_steps, start_below_horizon i plan w v p (omega (arith, h, v.lengths.starts)))
 
-pub rounds_small : (i : Problem) (plan : Plan) → IsInstance i → IsValid i plan → All (λ round. round < i.cluster.horizon) plan.rounds
+pub rounds_small : (i : Instance) (plan : Plan) → IsInstance i → IsValid i plan → All (λ round. round < i.cluster.horizon) plan.rounds
 rounds_small i plan w v m d h = grind (arith, common_steps, round_below_horizon i plan w v m (omega (arith, h, v.lengths.rounds)))
 
-pub delay_small : (i : Problem) (plan : Plan) → IsInstance i → IsValid i plan → delay i plan ≤ i.cluster.horizon
+pub delay_small : (i : Instance) (plan : Plan) → IsInstance i → IsValid i plan → delay i plan ≤ i.cluster.horizon
 delay_small i plan w v =
     let last = greatest_reached (end_of i plan) (length i.processes) (omega (arith, w.limits.processes_least)) in
     omega (arith, last.2, (v.in_time last.0 last.1).1)

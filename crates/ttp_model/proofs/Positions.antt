@@ -4,12 +4,12 @@ use Rattle.std.proofs.lemmas.List.Sums.{position_or_len_is}
 use Rattle.std.proofs.lemmas.Bool.{ne_eqb, eq-eqb}
 use Rattle.std.proofs.lemmas.Grind.{common_steps}
 use Rattle.ttp_model.specs.declared.plan.Plan.{Plan}
-use Rattle.ttp_model.specs.Problem.{Problem}
+use Rattle.ttp_model.specs.Instance.{Instance}
 use Rattle.ttp_model.specs.Plans.{IsValid}
 use Rattle.ttp_model.specs.Moves.{position_of}
 use Rattle.ttp_model.proofs.Orders.{every_node}
 
-module _ (i : Problem) (plan : Plan) (v : IsValid i plan) where
+module _ (i : Instance) (plan : Plan) (v : IsValid i plan) where
   -- a node stands where it is seen
   pub position_is : (n k : ℕ) → k < length plan.order → slice_index plan.order k ≡ n → position_of plan n ≡ k
   position_is n k inside same =

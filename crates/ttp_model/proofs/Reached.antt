@@ -1,7 +1,7 @@
 -- The moves lead from each valid plan to a settled one.
 use Rattle.std.proofs.Common.{◌≤◌, arith, inl, inr}
 use Rattle.ttp_model.specs.declared.plan.Plan.{Plan}
-use Rattle.ttp_model.specs.Problem.{Problem}
+use Rattle.ttp_model.specs.Instance.{Instance}
 use Rattle.ttp_model.specs.Rules.{IsInstance}
 use Rattle.ttp_model.specs.Plans.{IsValid}
 use Rattle.ttp_model.specs.Delays.{delay}
@@ -11,10 +11,10 @@ use Rattle.ttp_model.proofs.NextMoves.{move_or_none}
 use Rattle.ttp_model.proofs.Delays.{keeps_delay}
 use Rattle.ttp_model.proofs.Lighter.{lowers_weight}
 
-abbrev Reaches : Problem → Plan → Type 0
+abbrev Reaches : Instance → Plan → Type 0
 Reaches i plan = IsValid i plan → (settled : Plan) × IsSettled i settled × (delay i settled ≤ delay i plan)
 
-pub settled_reached : (i : Problem) (plan : Plan) → IsInstance i → IsValid i plan → (settled : Plan) × IsSettled i settled × (delay i settled ≤ delay i plan)
+pub settled_reached : (i : Instance) (plan : Plan) → IsInstance i → IsValid i plan → (settled : Plan) × IsSettled i settled × (delay i settled ≤ delay i plan)
 settled_reached i plan w = by_weight i (Reaches i) step plan
   where
     step : (p : Plan) → ((lighter : Plan) → IsLighter (weight i lighter) (weight i p) → Reaches i lighter) → Reaches i p

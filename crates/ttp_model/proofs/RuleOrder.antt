@@ -1,10 +1,10 @@
 -- All rules together, from those before the last and the last.
 use Rattle.std.proofs.Common.{arith}
-use Rattle.ttp_model.specs.Problem.{Problem}
+use Rattle.ttp_model.specs.Instance.{Instance}
 use Rattle.ttp_model.specs.Rules.{Lengths, Receivers, Names, NewNames, Indices, Ranges, CapacityLists, ReceiversAway, Lead, Trail, Deadlines, LinkEnds, ReceiversOnce, Cycles, IsInstance, KeepsRule}
 use Rattle.ttp_model.specs.Refusals.{KeepsRulesBefore}
 
-pub IsInstance_from : (i : Problem) → KeepsRulesBefore i Cycles → KeepsRule i Cycles → IsInstance i
+pub IsInstance_from : (i : Instance) → KeepsRulesBefore i Cycles → KeepsRule i Cycles → IsInstance i
 IsInstance_from i before last = record {
   limits = before.each Lengths (omega arith);
   receivers = before.each Receivers (omega arith);

@@ -1,11 +1,13 @@
 -- How long slots and rounds are at least, whatever the plan.
-use Rattle.std.proofs.Common.{◌≡◌, ℕ, zero, suc, ◌+◌, ◌<◌, ◌≤◌, List, length, slice_index, arith, add-one}
+use Rattle.std.proofs.Common.{◌≡◌, ℕ, ◌<◌, ◌≤◌, List, length, slice_index, arith, ap, inl, inr}
 use Rattle.std.proofs.Math.Nat.{mul-le-mul_left, le-mul_of_pos_right}
 use Rattle.std.specs.List.Sorted.{IsStrictlyIncreasing}
+use Rattle.std.proofs.lemmas.Bool.{cases_eq}
+use Rattle.std.proofs.lemmas.List.Kept.{AllPairs-from_increasing}
 use Rattle.std.proofs.lemmas.List.Sums.{get_or-le-sum_by}
 use Rattle.std.proofs.lemmas.Grind.{common_steps}
 use Rattle.ttp_model.specs.declared.parts.Cluster.{Cluster}
-use Rattle.ttp_model.specs.Problem.{Problem, node_at}
+use Rattle.ttp_model.specs.Instance.{Instance, node_at}
 use Rattle.ttp_model.specs.Rules.{IsClusterInRange}
 use Rattle.ttp_model.specs.Slots.{slot_duration, round_length, slot_start, duration}
 use Rattle.ttp_model.specs.Plans.{HasOwnCapacity}
@@ -18,16 +20,19 @@ slot_duration-le c a b h = omega (arith, mul-le-mul_left c.per_byte h)
 pub round_length-positive : (c : Cluster) (caps : List ℕ) → IsClusterInRange c → 0 < length caps → 0 < round_length c caps
 round_length-positive c caps ranges some = omega (arith, ranges.head_least, get_or-le-sum_by (slot_duration c) caps 0 0 some)
 
--- the first of rising numbers is the least
+-- of rising numbers a later one is no less
+pub rising_le : (xs : List ℕ) → IsStrictlyIncreasing xs → (j k : ℕ) → j ≤ k → k < length xs → slice_index xs j ≤ slice_index xs k
+rising_le xs rising j k le h = elim (cases_eq j k) [
+  | inl same ↦ omega (arith, ap (slice_index xs) same)
+  | inr other ↦ omega (arith, AllPairs-from_increasing xs rising j k 0 (omega (arith, le, other)) h)
+]
+
+-- the first is the least
 pub first-le : (xs : List ℕ) → IsStrictlyIncreasing xs → (k : ℕ) → k < length xs → slice_index xs 0 ≤ slice_index xs k
-first-le xs rising zero h = omega arith
-first-le xs rising (suc k) h =
-    let below = first-le xs rising k (omega arith) in
-    let step : slice_index xs k < slice_index xs (k + 1) = rising k (omega arith) in
-    rw (← add-one k) (omega (arith, below, step))
+first-le xs rising k h = rising_le xs rising 0 k (omega arith) h
 
 -- a slot lasts as long as that of the least capacity
-pub least_duration-le : (i : Problem) (caps : List ℕ) (n : ℕ) → IsStrictlyIncreasing (node_at i n).capacities → HasOwnCapacity i caps n → least_duration i n ≤ duration i.cluster caps n
+pub least_duration-le : (i : Instance) (caps : List ℕ) (n : ℕ) → IsStrictlyIncreasing (node_at i n).capacities → HasOwnCapacity i caps n → least_duration i n ≤ duration i.cluster caps n
 least_duration-le i caps n rising own =
     let place = own.own in
     let there : slice_index (node_at i n).capacities place.0 ≡ slice_index caps n = grind (arith, common_steps, place.2) in

@@ -1,32 +1,44 @@
--- Frames without messages, and plans without a delay.
-use Rattle.std.proofs.Common.{◌≡◌, ℕ, zero, suc, ◌+◌, ◌<◌, ◌≤◌, length, slice_index, sum, map, max, arith, inl, inr, ap, add-one}
+-- Processes one after the other, frames without messages, and plans without a delay.
+use Rattle.std.proofs.Common.{◌≡◌, ◌≢◌, ℕ, zero, suc, ◌+◌, ◌<◌, ◌≤◌, ◌⊎◌, length, slice_index, map, max, arith, inl, inr, ap, sym, add-one}
 use Rattle.std.specs.List.{range_with_len}
-use Rattle.std.proofs.lemmas.List.FromFn.{sum_by-map-range_with_len_more, map-range_with_len_more}
+use Rattle.std.proofs.lemmas.List.FromFn.{map-range_with_len_more}
 use Rattle.std.proofs.lemmas.List.Sums.{fold_push}
-use Rattle.std.proofs.lemmas.Bool.{cases_order}
+use Rattle.std.proofs.lemmas.Bool.{cases_lt, cases_order}
 use Rattle.std.proofs.lemmas.Bool.Decides.{eqb_tells}
 use Rattle.ttp_model.specs.declared.limits.TheConstants.{MOST_TICKS}
 use Rattle.ttp_model.specs.declared.error.Place.TheVariants.{AtCluster}
 use Rattle.ttp_model.specs.declared.plan.Plan.{Plan}
-use Rattle.ttp_model.specs.Problem.{Problem, source_of}
+use Rattle.ttp_model.specs.Instance.{Instance, node_of, source_of}
+use Rattle.ttp_model.specs.Graph.{HasLink}
+use Rattle.ttp_model.specs.Totals.{total}
 use Rattle.ttp_model.specs.Rules.{IsInstance}
 use Rattle.ttp_model.specs.Lists.{greatest}
-use Rattle.ttp_model.specs.Plans.{IsValid, end_of, load_of, bytes_in, round_of}
+use Rattle.ttp_model.specs.Plans.{IsValid, EndsBefore, start_of, end_of, load_of, bytes_in, round_of}
 use Rattle.ttp_model.specs.Delays.{delay, IsLowerBound, HasNoPlan}
+use Rattle.ttp_model.proofs.Totals.{total_more}
+
+-- of two processes of one node one ends before the other starts
+pub two_apart : (i : Instance) (plan : Plan) (p q : ℕ) → IsValid i plan → p < length i.processes → q < length i.processes → p ≢ q → node_of i p ≡ node_of i q → EndsBefore i plan p q ⊎ EndsBefore i plan q p
+two_apart i plan p q v hp hq two same = elim (cases_lt p q) [
+  | inl below ↦ v.apart p hp q below hq same
+  | inr above ↦ elim (v.apart q hq p (omega (arith, above, two)) hp (sym same)) [ inl first ↦ inr first | inr second ↦ inl second ]
+]
+
+-- a link keeps its processes one after the other
+pub link_kept : (i : Instance) (plan : Plan) (p q : ℕ) → IsValid i plan → HasLink i p q → EndsBefore i plan p q
+link_kept i plan p q v link = omega (arith, v.links link.link link.is_there, ap (end_of i plan) link.before, ap (start_of plan) link.after)
 
 -- a sum above 0 has a term above 0
-positive_term : (f : ℕ → ℕ) (count : ℕ) → 0 < sum (map f (range_with_len 0 count)) → (m : ℕ) × (m < count) × (0 < f m)
+positive_term : (f : ℕ → ℕ) (count : ℕ) → 0 < total f count → (m : ℕ) × (m < count) × (0 < f m)
 positive_term f zero h = absurd (omega arith)
 positive_term f (suc count) h =
-    let more = sum_by-map-range_with_len_more (λ x. x) f 0 count count (omega arith) in
-    let total : 0 < sum (map f (range_with_len 0 count)) + f count = rw (← more, add-one) h in
     elim (cases_order (f count) 0) [
-      | inl none ↦ (let rest = positive_term f count (omega (arith, total, none)) in (rest.0, omega (arith, rest.1), rest.2))
+      | inl none ↦ (let rest = positive_term f count (omega (arith, h, total_more f count, none)) in (rest.0, omega (arith, rest.1), rest.2))
       | inr other ↦ elim other [ inl below ↦ absurd (omega (arith, below)) | inr above ↦ (count, omega arith, above) ]
     ]
 
 -- a message that puts bytes into a frame is sent in it
-sent_there : (i : Problem) (plan : Plan) (n r m : ℕ) → 0 < bytes_in i plan n r m → (source_of i m ≡ n) × (round_of plan m ≡ r)
+sent_there : (i : Instance) (plan : Plan) (n r m : ℕ) → 0 < bytes_in i plan n r m → (source_of i m ≡ n) × (round_of plan m ≡ r)
 sent_there i plan n r m h = elim (eqb_tells (source_of i m) n) [
   | inl here ↦ elim (eqb_tells (round_of plan m) r) [
     | inl then ↦ (here.1, then.1)
@@ -35,7 +47,7 @@ sent_there i plan n r m h = elim (eqb_tells (source_of i m) n) [
   | inr not_here ↦ absurd (let z = rw not_here.0 at h in omega (arith, z))
 ]
 
-pub frames_fit_lem : (i : Problem) (plan : Plan) (n r : ℕ) → IsValid i plan → load_of i plan n r ≤ slice_index plan.caps n
+pub frames_fit_lem : (i : Instance) (plan : Plan) (n r : ℕ) → IsValid i plan → load_of i plan n r ≤ slice_index plan.caps n
 frames_fit_lem i plan n r v = elim (cases_order (load_of i plan n r) 0) [
   | inl none ↦ omega (arith, none)
   | inr other ↦ elim other [
@@ -74,13 +86,13 @@ greatest_reached f (suc (suc count)) h =
       ]
     ]
 
-pub bound_is_none : (i : Problem) → IsInstance i → IsLowerBound i (i.cluster.horizon + 1) → HasNoPlan i
+pub bound_is_none : (i : Instance) → IsInstance i → IsLowerBound i (i.cluster.horizon + 1) → HasNoPlan i
 bound_is_none i w bound plan v =
     let last = greatest_reached (end_of i plan) (length i.processes) (omega (arith, w.limits.processes_least)) in
     omega (arith, bound plan v, last.2, (v.in_time last.0 last.1).1)
 
 -- the delay of a valid plan is a time within the limits
-pub delay-le : (i : Problem) (plan : Plan) → IsInstance i → IsValid i plan → delay i plan ≤ MOST_TICKS
+pub delay-le : (i : Instance) (plan : Plan) → IsInstance i → IsValid i plan → delay i plan ≤ MOST_TICKS
 delay-le i plan w v =
     let last = greatest_reached (end_of i plan) (length i.processes) (omega (arith, w.limits.processes_least)) in
     omega (arith, last.2, (v.in_time last.0 last.1).1, (w.ranges AtCluster).horizon)

@@ -2,11 +2,11 @@
 use Rattle.std.proofs.Common.{◌≡◌, ◌≢◌, ℕ, ◌<◌, ◌⊎◌, List, length, slice_index, Contains}
 use Rattle.ttp_model.specs.declared.plan.Plan.{Plan}
 use Rattle.ttp_model.specs.Lists.{EachBelow}
-use Rattle.ttp_model.specs.Problem.{Problem, node_at, message_at, node_of}
+use Rattle.ttp_model.specs.Instance.{Instance, node_at, message_at, node_of}
 use Rattle.ttp_model.specs.Plans.{IsValid, HasLengths, HasOrderLength, HasCapacitiesLength, HasStartsLength, HasRoundsLength, IsNewNode, IsNodeOrder, HasOwnCapacity, IsReleased, EndsInTime, EndsBefore, AreApart, IsApartFromLater, KeepsLink, IsReady, HasArrivedAt, HasArrivedEverywhere, FitsFrame}
 use Rattle.ttp_model.proofs.Decide.{Decision, like, both, one_of, implied, refuted, equal, below, at_most, each_below, contained}
 
-module _ (i : Problem) (plan : Plan) where
+module _ (i : Instance) (plan : Plan) where
   lengths : Decision (HasLengths i plan)
   lengths = like ((HasOrderLength i plan × HasCapacitiesLength i plan) × (HasStartsLength i plan × HasRoundsLength i plan)) (HasLengths i plan)
       (λ all. record { order = all.0.0; capacities = all.0.1; starts = all.1.0; rounds = all.1.1 })

@@ -6,35 +6,35 @@ use Rattle.ttp_model.specs.declared.fault.PlanPart.TheVariants as part
 use Rattle.ttp_model.specs.declared.fault.PlanFault.{PlanFault}
 use Rattle.ttp_model.specs.declared.fault.PlanFault.TheVariants.{WrongLength, WrongOrder, WrongCapacity, TooEarly, TooLate, Overlap, BrokenLink, NotReady, NotArrived, Overfull}
 use Rattle.ttp_model.specs.Lists.{EachBelow, IsFirstFailure}
-use Rattle.ttp_model.specs.Problem.{Problem, message_at, source_of}
+use Rattle.ttp_model.specs.Instance.{Instance, message_at, source_of}
 use Rattle.ttp_model.specs.Plans.{Clause, Lengths, Order, Capacities, Releases, Ends, Overlaps, Links, Readiness, Arrivals, Frames, Keeps, HasOrderLength, HasCapacitiesLength, HasStartsLength, HasRoundsLength, IsNewNode, HasOwnCapacity, IsReleased, EndsInTime, AreApart, IsApartFromLater, KeepsLink, IsReady, HasArrivedAt, HasArrivedEverywhere, FitsFrame, round_of}
 
 -- the order of the rules, as they are printed
-abbrev pub number_of : Clause → ℕ
-number_of Lengths = 1
-number_of Order = 2
-number_of Capacities = 3
-number_of Releases = 4
-number_of Ends = 5
-number_of Overlaps = 6
-number_of Links = 7
-number_of Readiness = 8
-number_of Arrivals = 9
-number_of Frames = 10
+abbrev pub clause_number : Clause → ℕ
+clause_number Lengths = 1
+clause_number Order = 2
+clause_number Capacities = 3
+clause_number Releases = 4
+clause_number Ends = 5
+clause_number Overlaps = 6
+clause_number Links = 7
+clause_number Readiness = 8
+clause_number Arrivals = 9
+clause_number Frames = 10
 
 -- the plan keeps every rule of a lesser number
-pub record KeepsBefore (i : Problem) (plan : Plan) (clause : Clause) : Type 0 where
-  pub each : (earlier : Clause) → number_of earlier < number_of clause → Keeps i plan earlier
+pub record KeepsBefore (i : Instance) (plan : Plan) (clause : Clause) : Type 0 where
+  pub each : (earlier : Clause) → clause_number earlier < clause_number clause → Keeps i plan earlier
 
 -- this list has a wrong length, and those before it have right ones
-abbrev pub IsFirstWrongList : Problem → Plan → PlanPart → Type 0
+abbrev pub IsFirstWrongList : Instance → Plan → PlanPart → Type 0
 IsFirstWrongList i plan part.Order = ¬ HasOrderLength i plan
 IsFirstWrongList i plan part.Capacities = HasOrderLength i plan × ¬ HasCapacitiesLength i plan
 IsFirstWrongList i plan part.Starts = HasOrderLength i plan × HasCapacitiesLength i plan × ¬ HasStartsLength i plan
 IsFirstWrongList i plan part.Rounds = HasOrderLength i plan × HasCapacitiesLength i plan × HasStartsLength i plan × ¬ HasRoundsLength i plan
 
 -- p and q overlap, and no pair before them does: none with a lesser first, and none of p with a lesser second
-pub record IsFirstOverlap (i : Problem) (plan : Plan) (p q : ℕ) : Type 0 where
+pub record IsFirstOverlap (i : Instance) (plan : Plan) (p q : ℕ) : Type 0 where
   pub in_order : p < q
   pub within : q < length i.processes
   pub overlap : ¬ AreApart i plan p q
@@ -42,7 +42,7 @@ pub record IsFirstOverlap (i : Problem) (plan : Plan) (p q : ℕ) : Type 0 where
   pub lower_first : EachBelow p (IsApartFromLater i plan)
 
 -- the first message that is late at a receiver, and its first such receiver
-pub record IsFirstLate (i : Problem) (plan : Plan) (m q : ℕ) : Type 0 where
+pub record IsFirstLate (i : Instance) (plan : Plan) (m q : ℕ) : Type 0 where
   pub within : m < length i.messages
   pub place : ℕ
   pub first : IsFirstFailure (length (message_at i m).receivers) (HasArrivedAt i plan m) place
@@ -50,18 +50,18 @@ pub record IsFirstLate (i : Problem) (plan : Plan) (m q : ℕ) : Type 0 where
   pub before : EachBelow m (HasArrivedEverywhere i plan)
 
 -- the frame, by node and round, of the first message in an overfull one
-pub record IsFirstOverfull (i : Problem) (plan : Plan) (n r : ℕ) : Type 0 where
+pub record IsFirstOverfull (i : Instance) (plan : Plan) (n r : ℕ) : Type 0 where
   pub message : ℕ
   pub first : IsFirstFailure (length i.messages) (FitsFrame i plan) message
   pub node : source_of i message ≡ n
   pub round : round_of plan message ≡ r
 
 -- the plan keeps every rule before this one, and here is its first failure
-abbrev pub Breaks : Problem → Plan → Clause → Type 0 → Type 0
+abbrev pub Breaks : Instance → Plan → Clause → Type 0 → Type 0
 Breaks i plan clause Failure = KeepsBefore i plan clause × Failure
 
 -- the fault that a plan has, rule by rule
-abbrev pub IsFirstFault : Problem → Plan → PlanFault → Type 0
+abbrev pub IsFirstFault : Instance → Plan → PlanFault → Type 0
 IsFirstFault i plan (WrongLength list) = Breaks i plan Lengths (IsFirstWrongList i plan list)
 IsFirstFault i plan (WrongOrder k) = Breaks i plan Order (IsFirstFailure (length i.nodes) (IsNewNode (length i.nodes) plan.order) k)
 IsFirstFault i plan (WrongCapacity n) = Breaks i plan Capacities (IsFirstFailure (length i.nodes) (HasOwnCapacity i plan.caps) n)

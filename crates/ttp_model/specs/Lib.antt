@@ -1,5 +1,7 @@
 pub mod Lists
-pub mod Problem
+pub mod Totals
+pub mod Raising
+pub mod Instance
 pub mod Graph
 pub mod Rules
 pub mod Refusals
@@ -11,7 +13,7 @@ pub mod Plans
 pub mod Delays
 pub mod Faults
 pub mod Chains
+pub mod Kinds
 pub mod Twins
-pub mod Alike
 pub mod Moves
 pub mod Worked

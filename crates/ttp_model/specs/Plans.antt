@@ -1,10 +1,10 @@
 -- What a plan says, and the ten rules that a valid plan keeps (model of Pop, Eles and Peng, CODES 1999,
 -- with releases, deadlines and copy times of our own profile). All times are ticks.
-use Rattle.std.specs.Prelude.{◌≡◌, ◌≢◌, ℕ, ◌+◌, ◌<◌, ◌≤◌, ◌⊎◌, ◌==◌, ◌&&◌, if◌then◌else◌, List, length, slice_index, sum, map, Contains}
-use Rattle.std.specs.List.{range_with_len}
+use Rattle.std.specs.Prelude.{◌≡◌, ◌≢◌, ℕ, ◌+◌, ◌<◌, ◌≤◌, ◌⊎◌, ◌==◌, ◌&&◌, if◌then◌else◌, List, length, slice_index, Contains}
 use Rattle.ttp_model.specs.declared.plan.Plan.{Plan}
 use Rattle.ttp_model.specs.Lists.{EachBelow}
-use Rattle.ttp_model.specs.Problem.{Problem, node_at, process_at, link_at, message_at, node_of, source_of}
+use Rattle.ttp_model.specs.Totals.{total}
+use Rattle.ttp_model.specs.Instance.{Instance, node_at, process_at, link_at, message_at, node_of, source_of}
 use Rattle.ttp_model.specs.Slots.{slot_start, slot_end}
 
 -- when a process starts
@@ -12,7 +12,7 @@ abbrev pub start_of : Plan → ℕ → ℕ
 start_of plan p = slice_index plan.starts p
 
 -- when it ends: it runs for its worst-case execution time, and isn't preempted
-abbrev pub end_of : Problem → Plan → ℕ → ℕ
+abbrev pub end_of : Instance → Plan → ℕ → ℕ
 end_of i plan p = start_of plan p + (process_at i p).wcet
 
 -- the round in which a message is sent
@@ -20,31 +20,31 @@ abbrev pub round_of : Plan → ℕ → ℕ
 round_of plan m = slice_index plan.rounds m
 
 -- when the slot that a message is sent in begins
-abbrev pub sent_from : Problem → Plan → ℕ → ℕ
+abbrev pub sent_from : Instance → Plan → ℕ → ℕ
 sent_from i plan m = slot_start i.cluster plan.order plan.caps (source_of i m) (round_of plan m)
 
 -- and when it ends
-abbrev pub sent_until : Problem → Plan → ℕ → ℕ
+abbrev pub sent_until : Instance → Plan → ℕ → ℕ
 sent_until i plan m = slot_end i.cluster plan.order plan.caps (source_of i m) (round_of plan m)
 
 -- the order has an entry for each node
-abbrev pub HasOrderLength : Problem → Plan → Type 0
+abbrev pub HasOrderLength : Instance → Plan → Type 0
 HasOrderLength i plan = length plan.order ≡ length i.nodes
 
 -- the capacities have an entry for each node
-abbrev pub HasCapacitiesLength : Problem → Plan → Type 0
+abbrev pub HasCapacitiesLength : Instance → Plan → Type 0
 HasCapacitiesLength i plan = length plan.caps ≡ length i.nodes
 
 -- the starts have an entry for each process
-abbrev pub HasStartsLength : Problem → Plan → Type 0
+abbrev pub HasStartsLength : Instance → Plan → Type 0
 HasStartsLength i plan = length plan.starts ≡ length i.processes
 
 -- the rounds have an entry for each message
-abbrev pub HasRoundsLength : Problem → Plan → Type 0
+abbrev pub HasRoundsLength : Instance → Plan → Type 0
 HasRoundsLength i plan = length plan.rounds ≡ length i.messages
 
 -- all four lists are as long as the instance's
-pub record HasLengths (i : Problem) (plan : Plan) : Type 0 where
+pub record HasLengths (i : Instance) (plan : Plan) : Type 0 where
   pub order : HasOrderLength i plan
   pub capacities : HasCapacitiesLength i plan
   pub starts : HasStartsLength i plan
@@ -61,59 +61,59 @@ pub record IsNodeOrder (count : ℕ) (order : List ℕ) : Type 0 where
   pub each : EachBelow count (IsNewNode count order)
 
 -- a node's capacity is one of its options
-pub record HasOwnCapacity (i : Problem) (caps : List ℕ) (n : ℕ) : Type 0 where
+pub record HasOwnCapacity (i : Instance) (caps : List ℕ) (n : ℕ) : Type 0 where
   pub own : Contains (node_at i n).capacities (slice_index caps n)
 
 -- a process starts at its release or later
-abbrev pub IsReleased : Problem → Plan → ℕ → Type 0
+abbrev pub IsReleased : Instance → Plan → ℕ → Type 0
 IsReleased i plan p = (process_at i p).release ≤ start_of plan p
 
 -- it ends by its deadline and within the horizon
-abbrev pub EndsInTime : Problem → Plan → ℕ → Type 0
+abbrev pub EndsInTime : Instance → Plan → ℕ → Type 0
 EndsInTime i plan p = (end_of i plan p ≤ (process_at i p).deadline) × (end_of i plan p ≤ i.cluster.horizon)
 
 -- p ends before q starts, or just then
-abbrev pub EndsBefore : Problem → Plan → ℕ → ℕ → Type 0
+abbrev pub EndsBefore : Instance → Plan → ℕ → ℕ → Type 0
 EndsBefore i plan p q = end_of i plan p ≤ start_of plan q
 
 -- of two processes of one node one ends before the other starts
-abbrev pub AreApart : Problem → Plan → ℕ → ℕ → Type 0
+abbrev pub AreApart : Instance → Plan → ℕ → ℕ → Type 0
 AreApart i plan p q = node_of i p ≡ node_of i q → EndsBefore i plan p q ⊎ EndsBefore i plan q p
 
 -- so it is of p and each process after it in the list
-abbrev pub IsApartFromLater : Problem → Plan → ℕ → Type 0
+abbrev pub IsApartFromLater : Instance → Plan → ℕ → Type 0
 IsApartFromLater i plan p = (q : ℕ) → p < q → q < length i.processes → AreApart i plan p q
 
 -- a link's first process ends before its second starts
-abbrev pub KeepsLink : Problem → Plan → ℕ → Type 0
+abbrev pub KeepsLink : Instance → Plan → ℕ → Type 0
 KeepsLink i plan l = EndsBefore i plan (link_at i l).before (link_at i l).after
 
 -- a message is copied out, after its sender has ended, before its slot begins
-abbrev pub IsReady : Problem → Plan → ℕ → Type 0
+abbrev pub IsReady : Instance → Plan → ℕ → Type 0
 IsReady i plan m = end_of i plan (message_at i m).sender + i.cluster.copy_out ≤ sent_from i plan m
 
 -- a receiver starts after the slot has ended and the message was copied in
-abbrev pub HasArrived : Problem → Plan → ℕ → ℕ → Type 0
+abbrev pub HasArrived : Instance → Plan → ℕ → ℕ → Type 0
 HasArrived i plan m q = sent_until i plan m + i.cluster.copy_in ≤ start_of plan q
 
 -- so it is of the receiver at this place of the message's list
-abbrev pub HasArrivedAt : Problem → Plan → ℕ → ℕ → Type 0
+abbrev pub HasArrivedAt : Instance → Plan → ℕ → ℕ → Type 0
 HasArrivedAt i plan m k = HasArrived i plan m (slice_index (message_at i m).receivers k)
 
 -- so it is of each receiver
-abbrev pub HasArrivedEverywhere : Problem → Plan → ℕ → Type 0
+abbrev pub HasArrivedEverywhere : Instance → Plan → ℕ → Type 0
 HasArrivedEverywhere i plan m = EachBelow (length (message_at i m).receivers) (HasArrivedAt i plan m)
 
 -- the bytes that message m puts into the frame of node n in round r: none where it isn't sent there
-abbrev pub bytes_in : Problem → Plan → ℕ → ℕ → ℕ → ℕ
+abbrev pub bytes_in : Instance → Plan → ℕ → ℕ → ℕ → ℕ
 bytes_in i plan n r m = if source_of i m == n && round_of plan m == r then (message_at i m).bytes else 0
 
 -- the bytes of all messages in that frame
-abbrev pub load_of : Problem → Plan → ℕ → ℕ → ℕ
-load_of i plan n r = sum (map (bytes_in i plan n r) (range_with_len 0 (length i.messages)))
+abbrev pub load_of : Instance → Plan → ℕ → ℕ → ℕ
+load_of i plan n r = total (bytes_in i plan n r) (length i.messages)
 
 -- the messages of the frame that m is in fit into its capacity
-abbrev pub FitsFrame : Problem → Plan → ℕ → Type 0
+abbrev pub FitsFrame : Instance → Plan → ℕ → Type 0
 FitsFrame i plan m = load_of i plan (source_of i m) (round_of plan m) ≤ slice_index plan.caps (source_of i m)
 
 -- The ten rules, by what each is about.
@@ -130,7 +130,7 @@ pub data Clause : Type 0 where
   Frames : Clause
 
 -- a plan keeps a rule
-abbrev pub Keeps : Problem → Plan → Clause → Type 0
+abbrev pub Keeps : Instance → Plan → Clause → Type 0
 Keeps i plan Lengths = HasLengths i plan
 Keeps i plan Order = IsNodeOrder (length i.nodes) plan.order
 Keeps i plan Capacities = EachBelow (length i.nodes) (HasOwnCapacity i plan.caps)
@@ -143,7 +143,7 @@ Keeps i plan Arrivals = EachBelow (length i.messages) (HasArrivedEverywhere i pl
 Keeps i plan Frames = EachBelow (length i.messages) (FitsFrame i plan)
 
 -- A plan is valid when it keeps all ten.
-pub record IsValid (i : Problem) (plan : Plan) : Type 0 where
+pub record IsValid (i : Instance) (plan : Plan) : Type 0 where
   pub lengths : Keeps i plan Lengths
   pub order : Keeps i plan Order
   pub capacities : Keeps i plan Capacities

@@ -8,7 +8,7 @@ use Rattle.ttp_model.specs.declared.error.Place.TheVariants.{AtCluster, AtNode, 
 use Rattle.ttp_model.specs.declared.error.ModelError.{ModelError}
 use Rattle.ttp_model.specs.declared.error.ModelError.TheVariants.{Length, NoReceiver, NameForm, NameRepeated, NoSuchIndex, OutOfRange, Capacities, ReceiverOnSender, ShortLead, ShortTrail, Deadline, LinkAcross, ReceiverTwice, Cycle, OutOfMemory}
 use Rattle.ttp_model.specs.Lists.{IsFirstFailure}
-use Rattle.ttp_model.specs.Problem.{Problem}
+use Rattle.ttp_model.specs.Instance.{Instance}
 use Rattle.ttp_model.specs.Graph.{IsCycle}
 use Rattle.ttp_model.specs.Rules.{Rule, Lengths, Receivers, Names, NewNames, Indices, Ranges, CapacityLists, ReceiversAway, Lead, Trail, Deadlines, LinkEnds, ReceiversOnce, Cycles, KeepsRule, HasReceiver, IsNamed, IsNewName, NamesWhatIsThere, IsInRange, HasCapacityList, SendsAway, HasLead, HasTrail, CanEndInTime, StaysOnNode, ReceivesOnce}
 
@@ -30,7 +30,7 @@ rule_number ReceiversOnce = 13
 rule_number Cycles = 14
 
 -- every rule of a lesser number is kept
-pub record KeepsRulesBefore (i : Problem) (rule : Rule) : Type 0 where
+pub record KeepsRulesBefore (i : Instance) (rule : Rule) : Type 0 where
   pub each : (earlier : Rule) → rule_number earlier < rule_number rule → KeepsRule i earlier
 
 -- Places stand in this order: the cluster, the nodes, the processes, the links, the messages.
@@ -63,19 +63,19 @@ abbrev pub HasLength : {X : Type 0} → ℕ → ℕ → List X → Type 0
 HasLength least most xs = (least ≤ length xs) × (length xs ≤ most)
 
 -- this list has a wrong length, and those before it have right ones
-abbrev pub IsFirstWrongLength : Problem → Part → Type 0
+abbrev pub IsFirstWrongLength : Instance → Part → Type 0
 IsFirstWrongLength i part.Nodes = ¬ HasLength 1 MOST_NODES i.nodes
 IsFirstWrongLength i part.Processes = HasLength 1 MOST_NODES i.nodes × ¬ HasLength 1 MOST_PROCESSES i.processes
 IsFirstWrongLength i part.Links = HasLength 1 MOST_NODES i.nodes × HasLength 1 MOST_PROCESSES i.processes × ¬ HasLength 0 MOST_LINKS i.links
 IsFirstWrongLength i part.Messages = HasLength 1 MOST_NODES i.nodes × HasLength 1 MOST_PROCESSES i.processes × HasLength 0 MOST_LINKS i.links × ¬ HasLength 0 MOST_MESSAGES i.messages
 
 -- every rule before this one is kept, and here is its first failure
-abbrev pub BreaksRule : Problem → Rule → Type 0 → Type 0
+abbrev pub BreaksRule : Instance → Rule → Type 0 → Type 0
 BreaksRule i rule Failure = KeepsRulesBefore i rule × Failure
 
 -- The refusal that a problem earns, rule by rule. Which cycle is told, of several, is free. The search for one alone
 -- takes memory, so want of it comes only where every rule before that one is kept.
-abbrev pub IsRefusal : Problem → ModelError → Type 0
+abbrev pub IsRefusal : Instance → ModelError → Type 0
 IsRefusal i (Length list) = BreaksRule i Lengths (IsFirstWrongLength i list)
 IsRefusal i (NoReceiver m) = BreaksRule i Receivers (IsFirstFailure (length i.messages) (HasReceiver i) m)
 IsRefusal i (NameForm at) = BreaksRule i Names (FailsFirst (IsNamed i) at)

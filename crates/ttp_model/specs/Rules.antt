@@ -8,11 +8,11 @@ use Rattle.ttp_model.specs.declared.parts.Process.{Process}
 use Rattle.ttp_model.specs.declared.error.Place.{Place}
 use Rattle.ttp_model.specs.declared.error.Place.TheVariants.{AtCluster, AtNode, AtProcess, AtLink, AtMessage}
 use Rattle.ttp_model.specs.Lists.{EachBelow, HasNoRepeats}
-use Rattle.ttp_model.specs.Problem.{Problem, node_at, process_at, link_at, message_at, node_of, source_of}
+use Rattle.ttp_model.specs.Instance.{Instance, node_at, process_at, link_at, message_at, node_of, source_of}
 use Rattle.ttp_model.specs.Graph.{IsAcyclic}
 
 -- how many nodes, processes, links and messages there are
-pub record KeepsLimits (i : Problem) : Type 0 where
+pub record KeepsLimits (i : Instance) : Type 0 where
   pub nodes_least : 1 ≤ length i.nodes
   pub nodes : length i.nodes ≤ MOST_NODES
   pub processes_least : 1 ≤ length i.processes
@@ -21,7 +21,7 @@ pub record KeepsLimits (i : Problem) : Type 0 where
   pub messages : length i.messages ≤ MOST_MESSAGES
 
 -- a message has a receiver
-abbrev pub HasReceiver : Problem → ℕ → Type 0
+abbrev pub HasReceiver : Instance → ℕ → Type 0
 HasReceiver i m = 0 < length (message_at i m).receivers
 
 -- a name begins with a letter or _
@@ -40,7 +40,7 @@ pub record IsName (name : List ℕ) : Type 0 where
   pub others : EachIndex name (λ k. IsTrue (continues_name (slice_index name k)))
 
 -- what stands at this place has a name, where it is to have one
-abbrev pub IsNamed : Problem → Place → Type 0
+abbrev pub IsNamed : Instance → Place → Type 0
 IsNamed i AtCluster = Unit {0}
 IsNamed i (AtNode n) = n < length i.nodes → IsName (node_at i n).name
 IsNamed i (AtProcess p) = p < length i.processes → IsName (process_at i p).name
@@ -48,7 +48,7 @@ IsNamed i (AtLink l) = Unit {0}
 IsNamed i (AtMessage m) = m < length i.messages → IsName (message_at i m).name
 
 -- and no earlier one of its list has the same
-abbrev pub IsNewName : Problem → Place → Type 0
+abbrev pub IsNewName : Instance → Place → Type 0
 IsNewName i AtCluster = Unit {0}
 IsNewName i (AtNode n) = n < length i.nodes → EachBelow n (λ k. (node_at i k).name ≢ (node_at i n).name)
 IsNewName i (AtProcess p) = p < length i.processes → EachBelow p (λ k. (process_at i k).name ≢ (process_at i p).name)
@@ -56,11 +56,11 @@ IsNewName i (AtLink l) = Unit {0}
 IsNewName i (AtMessage m) = m < length i.messages → EachBelow m (λ k. (message_at i k).name ≢ (message_at i m).name)
 
 -- the index of a process that is there
-abbrev pub IsProcess : Problem → ℕ → Type 0
+abbrev pub IsProcess : Instance → ℕ → Type 0
 IsProcess i p = p < length i.processes
 
 -- each index that stands at this place is that of a node or a process that is there
-abbrev pub NamesWhatIsThere : Problem → Place → Type 0
+abbrev pub NamesWhatIsThere : Instance → Place → Type 0
 NamesWhatIsThere i AtCluster = Unit {0}
 NamesWhatIsThere i (AtNode n) = Unit {0}
 NamesWhatIsThere i (AtProcess p) = p < length i.processes → node_of i p < length i.nodes
@@ -90,7 +90,7 @@ pub record IsProcessInRange (p : Process) : Type 0 where
   pub deadline : p.deadline ≤ MOST_TICKS
 
 -- each number that stands at this place is in its range; a node's capacities are judged apart
-abbrev pub IsInRange : Problem → Place → Type 0
+abbrev pub IsInRange : Instance → Place → Type 0
 IsInRange i AtCluster = IsClusterInRange i.cluster
 IsInRange i (AtNode n) = Unit {0}
 IsInRange i (AtProcess p) = p < length i.processes → IsProcessInRange (process_at i p)
@@ -105,32 +105,32 @@ pub record IsCapacityList (capacities : List ℕ) : Type 0 where
   pub small : All (λ capacity. capacity ≤ MOST_BYTES) capacities
 
 -- a node has such a list
-abbrev pub HasCapacityList : Problem → ℕ → Type 0
+abbrev pub HasCapacityList : Instance → ℕ → Type 0
 HasCapacityList i n = IsCapacityList (node_at i n).capacities
 
 -- no receiver of a message is on its sender's node
-abbrev pub SendsAway : Problem → ℕ → Type 0
+abbrev pub SendsAway : Instance → ℕ → Type 0
 SendsAway i m = All (λ q. node_of i q ≢ source_of i m) (message_at i m).receivers
 
 -- a guardian's window, opened early by the precision, stays clear of the slot before, closed late by it
-abbrev pub HasLead : Problem → Type 0
+abbrev pub HasLead : Instance → Type 0
 HasLead i = 2 * i.cluster.precision ≤ i.cluster.lead
 
 -- and, closed late, within its own slot
-abbrev pub HasTrail : Problem → Type 0
+abbrev pub HasTrail : Instance → Type 0
 HasTrail i = i.cluster.precision ≤ i.cluster.trail
 
 -- a process that starts at its release ends by its deadline
-abbrev pub CanEndInTime : Problem → ℕ → Type 0
+abbrev pub CanEndInTime : Instance → ℕ → Type 0
 CanEndInTime i p = (process_at i p).release + (process_at i p).wcet ≤ (process_at i p).deadline
 
 -- a link joins two processes of one node
-pub record StaysOnNode (i : Problem) (l : ℕ) : Type 0 where
+pub record StaysOnNode (i : Instance) (l : ℕ) : Type 0 where
   pub two : (link_at i l).before ≢ (link_at i l).after
   pub one_node : node_of i (link_at i l).before ≡ node_of i (link_at i l).after
 
 -- no receiver stands twice in a message
-abbrev pub ReceivesOnce : Problem → ℕ → Type 0
+abbrev pub ReceivesOnce : Instance → ℕ → Type 0
 ReceivesOnce i m = HasNoRepeats (message_at i m).receivers
 
 -- The rules, by what each is about.
@@ -151,7 +151,7 @@ pub data Rule : Type 0 where
   Cycles : Rule
 
 -- a problem keeps a rule
-abbrev pub KeepsRule : Problem → Rule → Type 0
+abbrev pub KeepsRule : Instance → Rule → Type 0
 KeepsRule i Lengths = KeepsLimits i
 KeepsRule i Receivers = EachBelow (length i.messages) (HasReceiver i)
 KeepsRule i Names = (at : Place) → IsNamed i at
@@ -168,7 +168,7 @@ KeepsRule i ReceiversOnce = EachBelow (length i.messages) (ReceivesOnce i)
 KeepsRule i Cycles = IsAcyclic i
 
 -- A well-formed instance keeps them all.
-pub record IsInstance (i : Problem) : Type 0 where
+pub record IsInstance (i : Instance) : Type 0 where
   pub limits : KeepsRule i Lengths
   pub receivers : KeepsRule i Receivers
   pub names : KeepsRule i Names

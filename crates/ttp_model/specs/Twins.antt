@@ -1,18 +1,18 @@
 -- What can be exchanged without a difference to any plan's delay (our own profile).
 use Rattle.std.specs.Prelude.{◌≡◌, ◌≢◌, ℕ, ◌<◌, length, ◌↔◌}
-use Rattle.ttp_model.specs.Problem.{Problem, node_at, process_at, message_at, source_of}
+use Rattle.ttp_model.specs.Instance.{Instance, node_at, process_at, message_at, source_of}
 use Rattle.ttp_model.specs.Graph.{HasLink, HasMessage}
 
 -- a process sends no message
-abbrev pub SendsNothing : Problem → ℕ → Type 0
+abbrev pub SendsNothing : Instance → ℕ → Type 0
 SendsNothing i p = (m : ℕ) → m < length i.messages → (message_at i m).sender ≢ p
 
 -- and receives none
-abbrev pub ReceivesNothing : Problem → ℕ → Type 0
+abbrev pub ReceivesNothing : Instance → ℕ → Type 0
 ReceivesNothing i p = (q : ℕ) → ¬ HasMessage i q p
 
 -- two processes of one node that differ in their names alone, and that neither send nor receive
-pub record AreTwins (i : Problem) (p q : ℕ) : Type 0 where
+pub record AreTwins (i : Instance) (p q : ℕ) : Type 0 where
   pub p_is : p < length i.processes
   pub q_is : q < length i.processes
   pub two : p ≢ q
@@ -30,7 +30,7 @@ pub record AreTwins (i : Problem) (p q : ℕ) : Type 0 where
   pub q_receives : ReceivesNothing i q
 
 -- two nodes that send nothing and have the same capacities
-pub record AreSilentTwins (i : Problem) (u v : ℕ) : Type 0 where
+pub record AreSilentTwins (i : Instance) (u v : ℕ) : Type 0 where
   pub u_is : u < length i.nodes
   pub v_is : v < length i.nodes
   pub two : u ≢ v

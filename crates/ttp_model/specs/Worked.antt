@@ -4,7 +4,7 @@ use Rattle.ttp_model.specs.declared.parts.Cluster.{Cluster}
 use Rattle.ttp_model.specs.declared.parts.Node.{Node}
 use Rattle.ttp_model.specs.declared.parts.Process.{Process}
 use Rattle.ttp_model.specs.declared.plan.Plan.{Plan}
-use Rattle.ttp_model.specs.Problem.{Problem, problem}
+use Rattle.ttp_model.specs.Instance.{Instance, instance_with}
 
 -- a bus on which a frame takes a tick and a tick for each byte, and nothing else takes any time
 abbrev pub plain_cluster : Cluster
@@ -28,8 +28,8 @@ abbrev pub process_on : List ℕ → ℕ → ℕ → Process
 process_on name node wcet = record { name = name; node = node; wcet = wcet; release = 0; deadline = 1000000 }
 
 -- two nodes: p runs three ticks on A and sends two bytes to q, which runs two ticks on B
-abbrev pub one_message : Problem
-one_message = problem plain_cluster
+abbrev pub one_message : Instance
+one_message = instance_with plain_cluster
     (node_with (codes "A") 2 ∷ node_with (codes "B") 0 ∷ [])
     (process_on (codes "p") 0 3 ∷ process_on (codes "q") 1 2 ∷ [])
     []
@@ -40,8 +40,8 @@ abbrev pub one_message_plan : ℕ → Plan
 one_message_plan start = record { order = 0 ∷ 1 ∷ []; caps = 2 ∷ 0 ∷ []; starts = start ∷ 7 ∷ []; rounds = 1 ∷ [] }
 
 -- one node with three processes of two ticks each
-abbrev pub three_alike : Problem
-three_alike = problem plain_cluster
+abbrev pub three_alike : Instance
+three_alike = instance_with plain_cluster
     (node_with (codes "A") 0 ∷ [])
     (process_on (codes "a") 0 2 ∷ process_on (codes "b") 0 2 ∷ process_on (codes "c") 0 2 ∷ [])
     []

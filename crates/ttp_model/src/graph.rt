@@ -3,8 +3,8 @@
 ghost use Rattle.std.specs.Prelude.{◌≡◌, ◌+◌, ◌-◌, ◌++◌, All, take, drop, nat_lt, ◌<◌, ◌≤◌, ℕ, IfOk, IfSome, IfNone, IsSome, MatchOption, length, slice_index, Contains, None, Some, count_by, ◌==◌};
 ghost use Rattle.std.specs.List.{IsFirstBest};
 ghost use Rattle.ttp_model.specs.Lists.{HasNoRepeats};
-ghost use Rattle.ttp_model.specs.Problem.{Problem};
-ghost use Rattle.ttp_model.specs.Parts.{problem_of};
+ghost use Rattle.ttp_model.specs.Instance.{Instance};
+ghost use Rattle.ttp_model.specs.Parts.{instance_of};
 ghost use Rattle.ttp_model.specs.Graph.{HasLink, HasMessage, Leads, IsAcyclic, IsCycle, IsClosedWalk};
 ghost use Rattle.ttp_model.specs.Turns.{PointsAhead, AreTurns, AreStuck};
 ghost use Rattle.ttp_model.specs.Rules.{KeepsLimits, NamesWhatIsThere};
@@ -17,10 +17,10 @@ use std::alloc::{AllocError, Global};
 
 /// A process without a turn that `p` leads to.
 fn ahead_by_link(parts: &Parts, turns: &[u32], p: u32) -> Option<u32>
-    requires indices { (l : ℕ) → NamesWhatIsThere (problem_of parts.now) (AtLink l) }
+    requires indices { (l : ℕ) → NamesWhatIsThere (instance_of parts.now) (AtLink l) }
     requires turns { length turns.now ≡ length parts.now.processes.items }
-    ensures found { IfSome result (λ q. PointsAhead (problem_of parts.now) turns.now p (Some q)) }
-    ensures none { IfNone result ((q : ℕ) → HasLink (problem_of parts.now) p q → 0 < slice_index turns.now q) }
+    ensures found { IfSome result (λ q. PointsAhead (instance_of parts.now) turns.now p (Some q)) }
+    ensures none { IfNone result ((q : ℕ) → HasLink (instance_of parts.now) p q → 0 < slice_index turns.now q) }
 {
     for l in 0..parts.links.len() {
         let link = parts.links[l];
@@ -47,10 +47,10 @@ fn receiver_without_turn(receivers: &[u32], turns: &[u32]) -> Option<u32>
 
 /// A process without a turn to which `p` sends a message.
 fn ahead_by_message(parts: &Parts, turns: &[u32], p: u32) -> Option<u32>
-    requires indices { (m : ℕ) → NamesWhatIsThere (problem_of parts.now) (AtMessage m) }
+    requires indices { (m : ℕ) → NamesWhatIsThere (instance_of parts.now) (AtMessage m) }
     requires turns { length turns.now ≡ length parts.now.processes.items }
-    ensures found { IfSome result (λ q. PointsAhead (problem_of parts.now) turns.now p (Some q)) }
-    ensures none { IfNone result ((q : ℕ) → HasMessage (problem_of parts.now) p q → 0 < slice_index turns.now q) }
+    ensures found { IfSome result (λ q. PointsAhead (instance_of parts.now) turns.now p (Some q)) }
+    ensures none { IfNone result ((q : ℕ) → HasMessage (instance_of parts.now) p q → 0 < slice_index turns.now q) }
 {
     for m in 0..parts.messages.len() {
         let message = &parts.messages[m];
@@ -65,9 +65,9 @@ fn ahead_by_message(parts: &Parts, turns: &[u32], p: u32) -> Option<u32>
 
 /// A process without a turn that `p` leads to.
 fn ahead(parts: &Parts, turns: &[u32], p: u32) -> Option<u32>
-    requires indices { (at : Place) → NamesWhatIsThere (problem_of parts.now) at }
+    requires indices { (at : Place) → NamesWhatIsThere (instance_of parts.now) at }
     requires turns { length turns.now ≡ length parts.now.processes.items }
-    ensures { PointsAhead (problem_of parts.now) turns.now p result }
+    ensures { PointsAhead (instance_of parts.now) turns.now p result }
 {
     if let Some(q) = ahead_by_link(parts, turns, p) {
         return Some(q);
@@ -77,12 +77,12 @@ fn ahead(parts: &Parts, turns: &[u32], p: u32) -> Option<u32>
 
 /// A process that may have its turn next: it has none, and all that it leads to have one.
 fn ready(parts: &Parts, turns: &[u32]) -> Option<usize>
-    requires limits { KeepsLimits (problem_of parts.now) }
-    requires indices { (at : Place) → NamesWhatIsThere (problem_of parts.now) at }
+    requires limits { KeepsLimits (instance_of parts.now) }
+    requires indices { (at : Place) → NamesWhatIsThere (instance_of parts.now) at }
     requires turns { length turns.now ≡ length parts.now.processes.items }
     ensures found { IfSome result (λ p. (p < length turns.now) × (slice_index turns.now p ≡ 0)
-        × PointsAhead (problem_of parts.now) turns.now p None) }
-    ensures none { IfNone result (AreStuck (problem_of parts.now) turns.now) }
+        × PointsAhead (instance_of parts.now) turns.now p None) }
+    ensures none { IfNone result (AreStuck (instance_of parts.now) turns.now) }
 {
     for p in 0..turns.len() {
         if turns[p] == 0 && ahead(parts, turns, p as u32).is_none() {
@@ -104,11 +104,11 @@ fn zeros(alloc: Global, count: usize) -> Result<Vec<u32>, AllocError>
 
 /// Gives turns as long as a process is ready.
 fn turns(alloc: Global, parts: &Parts) -> Result<Vec<u32>, AllocError>
-    requires limits { KeepsLimits (problem_of parts.now) }
-    requires indices { (at : Place) → NamesWhatIsThere (problem_of parts.now) at }
+    requires limits { KeepsLimits (instance_of parts.now) }
+    requires indices { (at : Place) → NamesWhatIsThere (instance_of parts.now) at }
     ensures length { IfOk result (λ turns. length turns.items ≡ length parts.now.processes.items) }
-    ensures turns { IfOk result (λ turns. AreTurns (problem_of parts.now) turns.items) }
-    ensures stuck { IfOk result (λ turns. AreStuck (problem_of parts.now) turns.items) }
+    ensures turns { IfOk result (λ turns. AreTurns (instance_of parts.now) turns.items) }
+    ensures stuck { IfOk result (λ turns. AreStuck (instance_of parts.now) turns.items) }
 {
     let count = parts.processes.len();
     let mut turns = zeros(alloc, count)?;
@@ -122,12 +122,12 @@ fn turns(alloc: Global, parts: &Parts) -> Result<Vec<u32>, AllocError>
 
 /// The process that a stuck process leads to, stuck as well.
 fn next_stuck(parts: &Parts, turns: &[u32], p: u32) -> u32
-    requires indices { (at : Place) → NamesWhatIsThere (problem_of parts.now) at }
+    requires indices { (at : Place) → NamesWhatIsThere (instance_of parts.now) at }
     requires turns { length turns.now ≡ length parts.now.processes.items }
     requires inside { p < length turns.now }
     requires no_turn { slice_index turns.now p ≡ 0 }
-    requires stuck { AreStuck (problem_of parts.now) turns.now }
-    ensures leads { Leads (problem_of parts.now) p result }
+    requires stuck { AreStuck (instance_of parts.now) turns.now }
+    ensures leads { Leads (instance_of parts.now) p result }
     ensures no_turn { slice_index turns.now result ≡ 0 }
     ensures inside { result < length turns.now }
 {
@@ -141,13 +141,13 @@ fn walk_from(
     turns: &[u32],
     start: u32,
 ) -> Result<Vec<u32>, AllocError>
-    requires limits { KeepsLimits (problem_of parts.now) }
-    requires indices { (at : Place) → NamesWhatIsThere (problem_of parts.now) at }
+    requires limits { KeepsLimits (instance_of parts.now) }
+    requires indices { (at : Place) → NamesWhatIsThere (instance_of parts.now) at }
     requires turns { length turns.now ≡ length parts.now.processes.items }
     requires inside { start < length turns.now }
     requires no_turn { slice_index turns.now start ≡ 0 }
-    requires stuck { AreStuck (problem_of parts.now) turns.now }
-    ensures walk { IfOk result (λ ps. IsClosedWalk (problem_of parts.now) ps.items) }
+    requires stuck { AreStuck (instance_of parts.now) turns.now }
+    ensures walk { IfOk result (λ ps. IsClosedWalk (instance_of parts.now) ps.items) }
     ensures once { IfOk result (λ ps. HasNoRepeats ps.items) }
 {
     let mut places = zeros(alloc, turns.len())?;
@@ -202,11 +202,11 @@ fn first_stuck(turns: &[u32]) -> Option<usize>
 
 /// A cycle of links and messages, if there is one.
 pub fn cycle(alloc: Global, parts: &Parts) -> Result<Option<Numbers>, AllocError>
-    requires limits { KeepsLimits (problem_of parts.now) }
-    requires indices { (at : Place) → NamesWhatIsThere (problem_of parts.now) at }
+    requires limits { KeepsLimits (instance_of parts.now) }
+    requires indices { (at : Place) → NamesWhatIsThere (instance_of parts.now) at }
     ensures { IfOk result (λ found. MatchOption found
-        (IsAcyclic (problem_of parts.now))
-        (λ ps. IsCycle (problem_of parts.now) ps)) }
+        (IsAcyclic (instance_of parts.now))
+        (λ ps. IsCycle (instance_of parts.now) ps)) }
 {
     let turns = turns(alloc, parts)?;
     match first_stuck(turns.as_slice()) {

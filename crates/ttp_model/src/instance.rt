@@ -2,7 +2,7 @@
 
 ghost use Rattle.std.specs.Prelude.{◌≡◌, ◌+◌, ◌<◌, ◌≤◌, All, IfOk, IfErr, IsOkUnless, length};
 ghost use Rattle.ttp_model.specs.declared.limits.TheConstants.{MOST_BYTES};
-ghost use Rattle.ttp_model.specs.Problem.{problem, process_at, link_at, message_at, node_of, source_of};
+ghost use Rattle.ttp_model.specs.Instance.{instance_with, process_at, link_at, message_at, node_of, source_of};
 ghost use Rattle.ttp_model.specs.Rules.{IsInstance, IsProcessInRange};
 ghost use Rattle.ttp_model.specs.Refusals.{IsRefusal};
 ghost use Rattle.ttp_model.specs.declared.error.ModelError.TheVariants.{OutOfMemory};
@@ -21,15 +21,15 @@ pub struct Instance {
 }
 
 impl Model for Instance {
-    ghost use Rattle.ttp_model.specs.Problem.{Problem};
-    ghost use Rattle.ttp_model.specs.Parts.{problem_of};
+    ghost use Rattle.ttp_model.specs.Instance.{Instance};
+    ghost use Rattle.ttp_model.specs.Parts.{instance_of};
     ghost use Rattle.ttp_model.specs.Rules.{IsInstance};
 
-    ghost Value = { Problem };
+    ghost Value = { Instance };
 
-    ghost view = { λ s. problem_of s.parts };
+    ghost view = { λ s. instance_of s.parts };
 
-    ghost invariant = { λ s. IsInstance (problem_of s.parts) };
+    ghost invariant = { λ s. IsInstance (instance_of s.parts) };
 }
 
 impl Instance {
@@ -45,10 +45,10 @@ impl Instance {
         messages: Vec<Message>,
     ) -> Result<Self, ModelError>
         ensures ok { IfOk result (λ i. IsInstance i
-            × (i ≡ problem cluster nodes.items processes.items links.items messages.items)) }
+            × (i ≡ instance_with cluster nodes.items processes.items links.items messages.items)) }
         ensures err { IfErr result
-            (IsRefusal (problem cluster nodes.items processes.items links.items messages.items)) }
-        ensures only { IsInstance (problem cluster nodes.items processes.items links.items messages.items)
+            (IsRefusal (instance_with cluster nodes.items processes.items links.items messages.items)) }
+        ensures only { IsInstance (instance_with cluster nodes.items processes.items links.items messages.items)
             → IsOkUnless result OutOfMemory }
     {
         let parts = Parts {

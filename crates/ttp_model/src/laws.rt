@@ -4,7 +4,7 @@ ghost use Rattle.std.specs.Prelude.{◌≡◌, ◌+◌, ◌<◌, ◌≤◌, ◌�
 ghost use Rattle.ttp_model.specs.declared.limits.TheConstants.{MOST_BYTES};
 ghost use Rattle.ttp_model.specs.declared.fault.PlanFault.{PlanFault};
 ghost use Rattle.ttp_model.specs.Lists.{EachBelow};
-ghost use Rattle.ttp_model.specs.Problem.{Problem};
+ghost use Rattle.ttp_model.specs.Instance.{Instance};
 ghost use Rattle.ttp_model.specs.Rules.{IsInstance};
 ghost use Rattle.ttp_model.specs.Plans.{IsValid, IsNodeOrder, end_of, load_of};
 ghost use Rattle.ttp_model.specs.Delays.{IsLowerBound, HasNoPlan, delay};
@@ -14,21 +14,21 @@ ghost use Rattle.ttp_model.specs.declared.plan.Plan.{Plan};
 
 /// The delay is at least each end, and some process ends just then.
 pub fn delay_is_an_end()
-    ensures each { (i : Problem) (plan : Plan)
+    ensures each { (i : Instance) (plan : Plan)
         → EachBelow (length i.processes) (λ p. end_of i plan p ≤ delay i plan) }
-    ensures last { (i : Problem) (plan : Plan) → 0 < length i.processes
+    ensures last { (i : Instance) (plan : Plan) → 0 < length i.processes
         → (p : ℕ) × (p < length i.processes) × (end_of i plan p ≡ delay i plan) }
 {}
 
 /// In a valid plan no frame of any node and round is overfull, whether a message is in it or not.
 pub fn frames_fit()
-    ensures { (i : Problem) (plan : Plan) (n r : ℕ) → IsValid i plan
+    ensures { (i : Instance) (plan : Plan) (n r : ℕ) → IsValid i plan
         → load_of i plan n r ≤ slice_index plan.caps n }
 {}
 
 /// To say that every valid plan ends after the horizon is to say that there is none.
 pub fn lower_bound_past_horizon()
-    ensures { (i : Problem) → IsInstance i → IsLowerBound i (i.cluster.horizon + 1) ↔ HasNoPlan i }
+    ensures { (i : Instance) → IsInstance i → IsLowerBound i (i.cluster.horizon + 1) ↔ HasNoPlan i }
 {}
 
 /// An order of nodes has each node.
@@ -40,27 +40,27 @@ pub fn every_node_has_a_slot()
 /// The numbers of a valid plan are small: nodes in the order, options as capacities, starts and rounds below the
 /// horizon. So each fits 32 bits.
 pub fn valid_numbers_are_small()
-    ensures order { (i : Problem) (plan : Plan) → IsValid i plan → All (λ n. n < length i.nodes) plan.order }
-    ensures capacities { (i : Problem) (plan : Plan) → IsInstance i → IsValid i plan
+    ensures order { (i : Instance) (plan : Plan) → IsValid i plan → All (λ n. n < length i.nodes) plan.order }
+    ensures capacities { (i : Instance) (plan : Plan) → IsInstance i → IsValid i plan
         → All (λ capacity. capacity ≤ MOST_BYTES) plan.caps }
-    ensures starts { (i : Problem) (plan : Plan) → IsInstance i → IsValid i plan
+    ensures starts { (i : Instance) (plan : Plan) → IsInstance i → IsValid i plan
         → All (λ start. start < i.cluster.horizon) plan.starts }
-    ensures rounds { (i : Problem) (plan : Plan) → IsInstance i → IsValid i plan
+    ensures rounds { (i : Instance) (plan : Plan) → IsInstance i → IsValid i plan
         → All (λ round. round < i.cluster.horizon) plan.rounds }
-    ensures delay { (i : Problem) (plan : Plan) → IsInstance i → IsValid i plan
+    ensures delay { (i : Instance) (plan : Plan) → IsInstance i → IsValid i plan
         → delay i plan ≤ i.cluster.horizon }
 {}
 
 /// No chain of links and messages ends before its last process does in any valid plan, so the path bound is a
 /// lower bound.
 pub fn path_bound_is_lower_bound()
-    ensures chains { (i : Problem) (plan : Plan) (p time : ℕ) → IsInstance i → IsValid i plan
+    ensures chains { (i : Instance) (plan : Plan) (p time : ℕ) → IsInstance i → IsValid i plan
         → ChainEnds i p time → time ≤ end_of i plan p }
-    ensures bound { (i : Problem) (bound : ℕ) → IsInstance i → IsPathBound i bound → IsLowerBound i bound }
-    ensures one { (i : Problem) (a b : ℕ) → IsPathBound i a → IsPathBound i b → a ≡ b }
+    ensures bound { (i : Instance) (bound : ℕ) → IsInstance i → IsPathBound i bound → IsLowerBound i bound }
+    ensures one { (i : Instance) (a b : ℕ) → IsPathBound i a → IsPathBound i b → a ≡ b }
 {}
 
 /// A plan that has a fault is not valid.
 pub fn faulty_plans_are_not_valid()
-    ensures { (i : Problem) (plan : Plan) (fault : PlanFault) → IsFirstFault i plan fault → ¬ IsValid i plan }
+    ensures { (i : Instance) (plan : Plan) (fault : PlanFault) → IsFirstFault i plan fault → ¬ IsValid i plan }
 {}

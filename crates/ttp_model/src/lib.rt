@@ -4,6 +4,7 @@
 mod ends;
 mod error;
 mod fault;
+mod frames;
 mod graph;
 mod instance;
 mod laws;
@@ -21,6 +22,7 @@ mod worked;
 pub use ends::{delay, end_of};
 pub use error::{MemoryFault, ModelError, Part, Place};
 pub use fault::{PlanFault, PlanPart};
+pub use frames::bytes_in;
 pub use instance::Instance;
 pub use laws::{
     delay_is_an_end, every_node_has_a_slot, faulty_plans_are_not_valid, frames_fit,
@@ -39,5 +41,6 @@ pub use plan::Plan;
 pub use slots::slot_duration;
 pub use step::{Kind, Leaf, Ring, Step, Steps};
 pub use worked::{
-    figures_of_one_message, moves_of_three_alike, path_bound_of_one_message, slots_of_one_message,
+    figures_of_one_message, moves_of_three_alike, path_bound_of_one_message,
+    plan_of_one_message_is_valid, slots_of_one_message,
 };

@@ -1,7 +1,7 @@
 //! Whether tables keep the rules of an instance, in the order in which refusals are told.
 
 ghost use Rattle.std.specs.Prelude.{MatchResult};
-ghost use Rattle.ttp_model.specs.Parts.{problem_of};
+ghost use Rattle.ttp_model.specs.Parts.{instance_of};
 ghost use Rattle.ttp_model.specs.Rules.{Lengths, Indices, ReceiversAway, Deadlines, Cycles, IsInstance};
 ghost use Rattle.ttp_model.specs.Refusals.{KeepsRulesBefore, IsRefusal};
 
@@ -19,8 +19,8 @@ use std::alloc::Global;
 /// Whether the tables keep all rules, or the first that they break.
 pub fn judge(alloc: Global, parts: &Parts) -> Result<(), ModelError>
     ensures { MatchResult result
-        (λ _. IsInstance (problem_of parts.now))
-        (λ e. IsRefusal (problem_of parts.now) e) }
+        (λ _. IsInstance (instance_of parts.now))
+        (λ e. IsRefusal (instance_of parts.now) e) }
 {
     judge_lists(parts)?;
     judge_numbers(parts)?;
@@ -35,8 +35,8 @@ pub fn judge(alloc: Global, parts: &Parts) -> Result<(), ModelError>
 /// The rules on lengths and names.
 fn judge_lists(parts: &Parts) -> Result<(), ModelError>
     ensures { MatchResult result
-        (λ _. KeepsRulesBefore (problem_of parts.now) Indices)
-        (λ e. IsRefusal (problem_of parts.now) e) }
+        (λ _. KeepsRulesBefore (instance_of parts.now) Indices)
+        (λ e. IsRefusal (instance_of parts.now) e) }
 {
     if let Some(part) = lengths::wrong_length(parts) {
         return Err(ModelError::Length(part));
@@ -55,10 +55,10 @@ fn judge_lists(parts: &Parts) -> Result<(), ModelError>
 
 /// The rules on single numbers.
 fn judge_numbers(parts: &Parts) -> Result<(), ModelError>
-    requires { KeepsRulesBefore (problem_of parts.now) Indices }
+    requires { KeepsRulesBefore (instance_of parts.now) Indices }
     ensures { MatchResult result
-        (λ _. KeepsRulesBefore (problem_of parts.now) ReceiversAway)
-        (λ e. IsRefusal (problem_of parts.now) e) }
+        (λ _. KeepsRulesBefore (instance_of parts.now) ReceiversAway)
+        (λ e. IsRefusal (instance_of parts.now) e) }
 {
     if let Some(at) = indices::missing(parts) {
         return Err(ModelError::NoSuchIndex(at));
@@ -74,10 +74,10 @@ fn judge_numbers(parts: &Parts) -> Result<(), ModelError>
 
 /// The rules on the bus.
 fn judge_cluster(parts: &Parts) -> Result<(), ModelError>
-    requires { KeepsRulesBefore (problem_of parts.now) ReceiversAway }
+    requires { KeepsRulesBefore (instance_of parts.now) ReceiversAway }
     ensures { MatchResult result
-        (λ _. KeepsRulesBefore (problem_of parts.now) Deadlines)
-        (λ e. IsRefusal (problem_of parts.now) e) }
+        (λ _. KeepsRulesBefore (instance_of parts.now) Deadlines)
+        (λ e. IsRefusal (instance_of parts.now) e) }
 {
     if let Some(m) = conditions::receiver_on_sender(parts) {
         return Err(ModelError::ReceiverOnSender(m));
@@ -93,10 +93,10 @@ fn judge_cluster(parts: &Parts) -> Result<(), ModelError>
 
 /// The rules between processes, but for cycles.
 fn judge_relations(parts: &Parts) -> Result<(), ModelError>
-    requires { KeepsRulesBefore (problem_of parts.now) Deadlines }
+    requires { KeepsRulesBefore (instance_of parts.now) Deadlines }
     ensures { MatchResult result
-        (λ _. KeepsRulesBefore (problem_of parts.now) Cycles)
-        (λ e. IsRefusal (problem_of parts.now) e) }
+        (λ _. KeepsRulesBefore (instance_of parts.now) Cycles)
+        (λ e. IsRefusal (instance_of parts.now) e) }
 {
     if let Some(p) = conditions::late_process(parts) {
         return Err(ModelError::Deadline(p));

@@ -2,7 +2,7 @@
 
 ghost use Rattle.std.specs.Prelude.{◌≡◌, ◌∷◌, []};
 ghost use Rattle.ttp_model.specs.Slots.{duration, round_length, slot_start, slot_end};
-ghost use Rattle.ttp_model.specs.Plans.{end_of, load_of, sent_from, sent_until};
+ghost use Rattle.ttp_model.specs.Plans.{IsValid, end_of, load_of, sent_from, sent_until};
 ghost use Rattle.ttp_model.specs.Delays.{delay};
 ghost use Rattle.ttp_model.specs.Chains.{IsPathBound};
 ghost use Rattle.ttp_model.specs.Twins.{AreTwins};
@@ -17,6 +17,11 @@ pub fn slots_of_one_message()
     ensures other_order { slot_start plain_cluster (1 ∷ 0 ∷ []) (2 ∷ 0 ∷ []) 0 2 ≡ 9 }
     ensures from { sent_from one_message (one_message_plan 0) 0 ≡ 4 }
     ensures until { sent_until one_message (one_message_plan 0) 0 ≡ 7 }
+{}
+
+/// Its plan keeps all ten rules.
+pub fn plan_of_one_message_is_valid()
+    ensures { IsValid one_message (one_message_plan 0) }
 {}
 
 /// The delay of its plan is 9, its frame in round 1 holds two bytes, and its weight is 8 and 94.

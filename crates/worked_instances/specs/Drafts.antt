@@ -1,30 +1,30 @@
 -- A problem with one more part, which stands last in its list.
 use Rattle.std.specs.Prelude.{ℕ, List, [], ◌∷◌, ◌++◌}
-use Rattle.ttp_model.specs.Problem.{Problem}
+use Rattle.ttp_model.specs.Instance.{Instance}
 
 -- with a node of these capacities
-abbrev pub with_node : Problem → List ℕ → List ℕ → Problem
+abbrev pub with_node : Instance → List ℕ → List ℕ → Instance
 with_node i name capacities = record i {
   nodes = i.nodes ++ (record { name = name; capacities = capacities } ∷ []);
 }
 
 -- with a process that has to run from the first of two ticks to the second
-abbrev pub with_process_within : Problem → List ℕ → ℕ → ℕ → ℕ → ℕ → Problem
+abbrev pub with_process_within : Instance → List ℕ → ℕ → ℕ → ℕ → ℕ → Instance
 with_process_within i name node wcet release deadline = record i {
   processes = i.processes
       ++ (record { name = name; node = node; wcet = wcet; release = release; deadline = deadline } ∷ []);
 }
 
 -- with a process that has no deadline to speak of
-abbrev pub with_process : Problem → List ℕ → ℕ → ℕ → Problem
+abbrev pub with_process : Instance → List ℕ → ℕ → ℕ → Instance
 with_process i name node wcet = with_process_within i name node wcet 0 1000000
 
 -- with a link from one process to another
-abbrev pub with_link : Problem → ℕ → ℕ → Problem
+abbrev pub with_link : Instance → ℕ → ℕ → Instance
 with_link i before after = record i { links = i.links ++ (record { before = before; after = after } ∷ []) }
 
 -- with a message of so many bytes to one receiver
-abbrev pub with_message : Problem → List ℕ → ℕ → ℕ → ℕ → Problem
+abbrev pub with_message : Instance → List ℕ → ℕ → ℕ → ℕ → Instance
 with_message i name sender receiver bytes = record i {
   messages = i.messages
       ++ (record { name = name; sender = sender; receivers = receiver ∷ []; bytes = bytes } ∷ []);

@@ -1,7 +1,7 @@
 //! An instance that is written down part by part.
 
 ghost use Rattle.std.specs.Prelude.{◌≡◌, IfErr, IfOk, []};
-ghost use Rattle.ttp_model.specs.Problem.{problem};
+ghost use Rattle.ttp_model.specs.Instance.{instance_with};
 ghost use Rattle.ttp_model.specs.Refusals.{IsRefusal};
 ghost use Rattle.worked_instances.specs.Drafts.{with_link, with_message, with_node, with_process, with_process_within};
 
@@ -37,17 +37,17 @@ pub struct Draft {
 }
 
 impl Model for Draft {
-    ghost use Rattle.ttp_model.specs.Problem.{Problem, problem};
+    ghost use Rattle.ttp_model.specs.Instance.{Instance, instance_with};
 
-    ghost Value = { Problem };
+    ghost Value = { Instance };
 
-    ghost view = { λ s. problem s.cluster s.nodes.items s.processes.items s.links.items s.messages.items };
+    ghost view = { λ s. instance_with s.cluster s.nodes.items s.processes.items s.links.items s.messages.items };
 }
 
 impl Draft {
     /// The cluster, with nothing on it.
     pub fn of(alloc: Global, cluster: Cluster) -> Self
-        ensures { result ≡ problem cluster [] [] [] [] }
+        ensures { result ≡ instance_with cluster [] [] [] [] }
     {
         Draft {
             alloc,

@@ -1,7 +1,7 @@
 //! Which messages crowd a frame in the plan at hand?
 
 ghost use Rattle.std.specs.Prelude.{◌≡◌, ◌<◌, length};
-ghost use Rattle.tt_choice.specs.Choices.{IsChoice, lo_of, hi_of};
+ghost use Rattle.tt_choice.specs.Choice.{IsChoice, least_round, greatest_round};
 ghost use Rattle.branch_tree.specs.Branching.{MayBranch, MayTake};
 
 use crate::branching::candidate::{Candidate, tighter};

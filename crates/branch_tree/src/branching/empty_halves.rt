@@ -1,7 +1,7 @@
 //! Which halves of ranges of rounds are empty from the start?
 
 ghost use Rattle.std.specs.Prelude.{◌≡◌, ◌<◌, length};
-ghost use Rattle.tt_choice.specs.Choices.{IsChoice};
+ghost use Rattle.tt_choice.specs.Choice.{IsChoice};
 ghost use Rattle.branch_tree.specs.Branching.{MayBranch};
 
 use crate::branching::rounds::{halved, is_in_one_half};

@@ -1,7 +1,7 @@
 //! Which processes of one node overlap in the plan at hand?
 
 ghost use Rattle.std.specs.Prelude.{◌≡◌, ◌<◌, length};
-ghost use Rattle.tt_choice.specs.Choices.{IsChoice};
+ghost use Rattle.tt_choice.specs.Choice.{IsChoice};
 ghost use Rattle.branch_tree.specs.Branching.{MayBranch, MayTake};
 
 use crate::branching::candidate::{Candidate, tighter};

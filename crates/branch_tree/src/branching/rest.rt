@@ -1,7 +1,7 @@
 //! What is left to choose where nothing conflicts?
 
 ghost use Rattle.std.specs.Prelude.{◌≡◌, ℕ, ◌<◌, length, IfNone, IsSome};
-ghost use Rattle.tt_choice.specs.Choices.{IsChoice, IsOrdered, fixed_cap, lo_of, hi_of};
+ghost use Rattle.tt_choice.specs.Choice.{IsChoice, IsOrdered, fixed_cap, least_round, greatest_round};
 ghost use Rattle.branch_tree.specs.Branching.{Branches, MayBranch, OrderedBelow};
 
 use crate::branching::rounds::halved;
@@ -70,7 +70,7 @@ fn open_range(instance: &Instance, choice: &Choice) -> Option<Kind>
     requires { IsChoice instance.now choice.now }
     ensures some { MayBranch instance.now choice.now result }
     ensures none { IfNone result ((m : ℕ) → m < length instance.now.messages
-        → lo_of choice.now m ≡ hi_of choice.now m) }
+        → least_round choice.now m ≡ greatest_round choice.now m) }
 {
     let count = instance.messages().len() as u32;
     for m in 0..count {

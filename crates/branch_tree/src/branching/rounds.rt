@@ -1,7 +1,7 @@
 //! Where is a range of rounds cut?
 
 ghost use Rattle.std.specs.Prelude.{◌≡◌, ◌<◌, length};
-ghost use Rattle.tt_choice.specs.Choices.{IsChoice, lo_of, hi_of};
+ghost use Rattle.tt_choice.specs.Choice.{IsChoice, least_round, greatest_round};
 ghost use Rattle.branch_tree.specs.Branching.{IsBranching};
 
 use tt_choice::Choice;
@@ -12,7 +12,7 @@ use ttp_model::{Instance, Kind};
 pub fn halved(instance: &Instance, choice: &Choice, m: u32) -> Kind
     requires of { IsChoice instance.now choice.now }
     requires message { m < length instance.now.messages }
-    requires open { lo_of choice.now m < hi_of choice.now m }
+    requires open { least_round choice.now m < greatest_round choice.now m }
     ensures { IsBranching instance.now choice.now result }
 {
     let _messages = instance.messages();
@@ -26,7 +26,7 @@ pub fn is_in_one_half(instance: &Instance, choice: &Choice, facts: &Facts, m: u3
     requires of { IsChoice instance.now choice.now }
     requires facts { facts.now.instance ≡ instance.now }
     requires message { m < length instance.now.messages }
-    requires open { lo_of choice.now m < hi_of choice.now m }
+    requires open { least_round choice.now m < greatest_round choice.now m }
 {
     let _messages = instance.messages();
     let lo = choice.lo(m);

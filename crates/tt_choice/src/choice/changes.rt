@@ -1,10 +1,10 @@
 //! What does one more decision change?
 
 ghost use Rattle.std.specs.Prelude.{◌≡◌, ◌<◌, ◌≤◌, ◌↔◌, length, slice_index, IsOk, OnOk, OnErr};
-ghost use Rattle.ttp_model.specs.Problem.{Problem, node_at};
+ghost use Rattle.ttp_model.specs.Instance.{Instance, node_at};
 ghost use Rattle.ttp_model.specs.Plans.{EndsBefore, round_of};
 ghost use Rattle.ttp_model.specs.declared.plan.Plan.{Plan};
-ghost use Rattle.tt_choice.specs.Choices.{IsChoice, IsIn, lo_of, hi_of};
+ghost use Rattle.tt_choice.specs.Choice.{IsChoice, IsIn, least_round, greatest_round};
 ghost use Rattle.tt_choice.specs.Branches.{IsUnplaced, IsOpen, place_next, fix_option, order_pair, at_most, at_least};
 
 use crate::choice::Choice;
@@ -85,11 +85,11 @@ impl Choice {
     /// Lets message `m` be sent in round `r` at most. Takes no memory.
     pub fn rounds_at_most(&mut self, m: u32, r: u32)
         requires message { m < length self.old.hi }
-        requires from { lo_of self.old m ≤ r }
-        requires below { r < hi_of self.old m }
+        requires from { least_round self.old m ≤ r }
+        requires below { r < greatest_round self.old m }
         ensures value { self.new ≡ at_most self.old m r }
-        ensures choice { (i : Problem) → IsChoice i self.old → IsChoice i self.new }
-        ensures plans { (i : Problem) (plan : Plan) → IsChoice i self.old
+        ensures choice { (i : Instance) → IsChoice i self.old → IsChoice i self.new }
+        ensures plans { (i : Instance) (plan : Plan) → IsChoice i self.old
             → IsIn i self.new plan ↔ (IsIn i self.old plan × (round_of plan m ≤ r)) }
     {
         self.hi[m as usize] = r;
@@ -98,11 +98,11 @@ impl Choice {
     /// Lets message `m` be sent in round `r` at least. Takes no memory.
     pub fn rounds_at_least(&mut self, m: u32, r: u32)
         requires message { m < length self.old.lo }
-        requires above { lo_of self.old m < r }
-        requires to { r ≤ hi_of self.old m }
+        requires above { least_round self.old m < r }
+        requires to { r ≤ greatest_round self.old m }
         ensures value { self.new ≡ at_least self.old m r }
-        ensures choice { (i : Problem) → IsChoice i self.old → IsChoice i self.new }
-        ensures plans { (i : Problem) (plan : Plan) → IsChoice i self.old
+        ensures choice { (i : Instance) → IsChoice i self.old → IsChoice i self.new }
+        ensures plans { (i : Instance) (plan : Plan) → IsChoice i self.old
             → IsIn i self.new plan ↔ (IsIn i self.old plan × (r ≤ round_of plan m)) }
     {
         self.lo[m as usize] = r;

@@ -2,7 +2,7 @@
 
 ghost use Rattle.std.specs.Prelude.{◌≡◌, ◌<◌, IfOk, length};
 ghost use Rattle.ttp_model.specs.declared.step.Kind.TheVariants.{Place, Cap, Pair, Round};
-ghost use Rattle.tt_choice.specs.Choices.{IsChoice};
+ghost use Rattle.tt_choice.specs.Choice.{IsChoice};
 ghost use Rattle.tt_choice.specs.Branches.{IsOpen, child_choices};
 
 use crate::choice::Choice;

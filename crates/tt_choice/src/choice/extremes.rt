@@ -3,8 +3,8 @@
 ghost use Rattle.std.specs.Prelude.{◌≡◌, ℕ, ◌+◌, ◌*◌, ◌^◌, ◌<◌, ◌≤◌, length, Option};
 ghost use Rattle.ttp_model.specs.Rules.{IsClusterInRange};
 ghost use Rattle.ttp_model.specs.Slots.{slot_duration};
-ghost use Rattle.tt_choice.specs.Totals.{total};
-ghost use Rattle.tt_choice.specs.Choices.{IsChoice, IsOption};
+ghost use Rattle.ttp_model.specs.Totals.{total};
+ghost use Rattle.tt_choice.specs.Choice.{IsChoice, IsOption};
 ghost use Rattle.tt_choice.specs.Extremes.{IsLeastOf, IsMostOf, start_at, end_at, cap_at, dur_at, least_option, most_option, cap_least, cap_most, dur_least, dur_most, offset_least, offset_most, start_least, start_most, end_least, end_most};
 
 use crate::choice::Choice;

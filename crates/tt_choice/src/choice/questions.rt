@@ -1,8 +1,9 @@
 //! What of a choice is still open?
 
-ghost use Rattle.std.specs.Prelude.{◌≡◌, ℕ, ◌<◌, ◌≤◌, ◌↔◌, IsTrue, IsSome, length, count_by, is_none, Some, None};
-ghost use Rattle.tt_choice.specs.Totals.{total};
-ghost use Rattle.tt_choice.specs.Choices.{IsChoice, IsComplete, fixed_cap, lo_of, hi_of};
+ghost use Rattle.std.specs.Prelude.{◌≡◌, ℕ, ◌*◌, ◌<◌, ◌≤◌, ◌↔◌, IsTrue, IsSome, length, count_by, is_none, Some, None};
+ghost use Rattle.ttp_model.specs.declared.limits.TheConstants.{MOST_NODES, MOST_MESSAGES};
+ghost use Rattle.ttp_model.specs.Totals.{total};
+ghost use Rattle.tt_choice.specs.Choice.{IsChoice, IsComplete, fixed_cap, least_round, greatest_round};
 ghost use Rattle.tt_choice.specs.Branches.{IsOpen, IsUnorderedPair, CutsRange};
 ghost use Rattle.tt_choice.specs.Sizes.{size_left, range_size, binary_digits};
 
@@ -58,7 +59,7 @@ impl Choice {
     fn cuts_range(&self, m: u32, r: u32) -> bool
         requires { length self.now.lo ≡ length self.now.hi }
         ensures { IsTrue result
-            ↔ ((m < length self.now.hi) × (lo_of self.now m ≤ r) × (r < hi_of self.now m)) }
+            ↔ ((m < length self.now.hi) × (least_round self.now m ≤ r) × (r < greatest_round self.now m)) }
     {
         (m as usize) < self.hi.len() && self.lo[m as usize] <= r && r < self.hi[m as usize]
     }
@@ -98,7 +99,7 @@ impl Choice {
     fn all_rounds(&self) -> bool
         requires { length self.now.lo ≡ length self.now.hi }
         ensures { IsTrue result
-            ↔ ((m : ℕ) → m < length self.now.hi → lo_of self.now m ≡ hi_of self.now m) }
+            ↔ ((m : ℕ) → m < length self.now.hi → least_round self.now m ≡ greatest_round self.now m) }
     {
         for m in 0..self.hi.len() {
             if self.lo[m] != self.hi[m] {
@@ -123,7 +124,7 @@ impl Choice {
     fn free_caps(&self, instance: &Instance) -> usize
         requires of { IsChoice instance.now self.now }
         ensures value { result ≡ count_by is_none self.now.fixed }
-        ensures few { result ≤ 16 }
+        ensures few { result ≤ MOST_NODES }
     {
         let _nodes = instance.nodes();
         let mut free = 0;
@@ -139,7 +140,7 @@ impl Choice {
     fn range_sizes(&self, instance: &Instance) -> usize
         requires of { IsChoice instance.now self.now }
         ensures value { result ≡ total (range_size self.now) (length instance.now.messages) }
-        ensures few { result ≤ 4096 }
+        ensures few { result ≤ MOST_MESSAGES * 32 }
     {
         let mut sizes = 0;
         let count = instance.messages().len() as u32;

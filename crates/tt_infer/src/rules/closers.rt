@@ -5,18 +5,18 @@ ghost use Rattle.ttp_model.specs.declared.step.Step.TheVariants.{XWindow, XRound
 ghost use Rattle.ttp_model.specs.Lists.{EachBelow};
 ghost use Rattle.tt_infer.specs.Premises.{IsRing};
 ghost use Rattle.tt_infer.specs.Table.{IsProcess};
-ghost use Rattle.tt_infer.specs.Sought.{TakesOf};
-ghost use Rattle.tt_infer.specs.Facts.{Fits};
+ghost use Rattle.tt_infer.specs.Setting.{TakesOf};
+ghost use Rattle.tt_infer.specs.Known.{Fits};
 
 use crate::ahead::is_ahead;
 use crate::fault::StepFault;
-use crate::known::Bounds;
+use crate::known::Known;
 use crate::setting::Setting;
 use crate::times::least_end;
 use ttp_model::{Instance, Ring};
 
 /// A process can't end in time.
-pub fn x_window(known: &mut Bounds, setting: &Setting, p: u32) -> Result<(), StepFault>
+pub fn x_window(known: &mut Known, setting: &Setting, p: u32) -> Result<(), StepFault>
     requires fits { Fits setting.now.instance known.old }
     requires open { IsFalse known.old.closed }
     ensures { TakesOf setting.now known.old (XWindow p) known.new result }
@@ -33,7 +33,7 @@ pub fn x_window(known: &mut Bounds, setting: &Setting, p: u32) -> Result<(), Ste
 }
 
 /// A message has no round.
-pub fn x_round(known: &mut Bounds, setting: &Setting, m: u32) -> Result<(), StepFault>
+pub fn x_round(known: &mut Known, setting: &Setting, m: u32) -> Result<(), StepFault>
     requires fits { Fits setting.now.instance known.old }
     requires open { IsFalse known.old.closed }
     ensures { TakesOf setting.now known.old (XRound m) known.new result }
@@ -63,7 +63,7 @@ fn are_there(instance: &Instance, processes: &[u32]) -> bool
 }
 
 /// Whether each process goes before the next, and the last before the first.
-fn is_ring(known: &Bounds, instance: &Instance, processes: &[u32]) -> bool
+fn is_ring(known: &Known, instance: &Instance, processes: &[u32]) -> bool
     requires { 2 ≤ length processes.now }
     ensures { IsTrue result ↔ IsRing instance.now known.now processes.now }
 {
@@ -78,7 +78,7 @@ fn is_ring(known: &Bounds, instance: &Instance, processes: &[u32]) -> bool
 
 /// Processes wait for each other. A pass over the links and one over the messages for each two
 /// neighbours.
-pub fn x_cycle(known: &mut Bounds, setting: &Setting, ring: &Ring) -> Result<(), StepFault>
+pub fn x_cycle(known: &mut Known, setting: &Setting, ring: &Ring) -> Result<(), StepFault>
     requires fits { Fits setting.now.instance known.old }
     requires open { IsFalse known.old.closed }
     ensures { TakesOf setting.now known.old (XCycle ring.now) known.new result }
@@ -95,7 +95,7 @@ pub fn x_cycle(known: &mut Bounds, setting: &Setting, ring: &Ring) -> Result<(),
 }
 
 /// A message fits no frame of its node.
-pub fn x_frame(known: &mut Bounds, setting: &Setting, m: u32) -> Result<(), StepFault>
+pub fn x_frame(known: &mut Known, setting: &Setting, m: u32) -> Result<(), StepFault>
     requires fits { Fits setting.now.instance known.old }
     requires open { IsFalse known.old.closed }
     ensures { TakesOf setting.now known.old (XFrame m) known.new result }

@@ -3,19 +3,19 @@
 ghost use Rattle.std.specs.Prelude.{◌↔◌, IsFalse, IsTrue};
 ghost use Rattle.ttp_model.specs.declared.step.Step.TheVariants.{OrdTwin, UsSettled, XLate, XSilent};
 ghost use Rattle.tt_infer.specs.Dominance.{StandsFirst};
-ghost use Rattle.tt_infer.specs.Sought.{TakesOf};
-ghost use Rattle.tt_infer.specs.Facts.{Fits};
+ghost use Rattle.tt_infer.specs.Setting.{TakesOf};
+ghost use Rattle.tt_infer.specs.Known.{Fits};
 
-use crate::exchanges::{are_silent_twins, are_twins};
 use crate::fault::StepFault;
 use crate::indices::are_pair;
-use crate::known::Bounds;
+use crate::known::Known;
 use crate::late::could_be_earlier;
 use crate::setting::Setting;
 use crate::wait::greatest_wait;
+use tt_moves::{silent_twins, twins};
 
 /// Of twins the first goes first: else they would exchange their starts.
-pub fn ord_twin(known: &mut Bounds, setting: &Setting, p: u32, q: u32) -> Result<(), StepFault>
+pub fn ord_twin(known: &mut Known, setting: &Setting, p: u32, q: u32) -> Result<(), StepFault>
     requires fits { Fits setting.now.instance known.old }
     requires open { IsFalse known.old.closed }
     ensures { TakesOf setting.now known.old (OrdTwin p q) known.new result }
@@ -24,7 +24,7 @@ pub fn ord_twin(known: &mut Bounds, setting: &Setting, p: u32, q: u32) -> Result
     if !are_pair(instance, p, q) {
         return Err(StepFault::NoSuchIndex);
     }
-    if p > q || !are_twins(instance, p, q) {
+    if p > q || !twins(instance, p, q) {
         return Err(StepFault::NoPremise);
     }
     known.go_first(instance, p, q);
@@ -33,7 +33,7 @@ pub fn ord_twin(known: &mut Bounds, setting: &Setting, p: u32, q: u32) -> Result
 
 /// A process starts as soon as nothing is left that it may have to wait for: else it would start a
 /// tick earlier.
-pub fn us_settled(known: &mut Bounds, setting: &Setting, p: u32) -> Result<(), StepFault>
+pub fn us_settled(known: &mut Known, setting: &Setting, p: u32) -> Result<(), StepFault>
     requires fits { Fits setting.now.instance known.old }
     requires open { IsFalse known.old.closed }
     ensures { TakesOf setting.now known.old (UsSettled p) known.new result }
@@ -51,7 +51,7 @@ pub fn us_settled(known: &mut Bounds, setting: &Setting, p: u32) -> Result<(), S
 }
 
 /// A message that could be sent in an earlier round is.
-pub fn x_late(known: &mut Bounds, setting: &Setting, m: u32, r: u32) -> Result<(), StepFault>
+pub fn x_late(known: &mut Known, setting: &Setting, m: u32, r: u32) -> Result<(), StepFault>
     requires fits { Fits setting.now.instance known.old }
     requires open { IsFalse known.old.closed }
     ensures { TakesOf setting.now known.old (XLate m r) known.new result }
@@ -83,7 +83,7 @@ fn stands_first(order: &[u32], v: u32, u: u32) -> bool
 
 /// Of silent twins the first is placed first: else they would exchange their positions and
 /// capacities.
-pub fn x_silent(known: &mut Bounds, setting: &Setting, u: u32, v: u32) -> Result<(), StepFault>
+pub fn x_silent(known: &mut Known, setting: &Setting, u: u32, v: u32) -> Result<(), StepFault>
     requires fits { Fits setting.now.instance known.old }
     requires open { IsFalse known.old.closed }
     ensures { TakesOf setting.now known.old (XSilent u v) known.new result }
@@ -93,10 +93,7 @@ pub fn x_silent(known: &mut Bounds, setting: &Setting, u: u32, v: u32) -> Result
     if u as usize >= count || v as usize >= count {
         return Err(StepFault::NoSuchIndex);
     }
-    if u >= v
-        || !stands_first(setting.choice().prefix(), v, u)
-        || !are_silent_twins(instance, u, v)
-    {
+    if u >= v || !stands_first(setting.choice().prefix(), v, u) || !silent_twins(instance, u, v) {
         return Err(StepFault::NoPremise);
     }
     known.close(instance);

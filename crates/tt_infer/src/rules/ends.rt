@@ -2,17 +2,17 @@
 
 ghost use Rattle.std.specs.Prelude.{IsFalse};
 ghost use Rattle.ttp_model.specs.declared.step.Step.TheVariants.{LeOwn, LeLink, LeBefore, LeMessage, LeSend};
-ghost use Rattle.tt_infer.specs.Sought.{TakesOf};
-ghost use Rattle.tt_infer.specs.Facts.{Fits};
+ghost use Rattle.tt_infer.specs.Setting.{TakesOf};
+ghost use Rattle.tt_infer.specs.Known.{Fits};
 
 use crate::fault::StepFault;
 use crate::indices::{are_pair, receives};
-use crate::known::Bounds;
+use crate::known::Known;
 use crate::setting::Setting;
 use crate::times::most_start;
 
 /// A process ends by its deadline, within the horizon and before the goal.
-pub fn le_own(known: &mut Bounds, setting: &Setting, p: u32) -> Result<(), StepFault>
+pub fn le_own(known: &mut Known, setting: &Setting, p: u32) -> Result<(), StepFault>
     requires fits { Fits setting.now.instance known.old }
     requires open { IsFalse known.old.closed }
     ensures { TakesOf setting.now known.old (LeOwn p) known.new result }
@@ -31,7 +31,7 @@ pub fn le_own(known: &mut Bounds, setting: &Setting, p: u32) -> Result<(), StepF
 }
 
 /// The first process of a link ends when the second has to start, or earlier.
-pub fn le_link(known: &mut Bounds, setting: &Setting, l: u32) -> Result<(), StepFault>
+pub fn le_link(known: &mut Known, setting: &Setting, l: u32) -> Result<(), StepFault>
     requires fits { Fits setting.now.instance known.old }
     requires open { IsFalse known.old.closed }
     ensures { TakesOf setting.now known.old (LeLink l) known.new result }
@@ -47,7 +47,7 @@ pub fn le_link(known: &mut Bounds, setting: &Setting, l: u32) -> Result<(), Step
 }
 
 /// A process ends when one that it goes before has to start, or earlier.
-pub fn le_before(known: &mut Bounds, setting: &Setting, p: u32, q: u32) -> Result<(), StepFault>
+pub fn le_before(known: &mut Known, setting: &Setting, p: u32, q: u32) -> Result<(), StepFault>
     requires fits { Fits setting.now.instance known.old }
     requires open { IsFalse known.old.closed }
     ensures { TakesOf setting.now known.old (LeBefore p q) known.new result }
@@ -66,7 +66,7 @@ pub fn le_before(known: &mut Bounds, setting: &Setting, p: u32, q: u32) -> Resul
 
 /// A sender ends so early that the message can be copied out, sent and copied in before a receiver
 /// has to start.
-pub fn le_message(known: &mut Bounds, setting: &Setting, m: u32, q: u32) -> Result<(), StepFault>
+pub fn le_message(known: &mut Known, setting: &Setting, m: u32, q: u32) -> Result<(), StepFault>
     requires fits { Fits setting.now.instance known.old }
     requires open { IsFalse known.old.closed }
     ensures { TakesOf setting.now known.old (LeMessage m q) known.new result }
@@ -88,7 +88,7 @@ pub fn le_message(known: &mut Bounds, setting: &Setting, m: u32, q: u32) -> Resu
 
 /// A sender ends so early that the message can be copied out before the slot of its greatest round
 /// begins.
-pub fn le_send(known: &mut Bounds, setting: &Setting, m: u32) -> Result<(), StepFault>
+pub fn le_send(known: &mut Known, setting: &Setting, m: u32) -> Result<(), StepFault>
     requires fits { Fits setting.now.instance known.old }
     requires open { IsFalse known.old.closed }
     ensures { TakesOf setting.now known.old (LeSend m) known.new result }

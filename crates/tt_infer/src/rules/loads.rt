@@ -3,19 +3,19 @@
 ghost use Rattle.std.specs.Prelude.{◌≡◌, ◌≤◌, ◌<◌, length, IsFalse};
 ghost use Rattle.ttp_model.specs.declared.step.Step.TheVariants.{XLoad, XFrames};
 ghost use Rattle.ttp_model.specs.declared.limits.TheConstants.{MOST_TICKS, MOST_BYTES};
-ghost use Rattle.tt_choice.specs.Totals.{total};
+ghost use Rattle.ttp_model.specs.Totals.{total};
 ghost use Rattle.tt_infer.specs.Premises.{load_within, bytes_within};
-ghost use Rattle.tt_infer.specs.Sought.{TakesOf};
-ghost use Rattle.tt_infer.specs.Facts.{Fits};
+ghost use Rattle.tt_infer.specs.Setting.{TakesOf};
+ghost use Rattle.tt_infer.specs.Known.{Fits};
 
 use crate::fault::StepFault;
-use crate::known::Bounds;
+use crate::known::Known;
 use crate::setting::Setting;
 use ttp_model::Instance;
 
 /// How long process `p` runs on node `n` from `a` to `b`: 0 where it is another's, starts earlier or
 /// ends later.
-fn load_within(known: &Bounds, instance: &Instance, n: u32, a: u32, b: u32, p: u32) -> u64
+fn load_within(known: &Known, instance: &Instance, n: u32, a: u32, b: u32, p: u32) -> u64
     requires fits { Fits instance.now known.now }
     requires process { p < length instance.now.processes }
     ensures value { result ≡ load_within instance.now known.now n a b p }
@@ -30,7 +30,7 @@ fn load_within(known: &Bounds, instance: &Instance, n: u32, a: u32, b: u32, p: u
 }
 
 /// How long processes run on node `n` from `a` to `b`. One pass over the processes.
-fn load_of(known: &Bounds, instance: &Instance, n: u32, a: u32, b: u32) -> u64
+fn load_of(known: &Known, instance: &Instance, n: u32, a: u32, b: u32) -> u64
     requires { Fits instance.now known.now }
     ensures { result ≡ total (load_within instance.now known.now n a b) (length instance.now.processes) }
 {
@@ -44,7 +44,7 @@ fn load_of(known: &Bounds, instance: &Instance, n: u32, a: u32, b: u32) -> u64
 
 /// The processes that run on a node in a span run longer than it.
 pub fn x_load(
-    known: &mut Bounds,
+    known: &mut Known,
     setting: &Setting,
     n: u32,
     a: u32,
@@ -66,7 +66,7 @@ pub fn x_load(
 
 /// How many bytes message `m` puts into frames of node `n` from round `a` on and before `b`: 0 where
 /// it is another's, or may be sent earlier or later.
-fn bytes_within(known: &Bounds, instance: &Instance, n: u32, a: u32, b: u32, m: u32) -> u64
+fn bytes_within(known: &Known, instance: &Instance, n: u32, a: u32, b: u32, m: u32) -> u64
     requires fits { Fits instance.now known.now }
     requires message { m < length instance.now.messages }
     ensures value { result ≡ bytes_within instance.now known.now n a b m }
@@ -81,7 +81,7 @@ fn bytes_within(known: &Bounds, instance: &Instance, n: u32, a: u32, b: u32, m: 
 
 /// How many bytes go into frames of node `n` from round `a` on and before `b`. One pass over the
 /// messages.
-fn bytes_of(known: &Bounds, instance: &Instance, n: u32, a: u32, b: u32) -> u64
+fn bytes_of(known: &Known, instance: &Instance, n: u32, a: u32, b: u32) -> u64
     requires { Fits instance.now known.now }
     ensures { result ≡ total (bytes_within instance.now known.now n a b) (length instance.now.messages) }
 {
@@ -95,7 +95,7 @@ fn bytes_of(known: &Bounds, instance: &Instance, n: u32, a: u32, b: u32) -> u64
 
 /// The messages that a node sends in some rounds are more than its frames can carry.
 pub fn x_frames(
-    known: &mut Bounds,
+    known: &mut Known,
     setting: &Setting,
     n: u32,
     a: u32,

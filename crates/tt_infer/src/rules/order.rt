@@ -2,18 +2,18 @@
 
 ghost use Rattle.std.specs.Prelude.{IsFalse};
 ghost use Rattle.ttp_model.specs.declared.step.Step.TheVariants.{OrdWindow};
-ghost use Rattle.tt_infer.specs.Sought.{TakesOf};
-ghost use Rattle.tt_infer.specs.Facts.{Fits};
+ghost use Rattle.tt_infer.specs.Setting.{TakesOf};
+ghost use Rattle.tt_infer.specs.Known.{Fits};
 
 use crate::fault::StepFault;
 use crate::indices::are_pair;
-use crate::known::Bounds;
+use crate::known::Known;
 use crate::setting::Setting;
 use crate::times::least_end;
 
 /// A process goes before another of its node where the two together would end too late the other
 /// way round.
-pub fn ord_window(known: &mut Bounds, setting: &Setting, p: u32, q: u32) -> Result<(), StepFault>
+pub fn ord_window(known: &mut Known, setting: &Setting, p: u32, q: u32) -> Result<(), StepFault>
     requires fits { Fits setting.now.instance known.old }
     requires open { IsFalse known.old.closed }
     ensures { TakesOf setting.now known.old (OrdWindow p q) known.new result }

@@ -2,17 +2,17 @@
 
 ghost use Rattle.std.specs.Prelude.{IsFalse};
 ghost use Rattle.ttp_model.specs.declared.step.Step.TheVariants.{LoSend, HiArrive};
-ghost use Rattle.tt_infer.specs.Sought.{TakesOf};
-ghost use Rattle.tt_infer.specs.Facts.{Fits};
+ghost use Rattle.tt_infer.specs.Setting.{TakesOf};
+ghost use Rattle.tt_infer.specs.Known.{Fits};
 
 use crate::fault::StepFault;
 use crate::indices::receives;
-use crate::known::Bounds;
+use crate::known::Known;
 use crate::setting::Setting;
 use crate::times::least_ready;
 
 /// A message is sent in the first round whose slot may begin once it can be copied out, or later.
-pub fn lo_send(known: &mut Bounds, setting: &Setting, m: u32) -> Result<(), StepFault>
+pub fn lo_send(known: &mut Known, setting: &Setting, m: u32) -> Result<(), StepFault>
     requires fits { Fits setting.now.instance known.old }
     requires open { IsFalse known.old.closed }
     ensures { TakesOf setting.now known.old (LoSend m) known.new result }
@@ -28,7 +28,7 @@ pub fn lo_send(known: &mut Bounds, setting: &Setting, m: u32) -> Result<(), Step
 }
 
 /// A message is sent in a round whose slot can end so early that it reaches a receiver in time.
-pub fn hi_arrive(known: &mut Bounds, setting: &Setting, m: u32, q: u32) -> Result<(), StepFault>
+pub fn hi_arrive(known: &mut Known, setting: &Setting, m: u32, q: u32) -> Result<(), StepFault>
     requires fits { Fits setting.now.instance known.old }
     requires open { IsFalse known.old.closed }
     ensures { TakesOf setting.now known.old (HiArrive m q) known.new result }

@@ -2,17 +2,17 @@
 
 ghost use Rattle.std.specs.Prelude.{IsFalse};
 ghost use Rattle.ttp_model.specs.declared.step.Step.TheVariants.{EsRelease, EsLink, EsBefore, EsArrive, EsMessage};
-ghost use Rattle.tt_infer.specs.Sought.{TakesOf};
-ghost use Rattle.tt_infer.specs.Facts.{Fits};
+ghost use Rattle.tt_infer.specs.Setting.{TakesOf};
+ghost use Rattle.tt_infer.specs.Known.{Fits};
 
 use crate::fault::StepFault;
 use crate::indices::{are_pair, receives};
-use crate::known::Bounds;
+use crate::known::Known;
 use crate::setting::Setting;
 use crate::times::{least_end, least_ready};
 
 /// A process starts at its release or later.
-pub fn es_release(known: &mut Bounds, setting: &Setting, p: u32) -> Result<(), StepFault>
+pub fn es_release(known: &mut Known, setting: &Setting, p: u32) -> Result<(), StepFault>
     requires fits { Fits setting.now.instance known.old }
     requires open { IsFalse known.old.closed }
     ensures { TakesOf setting.now known.old (EsRelease p) known.new result }
@@ -30,7 +30,7 @@ pub fn es_release(known: &mut Bounds, setting: &Setting, p: u32) -> Result<(), S
 }
 
 /// The second process of a link starts when the first can have ended, or later.
-pub fn es_link(known: &mut Bounds, setting: &Setting, l: u32) -> Result<(), StepFault>
+pub fn es_link(known: &mut Known, setting: &Setting, l: u32) -> Result<(), StepFault>
     requires fits { Fits setting.now.instance known.old }
     requires open { IsFalse known.old.closed }
     ensures { TakesOf setting.now known.old (EsLink l) known.new result }
@@ -46,7 +46,7 @@ pub fn es_link(known: &mut Bounds, setting: &Setting, l: u32) -> Result<(), Step
 }
 
 /// A process starts when one that goes before it can have ended, or later.
-pub fn es_before(known: &mut Bounds, setting: &Setting, p: u32, q: u32) -> Result<(), StepFault>
+pub fn es_before(known: &mut Known, setting: &Setting, p: u32, q: u32) -> Result<(), StepFault>
     requires fits { Fits setting.now.instance known.old }
     requires open { IsFalse known.old.closed }
     ensures { TakesOf setting.now known.old (EsBefore p q) known.new result }
@@ -65,7 +65,7 @@ pub fn es_before(known: &mut Bounds, setting: &Setting, p: u32, q: u32) -> Resul
 
 /// A receiver starts when the slot of the message's least round can have ended and the message was
 /// copied in, or later.
-pub fn es_arrive(known: &mut Bounds, setting: &Setting, m: u32, q: u32) -> Result<(), StepFault>
+pub fn es_arrive(known: &mut Known, setting: &Setting, m: u32, q: u32) -> Result<(), StepFault>
     requires fits { Fits setting.now.instance known.old }
     requires open { IsFalse known.old.closed }
     ensures { TakesOf setting.now known.old (EsArrive m q) known.new result }
@@ -80,7 +80,7 @@ pub fn es_arrive(known: &mut Bounds, setting: &Setting, m: u32, q: u32) -> Resul
 }
 
 /// A receiver starts when the message can have been copied out, sent and copied in, or later.
-pub fn es_message(known: &mut Bounds, setting: &Setting, m: u32, q: u32) -> Result<(), StepFault>
+pub fn es_message(known: &mut Known, setting: &Setting, m: u32, q: u32) -> Result<(), StepFault>
     requires fits { Fits setting.now.instance known.old }
     requires open { IsFalse known.old.closed }
     ensures { TakesOf setting.now known.old (EsMessage m q) known.new result }

@@ -2,8 +2,8 @@
 
 ghost use Rattle.std.specs.Prelude.{◌≢◌, ◌<◌, ◌↔◌, ℕ, All, IsTrue, length, slice_index_or};
 ghost use Rattle.ttp_model.specs.Lists.{FindsFailure, HasNoRepeats};
-ghost use Rattle.ttp_model.specs.Problem.{no_process};
-ghost use Rattle.ttp_model.specs.Parts.{problem_of};
+ghost use Rattle.ttp_model.specs.Instance.{no_process};
+ghost use Rattle.ttp_model.specs.Parts.{instance_of};
 ghost use Rattle.ttp_model.specs.Rules.{KeepsLimits, NamesWhatIsThere, IsInRange, SendsAway, CanEndInTime, StaysOnNode, ReceivesOnce};
 ghost use Rattle.ttp_model.specs.declared.error.Place.{Place};
 ghost use Rattle.ttp_model.specs.declared.error.Place.TheVariants.{AtLink, AtMessage};
@@ -25,9 +25,9 @@ fn are_away(receivers: &[u32], processes: &[Process], node: u32) -> bool
 
 /// The first message with a receiver on the sender's node.
 pub fn receiver_on_sender(parts: &Parts) -> Option<u32>
-    requires limits { KeepsLimits (problem_of parts.now) }
-    requires indices { (m : ℕ) → NamesWhatIsThere (problem_of parts.now) (AtMessage m) }
-    ensures { FindsFailure (length parts.now.messages.items) (SendsAway (problem_of parts.now)) result }
+    requires limits { KeepsLimits (instance_of parts.now) }
+    requires indices { (m : ℕ) → NamesWhatIsThere (instance_of parts.now) (AtMessage m) }
+    ensures { FindsFailure (length parts.now.messages.items) (SendsAway (instance_of parts.now)) result }
 {
     for m in 0..parts.messages.len() {
         let message = &parts.messages[m];
@@ -41,9 +41,9 @@ pub fn receiver_on_sender(parts: &Parts) -> Option<u32>
 
 /// The first process that cannot meet its deadline.
 pub fn late_process(parts: &Parts) -> Option<u32>
-    requires limits { KeepsLimits (problem_of parts.now) }
-    requires ranges { (at : Place) → IsInRange (problem_of parts.now) at }
-    ensures { FindsFailure (length parts.now.processes.items) (CanEndInTime (problem_of parts.now)) result }
+    requires limits { KeepsLimits (instance_of parts.now) }
+    requires ranges { (at : Place) → IsInRange (instance_of parts.now) at }
+    ensures { FindsFailure (length parts.now.processes.items) (CanEndInTime (instance_of parts.now)) result }
 {
     for p in 0..parts.processes.len() {
         let process = &parts.processes[p];
@@ -56,9 +56,9 @@ pub fn late_process(parts: &Parts) -> Option<u32>
 
 /// The first link that is not between two processes of one node.
 pub fn link_across(parts: &Parts) -> Option<u32>
-    requires limits { KeepsLimits (problem_of parts.now) }
-    requires indices { (l : ℕ) → NamesWhatIsThere (problem_of parts.now) (AtLink l) }
-    ensures { FindsFailure (length parts.now.links.items) (StaysOnNode (problem_of parts.now)) result }
+    requires limits { KeepsLimits (instance_of parts.now) }
+    requires indices { (l : ℕ) → NamesWhatIsThere (instance_of parts.now) (AtLink l) }
+    ensures { FindsFailure (length parts.now.links.items) (StaysOnNode (instance_of parts.now)) result }
 {
     for l in 0..parts.links.len() {
         let link = parts.links[l];
@@ -87,8 +87,8 @@ fn has_no_repeats(numbers: &[u32]) -> bool
 
 /// The first message with a receiver that stands twice.
 pub fn receiver_twice(parts: &Parts) -> Option<u32>
-    requires { KeepsLimits (problem_of parts.now) }
-    ensures { FindsFailure (length parts.now.messages.items) (ReceivesOnce (problem_of parts.now)) result }
+    requires { KeepsLimits (instance_of parts.now) }
+    ensures { FindsFailure (length parts.now.messages.items) (ReceivesOnce (instance_of parts.now)) result }
 {
     for m in 0..parts.messages.len() {
         if !has_no_repeats(parts.messages[m].receivers.as_slice()) {

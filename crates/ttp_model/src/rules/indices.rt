@@ -2,8 +2,8 @@
 
 ghost use Rattle.std.specs.Prelude.{◌<◌, ◌↔◌, All, IsTrue, length};
 ghost use Rattle.ttp_model.specs.Lists.{FindsFailure};
-ghost use Rattle.ttp_model.specs.Problem.{node_of, link_at, message_at};
-ghost use Rattle.ttp_model.specs.Parts.{problem_of};
+ghost use Rattle.ttp_model.specs.Instance.{node_of, link_at, message_at};
+ghost use Rattle.ttp_model.specs.Parts.{instance_of};
 ghost use Rattle.ttp_model.specs.Rules.{IsProcess, KeepsLimits, NamesWhatIsThere};
 ghost use Rattle.ttp_model.specs.Searches.{FindsPlace};
 
@@ -12,9 +12,9 @@ use crate::parts::Parts;
 
 /// The first process on a node that is not there.
 fn misplaced_process(parts: &Parts) -> Option<u32>
-    requires { KeepsLimits (problem_of parts.now) }
+    requires { KeepsLimits (instance_of parts.now) }
     ensures { FindsFailure (length parts.now.processes.items)
-        (λ p. node_of (problem_of parts.now) p < length parts.now.nodes.items) result }
+        (λ p. node_of (instance_of parts.now) p < length parts.now.nodes.items) result }
 {
     for p in 0..parts.processes.len() {
         if parts.processes[p].node as usize >= parts.nodes.len() {
@@ -26,10 +26,10 @@ fn misplaced_process(parts: &Parts) -> Option<u32>
 
 /// The first link of a process that is not there.
 fn dangling_link(parts: &Parts) -> Option<u32>
-    requires { KeepsLimits (problem_of parts.now) }
+    requires { KeepsLimits (instance_of parts.now) }
     ensures { FindsFailure (length parts.now.links.items)
-        (λ l. IsProcess (problem_of parts.now) (link_at (problem_of parts.now) l).before
-        × IsProcess (problem_of parts.now) (link_at (problem_of parts.now) l).after) result }
+        (λ l. IsProcess (instance_of parts.now) (link_at (instance_of parts.now) l).before
+        × IsProcess (instance_of parts.now) (link_at (instance_of parts.now) l).after) result }
 {
     let count = parts.processes.len();
     for l in 0..parts.links.len() {
@@ -50,10 +50,10 @@ fn are_processes(indices: &[u32], count: usize) -> bool
 
 /// The first message from or to a process that is not there.
 fn dangling_message(parts: &Parts) -> Option<u32>
-    requires { KeepsLimits (problem_of parts.now) }
+    requires { KeepsLimits (instance_of parts.now) }
     ensures { FindsFailure (length parts.now.messages.items)
-        (λ m. IsProcess (problem_of parts.now) (message_at (problem_of parts.now) m).sender
-        × All (IsProcess (problem_of parts.now)) (message_at (problem_of parts.now) m).receivers) result }
+        (λ m. IsProcess (instance_of parts.now) (message_at (instance_of parts.now) m).sender
+        × All (IsProcess (instance_of parts.now)) (message_at (instance_of parts.now) m).receivers) result }
 {
     let count = parts.processes.len();
     for m in 0..parts.messages.len() {
@@ -67,8 +67,8 @@ fn dangling_message(parts: &Parts) -> Option<u32>
 
 /// The first place with an index that is not there.
 pub fn missing(parts: &Parts) -> Option<Place>
-    requires { KeepsLimits (problem_of parts.now) }
-    ensures { FindsPlace (NamesWhatIsThere (problem_of parts.now)) result }
+    requires { KeepsLimits (instance_of parts.now) }
+    ensures { FindsPlace (NamesWhatIsThere (instance_of parts.now)) result }
 {
     if let Some(p) = misplaced_process(parts) {
         return Some(Place::AtProcess(p));

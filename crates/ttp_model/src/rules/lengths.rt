@@ -2,7 +2,7 @@
 
 ghost use Rattle.std.specs.Prelude.{MatchOption, length};
 ghost use Rattle.ttp_model.specs.Lists.{FindsFailure};
-ghost use Rattle.ttp_model.specs.Parts.{problem_of};
+ghost use Rattle.ttp_model.specs.Parts.{instance_of};
 ghost use Rattle.ttp_model.specs.Rules.{KeepsLimits, HasReceiver};
 ghost use Rattle.ttp_model.specs.Refusals.{IsFirstWrongLength};
 
@@ -13,8 +13,8 @@ use crate::parts::Parts;
 /// The first list of a wrong length.
 pub fn wrong_length(parts: &Parts) -> Option<Part>
     ensures { MatchOption result
-        (KeepsLimits (problem_of parts.now))
-        (IsFirstWrongLength (problem_of parts.now)) }
+        (KeepsLimits (instance_of parts.now))
+        (IsFirstWrongLength (instance_of parts.now)) }
 {
     if parts.nodes.is_empty() || parts.nodes.len() > MOST_NODES {
         return Some(Part::Nodes);
@@ -33,8 +33,8 @@ pub fn wrong_length(parts: &Parts) -> Option<Part>
 
 /// The first message without a receiver.
 pub fn without_receiver(parts: &Parts) -> Option<u32>
-    requires { KeepsLimits (problem_of parts.now) }
-    ensures { FindsFailure (length parts.now.messages.items) (HasReceiver (problem_of parts.now)) result }
+    requires { KeepsLimits (instance_of parts.now) }
+    ensures { FindsFailure (length parts.now.messages.items) (HasReceiver (instance_of parts.now)) result }
 {
     for m in 0..parts.messages.len() {
         if parts.messages[m].receivers.is_empty() {

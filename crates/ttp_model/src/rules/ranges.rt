@@ -2,8 +2,8 @@
 
 ghost use Rattle.std.specs.Prelude.{◌≤◌, ◌↔◌, IsTrue, length};
 ghost use Rattle.ttp_model.specs.Lists.{FindsFailure};
-ghost use Rattle.ttp_model.specs.Problem.{process_at, message_at};
-ghost use Rattle.ttp_model.specs.Parts.{problem_of};
+ghost use Rattle.ttp_model.specs.Instance.{process_at, message_at};
+ghost use Rattle.ttp_model.specs.Parts.{instance_of};
 ghost use Rattle.ttp_model.specs.Rules.{KeepsLimits, IsInRange, IsClusterInRange, IsProcessInRange, IsCapacityList, HasCapacityList};
 ghost use Rattle.ttp_model.specs.Searches.{FindsPlace};
 
@@ -41,9 +41,9 @@ fn is_process_in_range(p: &Process) -> bool
 
 /// The first process with a time outside its range.
 fn untimely_process(parts: &Parts) -> Option<u32>
-    requires { KeepsLimits (problem_of parts.now) }
+    requires { KeepsLimits (instance_of parts.now) }
     ensures { FindsFailure (length parts.now.processes.items)
-        (λ p. IsProcessInRange (process_at (problem_of parts.now) p)) result }
+        (λ p. IsProcessInRange (process_at (instance_of parts.now) p)) result }
 {
     for p in 0..parts.processes.len() {
         if !is_process_in_range(&parts.processes[p]) {
@@ -55,10 +55,10 @@ fn untimely_process(parts: &Parts) -> Option<u32>
 
 /// The first message of no bytes, or too many.
 fn missized_message(parts: &Parts) -> Option<u32>
-    requires { KeepsLimits (problem_of parts.now) }
+    requires { KeepsLimits (instance_of parts.now) }
     ensures { FindsFailure (length parts.now.messages.items)
-        (λ m. (1 ≤ (message_at (problem_of parts.now) m).bytes)
-        × ((message_at (problem_of parts.now) m).bytes ≤ MOST_BYTES)) result }
+        (λ m. (1 ≤ (message_at (instance_of parts.now) m).bytes)
+        × ((message_at (instance_of parts.now) m).bytes ≤ MOST_BYTES)) result }
 {
     for m in 0..parts.messages.len() {
         let bytes = parts.messages[m].bytes;
@@ -71,8 +71,8 @@ fn missized_message(parts: &Parts) -> Option<u32>
 
 /// The first place with a number outside its range.
 pub fn out_of_range(parts: &Parts) -> Option<Place>
-    requires { KeepsLimits (problem_of parts.now) }
-    ensures { FindsPlace (IsInRange (problem_of parts.now)) result }
+    requires { KeepsLimits (instance_of parts.now) }
+    ensures { FindsPlace (IsInRange (instance_of parts.now)) result }
 {
     if !is_cluster_in_range(&parts.cluster) {
         return Some(Place::AtCluster);
@@ -102,8 +102,8 @@ fn is_capacity_list(capacities: &[u32]) -> bool
 
 /// The first node whose capacities are not allowed.
 pub fn wrong_capacities(parts: &Parts) -> Option<u32>
-    requires { KeepsLimits (problem_of parts.now) }
-    ensures { FindsFailure (length parts.now.nodes.items) (HasCapacityList (problem_of parts.now)) result }
+    requires { KeepsLimits (instance_of parts.now) }
+    ensures { FindsFailure (length parts.now.nodes.items) (HasCapacityList (instance_of parts.now)) result }
 {
     for n in 0..parts.nodes.len() {
         if !is_capacity_list(parts.nodes[n].capacities.as_slice()) {

@@ -1,7 +1,7 @@
 use Rattle.std.proofs.Common.{◌==◌, length, subst, ◌∙◌, ap, arith}
-use Rattle.tt_choice.specs.Choices.{Chosen}
+use Rattle.tt_choice.specs.Choice.{Choice}
 use Rattle.branch_tree.specs.declared.trial.Trial.{Trial}
-use Rattle.branch_tree.specs.Names.{Way}
+use Rattle.branch_tree.specs.Name.{Name}
 use Rattle.branch_tree.specs.Branching.{IsBranching}
 use Rattle.branch_tree.specs.Trials.{IsTrial, IsLeft}
 use Rattle.branch_tree.proofs.Splits.{split_of, root_places}
@@ -13,9 +13,9 @@ returns c =
     let t = c.args.task.now in
     let same = c.choice-choice.ensures in
     let left_there : IsLeft i c.choice-choice.result.now c.args.goal c.in-At.facts = subst (λ (x : Trial). IsTrial i c.choice-choice.result.now c.args.goal x) c.in-At.is c.in_ok-leaf.ensures in
-    let left : IsLeft i t.choice c.args.goal c.in-At.facts = subst (λ (d : Chosen). IsLeft i d c.args.goal c.in-At.facts) same left_there in
-    let branching : IsBranching i t.choice c.in_Some-kind.kind = subst (λ (d : Chosen). IsBranching i d c.in_Some-kind.kind) same c.in_Some-kind.ensures.branches in
-    let at_root = c.is_empty-at_root.ensures ∙ ap (λ (w : Way). length w == 0) (c.as_slice.ensures ∙ c.name.ensures) in
+    let left : IsLeft i t.choice c.args.goal c.in-At.facts = subst (λ (d : Choice). IsLeft i d c.args.goal c.in-At.facts) same left_there in
+    let branching : IsBranching i t.choice c.in_Some-kind.kind = subst (λ (d : Choice). IsBranching i d c.in_Some-kind.kind) same c.in_Some-kind.ensures.branches in
+    let at_root = c.is_empty-at_root.ensures ∙ ap (λ (w : Name). length w == 0) (c.as_slice.ensures ∙ c.name.ensures) in
     split_of i t c.args.goal c.in_Some-kind.kind c.in_ok-tasks.tasks.items c.requires left.above branching c.in_ok-tasks.ensures
     (root_places i t c.in_Some-kind.kind c.is_empty-at_root.result at_root
-    (λ root several some. c.in_Some-kind.ensures.root root several (omega (arith, some, ap (λ (d : Chosen). length d.prefix) same))))
+    (λ root several some. c.in_Some-kind.ensures.root root several (omega (arith, some, ap (λ (d : Choice). length d.prefix) same))))

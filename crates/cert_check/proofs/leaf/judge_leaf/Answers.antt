@@ -1,5 +1,5 @@
 use Rattle.std.proofs.Common.{◌+◌, ◌≤◌, arith, ap, ◌∙◌}
-use Rattle.tt_infer.specs.Inference.{Inference, after}
+use Rattle.tt_infer.specs.Facts.{Facts, after}
 use Rattle.cert_check.proofs.LeafSteps.{Lead-more, refused_at, told_on}
 use Rattle.cert_check.proofs.leaf.judge_leaf.Goals as goal
 
@@ -10,7 +10,7 @@ loop-place-preserved c =
     let taken = rw c.loop-place.invariant.about at c.in-Ok.ensures.step in
     let here = rw c.as_slice-steps.ensures.value at c.index-steps-place.is in
     record {
-      about = c.in-Ok.ensures.others ∙ ap (λ (s : Inference). after s known) c.loop-place.invariant.about;
+      about = c.in-Ok.ensures.others ∙ ap (λ (s : Facts). after s known) c.loop-place.invariant.about;
       lead = Lead-more c.args.instance.now c.args.choice.now c.args.leaf.now.goal steps c.loop-place.place c.index-steps-place.result c.loop-place.facts.known known (rw c.as_slice-steps.ensures.value at c.loop-place-test.true) here c.loop-place.invariant.lead taken.0 taken.1;
     }
 

@@ -1,5 +1,5 @@
 use Rattle.std.proofs.Common.{◌≡◌, take}
-use Rattle.tt_infer.specs.Facts.{first_facts}
+use Rattle.tt_infer.specs.Known.{first_facts}
 use Rattle.tt_infer.specs.Leaves.{Lead}
 use Rattle.cert_check.proofs.leaf.judge_leaf.Given as goal
 

@@ -1,4 +1,4 @@
-use Rattle.std.proofs.Common.{◌≤◌, ◌+◌, arith, ap, Err}
+use Rattle.std.proofs.Common.{◌≤◌, ◌+◌, ap, Err}
 use Rattle.cert_check.proofs.Bounds.{proved_bound, proved_none}
 use Rattle.cert_check.proofs.NoFaults.{only_memory}
 use Rattle.cert_check.proofs.walk.check.Goals as goal

@@ -1,4 +1,4 @@
-use Rattle.tt_choice.specs.Choices.{IsChoice}
+use Rattle.tt_choice.specs.Choice.{IsChoice}
 use Rattle.certificate_tests.proofs.decisions.chosen.Given as goal
 
 abbrev pub invariant-loop-decision : goal.invariant-loop-decision

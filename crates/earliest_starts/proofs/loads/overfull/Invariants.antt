@@ -1,5 +1,5 @@
 use Rattle.std.proofs.Common.{ℕ, ◌<◌, ◌≤◌, length, slice_index}
-use Rattle.tt_choice.specs.Totals.{total}
+use Rattle.ttp_model.specs.Totals.{total}
 use Rattle.earliest_starts.specs.Fixed.{fixed_caps, fixed_bytes}
 use Rattle.earliest_starts.proofs.loads.overfull.Given as goal
 

@@ -1,6 +1,6 @@
 use Rattle.std.proofs.Common.{◌+◌, ◌≤◌, length, arith, ap, sym, ◌∙◌}
 use Rattle.ttp_model.specs.declared.parts.Message.{Message}
-use Rattle.tt_choice.proofs.Bounds.{total_longer}
+use Rattle.ttp_model.proofs.Totals.{total_longer}
 use Rattle.earliest_starts.specs.Fixed.{fixed_bytes}
 use Rattle.earliest_starts.proofs.FrameLoads.{load_more, AreCounted-more, AreCounted-same}
 use Rattle.earliest_starts.proofs.loads.overfull_round.Goals as goal

@@ -1,5 +1,5 @@
 use Rattle.std.proofs.Common.{ℕ, ◌<◌, IsTrue}
-use Rattle.tt_choice.specs.Choices.{is_before}
+use Rattle.tt_choice.specs.Choice.{is_before}
 use Rattle.earliest_starts.proofs.ranks.before_first_alone.Given as goal
 
 abbrev pub invariant-loop-r : goal.invariant-loop-r

@@ -1,5 +1,5 @@
 use Rattle.std.proofs.Common.{ℕ, ◌<◌, slice_index, IsTrue}
-use Rattle.tt_choice.specs.Choices.{is_before}
+use Rattle.tt_choice.specs.Choice.{is_before}
 use Rattle.earliest_starts.proofs.ranks.disorder.Given as goal
 
 abbrev pub invariant-loop-p : goal.invariant-loop-p

@@ -1,6 +1,6 @@
 use Rattle.std.proofs.Common.{◌≡◌, ◌≤◌, if◌then◌else◌}
-use Rattle.tt_choice.specs.Totals.{total}
-use Rattle.tt_choice.specs.Choices.{is_before}
+use Rattle.ttp_model.specs.Totals.{total}
+use Rattle.tt_choice.specs.Choice.{is_before}
 use Rattle.earliest_starts.proofs.ranks.rank_of.Given as goal
 
 abbrev pub invariant-loop-q : goal.invariant-loop-q

@@ -1,6 +1,6 @@
 use Rattle.std.proofs.Common.{ℕ, ◌<◌, IsFalse}
-use Rattle.ttp_model.specs.Problem.{link_at}
-use Rattle.tt_choice.specs.Choices.{is_before}
+use Rattle.ttp_model.specs.Instance.{link_at}
+use Rattle.tt_choice.specs.Choice.{is_before}
 use Rattle.earliest_starts.proofs.ranks.turned_link.Given as goal
 
 abbrev pub invariant-loop-l : goal.invariant-loop-l

@@ -1,7 +1,7 @@
 use Rattle.std.proofs.Common.{◌≡◌, codes, arith}
 use Rattle.std.proofs.lemmas.Grind.{common_steps}
-use Rattle.ttp_model.specs.Problem.{node_at}
-use Rattle.spaced_words.proofs.CallerLemmas.{line_of_four}
+use Rattle.ttp_model.specs.Instance.{node_at}
+use Rattle.line_text.proofs.Pieces.{line_of_four}
 use Rattle.guardian_windows.specs.Text.{window_line}
 use Rattle.guardian_windows.proofs.text.push_line.Goals as goal
 

@@ -1,7 +1,7 @@
 -- One more process: it is the node's and makes a demand, or it is another's.
 use Rattle.std.proofs.Common.{◌≡◌, ◌≢◌, ◌+◌, ◌++◌, ◌∷◌, [], List, length, refl, arith, subst, sym, ap, ◌∙◌, length-append}
 use Rattle.ttp_model.specs.declared.parts.Process.{Process}
-use Rattle.ttp_model.specs.Problem.{Problem, process_at, node_of}
+use Rattle.ttp_model.specs.Instance.{Instance, process_at, node_of}
 use Rattle.load_bounds.specs.declared.demands.Demand.{Demand}
 use Rattle.load_bounds.specs.Gathered.{AreRuns}
 use Rattle.load_bounds.proofs.Gathered.{run_of, one_more_run, no_more_run}
@@ -14,7 +14,7 @@ loop-p-preserved c =
     let f = c.args.facts.now.known in
     let p = c.loop-p.p in
     let P : List Demand → Type 0 = λ ds. AreRuns i f c.args.node (p + 1) ds in
-    let same : c.process_at-process.result.now ≡ process_at i p = c.process_at-process.ensures.value ∙ ap (λ (j : Problem). process_at j p) c.instance-instance.ensures.value in
+    let same : c.process_at-process.result.now ≡ process_at i p = c.process_at-process.ensures.value ∙ ap (λ (j : Instance). process_at j p) c.instance-instance.ensures.value in
     elim c.if-process-node.branch [
       | then-process-node w ↦
           let node : node_of i p ≡ c.args.node = ap (λ (x : Process). x.node) (sym same) ∙ w.if-process-node.true in

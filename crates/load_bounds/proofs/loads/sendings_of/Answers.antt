@@ -1,6 +1,6 @@
 -- One more message: the node sends it and it makes a demand, or another sends it.
 use Rattle.std.proofs.Common.{◌≡◌, ◌≢◌, ◌+◌, ◌++◌, ◌∷◌, [], List, length, refl, arith, subst, sym, ap, ◌∙◌, length-append}
-use Rattle.ttp_model.specs.Problem.{Problem, message_at, source_of}
+use Rattle.ttp_model.specs.Instance.{Instance, message_at, source_of}
 use Rattle.load_bounds.specs.declared.demands.Demand.{Demand}
 use Rattle.load_bounds.specs.Gathered.{AreSendings}
 use Rattle.load_bounds.proofs.Gathered.{sending_of, one_more_sending, no_more_sending}
@@ -13,11 +13,11 @@ loop-m-preserved c =
     let f = c.args.facts.now.known in
     let m = c.loop-m.m in
     let P : List Demand → Type 0 = λ ds. AreSendings i f c.args.node (m + 1) ds in
-    let source : c.source_of.result ≡ source_of i m = c.source_of.ensures.value ∙ ap (λ (j : Problem). source_of j m) c.instance-instance.ensures.value in
+    let source : c.source_of.result ≡ source_of i m = c.source_of.ensures.value ∙ ap (λ (j : Instance). source_of j m) c.instance-instance.ensures.value in
     elim c.if-source_of-node.branch [
       | then-source_of-node w ↦
           let node : source_of i m ≡ c.args.node = sym source ∙ w.if-source_of-node.true in
-          let same : w.message_at.result.now ≡ message_at i m = w.message_at.ensures.value ∙ ap (λ (j : Problem). message_at j m) c.instance-instance.ensures.value in
+          let same : w.message_at.result.now ≡ message_at i m = w.message_at.ensures.value ∙ ap (λ (j : Instance). message_at j m) c.instance-instance.ensures.value in
           let added : c.if-source_of-node.sendings ≡ c.loop-m.sendings ++ sending_of i f m ∷ [] = w.sendings-is ∙ w.add.ensures ∙ rw (w.lo-from.ensures, w.top-until.ensures, same) refl in
           record {
             few = omega (arith, ap length added, length-append c.loop-m.sendings (sending_of i f m ∷ []));

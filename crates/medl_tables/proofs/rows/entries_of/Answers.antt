@@ -1,7 +1,7 @@
 use Rattle.std.proofs.Common.{◌∙◌, refl, sym, ap, arith}
 use Rattle.std.proofs.lemmas.Bool.{false≢true}
-use Rattle.std.proofs.lemmas.List.FromFn.{sum_by-map-range_with_len_more}
 use Rattle.ttp_model.specs.Plans.{bytes_in}
+use Rattle.ttp_model.proofs.Totals.{total_next}
 use Rattle.medl_tables.specs.declared.row.Entry.{Entry}
 use Rattle.medl_tables.specs.Rows.{entry_of, is_entry}
 use Rattle.medl_tables.proofs.FrameEntries.{entries_of-none, filter-left, filter-taken}
@@ -18,7 +18,7 @@ loop-m-preserved c =
     let i = c.args.instance.now in
     let plan = c.args.plan.now in
     let m = c.loop-m.m in
-    let more = sum_by-map-range_with_len_more (λ x. x) (bytes_in i plan c.args.n c.args.r) 0 m m (omega arith) in
+    let more = total_next (bytes_in i plan c.args.n c.args.r) m in
     let shows = λ (e : Entry). is_entry i plan c.args.node c.args.n c.args.r e.message in
     record {
       entries = elim c.if-is_entry.branch [

@@ -4,9 +4,6 @@ use Rattle.std.proofs.lemmas.List.FromFn.{map-range_with_len_more}
 use Rattle.medl_tables.specs.Rows.{row_of}
 use Rattle.medl_tables.proofs.rows.push_round.Goals as goal
 
-pub row_of-requires-clause-sends : goal.row_of-requires-clause-sends
-row_of-requires-clause-sends c = rw c.as_slice.ensures at c.has-sends.ensures
-
 pub loop-k-preserved : goal.loop-k-preserved
 loop-k-preserved c =
     let f = row_of c.args.instance.now c.args.plan.now c.args.node c.args.round in

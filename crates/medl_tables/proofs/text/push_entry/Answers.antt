@@ -1,7 +1,7 @@
 use Rattle.std.proofs.Common.{◌≡◌, codes, arith}
 use Rattle.std.proofs.lemmas.Grind.{common_steps}
-use Rattle.ttp_model.specs.Problem.{message_at}
-use Rattle.spaced_words.proofs.CallerLemmas.{spaced-append, three_pieces}
+use Rattle.ttp_model.specs.Instance.{message_at}
+use Rattle.line_text.proofs.Pieces.{spaced-append, three_pieces}
 use Rattle.medl_tables.specs.Text.{entry_text}
 use Rattle.medl_tables.proofs.text.push_entry.Goals as goal
 

@@ -1,7 +1,7 @@
 use Rattle.std.proofs.Common.{◌≡◌, codes, arith}
 use Rattle.std.proofs.lemmas.Grind.{common_steps}
-use Rattle.ttp_model.specs.Problem.{node_at}
-use Rattle.spaced_words.proofs.CallerLemmas.{line_of_four_and_more}
+use Rattle.ttp_model.specs.Instance.{node_at}
+use Rattle.line_text.proofs.Pieces.{line_of_four_and_more}
 use Rattle.medl_tables.specs.Text.{row_line}
 use Rattle.medl_tables.proofs.text.push_row.Goals as goal
 

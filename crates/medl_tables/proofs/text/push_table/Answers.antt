@@ -1,8 +1,8 @@
 use Rattle.std.proofs.Common.{◌≡◌, codes, arith}
 use Rattle.std.proofs.lemmas.Grind.{common_steps}
 use Rattle.std.proofs.lemmas.List.{take_all}
-use Rattle.ttp_model.specs.Problem.{node_at}
-use Rattle.spaced_words.proofs.CallerLemmas.{four_pieces}
+use Rattle.ttp_model.specs.Instance.{node_at}
+use Rattle.line_text.proofs.Pieces.{four_pieces}
 use Rattle.medl_tables.specs.Text.{table_text}
 use Rattle.medl_tables.proofs.text.push_table.Goals as goal
 

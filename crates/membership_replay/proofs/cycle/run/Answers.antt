@@ -1,7 +1,7 @@
 use Rattle.std.proofs.Common.{◌≡◌, ◌∙◌, length, refl, ap, arith}
 use Rattle.std.proofs.lemmas.List.FromFn.{length-map-range_with_len, map-range_with_len_more}
 use Rattle.medl_tables.proofs.TableParts.{tables-length}
-use Rattle.membership_replay.specs.Replay.{first_state, slot_of}
+use Rattle.membership_replay.specs.Trace.{first_state, slot_of}
 use Rattle.membership_replay.proofs.TableSlots.{length-next_states, row_at-read, sender_inside, states_before-first, states_before-more}
 use Rattle.membership_replay.proofs.cycle.run.Goals as goal
 

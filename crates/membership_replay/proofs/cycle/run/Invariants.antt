@@ -1,6 +1,6 @@
 use Rattle.std.proofs.Common.{◌≡◌, length, map}
 use Rattle.std.specs.List.{range_with_len}
-use Rattle.membership_replay.specs.Replay.{slot_of, states_before}
+use Rattle.membership_replay.specs.Trace.{slot_of, states_before}
 use Rattle.membership_replay.proofs.cycle.run.Given as goal
 
 abbrev pub invariant-loop-slot : goal.invariant-loop-slot

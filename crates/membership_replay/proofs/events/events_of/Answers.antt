@@ -1,6 +1,6 @@
 use Rattle.std.proofs.Common.{ℕ}
 use Rattle.tt_layout.proofs.Ranges.{flat_map-range_with_len_more}
-use Rattle.membership_replay.specs.Replay.{node_events, row_at}
+use Rattle.membership_replay.specs.Trace.{node_events, row_at}
 use Rattle.membership_replay.proofs.events.events_of.Goals as goal
 
 pub loop-i-preserved : goal.loop-i-preserved

@@ -1,6 +1,6 @@
 use Rattle.std.proofs.Common.{◌≡◌}
 use Rattle.std.specs.List.{flat_map, range_with_len}
-use Rattle.membership_replay.specs.Replay.{node_events, row_at}
+use Rattle.membership_replay.specs.Trace.{node_events, row_at}
 use Rattle.membership_replay.proofs.events.events_of.Given as goal
 
 abbrev pub invariant-loop-i : goal.invariant-loop-i

@@ -1,5 +1,5 @@
 use Rattle.std.proofs.Common.{◌≡◌, ◌++◌, take}
-use Rattle.membership_replay.specs.Replay.{deliveries}
+use Rattle.membership_replay.specs.Trace.{deliveries}
 use Rattle.membership_replay.proofs.events.push_deliveries.Given as goal
 
 abbrev pub invariant-loop-entry : goal.invariant-loop-entry

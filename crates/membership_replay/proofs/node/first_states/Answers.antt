@@ -1,6 +1,6 @@
 use Rattle.std.proofs.Common.{ℕ, refl, arith}
 use Rattle.std.proofs.lemmas.List.FromFn.{map-range_with_len_more}
-use Rattle.membership_replay.specs.Replay.{first_state}
+use Rattle.membership_replay.specs.Trace.{first_state}
 use Rattle.membership_replay.proofs.node.first_states.Goals as goal
 
 pub loop-i-preserved : goal.loop-i-preserved

@@ -1,6 +1,6 @@
 use Rattle.std.proofs.Common.{◌≡◌, map}
 use Rattle.std.specs.List.{range_with_len}
-use Rattle.membership_replay.specs.Replay.{first_state}
+use Rattle.membership_replay.specs.Trace.{first_state}
 use Rattle.membership_replay.proofs.node.first_states.Given as goal
 
 abbrev pub invariant-loop-i : goal.invariant-loop-i

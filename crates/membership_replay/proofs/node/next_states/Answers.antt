@@ -1,6 +1,6 @@
 use Rattle.std.proofs.Common.{refl, arith}
 use Rattle.std.proofs.lemmas.List.FromFn.{map-range_with_len_more}
-use Rattle.membership_replay.specs.Replay.{next_state}
+use Rattle.membership_replay.specs.Trace.{next_state}
 use Rattle.membership_replay.proofs.node.next_states.Goals as goal
 
 pub loop-i-preserved : goal.loop-i-preserved

@@ -1,6 +1,6 @@
 use Rattle.std.proofs.Common.{◌≡◌, map}
 use Rattle.std.specs.List.{range_with_len}
-use Rattle.membership_replay.specs.Replay.{next_state}
+use Rattle.membership_replay.specs.Trace.{next_state}
 use Rattle.membership_replay.proofs.node.next_states.Given as goal
 
 abbrev pub invariant-loop-i : goal.invariant-loop-i

@@ -1,5 +1,5 @@
 use Rattle.std.proofs.Common.{codes}
-use Rattle.spaced_words.proofs.CallerLemmas.{four_pieces}
+use Rattle.line_text.proofs.Pieces.{four_pieces}
 use Rattle.membership_replay.specs.Text.{member_line}
 use Rattle.membership_replay.proofs.text.push_members.Goals as goal
 

@@ -1,5 +1,5 @@
 use Rattle.std.proofs.Common.{vec_len}
-use Rattle.path_bounds.specs.Logs.{Advances}
+use Rattle.path_bounds.specs.Journal.{Advances}
 use Rattle.path_bounds.proofs.acceleration.try_all.Given as goal
 
 abbrev pub invariant-tries : goal.invariant-tries

@@ -1,5 +1,5 @@
 use Rattle.std.proofs.Common.{◌≡◌, ℕ, ◌+◌, ◌<◌, length, slice_index}
-use Rattle.ttp_model.specs.Problem.{process_at}
+use Rattle.ttp_model.specs.Instance.{process_at}
 use Rattle.path_bounds.proofs.chains.first_ends.Given as goal
 
 abbrev pub invariant-loop-p : goal.invariant-loop-p

@@ -1,5 +1,5 @@
 use Rattle.std.proofs.Common.{◌<◌, ◌≡◌, ℕ, ◌+◌, ◌≤◌, List, length, slice_index, arith, ap, ◌∙◌}
-use Rattle.ttp_model.specs.Problem.{process_at, message_at, source_of}
+use Rattle.ttp_model.specs.Instance.{process_at, message_at, source_of}
 use Rattle.ttp_model.specs.Chains.{least_transfer}
 use Rattle.ttp_model.specs.declared.parts.Process.{Process}
 use Rattle.ttp_model.specs.declared.parts.Message.{Message}

@@ -1,5 +1,5 @@
 use Rattle.std.proofs.Common.{ℕ, ◌+◌, ◌<◌, ◌≤◌, slice_index, Contains}
-use Rattle.ttp_model.specs.Problem.{message_at, process_at, source_of}
+use Rattle.ttp_model.specs.Instance.{message_at, process_at, source_of}
 use Rattle.ttp_model.specs.Chains.{least_transfer}
 use Rattle.path_bounds.specs.Walks.{AreChainEnds, AreKept}
 use Rattle.path_bounds.proofs.chains.follow_messages.Given as goal

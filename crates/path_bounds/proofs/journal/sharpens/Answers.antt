@@ -1,6 +1,6 @@
 use Rattle.std.proofs.Common.{◌≡◌, ap, sym, ◌∙◌}
-use Rattle.tt_infer.specs.Inference.{after}
-use Rattle.path_bounds.specs.Targets.{target, value_of}
+use Rattle.tt_infer.specs.Facts.{after}
+use Rattle.path_bounds.specs.Targets.{target, known_value}
 use Rattle.path_bounds.proofs.Logs.{sharpens_changed, stays_same, differ_from, same_from, idle_taken, idle_refused}
 use Rattle.path_bounds.proofs.journal.sharpens.Goals as goal
 
@@ -10,7 +10,7 @@ returns-in-Ok-clause-sharper c = λ sharper.
     let fact : c.target-fact.result ≡ target s.instance c.args.step.now = rw c.instance.ensures.value at c.target-fact.ensures in
     let apart = differ_from _ _ sharper in
     sharpens_changed s c.args.step.now c.apply.new.self.known c.instance.ensures.inference c.in-Ok.ensures.step.0 c.in-Ok.ensures.step.1
-    (λ same. apart (c.value.ensures ∙ ap (value_of c.apply.new.self.known) fact ∙ same ∙ sym (ap (value_of s.known) fact) ∙ sym c.value-before.ensures))
+    (λ same. apart (c.value.ensures ∙ ap (known_value c.apply.new.self.known) fact ∙ same ∙ sym (ap (known_value s.known) fact) ∙ sym c.value-before.ensures))
 
 pub returns-in-Ok-clause-same : goal.returns-in-Ok-clause-same
 returns-in-Ok-clause-same c = λ fails.
@@ -18,7 +18,7 @@ returns-in-Ok-clause-same c = λ fails.
     let fact : c.target-fact.result ≡ target s.instance c.args.step.now = rw c.instance.ensures.value at c.target-fact.ensures in
     let same = same_from _ _ fails in
     let known = stays_same s c.args.step.now c.apply.new.self.known c.instance.ensures.inference c.in-Ok.ensures.step.1
-    (sym (ap (value_of c.apply.new.self.known) fact) ∙ sym c.value.ensures ∙ same ∙ c.value-before.ensures ∙ ap (value_of s.known) fact) in
+    (sym (ap (known_value c.apply.new.self.known) fact) ∙ sym c.value.ensures ∙ same ∙ c.value-before.ensures ∙ ap (known_value s.known) fact) in
     c.apply.ensures.others ∙ ap (after s) known
 
 pub returns-in-Ok-clause-idle : goal.returns-in-Ok-clause-idle
@@ -27,7 +27,7 @@ returns-in-Ok-clause-idle c = λ fails.
     let fact : c.target-fact.result ≡ target s.instance c.args.step.now = rw c.instance.ensures.value at c.target-fact.ensures in
     let same = same_from _ _ fails in
     let known = stays_same s c.args.step.now c.apply.new.self.known c.instance.ensures.inference c.in-Ok.ensures.step.1
-    (sym (ap (value_of c.apply.new.self.known) fact) ∙ sym c.value.ensures ∙ same ∙ c.value-before.ensures ∙ ap (value_of s.known) fact) in
+    (sym (ap (known_value c.apply.new.self.known) fact) ∙ sym c.value.ensures ∙ same ∙ c.value-before.ensures ∙ ap (known_value s.known) fact) in
     idle_taken s c.args.step.now c.apply.new.self.known c.in-Ok.ensures.step.1 known
 
 pub returns-in-Err-clause-idle : goal.returns-in-Err-clause-idle

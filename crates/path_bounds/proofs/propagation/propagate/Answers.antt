@@ -1,13 +1,13 @@
 use Rattle.std.proofs.Common.{rules, arith, refl, ap, sym, ◌∙◌, Ok, IsFalse}
-use Rattle.tt_infer.specs.Inference.{Inference}
+use Rattle.tt_infer.specs.Facts.{Facts}
 use Rattle.path_bounds.specs.declared.reached.Reached.TheVariants.{Closed, At}
-use Rattle.path_bounds.specs.Logs.{Log}
+use Rattle.path_bounds.specs.Journal.{Journal}
 use Rattle.path_bounds.proofs.Counts.{appended_of, about_of}
 use Rattle.path_bounds.proofs.propagation.propagate.Goals as goal
 
 pub reach-done-requires-clause-begins : goal.reach-done-requires-clause-begins
 reach-done-requires-clause-begins c =
-    let first = ap (λ (log : Log). log.facts) c.new-journal.ensures ∙ c.in_ok-first.ensures in
+    let first = ap (λ (log : Journal). log.facts) c.new-journal.ensures ∙ c.in_ok-first.ensures in
     rw first refl
 
 pub returns-in_err-done-clause-appended : goal.returns-in_err-done-clause-appended
@@ -21,12 +21,12 @@ returns-clause-appended c = appended_of c.args.instance.now c.args.choice.now c.
 
 pub returns-clause-bound : goal.returns-clause-bound
 returns-clause-bound c = λ bound is le.
-    let left : IsFalse c.reach-done.new.journal.facts.known.closed = ap (λ (s : Inference). s.known.closed) (sym c.into_parts-facts.ensures.facts) ∙ sym c.closed.ensures.value ∙ c.if-closed.false in
-    let at = ap (λ (s : Inference). s.goal) (ap (λ (log : Log). log.facts) c.new-journal.ensures ∙ c.in_ok-first.ensures) in
+    let left : IsFalse c.reach-done.new.journal.facts.known.closed = ap (λ (s : Facts). s.known.closed) (sym c.into_parts-facts.ensures.facts) ∙ sym c.closed.ensures.value ∙ c.if-closed.false in
+    let at = ap (λ (s : Facts). s.goal) (ap (λ (log : Journal). log.facts) c.new-journal.ensures ∙ c.in_ok-first.ensures) in
     absurd (omega (arith, c.in_ok-done.ensures.above left bound is, at, le))
 
 pub returns-clause-complete : goal.returns-clause-complete
 returns-clause-complete c = λ done.
-    let left : IsFalse c.reach-done.new.journal.facts.known.closed = ap (λ (s : Inference). s.known.closed) (sym c.into_parts-facts.ensures.facts) ∙ sym c.closed.ensures.value ∙ c.if-closed.false in
-    let at = ap (λ (s : Inference). s.goal) (ap (λ (log : Log). log.facts) c.new-journal.ensures ∙ c.in_ok-first.ensures) in
+    let left : IsFalse c.reach-done.new.journal.facts.known.closed = ap (λ (s : Facts). s.known.closed) (sym c.into_parts-facts.ensures.facts) ∙ sym c.closed.ensures.value ∙ c.if-closed.false in
+    let at = ap (λ (s : Facts). s.goal) (ap (λ (log : Journal). log.facts) c.new-journal.ensures ∙ c.in_ok-first.ensures) in
     rw at at (c.in_ok-done.ensures.found done left)

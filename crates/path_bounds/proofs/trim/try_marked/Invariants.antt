@@ -1,4 +1,4 @@
-use Rattle.path_bounds.specs.Logs.{Advances}
+use Rattle.path_bounds.specs.Journal.{Advances}
 use Rattle.path_bounds.proofs.trim.try_marked.Given as goal
 
 abbrev pub invariant-tries : goal.invariant-tries

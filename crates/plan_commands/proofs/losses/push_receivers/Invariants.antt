@@ -1,6 +1,6 @@
 use Rattle.std.proofs.Common.{◌≡◌, ◌++◌, ◌==◌, map, filter, not}
 use Rattle.std.specs.List.{range_with_len}
-use Rattle.membership_replay.specs.Replay.{row_at}
+use Rattle.membership_replay.specs.Trace.{row_at}
 use Rattle.plan_commands.specs.LossWords.{loss_at}
 use Rattle.plan_commands.proofs.losses.push_receivers.Given as goal
 

@@ -2,7 +2,7 @@ use Rattle.std.proofs.Common.{List, Err, sym, subst}
 use Rattle.branch_tree.specs.declared.piece.Piece.{Piece}
 use Rattle.std.proofs.lemmas.Result.{MatchResult-weaker, IfOk-weaker}
 use Rattle.std.proofs.lemmas.List.Sorted.{IsPermutation-sym}
-use Rattle.planner.specs.Gathering.{IsFirstFault, IsGathered}
+use Rattle.planner.specs.Gathering.{IsFirstGatherFault, IsGathered}
 use Rattle.planner.specs.Order.{IsSound}
 use Rattle.planner.proofs.Gathered.{gathered}
 use Rattle.planner.proofs.Moved.{first_fault_moves}
@@ -27,13 +27,13 @@ returns-in-Ok-clause-ok c =
 pub returns-in-Ok-clause-err : goal.returns-in-Ok-clause-err
 returns-in-Ok-clause-err c =
     MatchResult-weaker c.certified.result c.certified.ensures.err (λ x h. h)
-    (λ fault e. subst (IsFirstFault c.args.low c.args.pieces.items) (sym e) tt)
+    (λ fault e. subst (IsFirstGatherFault c.args.low c.args.pieces.items) (sym e) tt)
 
 pub returns-in-Err-clause-err : goal.returns-in-Err-clause-err
 returns-in-Err-clause-err c =
     let sorted = c.sort_by_name.new.pieces.items in
     let fault = c.in-Err.fault in
-    let told = subst (λ (xs : List Piece). IsFirstFault c.args.low xs fault) c.as_slice.ensures.value c.in-Err.ensures.err in
+    let told = subst (λ (xs : List Piece). IsFirstGatherFault c.args.low xs fault) c.as_slice.ensures.value c.in-Err.ensures.err in
     first_fault_moves c.args.low sorted c.args.pieces.items fault (IsPermutation-sym c.args.pieces.items sorted c.sort_by_name.ensures.same) told
 
 pub returns-in-Ok-clause-only : goal.returns-in-Ok-clause-only

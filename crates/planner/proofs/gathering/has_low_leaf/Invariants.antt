@@ -1,6 +1,6 @@
 use Rattle.std.specs.List.{AllWithin}
 use Rattle.branch_tree.specs.declared.piece.Piece.{Piece}
-use Rattle.cert_check.specs.Proofs.{HasGoal}
+use Rattle.planner.specs.Gathering.{HasGoal}
 use Rattle.planner.proofs.gathering.has_low_leaf.Given as goal
 
 abbrev pub invariant-loop-piece : goal.invariant-loop-piece

@@ -1,7 +1,7 @@
 use Rattle.std.proofs.Common.{List, [], ◌++◌, ◌∙◌, ap, sym, subst}
 use Rattle.branch_tree.specs.declared.piece.Piece.{Piece}
 use Rattle.branch_tree.specs.Account.{IsWholeTree}
-use Rattle.search_core.specs.Moments.{all_pieces}
+use Rattle.search_core.specs.World.{all_pieces}
 use Rattle.planner.specs.Gathering.{AreShallow, HaveGoals, IsGathered}
 use Rattle.planner.proofs.Ending.{end_shallow, end_whole, end_goals, end_low, ended}
 use Rattle.planner.proofs.Searched.{search_answers}

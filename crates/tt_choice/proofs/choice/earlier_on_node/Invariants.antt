@@ -1,6 +1,6 @@
 use Rattle.std.proofs.Common.{◌≡◌, ◌≤◌, if◌then◌else◌}
-use Rattle.tt_choice.specs.Totals.{total}
-use Rattle.tt_choice.specs.Choices.{is_unordered}
+use Rattle.ttp_model.specs.Totals.{total}
+use Rattle.tt_choice.specs.Choice.{is_unordered}
 use Rattle.tt_choice.specs.Branches.{open_choice}
 use Rattle.tt_choice.proofs.choice.earlier_on_node.Given as goal
 

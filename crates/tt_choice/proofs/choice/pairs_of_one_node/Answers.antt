@@ -1,7 +1,7 @@
 use Rattle.std.proofs.Common.{arith}
-use Rattle.tt_choice.specs.Choices.{unordered_below}
+use Rattle.ttp_model.proofs.Totals.{total_next}
+use Rattle.tt_choice.specs.Choice.{unordered_below}
 use Rattle.tt_choice.specs.Branches.{open_choice}
-use Rattle.tt_choice.proofs.Totals.{total_next}
 use Rattle.tt_choice.proofs.choice.pairs_of_one_node.Goals as goal
 
 pub loop-p-preserved : goal.loop-p-preserved

@@ -1,5 +1,5 @@
 use Rattle.std.proofs.Common.{◌≡◌, ℕ, ◌<◌, Contains}
-use Rattle.ttp_model.specs.Problem.{message_at}
+use Rattle.ttp_model.specs.Instance.{message_at}
 use Rattle.tt_infer.proofs.ahead.has_message.Given as goal
 
 abbrev pub invariant-loop-m : goal.invariant-loop-m

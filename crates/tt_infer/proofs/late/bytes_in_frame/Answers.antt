@@ -1,5 +1,5 @@
 use Rattle.std.proofs.Common.{arith}
-use Rattle.tt_choice.proofs.Totals.{total_next}
+use Rattle.ttp_model.proofs.Totals.{total_next}
 use Rattle.tt_infer.specs.Dominance.{bytes_beside}
 use Rattle.tt_infer.proofs.late.bytes_in_frame.Goals as goal
 

@@ -1,6 +1,6 @@
 use Rattle.std.proofs.Common.{◌≡◌, ◌*◌, ◌≤◌}
 use Rattle.ttp_model.specs.declared.limits.TheConstants.{MOST_BYTES}
-use Rattle.tt_choice.specs.Totals.{total}
+use Rattle.ttp_model.specs.Totals.{total}
 use Rattle.tt_infer.specs.Dominance.{bytes_beside}
 use Rattle.tt_infer.proofs.late.bytes_in_frame.Given as goal
 

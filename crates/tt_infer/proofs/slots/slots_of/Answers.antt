@@ -3,16 +3,16 @@ use Rattle.std.proofs.lemmas.Bool.{cases_lt}
 use Rattle.std.proofs.Math.ListN.{get_or-append, length-append}
 use Rattle.std.proofs.Math.Seq.{get_or-append_seam}
 use Rattle.tt_infer.specs.declared.slots.SlotTimes.{SlotTimes}
-use Rattle.tt_infer.specs.Sought.{AreSlotTimes, AreShort, slot_at, no_slot}
+use Rattle.tt_infer.specs.Setting.{AreSlotTimes, AreShort, slot_times_at, no_slot_times}
 use Rattle.tt_infer.proofs.slots.slots_of.Goals as goal
 
 -- what holds of each slot so far, and of one more
-one_more : (P : ℕ → SlotTimes → Type 0) (slots : List SlotTimes) (slot : SlotTimes) (n : ℕ) → length slots ≡ n → ((k : ℕ) → k < n → P k (slot_at slots k)) → P n slot → (k : ℕ) → k < n + 1 → P k (slot_at (slots ++ slot ∷ []) k)
+one_more : (P : ℕ → SlotTimes → Type 0) (slots : List SlotTimes) (slot : SlotTimes) (n : ℕ) → length slots ≡ n → ((k : ℕ) → k < n → P k (slot_times_at slots k)) → P n slot → (k : ℕ) → k < n + 1 → P k (slot_times_at (slots ++ slot ∷ []) k)
 one_more P slots slot n size each last k below = elim (cases_lt k n) [
-  | inl before ↦ rw (get_or-append slots (slot ∷ []) no_slot k (omega (arith, size, before))) (each k before)
+  | inl before ↦ rw (get_or-append slots (slot ∷ []) no_slot_times k (omega (arith, size, before))) (each k before)
   | inr over ↦
       let same : k ≡ length slots = omega (arith, over, below, size) in
-      rw (same, get_or-append_seam slots slot [] no_slot) (rw size last)
+      rw (same, get_or-append_seam slots slot [] no_slot_times) (rw size last)
 ]
 
 pub loop-n-preserved : goal.loop-n-preserved

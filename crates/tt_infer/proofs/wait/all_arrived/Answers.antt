@@ -1,7 +1,7 @@
-use Rattle.std.proofs.Common.{◌≡◌, suc, ◌+◌, ◌<◌, ◌≤◌, length, arith, ap, below_more}
+use Rattle.std.proofs.Common.{◌≡◌, length, arith, ap, below_more}
 use Rattle.std.proofs.lemmas.Bool.{both_ways}
 use Rattle.tt_infer.specs.Dominance.{IsSentTo, last_arrival}
-use Rattle.tt_infer.proofs.GreatestWaits.{greatest_of_more, greatest_of_same}
+use Rattle.ttp_model.proofs.Raising.{raised_more, raised_same}
 use Rattle.tt_infer.proofs.wait.all_arrived.Goals as goal
 use Rattle.tt_infer.proofs.wait.all_arrived.Goals.{then-receives+else-top-eq0, else-receives}
 
@@ -16,20 +16,19 @@ loop-m-preserved c =
     let i = c.args.setting.now.instance in
     let is = IsSentTo i c.args.p in
     let value = last_arrival i c.args.setting.now.choice c.args.known.now in
-    let next : c.loop-m.m + 1 ≡ suc c.loop-m.m = omega arith in
     elim c.if-receives.branch [
       | then-receives+else-top-eq0 w ↦ (
           let sent : is c.loop-m.m = rw c.instance-instance.ensures at (c.receives.ensures.is.0 w.if-receives.true) in
           record {
             rounds = below_more _ _ c.loop-m.invariant.rounds (λ of. omega (arith, w.top.ensures, w.if-top-eq0.false));
-            last = rw (next, w.time-is, w.max-time.ensures, w.last_arrival.ensures.value) (greatest_of_more is value c.args.ended c.loop-m.m c.loop-m.time sent c.loop-m.invariant.last);
+            last = rw (w.time-is, w.max-time.ensures, w.last_arrival.ensures.value) (raised_more is value c.args.ended c.loop-m.m c.loop-m.time c.loop-m.invariant.last sent);
             bound = omega (arith, w.time-is, w.max-time.ensures, w.last_arrival.ensures.bound, c.loop-m.invariant.bound);
           })
       | else-receives w ↦ (
           let not_sent : ¬ is c.loop-m.m = λ sent. both_ways _ w.if-receives.false (c.receives.ensures.is.1 (rw c.instance-instance.ensures sent)) in
           record {
             rounds = below_more _ _ c.loop-m.invariant.rounds (λ sent. absurd (not_sent sent));
-            last = rw (next, w.time-is) (greatest_of_same is value c.args.ended c.loop-m.m c.loop-m.time not_sent c.loop-m.invariant.last);
+            last = rw w.time-is (raised_same is value c.args.ended c.loop-m.m c.loop-m.time c.loop-m.invariant.last (λ sent. absurd (not_sent sent)));
             bound = omega (arith, w.time-is, c.loop-m.invariant.bound);
           })
     ]

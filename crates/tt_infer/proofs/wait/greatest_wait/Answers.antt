@@ -1,4 +1,4 @@
-use Rattle.std.proofs.Common.{ℕ, Option, None, Some, IfSome, arith}
+use Rattle.std.proofs.Common.{ℕ, Option, None, Some, IfSome}
 use Rattle.tt_infer.proofs.GreatestWaits.{greatest_wait_from}
 use Rattle.tt_infer.proofs.wait.greatest_wait.Goals as goal
 

@@ -1,6 +1,6 @@
 use Rattle.std.proofs.Common.{◌≡◌, length, refl, ap, slice_index, ◌∙◌}
 use Rattle.ttp_model.specs.Lists.{EachBelow}
-use Rattle.ttp_model.specs.Problem.{message_at}
+use Rattle.ttp_model.specs.Instance.{message_at}
 use Rattle.ttp_model.specs.Plans.{start_of}
 use Rattle.tt_settle.specs.Settling.{RestsAtStart, RestsInRound, RestsWithMessages}
 use Rattle.tt_settle.proofs.Trying.{tried_none, tried_valid, tried_then}

@@ -1,6 +1,6 @@
 use Rattle.std.proofs.Common.{◌≡◌}
 use Rattle.ttp_model.specs.Lists.{EachBelow}
-use Rattle.ttp_model.specs.Problem.{message_at}
+use Rattle.ttp_model.specs.Instance.{message_at}
 use Rattle.tt_settle.specs.Settling.{RestsInRound}
 use Rattle.tt_settle.proofs.Trying.{tried_valid, tried_more}
 use Rattle.tt_settle.proofs.passes.send_all_of.Goals as goal

@@ -1,6 +1,6 @@
 use Rattle.std.proofs.Common.{◌≡◌, refl, ap, ◌∙◌}
 use Rattle.ttp_model.specs.declared.parts.Message.{Message}
-use Rattle.ttp_model.specs.Problem.{message_at}
+use Rattle.ttp_model.specs.Instance.{message_at}
 use Rattle.tt_settle.specs.Settling.{RestsInRound}
 use Rattle.tt_settle.proofs.Trying.{tried_as, tried_none}
 use Rattle.tt_settle.proofs.passes.send_if.Goals as goal

@@ -1,4 +1,5 @@
-use Rattle.tt_settle.specs.Reasons.{IsRaised, LeadsTo, link_end}
+use Rattle.ttp_model.specs.Raising.{IsRaised}
+use Rattle.tt_settle.specs.Reasons.{LeadsTo, link_end}
 use Rattle.tt_settle.proofs.starts.after_links.Given as goal
 
 abbrev pub invariant-loop-l : goal.invariant-loop-l

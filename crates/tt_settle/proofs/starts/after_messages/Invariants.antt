@@ -1,4 +1,5 @@
-use Rattle.tt_settle.specs.Reasons.{IsRaised, Receives, arrival}
+use Rattle.ttp_model.specs.Raising.{IsRaised}
+use Rattle.tt_settle.specs.Reasons.{Receives, arrival}
 use Rattle.tt_settle.proofs.starts.after_messages.Given as goal
 
 abbrev pub invariant-loop-m : goal.invariant-loop-m

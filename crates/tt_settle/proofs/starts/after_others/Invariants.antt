@@ -1,5 +1,6 @@
 use Rattle.ttp_model.specs.Plans.{end_of}
-use Rattle.tt_settle.specs.Reasons.{IsRaised, GoesBefore}
+use Rattle.ttp_model.specs.Raising.{IsRaised}
+use Rattle.tt_settle.specs.Reasons.{GoesBefore}
 use Rattle.tt_settle.proofs.starts.after_others.Given as goal
 
 abbrev pub invariant-loop-q : goal.invariant-loop-q

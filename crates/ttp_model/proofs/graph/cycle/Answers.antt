@@ -1,6 +1,6 @@
 use Rattle.std.proofs.Common.{ℕ, List, length, nat_lt, subst, sym, arith}
 use Rattle.std.specs.List.{IsFirstBest}
-use Rattle.ttp_model.specs.Parts.{problem_of}
+use Rattle.ttp_model.specs.Parts.{instance_of}
 use Rattle.ttp_model.specs.Turns.{AreStuck}
 use Rattle.ttp_model.proofs.ClosedWalks.{IsAcyclic_from, IsCycle_told}
 use Rattle.ttp_model.proofs.graph.cycle.Goals as goal
@@ -12,7 +12,7 @@ returns-in-None c =
     IsAcyclic_from _ _ c.requires.indices turns.turns (λ p h. none p (omega (arith, turns.length)))
 
 pub walk_from-requires-clause-stuck : goal.walk_from-requires-clause-stuck
-walk_from-requires-clause-stuck c = subst (λ turns. AreStuck (problem_of c.args.parts.now) turns) (sym c.as_slice-in-Some.ensures.value) c.in_ok-turns.ensures.stuck
+walk_from-requires-clause-stuck c = subst (λ turns. AreStuck (instance_of c.args.parts.now) turns) (sym c.as_slice-in-Some.ensures.value) c.in_ok-turns.ensures.stuck
 
 pub returns : goal.returns
 returns c =

@@ -1,5 +1,5 @@
 use Rattle.std.proofs.Common.{◌≡◌, ℕ, ◌<◌}
-use Rattle.ttp_model.specs.Problem.{link_at}
+use Rattle.ttp_model.specs.Instance.{link_at}
 use Rattle.ttp_model.proofs.links.has_link.Given as goal
 
 abbrev pub invariant-loop-l : goal.invariant-loop-l

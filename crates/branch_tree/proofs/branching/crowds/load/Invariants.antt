@@ -1,5 +1,6 @@
 use Rattle.std.proofs.Common.{◌*◌, ◌≤◌}
+use Rattle.ttp_model.specs.declared.limits.TheConstants.{MOST_BYTES}
 use Rattle.branch_tree.proofs.branching.crowds.load.Given as goal
 
 abbrev pub invariant-loop-m : goal.invariant-loop-m
-invariant-loop-m l = l.bytes ≤ 1000 * l.m
+invariant-loop-m l = l.bytes ≤ MOST_BYTES * l.m

@@ -1,5 +1,6 @@
 use Rattle.std.proofs.Common.{◌*◌, ◌≤◌}
+use Rattle.ttp_model.specs.declared.limits.TheConstants.{MOST_BYTES}
 use Rattle.branch_tree.proofs.branching.empty_halves.may_crowd.Given as goal
 
 abbrev pub invariant-loop-k : goal.invariant-loop-k
-invariant-loop-k l = l.bytes ≤ 1000 * l.k
+invariant-loop-k l = l.bytes ≤ MOST_BYTES * l.k

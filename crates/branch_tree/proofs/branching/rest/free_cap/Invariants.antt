@@ -1,5 +1,5 @@
 use Rattle.std.proofs.Common.{ℕ, ◌<◌, IsSome}
-use Rattle.tt_choice.specs.Choices.{fixed_cap}
+use Rattle.tt_choice.specs.Choice.{fixed_cap}
 use Rattle.branch_tree.proofs.branching.rest.free_cap.Given as goal
 
 abbrev pub invariant-loop-n : goal.invariant-loop-n

@@ -1,5 +1,5 @@
 use Rattle.std.proofs.Common.{ℕ, ◌<◌}
-use Rattle.tt_choice.specs.Choices.{IsOrdered}
+use Rattle.tt_choice.specs.Choice.{IsOrdered}
 use Rattle.branch_tree.proofs.branching.rest.unordered_pair.Given as goal
 
 abbrev pub invariant-loop-p : goal.invariant-loop-p

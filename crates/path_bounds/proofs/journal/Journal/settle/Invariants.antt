@@ -1,4 +1,4 @@
-use Rattle.path_bounds.specs.Logs.{Advances, slack_of}
+use Rattle.path_bounds.specs.Journal.{Advances, slack_of}
 use Rattle.path_bounds.proofs.journal.Journal.settle.Given as goal
 
 abbrev pub invariant-again : goal.invariant-again

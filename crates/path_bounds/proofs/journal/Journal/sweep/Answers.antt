@@ -1,7 +1,7 @@
 use Rattle.std.proofs.Common.{ap, sym, ◌∙◌, arith}
 use Rattle.std.proofs.lemmas.Bool.{false≢true}
 use Rattle.std.proofs.lemmas.List.{get_or_default}
-use Rattle.path_bounds.specs.Logs.{Log, slack_of}
+use Rattle.path_bounds.specs.Journal.{Journal, slack_of}
 use Rattle.path_bounds.proofs.Logs.{advances_trans, lower_yet, idle_next}
 use Rattle.path_bounds.proofs.journal.Journal.sweep.Goals as goal
 use Rattle.path_bounds.proofs.journal.Journal.sweep.Goals.{then-sharpens, else-sharpens}
@@ -21,7 +21,7 @@ loop-step-preserved c =
           let same = c.in_ok-sharpens.ensures.same w.if-sharpens.false in
           rw w.sharper-is (record {
             advances = far;
-            sharper = λ holds. omega (arith, h.sharper holds, ap (λ (log : Log). slack_of log.facts) same);
+            sharper = λ holds. omega (arith, h.sharper holds, ap (λ (log : Journal). slack_of log.facts) same);
             same = λ fails. same ∙ h.same fails;
             idle = λ fails. idle_next c.loop-step.self c.try_step.new.self c.args.steps.now c.loop-step.step-index c.in_ok-copy.copy same (h.idle fails) (c.in_ok-sharpens.ensures.idle w.if-sharpens.false) (λ d. get_or_default c.args.steps.now c.loop-step.step-index d c.step-item.result c.loop-step-test.true ∙ sym c.step-item.is ∙ sym c.in_ok-copy.ensures);
           })

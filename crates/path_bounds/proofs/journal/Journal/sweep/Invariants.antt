@@ -1,6 +1,6 @@
 use Rattle.std.proofs.Common.{◌≡◌, ℕ, ◌<◌, slice_index_or, IsTrue, IsFalse}
 use Rattle.ttp_model.specs.declared.step.Step.{Step}
-use Rattle.path_bounds.specs.Logs.{Advances, IsIdle, slack_of}
+use Rattle.path_bounds.specs.Journal.{Advances, SharpensNothing, slack_of}
 use Rattle.path_bounds.proofs.journal.Journal.sweep.Given as goal
 
 abbrev pub invariant-loop-step : goal.invariant-loop-step
@@ -8,5 +8,5 @@ invariant-loop-step l = record {
   advances : Advances l.initial.self l.self;
   sharper : IsTrue l.sharper → slack_of l.self.facts < slack_of l.initial.self.facts;
   same : IsFalse l.sharper → l.self ≡ l.initial.self;
-  idle : IsFalse l.sharper → (k : ℕ) (d : Step) → k < l.step-index → IsIdle l.self.facts (slice_index_or l.steps k d);
+  idle : IsFalse l.sharper → (k : ℕ) (d : Step) → k < l.step-index → SharpensNothing l.self.facts (slice_index_or l.steps k d);
 }

@@ -1,5 +1,5 @@
 use Rattle.std.proofs.Common.{◌≡◌, length}
-use Rattle.search_core.specs.Moments.{all_pieces}
+use Rattle.search_core.specs.World.{all_pieces}
 use Rattle.planner.specs.Searching.{IsSearching, IsIdle}
 use Rattle.planner.proofs.search.Search.go.Given as goal
 

@@ -1,5 +1,5 @@
 use Rattle.std.proofs.Common.{◌-◌, ◌+◌, arith}
-use Rattle.search_core.specs.Moments.{all_pieces}
+use Rattle.search_core.specs.World.{all_pieces}
 use Rattle.planner.proofs.Events.{pushed}
 use Rattle.planner.proofs.search.Search.push.Goals as goal
 

@@ -1,6 +1,6 @@
 use Rattle.std.proofs.Common.{ℕ, Option, IfSome, subst}
-use Rattle.branch_tree.specs.Tasks.{Subtree}
-use Rattle.planner.specs.Searching.{IsTaken}
+use Rattle.branch_tree.specs.Task.{Task}
+use Rattle.planner.specs.Searching.{HasTakenTask}
 use Rattle.planner.proofs.Searching.{own_task}
 use Rattle.planner.proofs.search.Search.turn.Goals as goal
 
@@ -8,6 +8,6 @@ pub work-requires : goal.work-requires
 work-requires c =
     let i = c.args.instance.now in
     let s = c.take.new.self in
-    let taken = subst (λ (o : Option (Subtree × ℕ)). IfSome o (λ t. IsTaken i s.world s.tasks.items s.best t.0 t.1)) c.in-Some.is c.in_ok-task.ensures.taken in
+    let taken = subst (λ (o : Option (Task × ℕ)). IfSome o (λ t. HasTakenTask i s.world s.tasks.items s.best t.0 t.1)) c.in-Some.is c.in_ok-task.ensures.taken in
     let own = own_task i s.world s.tasks.items c.in-Some.task s.best taken.searching in
     own.task

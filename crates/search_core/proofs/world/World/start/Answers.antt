@@ -1,6 +1,6 @@
 use Rattle.std.proofs.Common.{arith, ap, ◌∙◌, ◌≡◌, ◌∷◌, []}
-use Rattle.branch_tree.specs.Names.{root_name}
-use Rattle.search_core.specs.Moments.{Moment, idle_seat}
+use Rattle.branch_tree.specs.Name.{root_name}
+use Rattle.search_core.specs.World.{World, idle_seat}
 use Rattle.search_core.proofs.Turned.{worker_more, start_is}
 use Rattle.search_core.proofs.world.World.start.Goals as goal
 
@@ -12,5 +12,5 @@ loop-preserved c =
 pub returns : goal.returns
 returns c =
     let e : c.loop.counter ≡ c.args.workers = omega (arith, c.requires) in
-    ap (λ seats. let m : Moment = record { best = c.args.top; seats = seats } in m)
+    ap (λ seats. let m : World = record { best = c.args.top; seats = seats } in m)
     (c.loop.invariant ∙ rw e (start_is c.args.workers c.args.top c.requires))

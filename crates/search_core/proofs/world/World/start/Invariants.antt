@@ -1,6 +1,6 @@
 use Rattle.std.proofs.Common.{◌≡◌, ◌∷◌, [], ◌-◌, replicate}
-use Rattle.branch_tree.specs.Names.{root_name}
-use Rattle.search_core.specs.Moments.{idle_seat}
+use Rattle.branch_tree.specs.Name.{root_name}
+use Rattle.search_core.specs.World.{idle_seat}
 use Rattle.search_core.proofs.world.World.start.Given as goal
 
 abbrev pub invariant-loop : goal.invariant-loop

@@ -1,6 +1,6 @@
 use Rattle.std.proofs.Common.{arith}
+use Rattle.ttp_model.proofs.Totals.{total_next}
 use Rattle.tt_choice.specs.Sizes.{range_size}
-use Rattle.tt_choice.proofs.Totals.{total_next}
 use Rattle.tt_choice.proofs.choice.Choice.range_sizes.Goals as goal
 
 pub loop-m-preserved : goal.loop-m-preserved

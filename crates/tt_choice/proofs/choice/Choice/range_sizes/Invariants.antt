@@ -1,5 +1,5 @@
 use Rattle.std.proofs.Common.{◌≡◌, ◌≤◌, ◌*◌}
-use Rattle.tt_choice.specs.Totals.{total}
+use Rattle.ttp_model.specs.Totals.{total}
 use Rattle.tt_choice.specs.Sizes.{range_size}
 use Rattle.tt_choice.proofs.choice.Choice.range_sizes.Given as goal
 

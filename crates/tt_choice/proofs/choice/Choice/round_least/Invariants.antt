@@ -1,6 +1,6 @@
 use Rattle.std.proofs.Common.{◌≡◌, ◌*◌, ◌≤◌}
 use Rattle.ttp_model.specs.declared.limits.TheConstants.{MOST_DURATION}
-use Rattle.tt_choice.specs.Totals.{total}
+use Rattle.ttp_model.specs.Totals.{total}
 use Rattle.tt_choice.specs.Extremes.{dur_least}
 use Rattle.tt_choice.proofs.choice.Choice.round_least.Given as goal
 

@@ -1,4 +1,4 @@
-use Rattle.std.proofs.Common.{◌≡◌, ◌+◌, length, arith, ap, refl, ◌∙◌}
+use Rattle.std.proofs.Common.{◌≡◌, ◌+◌, length, arith, ap, ◌∙◌}
 use Rattle.ttp_model.specs.declared.parts.Process.{Process}
 use Rattle.tt_infer.specs.Conclusions.{EndsUntil}
 use Rattle.tt_infer.specs.Premises.{wcet_of}

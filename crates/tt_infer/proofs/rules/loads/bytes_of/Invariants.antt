@@ -1,6 +1,6 @@
 use Rattle.std.proofs.Common.{◌≡◌, ◌*◌, ◌≤◌}
 use Rattle.ttp_model.specs.declared.limits.TheConstants.{MOST_BYTES}
-use Rattle.tt_choice.specs.Totals.{total}
+use Rattle.ttp_model.specs.Totals.{total}
 use Rattle.tt_infer.specs.Premises.{bytes_within}
 use Rattle.tt_infer.proofs.rules.loads.bytes_of.Given as goal
 

@@ -1,5 +1,5 @@
 use Rattle.std.proofs.Common.{arith}
-use Rattle.tt_choice.proofs.Totals.{total_next}
+use Rattle.ttp_model.proofs.Totals.{total_next}
 use Rattle.tt_infer.specs.Premises.{load_within}
 use Rattle.tt_infer.proofs.rules.loads.load_of.Goals as goal
 

@@ -1,6 +1,6 @@
 use Rattle.std.proofs.Common.{◌≡◌, ◌*◌, ◌≤◌}
 use Rattle.ttp_model.specs.declared.limits.TheConstants.{MOST_TICKS}
-use Rattle.tt_choice.specs.Totals.{total}
+use Rattle.ttp_model.specs.Totals.{total}
 use Rattle.tt_infer.specs.Premises.{load_within}
 use Rattle.tt_infer.proofs.rules.loads.load_of.Given as goal
 

@@ -1,6 +1,6 @@
 use Rattle.std.proofs.Common.{◌≡◌, arith}
 use Rattle.std.proofs.lemmas.Grind.{common_steps}
-use Rattle.ttp_model.specs.Problem.{message_at}
+use Rattle.ttp_model.specs.Instance.{message_at}
 use Rattle.ttp_model.proofs.Elements.{sender_inside, receivers_inside, bytes_inside}
 use Rattle.ttp_model.proofs.instance.Instance.message_at.Goals as goal
 

@@ -1,6 +1,6 @@
 use Rattle.std.proofs.Common.{◌≡◌, arith}
 use Rattle.std.proofs.lemmas.Grind.{common_steps}
-use Rattle.ttp_model.specs.Problem.{process_at}
+use Rattle.ttp_model.specs.Instance.{process_at}
 use Rattle.ttp_model.proofs.Elements.{node_inside, times_inside}
 use Rattle.ttp_model.proofs.instance.Instance.process_at.Goals as goal
 

@@ -1,5 +1,5 @@
 use Rattle.std.proofs.Common.{◌≢◌, ◌<◌, ℕ, slice_index_or, slice_index}
-use Rattle.ttp_model.specs.Problem.{no_process}
+use Rattle.ttp_model.specs.Instance.{no_process}
 use Rattle.ttp_model.proofs.rules.conditions.are_away.Given as goal
 
 abbrev pub invariant-loop-q : goal.invariant-loop-q

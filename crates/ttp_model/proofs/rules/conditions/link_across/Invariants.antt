@@ -1,7 +1,7 @@
 use Rattle.std.proofs.Common.{◌<◌, ℕ}
-use Rattle.ttp_model.specs.Parts.{problem_of}
+use Rattle.ttp_model.specs.Parts.{instance_of}
 use Rattle.ttp_model.specs.Rules.{StaysOnNode}
 use Rattle.ttp_model.proofs.rules.conditions.link_across.Given as goal
 
 abbrev pub invariant-loop-l : goal.invariant-loop-l
-invariant-loop-l l = (k : ℕ) → k < l.l → StaysOnNode (problem_of l.parts) k
+invariant-loop-l l = (k : ℕ) → k < l.l → StaysOnNode (instance_of l.parts) k

@@ -1,6 +1,0 @@
-use Rattle.std.proofs.Common.{ℕ, ◌<◌}
-use Rattle.ttp_model.specs.Alike.{Involves}
-use Rattle.tt_infer.proofs.exchanges.has_no_messages.Given as goal
-
-abbrev pub invariant-loop-m : goal.invariant-loop-m
-invariant-loop-m l = (k : ℕ) → k < l.m → ¬ Involves l.instance k l.p

@@ -1,0 +1,6 @@
+pub mod Agreeing
+pub mod EarlierStarts
+pub mod EarlierRounds
+pub mod Swaps
+pub mod ExchangedTwins
+pub mod ExchangedSilentTwins

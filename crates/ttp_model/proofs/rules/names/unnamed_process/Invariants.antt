@@ -1,8 +1,0 @@
-use Rattle.std.proofs.Common.{◌<◌, ℕ}
-use Rattle.ttp_model.specs.Problem.{process_at}
-use Rattle.ttp_model.specs.Parts.{problem_of}
-use Rattle.ttp_model.specs.Rules.{IsName}
-use Rattle.ttp_model.proofs.rules.names.unnamed_process.Given as goal
-
-abbrev pub invariant-loop-p : goal.invariant-loop-p
-invariant-loop-p l = (k : ℕ) → k < l.p → IsName (process_at (problem_of l.parts) k).name
