@@ -4,7 +4,7 @@ use Rattle.ttp_model.specs.Instance.{Instance}
 use Rattle.tt_choice.specs.Choice.{Choice, IsChoice}
 use Rattle.tt_choice.specs.Branches.{root_choice}
 use Rattle.tt_choice.specs.Sizes.{size_left}
-use Rattle.certificate.specs.declared.limits.TheConstants.{MOST_BRANCHES_ABOVE}
+use Rattle.certificate.specs.Limits.{most_branches_above}
 use Rattle.branch_tree.specs.Name.{Name, root_name}
 
 -- a choice, and where it stands in the tree
@@ -19,4 +19,4 @@ root_task i = record { name = root_name; choice = root_choice i }
 -- the choice is the instance's, and the branches above it and those that it can still need are few enough
 pub record IsTask (i : Instance) (t : Task) : Type 0 where
   pub choice : IsChoice i t.choice
-  pub shallow : length t.name + size_left i t.choice ≤ MOST_BRANCHES_ABOVE
+  pub shallow : length t.name + size_left i t.choice ≤ most_branches_above

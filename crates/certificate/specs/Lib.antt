@@ -1,3 +1,4 @@
+pub mod Limits
 pub mod Branch
 pub mod Trees
 pub mod TreeCode

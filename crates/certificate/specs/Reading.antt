@@ -11,7 +11,7 @@ use Rattle.ttp_model.specs.declared.step.Step.{Step}
 use Rattle.certificate.specs.declared.fault.LineFault.TheVariants.{FirstLine, Form, Number, Depth, EarlyEnd, Trailing}
 use Rattle.certificate.specs.declared.fault.CertTextError.{CertTextError}
 use Rattle.certificate.specs.declared.fault.CertTextError.TheVariants.{At, OutOfMemory}
-use Rattle.certificate.specs.declared.limits.TheConstants.{MOST_BRANCHES_ABOVE}
+use Rattle.certificate.specs.Limits.{most_branches_above}
 use Rattle.certificate.specs.declared.node.Node.{Node}
 use Rattle.certificate.specs.Cert.{Cert}
 use Rattle.certificate.specs.Lines.{node_lines, lines}
@@ -92,7 +92,7 @@ unfoldable pub text_node : ℕ → ℕ → List ℕ → Reading (Node × List �
 text_node above line text = do
   first ← line_at line text
   head ← said_in head_words heads_with line first.0
-  place ← check (At line Depth) (nat_le above MOST_BRANCHES_ABOVE)
+  place ← check (At line Depth) (nat_le above most_branches_above)
   steps ← steps_at (count_of head) (line + 1) first.1
   Ok (node_of_head head steps.0, steps.1)
 

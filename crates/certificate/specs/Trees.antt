@@ -1,6 +1,6 @@
 -- Trees of branches and leaves, and their nodes in preorder. Own profile.
 use Rattle.std.specs.Prelude.{ℕ, zero, suc, ◌+◌, ◌≤◌, max, List, [], ◌∷◌, ◌++◌}
-use Rattle.certificate.specs.declared.limits.TheConstants.{MOST_BRANCHES_ABOVE}
+use Rattle.certificate.specs.Limits.{most_branches_above}
 use Rattle.certificate.specs.declared.node.Node.{Node}
 use Rattle.certificate.specs.declared.node.Node.TheVariants.{Branch, Leaf}
 
@@ -34,7 +34,7 @@ levels (grow node below beside) = max (1 + levels below) (levels beside)
 -- one tree, in which each node has just its children, and few enough branches above it
 pub record IsTree (tree : Trees) : Type 0 where
   pub one : AreTrees 1 tree
-  pub shallow : levels tree ≤ MOST_BRANCHES_ABOVE + 1
+  pub shallow : levels tree ≤ most_branches_above + 1
 
 -- the first so many trees, as far as there are any
 unfoldable pub first_trees : ℕ → Trees → Trees

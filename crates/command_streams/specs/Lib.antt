@@ -1,3 +1,4 @@
+pub mod Limits
 pub mod Streams
 pub mod Endings
 pub mod Lines

@@ -25,7 +25,7 @@ tables_view tables = record {
   messages = table_views tables.messages.items;
 }
 
--- the problem that the parts of an instance are
+-- the instance that these parts are
 abbrev pub instance_of : Parts → Instance
 instance_of ps =
     instance_with ps.cluster ps.nodes.items ps.processes.items ps.links.items ps.messages.items

@@ -1,7 +1,7 @@
 -- The replay of a cycle: the step of every node, slot after slot. Own profile.
 use Rattle.std.specs.Prelude.{ℕ, zero, suc, List, [], ◌∷◌, ◌++◌, length, map, slice_index_or, Bool, ◌&&◌, ◌==◌, not, nat_lt, if◌then◌else◌}
 use Rattle.std.specs.List.{flat_map, list_any, range_with_len}
-use Rattle.ttp_model.specs.declared.limits.TheConstants.{MOST_NODES}
+use Rattle.ttp_model.specs.Limits.{most_nodes}
 use Rattle.medl_tables.specs.declared.row.Entry.{Entry}
 use Rattle.medl_tables.specs.declared.row.Row.{Row}
 use Rattle.medl_tables.specs.Medl.{Medl}
@@ -33,7 +33,7 @@ is_lost losses row i = list_any (λ l. (l.round == row.round && l.slot == row.po
 
 -- what a node knows at first: all nodes are members, and it is idle
 abbrev pub first_state : ℕ → NodeState
-first_state count = record { vector = map (λ k. nat_lt k count) (range_with_len 0 MOST_NODES); phase = Idle }
+first_state count = record { vector = map (λ k. nat_lt k count) (range_with_len 0 most_nodes); phase = Idle }
 
 -- what all know at first
 abbrev pub first_states : ℕ → List NodeState

@@ -1,7 +1,6 @@
 -- How a bundle is split: the instance stands before the first line `%%`, and the plan behind it.
 use Rattle.std.specs.Prelude.{◌≡◌, ℕ, ◌+◌, ◌-◌, ◌<◌, ◌≤◌, List, length, take, drop, slice_index, codes, Option, None, Some, ◌≤◌}
-use Rattle.command_streams.specs.declared.input.TheConstants.{INSTANCE_LIMIT}
-use Rattle.plan_commands.specs.declared.verdict.TheConstants.{PLAN_LIMIT}
+use Rattle.command_streams.specs.Limits.{instance_limit, plan_limit}
 use Rattle.command_streams.specs.declared.input.Taken.{Taken}
 use Rattle.command_streams.specs.declared.input.Stop.TheVariants.{AtEnd}
 use Rattle.command_streams.specs.declared.ending.Source.TheVariants as source
@@ -50,9 +49,9 @@ pub record IsBundleOf (bundle instance plan : List ℕ) : Type 0 where
 -- mark, and the plan
 pub record IsTakenWhole (taken : Taken) : Type 0 where
   pub ended : taken.stop ≡ AtEnd
-  pub instance : (at : ℕ) → IsFirstMark taken.bytes.items at → at ≤ INSTANCE_LIMIT
-  pub plan : (at : ℕ) → IsFirstMark taken.bytes.items at → length (drop (at + 3) taken.bytes.items) ≤ PLAN_LIMIT
-  pub alone : HasNoMark taken.bytes.items → length taken.bytes.items ≤ INSTANCE_LIMIT
+  pub instance : (at : ℕ) → IsFirstMark taken.bytes.items at → at ≤ instance_limit
+  pub plan : (at : ℕ) → IsFirstMark taken.bytes.items at → length (drop (at + 3) taken.bytes.items) ≤ plan_limit
+  pub alone : HasNoMark taken.bytes.items → length taken.bytes.items ≤ instance_limit
 
 -- the parts of a bundle are an instance and a valid plan of it that states its own delay
 pub record IsVerifiedBundle (bundle : List ℕ) (v : Verified) : Type 0 where
@@ -70,7 +69,7 @@ pub record IsRefusedSplit (bundle : List ℕ) (fault : Fault) : Type 0 where
 
 -- why a bundle is refused: it has no line `%%`, or for one of its parts
 abbrev pub IsRefusedBundle : List ℕ → Fault → Type 0
-IsRefusedBundle bundle NoMark = HasNoMark bundle × (length bundle ≤ INSTANCE_LIMIT)
+IsRefusedBundle bundle NoMark = HasNoMark bundle × (length bundle ≤ instance_limit)
 IsRefusedBundle bundle Memory = Unit {0}
 IsRefusedBundle bundle (Unread source.Instance) = Unit {0}
 IsRefusedBundle bundle fault = IsRefusedSplit bundle fault

@@ -7,7 +7,7 @@ use Rattle.certificate.specs.Spelling.{SpellsCert}
 use Rattle.certificate.specs.Reading as reading
 use Rattle.cert_check.specs.Proofs.{Proves}
 use Rattle.cert_check.specs.Faults as checking
-use Rattle.plan_commands.specs.declared.certified.TheConstants.{CERTIFICATE_LIMIT}
+use Rattle.command_streams.specs.Limits.{certificate_limit}
 use Rattle.command_streams.specs.declared.ending.Source.TheVariants as source
 use Rattle.command_streams.specs.declared.ending.Fault.{Fault}
 use Rattle.command_streams.specs.declared.ending.Fault.TheVariants.{InstanceText, Memory, CertificateText, Certificate, Unread}
@@ -17,7 +17,7 @@ use Rattle.command_streams.specs.Instances.{HasInstance, IsInstanceFault}
 
 -- the bytes are within their limit, and spell this certificate
 pub record HasCertificate (bytes : List ℕ) (cert : Cert) : Type 0 where
-  pub within : length bytes ≤ CERTIFICATE_LIMIT
+  pub within : length bytes ≤ certificate_limit
   pub spelled : SpellsCert bytes cert
 
 -- the bytes spell a certificate that proves this bound of the instance, and so no valid plan is shorter
@@ -32,7 +32,7 @@ pub record HasBound (i : Instance) (bytes : List ℕ) (low : ℕ) : Type 0 where
 abbrev pub IsCertificateFault : Instance → List ℕ → Fault → Type 0
 IsCertificateFault i bytes Memory = Unit {0}
 IsCertificateFault i bytes (Unread source.Certificate) = Unit {0}
-IsCertificateFault i bytes (CertificateText error) = (length bytes ≤ CERTIFICATE_LIMIT) × reading.IsFaultIn error (reading.Reads bytes)
+IsCertificateFault i bytes (CertificateText error) = (length bytes ≤ certificate_limit) × reading.IsFaultIn error (reading.Reads bytes)
 IsCertificateFault i bytes (Certificate fault) = (cert : Cert) × HasCertificate bytes cert × checking.IsJudged i cert (Err fault)
 IsCertificateFault i bytes _ = ⊥
 

@@ -3,7 +3,7 @@ use Rattle.std.specs.Prelude.{◌≡◌, ℕ, ◌+◌, ◌<◌, ◌≤◌, ◌^�
 use Rattle.std.specs.List.{AllZip, flat_map, range_with_len}
 use Rattle.std.specs.Borrow.{Bor}
 use Rattle.ttp_model.specs.Lists.{EachBelow, IsFirstFailure}
-use Rattle.ttp_model.specs.declared.limits.TheConstants.{MOST_NODES}
+use Rattle.ttp_model.specs.Limits.{most_nodes}
 use Rattle.medl_tables.specs.Medl.{Medl}
 use Rattle.membership_replay.specs.declared.loss.Loss.{Loss}
 use Rattle.membership_replay.specs.Losses.{IsLossOf}
@@ -65,7 +65,7 @@ IsWordFault words _ = ⊥
 -- there are nodes, and as few as an instance has
 pub record HasNodes (t : Medl) : Type 0 where
   pub some : 0 < length t.rows
-  pub few : length t.rows ≤ MOST_NODES
+  pub few : length t.rows ≤ most_nodes
 
 -- the loss of a word's frame at a node
 abbrev pub loss_at : LossWord → ℕ → Loss

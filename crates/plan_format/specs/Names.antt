@@ -1,7 +1,7 @@
 -- The names of an instance's parts, and which words have the form of a name. Own profile.
 use Rattle.std.specs.Prelude.{ℕ, List, [], length, map, slice_index, Bool, ◌&&◌, not, ◌==◌, nat_le, codes}
 use Rattle.std.specs.List.{list_all}
-use Rattle.ttp_model.specs.declared.limits.TheConstants.{MOST_NAME_BYTES}
+use Rattle.ttp_model.specs.Limits.{most_name_bytes}
 use Rattle.ttp_model.specs.Instance.{Instance}
 use Rattle.ttp_model.specs.Rules.{begins_name, continues_name}
 use Rattle.ttp_model.specs.declared.error.Part.{Part}
@@ -10,7 +10,7 @@ use Rattle.ttp_model.specs.declared.error.Part.TheVariants.{Nodes, Processes, Me
 -- Whether a word has the form of a name, as a test: a law says that it is the model's `IsName`.
 abbrev pub is_name : List ℕ → Bool
 is_name word =
-    not (length word == 0) && nat_le (length word) MOST_NAME_BYTES
+    not (length word == 0) && nat_le (length word) most_name_bytes
     && begins_name (slice_index word 0) && list_all continues_name word
 
 -- the names in a list of the instance, in its order; links have none

@@ -1,7 +1,7 @@
 -- Why pieces are no tree, or none that shows a bound. Own profile.
 use Rattle.std.specs.Prelude.{◌≡◌, ℕ, ◌≤◌, List, ◌∷◌, length, count_by, Contains, All, nat_eq}
 use Rattle.std.specs.Cmp.Lexicographic.{pointwise}
-use Rattle.certificate.specs.declared.limits.TheConstants.{MOST_BRANCHES_ABOVE}
+use Rattle.certificate.specs.Limits.{most_branches_above}
 use Rattle.certificate.specs.declared.node.Node.{Node}
 use Rattle.certificate.specs.declared.node.Node.TheVariants as node
 use Rattle.certificate.specs.Cert.{Cert}
@@ -72,7 +72,7 @@ HaveGoals low pieces = All (λ piece. HasGoal low piece.node) pieces
 
 -- no name has more branches above it than a certificate may have
 abbrev pub AreShallow : List Piece → Type 0
-AreShallow pieces = All (λ piece. length piece.name ≤ MOST_BRANCHES_ABOVE) pieces
+AreShallow pieces = All (λ piece. length piece.name ≤ most_branches_above) pieces
 
 -- the first fault of pieces, in the order in which faults are told; nothing is said of a want of memory
 abbrev pub IsFirstGatherFault : ℕ → List Piece → GatherFault → Type 0

@@ -1,7 +1,7 @@
 -- Which plans are sought, what the answer to a step says of them, and how far each slot moves in them.
 -- Ticks, and bytes. Own profile.
 use Rattle.std.specs.Prelude.{◌≡◌, ℕ, ◌^◌, ◌<◌, ◌≤◌, List, length, slice_index_or, Result}
-use Rattle.ttp_model.specs.declared.limits.TheConstants.{MOST_BYTES, MOST_DURATION, MOST_ROUND}
+use Rattle.ttp_model.specs.Limits.{most_bytes, most_duration, most_round}
 use Rattle.ttp_model.specs.Instance.{Instance}
 use Rattle.ttp_model.specs.Rules.{IsInstance}
 use Rattle.tt_choice.specs.Choice.{Choice, IsChoice}
@@ -43,14 +43,14 @@ pub record AreSlotTimes (i : Instance) (c : Choice) (n : ℕ) (s : SlotTimes) : 
 pub record AreShort (s : SlotTimes) : Type 0 where
   pub some_least : 0 < s.round_least
   pub some_most : 0 < s.round_most
-  pub round_least : s.round_least ≤ MOST_ROUND
-  pub round_most : s.round_most ≤ MOST_ROUND
+  pub round_least : s.round_least ≤ most_round
+  pub round_most : s.round_most ≤ most_round
   pub offset_least : s.offset_least < 2 ^ 57
   pub offset_most : s.offset_most < 2 ^ 57
-  pub dur_least : s.dur_least ≤ MOST_DURATION
-  pub dur_most : s.dur_most ≤ MOST_DURATION
-  pub cap_least : s.cap_least ≤ MOST_BYTES
-  pub cap_most : s.cap_most ≤ MOST_BYTES
+  pub dur_least : s.dur_least ≤ most_duration
+  pub dur_most : s.dur_most ≤ most_duration
+  pub cap_least : s.cap_least ≤ most_bytes
+  pub cap_most : s.cap_most ≤ most_bytes
 
 -- no slot, which is read past the last one
 abbrev pub no_slot_times : SlotTimes

@@ -12,6 +12,7 @@ pub mod FaultyPlans
 pub mod Orders
 pub mod OneMessage
 pub mod OneMessagePlan
+pub mod ThreeAlike
 pub mod Decide
 pub mod Raising
 pub mod Validity

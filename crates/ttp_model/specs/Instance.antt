@@ -15,7 +15,7 @@ pub record Instance : Type 0 where
   pub links : List Link
   pub messages : List Message
 
--- the problem of these five parts
+-- the instance of these five parts
 abbrev pub instance_with : Cluster → List Node → List Process → List Link → List Message → Instance
 instance_with cluster nodes processes links messages = record {
   cluster = cluster;

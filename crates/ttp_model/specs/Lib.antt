@@ -1,4 +1,5 @@
 pub mod Lists
+pub mod Limits
 pub mod Totals
 pub mod Raising
 pub mod Instance

@@ -65,6 +65,11 @@ pub record SwapsSilentTwins (i : Instance) (plan moved : Plan) : Type 0 where
 abbrev pub Move : Instance → Plan → Plan → Type 0
 Move i plan moved = (StartsEarlier i plan moved ⊎ SendsEarlier i plan moved) ⊎ (SwapsTwins i plan moved ⊎ SwapsSilentTwins i plan moved)
 
+-- Moves lead from one plan to another: none, to the plan itself; or one, to a valid plan, and from there on.
+pub data MovesLead (i : Instance) : Plan → Plan → Type 0 where
+  none : (plan : Plan) → MovesLead i plan plan
+  one_more : (plan moved last : Plan) → Move i plan moved → IsValid i moved → MovesLead i moved last → MovesLead i plan last
+
 -- what is compared first of two plans: all starts and rounds together
 abbrev pub time_weight : Plan → ℕ
 time_weight plan = sum plan.starts + sum plan.rounds

@@ -1,6 +1,6 @@
 -- Which rule a refusal names: the first that is broken, at the first place at which it is broken.
 use Rattle.std.specs.Prelude.{◌≡◌, ℕ, ◌<◌, ◌≤◌, ◌⊎◌, List, length}
-use Rattle.ttp_model.specs.declared.limits.TheConstants.{MOST_NODES, MOST_PROCESSES, MOST_LINKS, MOST_MESSAGES}
+use Rattle.ttp_model.specs.Limits.{most_nodes, most_processes, most_links, most_messages}
 use Rattle.ttp_model.specs.declared.error.Part.{Part}
 use Rattle.ttp_model.specs.declared.error.Part.TheVariants as part
 use Rattle.ttp_model.specs.declared.error.Place.{Place}
@@ -64,16 +64,16 @@ HasLength least most xs = (least ≤ length xs) × (length xs ≤ most)
 
 -- this list has a wrong length, and those before it have right ones
 abbrev pub IsFirstWrongLength : Instance → Part → Type 0
-IsFirstWrongLength i part.Nodes = ¬ HasLength 1 MOST_NODES i.nodes
-IsFirstWrongLength i part.Processes = HasLength 1 MOST_NODES i.nodes × ¬ HasLength 1 MOST_PROCESSES i.processes
-IsFirstWrongLength i part.Links = HasLength 1 MOST_NODES i.nodes × HasLength 1 MOST_PROCESSES i.processes × ¬ HasLength 0 MOST_LINKS i.links
-IsFirstWrongLength i part.Messages = HasLength 1 MOST_NODES i.nodes × HasLength 1 MOST_PROCESSES i.processes × HasLength 0 MOST_LINKS i.links × ¬ HasLength 0 MOST_MESSAGES i.messages
+IsFirstWrongLength i part.Nodes = ¬ HasLength 1 most_nodes i.nodes
+IsFirstWrongLength i part.Processes = HasLength 1 most_nodes i.nodes × ¬ HasLength 1 most_processes i.processes
+IsFirstWrongLength i part.Links = HasLength 1 most_nodes i.nodes × HasLength 1 most_processes i.processes × ¬ HasLength 0 most_links i.links
+IsFirstWrongLength i part.Messages = HasLength 1 most_nodes i.nodes × HasLength 1 most_processes i.processes × HasLength 0 most_links i.links × ¬ HasLength 0 most_messages i.messages
 
 -- every rule before this one is kept, and here is its first failure
 abbrev pub BreaksRule : Instance → Rule → Type 0 → Type 0
 BreaksRule i rule Failure = KeepsRulesBefore i rule × Failure
 
--- The refusal that a problem earns, rule by rule. Which cycle is told, of several, is free. The search for one alone
+-- The refusal that an instance earns, rule by rule. Which cycle is told, of several, is free. The search for one alone
 -- takes memory, so want of it comes only where every rule before that one is kept.
 abbrev pub IsRefusal : Instance → ModelError → Type 0
 IsRefusal i (Length list) = BreaksRule i Lengths (IsFirstWrongLength i list)

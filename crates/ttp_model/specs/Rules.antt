@@ -2,7 +2,7 @@
 use Rattle.std.specs.Prelude.{◌≡◌, ◌≢◌, ℕ, ◌+◌, ◌*◌, ◌<◌, ◌≤◌, List, length, slice_index, Bool, ◌||◌, ◌==◌, IsTrue, All, EachIndex}
 use Rattle.std.specs.Char.{is_ascii_alphabetic, is_ascii_alphanumeric}
 use Rattle.std.specs.List.Sorted.{IsStrictlyIncreasing}
-use Rattle.ttp_model.specs.declared.limits.TheConstants.{MOST_NODES, MOST_PROCESSES, MOST_LINKS, MOST_MESSAGES, MOST_CAPACITIES, MOST_NAME_BYTES, MOST_TICKS, MOST_BUS_TICKS, MOST_HEAD, MOST_PER_BYTE, MOST_BYTES}
+use Rattle.ttp_model.specs.Limits.{most_nodes, most_processes, most_links, most_messages, most_capacities, most_name_bytes, most_ticks, most_bus_ticks, most_head, most_per_byte, most_bytes}
 use Rattle.ttp_model.specs.declared.parts.Cluster.{Cluster}
 use Rattle.ttp_model.specs.declared.parts.Process.{Process}
 use Rattle.ttp_model.specs.declared.error.Place.{Place}
@@ -14,11 +14,11 @@ use Rattle.ttp_model.specs.Graph.{IsAcyclic}
 -- how many nodes, processes, links and messages there are
 pub record KeepsLimits (i : Instance) : Type 0 where
   pub nodes_least : 1 ≤ length i.nodes
-  pub nodes : length i.nodes ≤ MOST_NODES
+  pub nodes : length i.nodes ≤ most_nodes
   pub processes_least : 1 ≤ length i.processes
-  pub processes : length i.processes ≤ MOST_PROCESSES
-  pub links : length i.links ≤ MOST_LINKS
-  pub messages : length i.messages ≤ MOST_MESSAGES
+  pub processes : length i.processes ≤ most_processes
+  pub links : length i.links ≤ most_links
+  pub messages : length i.messages ≤ most_messages
 
 -- a message has a receiver
 abbrev pub HasReceiver : Instance → ℕ → Type 0
@@ -35,7 +35,7 @@ continues_name c = is_ascii_alphanumeric c || (c == 95)
 -- the bytes of a name: some, few, and each as it may be
 pub record IsName (name : List ℕ) : Type 0 where
   pub some : 0 < length name
-  pub short : length name ≤ MOST_NAME_BYTES
+  pub short : length name ≤ most_name_bytes
   pub first : IsTrue (begins_name (slice_index name 0))
   pub others : EachIndex name (λ k. IsTrue (continues_name (slice_index name k)))
 
@@ -69,25 +69,25 @@ NamesWhatIsThere i (AtMessage m) = m < length i.messages → IsProcess i (messag
 
 -- the numbers of a cluster, in ticks
 pub record IsClusterInRange (c : Cluster) : Type 0 where
-  pub precision : c.precision ≤ MOST_BUS_TICKS
-  pub lead : c.lead ≤ MOST_BUS_TICKS
-  pub trail : c.trail ≤ MOST_BUS_TICKS
+  pub precision : c.precision ≤ most_bus_ticks
+  pub lead : c.lead ≤ most_bus_ticks
+  pub trail : c.trail ≤ most_bus_ticks
   pub head_least : 1 ≤ c.head
-  pub head : c.head ≤ MOST_HEAD
+  pub head : c.head ≤ most_head
   pub per_byte_least : 1 ≤ c.per_byte
-  pub per_byte : c.per_byte ≤ MOST_PER_BYTE
-  pub copy_out : c.copy_out ≤ MOST_BUS_TICKS
-  pub copy_in : c.copy_in ≤ MOST_BUS_TICKS
+  pub per_byte : c.per_byte ≤ most_per_byte
+  pub copy_out : c.copy_out ≤ most_bus_ticks
+  pub copy_in : c.copy_in ≤ most_bus_ticks
   pub horizon_least : 1 ≤ c.horizon
-  pub horizon : c.horizon ≤ MOST_TICKS
+  pub horizon : c.horizon ≤ most_ticks
 
 -- the numbers of a process, in ticks
 pub record IsProcessInRange (p : Process) : Type 0 where
   pub wcet_least : 1 ≤ p.wcet
-  pub wcet : p.wcet ≤ MOST_TICKS
-  pub release : p.release ≤ MOST_TICKS
+  pub wcet : p.wcet ≤ most_ticks
+  pub release : p.release ≤ most_ticks
   pub deadline_least : 1 ≤ p.deadline
-  pub deadline : p.deadline ≤ MOST_TICKS
+  pub deadline : p.deadline ≤ most_ticks
 
 -- each number that stands at this place is in its range; a node's capacities are judged apart
 abbrev pub IsInRange : Instance → Place → Type 0
@@ -95,14 +95,14 @@ IsInRange i AtCluster = IsClusterInRange i.cluster
 IsInRange i (AtNode n) = Unit {0}
 IsInRange i (AtProcess p) = p < length i.processes → IsProcessInRange (process_at i p)
 IsInRange i (AtLink l) = Unit {0}
-IsInRange i (AtMessage m) = m < length i.messages → (1 ≤ (message_at i m).bytes) × ((message_at i m).bytes ≤ MOST_BYTES)
+IsInRange i (AtMessage m) = m < length i.messages → (1 ≤ (message_at i m).bytes) × ((message_at i m).bytes ≤ most_bytes)
 
 -- the capacities that a node's slot may have, in bytes: some, few, rising, and none too large
 pub record IsCapacityList (capacities : List ℕ) : Type 0 where
   pub some : 1 ≤ length capacities
-  pub few : length capacities ≤ MOST_CAPACITIES
+  pub few : length capacities ≤ most_capacities
   pub rising : IsStrictlyIncreasing capacities
-  pub small : All (λ capacity. capacity ≤ MOST_BYTES) capacities
+  pub small : All (λ capacity. capacity ≤ most_bytes) capacities
 
 -- a node has such a list
 abbrev pub HasCapacityList : Instance → ℕ → Type 0
@@ -150,7 +150,7 @@ pub data Rule : Type 0 where
   ReceiversOnce : Rule
   Cycles : Rule
 
--- a problem keeps a rule
+-- an instance keeps a rule
 abbrev pub KeepsRule : Instance → Rule → Type 0
 KeepsRule i Lengths = KeepsLimits i
 KeepsRule i Receivers = EachBelow (length i.messages) (HasReceiver i)

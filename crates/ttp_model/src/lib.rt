@@ -42,5 +42,5 @@ pub use slots::slot_duration;
 pub use step::{Kind, Leaf, Ring, Step, Steps};
 pub use worked::{
     figures_of_one_message, moves_of_three_alike, path_bound_of_one_message,
-    plan_of_one_message_is_valid, slots_of_one_message,
+    plan_of_one_message_is_valid, slots_of_one_message, where_moves_of_three_alike_lead,
 };

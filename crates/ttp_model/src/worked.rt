@@ -6,7 +6,7 @@ ghost use Rattle.ttp_model.specs.Plans.{IsValid, end_of, load_of, sent_from, sen
 ghost use Rattle.ttp_model.specs.Delays.{delay};
 ghost use Rattle.ttp_model.specs.Chains.{IsPathBound};
 ghost use Rattle.ttp_model.specs.Twins.{AreTwins};
-ghost use Rattle.ttp_model.specs.Moves.{Move, weight};
+ghost use Rattle.ttp_model.specs.Moves.{IsSettled, Move, MovesLead, weight};
 ghost use Rattle.ttp_model.specs.Worked.{plain_cluster, one_message, one_message_plan, three_alike, three_alike_plan};
 
 /// Slots of three ticks and one: rounds of four, and m on the bus from 4 to 7.
@@ -45,4 +45,12 @@ pub fn moves_of_three_alike()
     ensures exchange { Move three_alike (three_alike_plan (4 ∷ 2 ∷ 0 ∷ [])) (three_alike_plan (0 ∷ 2 ∷ 4 ∷ [])) }
     ensures heavier { weight three_alike (three_alike_plan (4 ∷ 2 ∷ 0 ∷ [])) ≡ (6, 298) }
     ensures lighter { weight three_alike (three_alike_plan (0 ∷ 2 ∷ 4 ∷ [])) ≡ (6, 290) }
+{}
+
+/// From starts 5, 2, 0 of the three the moves lead to 0, 2, 4: one starts a tick earlier, then two are exchanged. There
+/// no move is left.
+pub fn where_moves_of_three_alike_lead()
+    ensures valid { IsValid three_alike (three_alike_plan (5 ∷ 2 ∷ 0 ∷ [])) }
+    ensures leads { MovesLead three_alike (three_alike_plan (5 ∷ 2 ∷ 0 ∷ [])) (three_alike_plan (0 ∷ 2 ∷ 4 ∷ [])) }
+    ensures settled { IsSettled three_alike (three_alike_plan (0 ∷ 2 ∷ 4 ∷ [])) }
 {}

@@ -1,4 +1,4 @@
--- A problem with one more part, which stands last in its list.
+-- An instance with one more part, which stands last in its list.
 use Rattle.std.specs.Prelude.{ℕ, List, [], ◌∷◌, ◌++◌}
 use Rattle.ttp_model.specs.Instance.{Instance}
 

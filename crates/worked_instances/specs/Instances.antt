@@ -1,4 +1,4 @@
--- The worked instances, as problems. `ttp_model` has two more of them.
+-- The worked instances. `ttp_model` has two more of them.
 use Rattle.std.specs.Prelude.{ℕ, List, [], ◌∷◌, codes}
 use Rattle.ttp_model.specs.declared.parts.Cluster.{Cluster}
 use Rattle.ttp_model.specs.declared.parts.Process.{Process}
