@@ -146,12 +146,36 @@ const fn sized(nodes: usize, processes: usize, links: usize, messages: usize) ->
 #[test]
 fn lists_have_their_limits(rt: HostRuntime) {
     let rows = &[
-        (sized(16, 3, 0, 0), sized(17, 3, 0, 0), ModelError::Length(Part::Nodes)),
-        (sized(2, 64, 0, 0), sized(2, 65, 0, 0), ModelError::Length(Part::Processes)),
-        (sized(2, 3, 256, 0), sized(2, 3, 257, 0), ModelError::Length(Part::Links)),
-        (sized(2, 3, 0, 128), sized(2, 3, 0, 129), ModelError::Length(Part::Messages)),
-        (sized(16, 64, 256, 128), sized(0, 3, 0, 0), ModelError::Length(Part::Nodes)),
-        (sized(2, 3, 0, 1), sized(2, 0, 0, 0), ModelError::Length(Part::Processes)),
+        (
+            sized(16, 3, 0, 0),
+            sized(17, 3, 0, 0),
+            ModelError::Length(Part::Nodes),
+        ),
+        (
+            sized(2, 64, 0, 0),
+            sized(2, 65, 0, 0),
+            ModelError::Length(Part::Processes),
+        ),
+        (
+            sized(2, 3, 256, 0),
+            sized(2, 3, 257, 0),
+            ModelError::Length(Part::Links),
+        ),
+        (
+            sized(2, 3, 0, 128),
+            sized(2, 3, 0, 129),
+            ModelError::Length(Part::Messages),
+        ),
+        (
+            sized(16, 64, 256, 128),
+            sized(0, 3, 0, 0),
+            ModelError::Length(Part::Nodes),
+        ),
+        (
+            sized(2, 3, 0, 1),
+            sized(2, 0, 0, 0),
+            ModelError::Length(Part::Processes),
+        ),
     ];
     end_at(&rt, rt.alloc(), rows);
 }
@@ -188,12 +212,36 @@ fn parts_have_their_limits(rt: HostRuntime) {
         (node(8, 7), node(9, 8), ModelError::Capacities(0)),
         (node(1, 0), node(0, 0), ModelError::Capacities(0)),
         (node(8, 1_000), node(1, 1_001), ModelError::Capacities(0)),
-        (process(32, 1, 0), process(33, 1, 0), ModelError::NameForm(Place::AtNode(0))),
-        (process(6, MOST_TICKS, 0), process(6, MOST_TICKS + 1, 0), ModelError::OutOfRange(Place::AtProcess(0))),
-        (process(6, 1, MOST_TICKS - 1), process(6, 1, MOST_TICKS), ModelError::Deadline(0)),
-        (process(6, 1, 0), process(6, 1, MOST_TICKS + 1), ModelError::OutOfRange(Place::AtProcess(0))),
-        (message(1), message(0), ModelError::OutOfRange(Place::AtMessage(0))),
-        (message(1_000), message(1_001), ModelError::OutOfRange(Place::AtMessage(0))),
+        (
+            process(32, 1, 0),
+            process(33, 1, 0),
+            ModelError::NameForm(Place::AtNode(0)),
+        ),
+        (
+            process(6, MOST_TICKS, 0),
+            process(6, MOST_TICKS + 1, 0),
+            ModelError::OutOfRange(Place::AtProcess(0)),
+        ),
+        (
+            process(6, 1, MOST_TICKS - 1),
+            process(6, 1, MOST_TICKS),
+            ModelError::Deadline(0),
+        ),
+        (
+            process(6, 1, 0),
+            process(6, 1, MOST_TICKS + 1),
+            ModelError::OutOfRange(Place::AtProcess(0)),
+        ),
+        (
+            message(1),
+            message(0),
+            ModelError::OutOfRange(Place::AtMessage(0)),
+        ),
+        (
+            message(1_000),
+            message(1_001),
+            ModelError::OutOfRange(Place::AtMessage(0)),
+        ),
     ];
     end_at(&rt, rt.alloc(), rows);
 }
@@ -235,17 +283,57 @@ const fn precise(precision: u32) -> Sizes {
 #[test]
 fn clusters_have_their_limits(rt: HostRuntime) {
     let rows = &[
-        (bus(10_000, 0, 1, 1), bus(10_001, 0, 1, 1), ModelError::OutOfRange(Place::AtCluster)),
-        (bus(0, 10_000, 1, 1), bus(0, 10_001, 1, 1), ModelError::OutOfRange(Place::AtCluster)),
-        (bus(0, 0, 10_000, 1), bus(0, 0, 10_001, 1), ModelError::OutOfRange(Place::AtCluster)),
-        (bus(0, 0, 1, 1), bus(0, 0, 0, 1), ModelError::OutOfRange(Place::AtCluster)),
-        (bus(0, 0, 1, 1_000), bus(0, 0, 1, 1_001), ModelError::OutOfRange(Place::AtCluster)),
-        (copies(10_000, 0, 100), copies(10_001, 0, 100), ModelError::OutOfRange(Place::AtCluster)),
-        (copies(0, 10_000, 100), copies(0, 10_001, 100), ModelError::OutOfRange(Place::AtCluster)),
-        (copies(0, 0, MOST_TICKS), copies(0, 0, MOST_TICKS + 1), ModelError::OutOfRange(Place::AtCluster)),
-        (copies(0, 0, 1), copies(0, 0, 0), ModelError::OutOfRange(Place::AtCluster)),
+        (
+            bus(10_000, 0, 1, 1),
+            bus(10_001, 0, 1, 1),
+            ModelError::OutOfRange(Place::AtCluster),
+        ),
+        (
+            bus(0, 10_000, 1, 1),
+            bus(0, 10_001, 1, 1),
+            ModelError::OutOfRange(Place::AtCluster),
+        ),
+        (
+            bus(0, 0, 10_000, 1),
+            bus(0, 0, 10_001, 1),
+            ModelError::OutOfRange(Place::AtCluster),
+        ),
+        (
+            bus(0, 0, 1, 1),
+            bus(0, 0, 0, 1),
+            ModelError::OutOfRange(Place::AtCluster),
+        ),
+        (
+            bus(0, 0, 1, 1_000),
+            bus(0, 0, 1, 1_001),
+            ModelError::OutOfRange(Place::AtCluster),
+        ),
+        (
+            copies(10_000, 0, 100),
+            copies(10_001, 0, 100),
+            ModelError::OutOfRange(Place::AtCluster),
+        ),
+        (
+            copies(0, 10_000, 100),
+            copies(0, 10_001, 100),
+            ModelError::OutOfRange(Place::AtCluster),
+        ),
+        (
+            copies(0, 0, MOST_TICKS),
+            copies(0, 0, MOST_TICKS + 1),
+            ModelError::OutOfRange(Place::AtCluster),
+        ),
+        (
+            copies(0, 0, 1),
+            copies(0, 0, 0),
+            ModelError::OutOfRange(Place::AtCluster),
+        ),
         (precise(5_000), precise(5_001), ModelError::ShortLead),
-        (precise(0), precise(10_001), ModelError::OutOfRange(Place::AtCluster)),
+        (
+            precise(0),
+            precise(10_001),
+            ModelError::OutOfRange(Place::AtCluster),
+        ),
     ];
     end_at(&rt, rt.alloc(), rows);
 }

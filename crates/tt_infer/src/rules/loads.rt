@@ -43,13 +43,7 @@ fn load_of(known: &Known, instance: &Instance, n: u32, a: u32, b: u32) -> u64
 }
 
 /// The processes that run on a node in a span run longer than it.
-pub fn x_load(
-    known: &mut Known,
-    setting: &Setting,
-    n: u32,
-    a: u32,
-    b: u32,
-) -> Result<(), StepFault>
+pub fn x_load(known: &mut Known, setting: &Setting, n: u32, a: u32, b: u32) -> Result<(), StepFault>
     requires fits { Fits setting.now.instance known.old }
     requires open { IsFalse known.old.closed }
     ensures { TakesOf setting.now known.old (XLoad n a b) known.new result }
