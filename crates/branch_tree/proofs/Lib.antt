@@ -4,3 +4,6 @@ pub mod Incomplete
 pub mod Splits
 pub mod Trials
 pub mod ChildTasks
+pub mod CompleteSteps
+pub mod ClosedClashes
+pub mod OneMessageChoices

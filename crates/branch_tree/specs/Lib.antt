@@ -5,3 +5,5 @@ pub mod Account
 pub mod Work
 pub mod Branching
 pub mod Trials
+pub mod Closers
+pub mod Examples

@@ -3,7 +3,9 @@
 
 mod branching;
 mod children;
+mod examples;
 mod finding;
+mod laws;
 mod name;
 mod piece;
 mod task;
@@ -11,6 +13,8 @@ mod trial;
 mod worked;
 mod working;
 
+pub use examples::{one_message_in_round_0, one_message_in_round_1};
+pub use laws::{clashes_are_closed_by_their_closers, plans_are_closed_up_to_their_delay};
 pub use name::Name;
 pub use piece::Piece;
 pub use task::Task;

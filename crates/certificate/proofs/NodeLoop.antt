@@ -117,7 +117,7 @@ after_fault Whole nodes due above count line rest fault some e h so_far =
     (Err fault, (wrong_node (length (reverse above)) (count - 1) line rest fault here, refl)))
 
 pub after_error : (e : CertTextError) (Whole : Reading (List Node × List ℕ) → Type 0) (nodes : List Node) (due above : List ℕ) (count line : ℕ) (rest : List ℕ)
-    → 0 < count → due ≡ above ++ count ∷ [] → IsFaultOf e (text_node (length above) line rest) → Continues Whole nodes due line rest → IsFaultIn e Whole
+    → 0 < count → due ≡ above ++ count ∷ [] → IsFaultOf (Unit {0}) e (text_node (length above) line rest) → Continues Whole nodes due line rest → IsFaultIn (Unit {0}) e Whole
 after_error OutOfMemory Whole nodes due above count line rest some e h so_far = tt
 after_error (At at fault) Whole nodes due above count line rest some e h so_far = after_fault Whole nodes due above count line rest (At at fault) some e h so_far
 

@@ -60,6 +60,6 @@ cycle_in line text keyword rest e k =
 pub cycle_is : (line : ℕ) (text keyword rest ps : List ℕ) → cut 32 text ≡ Some (keyword, rest) → keyword ≡ codes "x-cycle" → ring_at line rest ≡ Ok ps → said_in step_words steps_with line text ≡ Ok (XCycle ps)
 cycle_is line text keyword rest ps e k r = cycle_in line text keyword rest e k ∙ rw r refl
 
-pub cycle_fails : (fault : CertTextError) (line : ℕ) (text keyword rest : List ℕ) → cut 32 text ≡ Some (keyword, rest) → keyword ≡ codes "x-cycle" → IsFaultOf fault (ring_at line rest) → IsFaultOf fault (said_in step_words steps_with line text)
+pub cycle_fails : (fault : CertTextError) (line : ℕ) (text keyword rest : List ℕ) → cut 32 text ≡ Some (keyword, rest) → keyword ≡ codes "x-cycle" → IsFaultOf (Unit {0}) fault (ring_at line rest) → IsFaultOf (Unit {0}) fault (said_in step_words steps_with line text)
 cycle_fails OutOfMemory line text keyword rest e k r = tt
 cycle_fails (At at fault) line text keyword rest e k r = cycle_in line text keyword rest e k ∙ rw r refl

@@ -30,8 +30,8 @@ goes_on count line text k front rest step after lt h so_far =
     let one : with_steps front (steps_at (count - k) (line + k) rest) ≡ with_steps (front ++ step ∷ []) (steps_at (count - (k + 1)) (line + k + 1) after) = rw (m, h) (regroup front step (steps_at (count - (k + 1)) (line + k + 1) after)) in
     ap (λ (l : ℕ). with_steps (front ++ step ∷ []) (steps_at (count - (k + 1)) l after)) (sym next) ∙ (sym one ∙ so_far)
 
-pub ends : (e : CertTextError) (count line : ℕ) (text : List ℕ) (k : ℕ) (front : List Step) (rest : List ℕ) → k < count → IsFaultOf e (text_step (line + k) rest)
-    → with_steps front (steps_at (count - k) (line + k) rest) ≡ steps_at count line text → IsFaultOf e (steps_at count line text)
+pub ends : (e : CertTextError) (count line : ℕ) (text : List ℕ) (k : ℕ) (front : List Step) (rest : List ℕ) → k < count → IsFaultOf (Unit {0}) e (text_step (line + k) rest)
+    → with_steps front (steps_at (count - k) (line + k) rest) ≡ steps_at count line text → IsFaultOf (Unit {0}) e (steps_at count line text)
 unfolding steps_at
 ends OutOfMemory count line text k front rest lt h so_far = tt
 ends (At at fault) count line text k front rest lt h so_far =

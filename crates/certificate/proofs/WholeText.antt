@@ -16,7 +16,7 @@ use Rattle.certificate.specs.Lines.{lines}
 use Rattle.certificate.specs.Trees.{Trees, preorder, trees_of, IsTree}
 use Rattle.certificate.specs.Words.{low_words, lows_with}
 use Rattle.certificate.specs.Spelling.{line_with, node_text, cert_text, CertHasText, SpellsCert}
-use Rattle.certificate.specs.Reading.{Reading, IsAnswerIn, line_at, said_in, low_at, ReadsTrees, certificate_of, ReadsOn, Reads}
+use Rattle.certificate.specs.Reading.{Reading, IsAnswerIn, HasLow, line_at, said_in, low_at, ReadsTrees, certificate_of, ReadsOn, Reads}
 use Rattle.certificate.specs.Nodes.{nodes_in, ReadsNodes}
 use Rattle.certificate.proofs.Heads.{line_takes, line_again, version_takes}
 use Rattle.certificate.proofs.Said.{said_takes, said_again, line_lacks}
@@ -132,11 +132,11 @@ one_answer text a b ha hb = one_answer_after (low_at text) a b ha hb
 
 -- ---- what an answer says
 
-pub found_by : (text : List ℕ) (r : Reading Cert) → IsAnswerIn (λ x. x) r (Reads text) → IfOk r (λ c. SpellsCert text c)
+pub found_by : (text : List ℕ) (r : Reading Cert) → IsAnswerIn (HasLow text) (λ x. x) r (Reads text) → IfOk r (λ c. SpellsCert text c)
 found_by text (Ok c) answer = takes text c answer
 found_by text (Err e) answer = tt
 
-pub only_by : (text : List ℕ) (r : Reading Cert) → IsAnswerIn (λ x. x) r (Reads text) → (c : Cert) → SpellsCert text c → r ≢ Err OutOfMemory → r ≡ Ok c
+pub only_by : (text : List ℕ) (r : Reading Cert) → IsAnswerIn (HasLow text) (λ x. x) r (Reads text) → (c : Cert) → SpellsCert text c → r ≢ Err OutOfMemory → r ≡ Ok c
 only_by text (Ok d) answer c s memory = one_answer text (Ok d) (Ok c) answer (again text c s)
 only_by text (Err OutOfMemory) answer c s memory = absurd (memory refl)
 only_by text (Err (At line fault)) answer c s memory = one_answer text (Err (At line fault)) (Ok c) answer (again text c s)

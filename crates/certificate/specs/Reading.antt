@@ -1,6 +1,6 @@
 -- Reading a certificate line by line: what it states, or the first fault and its line. The steps
 -- stand in the order in which faults are judged. Own profile.
-use Rattle.std.specs.Prelude.{◌≡◌, ℕ, zero, suc, ◌+◌, List, [], ◌∷◌, length, map, Option, Result, Ok, Err, Bool, true, false, ◌==◌, nat_le, bytes_eq, find, codes}
+use Rattle.std.specs.Prelude.{◌≡◌, ℕ, zero, suc, ◌+◌, List, [], ◌∷◌, length, map, Option, Result, Ok, Err, IsOk, Bool, true, false, ◌==◌, nat_le, bytes_eq, find, codes}
 use Rattle.std.specs.List.{list_all, slice_split}
 use Rattle.line_text.specs.Parts.{cut}
 use Rattle.line_text.specs.Numbers.{number_word}
@@ -69,6 +69,10 @@ low_at text = do
   second ← line_at 2 first.1
   low ← said_in low_words lows_with 2 second.0
   Ok (low, second.1)
+
+-- the first two lines are right, so that memory may be taken
+abbrev pub HasLow : List ℕ → Type 0
+HasLow text = IsOk (low_at text)
 
 -- ---- a node
 
@@ -144,21 +148,22 @@ Reads text reading = ReadsOn (low_at text) reading
 
 -- ---- what an answer says
 
--- An error that was answered is the fault that reading gives. Nothing is said of a want of memory.
-abbrev pub IsFaultOf : {A : Type 0} → CertTextError → Reading A → Type 0
-IsFaultOf OutOfMemory reading = Unit {0}
-IsFaultOf (At line fault) reading = reading ≡ Err (At line fault)
+-- An error that was answered is the fault that reading gives. Want of memory stands for any answer, once memory
+-- may be taken.
+abbrev pub IsFaultOf : {A : Type 0} → (MayTakeMemory : Type 0) → CertTextError → Reading A → Type 0
+IsFaultOf MayTakeMemory OutOfMemory reading = MayTakeMemory
+IsFaultOf MayTakeMemory (At line fault) reading = reading ≡ Err (At line fault)
 
 -- What was answered, seen as a value of the definitions, is what reading gives.
-abbrev pub IsAnswer : {X A : Type 0} → (X → A) → Reading X → Reading A → Type 0
-IsAnswer view (Ok x) reading = reading ≡ Ok (view x)
-IsAnswer view (Err e) reading = IsFaultOf e reading
+abbrev pub IsAnswer : {X A : Type 0} → (MayTakeMemory : Type 0) → (X → A) → Reading X → Reading A → Type 0
+IsAnswer MayTakeMemory view (Ok x) reading = reading ≡ Ok (view x)
+IsAnswer MayTakeMemory view (Err e) reading = IsFaultOf MayTakeMemory e reading
 
 -- the same where reading is a relation
-abbrev pub IsFaultIn : {A : Type 0} → CertTextError → (Reading A → Type 0) → Type 0
-IsFaultIn OutOfMemory Gives = Unit {0}
-IsFaultIn (At line fault) Gives = Gives (Err (At line fault))
+abbrev pub IsFaultIn : {A : Type 0} → (MayTakeMemory : Type 0) → CertTextError → (Reading A → Type 0) → Type 0
+IsFaultIn MayTakeMemory OutOfMemory Gives = MayTakeMemory
+IsFaultIn MayTakeMemory (At line fault) Gives = Gives (Err (At line fault))
 
-abbrev pub IsAnswerIn : {X A : Type 0} → (X → A) → Reading X → (Reading A → Type 0) → Type 0
-IsAnswerIn view (Ok x) Gives = Gives (Ok (view x))
-IsAnswerIn view (Err e) Gives = IsFaultIn e Gives
+abbrev pub IsAnswerIn : {X A : Type 0} → (MayTakeMemory : Type 0) → (X → A) → Reading X → (Reading A → Type 0) → Type 0
+IsAnswerIn MayTakeMemory view (Ok x) Gives = Gives (Ok (view x))
+IsAnswerIn MayTakeMemory view (Err e) Gives = IsFaultIn MayTakeMemory e Gives

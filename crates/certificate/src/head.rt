@@ -51,7 +51,7 @@ fn with_few(keyword: &[u8], numbers: FewNumbers) -> Option<Head>
 /// What the line of a node says.
 #[tactic(auto, unfolding(crate::specs::Reading::said_in))]
 pub fn head_in(line: u64, text: &[u8]) -> Result<Head, CertTextError>
-    ensures { IsAnswer (λ x. x) result (said_in head_words heads_with line text.now) }
+    ensures { IsAnswer ⊥ (λ x. x) result (said_in head_words heads_with line text.now) }
 {
     let Some((keyword, rest)) = cut(b' ', text) else {
         return Err(LineFault::Form.at(line));

@@ -22,7 +22,7 @@ fn low_with(keyword: &[u8], numbers: FewNumbers) -> Option<u32>
 /// The bound that a line says.
 #[tactic(auto, unfolding(crate::specs::Reading::said_in))]
 fn low_in(line: u64, text: &[u8]) -> Result<u32, CertTextError>
-    ensures { IsAnswer (λ x. x) result (said_in low_words lows_with line text.now) }
+    ensures { IsAnswer ⊥ (λ x. x) result (said_in low_words lows_with line text.now) }
 {
     let Some((keyword, rest)) = cut(b' ', text) else {
         return Err(LineFault::Form.at(line));
@@ -40,7 +40,7 @@ fn low_in(line: u64, text: &[u8]) -> Result<u32, CertTextError>
 /// The bound that the first two lines state, in ticks, and the text behind them.
 #[tactic(auto, unfolding(crate::specs::Reading::low_at))]
 pub fn low_of(text: &[u8]) -> Result<(u32, &[u8]), CertTextError>
-    ensures value { IsAnswer (λ x. (x.0, x.1.now)) result (low_at text.now) }
+    ensures value { IsAnswer ⊥ (λ x. (x.0, x.1.now)) result (low_at text.now) }
     ensures shorter { IfOk result (λ x. length x.1.now + 9 < length text.now) }
 {
     let (first, after) = line_of(1, text)?;

@@ -6,7 +6,7 @@ ghost use Rattle.certificate.specs.Lines.{node_lines, total_lines};
 ghost use Rattle.certificate.specs.Nodes.{ReadsNodes};
 ghost use Rattle.certificate.specs.Spelling.{SpellsCert};
 ghost use Rattle.certificate.specs.Cert.{Cert};
-ghost use Rattle.certificate.specs.Reading.{IsAnswer, IsAnswerIn, text_step, steps_at, text_node, Reads};
+ghost use Rattle.certificate.specs.Reading.{IsAnswer, IsAnswerIn, HasLow, text_step, steps_at, text_node, Reads};
 
 use crate::cert::Cert;
 use crate::fault::{CertTextError, LineFault};
@@ -22,7 +22,7 @@ use ttp_model::{Leaf, Step, Steps};
 /// The step in the next line, and the text behind the line.
 #[tactic(auto, unfolding(crate::specs::Reading::text_step))]
 fn step_of(alloc: Global, line: u64, text: &[u8]) -> Result<(Step, &[u8]), CertTextError>
-    ensures value { IsAnswer (λ x. (x.0, x.1.now)) result (text_step line text.now) }
+    ensures value { IsAnswer (Unit {0}) (λ x. (x.0, x.1.now)) result (text_step line text.now) }
     ensures shorter { IfOk result (λ x. length x.1.now < length text.now) }
 {
     let (first, after) = line_of(line, text)?;
@@ -38,7 +38,7 @@ fn steps_of<'a>(
     text: &'a [u8],
 ) -> Result<(Vec<Step>, &'a [u8]), CertTextError>
     requires { line + length text.now < 2 ^ 64 }
-    ensures value { IsAnswer (λ x. (x.0.items, x.1.now)) result (steps_at count line text.now) }
+    ensures value { IsAnswer (Unit {0}) (λ x. (x.0.items, x.1.now)) result (steps_at count line text.now) }
     ensures shorter { IfOk result (λ x. length x.1.now + length x.0.items ≤ length text.now) }
     ensures count { IfOk result (λ x. length x.0.items ≡ count) }
 {
@@ -83,7 +83,7 @@ fn node_of<'a>(
     text: &'a [u8],
 ) -> Result<(Node, &'a [u8]), CertTextError>
     requires { line + length text.now < 2 ^ 64 }
-    ensures value { IsAnswer (λ x. (x.0, x.1.now)) result (text_node above line text.now) }
+    ensures value { IsAnswer (Unit {0}) (λ x. (x.0, x.1.now)) result (text_node above line text.now) }
     ensures shorter { IfOk result (λ x. length x.1.now + node_lines x.0 ≤ length text.now) }
 {
     let (first, after) = line_of(line, text)?;
@@ -99,7 +99,7 @@ fn node_of<'a>(
 /// stack has for each open branch how many of its children are still to come.
 fn nodes_of(alloc: Global, text: &[u8]) -> Result<(Vec<Node>, u64, &[u8]), CertTextError>
     requires { 3 + length text.now < 2 ^ 64 }
-    ensures value { IsAnswerIn (λ x. (x.0.items, x.2.now)) result (ReadsNodes text.now) }
+    ensures value { IsAnswerIn (Unit {0}) (λ x. (x.0.items, x.2.now)) result (ReadsNodes text.now) }
     ensures line { IfOk result (λ x. x.1 ≡ 3 + total_lines x.0.items) }
 {
     let mut due = Vec::new(alloc);
@@ -122,7 +122,7 @@ fn nodes_of(alloc: Global, text: &[u8]) -> Result<(Vec<Node>, u64, &[u8]), CertT
 
 /// What the lines of a text give, the first fault first.
 fn cert_of(alloc: Global, text: &[u8]) -> Result<Cert, CertTextError>
-    ensures { IsAnswerIn (λ x. x) result (Reads text.now) }
+    ensures { IsAnswerIn (HasLow text.now) (λ x. x) result (Reads text.now) }
 {
     let (low, rest) = low_of(text)?;
     let (nodes, line, rest) = nodes_of(alloc, rest)?;
@@ -135,8 +135,9 @@ fn cert_of(alloc: Global, text: &[u8]) -> Result<Cert, CertTextError>
 /// The certificate that a text spells. Lines are judged from the top, each as `LineFault` says. The
 /// text may have any length, and the cost is linear in it; memory is taken for lines that were read.
 pub fn read(alloc: Global, text: &[u8]) -> Result<Cert, CertTextError>
-    // The certificate, or the first fault with its line.
-    ensures exact { IsAnswerIn (λ x. x) result (Reads text.now) }
+    // The certificate, or the first fault with its line. Want of memory comes only behind two first lines that are
+    // right.
+    ensures exact { IsAnswerIn (HasLow text.now) (λ x. x) result (Reads text.now) }
     // What is read has a text, and this is it.
     ensures found { IfOk result (λ cert. SpellsCert text.now cert) }
     // A text that spells a certificate is read as that certificate, unless memory is refused.

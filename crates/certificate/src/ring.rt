@@ -9,7 +9,7 @@ use std::alloc::Global;
 use ttp_model::Ring;
 
 fn ring_with(line: u64, processes: Vec<u32>, fit: bool) -> Result<Ring, CertTextError>
-    ensures { IsAnswer (λ x. x) result (ring_with line processes.items fit) }
+    ensures { IsAnswer (Unit {0}) (λ x. x) result (ring_with line processes.items fit) }
 {
     if processes.len() < 2 {
         return Err(LineFault::Form.at(line));
@@ -23,7 +23,7 @@ fn ring_with(line: u64, processes: Vec<u32>, fit: bool) -> Result<Ring, CertText
 /// The two or more processes that the words of a text are.
 #[tactic(auto, unfolding(crate::specs::Numbers::ring_at))]
 pub fn ring_of(alloc: Global, line: u64, text: &[u8]) -> Result<Ring, CertTextError>
-    ensures { IsAnswer (λ x. x) result (ring_at line text.now) }
+    ensures { IsAnswer (Unit {0}) (λ x. x) result (ring_at line text.now) }
 {
     let mut processes = Vec::new(alloc);
     let mut fit = true;

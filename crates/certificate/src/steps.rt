@@ -112,7 +112,7 @@ fn with_few(keyword: &[u8], numbers: FewNumbers) -> Option<Step>
 /// The step that a line says. Takes memory for the processes of a cycle alone.
 #[tactic(auto, unfolding(crate::specs::Reading::said_in))]
 pub fn step_in(alloc: Global, line: u64, text: &[u8]) -> Result<Step, CertTextError>
-    ensures { IsAnswer (λ x. x) result (said_in step_words steps_with line text.now) }
+    ensures { IsAnswer (Unit {0}) (λ x. x) result (said_in step_words steps_with line text.now) }
 {
     let Some((keyword, rest)) = cut(b' ', text) else {
         return Err(LineFault::Form.at(line));

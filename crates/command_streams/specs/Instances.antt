@@ -25,3 +25,9 @@ IsInstanceFault bytes Memory = Unit {0}
 IsInstanceFault bytes (Unread source.Instance) = Unit {0}
 IsInstanceFault bytes (InstanceText error) = (length bytes ≤ instance_limit) × text_faults.IsFirstTextFault bytes error
 IsInstanceFault bytes _ = ⊥
+
+-- the fault is one of the instance, or of its reader
+abbrev pub IsOfInstance : Fault → Type 0
+IsOfInstance (InstanceText error) = Unit {0}
+IsOfInstance (Unread source.Instance) = Unit {0}
+IsOfInstance _ = ⊥

@@ -1,6 +1,6 @@
 -- What a reader gave, or why it gave nothing, and what a writer took.
 use Rattle.std.specs.Prelude.{◌≡◌, ◌≢◌, ℕ, ◌+◌, ◌≤◌, List, [], ◌++◌, length, take, Option}
-use Rattle.std.specs.Io.KnownBytes.{Appends}
+use Rattle.std.specs.Io.KnownBytes.{Appends, Consumes}
 use Rattle.command_streams.specs.declared.input.Taken.{Taken}
 use Rattle.command_streams.specs.declared.input.Stop.{Stop}
 use Rattle.command_streams.specs.declared.input.Stop.TheVariants.{AtEnd, OverLimit, Failed}
@@ -20,6 +20,12 @@ pub record IsTaken (limit : ℕ) (taken : Taken) (all : List ℕ) : Type 0 where
   pub rest : List ℕ
   pub first : all ≡ taken.bytes.items ++ rest
   pub until : IsTakenUntil taken.stop limit taken.bytes.items rest
+
+-- a reader's first bytes were taken, at most so many
+pub record TakesAtMost (most : ℕ) (old new : Option (List ℕ)) : Type 0 where
+  pub bytes : List ℕ
+  pub few : length bytes ≤ most
+  pub taken : Consumes old new bytes
 
 -- a reader failed, was over its limit, or memory was refused
 abbrev pub IsReadFault : Source → Fault → Type 0

@@ -1,7 +1,8 @@
 //! What is taken from a reader, up to a limit, and the instance that it states.
 
-ghost use Rattle.std.specs.Prelude.{◌≡◌, ◌<◌, ◌≤◌, ◌^◌, length, IfErr, IfOk, IfSome, MatchResult};
-ghost use Rattle.command_streams.specs.Streams.{IsOfReadBytes, IsReadFault, IsTaken};
+ghost use Rattle.std.specs.Prelude.{◌≡◌, ◌+◌, ◌<◌, ◌≤◌, ◌^◌, length, IfErr, IfOk, IfSome, MatchResult};
+ghost use Rattle.std.specs.Io.KnownBytes.{Consumes};
+ghost use Rattle.command_streams.specs.Streams.{IsOfReadBytes, IsReadFault, IsTaken, TakesAtMost};
 ghost use Rattle.command_streams.specs.Instances.{HasInstance, IsInstanceFault};
 
 use crate::ending::{Fault, Source};
@@ -35,6 +36,8 @@ pub fn take_input<R: Read>(alloc: Global, reader: &mut R, limit: usize) -> Resul
     requires { limit < 2 ^ 40 }
     ensures taken { IfOk result (λ taken. IfSome (R.remaining reader.old) (IsTaken limit taken)) }
     ensures within { IfOk result (λ taken. taken.stop ≡ Stop.AtEnd → length taken.bytes.items ≤ limit) }
+    ensures left { IfOk result (λ taken. Consumes (R.remaining reader.old) (R.remaining reader.new) taken.bytes.items) }
+    ensures most { TakesAtMost (limit + 1) (R.remaining reader.old) (R.remaining reader.new) }
 {
     let mut bytes = Vec::new(alloc);
     let mut chunk = [0u8; 16384];
@@ -69,6 +72,7 @@ pub fn read_all<R: Read>(
     ensures read { IfOk result (λ read. IfSome (R.remaining reader.old) (λ bytes. read.items ≡ bytes)) }
     ensures within { IfOk result (λ read. length read.items ≤ limit) }
     ensures err { IfErr result (IsReadFault source) }
+    ensures most { TakesAtMost (limit + 1) (R.remaining reader.old) (R.remaining reader.new) }
 {
     match take_input(alloc, reader, limit) {
         Err(_) => Err(Fault::Memory),
@@ -95,9 +99,10 @@ pub fn instance_of_text(alloc: Global, bytes: &[u8]) -> Result<Instance, Fault>
 
 /// The instance that a reader's bytes state.
 pub fn read_instance<R: Read>(alloc: Global, reader: &mut R) -> Result<Instance, Fault>
-    ensures { IfSome (R.remaining reader.old) (λ bytes. MatchResult result
+    ensures judged { IfSome (R.remaining reader.old) (λ bytes. MatchResult result
         (HasInstance bytes)
         (IsInstanceFault bytes)) }
+    ensures most { TakesAtMost (INSTANCE_LIMIT + 1) (R.remaining reader.old) (R.remaining reader.new) }
 {
     let bytes = read_all(alloc, reader, INSTANCE_LIMIT, Source::Instance)?;
     instance_of_text(alloc, bytes.as_slice())

@@ -84,6 +84,7 @@ module _ (i : Instance) (c : Choice) (floors starts : List ℕ) (w : IsInstance 
   IsEarliest-made valid = record {
     valid = valid;
     chosen = IsIn-made;
+    waits = λ p h. (s p h).waits;
     least = λ other v is p h. waits_le i c other w ok done v is p (slice_index starts p) (s p h).waits;
   }
 

@@ -32,12 +32,12 @@ module _ (bytes : List ℕ) where
   pub table_fault : (table : Members) (e : TextError) → IsDocument bytes table → IsFaultOfPart (stated table) e → IsFirstTextFault bytes e
   table_fault table NotToml document fault = absurd (IfErr-at_err IsTableFault (fault (λ same. cc)) (HasTableFault-stated table))
   table_fault table (Model e) document fault = absurd (IfErr-at_err IsTableFault (fault (λ same. cc)) (HasTableFault-stated table))
-  table_fault table OutOfMemory document fault = tt
+  table_fault table OutOfMemory document fault = document.utf8
   table_fault table e document fault = states_by table (Err e) document (fault (λ same. cc))
 
   -- a refusal of the stated instance is a fault of the bytes
   pub refusal_told : (i : Instance) (e : ModelError) → States bytes (Ok i) → IsRefusal i e → IsFirstTextFault bytes (told e)
-  refusal_told i model.OutOfMemory states refusal = tt
+  refusal_told i model.OutOfMemory states refusal = states.document.utf8
   refusal_told i e states refusal = record { problem = i; states = states; refusal = refusal; other = λ same. cc }
 
   -- bytes state one instance at most

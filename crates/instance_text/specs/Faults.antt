@@ -27,7 +27,7 @@ IsNoDocument bytes = (table : Members) → ¬ IsDocument bytes table
 -- the only fault that bytes can have before their table is judged
 abbrev pub IsTextFault : List ℕ → TextError → Type 0
 IsTextFault bytes NotToml = IsNoDocument bytes
-IsTextFault bytes OutOfMemory = Unit {0}
+IsTextFault bytes OutOfMemory = IsUtf8 bytes
 IsTextFault bytes _ = ⊥
 
 -- the bytes are a TOML text, and this is the instance that it states, or its first fault
@@ -44,9 +44,9 @@ pub record IsRefusedBy (bytes : List ℕ) (e : ModelError) : Type 0 where
   pub other : e ≢ model.OutOfMemory
 
 -- The first fault of the bytes: that they are no TOML, then one that the table has, then a rule of
--- the model that is broken. Want of memory may come in place of any answer.
+-- the model that is broken. Want of memory may come in place of any answer but that they are no UTF-8.
 abbrev pub IsFirstTextFault : List ℕ → TextError → Type 0
 IsFirstTextFault bytes NotToml = IsNoDocument bytes
 IsFirstTextFault bytes (Model e) = IsRefusedBy bytes e
-IsFirstTextFault bytes OutOfMemory = Unit {0}
+IsFirstTextFault bytes OutOfMemory = IsUtf8 bytes
 IsFirstTextFault bytes e = States bytes (Err e)

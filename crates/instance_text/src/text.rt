@@ -14,6 +14,7 @@ use crate::error::TextError;
 use crate::names::Names;
 use crate::{cluster, links, messages, nodes, processes, top};
 use std::alloc::Global;
+use std::str;
 use toml::Table;
 use ttp_model::{Cluster, Instance, Link, Message, Node, Process};
 
@@ -27,12 +28,15 @@ struct Parts {
     messages: Vec<Message>,
 }
 
-/// The top table that the bytes are.
+/// The top table that the bytes are. Takes no memory for bytes that are no UTF-8.
 fn document(alloc: Global, bytes: &[u8]) -> Result<Table, TextError>
     ensures ok { IfOk result (λ table. IsDocument bytes.now (table_view table)) }
     ensures err { IfErr result (IsTextFault bytes.now) }
 {
-    match toml::table_from_slice(alloc, bytes) {
+    let Ok(text) = str::from_utf8(bytes) else {
+        return Err(TextError::NotToml);
+    };
+    match toml::table_from_str(alloc, text) {
         Ok(table) => Ok(table),
         Err(e) => {
             if e.is_memory() {

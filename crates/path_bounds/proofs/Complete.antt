@@ -69,21 +69,21 @@ module _ (i : Instance) (c : Choice) (w : IsInstance i) (ok : IsChoice i c) (don
       is_fixed (fixed_cap c n) (slice_index caps n) (done.fixed n inside) (a.fixed n inside) ∙ sym (fixed_at c n (omega (arith, inside, ok.fixed_length))))
 
   -- the extremes of a complete choice are its plan's
-  start_exact : (n r : ℕ) → n < length i.nodes → slot_start i.cluster c.prefix (fixed_caps c) n r ≡ start_most i c n r
+  pub start_exact : (n r : ℕ) → n < length i.nodes → slot_start i.cluster c.prefix (fixed_caps c) n r ≡ start_most i c n r
   start_exact n r inside =
       let most = start_most_is_most i c n r w ok inside in
       ap (λ (order : List ℕ). slot_start i.cluster order (fixed_caps c) n r) (sym (order_agreed most.order most.caps most.agrees))
       ∙ ap (λ (caps : List ℕ). slot_start i.cluster most.order caps n r) (sym (caps_agreed most.order most.caps most.agrees))
       ∙ most.reached
 
-  end_exact : (n r : ℕ) → n < length i.nodes → slot_end i.cluster c.prefix (fixed_caps c) n r ≡ end_least i c n r
+  pub end_exact : (n r : ℕ) → n < length i.nodes → slot_end i.cluster c.prefix (fixed_caps c) n r ≡ end_least i c n r
   end_exact n r inside =
       let least = end_least_is_least i c n r w ok inside in
       ap (λ (order : List ℕ). slot_end i.cluster order (fixed_caps c) n r) (sym (order_agreed least.order least.caps least.agrees))
       ∙ ap (λ (caps : List ℕ). slot_end i.cluster least.order caps n r) (sym (caps_agreed least.order least.caps least.agrees))
       ∙ least.reached
 
-  cap_exact : (n : ℕ) → n < length i.nodes → slice_index (fixed_caps c) n ≡ cap_most i c n
+  pub cap_exact : (n : ℕ) → n < length i.nodes → slice_index (fixed_caps c) n ≡ cap_most i c n
   cap_exact n inside =
       let most = cap_most_is_most i c n w ok inside in
       rw (← caps_agreed most.order most.caps most.agrees) most.reached
@@ -104,7 +104,7 @@ module _ (i : Instance) (c : Choice) (w : IsInstance i) (ok : IsChoice i c) (don
   ]
 
 -- whether a message that is sent in one round is sent in another
-one_round : (lo top r : ℕ) → top ≡ lo + 1 → (nat_le r lo && nat_le top (r + 1)) ≡ (lo == r)
+pub one_round : (lo top r : ℕ) → top ≡ lo + 1 → (nat_le r lo && nat_le top (r + 1)) ≡ (lo == r)
 one_round lo top r is = elim (cases_order lo r) [
   | inl same ↦ rw (eq-eqb lo r same, le-leb r lo (omega (arith, same)), le-leb top (r + 1) (omega (arith, is, same))) refl
   | inr apart ↦ elim apart [

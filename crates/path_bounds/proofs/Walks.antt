@@ -1,103 +1,26 @@
--- Chains have each process once, so they are short, and one that no other exceeds can be found.
-use Rattle.std.proofs.Common.{◌≡◌, ℕ, suc, ◌+◌, ◌-◌, ◌*◌, ◌^◌, ◌<◌, ◌≤◌, max, List, [], ◌∷◌, ◌++◌, length, take, drop, slice_index, slice_set, get_or, arith, inl, inr, refl, ap, sym, ◌∙◌, length-drop, get_or-set_same, get_or-set_other, length-set}
+-- Chains are few, so that one that no other exceeds can be found.
+use Rattle.std.proofs.Common.{◌≡◌, ℕ, ◌+◌, ◌*◌, ◌^◌, ◌<◌, ◌≤◌, max, List, length, slice_index, slice_set, get_or, arith, inl, inr, refl, ap, sym, ◌∙◌, get_or-set_same, get_or-set_other, length-set}
 use Rattle.std.proofs.Math.Nat.{mul-le-mul}
 use Rattle.std.proofs.lemmas.Bool.{cases_eq}
-use Rattle.std.proofs.lemmas.Grind.{common_steps, get_or_default_zero}
-use Rattle.std.proofs.lemmas.List.{get_or-take, get_or-drop, length-take-le}
-use Rattle.std.proofs.lemmas.List.Elements.{All-contains, Contains-get_or}
+use Rattle.std.proofs.lemmas.Grind.{get_or_default_zero}
+use Rattle.std.proofs.lemmas.List.Elements.{Contains-get_or}
 use Rattle.ttp_model.specs.declared.error.Place.TheVariants.{AtCluster, AtProcess, AtLink, AtMessage}
 use Rattle.ttp_model.specs.declared.limits.TheConstants.{MOST_BUS_TICKS, MOST_BYTES, MOST_DURATION, MOST_PER_BYTE, MOST_TICKS}
 use Rattle.ttp_model.specs.declared.parts.Link.{Link}
-use Rattle.ttp_model.specs.Lists.{HasNoRepeats}
 use Rattle.ttp_model.specs.Instance.{Instance, process_at, node_at, node_of, link_at, message_at}
-use Rattle.ttp_model.specs.Rules.{IsInstance, IsProcess}
-use Rattle.ttp_model.specs.Graph.{HasLink, HasMessage, Leads, IsClosedWalk}
+use Rattle.ttp_model.specs.Rules.{IsInstance}
+use Rattle.ttp_model.specs.Graph.{HasLink, HasMessage}
 use Rattle.ttp_model.specs.Chains.{ChainEnds, one, by_link, by_message, least_transfer, least_duration, IsPathBound}
-use Rattle.ttp_model.proofs.Paths.{Leads_as}
-use Rattle.tt_choice.proofs.Extend.{from_parts, length_le, first_part, last_part}
+use Rattle.ttp_model.specs.Walks.{Chain, first, on_link, on_message}
+use Rattle.ttp_model.proofs.Walks.{link_inside, message_inside, chain_some, chain_few, chain_inside, to_chain}
 use Rattle.tt_infer.specs.Premises.{Receives}
-use Rattle.path_bounds.specs.Walks.{Chain, first, on_link, on_message, AreChainEnds, AreEnds, AreKept}
-
--- the processes of a chain, in their order
-record Walk (i : Instance) (n p : ℕ) : Type 0 where
-  pub ps : List ℕ
-  pub count : length ps ≡ n
-  pub some : 1 ≤ n
-  pub last : slice_index ps (n - 1) ≡ p
-  pub inside : (k : ℕ) → k < n → slice_index ps k < length i.processes
-  pub each : (k : ℕ) → k + 1 < n → Leads i (slice_index ps k) (slice_index ps (k + 1))
-
-walk_one : (i : Instance) (p : ℕ) → p < length i.processes → Walk i 1 p
-walk_one i p inside = record {
-  ps = p ∷ [];
-  count = refl;
-  some = omega arith;
-  last = refl;
-  inside = λ k h. let same : k ≡ 0 = omega arith in rw same inside;
-  each = λ k h. absurd (omega arith);
-}
-
-walk_more : (i : Instance) (n p q : ℕ) → Walk i n p → Leads i p q → q < length i.processes → Walk i (suc n) q
-walk_more i n p q walk leads inside =
-    let old = λ (k : ℕ) (h : k < n). first_part walk.ps (q ∷ []) k (omega (arith, h, walk.count)) in
-    let new = λ (k : ℕ) (h : k ≡ n). last_part walk.ps q k (omega (arith, h, walk.count)) in
-    record {
-      ps = walk.ps ++ q ∷ [];
-      count = grind (arith, common_steps, walk.count);
-      some = omega arith;
-      last = new (suc n - 1) (omega arith);
-      inside = λ k h. elim (cases_eq k n) [
-        | inl same ↦ omega (arith, new k same, inside)
-        | inr other ↦ omega (arith, old k (omega (arith, h, other)), walk.inside k (omega (arith, h, other)))
-      ];
-      each = λ k h. elim (cases_eq (k + 1) n) [
-        | inl same ↦
-            let here : slice_index walk.ps k ≡ p = ap (slice_index walk.ps) (let e : k ≡ n - 1 = omega (arith, same) in e) ∙ walk.last in
-            Leads_as i _ _ p q (old k (omega (arith, same)) ∙ here) (new (k + 1) same) leads
-        | inr other ↦ Leads_as i _ _ _ _ (old k (omega (arith, h, other))) (old (k + 1) (omega (arith, h, other))) (walk.each k (omega (arith, h, other)))
-      ];
-    }
+use Rattle.path_bounds.specs.Walks.{AreChainEnds, AreEnds, AreKept}
 
 -- the least time of a transfer: a slot between two copies
 abbrev pub most_transfer : ℕ
 most_transfer = MOST_DURATION + 2 * MOST_BUS_TICKS
 
 module _ (i : Instance) (w : IsInstance i) where
-  link_inside : (p q : ℕ) → HasLink i p q → q < length i.processes
-  link_inside p q link = rw (← link.after) (w.indices (AtLink link.link) link.is_there).1
-
-  message_inside : (p q : ℕ) → HasMessage i p q → q < length i.processes
-  message_inside p q message = All-contains (IsProcess i) (message_at i message.message).receivers q (w.indices (AtMessage message.message) message.is_there).1 message.receiver
-
-  walk_of : (n p time : ℕ) → Chain i n p time → Walk i n p
-  walk_of _ _ _ (first p inside) = walk_one i p inside
-  walk_of _ _ _ (on_link n p q time chain link) = walk_more i n p q (walk_of n p time chain) (inl link) (link_inside p q link)
-  walk_of _ _ _ (on_message n p q time chain message) = walk_more i n p q (walk_of n p time chain) (inr message) (message_inside p q message)
-
-  -- the part of a chain between two places where one process stands is a ring
-  ring_at : (ps : List ℕ) (j k x y : ℕ) → x < k - j → j + x ≡ y → slice_index (take (k - j) (drop j ps)) x ≡ slice_index ps y
-  ring_at ps j k x y h is = get_or-take (k - j) (drop j ps) x 0 h ∙ get_or-drop j ps x 0 ∙ ap (slice_index ps) is
-
-  ring_closed : (n p j k : ℕ) (walk : Walk i n p) → j < k → k < n → slice_index walk.ps j ≡ slice_index walk.ps k → IsClosedWalk i (take (k - j) (drop j walk.ps))
-  ring_closed n p j k walk below up same =
-      let size : length (take (k - j) (drop j walk.ps)) ≡ k - j = length-take-le (k - j) (drop j walk.ps) (omega (arith, length-drop j walk.ps, walk.count)) in
-      let last : k ≡ k - 1 + 1 = omega arith in
-      record {
-        some = omega (arith, size);
-        each = λ x h. Leads_as i _ _ _ _ (ring_at walk.ps j k x (j + x) (omega (arith, h, size)) refl) (ring_at walk.ps j k (x + 1) (j + x + 1) (omega (arith, h, size)) (omega arith)) (walk.each (j + x) (omega (arith, h, size)));
-        closes = Leads_as i _ _ _ _ (ring_at walk.ps j k (length (take (k - j) (drop j walk.ps)) - 1) (k - 1) (omega (arith, size)) (omega (arith, size))) (ring_at walk.ps j k 0 j (omega arith) (omega arith) ∙ same ∙ ap (slice_index walk.ps) last) (walk.each (k - 1) (omega arith));
-      }
-
-  -- a process that stands twice would wait for itself
-  no_repeats : (n p : ℕ) (walk : Walk i n p) → HasNoRepeats walk.ps
-  no_repeats n p walk j k below up same = w.acyclic (take (k - j) (drop j walk.ps)) (ring_closed n p j k walk below (omega (arith, up, walk.count)) same)
-
-  chain_few : (n p time : ℕ) → Chain i n p time → n ≤ length i.processes
-  chain_few n p time chain =
-      let walk = walk_of n p time chain in
-      let few = length_le (length i.processes) walk.ps (from_parts (length i.processes) walk.ps (λ k h. walk.inside k (omega (arith, h, walk.count))) (no_repeats n p walk)) in
-      omega (arith, few, walk.count)
-
   least_duration_small : (n : ℕ) → n < length i.nodes → least_duration i n ≤ MOST_DURATION
   least_duration_small n inside =
       let list = w.capacities n inside in
@@ -109,30 +32,20 @@ module _ (i : Instance) (w : IsInstance i) where
   pub transfer_small : (n : ℕ) → n < length i.nodes → least_transfer i n ≤ most_transfer
   transfer_small n inside = omega (arith, least_duration_small n inside, (w.ranges AtCluster).copy_out, (w.ranges AtCluster).copy_in)
 
-  chain_inside : (n p time : ℕ) → Chain i n p time → p < length i.processes
-  chain_inside _ _ _ (first p inside) = inside
-  chain_inside _ _ _ (on_link n p q time chain link) = link_inside p q link
-  chain_inside _ _ _ (on_message n p q time chain message) = message_inside p q message
-
   wcet_small : (p : ℕ) → p < length i.processes → (process_at i p).wcet ≤ MOST_TICKS
   wcet_small p inside = ((w.ranges (AtProcess p)) inside).wcet
 
   chain_time : (n p time : ℕ) → Chain i n p time → time ≤ MOST_TICKS + n * (most_transfer + MOST_TICKS)
   chain_time _ _ _ (first p inside) = omega (arith, wcet_small p inside, ((w.ranges (AtProcess p)) inside).release)
-  chain_time _ _ _ (on_link n p q time chain link) = omega (arith, chain_time n p time chain, wcet_small q (link_inside p q link))
+  chain_time _ _ _ (on_link n p q time chain link) = omega (arith, chain_time n p time chain, wcet_small q (link_inside i w p q link))
   chain_time _ _ _ (on_message n p q time chain message) =
-      let node = w.indices (AtProcess p) (chain_inside n p time chain) in
-      omega (arith, chain_time n p time chain, wcet_small q (message_inside p q message), transfer_small (node_of i p) node)
-
-  to_chain : (p time : ℕ) → ChainEnds i p time → (n : ℕ) × Chain i n p time
-  to_chain _ _ (one p inside) = (1, first p inside)
-  to_chain _ _ (by_link p q time chain link) = let rest = to_chain p time chain in (suc rest.0, on_link rest.0 p q time rest.1 link)
-  to_chain _ _ (by_message p q time chain message) = let rest = to_chain p time chain in (suc rest.0, on_message rest.0 p q time rest.1 message)
+      let node = w.indices (AtProcess p) (chain_inside i w n p time chain) in
+      omega (arith, chain_time n p time chain, wcet_small q (message_inside i w p q message), transfer_small (node_of i p) node)
 
   pub chain_small : (p time : ℕ) → ChainEnds i p time → time < 2 ^ 32
   chain_small p time chain =
-      let counted = to_chain p time chain in
-      omega (arith, chain_time counted.0 p time counted.1, chain_few counted.0 p time counted.1, w.limits.processes)
+      let counted = to_chain i p time chain in
+      omega (arith, chain_time counted.0 p time counted.1, chain_few i w counted.0 p time counted.1, w.limits.processes)
 
   -- Times that rise along links and messages.
   pub ends_raised : (ends : List ℕ) (q time : ℕ) → q < length i.processes → ChainEnds i q time → AreChainEnds i ends → AreChainEnds i (slice_set ends q (max (slice_index ends q) time))
@@ -167,8 +80,8 @@ module _ (i : Instance) (w : IsInstance i) where
     where
       at_most : (n p time : ℕ) → n ≤ 1 → Chain i n p time → time ≤ slice_index ends p
       at_most _ _ _ le (first p inside) = omega (arith, each p inside)
-      at_most _ _ _ le (on_link n p q time chain link) = absurd (omega (arith, le, (walk_of n p time chain).some))
-      at_most _ _ _ le (on_message n p q time chain message) = absurd (omega (arith, le, (walk_of n p time chain).some))
+      at_most _ _ _ le (on_link n p q time chain link) = absurd (omega (arith, le, chain_some i n p time chain))
+      at_most _ _ _ le (on_message n p q time chain message) = absurd (omega (arith, le, chain_some i n p time chain))
 
   pub ends_next : (count : ℕ) (ends between new : List ℕ) → 1 ≤ count → AreEnds i count ends → AreChainEnds i new → AreKept ends between → ((p q : ℕ) → HasLink i p q → slice_index ends p + (process_at i q).wcet ≤ slice_index between q) → AreKept between new → ((m q : ℕ) → Receives i m q → slice_index between (message_at i m).sender + least_transfer i (node_of i (message_at i m).sender) + (process_at i q).wcet ≤ slice_index new q) → AreEnds i (count + 1) new
   ends_next count ends between new some are chains kept links later messages = record { chains = chains; greatest = at_most }
@@ -185,8 +98,8 @@ module _ (i : Instance) (w : IsInstance i) where
     last = k;
     reached = rw (← is) (are.chains.reached k (omega (arith, inside, are.chains.all)));
     greatest = λ p time chain.
-        let counted = to_chain p time chain in
-        omega (arith, are.greatest counted.0 p time (omega (arith, chain_few counted.0 p time counted.1, all)) counted.1, greatest p);
+        let counted = to_chain i p time chain in
+        omega (arith, are.greatest counted.0 p time (omega (arith, chain_few i w counted.0 p time counted.1, all)) counted.1, greatest p);
   }
 
   -- a time that is read

@@ -29,8 +29,8 @@ goes_on line keyword names bytes k front rest n after lt h so_far =
     rw (add-one, ← next) (sym one ∙ so_far)
 
 pub ends : (e : PlanTextError) (line : ℕ) (keyword : List ℕ) (names : List (List ℕ)) (bytes : List ℕ) (k : ℕ) (front rest : List ℕ) → k < length names
-    → IsFaultOf e (number_at (line + k) keyword (get_or names k []) rest)
-    → IsReadSoFar line keyword names bytes k front rest → IsFaultOf e (numbers_at line keyword names bytes)
+    → IsFaultOf ⊥ e (number_at (line + k) keyword (get_or names k []) rest)
+    → IsReadSoFar line keyword names bytes k front rest → IsFaultOf (Unit {0}) e (numbers_at line keyword names bytes)
 unfolding numbers_at
 ends OutOfMemory line keyword names bytes k front rest lt h so_far = tt
 ends (At at fault) line keyword names bytes k front rest lt h so_far =

@@ -19,7 +19,7 @@ use Rattle.ttp_model.specs.Plans.{IsNodeOrder}
 use Rattle.plan_format.specs.declared.fault.LineFault.TheVariants.{Form, Name, Order}
 use Rattle.plan_format.specs.declared.fault.PlanTextError.TheVariants.{At}
 use Rattle.plan_format.specs.Names.{is_name}
-use Rattle.plan_format.specs.Reading.{line_at, words_of, places_with, places, is_distinct, order_at}
+use Rattle.plan_format.specs.Reading.{line_at, words_of, places_with, places, is_distinct, named_at, order_at}
 use Rattle.plan_format.proofs.Lines.{line_takes, line_again}
 use Rattle.plan_format.proofs.WordLoop.{found_at}
 use Rattle.plan_format.proofs.NameForm.{name_lacks}
@@ -137,24 +137,32 @@ pub record IsOrderRead (nodes : List (List ℕ)) (text order last : List ℕ) : 
   pub spelled : text ≡ order_words nodes order ++ 10 ∷ last
   pub is_order : IsNodeOrder (length nodes) order
 
--- The words are those of the line, since joined they are its text; and they are nodes, each once.
-pub order_takes : (nodes : List (List ℕ)) (text : List ℕ) (x : List ℕ × List ℕ) → order_at nodes text ≡ Ok x → IsOrderRead nodes text x.0 x.1
-unfolding order_at
-order_takes nodes text x e =
+named_takes : (text : List ℕ) (x : List ℕ × List ℕ) → named_at text ≡ Ok x → text ≡ (codes "order " ++ x.0) ++ 10 ∷ x.1
+unfolding named_at
+named_takes text x e =
     let line = bind_ok (line_at 3 text) _ x e in
     let more = bind_ok (check (At 3 Order) (not (bytes_eq line.0.0 (codes "order")))) _ x line.2 in
     let rest = bind_ok (or_fault (At 3 Form) (after_keyword (codes "order ") line.0.0)) _ x more.2 in
     let form = bind_ok (check (At 3 Form) (list_all is_name (words_of rest.0))) _ x rest.2 in
-    let order = bind_ok (or_fault (At 3 Name) (places nodes (words_of rest.0))) _ x form.2 in
-    let once = bind_ok (check (At 3 Order) ((length order.0 == length nodes) && is_distinct order.0)) _ x order.2 in
-    let is : (order.0, line.0.1) ≡ x = ok_is (order.0, line.0.1) x once.2 in
-    let tests = and_true (length order.0 == length nodes) (is_distinct order.0) (check_ok (At 3 Order) ((length order.0 == length nodes) && is_distinct order.0) once.0 once.1) in
-    let words = places_take nodes (words_of rest.0) order.0 (or_fault_ok (At 3 Name) (places nodes (words_of rest.0)) order.0 order.1) in
+    let is : (rest.0, line.0.1) ≡ x = ok_is (rest.0, line.0.1) x form.2 in
     let keyword = after_takes (codes "order ") line.0.0 rest.0 (or_fault_ok (At 3 Form) (after_keyword (codes "order ") line.0.0) rest.0 rest.1) in
-    let joined : rest.0 ≡ join_with_byte 32 (names_at nodes order.0) = sym (join_with_byte-slice_split 32 rest.0) ∙ ap (join_with_byte 32) (sym words.0) in
+    subst (λ (y : List ℕ × List ℕ). text ≡ (codes "order " ++ y.0) ++ 10 ∷ y.1) is
+    (order_joined text line.0.0 line.0.1 rest.0 rest.0 (line_takes 3 text line.0.0 line.0.1 line.1) keyword refl)
+
+-- The words are those of the line, since joined they are its text; and they are nodes, each once.
+pub order_takes : (nodes : List (List ℕ)) (text : List ℕ) (x : List ℕ × List ℕ) → order_at nodes text ≡ Ok x → IsOrderRead nodes text x.0 x.1
+unfolding order_at
+order_takes nodes text x e =
+    let named = bind_ok (named_at text) _ x e in
+    let order = bind_ok (or_fault (At 3 Name) (places nodes (words_of named.0.0))) _ x named.2 in
+    let once = bind_ok (check (At 3 Order) ((length order.0 == length nodes) && is_distinct order.0)) _ x order.2 in
+    let is : (order.0, named.0.1) ≡ x = ok_is (order.0, named.0.1) x once.2 in
+    let tests = and_true (length order.0 == length nodes) (is_distinct order.0) (check_ok (At 3 Order) ((length order.0 == length nodes) && is_distinct order.0) once.0 once.1) in
+    let words = places_take nodes (words_of named.0.0) order.0 (or_fault_ok (At 3 Name) (places nodes (words_of named.0.0)) order.0 order.1) in
+    let joined : named.0.0 ≡ join_with_byte 32 (names_at nodes order.0) = sym (join_with_byte-slice_split 32 named.0.0) ∙ ap (join_with_byte 32) (sym words.0) in
     subst (λ (y : List ℕ × List ℕ). IsOrderRead nodes text y.0 y.1) is
     (record {
-      spelled = order_joined text line.0.0 line.0.1 rest.0 (join_with_byte 32 (names_at nodes order.0)) (line_takes 3 text line.0.0 line.0.1 line.1) keyword joined;
+      spelled = named_takes text named.0 named.1 ∙ ap (λ (words : List ℕ). (codes "order " ++ words) ++ 10 ∷ named.0.1) joined;
       is_order = order_is (length nodes) order.0 (eqb-true _ _ tests.0) tests.1 words.1;
     })
 
@@ -163,7 +171,7 @@ not_alone x = refl
 
 order_steps : (nodes : List (List ℕ)) (text first rest words order : List ℕ) → line_at 3 text ≡ Ok (first, rest) → bytes_eq first (codes "order") ≡ false → after_keyword (codes "order ") first ≡ Some words
     → list_all is_name (words_of words) ≡ true → places nodes (words_of words) ≡ Some order → length order ≡ length nodes → is_distinct order ≡ true → order_at nodes text ≡ Ok (order, rest)
-unfolding order_at
+unfolding order_at named_at
 order_steps nodes text first rest words order a s b f o l d =
     let long : (length order == length nodes) ≡ true = eq-eqb (length order) (length nodes) l in
     rw (a, s, b, f, o, long, d) refl

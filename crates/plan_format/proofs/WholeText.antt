@@ -19,7 +19,7 @@ use Rattle.plan_format.specs.declared.fault.LineFault.TheVariants.{Trailing}
 use Rattle.plan_format.specs.declared.fault.PlanTextError.TheVariants.{At, OutOfMemory}
 use Rattle.plan_format.specs.Names.{is_name, names_in, keyword_of}
 use Rattle.plan_format.specs.Spelling.{numbered, plan_lines, delay_line, order_line, plan_text, HasText, SpellsPlan}
-use Rattle.plan_format.specs.Reading.{Reading, IsAnswer, head_at, delay_at, order_at, part_at, end_line, plan_at}
+use Rattle.plan_format.specs.Reading.{Reading, IsAnswer, HasFront, head_at, delay_at, order_at, part_at, end_line, plan_at}
 use Rattle.plan_format.proofs.Heads.{head_takes, head_again, delay_takes, delay_again}
 use Rattle.plan_format.proofs.Lines.{numbers_take, numbers_again}
 use Rattle.plan_format.proofs.NameForm.{test-from_IsName}
@@ -151,11 +151,11 @@ plan_again i plan delay w t =
 
 -- ---- what an answer says
 
-pub found_by : (i : Instance) (text : List ℕ) (r : Reading (Plan × ℕ)) → IsAnswer (λ x. x) r (plan_at i text) → IfOk r (λ x. SpellsPlan i text x.0 x.1)
+pub found_by : (i : Instance) (text : List ℕ) (r : Reading (Plan × ℕ)) → IsAnswer (HasFront text) (λ x. x) r (plan_at i text) → IfOk r (λ x. SpellsPlan i text x.0 x.1)
 found_by i text (Ok x) answer = plan_takes i text x answer
 found_by i text (Err e) answer = tt
 
-pub only_by : (i : Instance) (text : List ℕ) (r : Reading (Plan × ℕ)) → IsInstance i → IsAnswer (λ x. x) r (plan_at i text)
+pub only_by : (i : Instance) (text : List ℕ) (r : Reading (Plan × ℕ)) → IsInstance i → IsAnswer (HasFront text) (λ x. x) r (plan_at i text)
     → (plan : Plan) (delay : ℕ) → SpellsPlan i text plan delay → r ≢ Err OutOfMemory → r ≡ Ok (plan, delay)
 only_by i text (Ok x) w answer plan delay s memory = sym answer ∙ (ap (plan_at i) s.spelled ∙ plan_again i plan delay w s.value)
 only_by i text (Err OutOfMemory) w answer plan delay s memory = absurd (memory refl)

@@ -1,6 +1,6 @@
 -- Reading a plan text line by line: the plan and its stated delay, or the first fault and its
 -- line. The steps stand in the order in which faults are judged. Own profile.
-use Rattle.std.specs.Prelude.{◌≡◌, ℕ, ◌+◌, List, [], ◌∷◌, length, Option, Some, None, Result, Ok, Err, Bool, true, ◌==◌, ◌&&◌, not, bytes_eq, codes, position}
+use Rattle.std.specs.Prelude.{◌≡◌, ℕ, ◌+◌, List, [], ◌∷◌, length, Option, Some, None, Result, Ok, Err, IsOk, Bool, true, ◌==◌, ◌&&◌, not, bytes_eq, codes, position}
 use Rattle.std.specs.List.{list_all, list_any, slice_split}
 use Rattle.line_text.specs.Parts.{cut, after_keyword}
 use Rattle.line_text.specs.Numbers.{number_word}
@@ -20,15 +20,16 @@ use Rattle.plan_format.specs.declared.fault.PlanTextError.TheVariants.{At, OutOf
 abbrev pub Reading : Type 0 → Type 0
 Reading A = Result A PlanTextError
 
--- An error that was answered is the fault that reading gives. Nothing is said of a want of memory.
-abbrev pub IsFaultOf : {A : Type 0} → PlanTextError → Reading A → Type 0
-IsFaultOf OutOfMemory reading = Unit {0}
-IsFaultOf (At line fault) reading = reading ≡ Err (At line fault)
+-- An error that was answered is the fault that reading gives. Want of memory stands for any answer, once memory
+-- may be taken.
+abbrev pub IsFaultOf : {A : Type 0} → (MayTakeMemory : Type 0) → PlanTextError → Reading A → Type 0
+IsFaultOf MayTakeMemory OutOfMemory reading = MayTakeMemory
+IsFaultOf MayTakeMemory (At line fault) reading = reading ≡ Err (At line fault)
 
 -- What was answered, seen as a value of the definitions, is what reading gives.
-abbrev pub IsAnswer : {X A : Type 0} → (X → A) → Reading X → Reading A → Type 0
-IsAnswer view (Ok x) reading = reading ≡ Ok (view x)
-IsAnswer view (Err e) reading = IsFaultOf e reading
+abbrev pub IsAnswer : {X A : Type 0} → (MayTakeMemory : Type 0) → (X → A) → Reading X → Reading A → Type 0
+IsAnswer MayTakeMemory view (Ok x) reading = reading ≡ Ok (view x)
+IsAnswer MayTakeMemory view (Err e) reading = IsFaultOf MayTakeMemory e reading
 
 -- the line in front, and the text behind its end
 abbrev pub line_at : ℕ → List ℕ → Reading (List ℕ × List ℕ)
@@ -75,17 +76,23 @@ abbrev pub is_distinct : List ℕ → Bool
 is_distinct [] = true
 is_distinct (n ∷ ns) = not (list_any (λ m. m == n) ns) && is_distinct ns
 
--- The slot order, as places in the list of nodes. A line of the keyword alone has the form of an
--- order line, and names no node.
-unfoldable pub order_at : List (List ℕ) → List ℕ → Reading (List ℕ × List ℕ)
-order_at nodes text = do
+-- The names in the order line, whatever they name, and the text after it. A line of the keyword alone has the form
+-- of an order line, and names no node.
+unfoldable pub named_at : List ℕ → Reading (List ℕ × List ℕ)
+named_at text = do
   first ← line_at 3 text
   some ← check (At 3 Order) (not (bytes_eq first.0 (codes "order")))
   rest ← or_fault (At 3 Form) (after_keyword (codes "order ") first.0)
   form ← check (At 3 Form) (list_all is_name (words_of rest))
-  order ← or_fault (At 3 Name) (places nodes (words_of rest))
+  Ok (rest, first.1)
+
+-- the slot order, as places in the list of nodes
+unfoldable pub order_at : List (List ℕ) → List ℕ → Reading (List ℕ × List ℕ)
+order_at nodes text = do
+  named ← named_at text
+  order ← or_fault (At 3 Name) (places nodes (words_of named.0))
   once ← check (At 3 Order) ((length order == length nodes) && is_distinct order)
-  Ok (order, first.1)
+  Ok (order, named.1)
 
 -- the number in a line for this name
 unfoldable pub named_number : ℕ → List ℕ → List ℕ → List ℕ → Reading ℕ
@@ -119,6 +126,17 @@ part_at i part line text = numbers_at line (keyword_of part) (names_in i part) t
 -- the line after the last one: there are three, and one for each node, process and message
 abbrev pub end_line : Instance → ℕ
 end_line i = 4 + length i.nodes + length i.processes + length i.messages
+
+-- what is read before memory is taken: the first two lines, and the form of the third
+unfoldable pub front_at : List ℕ → Reading (List ℕ × List ℕ)
+front_at text = do
+  body ← head_at text
+  delay ← delay_at body
+  named_at delay.1
+
+-- it is right, so that memory may be taken
+abbrev pub HasFront : List ℕ → Type 0
+HasFront text = IsOk (front_at text)
 
 -- the whole text: a plan of the instance and its stated delay, which is not judged
 unfoldable pub plan_at : Instance → List ℕ → Reading (Plan × ℕ)

@@ -11,14 +11,14 @@ use ttp_model::is_name;
 
 /// The line in front, and the text behind its end.
 pub fn line_of(line: u32, text: &[u8]) -> Result<(&[u8], &[u8]), PlanTextError>
-    ensures { IsAnswer (λ x. (x.0.now, x.1.now)) result (line_at line text.now) }
+    ensures { IsAnswer ⊥ (λ x. (x.0.now, x.1.now)) result (line_at line text.now) }
 {
     cut(b'\n', text).ok_or(LineFault::EarlyEnd.at(line))
 }
 
 /// The number that a word of this line is.
 pub fn number_in(line: u32, word: &[u8]) -> Result<u32, PlanTextError>
-    ensures { IsAnswer (λ x. x) result (number_of line (number_word word.now)) }
+    ensures { IsAnswer ⊥ (λ x. x) result (number_of line (number_word word.now)) }
 {
     match number_word(word) {
         NumberWord::Malformed => Err(LineFault::Form.at(line)),
@@ -36,7 +36,7 @@ pub fn has_name_form(word: &[u8]) -> bool
 
 #[tactic(auto, unfolding(crate::specs::Reading::named_number))]
 fn named_number(line: u32, keyword: &[u8], name: &[u8], text: &[u8]) -> Result<u32, PlanTextError>
-    ensures { IsAnswer (λ x. x) result (named_number line keyword.now name.now text.now) }
+    ensures { IsAnswer ⊥ (λ x. x) result (named_number line keyword.now name.now text.now) }
 {
     let Some(rest) = after_keyword(keyword, text) else {
         return Err(LineFault::Form.at(line));
@@ -62,7 +62,7 @@ pub fn number_of<'a>(
     name: &[u8],
     text: &'a [u8],
 ) -> Result<(u32, &'a [u8]), PlanTextError>
-    ensures { IsAnswer (λ x. (x.0, x.1.now)) result (number_at line keyword.now name.now text.now) }
+    ensures { IsAnswer ⊥ (λ x. (x.0, x.1.now)) result (number_at line keyword.now name.now text.now) }
 {
     let (first, after) = line_of(line, text)?;
     let number = named_number(line, keyword, name, first)?;

@@ -1,11 +1,11 @@
 //! Which order of the nodes does the order line give?
 
-ghost use Rattle.std.specs.Prelude.{◌≡◌, ◌<◌, length, bytes_eq, position, IfOk, IfSome};
+ghost use Rattle.std.specs.Prelude.{◌≡◌, ◌<◌, length, bytes_eq, position, IfOk, IfSome, IsOk};
 ghost use Rattle.std.specs.List.{list_all};
 ghost use Rattle.line_text.specs.Parts.{seen_rest};
 ghost use Rattle.ttp_model.specs.declared.error.Part.TheVariants.{Nodes};
 ghost use Rattle.plan_format.specs.Names.{is_name, names_in};
-ghost use Rattle.plan_format.specs.Reading.{IsAnswer, words_of, is_distinct, places, order_at};
+ghost use Rattle.plan_format.specs.Reading.{IsAnswer, words_of, is_distinct, places, named_at, order_at};
 ghost use Rattle.plan_format.specs.Words.{words_with, items_of};
 
 use crate::fault::{LineFault, PlanTextError};
@@ -93,16 +93,10 @@ fn is_distinct(order: &[u32]) -> bool
     true
 }
 
-/// The slot order, as indices of nodes, and the text after its line. Linear in the line: only a
-/// line with as many words as there are nodes is looked through for a repeated one.
-#[tactic(auto, unfolding(crate::specs::Reading::order_at))]
-pub fn order_of<'a>(
-    alloc: Global,
-    instance: &Instance,
-    text: &'a [u8],
-) -> Result<(Vec<u32>, &'a [u8]), PlanTextError>
-    ensures { IsAnswer (λ x. (x.0.items, x.1.now)) result
-        (order_at (names_in instance.now Nodes) text.now) }
+/// The names in the order line, in one text, and the text after the line.
+#[tactic(auto, unfolding(crate::specs::Reading::named_at))]
+fn named_of(text: &[u8]) -> Result<(&[u8], &[u8]), PlanTextError>
+    ensures { IsAnswer ⊥ (λ x. (x.0.now, x.1.now)) result (named_at text.now) }
 {
     let (first, after) = line_of(ORDER_LINE, text)?;
     if first == b"order".as_slice() {
@@ -114,7 +108,23 @@ pub fn order_of<'a>(
     if !are_names(rest) {
         return Err(LineFault::Form.at(ORDER_LINE));
     }
-    let Some(order) = places_of(alloc, instance, rest)? else {
+    Ok((rest, after))
+}
+
+/// The slot order, as indices of nodes, and the text after its line. Linear in the line: only a
+/// line with as many words as there are nodes is looked through for a repeated one.
+#[tactic(auto, unfolding(crate::specs::Reading::order_at))]
+pub fn order_of<'a>(
+    alloc: Global,
+    instance: &Instance,
+    text: &'a [u8],
+) -> Result<(Vec<u32>, &'a [u8]), PlanTextError>
+    ensures value { IsAnswer (IsOk (named_at text.now)) (λ x. (x.0.items, x.1.now)) result
+        (order_at (names_in instance.now Nodes) text.now) }
+    ensures named { IfOk result (λ _. IsOk (named_at text.now)) }
+{
+    let (names, after) = named_of(text)?;
+    let Some(order) = places_of(alloc, instance, names)? else {
         return Err(LineFault::Name.at(ORDER_LINE));
     };
     if order.len() != instance.nodes().len() || !is_distinct(&order) {

@@ -4,7 +4,7 @@ ghost use Rattle.std.specs.Prelude.{◌≡◌, ◌≢◌, ◌+◌, ◌≤◌, �
 ghost use Rattle.ttp_model.specs.declared.limits.TheConstants.{MOST_NODES, MOST_PROCESSES};
 ghost use Rattle.ttp_model.specs.Rules.{IsInstance};
 ghost use Rattle.plan_format.specs.Spelling.{SpellsPlan};
-ghost use Rattle.plan_format.specs.Reading.{IsAnswer, head_at, delay_at, part_at, plan_at};
+ghost use Rattle.plan_format.specs.Reading.{IsAnswer, HasFront, head_at, delay_at, part_at, plan_at};
 
 use crate::fault::{LineFault, PlanTextError};
 use crate::line::{line_of, number_in, number_of};
@@ -16,7 +16,7 @@ use ttp_model::{Instance, Numbers, Part, Plan};
 
 #[tactic(auto, unfolding(crate::specs::Reading::head_at))]
 fn after_head(text: &[u8]) -> Result<&[u8], PlanTextError>
-    ensures { IsAnswer (λ x. x.now) result (head_at text.now) }
+    ensures { IsAnswer ⊥ (λ x. x.now) result (head_at text.now) }
 {
     let (first, after) = line_of(1, text)?;
     if first != b"ttplan 1".as_slice() {
@@ -27,7 +27,7 @@ fn after_head(text: &[u8]) -> Result<&[u8], PlanTextError>
 
 #[tactic(auto, unfolding(crate::specs::Reading::delay_at))]
 fn delay_of(text: &[u8]) -> Result<(u32, &[u8]), PlanTextError>
-    ensures { IsAnswer (λ x. (x.0, x.1.now)) result (delay_at text.now) }
+    ensures { IsAnswer ⊥ (λ x. (x.0, x.1.now)) result (delay_at text.now) }
 {
     let (first, after) = line_of(2, text)?;
     let Some(word) = after_keyword(b"delay ", first) else {
@@ -46,7 +46,7 @@ fn numbers_of<'a>(
     text: &'a [u8],
 ) -> Result<(Vec<u32>, &'a [u8]), PlanTextError>
     requires { line ≤ 4 + MOST_NODES + MOST_PROCESSES }
-    ensures { IsAnswer (λ x. (x.0.items, x.1.now)) result
+    ensures { IsAnswer (Unit {0}) (λ x. (x.0.items, x.1.now)) result
         (part_at instance.now part line text.now) }
 {
     let keyword = keyword_of(part);
@@ -62,9 +62,9 @@ fn numbers_of<'a>(
 }
 
 /// What the lines of a text give, the first fault first.
-#[tactic(auto, unfolding(crate::specs::Reading::plan_at))]
+#[tactic(auto, unfolding(crate::specs::Reading::plan_at, crate::specs::Reading::front_at))]
 fn plan_of(alloc: Global, instance: &Instance, text: &[u8]) -> Result<(Plan, u32), PlanTextError>
-    ensures exact { IsAnswer (λ x. x) result (plan_at instance.now text.now) }
+    ensures exact { IsAnswer (HasFront text.now) (λ x. x) result (plan_at instance.now text.now) }
     ensures instance { IsInstance instance.now }
 {
     let nodes = instance.nodes().len() as u32;
@@ -92,8 +92,9 @@ fn plan_of(alloc: Global, instance: &Instance, text: &[u8]) -> Result<(Plan, u32
 /// not judged. Lines are judged from the top, each as `LineFault` says. The text may have any
 /// length, and the cost is linear in it.
 pub fn read(alloc: Global, instance: &Instance, text: &[u8]) -> Result<(Plan, u32), PlanTextError>
-    // The plan and its stated delay, or the first fault with its line.
-    ensures exact { IsAnswer (λ x. x) result (plan_at instance.now text.now) }
+    // The plan and its stated delay, or the first fault with its line. Want of memory comes only behind a front
+    // that is right.
+    ensures exact { IsAnswer (HasFront text.now) (λ x. x) result (plan_at instance.now text.now) }
     // What is read has a text, and this is it.
     ensures found { IfOk result (λ r. SpellsPlan instance.now text.now r.0 r.1) }
     // A text that spells a plan is read as that plan, unless memory is refused.

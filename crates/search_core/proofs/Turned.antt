@@ -13,7 +13,7 @@ use Rattle.search_core.specs.declared.reply.Illegal.TheVariants.{NoSuchWorker, W
 use Rattle.search_core.specs.declared.hand.Hand.TheVariants.{Empty}
 use Rattle.search_core.specs.World.{Worker, World, idle_seat, worker_at, put, start}
 use Rattle.search_core.specs.Turns.{Pops, LosesFirst, TakesName, Looks, Works, Pushes, Offers, Rests, IsUnmet, HasTask, HasChildren, HasValue, HasNames, IsFitting}
-use Rattle.search_core.specs.Steps.{Step, Answers, Runs, HasWorkers, HasHand, HasName, HasFit, IsIllegal}
+use Rattle.search_core.specs.Steps.{Step, Answers, Runs, HasWorkers, HasHand, HasName, HasFit, TakesMemory, IsIllegal}
 use Rattle.search_core.specs.Steps.Step.{pops, steals, looks, works, pushes, offers, rests}
 use Rattle.search_core.specs.Steps.Runs.{ends, goes, stops}
 
@@ -27,12 +27,12 @@ put_same m w s t is same =
     let e : set m.seats w t ≡ m.seats = ap (λ x. set m.seats w x) (same ∙ is) ∙ set-get_or m.seats w s in
     ap (λ seats. let n : World = record { best = m.best; seats = seats } in n) e
 
-pub refused_at : (m : World) (event : Event) (fault : Illegal) → HasWorkers m event → IsUnmet (HasHand m event) (HasName m event) (HasFit m event) fault → IsIllegal m event fault
-refused_at m event NoSuchWorker there h = absurd h
-refused_at m event WrongHand there h = (there, h)
-refused_at m event EmptyDeque there h = (there, h)
-refused_at m event Misfit there h = (there, h)
-refused_at m event OutOfMemory there h = (there, h)
+pub refused_at : (m : World) (event : Event) (fault : Illegal) → (fault ≡ OutOfMemory → TakesMemory event) → HasWorkers m event → IsUnmet (HasHand m event) (HasName m event) (HasFit m event) fault → IsIllegal m event fault
+refused_at m event NoSuchWorker memory there h = absurd h
+refused_at m event WrongHand memory there h = (there, h)
+refused_at m event EmptyDeque memory there h = (there, h)
+refused_at m event Misfit memory there h = (there, h)
+refused_at m event OutOfMemory memory there h = (memory refl, there, h)
 
 pub popped : (m : World) (w : ℕ) (s t : Worker) (name : Name) → w < length m.seats → s ≡ get_or m.seats w s → Pops s name t → Step m (Pop w) (put m w t) (reply.Name name)
 popped m w s t name there is h =
@@ -41,16 +41,16 @@ popped m w s t name there is h =
 pub pop_refused : (m : World) (w : ℕ) (s t : Worker) (fault : Illegal) → w < length m.seats → s ≡ get_or m.seats w s → t ≡ s → IsUnmet (s.hand ≡ Empty) (s.deque ≢ []) (Unit {0}) fault → Answers m (Pop w) (Err fault) (put m w t)
 pop_refused m w s t fault there is same h =
     let P : Worker → Type 0 = λ x. IsUnmet (x.hand ≡ Empty) (x.deque ≢ []) (Unit {0}) fault in
-    (put_same m w s t is same, refused_at m (Pop w) fault there (subst P (seat_is m w s there is) h))
+    (put_same m w s t is same, refused_at m (Pop w) fault (λ _. tt) there (subst P (seat_is m w s there is) h))
 
 pub looked : (m : World) (w : ℕ) (s t : Worker) → w < length m.seats → s ≡ get_or m.seats w s → Looks s m.best t → Step m (Look w) (put m w t) (reply.Best m.best)
 looked m w s t there is h =
     let P : Worker → Type 0 = λ x. Looks x m.best t in looks w t there (subst P (seat_is m w s there is) h)
 
-pub look_refused : (m : World) (w : ℕ) (s t : Worker) (fault : Illegal) → w < length m.seats → s ≡ get_or m.seats w s → t ≡ s → IsUnmet (HasTask s.hand) (Unit {0}) (Unit {0}) fault → Answers m (Look w) (Err fault) (put m w t)
-look_refused m w s t fault there is same h =
+pub look_refused : (m : World) (w : ℕ) (s t : Worker) (fault : Illegal) → w < length m.seats → s ≡ get_or m.seats w s → t ≡ s → fault ≢ OutOfMemory → IsUnmet (HasTask s.hand) (Unit {0}) (Unit {0}) fault → Answers m (Look w) (Err fault) (put m w t)
+look_refused m w s t fault there is same none h =
     let P : Worker → Type 0 = λ x. IsUnmet (HasTask x.hand) (Unit {0}) (Unit {0}) fault in
-    (put_same m w s t is same, refused_at m (Look w) fault there (subst P (seat_is m w s there is) h))
+    (put_same m w s t is same, refused_at m (Look w) fault (λ memory. absurd (none memory)) there (subst P (seat_is m w s there is) h))
 
 pub worked_on : (m : World) (w : ℕ) (s t : Worker) (worked : Worked) → w < length m.seats → s ≡ get_or m.seats w s → Works s worked t → Step m (Work w worked) (put m w t) reply.Done
 worked_on m w s t worked there is h =
@@ -59,7 +59,7 @@ worked_on m w s t worked there is h =
 pub work_refused : (m : World) (w : ℕ) (s t : Worker) (worked : Worked) (fault : Illegal) → w < length m.seats → s ≡ get_or m.seats w s → t ≡ s → IsUnmet (HasTask s.hand) (Unit {0}) (IsFitting s.seen worked) fault → Answers m (Work w worked) (Err fault) (put m w t)
 work_refused m w s t worked fault there is same h =
     let P : Worker → Type 0 = λ x. IsUnmet (HasTask x.hand) (Unit {0}) (IsFitting x.seen worked) fault in
-    (put_same m w s t is same, refused_at m (Work w worked) fault there (subst P (seat_is m w s there is) h))
+    (put_same m w s t is same, refused_at m (Work w worked) fault (λ _. tt) there (subst P (seat_is m w s there is) h))
 
 pub pushed_on : (m : World) (w : ℕ) (s t : Worker) → w < length m.seats → s ≡ get_or m.seats w s → Pushes s t → Step m (Push w) (put m w t) reply.Done
 pushed_on m w s t there is h =
@@ -68,7 +68,7 @@ pushed_on m w s t there is h =
 pub push_refused : (m : World) (w : ℕ) (s t : Worker) (fault : Illegal) → w < length m.seats → s ≡ get_or m.seats w s → t ≡ s → IsUnmet (HasChildren s.hand) (Unit {0}) (Unit {0}) fault → Answers m (Push w) (Err fault) (put m w t)
 push_refused m w s t fault there is same h =
     let P : Worker → Type 0 = λ x. IsUnmet (HasChildren x.hand) (Unit {0}) (Unit {0}) fault in
-    (put_same m w s t is same, refused_at m (Push w) fault there (subst P (seat_is m w s there is) h))
+    (put_same m w s t is same, refused_at m (Push w) fault (λ _. tt) there (subst P (seat_is m w s there is) h))
 
 pub offered : (m : World) (w : ℕ) (s t : Worker) (v least : ℕ) → w < length m.seats → s ≡ get_or m.seats w s → Offers s v t → least ≡ min m.best v → Step m (Offer w) (put (record m { best = least }) w t) (reply.Best least)
 offered m w s t v least there is h e =
@@ -76,10 +76,10 @@ offered m w s t v least there is h e =
     let Q : ℕ → Type 0 = λ b. Step m (Offer w) (put (record m { best = b }) w t) (reply.Best b) in
     subst Q (sym e) (offers w v t there (subst P (seat_is m w s there is) h))
 
-pub offer_refused : (m : World) (w : ℕ) (s t : Worker) (fault : Illegal) → w < length m.seats → s ≡ get_or m.seats w s → t ≡ s → IsUnmet (HasValue s.hand) (Unit {0}) (Unit {0}) fault → Answers m (Offer w) (Err fault) (put m w t)
-offer_refused m w s t fault there is same h =
+pub offer_refused : (m : World) (w : ℕ) (s t : Worker) (fault : Illegal) → w < length m.seats → s ≡ get_or m.seats w s → t ≡ s → fault ≢ OutOfMemory → IsUnmet (HasValue s.hand) (Unit {0}) (Unit {0}) fault → Answers m (Offer w) (Err fault) (put m w t)
+offer_refused m w s t fault there is same none h =
     let P : Worker → Type 0 = λ x. IsUnmet (HasValue x.hand) (Unit {0}) (Unit {0}) fault in
-    (put_same m w s t is same, refused_at m (Offer w) fault there (subst P (seat_is m w s there is) h))
+    (put_same m w s t is same, refused_at m (Offer w) fault (λ memory. absurd (none memory)) there (subst P (seat_is m w s there is) h))
 
 pub rested : (m : World) (w : ℕ) (s t : Worker) → w < length m.seats → s ≡ get_or m.seats w s → Rests s t → Step m (Rest w) (put m w t) reply.Done
 rested m w s t there is h =
@@ -88,7 +88,7 @@ rested m w s t there is h =
 pub rest_refused : (m : World) (w : ℕ) (s t : Worker) (fault : Illegal) → w < length m.seats → s ≡ get_or m.seats w s → t ≡ s → IsUnmet (HasNames s.hand) (Unit {0}) (Unit {0}) fault → Answers m (Rest w) (Err fault) (put m w t)
 rest_refused m w s t fault there is same h =
     let P : Worker → Type 0 = λ x. IsUnmet (HasNames x.hand) (Unit {0}) (Unit {0}) fault in
-    (put_same m w s t is same, refused_at m (Rest w) fault there (subst P (seat_is m w s there is) h))
+    (put_same m w s t is same, refused_at m (Rest w) fault (λ _. tt) there (subst P (seat_is m w s there is) h))
 
 -- the hand fits besides
 pub with_hand : (hand deque fit : Type 0) → hand → (fault : Illegal) → IsUnmet (Unit {0}) deque fit fault → IsUnmet hand deque fit fault
@@ -117,7 +117,7 @@ steal_refused m w v r s u fault at from other was idle is same h =
     let P : Worker → Type 0 = λ x. IsUnmet (Unit {0}) (x.deque ≢ []) (Unit {0}) fault in
     let Q : Worker → Type 0 = λ x. x.hand ≡ Empty in (
       put_same m v s u is same,
-      refused_at m (Steal w v) fault (at, from, other)
+      refused_at m (Steal w v) fault (λ _. tt) (at, from, other)
           (with_hand ((worker_at m w).hand ≡ Empty) ((worker_at m v).deque ≢ []) (Unit {0}) (subst Q (seat_is m w r at was) idle) fault (subst P (seat_is m v s from is) h)),
     )
 

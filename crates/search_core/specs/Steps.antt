@@ -79,13 +79,23 @@ HasFit m (Push w) = Unit {0}
 HasFit m (Offer w) = Unit {0}
 HasFit m (Rest w) = Unit {0}
 
+-- the event takes memory: a look and an offer take none
+abbrev pub TakesMemory : Event → Type 0
+TakesMemory (Pop w) = Unit {0}
+TakesMemory (Steal w v) = Unit {0}
+TakesMemory (Look w) = ⊥
+TakesMemory (Work w worked) = Unit {0}
+TakesMemory (Push w) = Unit {0}
+TakesMemory (Offer w) = ⊥
+TakesMemory (Rest w) = Unit {0}
+
 -- the first of the five causes that holds
 abbrev pub IsIllegal : World → Event → Illegal → Type 0
 IsIllegal m event NoSuchWorker = ¬ HasWorkers m event
 IsIllegal m event WrongHand = HasWorkers m event × IsUnmet (HasHand m event) (HasName m event) (HasFit m event) WrongHand
 IsIllegal m event EmptyDeque = HasWorkers m event × IsUnmet (HasHand m event) (HasName m event) (HasFit m event) EmptyDeque
 IsIllegal m event Misfit = HasWorkers m event × IsUnmet (HasHand m event) (HasName m event) (HasFit m event) Misfit
-IsIllegal m event OutOfMemory = HasWorkers m event × IsUnmet (HasHand m event) (HasName m event) (HasFit m event) OutOfMemory
+IsIllegal m event OutOfMemory = TakesMemory event × HasWorkers m event × IsUnmet (HasHand m event) (HasName m event) (HasFit m event) OutOfMemory
 
 -- an event is done, or refused with nothing changed
 abbrev pub Answers : World → Event → Result Reply Illegal → World → Type 0

@@ -127,6 +127,7 @@ impl Worker {
         ensures done { OnOk result (Looks self.old best self.new) }
         ensures same { OnErr result (self.new ≡ self.old) }
         ensures refused { IfErr result (IsUnmet (HasTask self.old.hand) (Unit {0}) (Unit {0})) }
+        ensures memory { IfErr result (λ fault. fault ≢ Illegal.OutOfMemory) }
     {
         match &self.hand {
             Hand::Task(_) => {
@@ -178,6 +179,7 @@ impl Worker {
         ensures done { IfOk result (λ v. Offers self.old v self.new) }
         ensures same { OnErr result (self.new ≡ self.old) }
         ensures refused { IfErr result (IsUnmet (HasValue self.old.hand) (Unit {0}) (Unit {0})) }
+        ensures memory { IfErr result (λ fault. fault ≢ Illegal.OutOfMemory) }
     {
         let Hand::Value(value) = self.hand else {
             return Err(Illegal::WrongHand);

@@ -1,16 +1,16 @@
 -- A prefix of different nodes is the beginning of an order of all nodes.
-use Rattle.std.proofs.Common.{◌≡◌, ◌≢◌, ℕ, zero, suc, ◌+◌, ◌<◌, ◌≤◌, ◌==◌, if◌then◌else◌, false, List, [], ◌∷◌, ◌++◌, length, length-append, slice_index, sum_by, arith, inl, inr, refl, subst, ◌∙◌, sym, append_assoc}
+use Rattle.std.proofs.Common.{◌≡◌, ◌≢◌, ℕ, zero, suc, ◌+◌, ◌<◌, ◌≤◌, ◌==◌, if◌then◌else◌, false, List, [], ◌∷◌, ◌++◌, length, length-append, slice_index, arith, inl, inr, refl, subst, ◌∙◌, sym, append_assoc}
 use Rattle.std.specs.List.{list_any}
 use Rattle.std.proofs.lemmas.Bool.{cases_Bool, cases_eq, cases_lt, eq-eqb, both_ways}
 use Rattle.std.proofs.lemmas.Bool.Decides.{eqb_tells}
 use Rattle.std.proofs.lemmas.List.Folds.{list_any_at}
 use Rattle.std.proofs.lemmas.List.{append-nil}
-use Rattle.std.proofs.lemmas.List.Sums.{sum_by-cons}
 use Rattle.std.proofs.lemmas.Grind.{common_steps}
 use Rattle.ttp_model.specs.Lists.{HasNoRepeats}
 use Rattle.ttp_model.specs.Plans.{IsNodeOrder}
 use Rattle.ttp_model.specs.Totals.{total}
-use Rattle.ttp_model.proofs.Totals.{total_more, total_shared, total_none, total_bound, part_of_total}
+use Rattle.ttp_model.proofs.Orders.{different_few}
+use Rattle.ttp_model.proofs.Totals.{total_more, total_shared, total_none}
 
 -- 1 where k is in the list
 unfoldable pub held : List ℕ → ℕ → ℕ
@@ -120,11 +120,4 @@ extend (suc more) count xs all nodes =
 -- different numbers below a count are at most so many
 pub length_le : (count : ℕ) (xs : List ℕ) → AreNodes count xs → length xs ≤ count
 unfolding AreNodes
-length_le count xs nodes =
-    let part = part_of_total (λ _. 1) count xs nodes.0 nodes.1 in
-    let all = total_bound (λ _. 1) 1 count (λ k lt. omega arith) in
-    omega (arith, part, all, sum_of_ones xs)
-  where
-    sum_of_ones : (ys : List ℕ) → sum_by (λ (_ : ℕ). 1) ys ≡ length ys
-    sum_of_ones [] = refl
-    sum_of_ones (y ∷ ys) = omega (arith, sum_by-cons (λ (_ : ℕ). 1) y ys, sum_of_ones ys)
+length_le count xs nodes = different_few count xs nodes.0 nodes.1

@@ -1,5 +1,6 @@
 -- A process that starts when all is over that it waits for: the plan stays valid, and the process can start no earlier.
-use Rattle.std.proofs.Common.{◌≡◌, ◌≢◌, ℕ, ◌-◌, ◌<◌, ◌≤◌, length, slice_index, arith, inl, inr, ◌∙◌, sym, ap, get_or-set_other, get_or-set_same}
+use Rattle.std.proofs.Common.{◌≡◌, ◌≢◌, ℕ, zero, suc, ◌+◌, ◌-◌, ◌<◌, ◌≤◌, List, [], ◌∷◌, length, slice_index, slice_set, arith, inl, inr, refl, subst, ◌∙◌, sym, ap, get_or-set_other, get_or-set_same}
+use Rattle.std.proofs.lemmas.List.{set-get_or}
 use Rattle.std.proofs.lemmas.List.Sums.{sum_by-set}
 use Rattle.std.proofs.lemmas.Grind.{common_steps}
 use Rattle.ttp_model.specs.declared.plan.Plan.{Plan}
@@ -7,13 +8,18 @@ use Rattle.ttp_model.specs.declared.error.Place.TheVariants.{AtProcess}
 use Rattle.ttp_model.specs.Instance.{Instance, process_at, message_at, link_at, node_of}
 use Rattle.ttp_model.specs.Rules.{IsInstance}
 use Rattle.ttp_model.specs.Plans.{IsValid, start_of, end_of}
-use Rattle.ttp_model.specs.Moves.{started}
-use Rattle.ttp_model.proofs.Delays.{by_starts}
+use Rattle.ttp_model.specs.Moves.{StartsEarlier, MovesLead, none, one_more, started}
 use Rattle.ttp_model.proofs.ValidPlans.{two_apart}
+use Rattle.ttp_model.proofs.Delays.{by_starts}
 use Rattle.tt_moves.specs.Earlier.{CanStart}
 use Rattle.tt_moves.proofs.EarlierStarts.{started_valid, starts_le}
 use Rattle.tt_settle.specs.Settling.{IsBetter, RestsAtStart}
 use Rattle.tt_settle.specs.Reasons.{IsWait, LeadsTo, Receives, arrival, link_end}
+
+set_twice : (xs : List ℕ) (p a b : ℕ) → slice_set (slice_set xs p a) p b ≡ slice_set xs p b
+set_twice [] p a b = refl
+set_twice (x ∷ xs) zero a b = refl
+set_twice (x ∷ xs) (suc p) a b = ap (λ ys. x ∷ ys) (set_twice xs p a b)
 
 module _ (i : Instance) (plan : Plan) (p time : ℕ) (w : IsInstance i) (v : IsValid i plan) (hp : p < length i.processes) (wait : IsWait i plan p time) where
   p_takes : 1 ≤ (process_at i p).wcet
@@ -41,18 +47,44 @@ module _ (i : Instance) (plan : Plan) (p time : ℕ) (w : IsInstance i) (v : IsV
     | inr is ↦ omega (arith, is.2.1, is.2.0.1)
   ]
 
-  can_start : CanStart i plan p time
-  can_start = record {
-    released = omega (arith, wait.release_is, wait.links.least, wait.messages.least, wait.others.least);
-    others = λ x h node first. wait.others.each x h (node, first);
-    messages = λ m h receives. omega (arith, wait.messages.each m h receives, wait.others.least);
+  can_start : (late : ℕ) → time ≤ late → CanStart i plan p late
+  can_start late after = record {
+    released = omega (arith, wait.release_is, wait.links.least, wait.messages.least, wait.others.least, after);
+    others = λ x h node first. omega (arith, wait.others.each x h (node, first), after);
+    messages = λ m h receives. omega (arith, wait.messages.each m h receives, wait.others.least, after);
   }
+
+  -- a tick earlier and a tick earlier again
+  tick : (late : ℕ) → time ≤ late → late < start_of plan p → StartsEarlier i (started plan p (late + 1)) (started plan p late)
+  tick late after sooner =
+      let here : start_of (started plan p (late + 1)) p ≡ late + 1 = get_or-set_same plan.starts p (late + 1) 0 (omega (arith, v.lengths.starts, hp)) in
+      let before : start_of (started plan p (late + 1)) p - 1 ≡ late = omega (arith, here) in
+      record {
+        process = p;
+        is_there = hp;
+        above = omega (arith, here);
+        moved_is = ap (λ (xs : List ℕ). record plan { starts = xs }) (sym (set_twice plan.starts p (late + 1) late)) ∙ ap (λ (t : ℕ). started (started plan p (late + 1)) p t) (sym before);
+      }
+
+  ticks : (k late : ℕ) → late ≡ time + k → late ≤ start_of plan p → MovesLead i (started plan p late) (started plan p time)
+  ticks zero late is sooner = let same : late ≡ time = omega (arith, is) in rw same (none (started plan p time))
+  ticks (suc k) late is sooner =
+      let after : late ≡ time + k + 1 = omega (arith, is) in
+      rw after (one_more (started plan p (time + k + 1)) (started plan p (time + k)) (started plan p time)
+      (inl (inl (tick (time + k) (omega arith) (omega (arith, after, sooner)))))
+      (started_valid i plan p (time + k) w v hp (omega (arith, after, sooner)) (can_start (time + k) (omega arith)))
+      (ticks k (time + k) refl (omega (arith, after, sooner))))
+
+  -- the start that it has
+  own_start : started plan p (start_of plan p) ≡ plan
+  own_start = ap (λ (xs : List ℕ). record plan { starts = xs }) (set-get_or plan.starts p 0)
 
   -- it is a better plan in which p starts then
   pub better_started : time < start_of plan p → IsBetter i plan (started plan p time)
   better_started sooner = record {
-    valid = started_valid i plan p time w v hp over can_start;
-    delay = by_starts i plan (started plan p time) w v (λ q h. starts_le i plan p time w v hp over can_start q);
+    valid = started_valid i plan p time w v hp over (can_start time (omega arith));
+    leads = subst (λ (from : Plan). MovesLead i from (started plan p time)) own_start (ticks (start_of plan p - time) (start_of plan p) (omega (arith, sooner)) (omega arith));
+    delay = by_starts i plan (started plan p time) w v (λ q h. starts_le i plan p time w v hp over (can_start time (omega arith)) q);
     lighter = inl (omega (arith, sooner, sum_by-set (λ x. x) plan.starts p time 0 (omega (arith, hp, v.lengths.starts))));
   }
 

@@ -1,5 +1,5 @@
 -- One attempt after another to better a plan is an attempt.
-use Rattle.std.proofs.Common.{◌≡◌, ℕ, ◌+◌, ◌≤◌, ◌||◌, Bool, true, false, arith, inl, inr, refl, subst, sym, ap, ◌∙◌, below_more}
+use Rattle.std.proofs.Common.{◌≡◌, ℕ, ◌+◌, ◌≤◌, ◌||◌, Bool, true, false, arith, refl, subst, sym, ap, ◌∙◌, below_more}
 use Rattle.std.proofs.lemmas.Bool.{false≢true}
 use Rattle.ttp_model.specs.declared.plan.Plan.{Plan}
 use Rattle.ttp_model.specs.Lists.{EachBelow}
@@ -7,21 +7,17 @@ use Rattle.ttp_model.specs.Instance.{Instance}
 use Rattle.ttp_model.specs.Rules.{IsInstance}
 use Rattle.ttp_model.specs.Plans.{IsValid}
 use Rattle.ttp_model.specs.Delays.{delay}
-use Rattle.ttp_model.specs.Moves.{Move, IsLighter, weight}
+use Rattle.ttp_model.specs.Moves.{Move, MovesLead, none, weight}
 use Rattle.ttp_model.proofs.Delays.{keeps_delay}
 use Rattle.ttp_model.proofs.Lighter.{lowers_weight}
+use Rattle.ttp_model.proofs.Reached.{leads_on, leads_one, lighter_still}
 use Rattle.tt_settle.specs.Settling.{IsBetter, IsTried}
-
-lighter_still : (a b c : ℕ × ℕ) → IsLighter b a → IsLighter c b → IsLighter c a
-lighter_still a b c (inl one) (inl two) = inl (omega (arith, one, two))
-lighter_still a b c (inl one) (inr two) = inl (omega (arith, one, two.0))
-lighter_still a b c (inr one) (inl two) = inl (omega (arith, one.0, two))
-lighter_still a b c (inr one) (inr two) = inr (two.0 ∙ one.0, omega (arith, one.1, two.1))
 
 -- a move to a valid plan betters a plan
 pub better_by_move : (i : Instance) (plan moved : Plan) → IsInstance i → IsValid i plan → IsValid i moved → Move i plan moved → IsBetter i plan moved
 better_by_move i plan moved w v after move = record {
   valid = after;
+  leads = leads_one i plan moved move after;
   delay = keeps_delay i plan moved w v after move;
   lighter = lowers_weight i plan moved w v after move;
 }
@@ -29,6 +25,7 @@ better_by_move i plan moved w v after move = record {
 better_still : (i : Instance) (a b c : Plan) → IsBetter i a b → IsBetter i b c → IsBetter i a c
 better_still i a b c one two = record {
   valid = two.valid;
+  leads = leads_on i a b c one.leads two.leads;
   delay = omega (arith, one.delay, two.delay);
   lighter = lighter_still (weight i a) (weight i b) (weight i c) one.lighter two.lighter;
 }
@@ -50,7 +47,7 @@ module _ (i : Instance) (plan : Plan) where
     rests = λ _. rests;
   }
 
-  -- the plan stays valid, and its delay grows no larger
+  -- the plan stays valid, its delay grows no larger, and moves led to it
   pub tried_valid : (R : Plan → Type 0) (next : Plan) (moved : Bool) → IsValid i plan → IsTried i plan R next moved → IsValid i next
   tried_valid R next true v t = (t.better refl).valid
   tried_valid R next false v t = subst (IsValid i) (sym (t.same refl)) v
@@ -58,6 +55,10 @@ module _ (i : Instance) (plan : Plan) where
   pub tried_delay : (R : Plan → Type 0) (next : Plan) (moved : Bool) → IsTried i plan R next moved → delay i next ≤ delay i plan
   tried_delay R next true t = (t.better refl).delay
   tried_delay R next false t = omega (arith, ap (delay i) (t.same refl))
+
+  pub tried_leads : (R : Plan → Type 0) (next : Plan) (moved : Bool) → IsTried i plan R next moved → MovesLead i plan next
+  tried_leads R next true t = (t.better refl).leads
+  tried_leads R next false t = subst (MovesLead i plan) (sym (t.same refl)) (none plan)
 
   -- what rests may be said otherwise
   pub tried_as : (R S : Plan → Type 0) (next : Plan) (moved : Bool) → (R next → S next) → IsTried i plan R next moved → IsTried i plan S next moved

@@ -6,7 +6,7 @@ use Rattle.ttp_model.specs.Instance.{Instance, message_at}
 use Rattle.ttp_model.specs.Plans.{IsValid, start_of, round_of}
 use Rattle.ttp_model.specs.Delays.{delay}
 use Rattle.ttp_model.specs.Twins.{AreTwins, AreSilentTwins}
-use Rattle.ttp_model.specs.Moves.{IsLighter, exchanged, position_of, sent, started, swapped, weight}
+use Rattle.ttp_model.specs.Moves.{IsLighter, MovesLead, exchanged, position_of, sent, started, swapped, weight}
 
 -- process p can't start a tick earlier
 abbrev pub RestsAtStart : Instance → Plan → ℕ → Type 0
@@ -48,9 +48,10 @@ pub record RestsWhole (i : Instance) (plan : Plan) : Type 0 where
   pub twins : EachBelow (length i.processes) (RestsAmongTwins i plan)
   pub silent_twins : EachBelow (length i.nodes) (λ v. EachBelow v (λ u. RestAsSilentTwins i plan u v))
 
--- another plan is valid, ends no later and is lighter
+-- another plan, to which moves lead, is valid, ends no later and is lighter
 pub record IsBetter (i : Instance) (plan better : Plan) : Type 0 where
   pub valid : IsValid i better
+  pub leads : MovesLead i plan better
   pub delay : delay i better ≤ delay i plan
   pub lighter : IsLighter (weight i better) (weight i plan)
 

@@ -1,12 +1,12 @@
 //! What follows from the definitions alone? These functions do nothing: their contracts are laws.
 
-ghost use Rattle.std.specs.Prelude.{◌+◌, ◌≤◌, ℕ};
+ghost use Rattle.std.specs.Prelude.{◌≡◌, ◌+◌, ◌≤◌, ◌⊎◌, ℕ};
 ghost use Rattle.ttp_model.specs.declared.plan.Plan.{Plan};
 ghost use Rattle.ttp_model.specs.Instance.{Instance};
 ghost use Rattle.ttp_model.specs.Rules.{IsInstance};
 ghost use Rattle.ttp_model.specs.Plans.{IsValid};
 ghost use Rattle.ttp_model.specs.Delays.{delay};
-ghost use Rattle.ttp_model.specs.Moves.{Move, IsLighter, IsSettled, weight};
+ghost use Rattle.ttp_model.specs.Moves.{Move, MovesLead, IsLighter, IsSettled, weight};
 
 /// Each move from a valid plan to a valid plan lowers the weight.
 pub fn moves_lower_the_weight()
@@ -28,9 +28,20 @@ pub fn weights_end()
         → ¬ ((k : ℕ) → IsLighter (weight i (plans (k + 1))) (weight i (plans k))) }
 {}
 
-/// From each valid plan the moves lead to a settled one, which ends no later.
+/// Wherever moves lead from a valid plan, plans stay valid and end no later; and one that moves led to is lighter.
+pub fn moves_lead_down()
+    ensures valid { (i : Instance) (plan last : Plan)
+        → IsInstance i → IsValid i plan → MovesLead i plan last → IsValid i last }
+    ensures delay { (i : Instance) (plan last : Plan)
+        → IsInstance i → IsValid i plan → MovesLead i plan last → delay i last ≤ delay i plan }
+    ensures weight { (i : Instance) (plan last : Plan)
+        → IsInstance i → IsValid i plan → MovesLead i plan last
+        → (last ≡ plan) ⊎ IsLighter (weight i last) (weight i plan) }
+{}
+
+/// From each valid plan the moves lead to a settled one.
 pub fn a_settled_plan_is_reached()
     ensures { (i : Instance) (plan : Plan)
         → IsInstance i → IsValid i plan
-        → (settled : Plan) × IsSettled i settled × (delay i settled ≤ delay i plan) }
+        → (settled : Plan) × MovesLead i plan settled × IsSettled i settled }
 {}

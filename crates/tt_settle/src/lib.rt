@@ -10,7 +10,8 @@ mod starts;
 mod swaps;
 
 pub use laws::{
-    a_settled_plan_is_reached, moves_keep_the_delay, moves_lower_the_weight, weights_end,
+    a_settled_plan_is_reached, moves_keep_the_delay, moves_lead_down, moves_lower_the_weight,
+    weights_end,
 };
 pub use settling::settle;
 pub use tt_moves::{silent_twins, twins};

@@ -3,14 +3,14 @@
 ghost use Rattle.std.specs.Prelude.{◌≤◌, MatchResult, IsOk};
 ghost use Rattle.ttp_model.specs.Plans.{IsValid};
 ghost use Rattle.ttp_model.specs.Delays.{delay};
-ghost use Rattle.ttp_model.specs.Moves.{IsSettled};
+ghost use Rattle.ttp_model.specs.Moves.{IsSettled, MovesLead};
 ghost use Rattle.tt_settle.specs.Settling.{IsTried, RestsWhole};
 
 use crate::{passes, swaps};
 use std::alloc::Global;
 use ttp_model::{Instance, MemoryFault, Plan};
 
-/// A settled plan, from a valid one by moves, with no larger delay.
+/// A settled plan, to which the moves lead from a valid one, with no larger delay.
 ///
 /// It goes through the four kinds of moves in turn, until none is left. A process goes at once to
 /// the end of what it waits for, and a message to the first round that has room for it, however
@@ -21,6 +21,9 @@ pub fn settle(_alloc: Global, instance: &Instance, plan: Plan) -> Result<Plan, (
     ensures settled { MatchResult result
         (λ settled. IsSettled instance.now settled)
         (λ kept. IsValid instance.now kept.0) }
+    ensures leads { MatchResult result
+        (λ settled. MovesLead instance.now plan settled)
+        (λ kept. MovesLead instance.now plan kept.0) }
     ensures delay { MatchResult result
         (λ settled. delay instance.now settled ≤ delay instance.now plan)
         (λ kept. delay instance.now kept.0 ≤ delay instance.now plan) }
@@ -33,6 +36,7 @@ pub fn settle(_alloc: Global, instance: &Instance, plan: Plan) -> Result<Plan, (
 fn settle_in_place(instance: &Instance, plan: Plan) -> Plan
     requires { IsValid instance.now plan }
     ensures settled { IsSettled instance.now result }
+    ensures leads { MovesLead instance.now plan result }
     ensures delay { delay instance.now result ≤ delay instance.now plan }
 {
     let (mut plan, _) = passes::go_earlier(instance, plan);

@@ -23,3 +23,4 @@ pub mod Delays
 pub mod Positions
 pub mod Lighter
 pub mod Reached
+pub mod Walks

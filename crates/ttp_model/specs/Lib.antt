@@ -14,6 +14,7 @@ pub mod Plans
 pub mod Delays
 pub mod Faults
 pub mod Chains
+pub mod Walks
 pub mod Kinds
 pub mod Twins
 pub mod Moves

@@ -60,6 +60,11 @@ pub fn path_bound_is_lower_bound()
     ensures one { (i : Instance) (a b : ℕ) → IsPathBound i a → IsPathBound i b → a ≡ b }
 {}
 
+/// Each instance has a path bound: chains pass no process twice, so there are finitely many.
+pub fn each_instance_has_a_path_bound()
+    ensures { (i : Instance) → IsInstance i → (bound : ℕ) × IsPathBound i bound }
+{}
+
 /// A plan that has a fault is not valid.
 pub fn faulty_plans_are_not_valid()
     ensures { (i : Instance) (plan : Plan) (fault : PlanFault) → IsFirstFault i plan fault → ¬ IsValid i plan }

@@ -25,8 +25,9 @@ pub use fault::{PlanFault, PlanPart};
 pub use frames::bytes_in;
 pub use instance::Instance;
 pub use laws::{
-    delay_is_an_end, every_node_has_a_slot, faulty_plans_are_not_valid, frames_fit,
-    lower_bound_past_horizon, path_bound_is_lower_bound, valid_numbers_are_small,
+    delay_is_an_end, each_instance_has_a_path_bound, every_node_has_a_slot,
+    faulty_plans_are_not_valid, frames_fit, lower_bound_past_horizon, path_bound_is_lower_bound,
+    valid_numbers_are_small,
 };
 pub use limits::{
     MOST_BUS_TICKS, MOST_BYTES, MOST_CAPACITIES, MOST_DURATION, MOST_HEAD, MOST_LINKS,

@@ -9,7 +9,7 @@ use Rattle.certificate.proofs.reading.nodes_of.Goals as goal
 pub returns-in_err-node-clause-value : goal.returns-in_err-node-clause-value
 returns-in_err-node-clause-value c =
     let p = err_from_is_err_and c.from_residual-in_err-node.result c.from_residual-in_err-node.ensures.1 in
-    let h : IsFaultOf c.in_err-node.field-0.0 (text_node (length c.pop.new.self.items) c.nodes.line c.nodes.rest.now) = rw (← c.as_slice.ensures.value) c.in_err-node.ensures.value in
+    let h : IsFaultOf (Unit {0}) c.in_err-node.field-0.0 (text_node (length c.pop.new.self.items) c.nodes.line c.nodes.rest.now) = rw (← c.as_slice.ensures.value) c.in_err-node.ensures.value in
     rw (p.1, p.2)
     (after_error c.in_err-node.field-0.0 (ReadsNodes c.args.text.now) c.nodes.nodes.items c.nodes.due.items c.pop.new.self.items c.in-Some.count c.nodes.line c.nodes.rest.now c.if-count-gt0.true c.in-Some.ensures.items h c.nodes.invariant.so_far)
 

@@ -12,4 +12,4 @@ returns-in-None c =
     let same : ring_with c.args.line c.push.new.self.items (c.words.fit && c.fits-fit.result) ≡ ring_at c.args.line c.args.text.now =
     rw (c.in_ok-push.ensures.items, c.value_of.ensures, c.fits-fit.ensures)
     (is_done c.args.line c.args.text.now c.words.processes.items c.words.fit c.words.rest.now c.next_word-word.result.0 c.words.invariant last numeral) in
-    subst (λ (r : Reading (List ℕ)). IsAnswer {X = Ring} {A = List ℕ} (λ x. x) c.ring_with.result r) same c.ring_with.ensures
+    subst (λ (r : Reading (List ℕ)). IsAnswer {X = Ring} {A = List ℕ} (Unit {0}) (λ x. x) c.ring_with.result r) same c.ring_with.ensures

@@ -9,7 +9,7 @@ pub returns-in_err-number : goal.returns-in_err-number
 returns-in_err-number c =
     let p = err_from_is_err_and c.from_residual.result c.from_residual.ensures.1 in
     let lt : c.loop-k.k < length (names_in c.args.instance.now c.args.part) = omega (arith, c.count_of-k-end.ensures.value) in
-    let h : IsFaultOf c.in_err-number.field-0.0 (number_at (c.args.line + c.loop-k.k) (keyword_of c.args.part) (get_or (names_in c.args.instance.now c.args.part) c.loop-k.k []) c.loop-k.rest.now) =
+    let h : IsFaultOf ⊥ c.in_err-number.field-0.0 (number_at (c.args.line + c.loop-k.k) (keyword_of c.args.part) (get_or (names_in c.args.instance.now c.args.part) c.loop-k.k []) c.loop-k.rest.now) =
     rw (← c.keyword_of-keyword.ensures, ← c.name_of-name.ensures) c.in_err-number.ensures in
     rw (p.1, p.2) (ends c.in_err-number.field-0.0 c.args.line (keyword_of c.args.part) (names_in c.args.instance.now c.args.part) c.args.text.now c.loop-k.k c.loop-k.numbers.items c.loop-k.rest.now lt h c.loop-k.invariant)
 

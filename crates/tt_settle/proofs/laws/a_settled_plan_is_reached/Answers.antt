@@ -1,5 +1,5 @@
-use Rattle.ttp_model.proofs.Reached.{settled_reached}
+use Rattle.ttp_model.proofs.Reached.{moves_reach}
 use Rattle.tt_settle.proofs.laws.a_settled_plan_is_reached.Goals as goal
 
 pub returns : goal.returns
-returns c = settled_reached
+returns c = moves_reach

@@ -1,0 +1,31 @@
+-- The step that closes a complete choice without a plan, or at a goal within its plan's delay. Own profile.
+use Rattle.std.specs.Prelude.{ℕ, ◌+◌, List, [], ◌∷◌, ◌++◌, All}
+use Rattle.ttp_model.specs.declared.step.Step.{Step}
+use Rattle.ttp_model.specs.declared.step.Step.TheVariants.{OrdTwin, UsSettled, XWindow, XRound, XCycle, XFrames, XLate, XSilent}
+use Rattle.ttp_model.specs.Instance.{Instance}
+use Rattle.tt_choice.specs.Choice.{Choice}
+use Rattle.tt_infer.specs.Leaves.{ClosesLeaf}
+use Rattle.earliest_starts.specs.declared.clash.Clash.{Clash}
+use Rattle.earliest_starts.specs.declared.clash.Clash.TheVariants.{Cycle, Round, Window, Frame}
+
+-- the four steps that are true of settled plans alone
+abbrev pub IsDominance : Step → Type 0
+IsDominance (OrdTwin p q) = Unit {0}
+IsDominance (UsSettled p) = Unit {0}
+IsDominance (XLate m r) = Unit {0}
+IsDominance (XSilent u v) = Unit {0}
+IsDominance step = ⊥
+
+-- the step that closes the choice for a clash
+abbrev pub closer_of : Clash → Step
+closer_of (Cycle ps) = XCycle ps
+closer_of (Round m) = XRound m
+closer_of (Window p) = XWindow p
+closer_of (Frame n r) = XFrames n r (r + 1)
+
+-- Steps that hold of all valid plans, settled or not, lead from the first facts to where this step closes the choice at
+-- the goal.
+pub record IsClosedBy (i : Instance) (c : Choice) (goal : ℕ) (closer : Step) : Type 0 where
+  pub steps : List Step
+  pub plain : All (λ step. ¬ IsDominance step) steps
+  pub closes : ClosesLeaf i c (record { goal = goal; steps = steps ++ closer ∷ [] })
