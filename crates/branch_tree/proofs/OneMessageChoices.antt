@@ -87,7 +87,7 @@ in_range zero lt = (lit≤ tt, lit≤ tt)
 in_range (suc m) lt = absurd (omega arith)
 
 is_chosen : IsIn one_message (one_message_in 1) (one_message_plan 0)
-is_chosen = record { prefix = as_placed; fixed = as_fixed; pairs = λ p q holds. absurd (no_order 1 p q holds); ranges = in_range }
+is_chosen = record { lengths = plan_is_valid.lengths; prefix = as_placed; fixed = as_fixed; pairs = λ p q holds. absurd (no_order 1 p q holds); ranges = in_range }
 
 waits : (p : ℕ) → p < 2 → WaitsUntil one_message (one_message_in 1) p (start_of (one_message_plan 0) p)
 waits zero lt = released 0 (lit< tt)

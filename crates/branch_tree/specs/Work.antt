@@ -8,7 +8,7 @@ use Rattle.ttp_model.specs.Instance.{Instance}
 use Rattle.ttp_model.specs.Plans.{IsValid}
 use Rattle.ttp_model.specs.Delays.{delay}
 use Rattle.ttp_model.specs.Chains.{IsPathBound}
-use Rattle.ttp_model.specs.Moves.{IsSettled}
+use Rattle.ttp_model.specs.Moves.{IsSettled, MovesLead}
 use Rattle.tt_choice.specs.Choice.{Choice, IsIn, IsComplete}
 use Rattle.tt_choice.specs.Branches.{IsBranch, child_choices}
 use Rattle.tt_choice.specs.Sizes.{size_left}
@@ -43,14 +43,15 @@ pub record IsSplit (i : Instance) (t : Task) (goal : ℕ) (kind : Kind) (tasks :
   pub cover : Cover i t tasks
   pub root : t ≡ root_task i → 2 ≤ length i.nodes → kind ≡ Place
 
--- The earliest plan of a complete choice has a delay below the goal. It was settled, and then has
--- this delay; and a leaf closes the choice at the delay that it had.
+-- The earliest plan of a complete choice has a delay below the goal. It was settled, by moves that lead
+-- from it, and then has this delay; and a leaf closes the choice at the delay that it had.
 pub record IsFind (i : Instance) (c : Choice) (goal : ℕ) (plan : Plan) (ticks : ℕ) (leaf : Leaf) : Type 0 where
   pub complete : IsComplete i c
   pub earliest : Plan
   pub is_earliest : IsEarliest i c earliest
   pub at : leaf.goal ≡ delay i earliest
   pub below : leaf.goal < goal
+  pub leads : MovesLead i earliest plan
   pub settled : IsSettled i plan
   pub delay_is : ticks ≡ delay i plan
   pub no_later : ticks ≤ leaf.goal

@@ -4,7 +4,7 @@ ghost use Rattle.std.specs.Prelude.{◌≡◌, ◌<◌, ◌≤◌, IfOk};
 ghost use Rattle.ttp_model.specs.declared.plan.Plan.{Plan};
 ghost use Rattle.ttp_model.specs.Plans.{IsValid};
 ghost use Rattle.ttp_model.specs.Delays.{delay};
-ghost use Rattle.ttp_model.specs.Moves.{IsSettled};
+ghost use Rattle.ttp_model.specs.Moves.{IsSettled, MovesLead};
 ghost use Rattle.tt_choice.specs.Choice.{IsChoice, IsIn, IsComplete};
 ghost use Rattle.path_bounds.specs.Propagation.{IsPlanBelow};
 ghost use Rattle.earliest_starts.specs.Answers.{IsEarliest};
@@ -79,10 +79,11 @@ fn closed_at(
     }
 }
 
-/// A settled plan from a valid one, with no larger delay.
+/// A settled plan, to which moves lead from a valid one, with no larger delay.
 fn settled(alloc: Global, instance: &Instance, plan: Plan) -> Result<Plan, MemoryFault>
     requires { IsValid instance.now plan }
     ensures settled { IfOk result (IsSettled instance.now) }
+    ensures leads { IfOk result (MovesLead instance.now plan) }
     ensures no_later { IfOk result
         (λ settled. delay instance.now settled ≤ delay instance.now plan) }
 {

@@ -79,11 +79,11 @@ IsFirstTreeFault i low (c ∷ cs) (grow node below beside) line at fault =
 abbrev pub told_line : ℕ → ℕ
 told_line line = min line (2 ^ 64 - 1)
 
--- what the answer to a certificate says
+-- what the answer to a certificate says: a bound that is too great goes before all that takes memory
 abbrev pub IsJudged : Instance → Cert → Result ℕ CertFault → Type 0
 IsJudged i cert (Ok low) = (low ≡ cert.low) × Proves i cert
 IsJudged i cert (Err LowTooGreat) = i.cluster.horizon + 1 < cert.low
 IsJudged i cert (Err (At line fault)) =
     (cert.low ≤ i.cluster.horizon + 1)
     × ((at : ℕ) × (line ≡ told_line at) × IsFirstTreeFault i cert.low (root_choice i ∷ []) cert.tree 3 at fault)
-IsJudged i cert (Err OutOfMemory) = Unit {0}
+IsJudged i cert (Err OutOfMemory) = cert.low ≤ i.cluster.horizon + 1

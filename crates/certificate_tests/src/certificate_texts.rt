@@ -64,7 +64,7 @@ fn a_certificate_is_its_bound_and_its_nodes(rt: HostRuntime) -> Result<(), Fail>
 #[test]
 fn nodes_stand_in_front_of_those_below_them(rt: HostRuntime) -> Result<(), Fail> {
     let rows = [
-        ("Round { message: 0, round: 1 }", 2, 1),
+        ("Branch(Branch { kind: Round(0, 1), children: 2 })", 2, 1),
         (
             "9 [EsRelease(0), LoSend(0), EsArrive(0, 1), LeOwn(1), XWindow(1)]",
             0,

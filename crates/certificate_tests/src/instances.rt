@@ -23,7 +23,7 @@ pub enum Small {
     SilentNodes,
     TwoSilent,
     ThreeSilent,
-    ThereAndBack,
+    ThereAndBack(Cluster),
     NearlyAlike,
     TwoSenders,
 }
@@ -45,7 +45,7 @@ impl Small {
             Small::SilentNodes => silent_nodes(alloc),
             Small::TwoSilent => two_silent(alloc),
             Small::ThreeSilent => three_silent(alloc),
-            Small::ThereAndBack => there_and_back(alloc),
+            Small::ThereAndBack(cluster) => there_and_back(alloc, cluster),
             Small::NearlyAlike => nearly_alike(alloc),
             Small::TwoSenders => two_senders(alloc),
         }
@@ -141,8 +141,8 @@ fn three_silent(alloc: Global) -> Result<Instance, ModelError> {
 }
 
 /// Processes 0 and 1 on A, 2 and 3 on B; process 0 sends to 2, and 3 to 1.
-fn there_and_back(alloc: Global) -> Result<Instance, ModelError> {
-    Draft::of(alloc, PLAIN)
+fn there_and_back(alloc: Global, cluster: Cluster) -> Result<Instance, ModelError> {
+    Draft::of(alloc, cluster)
         .node("A", &[1])?
         .node("B", &[1])?
         .process("a", 0, 1)?

@@ -2,6 +2,8 @@
 
 mod fixed_points;
 
+ghost use Rattle.tt_choice.specs.Choice.{IsChoice};
+
 use crate::decisions::Decision::{AtLeast, AtMost, Before};
 use crate::decisions::{Decision, chosen};
 use crate::instances::Small;
@@ -11,7 +13,7 @@ use std::process::Abort;
 use std::test::Fail;
 use tt_choice::Choice;
 use tt_infer::Facts;
-use ttp_model::{Instance, Leaf, Step};
+use ttp_model::{Cluster, Instance, Leaf, MOST_TICKS, Step};
 use worked_instances::PLAIN;
 
 /// The path bound.
@@ -43,10 +45,11 @@ fn closes(rt: &impl Abort, alloc: Global, small: Small, goal: u32) -> Result<boo
     Ok(steps.is_some())
 }
 
-/// Whether the leaf's steps close the root at its goal, one after another.
-fn replays(alloc: Global, i: &Instance, leaf: &Leaf) -> Result<bool, Fail> {
-    let root = Choice::root(alloc, i)?;
-    let mut facts = Facts::new(alloc, i, &root, leaf.goal)?;
+/// Whether the leaf's steps close the choice at its goal, one after another.
+fn replays(alloc: Global, i: &Instance, choice: &Choice, leaf: &Leaf) -> Result<bool, Fail>
+    requires { IsChoice i.now choice.now }
+{
+    let mut facts = Facts::new(alloc, i, choice, leaf.goal)?;
     for step in leaf.steps.as_slice() {
         if facts.apply(step).is_err() {
             return Ok(false);
@@ -55,13 +58,24 @@ fn replays(alloc: Global, i: &Instance, leaf: &Leaf) -> Result<bool, Fail> {
     Ok(facts.closed())
 }
 
-/// The goal of the leaf that closes the root, and how many steps it has.
-fn leaf_size(rt: &impl Abort, alloc: Global, small: Small, top: u32) -> Result<(u32, usize), Fail> {
+/// The goal of the leaf that closes the choice of these decisions, and how many steps it has.
+fn leaf_below(
+    rt: &impl Abort,
+    alloc: Global,
+    small: Small,
+    decisions: &[Decision],
+    top: u32,
+) -> Result<(u32, usize), Fail> {
     let i = small.build(alloc)?;
-    let root = Choice::root(alloc, &i)?;
-    let leaf = best_goal(alloc, &i, &root, top)?;
-    assert!(rt; replays(alloc, &i, &leaf)?);
+    let choice = chosen(rt, alloc, &i, decisions)?;
+    let leaf = best_goal(alloc, &i, &choice, top)?;
+    assert!(rt; replays(alloc, &i, &choice, &leaf)?);
     Ok((leaf.goal, leaf.steps.as_slice().len()))
+}
+
+/// The same of the leaf that closes the root.
+fn leaf_size(rt: &impl Abort, alloc: Global, small: Small, top: u32) -> Result<(u32, usize), Fail> {
+    leaf_below(rt, alloc, small, &[], top)
 }
 
 #[test]
@@ -114,6 +128,37 @@ fn leaves_without_what_they_do_not_need(rt: HostRuntime) -> Result<(), Fail> {
     let all = count_of_steps(&rt, rt.alloc(), Small::OneMessage(PLAIN), 9)?;
     let (_, needed) = leaf_size(&rt, rt.alloc(), Small::OneMessage(PLAIN), 9)?;
     assert!(rt; needed < all, "{needed} of {all}");
+    Ok(())
+}
+
+/// A cluster with the greatest horizon.
+const FAR: Cluster = Cluster {
+    horizon: MOST_TICKS,
+    ..PLAIN
+};
+
+/// Processes that wait for each other in a ring of links, orders and messages are seen at once: what is known doesn't
+/// climb round by round up to the horizon.
+#[test]
+fn a_ring_is_not_climbed(rt: HostRuntime) -> Result<(), Fail> {
+    let ring = [Before(1, 0), Before(2, 3)];
+    let (goal, steps) = leaf_below(
+        &rt,
+        rt.alloc(),
+        Small::ThereAndBack(FAR),
+        &ring,
+        MOST_TICKS + 1,
+    )?;
+    assert_eq!(rt; goal, MOST_TICKS + 1);
+    assert!(rt; steps <= 8, "{steps} steps");
+    let (_, open) = leaf_below(
+        &rt,
+        rt.alloc(),
+        Small::ThereAndBack(FAR),
+        &[Before(1, 0)],
+        MOST_TICKS + 1,
+    )?;
+    assert!(rt; open <= 16, "{open} steps");
     Ok(())
 }
 

@@ -1,4 +1,4 @@
--- A text that is written is a command's outcome, and a writer to which nothing is written keeps what it held.
+-- A text that is written is a command's outcome and tells no fault of an instance, and a writer to which nothing is written keeps what it held.
 use Rattle.std.proofs.Common.{ℕ, List, Option, None, Some, refl}
 use Rattle.std.specs.Io.KnownBytes.{Keeps}
 use Rattle.command_streams.specs.declared.ending.Sink.TheVariants as sink
@@ -6,7 +6,8 @@ use Rattle.command_streams.specs.declared.ending.Fault.{Fault}
 use Rattle.command_streams.specs.declared.ending.Fault.TheVariants.{NoMark, LossForm, InstanceText, Memory, PlanText, Plan, StatedDelay, CertificateText, Certificate, TooFewNodes, WrongLoss, Search, Unread, Unwritten}
 use Rattle.command_streams.specs.declared.ending.End.{End}
 use Rattle.command_streams.specs.declared.ending.End.TheVariants.{Done, Absent, Stopped, Refused}
-use Rattle.command_streams.specs.Outcomes.{IsCommandAnswer, IsWriting, IsWritingUnlessMemory, OnDone}
+use Rattle.command_streams.specs.Instances.{IsOfInstance}
+use Rattle.command_streams.specs.Outcomes.{IfRefused, IsCommandAnswer, IsWriting, IsWritingUnlessMemory, OnDone}
 
 pub keeps : (old : Option (List ℕ)) → Keeps old old
 keeps None = tt
@@ -53,3 +54,45 @@ module _ (IsText : List ℕ → Type 0) (IsRefusedBy : Fault → Type 0) (text :
     made_outcome (Refused (WrongLoss k)) gains = absurd gains
     made_outcome (Refused (Search fault)) gains = absurd gains
     made_outcome (Refused (Unread source)) gains = absurd gains
+
+-- what is told once an instance is read is no fault of it
+module _ (text : List ℕ) (old new : Option (List ℕ)) (Holds : Type 0) where
+  pub written_later : (end : End) → IsWritingUnlessMemory text old new end → IfRefused end (λ fault. IsOfInstance fault → Holds)
+  written_later Done gains = tt
+  written_later Absent gains = tt
+  written_later Stopped gains = tt
+  written_later (Refused (Unwritten sink.Certificate)) gains = absurd gains
+  written_later (Refused (Unwritten sink.Out)) part = λ is. absurd is
+  written_later (Refused Memory) kept = λ is. absurd is
+  written_later (Refused NoMark) gains = absurd gains
+  written_later (Refused (LossForm k)) gains = absurd gains
+  written_later (Refused (InstanceText error)) gains = absurd gains
+  written_later (Refused (PlanText error)) gains = absurd gains
+  written_later (Refused (Plan fault)) gains = absurd gains
+  written_later (Refused (StatedDelay d)) gains = absurd gains
+  written_later (Refused TooFewNodes) gains = absurd gains
+  written_later (Refused (CertificateText error)) gains = absurd gains
+  written_later (Refused (Certificate fault)) gains = absurd gains
+  written_later (Refused (WrongLoss k)) gains = absurd gains
+  written_later (Refused (Search fault)) gains = absurd gains
+  written_later (Refused (Unread source)) gains = absurd gains
+
+  pub ended_later : (end : End) → IsWriting text old new end → IfRefused end (λ fault. IsOfInstance fault → Holds)
+  ended_later Done gains = tt
+  ended_later Absent gains = tt
+  ended_later Stopped gains = tt
+  ended_later (Refused (Unwritten sink.Certificate)) gains = absurd gains
+  ended_later (Refused (Unwritten sink.Out)) part = λ is. absurd is
+  ended_later (Refused Memory) gains = absurd gains
+  ended_later (Refused NoMark) gains = absurd gains
+  ended_later (Refused (LossForm k)) gains = absurd gains
+  ended_later (Refused (InstanceText error)) gains = absurd gains
+  ended_later (Refused (PlanText error)) gains = absurd gains
+  ended_later (Refused (Plan fault)) gains = absurd gains
+  ended_later (Refused (StatedDelay d)) gains = absurd gains
+  ended_later (Refused TooFewNodes) gains = absurd gains
+  ended_later (Refused (CertificateText error)) gains = absurd gains
+  ended_later (Refused (Certificate fault)) gains = absurd gains
+  ended_later (Refused (WrongLoss k)) gains = absurd gains
+  ended_later (Refused (Search fault)) gains = absurd gains
+  ended_later (Refused (Unread source)) gains = absurd gains

@@ -8,6 +8,11 @@ use Rattle.command_streams.specs.declared.ending.End.{End}
 use Rattle.command_streams.specs.declared.ending.End.TheVariants.{Done, Absent, Stopped, Refused}
 use Rattle.command_streams.specs.Streams.{AppendsPart}
 
+-- what a fault says, where a command is refused
+abbrev pub IfRefused : End → (Fault → Type 0) → Type 0
+IfRefused (Refused fault) Says = Says fault
+IfRefused _ Says = Unit {0}
+
 -- how the writing of a text ends: the writer gained it, or it failed and gained a prefix
 abbrev pub IsWriting : List ℕ → Option (List ℕ) → Option (List ℕ) → End → Type 0
 IsWriting text old new Done = Appends old new text

@@ -1,5 +1,5 @@
 -- What a reader gave, or why it gave nothing, and what a writer took.
-use Rattle.std.specs.Prelude.{◌≡◌, ◌≢◌, ℕ, ◌+◌, ◌≤◌, List, [], ◌++◌, length, take, Option}
+use Rattle.std.specs.Prelude.{◌≡◌, ℕ, ◌+◌, ◌≤◌, List, [], ◌++◌, length, take, Option}
 use Rattle.std.specs.Io.KnownBytes.{Appends, Consumes}
 use Rattle.command_streams.specs.declared.input.Taken.{Taken}
 use Rattle.command_streams.specs.declared.input.Stop.{Stop}
@@ -33,9 +33,11 @@ IsReadFault source Memory = Unit {0}
 IsReadFault source (Unread other) = other ≡ source
 IsReadFault source _ = ⊥
 
--- the fault isn't one of reading
+-- the fault isn't one of reading, neither of a reader nor of want of memory for its bytes
 abbrev pub IsOfReadBytes : Fault → Type 0
-IsOfReadBytes fault = (source : Source) → fault ≢ Unread source
+IsOfReadBytes Memory = ⊥
+IsOfReadBytes (Unread source) = ⊥
+IsOfReadBytes _ = Unit {0}
 
 -- the writer gained a prefix of the text
 pub record AppendsPart (old new : Option (List ℕ)) (text : List ℕ) : Type 0 where

@@ -2,6 +2,7 @@
 
 ghost use Rattle.std.specs.Prelude.{◌≡◌, ◌+◌, ◌<◌, ◌≤◌, ◌^◌, length, IfErr, IfOk, IfSome, MatchResult};
 ghost use Rattle.std.specs.Io.KnownBytes.{Consumes};
+ghost use Rattle.command_streams.specs.Limits.{instance_limit};
 ghost use Rattle.command_streams.specs.Streams.{IsOfReadBytes, IsReadFault, IsTaken, TakesAtMost};
 ghost use Rattle.command_streams.specs.Instances.{HasInstance, IsInstanceFault};
 
@@ -102,7 +103,7 @@ pub fn read_instance<R: Read>(alloc: Global, reader: &mut R) -> Result<Instance,
     ensures judged { IfSome (R.remaining reader.old) (λ bytes. MatchResult result
         (HasInstance bytes)
         (IsInstanceFault bytes)) }
-    ensures most { TakesAtMost (INSTANCE_LIMIT + 1) (R.remaining reader.old) (R.remaining reader.new) }
+    ensures most { TakesAtMost (instance_limit + 1) (R.remaining reader.old) (R.remaining reader.new) }
 {
     let bytes = read_all(alloc, reader, INSTANCE_LIMIT, Source::Instance)?;
     instance_of_text(alloc, bytes.as_slice())

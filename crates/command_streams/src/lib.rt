@@ -5,10 +5,11 @@ mod ending;
 mod input;
 mod lines;
 mod output;
+mod reporting;
 
 pub use ending::{End, Fault, SearchFault, Sink, Source, status};
 pub use input::{
     INSTANCE_LIMIT, Stop, Taken, instance_of_text, read_all, read_instance, take_input,
 };
-pub use lines::report;
 pub use output::{WriteFault, end_with, write_text};
+pub use reporting::report;

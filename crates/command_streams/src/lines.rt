@@ -2,16 +2,14 @@
 
 ghost use Rattle.std.specs.Prelude.{◌≡◌, Some, OnOk};
 ghost use Rattle.std.specs.List.{flat_map};
-ghost use Rattle.std.specs.Io.KnownBytes.{Appends};
-ghost use Rattle.command_streams.specs.Lines.{spaced, report_of, plan_list_number, part_word, place_words, table_words, line_code, certificate_line_code, certificate_text_line, node_code, certificate_line, model_line, text_line, plan_text_line, plan_line, search_line, source_word, sink_word, fault_line};
+ghost use Rattle.command_streams.specs.Lines.{spaced, plan_list_number, part_word, place_words, table_words, line_code, certificate_line_code, certificate_text_line, node_code, certificate_line, model_line, text_line, plan_text_line, plan_line, search_line, source_word, sink_word, fault_line};
 
-use crate::ending::{End, Fault, SearchFault, Sink, Source};
+use crate::ending::{Fault, SearchFault, Sink, Source};
 use cert_check::{CertFault, NodeFault};
 use certificate::CertTextError;
 use instance_text::TextError;
 use plan_format::{LineFault, PlanTextError};
-use std::io::Write;
-use std::{fmt, io};
+use std::fmt;
 use ttp_model::{ModelError, Part, Place, PlanFault, PlanPart};
 
 #[derive(Drop)]
@@ -334,15 +332,5 @@ impl fmt::Display for Fault {
             Fault::Unread(source) => write!(f, "read {}", SourceWord(*source)),
             Fault::Unwritten(sink) => write!(f, "write {}", SinkWord(*sink)),
         }
-    }
-}
-
-/// Writes the line of a refusal, and nothing for any other end. Takes no memory.
-pub fn report<W: Write>(end: &End, out: &mut W) -> io::Result<()>
-    ensures { OnOk result (Appends (W.contents out.old) (W.contents out.new) (report_of end.now)) }
-{
-    match end {
-        End::Refused(fault) => writeln!(out, "{fault}"),
-        End::Done | End::Absent | End::Stopped => Ok(()),
     }
 }

@@ -8,7 +8,7 @@ ghost use Rattle.command_streams.specs.Outcomes.{IsWriting};
 use crate::ending::{End, Fault, Sink};
 use std::io::Write;
 
-/// When a write failed, or took no byte.
+/// When a write failed, or took no byte, or there is no room for a line.
 #[derive(Clone, Copy, Debug, PartialEq, Eq)]
 pub struct WriteFault;
 

@@ -5,7 +5,7 @@ use Rattle.std.proofs.lemmas.List.Elements.{Contains-get_or}
 use Rattle.ttp_model.specs.Lists.{EachBelow}
 use Rattle.ttp_model.specs.Instance.{Instance, node_at, message_at, link_at, source_of}
 use Rattle.ttp_model.specs.Rules.{IsInstance}
-use Rattle.ttp_model.specs.Plans.{IsValid, IsNodeOrder, HasOwnCapacity, AreApart}
+use Rattle.ttp_model.specs.Plans.{HasLengths, IsValid, IsNodeOrder, HasOwnCapacity, AreApart}
 use Rattle.ttp_model.specs.declared.error.Place.TheVariants.{AtProcess, AtLink, AtMessage}
 use Rattle.ttp_model.specs.Totals.{total}
 use Rattle.tt_choice.specs.Choice.{Choice, fixed_cap, is_before, least_round, IsFixedTo, IsOption, IsIn, IsChoice, IsComplete}
@@ -54,9 +54,12 @@ module _ (i : Instance) (c : Choice) (floors starts : List ℕ) (w : IsInstance 
     | inr back ↦ inr ((s p (omega (arith, up, h))).after q back)
   ]
 
+  HasLengths-made : HasLengths i (plan_of c starts)
+  HasLengths-made = record { order = done.placed; capacities = caps_fit i c w ok done; starts = all; rounds = ok.lo_length }
+
   IsValid-made : ((m : ℕ) → m < length i.messages → copied_out i starts m ≤ sends_from i c m) → ((m : ℕ) → m < length i.messages → total (fixed_bytes i c (source_of i m) (least_round c m)) (length i.messages) ≤ slice_index (fixed_caps c) (source_of i m)) → IsValid i (plan_of c starts)
   IsValid-made ready frames = record {
-    lengths = record { order = done.placed; capacities = caps_fit i c w ok done; starts = all; rounds = ok.lo_length };
+    lengths = HasLengths-made;
     order = order_fits i c w ok done;
     capacities = own_caps i c w ok done;
     released = λ p h. omega (arith, f.released p h, (s p h).floor);
@@ -73,6 +76,7 @@ module _ (i : Instance) (c : Choice) (floors starts : List ℕ) (w : IsInstance 
 
   IsIn-made : IsIn i c (plan_of c starts)
   IsIn-made = record {
+    lengths = HasLengths-made;
     prefix = λ k h. refl;
     fixed = λ n h. subst (IsFixedTo (fixed_cap c n)) (sym (fixed_at c n (omega (arith, h, ok.fixed_length)))) (fixed_to (fixed_cap c n));
     pairs = λ p q holds. (s q (ok.pairs p q holds).second).after p holds;

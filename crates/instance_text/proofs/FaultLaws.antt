@@ -1,5 +1,5 @@
 -- How a fault of a part is the fault of the whole.
-use Rattle.std.proofs.Common.{◌≡◌, ℕ, List, Result, Ok, Err, IfErr, IsErrAnd}
+use Rattle.std.proofs.Common.{◌≡◌, ◌≢◌, ℕ, List, refl, Result, Ok, Err, IfErr, IsErrAnd}
 use Rattle.std.proofs.lemmas.Result.{IfErr-at_err}
 use Rattle.toml.specs.Data.{Members}
 use Rattle.ttp_model.specs.Instance.{Instance}
@@ -40,11 +40,14 @@ module _ (bytes : List ℕ) where
   refusal_told i model.OutOfMemory states refusal = states.document.utf8
   refusal_told i e states refusal = record { problem = i; states = states; refusal = refusal; other = λ same. cc }
 
-  -- bytes state one instance at most
-  pub same_problem : (i j : Instance) → States bytes (Ok i) → States bytes (Ok j) → i ≡ j
-  same_problem i j first second =
-      let one = first.document.parsed in
-      let other = second.document.parsed in
-      let reads_one = first.reading in
-      let reads_other = second.reading in
+  -- where the bytes state an instance, their table has no fault
+  no_fault : (table : Members) (i : Instance) (e : TextError) → IsDocument bytes table → States bytes (Ok i) → stated table ≢ Err e
+  no_fault table i e document given fault =
+      let one = given.document.parsed in
+      let other = document.parsed in
+      let reads = given.reading in
       cc
+
+  pub only_memory : (table : Members) (i : Instance) (e : TextError) → IsDocument bytes table → States bytes (Ok i) → IsFaultOfPart (stated table) e → e ≡ OutOfMemory
+  only_memory table i OutOfMemory document given fault = refl
+  only_memory table i e document given fault = absurd (no_fault table i e document given (fault (λ same. cc)))

@@ -7,7 +7,7 @@ use Rattle.std.specs.Cmp.Lexicographic.{nat_list_eq_equiv}
 use Rattle.std.specs.HashMap.{HashMap, get_by, UpdatesBy}
 use Rattle.std.specs.List.{position_from}
 use Rattle.std.specs.Str.{bytes_eq}
-use Rattle.instance_text.specs.Kinds.{cut_index, index_in}
+use Rattle.instance_text.specs.Index.{cut_index, cut_index_in}
 
 -- the map has each name from this index on at its first index
 abbrev pub HasFrom : {S : Type 0} → HashMap (Bor (List ℕ)) ℕ S → ℕ → List (List ℕ) → Type 0
@@ -29,5 +29,5 @@ module _ {A : Type 0} (name_of : A → List ℕ) (xs : List A) (i : ℕ) (x : A)
 
 -- all names are there
 pub index_by-all : {S : Type 0} (m : HashMap (Bor (List ℕ)) ℕ S) (names : List (List ℕ)) → HasFrom m 0 names
-    → (λ (name : List ℕ). option_map cut_index (get_by (λ k. bytes_eq name k.now) m)) ≡ index_in names
+    → (λ (name : List ℕ). option_map cut_index (get_by (λ k. bytes_eq name k.now) m)) ≡ cut_index_in names
 index_by-all m names found = λ j. λ name. option_map cut_index ((found name ∙ sym (position_from-zero (bytes_eq name) names)) j)

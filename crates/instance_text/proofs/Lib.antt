@@ -5,3 +5,5 @@ pub mod FaultLaws
 pub mod StatedLaws
 pub mod ArrayLaws
 pub mod IndexLaws
+pub mod CutLaws
+pub mod CutIndices

@@ -6,7 +6,7 @@ use Rattle.instance_text.specs.declared.error.Place.{Place}
 use Rattle.instance_text.specs.declared.error.TextError.{TextError}
 use Rattle.instance_text.specs.declared.error.TextError.TheVariants.{NotToml, Model, OutOfMemory}
 use Rattle.instance_text.specs.Rows.{KeyRow, Kind, one_table, tables, number, numbers, text, node, process, processes, rows}
-use Rattle.instance_text.specs.Kinds.{Stated, ◌>>=◌, each, Index, KnownNames, list_of, table_of, fitting, number_of, bytes_of, found_index, index_of, array_of, value_of}
+use Rattle.instance_text.specs.Kinds.{Stated, ◌>>=◌, each, Index, index_in, KnownNames, list_of, table_of, fitting, number_of, bytes_of, found_index, index_of, array_of, value_of}
 use Rattle.instance_text.specs.Tables.{missing, found, at_row, Making, in_turn, keys_at, has_only, table_at}
 use Rattle.instance_text.specs.declared.error.Place.TheVariants as at
 use Rattle.ttp_model.specs.declared.parts.Cluster.{Cluster}
@@ -14,7 +14,7 @@ use Rattle.ttp_model.specs.declared.parts.Node.{Node}
 use Rattle.ttp_model.specs.declared.parts.Process.{Process}
 use Rattle.ttp_model.specs.declared.parts.Link.{Link}
 use Rattle.ttp_model.specs.declared.parts.Message.{Message}
-use Rattle.instance_text.specs.Stated.{Tables, stated_tables, cluster_of, stated_node, nodes_of, process_of, processes_of, link_of, links_of, message_of, messages_of, the_tables, the_cluster, the_node, the_process, the_link, the_message, none_known, knows_nodes, knows_processes, index_of_nodes, index_of_processes, stated}
+use Rattle.instance_text.specs.Stated.{Tables, stated_tables, cluster_of, stated_node, nodes_of, process_of, processes_of, link_of, links_of, message_of, messages_of, the_tables, the_cluster, the_node, the_process, the_link, the_message, none_known, knows_nodes, knows_processes, node_names, process_names, stated}
 
 -- a fault of a table
 abbrev pub IsTableFault : TextError → Type 0
@@ -141,9 +141,9 @@ HasTableFault-stated ms =
     HasTableFault-then (cluster_of ts.cluster) _
     (HasTableFault-table_at Cluster at.Cluster none_known the_cluster ts.cluster) (λ cluster.
     HasTableFault-then (nodes_of ts.nodes) _ (HasTableFault-nodes_of ts) (λ nodes.
-    let at_nodes : Index = index_of_nodes nodes in
+    let at_nodes : Index = index_in (node_names nodes) in
     HasTableFault-then (processes_of at_nodes ts.processes) _ (HasTableFault-processes_of ts at_nodes) (λ processes.
-    let at_processes : Index = index_of_processes processes in
+    let at_processes : Index = index_in (process_names processes) in
     HasTableFault-then (links_of at_processes ts.links) _ (HasTableFault-links_of ts at_processes) (λ links.
     HasTableFault-then (messages_of at_processes ts.messages) _ (HasTableFault-messages_of ts at_processes)
     (λ messages. tt))))))

@@ -1,5 +1,5 @@
 -- What one value of each kind states, or the first fault in it.
-use Rattle.std.specs.Prelude.{ℕ, ◌^◌, ◌+◌, ◌-◌, ℤ, pos, negsuc, min, List, [], ◌∷◌, Option, None, Some, option_map, Result, Ok, Err, nat_lt, if◌then◌else◌, position}
+use Rattle.std.specs.Prelude.{ℕ, ◌^◌, ◌+◌, ℤ, pos, negsuc, List, [], ◌∷◌, Option, None, Some, Result, Ok, Err, nat_lt, if◌then◌else◌, position}
 use Rattle.std.specs.Str.{bytes_eq}
 use Rattle.toml.specs.Data.{Data, string, integer, array, table, Items, no_items, item, Members}
 use Rattle.instance_text.specs.declared.error.Key.{Key}
@@ -32,13 +32,9 @@ list_of (item d ds) = d ∷ list_of ds
 abbrev pub Index : Type 0
 Index = List ℕ → Option ℕ
 
--- an index as u32: from 4,294,967,295 on, more than any instance has, it is that number
-abbrev pub cut_index : ℕ → ℕ
-cut_index index = min index (2 ^ 32 - 1)
-
 -- a name states the index of the first of that name
 abbrev pub index_in : List (List ℕ) → Index
-index_in names name = option_map cut_index (position (bytes_eq name) names)
+index_in names name = position (bytes_eq name) names
 
 -- what the names of nodes and those of processes state
 pub record KnownNames : Type 0 where

@@ -121,22 +121,26 @@ message_of processes m = table_at (at.Message m) (knows_processes processes) the
 abbrev pub messages_of : Index → List Members → Stated (List Message)
 messages_of processes = each (message_of processes) 0
 
--- what the names of these nodes state
-abbrev pub index_of_nodes : List Node → Index
-index_of_nodes nodes = index_in (map (λ n. n.name) nodes)
+-- the names of nodes
+abbrev pub node_names : List Node → List (List ℕ)
+node_names nodes = map (λ n. n.name) nodes
 
--- what the names of these processes state
-abbrev pub index_of_processes : List Process → Index
-index_of_processes processes = index_in (map (λ p. p.name) processes)
+-- the names of processes
+abbrev pub process_names : List Process → List (List ℕ)
+process_names processes = map (λ p. p.name) processes
 
--- The whole instance: the top table first, then each table in order. A process may name any node,
--- and a link or a message any process.
-abbrev pub stated : Members → Stated Instance
-stated ms =
+-- The whole instance, where the names of a list state indices so: the top table first, then each
+-- table in order. A process may name any node, and a link or a message any process.
+abbrev pub stated_by : (List (List ℕ) → Index) → Members → Stated Instance
+stated_by index_of ms =
     stated_tables ms >>= (λ tables.
     cluster_of tables.cluster >>= (λ cluster.
     nodes_of tables.nodes >>= (λ nodes.
-    processes_of (index_of_nodes nodes) tables.processes >>= (λ processes.
-    links_of (index_of_processes processes) tables.links >>= (λ links.
-    messages_of (index_of_processes processes) tables.messages >>= (λ messages.
+    processes_of (index_of (node_names nodes)) tables.processes >>= (λ processes.
+    links_of (index_of (process_names processes)) tables.links >>= (λ links.
+    messages_of (index_of (process_names processes)) tables.messages >>= (λ messages.
     Ok (instance_with cluster nodes processes links messages)))))))
+
+-- a name states its index
+abbrev pub stated : Members → Stated Instance
+stated ms = stated_by index_in ms

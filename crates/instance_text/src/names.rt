@@ -1,8 +1,7 @@
 //! Which node or process a name names.
 
 ghost use Rattle.std.specs.Prelude.{◌≡◌, IfOk, IfErr, map};
-ghost use Rattle.instance_text.specs.Index.{index_by};
-ghost use Rattle.instance_text.specs.Kinds.{index_in};
+ghost use Rattle.instance_text.specs.Index.{cut_index_in, index_by};
 ghost use Rattle.instance_text.specs.declared.error.TextError.TheVariants.{OutOfMemory};
 
 use crate::error::TextError;
@@ -45,7 +44,7 @@ pub struct Names<'a> {
 impl<'a> Names<'a> {
     /// The names of these. Takes time in proportion to their bytes.
     pub fn of<T: Named>(alloc: Global, items: &'a [T]) -> Result<Names<'a>, TextError>
-        ensures ok { IfOk result (λ names. index_by names ≡ index_in (map T.name_of items.now)) }
+        ensures ok { IfOk result (λ names. index_by names ≡ cut_index_in (map T.name_of items.now)) }
         ensures err { IfErr result (λ e. e ≡ OutOfMemory) }
     {
         let mut first = IndexMap::new(alloc);

@@ -6,7 +6,8 @@ ghost use Rattle.toml.specs.View.{table_view};
 ghost use Rattle.ttp_model.specs.Instance.{Instance};
 ghost use Rattle.ttp_model.specs.Rules.{IsInstance};
 ghost use Rattle.instance_text.specs.Faults.{IsFaultOfPart, IsDocument, IsTextFault, States, IsFirstTextFault};
-ghost use Rattle.instance_text.specs.Stated.{stated};
+ghost use Rattle.instance_text.specs.Stated.{stated_by};
+ghost use Rattle.instance_text.specs.Index.{cut_index_in};
 ghost use Rattle.instance_text.specs.Views.{instance_of};
 ghost use Rattle.instance_text.specs.declared.error.TextError.TheVariants.{OutOfMemory};
 
@@ -48,10 +49,10 @@ fn document(alloc: Global, bytes: &[u8]) -> Result<Table, TextError>
     }
 }
 
-/// The parts that a top table states.
+/// The parts that a top table states, with each index in 32 bits.
 fn stated_parts(alloc: Global, table: &Table) -> Result<Parts, TextError>
-    ensures ok { IfOk result (λ ps. stated (table_view table.now) ≡ Ok (instance_of ps)) }
-    ensures err { IfErr result (IsFaultOfPart (stated (table_view table.now))) }
+    ensures ok { IfOk result (λ ps. stated_by cut_index_in (table_view table.now) ≡ Ok (instance_of ps)) }
+    ensures err { IfErr result (IsFaultOfPart (stated_by cut_index_in (table_view table.now))) }
 {
     let tables = top::tables_of(alloc, table)?;
     let cluster = cluster::cluster(tables.cluster)?;

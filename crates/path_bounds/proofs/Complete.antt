@@ -11,7 +11,7 @@ use Rattle.ttp_model.specs.declared.step.Step.TheVariants.{EsBefore, EsArrive, L
 use Rattle.ttp_model.specs.Instance.{Instance, node_at, message_at, source_of}
 use Rattle.ttp_model.specs.Rules.{IsInstance}
 use Rattle.ttp_model.specs.Slots.{slot_start, slot_end}
-use Rattle.ttp_model.specs.Plans.{IsValid, IsNodeOrder, HasOwnCapacity, AreApart, end_of, bytes_in, load_of}
+use Rattle.ttp_model.specs.Plans.{HasLengths, IsValid, IsNodeOrder, HasOwnCapacity, AreApart, end_of, bytes_in, load_of}
 use Rattle.ttp_model.specs.Lists.{EachBelow}
 use Rattle.ttp_model.proofs.ValidPlans.{greatest_reached}
 use Rattle.ttp_model.specs.Totals.{total}
@@ -193,9 +193,12 @@ module _ (s : Facts) (ok : AreFacts s) (left : IsFalse s.known.closed) (steps : 
     | inr back ↦ inr (after q p back)
   ]
 
+  lengths : HasLengths s.instance (plan_of s.choice s.known.es)
+  lengths = record { order = done.placed; capacities = length-fixed_caps s.choice ∙ ok.choice.fixed_length; starts = ok.fits.es; rounds = ok.choice.lo_length }
+
   valid : IsValid s.instance (plan_of s.choice s.known.es)
   valid = record {
-    lengths = record { order = done.placed; capacities = length-fixed_caps s.choice ∙ ok.choice.fixed_length; starts = ok.fits.es; rounds = ok.choice.lo_length };
+    lengths = lengths;
     order = order_fits s.instance s.choice ok.instance ok.choice done;
     capacities = own_caps s.instance s.choice ok.instance ok.choice done;
     released = λ p h. released s ok left steps more.chain idle p h;
@@ -209,6 +212,7 @@ module _ (s : Facts) (ok : AreFacts s) (left : IsFalse s.known.closed) (steps : 
 
   chosen : IsIn s.instance s.choice (plan_of s.choice s.known.es)
   chosen = record {
+    lengths = lengths;
     prefix = λ k h. refl;
     fixed = λ n h. subst (IsFixedTo (fixed_cap s.choice n)) (sym (fixed_at s.choice n (omega (arith, h, ok.choice.fixed_length)))) (fixed_to (fixed_cap s.choice n));
     pairs = λ p q holds. after p q holds;

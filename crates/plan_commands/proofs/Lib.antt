@@ -5,3 +5,4 @@ pub mod LossPlaces
 pub mod LossLists
 pub mod Traced
 pub mod Certificates
+pub mod Unread

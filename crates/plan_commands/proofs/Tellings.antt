@@ -11,7 +11,7 @@ use Rattle.command_streams.specs.declared.ending.End.{End}
 use Rattle.command_streams.specs.declared.ending.End.TheVariants.{Done, Absent, Stopped, Refused}
 use Rattle.command_streams.specs.Outcomes.{IsCommandAnswer, IsWriting, IsWritingUnlessMemory, OnDone}
 use Rattle.command_streams.specs.Instances.{HasInstance}
-use Rattle.command_streams.proofs.Outcomes.{made_outcome, written_outcome}
+use Rattle.command_streams.proofs.Outcomes.{keeps, made_outcome, written_outcome}
 use Rattle.plan_commands.specs.Verdicts.{IsPlanFault, IsRefused, IsTold, IsValidLine, IsVerdict, IsVerified, IsVerifiedPlan, valid_line}
 
 -- the line of a delay is told of the plan that has it
@@ -61,3 +61,27 @@ told_of_readers Tells RefusedBy None b v text old new end is tells writing = tt
 told_of_readers Tells RefusedBy (Some instance) None v text old new end is tells writing = tt
 told_of_readers Tells RefusedBy (Some instance) (Some plan) v text old new end is tells writing =
     written_outcome (IsTold (IsVerified instance plan) Tells) (RefusedBy instance plan) text (record { verified = v; is = is; tells = tells }) old new end writing
+
+-- a command that is refused has written nothing
+module _ (IsTextAt : End → List ℕ → Type 0) (IsRefusedBy : Fault → Type 0) (never : ¬ IsRefusedBy (Unwritten sink.Out)) (old : Option (List ℕ)) where
+  pub refused_outcome : (fault : Fault) → IsRefusedBy fault → IsCommandAnswer IsTextAt IsRefusedBy old old (Refused fault)
+  refused_outcome (Unwritten sink.Out) refused = absurd (never refused)
+  refused_outcome NoMark refused = (refused, keeps old)
+  refused_outcome (LossForm k) refused = (refused, keeps old)
+  refused_outcome (InstanceText error) refused = (refused, keeps old)
+  refused_outcome Memory refused = (refused, keeps old)
+  refused_outcome (PlanText error) refused = (refused, keeps old)
+  refused_outcome (Plan fault) refused = (refused, keeps old)
+  refused_outcome (StatedDelay d) refused = (refused, keeps old)
+  refused_outcome (CertificateText error) refused = (refused, keeps old)
+  refused_outcome (Certificate fault) refused = (refused, keeps old)
+  refused_outcome TooFewNodes refused = (refused, keeps old)
+  refused_outcome (WrongLoss k) refused = (refused, keeps old)
+  refused_outcome (Search fault) refused = (refused, keeps old)
+  refused_outcome (Unread source) refused = (refused, keeps old)
+  refused_outcome (Unwritten sink.Certificate) refused = (refused, keeps old)
+
+pub refused_of_readers : (IsTextAt : List ℕ → List ℕ → End → List ℕ → Type 0) (a b old : Option (List ℕ)) (fault : Fault) → IfSome a (λ instance. IfSome b (λ plan. IsRefused instance plan fault)) → IfSome a (λ instance. IfSome b (λ plan. IsCommandAnswer (IsTextAt instance plan) (IsRefused instance plan) old old (Refused fault)))
+refused_of_readers IsTextAt None b old fault refused = tt
+refused_of_readers IsTextAt (Some instance) None old fault refused = tt
+refused_of_readers IsTextAt (Some instance) (Some plan) old fault refused = refused_outcome (IsTextAt instance plan) (IsRefused instance plan) (λ never. never) old fault refused

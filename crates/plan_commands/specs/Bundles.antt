@@ -1,5 +1,6 @@
 -- How a bundle is split: the instance stands before the first line `%%`, and the plan behind it.
 use Rattle.std.specs.Prelude.{◌≡◌, ℕ, ◌+◌, ◌-◌, ◌<◌, ◌≤◌, List, length, take, drop, slice_index, codes, Option, None, Some, ◌≤◌}
+use Rattle.std.specs.Io.KnownBytes.{Consumes}
 use Rattle.command_streams.specs.Limits.{instance_limit, plan_limit}
 use Rattle.command_streams.specs.declared.input.Taken.{Taken}
 use Rattle.command_streams.specs.declared.input.Stop.TheVariants.{AtEnd}
@@ -73,6 +74,20 @@ IsRefusedBundle bundle NoMark = HasNoMark bundle × (length bundle ≤ instance_
 IsRefusedBundle bundle Memory = Unit {0}
 IsRefusedBundle bundle (Unread source.Instance) = Unit {0}
 IsRefusedBundle bundle fault = IsRefusedSplit bundle fault
+
+-- the bytes of both parts and of the line between, at most
+abbrev pub bundle_limit : ℕ
+bundle_limit = instance_limit + 3 + plan_limit
+
+-- no line `%%` begins within an instance's limit
+abbrev pub LacksMark : List ℕ → Type 0
+LacksMark bytes = (at : ℕ) → at ≤ instance_limit → ¬ IsMark bytes at
+
+-- what was taken of a bundle lacks the line, so that the instance is unread
+pub record IsUnreadInstance (old new : Option (List ℕ)) : Type 0 where
+  pub bytes : List ℕ
+  pub taken : Consumes old new bytes
+  pub lacks : LacksMark bytes
 
 -- what `verify_bundle` answers of the bytes of a bundle, and what it writes
 abbrev pub IsBundleVerdict : List ℕ → Option (List ℕ) → Option (List ℕ) → End → Type 0

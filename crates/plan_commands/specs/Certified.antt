@@ -32,7 +32,7 @@ pub record HasBound (i : Instance) (bytes : List ℕ) (low : ℕ) : Type 0 where
 abbrev pub IsCertificateFault : Instance → List ℕ → Fault → Type 0
 IsCertificateFault i bytes Memory = Unit {0}
 IsCertificateFault i bytes (Unread source.Certificate) = Unit {0}
-IsCertificateFault i bytes (CertificateText error) = (length bytes ≤ certificate_limit) × reading.IsFaultIn error (reading.Reads bytes)
+IsCertificateFault i bytes (CertificateText error) = (length bytes ≤ certificate_limit) × reading.IsFaultIn (reading.HasLow bytes) error (reading.Reads bytes)
 IsCertificateFault i bytes (Certificate fault) = (cert : Cert) × HasCertificate bytes cert × checking.IsJudged i cert (Err fault)
 IsCertificateFault i bytes _ = ⊥
 

@@ -7,7 +7,7 @@ use Rattle.ttp_model.specs.Faults as plan_faults
 use Rattle.ttp_model.specs.declared.fault.PlanFault.{PlanFault}
 use Rattle.ttp_model.specs.declared.plan.Plan.{Plan as Table}
 use Rattle.plan_format.specs.Spelling.{SpellsPlan}
-use Rattle.plan_format.specs.Reading.{IsFaultOf, plan_at}
+use Rattle.plan_format.specs.Reading.{HasFront, IsFaultOf, plan_at}
 use Rattle.command_streams.specs.Limits.{plan_limit}
 use Rattle.plan_commands.specs.declared.verdict.Verified.{Verified}
 use Rattle.command_streams.specs.declared.ending.Source.TheVariants as source
@@ -46,7 +46,7 @@ pub record IsMisstated (i : Instance) (bytes : List ℕ) (d : ℕ) : Type 0 wher
 
 -- why bytes within their limit give no valid plan of the instance that states its own delay
 abbrev pub IsPlanFault : Instance → List ℕ → Fault → Type 0
-IsPlanFault i bytes (PlanText error) = (length bytes ≤ plan_limit) × IsFaultOf error (plan_at i bytes)
+IsPlanFault i bytes (PlanText error) = (length bytes ≤ plan_limit) × IsFaultOf (HasFront bytes) error (plan_at i bytes)
 IsPlanFault i bytes (Plan fault) = IsBroken i bytes fault
 IsPlanFault i bytes (StatedDelay d) = IsMisstated i bytes d
 IsPlanFault i bytes _ = ⊥

@@ -1,8 +1,9 @@
 //! What `verify` says of an instance and a plan in one stream.
 
-ghost use Rattle.std.specs.Prelude.{◌≡◌, ◌⊎◌, ◌≤◌, ◌<◌, ◌↔◌, ℕ, List, IsTrue, IfErr, IfSome, MatchResult, length};
-ghost use Rattle.command_streams.specs.Streams.{IsOfReadBytes, IsTaken};
-ghost use Rattle.plan_commands.specs.Bundles.{IsMark, FindsMark, IsTakenWhole, IsVerifiedBundle, IsRefusedBundle, IsBundleVerdict};
+ghost use Rattle.std.specs.Prelude.{◌≡◌, ◌+◌, ◌⊎◌, ◌≤◌, ◌<◌, ◌↔◌, ℕ, List, IsTrue, IfErr, IfSome, MatchResult, length};
+ghost use Rattle.command_streams.specs.Streams.{IsOfReadBytes, IsTaken, TakesAtMost};
+ghost use Rattle.command_streams.specs.Outcomes.{IfRefused};
+ghost use Rattle.plan_commands.specs.Bundles.{bundle_limit, IsMark, FindsMark, IsTakenWhole, LacksMark, IsUnreadInstance, IsVerifiedBundle, IsRefusedBundle, IsBundleVerdict};
 
 use crate::verdict::{PLAN_LIMIT, Verified, verified_of_text, write_verdict};
 use command_streams::{
@@ -61,6 +62,7 @@ fn verified_of_taken(alloc: Global, taken: &Taken) -> Result<Verified, Fault>
         (IsVerifiedBundle bundle)
         (IsRefusedBundle bundle) }
     ensures whole { IsTakenWhole taken.now → IfErr result IsOfReadBytes }
+    ensures unread { IfErr result (λ fault. fault ≡ Fault.Unread Source.Instance → LacksMark taken.now.bytes.items) }
 {
     let bytes = taken.bytes.as_slice();
     let Some(at) = mark_at(bytes) else {
@@ -83,9 +85,12 @@ fn verified_of_taken(alloc: Global, taken: &Taken) -> Result<Verified, Fault>
 
 /// The same of what a reader gives.
 fn verified_of_bundle<R: Read>(alloc: Global, input: &mut R) -> Result<Verified, Fault>
-    ensures { IfSome (R.remaining input.old) (λ bundle. MatchResult result
+    ensures judged { IfSome (R.remaining input.old) (λ bundle. MatchResult result
         (IsVerifiedBundle bundle)
         (IsRefusedBundle bundle)) }
+    ensures most { TakesAtMost (bundle_limit + 1) (R.remaining input.old) (R.remaining input.new) }
+    ensures unread { IfErr result (λ fault. fault ≡ Fault.Unread Source.Instance
+        → IsUnreadInstance (R.remaining input.old) (R.remaining input.new)) }
 {
     match take_input(alloc, input, BUNDLE_LIMIT) {
         Ok(taken) => verified_of_taken(alloc, &taken),
@@ -96,8 +101,12 @@ fn verified_of_bundle<R: Read>(alloc: Global, input: &mut R) -> Result<Verified,
 /// As `verify`, of one reader that gives the instance, a line `%%` and the plan. Each part has its own limit. A read
 /// that fails is the instance's up to the end of that line, and then the plan's.
 pub fn verify_bundle<R: Read, W: Write>(alloc: Global, input: &mut R, out: &mut W) -> End
-    ensures { IfSome (R.remaining input.old) (λ bundle.
+    ensures verdict { IfSome (R.remaining input.old) (λ bundle.
         IsBundleVerdict bundle (W.contents out.old) (W.contents out.new) result) }
+    // No more is taken than the limit and one byte, and the instance is unread only where the line wasn't taken.
+    ensures most { TakesAtMost (bundle_limit + 1) (R.remaining input.old) (R.remaining input.new) }
+    ensures unread { IfRefused result (λ fault. fault ≡ Fault.Unread Source.Instance
+        → IsUnreadInstance (R.remaining input.old) (R.remaining input.new)) }
 {
     match verified_of_bundle(alloc, input) {
         Ok(verified) => write_verdict(alloc, verified.delay, out),

@@ -1,9 +1,12 @@
 //! What `check` says of an instance and a certificate.
 
-ghost use Rattle.std.specs.Prelude.{◌≡◌, ◌≤◌, length, string_bytes, IfErr, IfOk, IfSome, MatchResult};
+ghost use Rattle.std.specs.Prelude.{◌≡◌, ◌≤◌, ◌+◌, length, string_bytes, IfErr, IfOk, IfSome, MatchResult};
 ghost use Rattle.plan_commands.specs.Certified.{HasBound, IsCertificateFault, IsCheckAnswer, bound_line};
-ghost use Rattle.command_streams.specs.Streams.{IsOfReadBytes};
-ghost use Rattle.command_streams.specs.Outcomes.{IsWritingUnlessMemory};
+ghost use Rattle.std.specs.Io.KnownBytes.{Keeps};
+ghost use Rattle.command_streams.specs.Limits.{certificate_limit, instance_limit};
+ghost use Rattle.command_streams.specs.Streams.{IsOfReadBytes, TakesAtMost};
+ghost use Rattle.command_streams.specs.Instances.{IsOfInstance};
+ghost use Rattle.command_streams.specs.Outcomes.{IfRefused, IsWritingUnlessMemory};
 
 use command_streams::{End, Fault, Source, end_with, read_all, read_instance};
 use std::alloc::{AllocError, Global};
@@ -20,6 +23,7 @@ fn bound_of_text(alloc: Global, instance: &Instance, bytes: &[u8]) -> Result<u32
         (HasBound instance.now bytes.now)
         (IsCertificateFault instance.now bytes.now) }
     ensures read { IfErr result IsOfReadBytes }
+    ensures later { IfErr result (λ fault. ¬ IsOfInstance fault) }
 {
     let cert = match certificate::read(alloc, bytes) {
         Ok(cert) => cert,
@@ -37,9 +41,11 @@ fn read_bound<R: Read>(
     instance: &Instance,
     certificate: &mut R,
 ) -> Result<u32, Fault>
-    ensures { IfSome (R.remaining certificate.old) (λ bytes. MatchResult result
+    ensures judged { IfSome (R.remaining certificate.old) (λ bytes. MatchResult result
         (HasBound instance.now bytes)
         (IsCertificateFault instance.now bytes)) }
+    ensures later { IfErr result (λ fault. ¬ IsOfInstance fault) }
+    ensures most { TakesAtMost (certificate_limit + 1) (R.remaining certificate.old) (R.remaining certificate.new) }
 {
     let bytes = read_all(alloc, certificate, CERTIFICATE_LIMIT, Source::Certificate)?;
     bound_of_text(alloc, instance, bytes.as_slice())
@@ -72,8 +78,13 @@ pub fn check_run<I: Read, C: Read, W: Write>(
     certificate: &mut C,
     out: &mut W,
 ) -> End
-    ensures { IfSome (I.remaining instance.old) (λ i. IfSome (C.remaining certificate.old) (λ c.
+    ensures answer { IfSome (I.remaining instance.old) (λ i. IfSome (C.remaining certificate.old) (λ c.
         IsCheckAnswer i c (W.contents out.old) (W.contents out.new) result)) }
+    // Of a reader no more is taken than its limit and one byte, and of the certificate's nothing at a fault of the
+    // instance.
+    ensures instance { TakesAtMost (instance_limit + 1) (I.remaining instance.old) (I.remaining instance.new) }
+    ensures certificate { TakesAtMost (certificate_limit + 1) (C.remaining certificate.old) (C.remaining certificate.new) }
+    ensures order { IfRefused result (λ fault. IsOfInstance fault → Keeps (C.remaining certificate.old) (C.remaining certificate.new)) }
 {
     let instance = match read_instance(alloc, instance) {
         Ok(instance) => instance,

@@ -1,9 +1,14 @@
 //! What `tables` says of an instance and a plan.
 
-ghost use Rattle.std.specs.Prelude.{◌≡◌, IfOk, IfSome};
+ghost use Rattle.std.specs.Prelude.{◌≡◌, ◌+◌, IfOk, IfSome};
 ghost use Rattle.ttp_model.specs.Plans.{IsValid};
 ghost use Rattle.guardian_windows.specs.Windows.{cycle_windows};
 ghost use Rattle.guardian_windows.specs.Text.{windows_text};
+ghost use Rattle.std.specs.Io.KnownBytes.{Keeps};
+ghost use Rattle.command_streams.specs.Limits.{instance_limit, plan_limit};
+ghost use Rattle.command_streams.specs.Streams.{TakesAtMost};
+ghost use Rattle.command_streams.specs.Instances.{IsOfInstance};
+ghost use Rattle.command_streams.specs.Outcomes.{IfRefused};
 ghost use Rattle.plan_commands.specs.NodeTables.{IsLoadsText, IsTablesAnswer};
 
 use crate::verdict::verified_of_readers;
@@ -44,8 +49,12 @@ pub fn tables<I: Read, P: Read, W: Write>(
     plan: &mut P,
     out: &mut W,
 ) -> End
-    ensures { IfSome (I.remaining instance.old) (λ i. IfSome (P.remaining plan.old) (λ p.
+    ensures answer { IfSome (I.remaining instance.old) (λ i. IfSome (P.remaining plan.old) (λ p.
         IsTablesAnswer i p (W.contents out.old) (W.contents out.new) result)) }
+    // Of a reader no more is taken than its limit and one byte, and of the plan's nothing at a fault of the instance.
+    ensures instance { TakesAtMost (instance_limit + 1) (I.remaining instance.old) (I.remaining instance.new) }
+    ensures plan { TakesAtMost (plan_limit + 1) (P.remaining plan.old) (P.remaining plan.new) }
+    ensures order { IfRefused result (λ fault. IsOfInstance fault → Keeps (P.remaining plan.old) (P.remaining plan.new)) }
 {
     let verified = match verified_of_readers(alloc, instance, plan) {
         Ok(verified) => verified,

@@ -1,7 +1,12 @@
 //! What `replay` says of an instance, a plan and lost frames.
 
-ghost use Rattle.std.specs.Prelude.{IfSome, MatchResult};
+ghost use Rattle.std.specs.Prelude.{◌+◌, IfErr, IfSome, MatchResult};
 ghost use Rattle.ttp_model.specs.Plans.{IsValid};
+ghost use Rattle.std.specs.Io.KnownBytes.{Keeps};
+ghost use Rattle.command_streams.specs.Limits.{instance_limit, plan_limit};
+ghost use Rattle.command_streams.specs.Streams.{TakesAtMost};
+ghost use Rattle.command_streams.specs.Instances.{IsOfInstance};
+ghost use Rattle.command_streams.specs.Outcomes.{IfRefused};
 ghost use Rattle.plan_commands.specs.LossWords.{bytes_of};
 ghost use Rattle.plan_commands.specs.Traces.{IsReplayAnswer, IsTraceFault, IsTraceOf};
 
@@ -22,9 +27,10 @@ fn trace_text(
     words: &[LossWord],
 ) -> Result<Vec<u8>, Fault>
     requires { IsValid instance.now plan.now }
-    ensures { MatchResult result
+    ensures judged { MatchResult result
         (λ text. IsTraceOf words.now instance.now plan.now text.items)
         (IsTraceFault words.now instance.now plan.now) }
+    ensures later { IfErr result (λ fault. ¬ IsOfInstance fault) }
 {
     let _nodes = instance.nodes();
     let medl = Medl::of(alloc, instance, plan)?;
@@ -50,8 +56,12 @@ pub fn replay_run<I: Read, P: Read, W: Write>(
     words: &[&str],
     out: &mut W,
 ) -> End
-    ensures { IfSome (I.remaining instance.old) (λ i. IfSome (P.remaining plan.old) (λ p.
+    ensures answer { IfSome (I.remaining instance.old) (λ i. IfSome (P.remaining plan.old) (λ p.
         IsReplayAnswer (bytes_of words.now) i p (W.contents out.old) (W.contents out.new) result)) }
+    // Of a reader no more is taken than its limit and one byte, and of the plan's nothing at a fault of the instance.
+    ensures instance { TakesAtMost (instance_limit + 1) (I.remaining instance.old) (I.remaining instance.new) }
+    ensures plan { TakesAtMost (plan_limit + 1) (P.remaining plan.old) (P.remaining plan.new) }
+    ensures order { IfRefused result (λ fault. IsOfInstance fault → Keeps (P.remaining plan.old) (P.remaining plan.new)) }
 {
     let losses = match losses_in(alloc, words) {
         Ok(losses) => losses,

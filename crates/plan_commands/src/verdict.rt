@@ -1,9 +1,13 @@
 //! What `verify` says of an instance and a plan.
 
-ghost use Rattle.std.specs.Prelude.{◌≡◌, ◌≤◌, length, string_bytes, IfOk, IfSome, MatchResult};
+ghost use Rattle.std.specs.Prelude.{◌≡◌, ◌≤◌, ◌+◌, length, string_bytes, IfErr, IfOk, IfSome, MatchResult};
 ghost use Rattle.ttp_model.specs.Plans.{IsValid};
 ghost use Rattle.plan_commands.specs.Verdicts.{IsPlanFault, IsRefused, IsVerdict, IsVerified, IsVerifiedPlan, valid_line};
-ghost use Rattle.command_streams.specs.Outcomes.{IsWritingUnlessMemory};
+ghost use Rattle.std.specs.Io.KnownBytes.{Keeps};
+ghost use Rattle.command_streams.specs.Limits.{instance_limit, plan_limit};
+ghost use Rattle.command_streams.specs.Streams.{IsOfReadBytes, TakesAtMost};
+ghost use Rattle.command_streams.specs.Instances.{IsOfInstance};
+ghost use Rattle.command_streams.specs.Outcomes.{IfRefused, IsWritingUnlessMemory};
 
 use command_streams::{End, Fault, Source, end_with, read_all, read_instance};
 use std::alloc::{AllocError, Global};
@@ -29,6 +33,8 @@ pub fn verified_of_text(alloc: Global, instance: Instance, bytes: &[u8]) -> Resu
         (IsVerifiedPlan instance bytes.now)
         (IsPlanFault instance bytes.now) }
     ensures valid { IfOk result (λ v. IsValid v.instance v.plan) }
+    ensures read { IfErr result IsOfReadBytes }
+    ensures later { IfErr result (λ fault. ¬ IsOfInstance fault) }
 {
     let (plan, stated) = match plan_format::read(alloc, &instance, bytes) {
         Ok(read) => read,
@@ -59,6 +65,9 @@ pub fn verified_of_readers<I: Read, P: Read>(
         (IsVerified i p)
         (IsRefused i p))) }
     ensures valid { IfOk result (λ v. IsValid v.instance v.plan) }
+    ensures instance { TakesAtMost (instance_limit + 1) (I.remaining instance.old) (I.remaining instance.new) }
+    ensures plan { TakesAtMost (plan_limit + 1) (P.remaining plan.old) (P.remaining plan.new) }
+    ensures order { IfErr result (λ fault. IsOfInstance fault → Keeps (P.remaining plan.old) (P.remaining plan.new)) }
 {
     let instance = read_instance(alloc, instance)?;
     let bytes = read_all(alloc, plan, PLAN_LIMIT, Source::Plan)?;
@@ -91,8 +100,12 @@ pub fn verify<I: Read, P: Read, W: Write>(
     plan: &mut P,
     out: &mut W,
 ) -> End
-    ensures { IfSome (I.remaining instance.old) (λ i. IfSome (P.remaining plan.old) (λ p.
+    ensures verdict { IfSome (I.remaining instance.old) (λ i. IfSome (P.remaining plan.old) (λ p.
         IsVerdict i p (W.contents out.old) (W.contents out.new) result)) }
+    // Of a reader no more is taken than its limit and one byte, and of the plan's nothing at a fault of the instance.
+    ensures instance { TakesAtMost (instance_limit + 1) (I.remaining instance.old) (I.remaining instance.new) }
+    ensures plan { TakesAtMost (plan_limit + 1) (P.remaining plan.old) (P.remaining plan.new) }
+    ensures order { IfRefused result (λ fault. IsOfInstance fault → Keeps (P.remaining plan.old) (P.remaining plan.new)) }
 {
     match verified_of_readers(alloc, instance, plan) {
         Ok(verified) => write_verdict(alloc, verified.delay, out),

@@ -90,3 +90,38 @@ fn a_bundle_over_its_limit_is_not_read(rt: HostRuntime) -> Result<(), Fail> {
     assert!(rt; is_told_of_long_bundle(rt.alloc(), 1_048_577, "read instance\n")?);
     Ok(())
 }
+
+/// Sizes of the two parts of a bundle, and the text that is told of it, with the status.
+type Sized = (usize, usize, &'static str, u8);
+
+static FULL: &[Sized] = &[
+    (1_048_576, 65_536, "plan F6 9\n", 5),
+    (1_048_576, 65_537, "read plan\n", 6),
+    (1_048_577, 65_536, "read instance\n", 6),
+];
+
+/// Whether this is told of the first example's bundle, whose parts are filled up to their sizes: by a comment, and by
+/// bytes behind the plan.
+fn is_told_of_full_bundle(alloc: Global, sized: Sized) -> Result<bool, AllocError> {
+    let (instance, plan, text, status) = sized;
+    let front = CLUSTER.len() + FIRST_PARTS.len() + 1;
+    let filling = comment(alloc, instance.saturating_sub(front))?;
+    let behind = comment(alloc, plan.saturating_sub(FIRST_PLAN.len()))?;
+    let bundle = [
+        CLUSTER,
+        FIRST_PARTS,
+        filling.as_str(),
+        "\n%%\n",
+        FIRST_PLAN,
+        behind.as_str(),
+    ];
+    tells(alloc, &bundle, text, status)
+}
+
+#[test]
+fn each_part_of_a_bundle_has_its_own_limit(rt: HostRuntime) -> Result<(), Fail> {
+    for sized in FULL {
+        assert!(rt; is_told_of_full_bundle(rt.alloc(), *sized)?, "{}", sized.2);
+    }
+    Ok(())
+}

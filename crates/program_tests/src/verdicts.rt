@@ -148,25 +148,38 @@ pub fn comment(alloc: Global, length: usize) -> Result<String, AllocError> {
 }
 
 /// Whether this is told of a plan of so many bytes.
-fn is_told_of_long_plan(alloc: Global, length: usize, error: &str) -> Result<bool, AllocError> {
+fn is_told_of_long_plan(
+    alloc: Global,
+    length: usize,
+    error: &str,
+    status: u8,
+) -> Result<bool, AllocError> {
     let plan = comment(alloc, length)?;
-    Verify.tells(alloc, FIRST, &[plan.as_str()], error, 6)
+    Verify.tells(alloc, FIRST, &[plan.as_str()], error, status)
 }
 
 #[test]
 fn a_plan_over_its_limit_is_not_read(rt: HostRuntime) -> Result<(), Fail> {
-    assert!(rt; is_told_of_long_plan(rt.alloc(), 65_537, "read plan\n")?);
+    assert!(rt; is_told_of_long_plan(rt.alloc(), 65_536, "plan F5 1\n", 5)?);
+    assert!(rt; is_told_of_long_plan(rt.alloc(), 65_537, "read plan\n", 6)?);
     Ok(())
 }
 
 /// The same of an instance.
-fn is_told_of_long_instance(alloc: Global, length: usize, error: &str) -> Result<bool, AllocError> {
+fn is_told_of_long_instance(
+    alloc: Global,
+    length: usize,
+    error: &str,
+    status: u8,
+) -> Result<bool, AllocError> {
     let instance = comment(alloc, length)?;
-    Verify.tells(alloc, &[instance.as_str()], &[FIRST_PLAN], error, 6)
+    Verify.tells(alloc, &[instance.as_str()], &[FIRST_PLAN], error, status)
 }
 
 #[test]
 fn an_instance_over_its_limit_is_not_read(rt: HostRuntime) -> Result<(), Fail> {
-    assert!(rt; is_told_of_long_instance(rt.alloc(), 1_048_577, "read instance\n")?);
+    let unstated = "instance T3 top cluster\n";
+    assert!(rt; is_told_of_long_instance(rt.alloc(), 1_048_576, unstated, 3)?);
+    assert!(rt; is_told_of_long_instance(rt.alloc(), 1_048_577, "read instance\n", 6)?);
     Ok(())
 }

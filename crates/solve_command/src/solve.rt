@@ -1,6 +1,8 @@
 //! What `solve` says of an instance, and the certificate that shows it.
 
-ghost use Rattle.std.specs.Prelude.{◌≡◌, None, true, false, is_some, string_bytes, IfOk, IfSome, MatchResult};
+ghost use Rattle.std.specs.Prelude.{◌≡◌, ◌+◌, None, true, false, is_some, string_bytes, IfOk, IfSome, MatchResult};
+ghost use Rattle.command_streams.specs.Limits.{instance_limit};
+ghost use Rattle.command_streams.specs.Streams.{TakesAtMost};
 ghost use Rattle.planner.specs.Answers.{cert_of, IsBestPlan, Shows};
 ghost use Rattle.solve_command.specs.Solved.{best_word, end_told, fault_of, held, left, stopped_line, why_word, IsAnswerText, IsCertifying, IsSolveAnswer, IsSolved, IsStoppedText, IsUnsolved, IsWritingTo};
 
@@ -148,9 +150,10 @@ fn solved_of_reader<R, I: Read>(
     instance: &mut I,
     options: Options,
 ) -> Result<Solved, Fault>
-    ensures { IfSome (I.remaining instance.old) (λ bytes. MatchResult result
+    ensures judged { IfSome (I.remaining instance.old) (λ bytes. MatchResult result
         (IsSolved bytes options)
         (IsUnsolved bytes)) }
+    ensures most { TakesAtMost (instance_limit + 1) (I.remaining instance.old) (I.remaining instance.new) }
 {
     let instance = read_instance(alloc, instance)?;
     let outcome = match solve(rt, alloc, &instance, options) {
@@ -200,8 +203,9 @@ fn solve_alone<R, I: Read, W: Write>(
     options: Options,
     out: &mut W,
 ) -> End
-    ensures { IfSome (I.remaining instance.old) (λ bytes.
+    ensures answer { IfSome (I.remaining instance.old) (λ bytes.
         IsSolveAnswer bytes options false None None (W.contents out.old) (W.contents out.new) result) }
+    ensures most { TakesAtMost (instance_limit + 1) (I.remaining instance.old) (I.remaining instance.new) }
 {
     match solved_of_reader(rt, alloc, instance, options) {
         Ok(solved) => write_answer(&solved, out),
@@ -219,9 +223,10 @@ fn solve_certified<R, I: Read, C: Write, W: Write>(
     certificate: &mut C,
     out: &mut W,
 ) -> End
-    ensures { IfSome (I.remaining instance.old) (λ bytes.
+    ensures answer { IfSome (I.remaining instance.old) (λ bytes.
         IsSolveAnswer bytes options true (C.contents certificate.old) (C.contents certificate.new)
         (W.contents out.old) (W.contents out.new) result) }
+    ensures most { TakesAtMost (instance_limit + 1) (I.remaining instance.old) (I.remaining instance.new) }
 {
     let solved = match solved_of_reader(rt, alloc, instance, options) {
         Ok(solved) => solved,
@@ -247,10 +252,12 @@ pub fn solve_run<R, I: Read, C: Write, W: Write>(
     certificate: Option<&mut C>,
     out: &mut W,
 ) -> End
-    ensures { IfSome (I.remaining instance.old) (λ bytes.
+    ensures answer { IfSome (I.remaining instance.old) (λ bytes.
         IsSolveAnswer bytes options (is_some certificate.entry)
         (held C.contents certificate.entry) (left C.contents certificate.exit)
         (W.contents out.old) (W.contents out.new) result) }
+    // No more is taken of the reader than its limit and one byte.
+    ensures most { TakesAtMost (instance_limit + 1) (I.remaining instance.old) (I.remaining instance.new) }
 {
     match certificate {
         None => solve_alone(rt, alloc, instance, options, out),

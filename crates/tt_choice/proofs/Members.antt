@@ -19,6 +19,7 @@ IsIn-place i c plan n = (old, new)
     old is =
         let last = is.prefix (length c.prefix) (omega (arith, long)) in (
           record {
+            lengths = is.lengths;
             prefix = λ k h. is.prefix k (omega (arith, long, h)) ∙ first_part c.prefix (n ∷ []) k h;
             fixed = is.fixed;
             pairs = is.pairs;
@@ -29,6 +30,7 @@ IsIn-place i c plan n = (old, new)
 
     new : IsIn i c plan × (slice_index plan.order (length c.prefix) ≡ n) → IsIn i (place_next c n) plan
     new is = record {
+      lengths = is.0.lengths;
       prefix = λ k h. elim (cases_lt k (length c.prefix)) [
         | inl early ↦ is.0.prefix k early ∙ sym (first_part c.prefix (n ∷ []) k early)
         | inr end ↦
@@ -59,6 +61,7 @@ IsIn-fix i c plan n k ok inside none = (old, new)
     old is =
         let value = rw now_fixed at (is.fixed n inside) in (
           record {
+            lengths = is.lengths;
             prefix = is.prefix;
             fixed = λ m h. elim (cases_eq m n) [
               | inl same ↦ rw (same, none) tt
@@ -72,6 +75,7 @@ IsIn-fix i c plan n k ok inside none = (old, new)
 
     new : IsIn i c plan × (slice_index plan.caps n ≡ slice_index (node_at i n).capacities k) → IsIn i (fix_option i c n k) plan
     new is = record {
+      lengths = is.0.lengths;
       prefix = is.0.prefix;
       fixed = λ m h. elim (cases_eq m n) [
         | inl same ↦ rw (same, now_fixed) is.1
@@ -96,6 +100,7 @@ IsIn-order i c plan p q ok is = (old, new)
     old : IsIn i (order_pair c p q) plan → IsIn i c plan × EndsBefore i plan p q
     old v = (
       record {
+        lengths = v.lengths;
         prefix = v.prefix;
         fixed = v.fixed;
         pairs = λ j k holds. v.pairs j k (kept j k holds);
@@ -106,6 +111,7 @@ IsIn-order i c plan p q ok is = (old, new)
 
     new : IsIn i c plan × EndsBefore i plan p q → IsIn i (order_pair c p q) plan
     new v = record {
+      lengths = v.0.lengths;
       prefix = v.0.prefix;
       fixed = v.0.fixed;
       pairs = λ j k holds. elim (cases_eq j p) [
@@ -130,6 +136,7 @@ IsIn-at_most i c plan m r ok inside below = (old, new)
     old : IsIn i (at_most c m r) plan → IsIn i c plan × (round_of plan m ≤ r)
     old is = (
       record {
+        lengths = is.lengths;
         prefix = is.prefix;
         fixed = is.fixed;
         pairs = is.pairs;
@@ -143,6 +150,7 @@ IsIn-at_most i c plan m r ok inside below = (old, new)
 
     new : IsIn i c plan × (round_of plan m ≤ r) → IsIn i (at_most c m r) plan
     new is = record {
+      lengths = is.0.lengths;
       prefix = is.0.prefix;
       fixed = is.0.fixed;
       pairs = is.0.pairs;
@@ -164,6 +172,7 @@ IsIn-at_least i c plan m r ok inside above = (old, new)
     old : IsIn i (at_least c m r) plan → IsIn i c plan × (r ≤ round_of plan m)
     old is = (
       record {
+        lengths = is.lengths;
         prefix = is.prefix;
         fixed = is.fixed;
         pairs = is.pairs;
@@ -177,6 +186,7 @@ IsIn-at_least i c plan m r ok inside above = (old, new)
 
     new : IsIn i c plan × (r ≤ round_of plan m) → IsIn i (at_least c m r) plan
     new is = record {
+      lengths = is.0.lengths;
       prefix = is.0.prefix;
       fixed = is.0.fixed;
       pairs = is.0.pairs;

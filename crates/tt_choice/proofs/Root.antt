@@ -43,6 +43,7 @@ IsChoice-root i w = record {
 
 pub IsIn-root : (i : Instance) (plan : Plan) → IsInstance i → IsValid i plan → IsIn i (root_choice i) plan
 IsIn-root i plan w v = record {
+  lengths = v.lengths;
   prefix = λ k h. absurd (omega arith);
   fixed = λ n h. rw (none_fixed i n h) tt;
   pairs = λ p q holds. absurd (both_ways _ (nothing_goes (length i.processes) p q) holds);

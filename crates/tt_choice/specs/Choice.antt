@@ -3,7 +3,7 @@ use Rattle.std.specs.Prelude.{◌≡◌, ◌≢◌, ℕ, ◌*◌, ◌<◌, ◌�
 use Rattle.ttp_model.specs.declared.plan.Plan.{Plan}
 use Rattle.ttp_model.specs.Instance.{Instance, node_at, node_of}
 use Rattle.ttp_model.specs.Lists.{HasNoRepeats}
-use Rattle.ttp_model.specs.Plans.{IsNodeOrder, HasOwnCapacity, EndsBefore, round_of}
+use Rattle.ttp_model.specs.Plans.{HasLengths, IsNodeOrder, HasOwnCapacity, EndsBefore, round_of}
 use Rattle.ttp_model.specs.Totals.{total}
 use Rattle.tt_choice.specs.Precedence.{Precedence, goes_before}
 
@@ -55,8 +55,9 @@ pub record Agrees (i : Instance) (c : Choice) (order caps : List ℕ) : Type 0 w
 abbrev pub IsSentInRange : Choice → Plan → ℕ → Type 0
 IsSentInRange c plan m = (least_round c m ≤ round_of plan m) × (round_of plan m ≤ greatest_round c m)
 
--- the plan is as chosen; it needn't be valid
+-- the plan has the instance's lengths and is as chosen; it needn't be valid
 pub record IsIn (i : Instance) (c : Choice) (plan : Plan) : Type 0 where
+  pub lengths : HasLengths i plan
   pub prefix : BeginsWith c.prefix plan.order
   pub fixed : (n : ℕ) → n < length i.nodes → IsFixedTo (fixed_cap c n) (slice_index plan.caps n)
   pub pairs : (p q : ℕ) → IsTrue (is_before c p q) → EndsBefore i plan p q

@@ -5,10 +5,12 @@ ghost use Rattle.ttp_model.specs.declared.plan.Plan.{Plan};
 ghost use Rattle.ttp_model.specs.declared.step.Kind.{Kind};
 ghost use Rattle.ttp_model.specs.declared.step.Kind.TheVariants.{Place};
 ghost use Rattle.ttp_model.specs.Instance.{Instance};
+ghost use Rattle.ttp_model.specs.Rules.{IsInstance};
 ghost use Rattle.ttp_model.specs.Plans.{IsValid};
 ghost use Rattle.tt_choice.specs.Choice.{Choice, IsChoice, IsIn};
 ghost use Rattle.tt_choice.specs.Branches.{IsOpen, children, child};
 ghost use Rattle.tt_choice.specs.Sizes.{size_left, Halves};
+ghost use Rattle.tt_choice.specs.Extremes.{IsLeastOf, IsMostOf, start_at, end_at, start_least, start_most, end_least, end_most};
 
 /// The search rests on this: the children of an open branch have all the valid plans of the
 /// choice and no others, and each leaves less to choose. A round has to halve its range for that,
@@ -33,4 +35,20 @@ pub fn children_share_the_plans()
 pub fn unplaced_nodes_are_the_rest()
     ensures { (i : Instance) (c : Choice)
         → IsChoice i c → children i c Place ≡ length i.nodes - length c.prefix }
+{}
+
+/// The sums of slot times are the extremes over all orders and capacities that agree with a choice, in every round.
+pub fn sums_are_the_extremes()
+    ensures start_least { (i : Instance) (c : Choice) (n r : ℕ)
+        → IsInstance i → IsChoice i c → n < length i.nodes
+        → IsLeastOf i c (start_at i n r) (start_least i c n r) }
+    ensures start_most { (i : Instance) (c : Choice) (n r : ℕ)
+        → IsInstance i → IsChoice i c → n < length i.nodes
+        → IsMostOf i c (start_at i n r) (start_most i c n r) }
+    ensures end_least { (i : Instance) (c : Choice) (n r : ℕ)
+        → IsInstance i → IsChoice i c → n < length i.nodes
+        → IsLeastOf i c (end_at i n r) (end_least i c n r) }
+    ensures end_most { (i : Instance) (c : Choice) (n r : ℕ)
+        → IsInstance i → IsChoice i c → n < length i.nodes
+        → IsMostOf i c (end_at i n r) (end_most i c n r) }
 {}

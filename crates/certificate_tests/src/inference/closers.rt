@@ -121,7 +121,7 @@ fn messages_there_and_back_and_two_choices_are_a_cycle(rt: HostRuntime) -> Resul
     replay(
         &rt,
         rt.alloc(),
-        Small::ThereAndBack,
+        Small::ThereAndBack(PLAIN),
         &[Before(2, 3), Before(1, 0)],
         101,
         &rows,

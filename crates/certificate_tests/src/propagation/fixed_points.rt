@@ -1,5 +1,9 @@
 //! What propagation leaves open no step of the table sharpens, whether propagation tries it or not.
 
+ghost use Rattle.tt_choice.specs.Choice.{IsChoice};
+
+use crate::decisions::Decision::{AtLeast, AtMost, Before};
+use crate::decisions::{Decision, chosen};
 use crate::instances::Small;
 use load_bounds::{frame_load, node_load};
 use path_bounds::{Reached, propagate};
@@ -113,11 +117,18 @@ fn expect_room(rt: &impl Abort, facts: &Facts) {
     }
 }
 
-/// Whether propagation leaves the root open at a goal. Then nothing sharpens what is known.
-fn is_open(rt: &impl Abort, alloc: Global, i: &Instance, goal: u32) -> Result<bool, Fail> {
-    let root = Choice::root(alloc, i)?;
+/// Whether propagation leaves a choice open at a goal. Then nothing sharpens what is known.
+fn is_open(
+    rt: &impl Abort,
+    alloc: Global,
+    i: &Instance,
+    choice: &Choice,
+    goal: u32,
+) -> Result<bool, Fail>
+    requires { IsChoice i.now choice.now }
+{
     let mut steps = Vec::new(alloc);
-    match propagate(alloc, i, &root, goal, &mut steps)? {
+    match propagate(alloc, i, choice, goal, &mut steps)? {
         Reached::Closed => Ok(false),
         Reached::At(mut facts) => {
             expect_idle(rt, alloc, &mut facts)?;
@@ -127,23 +138,52 @@ fn is_open(rt: &impl Abort, alloc: Global, i: &Instance, goal: u32) -> Result<bo
     }
 }
 
-/// At how many goals the root is open.
-fn open_goals(rt: &impl Abort, alloc: Global, small: Small) -> Result<u32, Fail> {
+/// At how many goals the choice of these decisions is open.
+fn open_goals(
+    rt: &impl Abort,
+    alloc: Global,
+    small: Small,
+    decisions: &[Decision],
+) -> Result<u32, Fail> {
     let i = small.build(alloc)?;
+    let choice = chosen(rt, alloc, &i, decisions)?;
     let mut open: u32 = 0;
     for goal in 0..102 {
-        if is_open(rt, alloc, &i, goal)? {
+        if is_open(rt, alloc, &i, &choice, goal)? {
             open = open.saturating_add(1);
         }
     }
     Ok(open)
 }
 
+/// Small instances, what is decided of them, and more than how many goals are open then.
+static OPEN: &[(Small, &[Decision], u32)] = &[
+    (Small::OneMessage(PLAIN), &[], 80),
+    (Small::ThreeAlike, &[], 80),
+    (Small::Overfull, &[], 80),
+    (Small::TwoSenders, &[], 60),
+    (Small::ThreeLinked, &[], 80),
+    (
+        Small::ThreeAfterOne,
+        &[Before(2, 3), Before(4, 3), AtMost(0, 5)],
+        60,
+    ),
+    (Small::TwoMessages, &[AtLeast(1, 3), Before(2, 1)], 60),
+    (
+        Small::ThereAndBack(PLAIN),
+        &[Before(0, 1), Before(2, 3), AtMost(1, 9)],
+        60,
+    ),
+];
+
 #[test]
 fn no_step_sharpens_what_propagation_leaves_open(rt: HostRuntime) -> Result<(), Fail> {
-    assert!(rt; open_goals(&rt, rt.alloc(), Small::OneMessage(PLAIN))? > 80);
-    assert!(rt; open_goals(&rt, rt.alloc(), Small::ThreeAlike)? > 80);
-    assert!(rt; open_goals(&rt, rt.alloc(), Small::Overfull)? > 80);
-    assert!(rt; open_goals(&rt, rt.alloc(), Small::TwoSenders)? > 60);
+    for &(small, decisions, most) in OPEN {
+        let open = open_goals(&rt, rt.alloc(), small, decisions)?;
+        assert!(rt;
+            open > most,
+            "{open} goals are open, and not more than {most}"
+        );
+    }
     Ok(())
 }

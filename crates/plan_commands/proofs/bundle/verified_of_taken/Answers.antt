@@ -5,6 +5,7 @@ use Rattle.std.proofs.lemmas.Bool.{false≢true}
 use Rattle.command_streams.specs.contracts.input.Stop.{the_type}
 use denote.Enum.Bare.{same_true}
 use Rattle.plan_commands.proofs.Splits.{mark_within, refused_front, unread_plan, outcome_all}
+use Rattle.plan_commands.proofs.Unread.{not_unread}
 use Rattle.plan_commands.proofs.bundle.verified_of_taken.Goals as goal
 
 not_false : (b : Bool) → false ≡ not b → b ≡ true
@@ -36,3 +37,6 @@ returns-clause-judged c = λ bundle is_taken.
     let rest : c.split_at.result.1.now ≡ drop c.in-Some.at c.args.taken.now.bytes.items = c.split_at.ensures.back ∙ ap (drop c.in-Some.at) c.as_slice-bytes.ensures.value in
     let plan : c.split_at-2.result.1.now ≡ drop (c.in-Some.at + 3) c.args.taken.now.bytes.items = c.split_at-2.ensures.back ∙ ap (drop 3) rest ∙ drop-drop 3 c.in-Some.at c.args.taken.now.bytes.items in
     outcome_all _ c.args.taken.now bundle _ is_taken ended first _ instance _ (rw plan at c.verified_of_text.ensures.judged)
+
+pub returns-clause-unread : goal.returns-clause-unread
+returns-clause-unread c = not_unread _ _ c.verified_of_text.ensures.later
