@@ -1,5 +1,5 @@
 -- What a clause says of an incumbent and of its watches: what each has seen, and what it has offered.
-use Rattle.std.specs.Prelude.{◌≡◌, ℕ, ◌≤◌, List, true, All, Contains}
+use Rattle.std.specs.Prelude.{◌≡◌, ℕ, ◌≤◌, List, true, false, All, Contains}
 use Rattle.incumbent.specs.declared.word.Incumbent.{Incumbent}
 use Rattle.incumbent.specs.declared.word.Watch.{Watch}
 
@@ -22,6 +22,10 @@ out_count w = w.seat.me.0.out
 -- the watch is one of this incumbent
 abbrev pub IsWatchOf : Incumbent → Watch → Type 0
 IsWatchOf i w = w.seat.table_id ≡ i.table.shared.table_id
+
+-- and not the one that the incumbent began with
+abbrev pub IsOther : Incumbent → Watch → Type 0
+IsOther i w = IsWatchOf i w × (w.seat.me.0.opening ≡ false)
 
 -- and the one that the incumbent began with
 abbrev pub IsOpening : Incumbent → Watch → Type 0

@@ -83,7 +83,7 @@ pub struct Watch {
 
 impl Incumbent {
     ghost use Rattle.std.specs.Prelude.{◌≡◌, ◌+◌, ◌-◌, ◌≤◌, [], ◌∷◌, ◌++◌, All, IfOk, IsOk};
-    ghost use Rattle.incumbent.specs.Watch.{first_value, offers, out_count, seen, IsBelowView, IsLeast, IsOpening, IsSameWatch, IsWatchOf};
+    ghost use Rattle.incumbent.specs.Watch.{first_value, offers, out_count, seen, IsBelowView, IsLeast, IsOpening, IsOther, IsSameWatch, IsWatchOf};
 
     /// A word that holds `top`, in ticks, and its opening watch.
     pub fn begin(alloc: Global, top: u32) -> Result<(Incumbent, Watch), MemoryFault>
@@ -135,7 +135,7 @@ impl Incumbent {
         ensures seen { IfOk result (λ _. seen watch.new ≡ seen watch.old) }
         ensures offers { IfOk result (λ _. offers watch.new ≡ offers watch.old) }
 
-        ensures other { IfOk result (IsWatchOf self.now) }
+        ensures other { IfOk result (IsOther self.now) }
         ensures other_seen { IfOk result (λ other. seen other ≡ seen watch.old ++ offers watch.old) }
         ensures other_offers { IfOk result (λ other. offers other ≡ []) }
 

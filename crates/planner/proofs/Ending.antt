@@ -1,7 +1,7 @@
 -- What a search comes to, once what it left is closed.
-use Rattle.std.proofs.Common.{◌≡◌, ℕ, zero, suc, ◌<◌, ◌≤◌, min, List, [], ◌∷◌, ◌++◌, Option, Ok, ◌⊎◌, inl, inr, refl, sym, ap, subst, ◌∙◌, arith, length, get_or, All, Contains}
+use Rattle.std.proofs.Common.{◌≡◌, ℕ, zero, suc, ◌<◌, ◌≤◌, min, List, [], ◌∷◌, ◌++◌, Option, ◌⊎◌, inl, inr, refl, sym, ap, subst, ◌∙◌, arith, length, get_or, All, Contains}
 use Rattle.std.proofs.lemmas.List.{map-append}
-use Rattle.std.proofs.lemmas.List.Elements.{All-append, All-weaker, All-contains, Contains-append_left, Contains-get_or}
+use Rattle.std.proofs.lemmas.List.Elements.{All-append, All-weaker, All-contains, Contains-append_left, Contains-append_right}
 use Rattle.ttp_model.specs.declared.plan.Plan.{Plan}
 use Rattle.ttp_model.specs.declared.step.Leaf.{Leaf}
 use Rattle.ttp_model.specs.Instance.{Instance}
@@ -12,24 +12,20 @@ use Rattle.certificate.specs.declared.node.Node.{Node}
 use Rattle.certificate.specs.declared.node.Node.TheVariants as node
 use Rattle.branch_tree.specs.declared.piece.Piece.{Piece}
 use Rattle.branch_tree.specs.Name.{Name}
-use Rattle.branch_tree.specs.Task.{Task}
-use Rattle.branch_tree.specs.Pieces.{IsRight, StandsAt}
+use Rattle.branch_tree.specs.Task.{Task, IsTask}
+use Rattle.branch_tree.specs.Pieces.{IsRight, StandsAt, AreRight}
 use Rattle.branch_tree.specs.Account.{IsWholeTree}
 use Rattle.branch_tree.specs.Work.{IsLeftClosed}
-use Rattle.search_core.specs.World.{World, open_names, all_pieces}
-use Rattle.search_core.proofs.Cover.{bounded}
-use Rattle.search_core.proofs.Right.{pieces_right, stands_alone}
+use Rattle.search_core.proofs.Right.{stands_alone}
+use Rattle.pool_worker.specs.Tasks.{tasks_of}
 use Rattle.planner.specs.Answers.{limit_of}
 use Rattle.planner.specs.Gathering.{HasGoal, HaveGoals, AreShallow}
 use Rattle.planner.specs.Searched.{IsSearched, IsClosedLeaf, IsLeafPiece, IsWorkedOut, ReachesGoal}
-use Rattle.planner.specs.Searching.{IsOpenTask, task_names, IsSearching, ClosesOne, AreClosed}
+use Rattle.planner.specs.Searching.{task_names, IsSearching, ClosesOne, AreClosed}
 use Rattle.planner.specs.declared.outcome.Why.{Why}
-use Rattle.planner.proofs.Searching.{last_there, one_only, whole_at}
+use Rattle.planner.proofs.Searching.{last_there, one_only, weaker_goal}
+use Rattle.planner.proofs.Standing.{whole, right, shallow, stands}
 use Rattle.planner.proofs.Leaves.{closed_whole, closed_right}
-
-weaker_goal : (limit lower : ℕ) → lower ≤ limit → (n : Node) → HasGoal limit n → HasGoal lower n
-weaker_goal limit lower le (node.Branch branch) h = tt
-weaker_goal limit lower le (node.Leaf leaf) h = omega (arith, h, le)
 
 pub end_low : (low limit : ℕ) (closed : List Piece) → (low ≡ limit) ⊎ ((low < limit) × ReachesGoal low closed) → low ≤ limit
 end_low low limit closed (inl e) = omega (arith, e)
@@ -51,53 +47,54 @@ closed_leaves i limit tasks closed each = All-weaker (ClosesOne i tasks limit) I
 
 -- ---- the pieces of a search, and those that close what it left
 
-module _ (i : Instance) (m : World) (tasks : List Task) (found : Option (Plan × ℕ)) (limit low : ℕ) (closed : List Piece) (s : IsSearching i m tasks found) (c : AreClosed i tasks limit closed low) where
+module _ (i : Instance) (made : List Piece) (tasks : List Task) (found : Option (Plan × ℕ)) (limit low : ℕ) (closed : List Piece) (s : IsSearching i made tasks found) (c : AreClosed i tasks limit closed low) where
+  made_whole : IsWholeTree made (task_names tasks)
+  made_whole = subst (λ (ps : List Piece). IsWholeTree ps (task_names tasks)) s.pieces (whole i s.turns tasks s.each s.account)
+
+  made_right : AreRight i made
+  made_right = subst (AreRight i) s.pieces (right i s.turns tasks s.each s.account)
+
+  made_shallow : AreShallow made
+  made_shallow = subst AreShallow s.pieces (shallow i s.turns tasks s.each s.account)
+
+  made_stands : (t : Task) → Contains tasks t → StandsAt i made t.name t.choice
+  made_stands t there = subst (λ (ps : List Piece). StandsAt i ps t.name t.choice) s.pieces (stands i s.turns tasks s.each s.account t (Contains-append_right (tasks_of s.turns) tasks t there))
+
   closes_shallow : (p : Piece) → ClosesOne i tasks limit p → length p.name ≤ MOST_BRANCHES_ABOVE
   closes_shallow p one =
-      let own : IsOpenTask i (all_pieces m) one.task = All-contains (IsOpenTask i (all_pieces m)) tasks one.task s.open_tasks one.there in
-      omega (arith, own.task.shallow, ap (λ (w : Name). length w) one.is.name)
+      let own : IsTask i one.task = All-contains (IsTask i) tasks one.task s.open_tasks one.there in
+      omega (arith, own.shallow, ap (λ (w : Name). length w) one.is.name)
 
-  pub end_shallow : AreShallow (all_pieces m ++ closed)
+  pub end_shallow : AreShallow (made ++ closed)
   end_shallow =
-      All-append (λ (q : Piece). length q.name ≤ MOST_BRANCHES_ABOVE) (all_pieces m) closed s.shallow
+      All-append (λ (q : Piece). length q.name ≤ MOST_BRANCHES_ABOVE) made closed made_shallow
       (All-weaker (ClosesOne i tasks limit) (λ (q : Piece). length q.name ≤ MOST_BRANCHES_ABOVE) closes_shallow closed c.each)
 
-  -- by the core's law of names
-  pub end_whole : IsWholeTree (all_pieces m ++ closed) []
-  end_whole =
-      closed_whole (all_pieces m) closed (subst (IsWholeTree (all_pieces m)) (sym (c.names ∙ s.names)) (whole_at i m tasks found s)) (closed_leaves i limit tasks closed c.each)
+  pub end_whole : IsWholeTree (made ++ closed) []
+  end_whole = closed_whole made closed (subst (IsWholeTree made) (sym c.names) made_whole) (closed_leaves i limit tasks closed c.each)
 
-  -- by the core's law of bounds
-  worked_goal : IsInstance i → limit ≡ limit_of i found → (p : Piece) → Contains (all_pieces m) p → (n : Node) → p.node ≡ n → HasGoal limit n
-  worked_goal w is p there (node.Branch branch) same = tt
-  worked_goal w is p there (node.Leaf leaf) same =
-      let bounds = bounded i 1 s.reached.top s.reached.events (Ok tt) m w (omega arith) s.reached.is_top s.reached.honest s.reached.runs in
-      omega (arith, bounds.leaves p leaf there same, s.limit, is)
+  worked_goals : limit ≡ limit_of i found → HaveGoals limit made
+  worked_goals is = subst (λ (l : ℕ). HaveGoals l made) (sym is) s.goals
 
-  worked_goals : IsInstance i → limit ≡ limit_of i found → HaveGoals limit (all_pieces m)
-  worked_goals w is = λ j d lt. worked_goal w is (get_or (all_pieces m) j d) (Contains-get_or (all_pieces m) j d lt) (get_or (all_pieces m) j d).node refl
-
-  pub end_goals : IsInstance i → limit ≡ limit_of i found → HaveGoals low (all_pieces m ++ closed)
-  end_goals w is =
-      All-append (λ (q : Piece). HasGoal low q.node) (all_pieces m) closed
-      (All-weaker (λ (q : Piece). HasGoal limit q.node) (λ (q : Piece). HasGoal low q.node) (λ q. weaker_goal limit low (end_low low limit closed c.least) q.node) (all_pieces m) (worked_goals w is))
+  pub end_goals : limit ≡ limit_of i found → HaveGoals low (made ++ closed)
+  end_goals is =
+      All-append (λ (q : Piece). HasGoal low q.node) made closed
+      (All-weaker (λ (q : Piece). HasGoal limit q.node) (λ (q : Piece). HasGoal low q.node) (λ q. weaker_goal limit low (end_low low limit closed c.least) q.node) made (worked_goals is))
       c.goals
 
-  closes_right : (p : Piece) (d : Choice) → Contains closed p → StandsAt i (all_pieces m) p.name d → IsRight i d p.node
+  closes_right : (p : Piece) (d : Choice) → Contains closed p → StandsAt i made p.name d → IsRight i d p.node
   closes_right p d there stands =
       let one : ClosesOne i tasks limit p = All-contains (ClosesOne i tasks limit) closed p c.each there in
-      let own : IsOpenTask i (all_pieces m) one.task = All-contains (IsOpenTask i (all_pieces m)) tasks one.task s.open_tasks one.there in
-      let here : StandsAt i (all_pieces m) one.task.name d = subst (λ (w : Name). StandsAt i (all_pieces m) w d) one.is.name stands in
-      let same : one.task.choice ≡ d = stands_alone i (all_pieces m) (open_names m) one.task.name one.task.choice d (whole_at i m tasks found s) own.stands here in
+      let here : StandsAt i made one.task.name d = subst (λ (w : Name). StandsAt i made w d) one.is.name stands in
+      let same : one.task.choice ≡ d = stands_alone i made (task_names tasks) one.task.name one.task.choice d made_whole (made_stands one.task one.there) here in
       subst (λ (e : Choice). IsRight i e p.node) same (subst (IsRight i one.task.choice) (sym one.is.node) one.is.closes)
 
-  pub ended : (budget : ℕ) (why : Why) → IsInstance i → limit ≡ limit_of i found → length (all_pieces m) ≤ budget → IsWorkedOut budget (all_pieces m) why → IsSearched i budget why found (all_pieces m) closed low
-  ended budget why w is within cause = record {
+  pub ended : (budget : ℕ) (why : Why) → limit ≡ limit_of i found → length made ≤ budget → IsWorkedOut budget made why → IsSearched i budget why found made closed low
+  ended budget why is within cause = record {
     whole = end_whole;
-    right = closed_right i (all_pieces m) closed (closed_leaves i limit tasks closed c.each)
-        (pieces_right i 1 s.reached.top s.reached.events (Ok tt) m (omega arith) s.reached.honest s.reached.runs) closes_right;
+    right = closed_right i made closed (closed_leaves i limit tasks closed c.each) made_right closes_right;
     found = s.found;
-    goals = subst (λ (l : ℕ). HaveGoals l (all_pieces m)) is (worked_goals w is);
+    goals = s.goals;
     leaves = subst (λ (l : ℕ). All (IsClosedLeaf i l low) closed) is (all_leaves i limit low tasks closed c.each c.goals);
     least = subst (λ (l : ℕ). (low ≡ l) ⊎ ((low < l) × ReachesGoal low closed)) is c.least;
     within = within;

@@ -13,8 +13,10 @@ pub mod Proving
 pub mod Sound
 pub mod Shown
 pub mod Searched
-pub mod Reached
-pub mod Events
+pub mod Standing
 pub mod Searching
 pub mod Leaves
 pub mod Ending
+pub mod Crews
+pub mod Pools
+pub mod Collected

@@ -1,20 +1,22 @@
 -- What an answer to an instance says: a least plan, no plan, or bounds, each with a tree that proves it.
-use Rattle.std.specs.Prelude.{◌≡◌, ℕ, ◌+◌, ◌≤◌, ◌<◌, min, count_by, Bool, true, false, Option, None, Some, nat_le, Contains, All}
+use Rattle.std.specs.Prelude.{◌≡◌, ℕ, ◌+◌, ◌≤◌, ◌<◌, ◌⊎◌, min, count_by, Bool, true, false, Option, None, Some, nat_le, Contains, All}
 use Rattle.ttp_model.specs.declared.plan.Plan.{Plan}
 use Rattle.ttp_model.specs.Instance.{Instance}
 use Rattle.ttp_model.specs.Delays.{delay, IsLowerBound, IsLeastDelay, HasNoPlan}
 use Rattle.ttp_model.specs.Plans.{IsValid}
 use Rattle.ttp_model.specs.Chains.{IsPathBound}
-use Rattle.ttp_model.specs.Moves.{IsSettled}
 use Rattle.certificate.specs.declared.node.Node.{Node}
 use Rattle.ttp_model.specs.declared.step.Leaf.{Leaf}
 use Rattle.certificate.specs.declared.node.Node.TheVariants as node
 use Rattle.certificate.specs.Trees.{Trees, preorder}
 use Rattle.certificate.specs.Cert.{Cert}
 use Rattle.cert_check.specs.Proofs.{Proves}
+use Rattle.pool_worker.specs.Best.{IsPlanFound}
 use Rattle.planner.specs.declared.outcome.Options.{Options}
 use Rattle.planner.specs.declared.outcome.Outcome.{Outcome}
 use Rattle.planner.specs.declared.outcome.Outcome.TheVariants.{Optimal, Infeasible, Stopped}
+use Rattle.planner.specs.declared.outcome.SolveFault.{SolveFault}
+use Rattle.planner.specs.declared.outcome.SolveFault.TheVariants as refused
 use Rattle.planner.specs.declared.outcome.Why.{Why}
 use Rattle.planner.specs.declared.outcome.Why.TheVariants.{Budget, Memory}
 use Rattle.planner.specs.Gathering.{HasGoal}
@@ -35,11 +37,6 @@ branches tree = count_by is_branch (preorder tree)
 -- how many of its nodes are branches or leaves at the limit
 abbrev pub worked_at : ℕ → Trees → ℕ
 worked_at limit tree = branches tree + count_by (is_closed_at limit) (preorder tree)
-
--- a settled plan with its delay in ticks
-pub record IsPlanFound (i : Instance) (plan : Plan) (ticks : ℕ) : Type 0 where
-  pub settled : IsSettled i plan
-  pub delay_is : ticks ≡ delay i plan
 
 -- the delay that the search had to beat: that of the best plan found, or one tick past the horizon
 abbrev pub limit_of : Instance → Option (Plan × ℕ) → ℕ
@@ -90,6 +87,10 @@ pub record IsOutcome (i : Instance) (options : Options) (outcome : Outcome) : Ty
   pub proves : Proves i (cert_of outcome)
   pub within : branches (cert_of outcome).tree ≤ options.budget
   pub says : Says i options.budget outcome
+
+-- memory was refused, or a thread
+abbrev pub IsRefusal : SolveFault → Type 0
+IsRefusal fault = (fault ≡ refused.Memory) ⊎ (fault ≡ refused.Thread)
 
 -- what a caller learns: a least plan, no plan, or bounds on both sides
 abbrev pub IsBestPlan : Instance → Option (Plan × ℕ) → Type 0

@@ -4,3 +4,4 @@ pub mod Order
 pub mod Answers
 pub mod Searched
 pub mod Searching
+pub mod Crew

@@ -13,7 +13,8 @@ use Rattle.planner.specs.declared.outcome.Outcome.TheVariants.{Optimal, Infeasib
 use Rattle.planner.specs.declared.outcome.Why.{Why}
 use Rattle.planner.specs.declared.outcome.Why.TheVariants.{Budget, Memory}
 use Rattle.certificate.specs.Cert.{Cert}
-use Rattle.planner.specs.Answers.{IsPlanFound, limit_of}
+use Rattle.pool_worker.specs.Best.{IsPlanFound}
+use Rattle.planner.specs.Answers.{limit_of}
 use Rattle.planner.specs.Gathering.{HaveGoals}
 
 -- the plan that was found, where one was, is settled and has its delay

@@ -2,6 +2,8 @@
 #![tactic(auto)]
 
 mod closing;
+mod collecting;
+mod crew;
 mod fault;
 mod gathering;
 mod laws;
@@ -16,4 +18,5 @@ pub use laws::{
     answers_show, leaves_close_a_tree, names_make_one_tree, searches_answer, whole_trees_prove,
 };
 pub use outcome::{Options, Outcome, SolveFault, Why};
-pub use solving::solve;
+pub use pool_worker::{FreeGate, Gate};
+pub use solving::{solve, solve_with};

@@ -3,10 +3,9 @@
 ghost use Rattle.std.specs.Prelude.{◌≡◌, ◌≢◌, ◌≤◌, ◌+◌, ◌++◌, ℕ, IfOk, IfErr, IfSome, length, []};
 ghost use Rattle.ttp_model.specs.Instance.{Instance};
 ghost use Rattle.branch_tree.specs.Account.{IsWholeTree};
-ghost use Rattle.search_core.specs.World.{all_pieces};
 ghost use Rattle.planner.specs.declared.fault.GatherFault.TheVariants.{OutOfMemory};
 ghost use Rattle.planner.specs.declared.outcome.SolveFault.TheVariants as fault;
-ghost use Rattle.planner.specs.Answers.{IsOutcome, Shows, limit_of};
+ghost use Rattle.planner.specs.Answers.{IsOutcome, IsRefusal, Shows, limit_of};
 ghost use Rattle.planner.specs.Gathering.{AreShallow, HaveGoals, IsGathered};
 ghost use Rattle.planner.specs.Searched.{IsFound, IsWorkedOut, IsAnswerOf};
 ghost use Rattle.planner.specs.Searching.{IsSearching};
@@ -15,12 +14,16 @@ use crate::closing::close_all;
 use crate::fault::GatherFault;
 use crate::gathering::gather;
 use crate::outcome::{Options, Outcome, SolveFault, Why};
+use crate::collecting::searched;
 use crate::search::{Search, limit};
 use branch_tree::Piece;
 use certificate::Cert;
 use good_plan::good_plan;
-use search_core::World;
+use pool_worker::{FreeGate, Gate};
 use std::alloc::Global;
+use std::marker::{Brand, Sync};
+use std::sync::Wait;
+use std::thread::Threads;
 use tt_choice::Choice;
 use ttp_model::{Instance, MemoryFault, Plan};
 
@@ -40,18 +43,6 @@ fn first_plan(
         return Ok(None);
     }
     good_plan(alloc, instance)
-}
-
-/// The pieces of all workers.
-fn pieces_of(alloc: Global, world: World) -> Result<Vec<Piece>, MemoryFault>
-    ensures { IfOk result (λ pieces. pieces.items ≡ all_pieces world) }
-{
-    let mut pieces = Vec::new(alloc);
-    for worker in world.into_workers() {
-        let (mut made, _left) = worker.into_results();
-        pieces.append(&mut made)?;
-    }
-    Ok(pieces)
 }
 
 /// Pieces and others after them.
@@ -115,39 +106,60 @@ fn concluded(
     search: Search,
     why: Why,
 ) -> Result<Outcome, SolveFault>
-    requires searching { IsSearching instance.now search.world search.tasks.items search.best }
-    requires within { length (all_pieces search.world) ≤ options.budget }
-    requires cause { IsWorkedOut options.budget (all_pieces search.world) why }
+    requires searching { IsSearching instance.now search.pieces.items search.tasks.items search.best }
+    requires within { length search.pieces.items ≤ options.budget }
+    requires cause { IsWorkedOut options.budget search.pieces.items why }
     ensures answer { IfOk result (IsOutcome instance.now options) }
     ensures err { IfErr result (λ e. e ≡ fault.Memory) }
 {
     let _nodes = instance.nodes();
-    let Search { world, tasks, best } = search;
+    let Search {
+        pieces: worked,
+        tasks,
+        best,
+    } = search;
     let limit = limit(instance, &best);
-    let worked = pieces_of(alloc, world)?;
     let (closed, low) = close_all(alloc, instance, tasks, limit)?;
     let pieces = joined(worked, closed)?;
     let cert = certified(alloc, pieces, low)?;
     Ok(answer(why, best, limit, low, cert))
 }
 
-/// Searches for the shortest plan of an instance, by one worker on the caller's thread: works at most
-/// `budget` subtrees, and closes those that are left as well as propagation can. With a budget of 0
-/// nothing is worked and no plan is looked for; nor is one looked for before the search where the root
-/// leaves at most 32 to choose. No thread is started as yet, whatever `workers` says.
-pub fn solve<R>(
-    _rt: &R,
+/// Searches for the shortest plan of an instance, as `solve` does, and calls a gate as workers go on: `start` once for each,
+/// and `enter` and `leave` for each task that they take. The caller's thread calls none.
+pub fn solve_with<R: Threads + Wait, G: Gate + Sync>(
+    rt: &R,
+    alloc: Global,
+    instance: &Instance,
+    options: Options,
+    gate: &G,
+) -> Result<Outcome, SolveFault>
+    ensures answer { IfOk result (IsOutcome instance.now options) }
+    ensures shows { IfOk result (Shows instance.now) }
+    ensures err { IfErr result IsRefusal }
+{
+    let _nodes = instance.nodes();
+    let first = first_plan(alloc, instance, options.budget)?;
+    let mut search = searched::<Brand, G, R>(rt, alloc, instance, options, first, gate)?;
+    let why = search.go(alloc, instance, options.budget)?;
+    concluded(alloc, instance, options, search, why)
+}
+
+/// Searches for the shortest plan of an instance, by workers in threads of their own: works at most `budget` subtrees, what the
+/// workers leave on the caller's thread, and closes those that are left then as well as propagation can. With a budget of 0
+/// nothing is worked and no plan is looked for; nor is one looked for before the search where the root leaves at most 32 to
+/// choose.
+///
+/// It waits for its workers. Where a thread can't be started, those that run are joined, and nothing is answered.
+pub fn solve<R: Threads + Wait>(
+    rt: &R,
     alloc: Global,
     instance: &Instance,
     options: Options,
 ) -> Result<Outcome, SolveFault>
     ensures answer { IfOk result (IsOutcome instance.now options) }
     ensures shows { IfOk result (Shows instance.now) }
-    ensures err { IfErr result (λ e. e ≡ fault.Memory) }
+    ensures err { IfErr result IsRefusal }
 {
-    let _nodes = instance.nodes();
-    let first = first_plan(alloc, instance, options.budget)?;
-    let mut search = Search::begin(alloc, instance, first)?;
-    let why = search.go(alloc, instance, options.budget)?;
-    concluded(alloc, instance, options, search, why)
+    solve_with(rt, alloc, instance, options, &FreeGate)
 }

@@ -3,8 +3,13 @@ use Rattle.std.specs.Prelude.{◌≡◌, ℕ, ◌+◌, ◌-◌, ◌≤◌, List,
 use Rattle.std.specs.List.{flat_map}
 use mathlib.Core.Option.{some}
 use lib.ListN.{get_elem?}
+use Rattle.ttp_model.specs.Instance.{Instance, instance_with}
 use Rattle.branch_tree.specs.Task.{Task}
 use Rattle.steal_pool.specs.declared.account.Tally.{Tally}
+
+-- nothing at all; whoever makes a pool picks another
+abbrev pub no_instance : Instance
+no_instance = instance_with (record { precision = 0; lead = 0; trail = 0; head = 0; per_byte = 0; copy_out = 0; copy_in = 0; horizon = 0 }) [] [] [] []
 
 -- the owner's pass, at first
 abbrev pub opened : Tally

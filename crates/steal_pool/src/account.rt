@@ -6,13 +6,19 @@ use crossbeam_deque::protocol::{Join, Lesson, Outcome, Protocol, Split};
 use crossbeam_deque::{Pass, Stealer, Worker};
 use std::alloc::Global;
 use std::collections::LinkedList;
-use std::marker::PhantomData;
+use std::marker::{Brand, PhantomData};
 
 /// The instance whose tasks a pool holds. It exists in proofs alone, and who makes a pool picks it.
 pub trait Searched {
     ghost use Rattle.ttp_model.specs.Instance.{Instance};
 
     ghost instance: { Instance };
+}
+
+impl Searched for Brand {
+    ghost use Rattle.steal_pool.specs.Account.{no_instance};
+
+    ghost instance = { no_instance };
 }
 
 /// What a pass for a deque knows: the tasks that it pushed and took, and, for the owner's, how many others were made and

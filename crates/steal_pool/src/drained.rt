@@ -28,6 +28,7 @@ impl<J: Searched> Drained<J> {
         ensures task { IfSome result (IsTask J.instance) }
         ensures fewer { IfSome result (λ _. left_there self.new < left_there self.old) }
         ensures none { IfNone result (IsPermutation (pushed_there self.new) (taken_there self.new)) }
+        ensures same { IfNone result (taken_there self.new ≡ taken_there self.old) }
     {
         next_of(&mut self.hands)
     }

@@ -25,6 +25,13 @@ impl<J: Searched> Hand<J> {
     ghost use Rattle.steal_pool.specs.Hand.{pushed, taken, own_taken, own_deque, out_count, IsSameHand, IsFresh, OpensDoor, ClosesDoor, CountsOwn, IsWithin, BalancesAlone};
     ghost use Rattle.steal_pool.specs.Door.{deque_of, taken_by, deques_of};
 
+    /// The place of the hand in its pool.
+    pub fn number(&self) -> usize
+        ensures { result ≡ self.now.number }
+    {
+        self.number
+    }
+
     /// A hand with no way into any deque, and room for so many.
     pub(crate) fn fresh(
         alloc: Global,

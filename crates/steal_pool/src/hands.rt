@@ -127,6 +127,7 @@ pub(crate) fn next_of<J: Searched>(hands: &mut Vec<Hand<J>>) -> Option<Task>
     ensures some { IfSome result (λ t. IsPermutation (all_taken hands.new.items) (t ∷ all_taken hands.old.items)) }
     ensures task { IfSome result (IsTask J.instance) }
     ensures none { IfNone result (IsPermutation (all_pushed hands.new.items) (all_taken hands.new.items)) }
+    ensures same { IfNone result (all_taken hands.new.items ≡ all_taken hands.old.items) }
 {
     for place in 0..hands.len() {
         if let Some(task) = pop_at(hands, place) {

@@ -1,7 +1,6 @@
-use Rattle.std.proofs.Common.{List, [], ◌++◌, ◌∙◌, ap, sym, subst}
+use Rattle.std.proofs.Common.{List, [], sym, subst}
 use Rattle.branch_tree.specs.declared.piece.Piece.{Piece}
 use Rattle.branch_tree.specs.Account.{IsWholeTree}
-use Rattle.search_core.specs.World.{all_pieces}
 use Rattle.planner.specs.Gathering.{AreShallow, HaveGoals, IsGathered}
 use Rattle.planner.proofs.Ending.{end_shallow, end_whole, end_goals, end_low, ended}
 use Rattle.planner.proofs.Searched.{search_answers}
@@ -11,25 +10,25 @@ pub certified-requires-clause-shallow : goal.certified-requires-clause-shallow
 certified-requires-clause-shallow c =
     let s = c.args.search in
     let closed = c.in_ok-closed.closed.items in
-    let joined = c.in_ok-pieces.ensures ∙ ap (λ (ps : List Piece). ps ++ closed) c.in_ok-worked.ensures in
+    let joined = c.in_ok-pieces.ensures in
     subst AreShallow (sym joined)
-    (end_shallow c.args.instance.now s.world s.tasks.items s.best c.limit-limit.result c.in_ok-closed.low closed c.requires.searching c.in_ok-closed.ensures)
+    (end_shallow c.args.instance.now s.pieces.items s.tasks.items s.best c.limit-limit.result c.in_ok-closed.low closed c.requires.searching c.in_ok-closed.ensures)
 
 pub certified-requires-clause-whole : goal.certified-requires-clause-whole
 certified-requires-clause-whole c =
     let s = c.args.search in
     let closed = c.in_ok-closed.closed.items in
-    let joined = c.in_ok-pieces.ensures ∙ ap (λ (ps : List Piece). ps ++ closed) c.in_ok-worked.ensures in
+    let joined = c.in_ok-pieces.ensures in
     subst (λ (ps : List Piece). IsWholeTree ps []) (sym joined)
-    (end_whole c.args.instance.now s.world s.tasks.items s.best c.limit-limit.result c.in_ok-closed.low closed c.requires.searching c.in_ok-closed.ensures)
+    (end_whole c.args.instance.now s.pieces.items s.tasks.items s.best c.limit-limit.result c.in_ok-closed.low closed c.requires.searching c.in_ok-closed.ensures)
 
 pub certified-requires-clause-goals : goal.certified-requires-clause-goals
 certified-requires-clause-goals c =
     let s = c.args.search in
     let closed = c.in_ok-closed.closed.items in
-    let joined = c.in_ok-pieces.ensures ∙ ap (λ (ps : List Piece). ps ++ closed) c.in_ok-worked.ensures in
+    let joined = c.in_ok-pieces.ensures in
     subst (HaveGoals c.in_ok-closed.low) (sym joined)
-    (end_goals c.args.instance.now s.world s.tasks.items s.best c.limit-limit.result c.in_ok-closed.low closed c.requires.searching c.in_ok-closed.ensures c.nodes-nodes.ensures.instance c.limit-limit.ensures)
+    (end_goals c.args.instance.now s.pieces.items s.tasks.items s.best c.limit-limit.result c.in_ok-closed.low closed c.requires.searching c.in_ok-closed.ensures c.limit-limit.ensures)
 
 pub returns-clause-answer : goal.returns-clause-answer
 returns-clause-answer c =
@@ -38,8 +37,8 @@ returns-clause-answer c =
     let low = c.in_ok-closed.low in
     let closed = c.in_ok-closed.closed.items in
     let is = c.in_ok-closed.ensures in
-    let joined = c.in_ok-pieces.ensures ∙ ap (λ (ps : List Piece). ps ++ closed) c.in_ok-worked.ensures in
-    search_answers i c.args.options c.args.why s.best (all_pieces s.world) closed low c.in_ok-cert.cert c.answer.result c.nodes-nodes.ensures.instance
-    (ended i s.world s.tasks.items s.best c.limit-limit.result low closed c.requires.searching is c.args.options.budget c.args.why c.nodes-nodes.ensures.instance c.limit-limit.ensures c.requires.within c.requires.cause)
+    let joined = c.in_ok-pieces.ensures in
+    search_answers i c.args.options c.args.why s.best s.pieces.items closed low c.in_ok-cert.cert c.answer.result c.nodes-nodes.ensures.instance
+    (ended i s.pieces.items s.tasks.items s.best c.limit-limit.result low closed c.requires.searching is c.args.options.budget c.args.why c.limit-limit.ensures c.requires.within c.requires.cause)
     (subst (λ (ps : List Piece). IsGathered low ps c.in_ok-cert.cert) joined c.in_ok-cert.ensures.ok)
     (c.answer.ensures i c.limit-limit.ensures (end_low low c.limit-limit.result closed is.least))

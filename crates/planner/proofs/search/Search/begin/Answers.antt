@@ -1,8 +1,12 @@
-use Rattle.planner.proofs.Searching.{begins}
+use Rattle.std.proofs.Common.{List, sym, subst}
+use Rattle.branch_tree.specs.declared.piece.Piece.{Piece}
+use Rattle.branch_tree.specs.Task.{Task}
+use Rattle.planner.specs.Searching.{IsSearching}
+use Rattle.planner.proofs.Searching.{starts}
 use Rattle.planner.proofs.search.Search.begin.Goals as goal
 
 pub returns-clause-searching : goal.returns-clause-searching
 returns-clause-searching c =
-    let first = begins c.args.instance.now c.args.first c.in_ok-world.world c.limit.result c.in_ok-tasks.tasks.items c.in_ok-root.root
-    c.in_ok-world.ensures c.limit.ensures c.in_ok-tasks.ensures.items c.in_ok-root.ensures.value c.in_ok-root.ensures.task c.requires in
-    first.searching
+    let i = c.args.instance.now in
+    let first = starts i c.args.first c.in_ok-root.root c.in_ok-root.ensures.value c.in_ok-root.ensures.task c.requires in
+    rw c.new.ensures.items (rw c.in_ok-tasks.ensures.items first)

@@ -1,0 +1,187 @@
+-- What workers come to together, with one more report.
+use Rattle.std.proofs.Common.{◌≡◌, ℕ, ◌+◌, ◌-◌, ◌≤◌, List, [], ◌∷◌, ◌++◌, Option, None, Some, inl, inr, ⊎_elim, refl, sym, ap, subst, ◌∙◌, arith, append_assoc, length, length-append, All, Contains}
+use Rattle.std.specs.List.{flat_map}
+use Rattle.std.specs.List.Sorted.{IsPermutation}
+use Rattle.std.proofs.lemmas.Grind.{flat_map-append}
+use Rattle.std.proofs.lemmas.List.{append-nil, map-append}
+use Rattle.std.proofs.lemmas.List.Elements.{All-append, All-weaker, All-nil, Contains-append_left, Contains-append_right}
+use Rattle.std.proofs.lemmas.List.Sorted.{IsPermutation-refl, IsPermutation-sym, IsPermutation-trans, IsPermutation-append, IsPermutation-append_left, IsPermutation-append_right, IsPermutation-append_comm}
+use Rattle.ttp_model.specs.declared.plan.Plan.{Plan}
+use Rattle.ttp_model.specs.Instance.{Instance}
+use Rattle.ttp_model.specs.Rules.{IsInstance}
+use Rattle.branch_tree.specs.declared.piece.Piece.{Piece}
+use Rattle.branch_tree.specs.Task.{Task, IsTask}
+use Rattle.incumbent.specs.declared.word.Incumbent.{Incumbent}
+use Rattle.incumbent.specs.declared.word.Watch.{Watch}
+use Rattle.incumbent.specs.Watch.{seen, offers, out_count, IsOpening}
+use Rattle.steal_pool.specs.declared.hand.Hand.{Hand}
+use Rattle.steal_pool.specs.Hand.{pushed, taken, IsSameHand, all_pushed, all_taken}
+use Rattle.pool_worker.specs.declared.report.Report.{Report}
+use Rattle.pool_worker.specs.Tasks.{Turn, IsTurn, tasks_of, pieces_of, all_born, born}
+use Rattle.pool_worker.specs.Goals.{goals_of, goals_at, IsReached}
+use Rattle.pool_worker.specs.Best.{IsBestOf, OffersBest}
+use Rattle.pool_worker.specs.Report.{held, unpushed}
+use Rattle.planner.specs.declared.crew.Job.{Job}
+use Rattle.planner.specs.declared.crew.Crew.{Crew}
+use Rattle.planner.specs.Answers.{limit_of}
+use Rattle.planner.specs.Searched.{IsFound}
+use Rattle.planner.specs.Crew.{AreSameHands, Gathers, IsBetter, IsJob, IsReportOfJob, tasks_in, told}
+use Rattle.planner.proofs.Searching.{first_is, then_is, found_small, one_only}
+
+-- ---- lists
+
+-- the second and the third of four lists change places
+pub interleave : {X : Type 0} (a b c d : List X) → IsPermutation ((a ++ b) ++ (c ++ d)) ((a ++ c) ++ (b ++ d))
+interleave a b c d =
+    let swapped = first_is _ _ _ (sym (append_assoc b c d)) (then_is _ _ _ (IsPermutation-append_left d (b ++ c) (c ++ b) (IsPermutation-append_comm b c)) (append_assoc c b d)) in
+    first_is _ _ _ (append_assoc a b (c ++ d)) (then_is _ _ _ (IsPermutation-append_right a (b ++ (c ++ d)) (c ++ (b ++ d)) swapped) (sym (append_assoc a c (b ++ d))))
+
+-- two lists, each in another order and in two parts, are together so too
+pub both : {X : Type 0} (xs ys a b c d : List X) → IsPermutation xs (a ++ b) → IsPermutation ys (c ++ d) → IsPermutation (xs ++ ys) ((a ++ c) ++ (b ++ d))
+both xs ys a b c d h k = IsPermutation-trans _ _ _ (IsPermutation-append xs (a ++ b) ys (c ++ d) h k) (interleave a b c d)
+
+one_more : {X A : Type 0} (f : X → List A) (xs : List X) (x : X) → flat_map f (xs ++ x ∷ []) ≡ flat_map f xs ++ f x
+one_more f xs x = flat_map-append f xs (x ∷ []) ∙ ap (λ l. flat_map f xs ++ l) (append-nil (f x))
+
+module _ {J : Type 0} where
+  same_snoc : (gs hs : List (Hand J)) (g h : Hand J) → AreSameHands gs hs → IsSameHand g h → AreSameHands (gs ++ g ∷ []) (hs ++ h ∷ [])
+  same_snoc [] [] g h all one = (one, tt)
+  same_snoc [] (y ∷ hs) g h all one = absurd all
+  same_snoc (x ∷ gs) [] g h all one = absurd all
+  same_snoc (x ∷ gs) (y ∷ hs) g h all one = (all.0, same_snoc gs hs g h all.1 one)
+
+-- ---- the best plan
+
+pub none_below : (i : Instance) (found : Option (Plan × ℕ)) → IsInstance i → IsFound i found → limit_of i found ≤ i.cluster.horizon + 1
+none_below i None w is = omega arith
+none_below i (Some best) w is = let small = found_small i best.0 best.1 w is in omega (arith, small)
+
+pub better_none : (i : Instance) (a b : Option (Plan × ℕ)) → IsInstance i → a ≡ None → IsFound i b → IsBetter i a b b
+better_none i a b w lacks is =
+    let low = none_below i b w is in
+    record { found = is; first = subst (λ (x : Option (Plan × ℕ)). limit_of i b ≤ limit_of i x) (sym lacks) low; second = omega arith }
+
+pub better_first : (i : Instance) (a b : Option (Plan × ℕ)) → IsInstance i → b ≡ None → IsFound i a → IsBetter i a b a
+better_first i a b w lacks is =
+    let low = none_below i a w is in
+    record { found = is; first = omega arith; second = subst (λ (x : Option (Plan × ℕ)). limit_of i a ≤ limit_of i x) (sym lacks) low }
+
+pub found_of : (i : Instance) (made : List ℕ) (best : Option (Plan × ℕ)) → IsBestOf i made best → IsFound i best
+found_of i made None is = tt
+found_of i made (Some best) is = is.0
+
+above_best : (i : Instance) (made : List ℕ) (best : Option (Plan × ℕ)) → IsBestOf i made best → All (λ value. limit_of i best ≤ value) made
+above_best i made None is = subst (All (λ value. limit_of i None ≤ value)) (sym is) (All-nil (λ value. limit_of i None ≤ value))
+above_best i made (Some best) is = is.1
+
+lower_all : (n m : ℕ) (xs : List ℕ) → m ≤ n → All (λ x. n ≤ x) xs → All (λ x. m ≤ x) xs
+lower_all n m xs le h k d small = let p = h k d small in omega arith
+
+-- ---- one more report
+
+module _ {J : Type 0} (i : Instance) (word : Incumbent) (count : ℕ) (begun : List (Hand J)) (old new : Crew J) (job : Job J) (report : Report J) (w : IsInstance i) (g : Gathers i word count begun old) (j : IsJob word job)
+      (r : IsReportOfJob i job report) (hands : new.hands.items ≡ old.hands.items ++ report.hand ∷ []) (pieces : new.pieces.items ≡ old.pieces.items ++ report.pieces.items)
+      (tasks : new.tasks.items ≡ old.tasks.items ++ tasks_in report.rest) (better : IsBetter i old.best report.best new.best) (opening : IsOpening word new.watch) (out : out_count new.watch ≡ out_count old.watch - 1)
+      (sees : seen new.watch ≡ seen old.watch ++ seen report.watch) (offered : offers new.watch ≡ offers old.watch ++ offers report.watch) where
+  takes_more : IsPermutation (all_taken new.hands.items) (all_taken (begun ++ job.hand ∷ []) ++ (tasks_of (g.turns ++ r.account.turns) ++ (g.in_hand ++ held report.rest)))
+  takes_more =
+      let a = r.account in
+      let took = IsPermutation-trans _ _ _ a.takes (IsPermutation-append_right (taken job.hand) a.took (tasks_of a.turns ++ held report.rest) a.account.took) in
+      let all = both (all_taken old.hands.items) (taken report.hand) (all_taken begun) (tasks_of g.turns ++ g.in_hand) (taken job.hand) (tasks_of a.turns ++ held report.rest) g.takes took in
+      let inner = IsPermutation-append_right (all_taken begun ++ taken job.hand) _ _ (interleave (tasks_of g.turns) g.in_hand (tasks_of a.turns) (held report.rest)) in
+      let left = ap all_taken hands ∙ one_more taken old.hands.items report.hand in
+      let right : all_taken (begun ++ job.hand ∷ []) ++ (tasks_of (g.turns ++ a.turns) ++ (g.in_hand ++ held report.rest)) ≡ (all_taken begun ++ taken job.hand) ++ ((tasks_of g.turns ++ tasks_of a.turns) ++ (g.in_hand ++ held report.rest)) =
+          λ k. one_more taken begun job.hand k ++ (map-append (λ (t : Turn). t.task) g.turns a.turns k ++ (g.in_hand ++ held report.rest)) in
+      first_is _ _ _ left (then_is _ _ _ (IsPermutation-trans _ _ _ all inner) (sym right))
+
+  pushes_more : IsPermutation (all_pushed new.hands.items ++ (g.kept_back ++ unpushed report.rest)) (all_pushed (begun ++ job.hand ∷ []) ++ all_born i (g.turns ++ r.account.turns))
+  pushes_more =
+      let a = r.account in
+      let U = unpushed report.rest in
+      let own = first_is _ _ _ (ap (λ (l : List Task). l ++ U) a.pushes ∙ append_assoc (pushed job.hand) a.gave U)
+      (IsPermutation-append_right (pushed job.hand) (a.gave ++ U) (all_born i a.turns) (IsPermutation-sym (all_born i a.turns) (a.gave ++ U) a.account.gave)) in
+      let apart = interleave (all_pushed old.hands.items) (pushed report.hand) g.kept_back U in
+      let all = both (all_pushed old.hands.items ++ g.kept_back) (pushed report.hand ++ U) (all_pushed begun) (all_born i g.turns) (pushed job.hand) (all_born i a.turns) g.pushes own in
+      let left = ap (λ (l : List Task). l ++ (g.kept_back ++ U)) (ap all_pushed hands ∙ one_more pushed old.hands.items report.hand) in
+      let right : all_pushed (begun ++ job.hand ∷ []) ++ all_born i (g.turns ++ a.turns) ≡ (all_pushed begun ++ pushed job.hand) ++ (all_born i g.turns ++ all_born i a.turns) =
+          λ k. one_more pushed begun job.hand k ++ flat_map-append (born i) g.turns a.turns k in
+      first_is _ _ _ left (then_is _ _ _ (IsPermutation-trans _ _ _ apart all) (sym right))
+
+  offers_above : All (λ value. limit_of i new.best ≤ value) (offers new.watch)
+  offers_above =
+      let P : ℕ → Type 0 = λ value. limit_of i new.best ≤ value in
+      let own : offers report.watch ≡ r.best.made = r.best.offered ∙ ap (λ (l : List ℕ). l ++ r.best.made) j.silent in
+      let first = lower_all (limit_of i old.best) (limit_of i new.best) (offers old.watch) better.first g.best in
+      let second = lower_all (limit_of i report.best) (limit_of i new.best) r.best.made better.second (above_best i r.best.made report.best r.best.best) in
+      subst (All P) (sym offered) (All-append P (offers old.watch) (offers report.watch) first (subst (All P) (sym own) second))
+
+  left_reached : (x : ℕ) → IsReached old.watch x → IsReached new.watch x
+  left_reached x h = record {
+    value = h.value;
+    known = ⊎_elim (λ (e : Contains (seen old.watch) h.value). inl (subst (λ (l : List ℕ). Contains l h.value) (sym sees) (Contains-append_left (seen old.watch) (seen report.watch) h.value e)))
+        (λ (e : Contains (offers old.watch) h.value). inr (subst (λ (l : List ℕ). Contains l h.value) (sym offered) (Contains-append_left (offers old.watch) (offers report.watch) h.value e))) h.known;
+    at_most = h.at_most;
+  }
+
+  right_reached : (x : ℕ) → IsReached report.watch x → IsReached new.watch x
+  right_reached x h = record {
+    value = h.value;
+    known = ⊎_elim (λ (e : Contains (seen report.watch) h.value). inl (subst (λ (l : List ℕ). Contains l h.value) (sym sees) (Contains-append_right (seen old.watch) (seen report.watch) h.value e)))
+        (λ (e : Contains (offers report.watch) h.value). inr (subst (λ (l : List ℕ). Contains l h.value) (sym offered) (Contains-append_right (offers old.watch) (offers report.watch) h.value e))) h.known;
+    at_most = h.at_most;
+  }
+
+  all_reached : All (IsReached new.watch) (goals_of new.pieces.items)
+  all_reached =
+      let grown = ap goals_of pieces ∙ flat_map-append (λ (p : Piece). goals_at p.node) old.pieces.items report.pieces.items in
+      subst (All (IsReached new.watch)) (sym grown)
+      (All-append (IsReached new.watch) (goals_of old.pieces.items) (goals_of report.pieces.items)
+      (All-weaker (IsReached old.watch) (IsReached new.watch) left_reached (goals_of old.pieces.items) g.reached)
+      (All-weaker (IsReached report.watch) (IsReached new.watch) right_reached (goals_of report.pieces.items) r.goals.reached))
+
+  pub gathers_more : Gathers i word count (begun ++ job.hand ∷ []) new
+  gathers_more = record {
+    same = subst (AreSameHands (begun ++ job.hand ∷ [])) (sym hands) (same_snoc begun old.hands.items job.hand report.hand g.same r.hand);
+    turns = g.turns ++ r.account.turns;
+    each = All-append (IsTurn i) g.turns r.account.turns g.each r.account.each;
+    pieces = map-append (λ (t : Turn). t.piece) g.turns r.account.turns ∙ (λ k. g.pieces k ++ r.account.pieces k) ∙ sym pieces;
+    in_hand = g.in_hand ++ held report.rest;
+    kept_back = g.kept_back ++ unpushed report.rest;
+    takes = takes_more;
+    pushes = pushes_more;
+    rest = first_is _ _ _ tasks (both old.tasks.items (tasks_in report.rest) g.in_hand g.kept_back (held report.rest) (unpushed report.rest) g.rest (IsPermutation-refl (tasks_in report.rest)));
+    open_tasks = subst (All (IsTask i)) (sym tasks) (All-append (IsTask i) old.tasks.items (tasks_in report.rest) g.open_tasks (All-append (IsTask i) (held report.rest) (unpushed report.rest) r.account.one_of r.account.others_of));
+    opening = opening;
+    joined = omega (arith, out, g.joined, length-append begun (job.hand ∷ []));
+    found = better.found;
+    best = offers_above;
+    reached = all_reached;
+  }
+
+-- ---- nobody yet
+
+pub told_above : (i : Instance) (found : Option (Plan × ℕ)) → All (λ value. limit_of i found ≤ value) (told [] found)
+told_above i None = All-nil (λ value. limit_of i None ≤ value)
+told_above i (Some best) = one_only (λ value. best.1 ≤ value) best.1 (omega arith)
+
+pub nobody_yet : {J : Type 0} (i : Instance) (word : Incumbent) (count : ℕ) (crew : Crew J) → crew.hands.items ≡ [] → crew.pieces.items ≡ [] → crew.tasks.items ≡ [] → IsOpening word crew.watch → out_count crew.watch ≡ count → IsFound i crew.best
+    → offers crew.watch ≡ told [] crew.best → Gathers i word count [] crew
+nobody_yet {J} i word count crew hands pieces tasks opening out found offered =
+    let none : List (Hand J) = [] in
+    record {
+      same = subst (AreSameHands none) (sym hands) tt;
+      turns = [];
+      each = All-nil (IsTurn i);
+      pieces = sym pieces;
+      in_hand = [];
+      kept_back = [];
+      takes = subst (λ (l : List (Hand J)). IsPermutation (all_taken l) []) (sym hands) (IsPermutation-refl []);
+      pushes = subst (λ (l : List (Hand J)). IsPermutation (all_pushed l ++ []) []) (sym hands) (IsPermutation-refl []);
+      rest = subst (λ (l : List Task). IsPermutation l []) (sym tasks) (IsPermutation-refl []);
+      open_tasks = subst (All (IsTask i)) (sym tasks) (All-nil (IsTask i));
+      opening = opening;
+      joined = omega (arith, out);
+      found = found;
+      best = subst (All (λ value. limit_of i crew.best ≤ value)) (sym offered) (told_above i crew.best);
+      reached = subst (λ (l : List Piece). All (IsReached crew.watch) (goals_of l)) (sym pieces) (All-nil (IsReached crew.watch));
+    }

@@ -1,0 +1,18 @@
+use Rattle.std.proofs.Common.{◌≡◌, ◌++◌, List}
+use Rattle.std.specs.Prelude.{All, IsPermutation}
+use Rattle.branch_tree.specs.Task.{Task, IsTask}
+use Rattle.steal_pool.specs.Drained.{left_there, pushed_there, taken_there}
+use Rattle.steal_pool.specs.Hand.{all_pushed, all_taken}
+use Rattle.planner.proofs.collecting.drained.Given as goal
+
+abbrev pub decreases-left : goal.decreases-left
+decreases-left g l = left_there l.left
+
+abbrev pub invariant-left : goal.invariant-left
+invariant-left g l = record {
+  drained : List Task;
+  tasks : l.tasks.items ≡ l.initial.tasks.items ++ drained;
+  each : All (IsTask g.J.Searched.instance) l.tasks.items;
+  pushes : pushed_there l.left ≡ pushed_there l.initial.left;
+  takes : IsPermutation (taken_there l.left) (drained ++ taken_there l.initial.left);
+}

@@ -1,0 +1,11 @@
+use Rattle.std.proofs.Common.{arith, ◌≡◌, Option, Some, subst}
+use Rattle.ttp_model.specs.declared.error.Place.TheVariants.{AtCluster}
+use Rattle.planner.specs.Searched.{IsFound}
+use Rattle.planner.proofs.Searching.{found_small}
+use Rattle.planner.proofs.collecting.tell.Goals as goal
+
+pub overflow_cast-delay : goal.overflow_cast-delay
+overflow_cast-delay c =
+    let i = c.args.instance.now in
+    let found = subst (IsFound i) c.in-Some.is c.requires.found in
+    omega (arith, found_small i _ c.in-Some.delay c.nodes-nodes.ensures.instance found, (c.nodes-nodes.ensures.instance.ranges AtCluster).horizon)

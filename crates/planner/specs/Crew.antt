@@ -1,0 +1,97 @@
+-- What workers begin with, and what they come to together. Only private contracts ask for it.
+use Rattle.std.specs.Prelude.{◌≡◌, ℕ, ◌+◌, ◌-◌, ◌≤◌, List, [], ◌∷◌, ◌++◌, map, length, sum_by, All, Option, None, Some, IsPermutation}
+use Rattle.ttp_model.specs.declared.plan.Plan.{Plan}
+use Rattle.ttp_model.specs.Instance.{Instance}
+use Rattle.branch_tree.specs.Task.{Task, IsTask, root_task}
+use Rattle.incumbent.specs.declared.word.Incumbent.{Incumbent}
+use Rattle.incumbent.specs.Watch.{first_value, offers, out_count, IsOpening, IsOther, IsSameWatch}
+use Rattle.steal_pool.specs.declared.hand.Hand.{Hand}
+use Rattle.steal_pool.specs.Hand.{IsPool, IsSameHand, all_pushed, all_taken}
+use Rattle.pool_worker.specs.declared.report.Report.{Report}
+use Rattle.pool_worker.specs.Tasks.{Turn, IsTurn, tasks_of, pieces_of, all_born}
+use Rattle.pool_worker.specs.Goals.{goals_of, AreGoals, IsReached}
+use Rattle.pool_worker.specs.Best.{OffersBest}
+use Rattle.pool_worker.specs.declared.report.Rest.{Rest}
+use Rattle.pool_worker.specs.Report.{HasAccount, held, unpushed}
+use Rattle.planner.specs.declared.crew.Job.{Job}
+use Rattle.planner.specs.declared.crew.Crew.{Crew}
+use Rattle.planner.specs.Answers.{limit_of}
+use Rattle.planner.specs.Searched.{IsFound}
+
+-- the report of a run that began with this job
+pub record IsReportOfJob {J : Type 0} (i : Instance) (job : Job J) (report : Report J) : Type 0 where
+  pub hand : IsSameHand job.hand report.hand
+  pub watch : IsSameWatch job.watch report.watch
+  pub account : HasAccount i job.hand report.hand report.pieces.items report.rest
+  pub goals : AreGoals job.watch report.watch (goals_of report.pieces.items)
+  pub best : OffersBest i job.watch report.watch report.best
+  pub within : length report.pieces.items ≤ job.budget
+
+-- a job whose watch is one of this incumbent, not the opening one, and has offered nothing
+pub record IsJob {J : Type 0} (word : Incumbent) (job : Job J) : Type 0 where
+  pub other : IsOther word job.watch
+  pub silent : offers job.watch ≡ []
+
+abbrev pub hands_of : {J : Type 0} → List (Job J) → List (Hand J)
+hands_of {J} jobs = map (λ (job : Job J). job.hand) jobs
+
+-- how many tasks are worked at most
+abbrev pub budget_of : {J : Type 0} → List (Job J) → ℕ
+budget_of {J} jobs = sum_by (λ (job : Job J). job.budget) jobs
+
+-- the same hands, one after another
+abbrev pub AreSameHands : {J : Type 0} → List (Hand J) → List (Hand J) → Type 0
+AreSameHands [] [] = Unit {0}
+AreSameHands [] (h ∷ hs) = ⊥
+AreSameHands (g ∷ gs) [] = ⊥
+AreSameHands (g ∷ gs) (h ∷ hs) = IsSameHand g h × AreSameHands gs hs
+
+-- what is in hand: the task that wasn't worked, or the children that weren't pushed
+abbrev pub tasks_in : Rest → List Task
+tasks_in rest = held rest ++ unpushed rest
+
+-- the better of two plans that may have been found
+pub record IsBetter (i : Instance) (a b best : Option (Plan × ℕ)) : Type 0 where
+  pub found : IsFound i best
+  pub first : limit_of i best ≤ limit_of i a
+  pub second : limit_of i best ≤ limit_of i b
+
+-- What workers that began with these hands came to: each piece is right for a task that one of them took. They took
+-- these tasks and those that they hold; they pushed what their branches gave, but for what they hold of it. The best plan
+-- is at most each offer, and each leaf's goal at least something that one of them has seen or offered.
+pub record Gathers {J : Type 0} (i : Instance) (word : Incumbent) (count : ℕ) (begun : List (Hand J)) (crew : Crew J) : Type 0 where
+  pub same : AreSameHands begun crew.hands.items
+  pub turns : List Turn
+  pub each : All (IsTurn i) turns
+  pub pieces : pieces_of turns ≡ crew.pieces.items
+  pub in_hand : List Task
+  pub kept_back : List Task
+  pub takes : IsPermutation (all_taken crew.hands.items) (all_taken begun ++ (tasks_of turns ++ in_hand))
+  pub pushes : IsPermutation (all_pushed crew.hands.items ++ kept_back) (all_pushed begun ++ all_born i turns)
+  pub rest : IsPermutation crew.tasks.items (in_hand ++ kept_back)
+  pub open_tasks : All (IsTask i) crew.tasks.items
+  pub opening : IsOpening word crew.watch
+  pub joined : out_count crew.watch ≡ count - length begun
+  pub found : IsFound i crew.best
+  pub best : All (λ value. limit_of i crew.best ≤ value) (offers crew.watch)
+  pub reached : All (IsReached crew.watch) (goals_of crew.pieces.items)
+
+-- the offers, with the delay of the plan that is known, where there is one
+abbrev pub told : List ℕ → Option (Plan × ℕ) → List ℕ
+told values None = values
+told values (Some best) = values ++ best.1 ∷ []
+
+-- the tasks that are left: these, and then those that were pushed and not taken
+pub record HasLeft {J : Type 0} (hands : List (Hand J)) (tasks all : List Task) : Type 0 where
+  pub drained : List Task
+  pub then : all ≡ tasks ++ drained
+  pub balance : IsPermutation (all_pushed hands) (drained ++ all_taken hands)
+
+-- all workers of a pool have ended, whose first hand was given the whole tree; their word began one past the horizon
+pub record HaveEnded {J : Type 0} (i : Instance) (word : Incumbent) (crew : Crew J) : Type 0 where
+  pub begun : List (Hand J)
+  pub gathers : Gathers i word (length begun) begun crew
+  pub pool : IsPool begun
+  pub pushes : IsPermutation (all_pushed begun) (root_task i ∷ [])
+  pub takes : all_taken begun ≡ []
+  pub top : first_value word ≡ i.cluster.horizon + 1

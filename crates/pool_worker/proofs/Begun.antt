@@ -1,0 +1,52 @@
+-- A run at its beginning.
+use Rattle.std.proofs.Common.{◌≡◌, List, [], None, refl, sym, subst}
+use Rattle.std.proofs.lemmas.List.Sorted.{IsPermutation-refl}
+use Rattle.std.proofs.lemmas.List.{append-nil}
+use Rattle.std.proofs.lemmas.List.Elements.{All-nil}
+use Rattle.ttp_model.specs.Instance.{Instance}
+use Rattle.branch_tree.specs.declared.piece.Piece.{Piece}
+use Rattle.branch_tree.specs.Task.{IsTask}
+use Rattle.incumbent.specs.declared.word.Watch.{Watch}
+use Rattle.incumbent.specs.Watch.{offers, IsBelowView}
+use Rattle.steal_pool.specs.declared.hand.Hand.{Hand}
+use Rattle.steal_pool.specs.Hand.{pushed, taken}
+use Rattle.steal_pool.proofs.Orders.{then_same}
+use Rattle.pool_worker.specs.declared.report.Rest.TheVariants.{Nothing}
+use Rattle.pool_worker.specs.declared.run.Run.{Run}
+use Rattle.pool_worker.specs.Tasks.{IsTurn}
+use Rattle.pool_worker.specs.Goals.{AreGoals, goals_of, IsReached}
+use Rattle.pool_worker.specs.Best.{IsFoundDelay}
+use Rattle.pool_worker.specs.Report.{HasAccount}
+use Rattle.pool_worker.specs.Run.{IsRun}
+
+goals_begin : (watch : Watch) → AreGoals watch watch []
+goals_begin watch = record { falls = tt; below = All-nil (IsBelowView watch); reached = All-nil (IsReached watch) }
+
+module _ {J : Type 0} (i : Instance) where
+  account_begins : (hand : Hand J) → HasAccount i hand hand [] Nothing
+  account_begins hand = record {
+    turns = [];
+    each = All-nil (IsTurn i);
+    pieces = refl;
+    took = [];
+    takes = then_same _ _ _ (IsPermutation-refl (taken hand)) (sym (append-nil (taken hand)));
+    gave = [];
+    pushes = sym (append-nil (pushed hand));
+    account = record { took = IsPermutation-refl []; gave = IsPermutation-refl [] };
+    one_of = All-nil (IsTask i);
+    others_of = All-nil (IsTask i);
+  }
+
+  pub begins : (run : Run J) → run.pieces.items ≡ [] → run.best ≡ None → IsRun i run.hand run.watch run Nothing
+  begins run none no_best = record {
+    same = record { number = refl; own = refl; deques = refl; out = refl };
+    follows = record { same = record { table = refl; place = refl; opening = refl; out = refl }; sees = λ x h. h; offered = λ x h. h };
+    account = subst (λ (l : List Piece). HasAccount i run.hand run.hand l Nothing) (sym none) (account_begins run.hand);
+    goals = subst (λ (l : List Piece). AreGoals run.watch run.watch (goals_of l)) (sym none) (goals_begin run.watch);
+    best = record {
+      made = [];
+      offered = sym (append-nil (offers run.watch));
+      plans = All-nil (IsFoundDelay i);
+      best = rw no_best refl;
+    };
+  }

@@ -1,0 +1,4 @@
+pub mod Children
+pub mod Watches
+pub mod Turns
+pub mod Begun

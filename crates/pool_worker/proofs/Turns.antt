@@ -1,0 +1,161 @@
+-- What a turn adds to a run's account, its goals and its offers.
+use Rattle.std.proofs.Common.{◌≡◌, ℕ, ◌≤◌, List, [], ◌∷◌, ◌++◌, length, get_or, All, Contains, Some, inl, inr, ⊎_elim, refl, sym, ap, ◌∙◌, subst, append_assoc, arith}
+use Rattle.std.specs.Prelude.{IsPermutation}
+use Rattle.std.proofs.lemmas.List.{append-nil, map-append}
+use Rattle.std.proofs.lemmas.Grind.{flat_map-append}
+use Rattle.std.proofs.lemmas.List.Elements.{All-nil, All-push, All-append, All-weaker, All-contains, All-head, All-tail, All-contains_itself, Contains-append_right}
+use Rattle.std.proofs.lemmas.List.Sorted.{IsPermutation-trans, IsPermutation-cons, IsPermutation-append_left, IsPermutation-append_comm}
+use Rattle.ttp_model.specs.Instance.{Instance}
+use Rattle.certificate.specs.declared.node.Node.{Node}
+use Rattle.certificate.specs.declared.node.Node.TheVariants as node
+use Rattle.branch_tree.specs.declared.piece.Piece.{Piece}
+use Rattle.branch_tree.specs.Task.{Task, IsTask}
+use Rattle.incumbent.specs.declared.word.Watch.{Watch}
+use Rattle.incumbent.specs.Watch.{seen, offers, IsBelowView}
+use Rattle.steal_pool.specs.declared.hand.Hand.{Hand}
+use Rattle.steal_pool.specs.Hand.{pushed, taken, IsSameHand}
+use Rattle.steal_pool.proofs.Orders.{then_same, first_same}
+use Rattle.pool_worker.specs.declared.report.Rest.{Rest}
+use Rattle.pool_worker.specs.declared.report.Rest.TheVariants.{Nothing, One}
+use Rattle.pool_worker.specs.declared.run.Run.{Run}
+use Rattle.pool_worker.specs.Tasks.{Turn, IsTurn, tasks_of, all_born, born}
+use Rattle.pool_worker.specs.Goals.{goals_at, goals_of, AreGoals, Follows, IsReached, NeverRise}
+use Rattle.pool_worker.specs.Best.{IsFoundDelay, IsBestOf, OffersBest}
+use Rattle.pool_worker.specs.Report.{HasAccount, held, unpushed}
+use Rattle.pool_worker.specs.Run.{KeepsBest, FindsBest}
+
+pub same_hand_still : {J : Type 0} (a b c : Hand J) → IsSameHand a b → IsSameHand b c → IsSameHand a c
+same_hand_still a b c h k = record { number = k.number ∙ h.number; own = k.own ∙ h.own; deques = k.deques ∙ h.deques; out = k.out ∙ h.out }
+
+-- what a list has in front of the rest of another
+pub beyond : {X : Type 0} (b a x y : List X) → a ++ x ≡ b ++ y → length b ≤ length a → (g : List X) × (a ≡ b ++ g) × (y ≡ g ++ x)
+beyond [] a x y e le = (a, refl, sym e)
+beyond (c ∷ b) [] x y e le = absurd (omega arith)
+beyond (c ∷ b) (d ∷ a) x y e le =
+    let first : d ≡ c = cc in
+    let others : a ++ x ≡ b ++ y = cc in
+    let r = beyond b a x y others (omega arith) in
+    (r.0, (λ j. first j ∷ r.1 j), r.2)
+
+-- one more at the end
+pub taken_more : {X : Type 0} (t : X) (new old begun took : List X) → IsPermutation new (t ∷ old) → IsPermutation old (begun ++ took) → IsPermutation new (begun ++ (took ++ t ∷ []))
+taken_more t new old begun took h k =
+    IsPermutation-trans _ _ _ h (IsPermutation-trans _ _ _ (IsPermutation-cons t old (begun ++ took) k)
+    (then_same _ _ _ (IsPermutation-append_comm (t ∷ []) (begun ++ took)) (append_assoc begun took (t ∷ []))))
+
+module _ {J : Type 0} (i : Instance) (begun : Hand J) where
+  -- a task was taken
+  pub account_takes : (old new : Hand J) (pieces : List Piece) (t : Task) → IsPermutation (taken new) (t ∷ taken old) → pushed new ≡ pushed old → IsTask i t
+      → HasAccount i begun old pieces Nothing → HasAccount i begun new pieces (One t)
+  account_takes old new pieces t more same is a = record {
+    turns = a.turns;
+    each = a.each;
+    pieces = a.pieces;
+    took = a.took ++ t ∷ [];
+    takes = taken_more t (taken new) (taken old) (taken begun) a.took more a.takes;
+    gave = a.gave;
+    pushes = same ∙ a.pushes;
+    account = record {
+      took = IsPermutation-append_left (t ∷ []) a.took (tasks_of a.turns) (then_same _ _ _ a.account.took (append-nil (tasks_of a.turns)));
+      gave = a.account.gave;
+    };
+    one_of = All-push (IsTask i) [] t (All-nil (IsTask i)) is;
+    others_of = All-nil (IsTask i);
+  }
+
+  -- and worked; what its branch gave was pushed, or is left
+  pub account_works : (old mid new : Hand J) (pieces : List Piece) (turn : Turn) (rest : Rest) → held rest ≡ [] → IsPermutation (taken mid) (turn.task ∷ taken old) → pushed mid ≡ pushed old
+      → taken new ≡ taken mid → pushed new ++ unpushed rest ≡ pushed mid ++ born i turn → length (pushed mid) ≤ length (pushed new) → IsTurn i turn → All (IsTask i) (unpushed rest)
+      → HasAccount i begun old pieces Nothing → HasAccount i begun new (pieces ++ turn.piece ∷ []) rest
+  account_works old mid new pieces turn rest none more same still gives further is left a =
+      let g = beyond (pushed mid) (pushed new) (unpushed rest) (born i turn) gives further in
+      let tasks = map-append (λ (t : Turn). t.task) a.turns (turn ∷ []) in
+      let grown = flat_map-append (born i) a.turns (turn ∷ []) ∙ ap (λ (l : List Task). all_born i a.turns ++ l) (append-nil (born i turn)) in
+      record {
+        turns = a.turns ++ turn ∷ [];
+        each = All-push (IsTurn i) a.turns turn a.each is;
+        pieces = map-append (λ (t : Turn). t.piece) a.turns (turn ∷ []) ∙ ap (λ (l : List Piece). l ++ turn.piece ∷ []) a.pieces;
+        took = a.took ++ turn.task ∷ [];
+        takes = first_same _ _ _ still (taken_more turn.task (taken mid) (taken old) (taken begun) a.took more a.takes);
+        gave = a.gave ++ g.0;
+        pushes = g.1 ∙ (ap (λ (l : List Task). l ++ g.0) (same ∙ a.pushes) ∙ append_assoc (pushed begun) a.gave g.0);
+        account = record {
+          took = then_same _ _ _ (IsPermutation-append_left (turn.task ∷ []) a.took (tasks_of a.turns) (then_same _ _ _ a.account.took (append-nil (tasks_of a.turns))))
+              (sym tasks ∙ (sym (append-nil (tasks_of (a.turns ++ turn ∷ []))) ∙ ap (λ (l : List Task). tasks_of (a.turns ++ turn ∷ []) ++ l) (sym none)));
+          gave = first_same _ _ _ grown (then_same _ _ _ (IsPermutation-append_left (born i turn) (all_born i a.turns) a.gave (then_same _ _ _ a.account.gave (append-nil a.gave)))
+              (ap (λ (l : List Task). a.gave ++ l) g.2 ∙ sym (append_assoc a.gave g.0 (unpushed rest))));
+        };
+        one_of = subst (All (IsTask i)) (sym none) (All-nil (IsTask i));
+        others_of = left;
+      }
+
+-- ---- goals
+
+falls_more : (goals : List ℕ) (goal : ℕ) → NeverRise goals → All (λ x. goal ≤ x) goals → NeverRise (goals ++ goal ∷ [])
+falls_more [] goal h k = (All-nil (λ later. later ≤ goal), tt)
+falls_more (x ∷ xs) goal h k =
+    (All-push (λ later. later ≤ x) xs goal h.0 (All-head (λ y. goal ≤ y) x xs k), falls_more xs goal h.1 (All-tail (λ y. goal ≤ y) x xs k))
+
+under : (w : Watch) (goal x : ℕ) → IsBelowView w goal → IsReached w x → goal ≤ x
+under w goal x h r = elim r.known [
+  | inl e ↦ let le = All-contains (λ y. goal ≤ y) (seen w) r.value h.0 e in omega (arith, le, r.at_most)
+  | inr e ↦ let le = All-contains (λ y. goal ≤ y) (offers w) r.value h.1 e in omega (arith, le, r.at_most)
+]
+
+contains_below : (n : ℕ) (xs ys : List ℕ) → ((x : ℕ) → Contains xs x → Contains ys x) → All (λ y. n ≤ y) ys → All (λ y. n ≤ y) xs
+contains_below n xs ys more h = λ k d lt. All-contains (λ y. n ≤ y) ys (get_or xs k d) h (more (get_or xs k d) (All-contains_itself xs k d lt))
+
+module _ (begun old new : Watch) (before : Follows begun old) (after : Follows old new) where
+  pub reached_still : (x : ℕ) → IsReached old x → IsReached new x
+  reached_still x r = record {
+    value = r.value;
+    known = ⊎_elim (λ (e : Contains (seen old) r.value). inl (after.sees r.value e)) (λ (e : Contains (offers old) r.value). inr (after.offered r.value e)) r.known;
+    at_most = r.at_most;
+  }
+
+  below_begun : (x : ℕ) → IsBelowView old x → IsBelowView begun x
+  below_begun x h = (contains_below x (seen begun) (seen old) before.sees h.0, contains_below x (offers begun) (offers old) before.offered h.1)
+
+  -- the goals of one more node
+  goals_grow : (goals : List ℕ) (made : Node) → AreGoals begun old goals → All (IsBelowView old) (goals_at made) → All (IsReached new) (goals_at made) → AreGoals begun new (goals ++ goals_at made)
+  goals_grow goals (node.Branch b) h below reached =
+      subst (AreGoals begun new) (sym (append-nil goals)) (record { falls = h.falls; below = h.below; reached = All-weaker (IsReached old) (IsReached new) reached_still goals h.reached })
+  goals_grow goals (node.Leaf leaf) h below reached =
+      let low = All-head (IsBelowView old) leaf.goal [] below in
+      record {
+        falls = falls_more goals leaf.goal h.falls (All-weaker (IsReached old) (λ x. leaf.goal ≤ x) (λ x r. under old leaf.goal x low r) goals h.reached);
+        below = All-push (IsBelowView begun) goals leaf.goal h.below (below_begun leaf.goal low);
+        reached = All-append (IsReached new) goals (leaf.goal ∷ []) (All-weaker (IsReached old) (IsReached new) reached_still goals h.reached) reached;
+      }
+
+  pub goals_still : (goals : List ℕ) → AreGoals begun old goals → AreGoals begun new goals
+  goals_still goals h = record { falls = h.falls; below = h.below; reached = All-weaker (IsReached old) (IsReached new) reached_still goals h.reached }
+
+  pub goals_more : (pieces all : List Piece) (piece : Piece) → all ≡ pieces ++ piece ∷ [] → AreGoals begun old (goals_of pieces) → All (IsBelowView old) (goals_at piece.node) → All (IsReached new) (goals_at piece.node) → AreGoals begun new (goals_of all)
+  goals_more pieces all piece e h below reached =
+      let grown = ap goals_of e ∙ (flat_map-append (λ (p : Piece). goals_at p.node) pieces (piece ∷ []) ∙ ap (λ (l : List ℕ). goals_of pieces ++ l) (append-nil (goals_at piece.node))) in
+      subst (AreGoals begun new) (sym grown) (goals_grow (goals_of pieces) piece.node h below reached)
+
+-- ---- the best plan
+
+module _ {J : Type 0} (i : Instance) (begun : Watch) (old new : Run J) where
+  pub best_still : KeepsBest old new → OffersBest i begun old.watch old.best → OffersBest i begun new.watch new.best
+  best_still k h = record {
+    made = h.made;
+    offered = k.offered ∙ h.offered;
+    plans = h.plans;
+    best = subst (IsBestOf i h.made) (sym k.best) h.best;
+  }
+
+  pub best_found : FindsBest i old new → OffersBest i begun old.watch old.best → OffersBest i begun new.watch new.best
+  best_found f h =
+      let P : ℕ → Type 0 = λ value. f.ticks ≤ value in
+      let all : All P (offers begun ++ h.made) = subst (All P) h.offered f.least in
+      let own : All P h.made = contains_below f.ticks h.made (offers begun ++ h.made) (λ x there. Contains-append_right (offers begun) h.made x there) all in
+      let is : IsBestOf i (h.made ++ f.ticks ∷ []) (Some (f.plan, f.ticks)) = (f.found, All-push P h.made f.ticks own (omega arith)) in
+      record {
+        made = h.made ++ f.ticks ∷ [];
+        offered = f.offered ∙ (ap (λ (l : List ℕ). l ++ f.ticks ∷ []) h.offered ∙ append_assoc (offers begun) h.made (f.ticks ∷ []));
+        plans = All-push (IsFoundDelay i) h.made f.ticks h.plans (record { plan = f.plan; is = f.found });
+        best = subst (IsBestOf i (h.made ++ f.ticks ∷ [])) (sym f.best) is;
+      }

@@ -1,0 +1,99 @@
+use Rattle.std.proofs.Common.{rules, arith, ℕ, ◌≡◌, ◌≤◌, ◌++◌, All, List, [], ◌∷◌, length, inl, inr, refl, sym, ap, ◌∙◌, subst}
+use Rattle.std.proofs.lemmas.List.Elements.{All-nil}
+use Rattle.branch_tree.specs.Task.{Task, IsTask}
+use Rattle.branch_tree.specs.Work.{IsWorked, IsSplit, IsFind, ClosesAt}
+use Rattle.branch_tree.proofs.ChildTasks.{few_children}
+use Rattle.certificate.specs.Branch.{branch_of}
+use Rattle.incumbent.specs.Watch.{offers, IsBelowView}
+use Rattle.steal_pool.specs.Hand.{pushed}
+use Rattle.ttp_model.specs.Instance.{Instance}
+use Rattle.pool_worker.specs.Goals.{IsReached}
+use Rattle.pool_worker.proofs.Children.{kids_born, branch_right}
+use Rattle.pool_worker.proofs.Watches.{last, looked, offered, lower, still_below, one, follows_still}
+use Rattle.pool_worker.proofs.run.Run.make.Goals as goal
+
+pub overflow_cast-len : goal.overflow_cast-len
+overflow_cast-len g c =
+    let i = c.args.instance.now in
+    let t = c.args.task in
+    let split : IsSplit i t c.look-goal.result c.in-Ok-Split.kind c.in-Ok-Split.tasks.items = subst (IsWorked i t c.look-goal.result) c.in-Ok-Split.field-0-is c.in-Ok-Split.ensures.worked in
+    omega (arith, c.len.ensures, c.in-Ok-Split.tasks.ok.0, split.branch.just, few_children i t.choice c.in-Ok-Split.kind c.nodes-nodes.ensures.instance c.requires.task.choice split.branch.is_open)
+
+pub returns-in-Ok-Split-clause-made : goal.returns-in-Ok-Split-clause-made
+returns-in-Ok-Split-clause-made g c =
+    let i = c.args.instance.now in
+    let t = c.args.task in
+    let kids = c.in-Ok-Split.tasks.items in
+    let split : IsSplit i t c.look-goal.result c.in-Ok-Split.kind kids = subst (IsWorked i t c.look-goal.result) c.in-Ok-Split.field-0-is c.in-Ok-Split.ensures.worked in
+    let many : c.len.result ≡ length kids = omega (arith, c.len.ensures, c.in-Ok-Split.tasks.ok.0) in
+    let made : c.new.result ≡ branch_of c.in-Ok-Split.kind (length kids) = c.new.ensures ∙ ap (branch_of c.in-Ok-Split.kind) many in
+    let all = kids_born i t c.look-goal.result c.in-Ok-Split.kind kids split c.in-Ok.name c.new.result made in
+    record {
+      same = c.push_all-left.ensures.same;
+      takes = c.push_all-left.ensures.taken;
+      pushes = c.push_all-left.ensures.pushed ∙ ap (λ (l : List Task). pushed c.args.self.now.hand ++ l) all;
+      more = c.push_all-left.ensures.more;
+      pieces = c.reserve.ensures.items;
+      right = record { of = c.requires.task; name = search rules; right = branch_right i t c.look-goal.result c.in-Ok-Split.kind kids split c.in-Ok.name c.new.result made };
+      left = subst (λ (j : Instance). All (IsTask j) c.push_all-left.result.items) (sym c.requires.of) c.push_all-left.ensures.left;
+      follows = looked c.args.self.now.watch c.look-goal.new.watch c.look-goal.result c.look-goal.ensures.same c.look-goal.ensures.seen c.look-goal.ensures.offers;
+      below = All-nil (IsBelowView c.args.self.now.watch);
+      reached = All-nil (IsReached c.look-goal.new.watch);
+      best = inl (record { offered = c.look-goal.ensures.offers; best = refl });
+    }
+
+pub returns-in-Ok-Closed-clause-made : goal.returns-in-Ok-Closed-clause-made
+returns-in-Ok-Closed-clause-made g c =
+    let i = c.args.instance.now in
+    let t = c.args.task in
+    let leaf = c.in-Ok-Closed.leaf in
+    let closed : ClosesAt i t.choice c.look-goal.result leaf = subst (IsWorked i t c.look-goal.result) c.in-Ok-Closed.field-0-is c.in-Ok-Closed.ensures.worked in
+    let old = c.args.self.now.watch in
+    let new = c.look-goal.new.watch in
+    record {
+      same = record { number = refl; own = refl; deques = refl; out = refl };
+      takes = refl;
+      pushes = ap (λ (l : List Task). pushed c.args.self.now.hand ++ l) c.new-in-Ok-Closed.ensures.items;
+      more = omega arith;
+      pieces = c.reserve.ensures.items;
+      right = record { of = c.requires.task; name = search rules; right = closed.closes };
+      left = subst (All (IsTask i)) (sym c.new-in-Ok-Closed.ensures.items) (All-nil (IsTask i));
+      follows = looked old new c.look-goal.result c.look-goal.ensures.same c.look-goal.ensures.seen c.look-goal.ensures.offers;
+      below = one (IsBelowView old) leaf.goal (subst (IsBelowView old) (sym closed.at) c.look-goal.ensures.below);
+      reached = one (IsReached new) leaf.goal (record { value = c.look-goal.result; known = inl (last _ _ c.look-goal.result c.look-goal.ensures.seen); at_most = omega (arith, closed.at) });
+      best = inl (record { offered = c.look-goal.ensures.offers; best = refl });
+    }
+
+pub returns-in-Ok-Found-clause-made : goal.returns-in-Ok-Found-clause-made
+returns-in-Ok-Found-clause-made g c =
+    let i = c.args.instance.now in
+    let t = c.args.task in
+    let leaf = c.in-Ok-Found.leaf in
+    let find : IsFind i t.choice c.look-goal.result c.in-Ok-Found.plan c.in-Ok-Found.delay leaf = subst (IsWorked i t c.look-goal.result) c.in-Ok-Found.field-0-is c.in-Ok-Found.ensures.worked in
+    let old = c.args.self.now.watch in
+    let mid = c.look-goal.new.watch in
+    let new = c.offer.new.watch in
+    let looks = looked old mid c.look-goal.result c.look-goal.ensures.same c.look-goal.ensures.seen c.look-goal.ensures.offers in
+    let offers_one = offered mid new c.offer.result c.in-Ok-Found.delay c.offer.ensures.same c.offer.ensures.seen c.offer.ensures.offers in
+    let under : leaf.goal ≤ c.look-goal.result = omega (arith, find.below) in
+    let later : c.in-Ok-Found.delay ≤ c.look-goal.result = omega (arith, find.below, find.no_later) in
+    record {
+      same = record { number = refl; own = refl; deques = refl; out = refl };
+      takes = refl;
+      pushes = ap (λ (l : List Task). pushed c.args.self.now.hand ++ l) c.new-in-Ok-Found.ensures.items;
+      more = omega arith;
+      pieces = c.reserve.ensures.items;
+      right = record { of = c.requires.task; name = search rules; right = find.closes };
+      left = subst (All (IsTask i)) (sym c.new-in-Ok-Found.ensures.items) (All-nil (IsTask i));
+      follows = follows_still old mid new looks offers_one;
+      below = one (IsBelowView old) leaf.goal (still_below old c.look-goal.result leaf.goal under c.look-goal.ensures.below);
+      reached = one (IsReached new) leaf.goal (record { value = c.in-Ok-Found.delay; known = inr (last _ _ c.in-Ok-Found.delay c.offer.ensures.offers); at_most = find.no_later });
+      best = inr (record {
+        plan = c.in-Ok-Found.plan;
+        ticks = c.in-Ok-Found.delay;
+        found = record { settled = find.settled; delay_is = find.delay_is };
+        best = refl;
+        offered = c.offer.ensures.offers ∙ ap (λ (l : List ℕ). l ++ c.in-Ok-Found.delay ∷ []) c.look-goal.ensures.offers;
+        least = lower c.look-goal.result c.in-Ok-Found.delay (offers old) later c.look-goal.ensures.below.1;
+      });
+    }

@@ -1,0 +1,16 @@
+use Rattle.std.proofs.Common.{◌-◌, ◌≡◌, ◌≤◌, ◌+◌, ◌*◌, vec_len}
+use Rattle.incumbent.specs.Watch.{IsOther}
+use Rattle.pool_worker.specs.declared.report.Rest.TheVariants.{Nothing}
+use Rattle.pool_worker.specs.Run.{IsRun}
+use Rattle.pool_worker.proofs.worker.run_worker.Given as goal
+
+abbrev pub decreases-loop-worked : goal.decreases-loop-worked
+decreases-loop-worked g l = (l.budget - l.worked) * 1001 + (1000 - l.idle)
+
+abbrev pub invariant-loop-worked : goal.invariant-loop-worked
+invariant-loop-worked g l = record {
+  run : IsRun l.instance l.fn.hand l.fn.watch l.run Nothing;
+  watch : IsOther l.word l.run.watch;
+  count : vec_len l.run.pieces ≡ l.worked;
+  within : l.worked ≤ l.budget;
+}

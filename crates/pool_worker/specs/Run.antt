@@ -1,0 +1,73 @@
+-- A run of a worker between two turns, and what a turn changes. Only private contracts ask for it.
+use Rattle.std.specs.Prelude.{◌≡◌, ℕ, ◌≤◌, ◌⊎◌, List, [], ◌∷◌, ◌++◌, length, All, Some}
+use Rattle.ttp_model.specs.declared.plan.Plan.{Plan}
+use Rattle.ttp_model.specs.Instance.{Instance}
+use Rattle.branch_tree.specs.Task.{Task, IsTask}
+use Rattle.incumbent.specs.declared.word.Watch.{Watch}
+use Rattle.incumbent.specs.Watch.{offers, IsBelowView}
+use Rattle.steal_pool.specs.declared.hand.Hand.{Hand}
+use Rattle.steal_pool.specs.Hand.{pushed, taken, IsSameHand}
+use Rattle.pool_worker.specs.declared.report.Rest.{Rest}
+use Rattle.pool_worker.specs.declared.report.Rest.TheVariants as hold
+use Rattle.pool_worker.specs.declared.run.Run.{Run}
+use Rattle.pool_worker.specs.declared.run.Sweep.{Sweep}
+use Rattle.pool_worker.specs.declared.run.Sweep.TheVariants.{Idle, Worked, Ended}
+use Rattle.pool_worker.specs.Tasks.{Turn, IsTurn, born}
+use Rattle.pool_worker.specs.Goals.{goals_at, goals_of, AreGoals, Follows, IsReached}
+use Rattle.pool_worker.specs.Best.{IsPlanFound, OffersBest}
+use Rattle.pool_worker.specs.Report.{HasAccount}
+
+-- a run that began with this hand and this watch, and has this in hand
+pub record IsRun {J : Type 0} (i : Instance) (hand : Hand J) (watch : Watch) (run : Run J) (rest : Rest) : Type 0 where
+  pub same : IsSameHand hand run.hand
+  pub follows : Follows watch run.watch
+  pub account : HasAccount i hand run.hand run.pieces.items rest
+  pub goals : AreGoals watch run.watch (goals_of run.pieces.items)
+  pub best : OffersBest i watch run.watch run.best
+
+-- no plan was found
+pub record KeepsBest {J : Type 0} (old new : Run J) : Type 0 where
+  pub offered : offers new.watch ≡ offers old.watch
+  pub best : new.best ≡ old.best
+
+-- a plan was found that is better than all that were offered
+pub record FindsBest {J : Type 0} (i : Instance) (old new : Run J) : Type 0 where
+  pub plan : Plan
+  pub ticks : ℕ
+  pub found : IsPlanFound i plan ticks
+  pub best : new.best ≡ Some (plan, ticks)
+  pub offered : offers new.watch ≡ offers old.watch ++ ticks ∷ []
+  pub least : All (λ value. ticks ≤ value) (offers old.watch)
+
+-- a turn worked a task, which became this piece; these children are still to be pushed
+pub record Works {J : Type 0} (i : Instance) (old new : Run J) (turn : Turn) (rest : List Task) : Type 0 where
+  pub same : IsSameHand old.hand new.hand
+  pub takes : taken new.hand ≡ taken old.hand
+  pub pushes : pushed new.hand ++ rest ≡ pushed old.hand ++ born i turn
+  pub more : length (pushed old.hand) ≤ length (pushed new.hand)
+  pub pieces : new.pieces.items ≡ old.pieces.items
+  pub right : IsTurn i turn
+  pub left : All (IsTask i) rest
+  pub follows : Follows old.watch new.watch
+  pub below : All (IsBelowView old.watch) (goals_at turn.piece.node)
+  pub reached : All (IsReached new.watch) (goals_at turn.piece.node)
+  pub best : KeepsBest old new ⊎ FindsBest i old new
+
+-- a turn worked nothing
+pub record Refuses {J : Type 0} (old new : Run J) : Type 0 where
+  pub same : IsSameHand old.hand new.hand
+  pub takes : taken new.hand ≡ taken old.hand
+  pub pushes : pushed new.hand ≡ pushed old.hand
+  pub pieces : new.pieces.items ≡ old.pieces.items
+  pub follows : Follows old.watch new.watch
+  pub best : KeepsBest old new
+
+-- what is in hand after a turn
+abbrev pub rest_after : Sweep → Rest
+rest_after Idle = hold.Nothing
+rest_after Worked = hold.Nothing
+rest_after (Ended rest) = rest
+
+-- however the run began, it goes on
+abbrev pub GoesOn : {J : Type 0} → Instance → Run J → Run J → Rest → Type 0
+GoesOn {J} i old new rest = (hand : Hand J) (watch : Watch) → IsRun i hand watch old hold.Nothing → IsRun i hand watch new rest

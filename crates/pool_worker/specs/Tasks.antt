@@ -1,0 +1,38 @@
+-- Tasks that were worked, and those that their branches gave. Own profile.
+use Rattle.std.specs.Prelude.{◌≡◌, ℕ, List, map}
+use Rattle.std.specs.List.{flat_map, range_with_len}
+use Rattle.ttp_model.specs.Instance.{Instance}
+use Rattle.certificate.specs.Trees.{children}
+use Rattle.branch_tree.specs.declared.piece.Piece.{Piece}
+use Rattle.branch_tree.specs.Name.{child_name}
+use Rattle.branch_tree.specs.Task.{Task, IsTask}
+use Rattle.branch_tree.specs.Pieces.{IsRight, choice_below}
+
+-- a task that was worked, and the piece that it became
+pub record Turn : Type 0 where
+  pub task : Task
+  pub piece : Piece
+
+-- the piece has the task's name, and is right for its choice
+pub record IsTurn (i : Instance) (turn : Turn) : Type 0 where
+  pub of : IsTask i turn.task
+  pub name : turn.piece.name ≡ turn.task.name
+  pub right : IsRight i turn.task.choice turn.piece.node
+
+-- the task of a child
+abbrev pub child_task : Instance → Turn → ℕ → Task
+child_task i turn k = record { name = child_name turn.task.name k; choice = choice_below i turn.task.choice turn.piece.node k }
+
+-- the tasks of all children, in order; none of a leaf
+abbrev pub born : Instance → Turn → List Task
+born i turn = map (child_task i turn) (range_with_len 0 (children turn.piece.node))
+
+-- the tasks of turns, their pieces, and what their branches gave
+abbrev pub tasks_of : List Turn → List Task
+tasks_of turns = map (λ (turn : Turn). turn.task) turns
+
+abbrev pub pieces_of : List Turn → List Piece
+pieces_of turns = map (λ (turn : Turn). turn.piece) turns
+
+abbrev pub all_born : Instance → List Turn → List Task
+all_born i turns = flat_map (born i) turns

@@ -1,0 +1,42 @@
+//! What does a worker report?
+
+use branch_tree::{Piece, Task};
+use incumbent::Watch;
+use steal_pool::{Hand, Searched};
+use ttp_model::Plan;
+
+/// What a worker that ended had in hand.
+#[derive(Debug, Drop)]
+pub enum Rest {
+    Nothing,
+    /// A task that it took and didn't work.
+    One(Task),
+    /// Children of the task that it worked last, which it didn't push.
+    Children(Vec<Task>),
+}
+
+/// Why a worker ended.
+#[derive(Clone, Copy, Debug, PartialEq, Eq)]
+pub enum Ending {
+    /// It worked as many tasks as its budget allows.
+    Budget,
+    /// Memory was refused.
+    Memory,
+    /// It found no task for long.
+    Idle,
+}
+
+/// What a worker gives back.
+#[derive(Drop)]
+pub struct Report<J: Searched> {
+    pub hand: Hand<J>,
+    pub watch: Watch,
+    /// What became of the tasks that it worked, in that order.
+    pub pieces: Vec<Piece>,
+    /// The best plan that it found, with its delay in ticks.
+    pub best: Option<(Plan, u64)>,
+    pub rest: Rest,
+    /// How many tasks it worked.
+    pub worked: u64,
+    pub ending: Ending,
+}

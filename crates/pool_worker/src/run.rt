@@ -1,0 +1,142 @@
+//! What does a worker do in one turn?
+
+ghost use Rattle.std.specs.Prelude.{◌≡◌, ◌≢◌, ◌<◌, ◌≤◌, ◌+◌, ◌++◌, All, IfOk, OnOk, IfErr, length, vec_len, vec_capacity};
+ghost use Rattle.branch_tree.specs.Task.{IsTask};
+ghost use Rattle.incumbent.specs.Watch.{IsOther};
+ghost use Rattle.steal_pool.specs.Hand.{pushed, taken, IsSameHand};
+ghost use Rattle.pool_worker.specs.declared.run.Sweep.TheVariants as sweep;
+ghost use Rattle.pool_worker.specs.Run.{GoesOn, Refuses, Works, rest_after};
+
+use crate::gate::Gate;
+use crate::report::Rest;
+use branch_tree::{Piece, Task, Worked, work};
+use certificate::{Branch, Node};
+use incumbent::{Incumbent, Watch};
+use std::alloc::Global;
+use steal_pool::{Hand, Searched};
+use ttp_model::{Instance, Plan};
+
+/// A worker between two turns: its hand and its watch, what became of the tasks that it worked, and the best plan that
+/// it found.
+#[derive(Drop)]
+pub struct Run<J: Searched> {
+    pub hand: Hand<J>,
+    pub watch: Watch,
+    pub pieces: Vec<Piece>,
+    pub best: Option<(Plan, u64)>,
+}
+
+/// What a turn came to.
+#[derive(Drop)]
+pub enum Sweep {
+    /// No task was found.
+    Idle,
+    Worked,
+    /// Memory was refused.
+    Ended(Rest),
+}
+
+/// Pushes tasks, in order. Where memory is refused, those that are left come back.
+fn push_all<J: Searched>(hand: &mut Hand<J>, mut tasks: Vec<Task>) -> Vec<Task>
+    requires { All (IsTask J.instance) tasks.items }
+    ensures same { IsSameHand hand.old hand.new }
+    ensures taken { taken hand.new ≡ taken hand.old }
+    ensures pushed { pushed hand.new ++ result.items ≡ pushed hand.old ++ tasks.items }
+    ensures more { length (pushed hand.old) ≤ length (pushed hand.new) }
+    ensures left { All (IsTask J.instance) result.items }
+{
+    tasks.reverse();
+    while let Some(task) = tasks.pop() {
+        if let Err((task, _)) = hand.push(task) {
+            tasks.push_reserved(task);
+            break;
+        }
+    }
+    tasks.reverse();
+    tasks
+}
+
+impl<J: Searched> Run<J> {
+    /// Works a task at the best delay so far, and pushes its children, or offers the delay of the plan that was found:
+    /// what became of the task, and the children that couldn't be pushed. All memory is asked for before the task is
+    /// worked; where it is refused, the task comes back.
+    fn make(
+        &mut self,
+        alloc: Global,
+        instance: &Instance,
+        word: &Incumbent,
+        task: Task,
+    ) -> Result<(Piece, Vec<Task>), Task>
+        requires of { instance.now ≡ J.instance }
+        requires task { IsTask instance.now task }
+        requires watch { IsOther word.now self.old.watch }
+        ensures made { IfOk result (λ made. Works instance.now self.old self.new (record { task = task; piece = made.0 }) made.1.items) }
+        ensures room { OnOk result (vec_len self.new.pieces < vec_capacity self.new.pieces) }
+        ensures back { IfErr result (λ back. (back ≡ task) × Refuses self.old self.new) }
+    {
+        let _nodes = instance.nodes();
+        let goal = word.look(&mut self.watch);
+        if self.pieces.reserve(1).is_err() {
+            return Err(task);
+        }
+        let Ok(name) = task.name().copy(alloc) else {
+            return Err(task);
+        };
+        match work(alloc, instance, task, goal) {
+            Ok(Worked::Split(kind, tasks)) => {
+                let node = Node::Branch(Branch::new(kind, tasks.len() as u32));
+                let left = push_all(&mut self.hand, tasks);
+                Ok((Piece { name, node }, left))
+            }
+            Ok(Worked::Closed(leaf)) => {
+                let node = Node::Leaf(leaf);
+                Ok((Piece { name, node }, Vec::new(alloc)))
+            }
+            Ok(Worked::Found(plan, delay, leaf)) => {
+                word.offer(&mut self.watch, delay as u32);
+                self.best = Some((plan, delay));
+                let node = Node::Leaf(leaf);
+                Ok((Piece { name, node }, Vec::new(alloc)))
+            }
+            Err((task, _)) => Err(task),
+        }
+    }
+
+    /// Takes a task, where one is found, and works it.
+    pub fn turn<G: Gate>(
+        &mut self,
+        alloc: Global,
+        instance: &Instance,
+        word: &Incumbent,
+        gate: &G,
+    ) -> Sweep
+        requires of { instance.now ≡ J.instance }
+        requires watch { IsOther word.now self.old.watch }
+        ensures goes_on { GoesOn instance.now self.old self.new (rest_after result) }
+        ensures watch { IsOther word.now self.new.watch }
+        ensures idle { result ≡ sweep.Idle → vec_len self.new.pieces ≡ vec_len self.old.pieces }
+        ensures worked { result ≡ sweep.Worked → vec_len self.new.pieces ≡ vec_len self.old.pieces + 1 }
+        ensures most { vec_len self.new.pieces ≤ vec_len self.old.pieces + 1 }
+    {
+        let Some(task) = self.hand.take() else {
+            return Sweep::Idle;
+        };
+        let worker = self.hand.number();
+        gate.enter(worker, task.name());
+        match self.make(alloc, instance, word, task) {
+            Ok((piece, left)) => {
+                gate.leave(worker, &piece.name);
+                self.pieces.push_reserved(piece);
+                if left.is_empty() {
+                    Sweep::Worked
+                } else {
+                    Sweep::Ended(Rest::Children(left))
+                }
+            }
+            Err(task) => {
+                gate.leave(worker, task.name());
+                Sweep::Ended(Rest::One(task))
+            }
+        }
+    }
+}

@@ -1,0 +1,111 @@
+//! What does a worker do until it ends?
+
+ghost use Rattle.std.specs.Prelude.{◌≡◌, ◌≤◌, vec_len};
+ghost use Rattle.incumbent.specs.Watch.{IsOther, IsSameWatch};
+ghost use Rattle.steal_pool.specs.Hand.{IsSameHand};
+ghost use Rattle.pool_worker.specs.declared.report.Ending.TheVariants as ending;
+ghost use Rattle.pool_worker.specs.Goals.{goals_of, AreGoals};
+ghost use Rattle.pool_worker.specs.Best.{OffersBest};
+ghost use Rattle.pool_worker.specs.Report.{HasAccount};
+
+use crate::gate::Gate;
+use crate::report::{Ending, Report, Rest};
+use crate::run::{Run, Sweep};
+use crossbeam_utils::Backoff;
+use incumbent::{Incumbent, Watch};
+use std::alloc::Global;
+use steal_pool::{Hand, Searched};
+use ttp_model::Instance;
+
+/// How many sweeps one after another find no task before a worker ends.
+const SWEEPS: u64 = 1000;
+
+/// How often the processor is given up between two of them: longer than the first subtree takes on a large instance, so
+/// that no worker ends before there are tasks for all, and shorter in all than is noticed.
+const WAITS: u32 = 32;
+
+/// Waits between two sweeps.
+fn wait(backoff: &Backoff) {
+    for _turn in 0..WAITS {
+        backoff.snooze();
+    }
+}
+
+impl<J: Searched> Run<J> {
+    /// What is reported of the run.
+    fn report(self, rest: Rest, worked: u64, ending: Ending) -> Report<J>
+        ensures hand { result.hand ≡ self.hand }
+        ensures watch { result.watch ≡ self.watch }
+        ensures pieces { result.pieces ≡ self.pieces }
+        ensures best { result.best ≡ self.best }
+        ensures rest { result.rest ≡ rest }
+        ensures worked { result.worked ≡ worked }
+        ensures ending { result.ending ≡ ending }
+    {
+        Report {
+            hand: self.hand,
+            watch: self.watch,
+            pieces: self.pieces,
+            best: self.best,
+            rest,
+            worked,
+            ending,
+        }
+    }
+}
+
+/// Takes tasks of a pool and works them, each at the best delay that is known by then, until `budget` of them are worked,
+/// memory is refused, or none was found for long. It never waits for another worker.
+pub fn run_worker<J: Searched, G: Gate>(
+    alloc: Global,
+    instance: &Instance,
+    hand: Hand<J>,
+    word: &Incumbent,
+    watch: Watch,
+    budget: u64,
+    gate: &G,
+) -> Report<J>
+    requires of { instance.now ≡ J.instance }
+    requires watch { IsOther word.now watch }
+    ensures hand { IsSameHand hand result.hand }
+    ensures watch { IsSameWatch watch result.watch }
+    ensures account { HasAccount instance.now hand result.hand result.pieces.items result.rest }
+    ensures goals { AreGoals watch result.watch (goals_of result.pieces.items) }
+    ensures best { OffersBest instance.now watch result.watch result.best }
+    ensures worked { result.worked ≡ vec_len result.pieces }
+    ensures within { result.worked ≤ budget }
+    ensures ending { result.ending ≡ ending.Budget → result.worked ≡ budget }
+{
+    gate.start(hand.number());
+    let mut run = Run {
+        hand,
+        watch,
+        pieces: Vec::new(alloc),
+        best: None,
+    };
+    let (mut worked, mut idle) = (0, 0);
+    let backoff = Backoff::new();
+    while worked < budget && idle < SWEEPS {
+        match run.turn(alloc, instance, word, gate) {
+            Sweep::Idle => {
+                idle += 1;
+                wait(&backoff);
+            }
+            Sweep::Worked => {
+                worked += 1;
+                idle = 0;
+                backoff.reset();
+            }
+            Sweep::Ended(rest) => {
+                let worked = run.pieces.len() as u64;
+                return run.report(rest, worked, Ending::Memory);
+            }
+        }
+    }
+    let ending = if worked < budget {
+        Ending::Idle
+    } else {
+        Ending::Budget
+    };
+    run.report(Rest::Nothing, worked, ending)
+}
