@@ -16,7 +16,7 @@ struct Sizes {
     /// The capacities of each node, from the last one down.
     options: u32,
     last_capacity: u32,
-    processes: usize,
+    processes: u32,
     name_bytes: usize,
     wcet: u32,
     release: u32,
@@ -76,7 +76,7 @@ fn processes(alloc: Global, sizes: &Sizes) -> Result<Vec<Process>, AllocError> {
     let mut processes = Vec::new(alloc);
     for p in 0..sizes.processes {
         processes.push(Process {
-            name: name(alloc, sizes.name_bytes, p)?,
+            name: name(alloc, sizes.name_bytes, p as usize)?,
             node: u32::from(p + 1 == sizes.processes),
             wcet: sizes.wcet,
             release: sizes.release,
@@ -100,7 +100,7 @@ fn links(alloc: Global, sizes: &Sizes) -> Result<Vec<Link>, AllocError> {
 fn messages(alloc: Global, sizes: &Sizes) -> Result<Vec<Message>, AllocError> {
     let mut messages = Vec::new(alloc);
     for m in 0..sizes.messages {
-        let last = sizes.processes.saturating_sub(1) as u32;
+        let last = sizes.processes.saturating_sub(1);
         messages.push(Message {
             name: name(alloc, sizes.name_bytes, m)?,
             sender: 0,
@@ -132,7 +132,7 @@ fn end_at(rt: &impl Abort, alloc: Global, rows: &[(Sizes, Sizes, ModelError)]) {
     }
 }
 
-const fn sized(nodes: usize, processes: usize, links: usize, messages: usize) -> Sizes {
+const fn sized(nodes: usize, processes: u32, links: usize, messages: usize) -> Sizes {
     Sizes {
         nodes,
         processes,

@@ -80,12 +80,13 @@ pub record IsSolved (bytes : List ℕ) (options : Options) (solved : Solved) : T
   pub shows : answers.Shows solved.instance solved.outcome
   pub tells : IsAnswerText solved.instance solved.outcome solved.text.items
 
--- why bytes have no answer: they state no instance, or there was no memory for a search
+-- why bytes have no answer: they state no instance, or there was no memory or no thread for a search
 abbrev pub IsUnsolved : List ℕ → Fault → Type 0
 IsUnsolved bytes Memory = Unit {0}
 IsUnsolved bytes (Unread source.Instance) = Unit {0}
 IsUnsolved bytes (InstanceText error) = IsInstanceFault bytes (InstanceText error)
 IsUnsolved bytes (Search search.Memory) = StatesSome bytes
+IsUnsolved bytes (Search search.Thread) = StatesSome bytes
 IsUnsolved bytes _ = ⊥
 
 -- how the writing of a text ends a command: at its own end, or the writer failed and gained a prefix

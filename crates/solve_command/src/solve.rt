@@ -12,6 +12,8 @@ use planner::{GatherFault, Options, Outcome, SolveFault, Why, solve};
 use std::alloc::{AllocError, Global};
 use std::fmt;
 use std::io::{Read, Write};
+use std::sync::Wait;
+use std::thread::Threads;
 use ttp_model::{Instance, MemoryFault, Plan};
 
 /// An instance, and what a search of it found.
@@ -144,7 +146,7 @@ fn fault_of(fault: SolveFault) -> SearchFault
 }
 
 /// Searches the instance that a reader's bytes state, and makes the answer's text.
-fn solved_of_reader<R, I: Read>(
+fn solved_of_reader<R: Threads + Wait, I: Read>(
     rt: &R,
     alloc: Global,
     instance: &mut I,
@@ -196,7 +198,7 @@ fn write_answer<W: Write>(solved: &Solved, out: &mut W) -> End
 
 /// `solve_run` where no certificate is asked for.
 #[tactic(auto, unfolding(crate::specs::Solved::IsSolveAnswer))]
-fn solve_alone<R, I: Read, W: Write>(
+fn solve_alone<R: Threads + Wait, I: Read, W: Write>(
     rt: &R,
     alloc: Global,
     instance: &mut I,
@@ -215,7 +217,7 @@ fn solve_alone<R, I: Read, W: Write>(
 
 /// `solve_run` with a writer for the certificate.
 #[tactic(auto, unfolding(crate::specs::Solved::IsSolveAnswer))]
-fn solve_certified<R, I: Read, C: Write, W: Write>(
+fn solve_certified<R: Threads + Wait, I: Read, C: Write, W: Write>(
     rt: &R,
     alloc: Global,
     instance: &mut I,
@@ -244,7 +246,7 @@ fn solve_certified<R, I: Read, C: Write, W: Write>(
 /// word `none`, followed by that plan's text, and then the end is `Stopped`. The certificate is written first,
 /// whatever was found. Both texts are made before one is written: where memory is refused nothing is written, and
 /// where the certificate's writer fails nothing but a prefix of it is.
-pub fn solve_run<R, I: Read, C: Write, W: Write>(
+pub fn solve_run<R: Threads + Wait, I: Read, C: Write, W: Write>(
     rt: &R,
     alloc: Global,
     instance: &mut I,
