@@ -1,17 +1,15 @@
 -- What workers of a pool made and left, once all have ended, accounts for the whole tree.
-use Rattle.std.proofs.Common.{◌≡◌, ℕ, ◌+◌, ◌≤◌, List, [], ◌∷◌, ◌++◌, Option, None, Some, inl, inr, refl, sym, ap, subst, ◌∙◌, arith, append_assoc, length, All, Contains}
+use Rattle.std.proofs.Common.{◌≡◌, ℕ, ◌≤◌, List, [], ◌∷◌, ◌++◌, inl, inr, refl, sym, ap, subst, ◌∙◌, arith, append_assoc, All}
 use Rattle.std.specs.List.Sorted.{IsPermutation}
 use Rattle.std.proofs.lemmas.List.Elements.{All-head, All-tail, All-cons, All-nil, All-contains}
-use Rattle.std.proofs.lemmas.List.Sorted.{IsPermutation-refl, IsPermutation-sym, IsPermutation-trans, IsPermutation-cons, IsPermutation-append_left, IsPermutation-append_right, IsPermutation-append_comm}
-use Rattle.ttp_model.specs.declared.plan.Plan.{Plan}
+use Rattle.std.proofs.lemmas.List.Sorted.{IsPermutation-sym, IsPermutation-trans, IsPermutation-cons, IsPermutation-append_left, IsPermutation-append_right, IsPermutation-append_comm}
 use Rattle.ttp_model.specs.Instance.{Instance}
 use Rattle.ttp_model.specs.Rules.{IsInstance}
 use Rattle.certificate.specs.declared.node.Node.{Node}
 use Rattle.certificate.specs.declared.node.Node.TheVariants as node
 use Rattle.branch_tree.specs.declared.piece.Piece.{Piece}
-use Rattle.branch_tree.specs.Task.{Task, IsTask, root_task}
+use Rattle.branch_tree.specs.Task.{Task, IsTask}
 use Rattle.incumbent.specs.declared.word.Incumbent.{Incumbent}
-use Rattle.incumbent.specs.declared.word.Watch.{Watch}
 use Rattle.incumbent.specs.Watch.{first_value, seen, offers, IsLeast}
 use Rattle.steal_pool.specs.Hand.{all_pushed, all_taken}
 use Rattle.pool_worker.specs.Goals.{goals_of, goals_at, IsReached}
@@ -19,9 +17,8 @@ use Rattle.pool_worker.specs.Tasks.{tasks_of, all_born}
 use Rattle.planner.specs.declared.crew.Crew.{Crew}
 use Rattle.planner.specs.Answers.{limit_of}
 use Rattle.planner.specs.Gathering.{HasGoal, HaveGoals}
-use Rattle.planner.specs.Searched.{IsFound}
 use Rattle.planner.specs.Searching.{IsSearching}
-use Rattle.planner.specs.Crew.{Gathers, HasLeft, HaveEnded}
+use Rattle.planner.specs.Crew.{HasLeft, HaveEnded}
 use Rattle.planner.proofs.Searching.{first_is, then_is}
 use Rattle.planner.proofs.Crews.{none_below}
 
@@ -59,7 +56,7 @@ have_goals limit Q above [] all = All-nil (λ (p : Piece). HasGoal limit p.node)
 have_goals limit Q above (piece ∷ pieces) all = one_goal limit Q above piece pieces piece.node refl all (λ rest. have_goals limit Q above pieces rest)
 
 module _ {J : Type 0} (i : Instance) (word : Incumbent) (crew : Crew J) (w : IsInstance i) (ended : HaveEnded i word crew) (least : ℕ) (is : IsLeast (first_value word ∷ offers crew.watch) least) (below : All (λ x. least ≤ x) (seen crew.watch)) (all : List Task)
-      (each : All (IsTask i) all) (left : HasLeft crew.hands.items crew.tasks.items all) where
+    (each : All (IsTask i) all) (left : HasLeft crew.hands.items crew.tasks.items all) where
   limit_below : limit_of i crew.best ≤ least
   limit_below =
       let P : ℕ → Type 0 = λ value. limit_of i crew.best ≤ value in

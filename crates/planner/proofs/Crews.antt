@@ -1,5 +1,5 @@
 -- What workers come to together, with one more report.
-use Rattle.std.proofs.Common.{◌≡◌, ℕ, ◌+◌, ◌-◌, ◌≤◌, List, [], ◌∷◌, ◌++◌, Option, None, Some, inl, inr, ⊎_elim, refl, sym, ap, subst, ◌∙◌, arith, append_assoc, length, length-append, All, Contains}
+use Rattle.std.proofs.Common.{◌≡◌, ℕ, ◌+◌, ◌-◌, ◌≤◌, List, [], ◌∷◌, ◌++◌, Option, None, Some, inl, inr, ⊎_elim, sym, ap, subst, ◌∙◌, arith, append_assoc, length-append, All, Contains}
 use Rattle.std.specs.List.{flat_map}
 use Rattle.std.specs.List.Sorted.{IsPermutation}
 use Rattle.std.proofs.lemmas.Grind.{flat_map-append}
@@ -12,14 +12,13 @@ use Rattle.ttp_model.specs.Rules.{IsInstance}
 use Rattle.branch_tree.specs.declared.piece.Piece.{Piece}
 use Rattle.branch_tree.specs.Task.{Task, IsTask}
 use Rattle.incumbent.specs.declared.word.Incumbent.{Incumbent}
-use Rattle.incumbent.specs.declared.word.Watch.{Watch}
 use Rattle.incumbent.specs.Watch.{seen, offers, out_count, IsOpening}
 use Rattle.steal_pool.specs.declared.hand.Hand.{Hand}
 use Rattle.steal_pool.specs.Hand.{pushed, taken, IsSameHand, all_pushed, all_taken}
 use Rattle.pool_worker.specs.declared.report.Report.{Report}
-use Rattle.pool_worker.specs.Tasks.{Turn, IsTurn, tasks_of, pieces_of, all_born, born}
+use Rattle.pool_worker.specs.Tasks.{Turn, IsTurn, tasks_of, all_born, born}
 use Rattle.pool_worker.specs.Goals.{goals_of, goals_at, IsReached}
-use Rattle.pool_worker.specs.Best.{IsBestOf, OffersBest}
+use Rattle.pool_worker.specs.Best.{IsBestOf}
 use Rattle.pool_worker.specs.Report.{held, unpushed}
 use Rattle.planner.specs.declared.crew.Job.{Job}
 use Rattle.planner.specs.declared.crew.Crew.{Crew}
@@ -80,9 +79,9 @@ lower_all n m xs le h k d small = let p = h k d small in omega arith
 -- ---- one more report
 
 module _ {J : Type 0} (i : Instance) (word : Incumbent) (count : ℕ) (begun : List (Hand J)) (old new : Crew J) (job : Job J) (report : Report J) (w : IsInstance i) (g : Gathers i word count begun old) (j : IsJob word job)
-      (r : IsReportOfJob i job report) (hands : new.hands.items ≡ old.hands.items ++ report.hand ∷ []) (pieces : new.pieces.items ≡ old.pieces.items ++ report.pieces.items)
-      (tasks : new.tasks.items ≡ old.tasks.items ++ tasks_in report.rest) (better : IsBetter i old.best report.best new.best) (opening : IsOpening word new.watch) (out : out_count new.watch ≡ out_count old.watch - 1)
-      (sees : seen new.watch ≡ seen old.watch ++ seen report.watch) (offered : offers new.watch ≡ offers old.watch ++ offers report.watch) where
+    (r : IsReportOfJob i job report) (hands : new.hands.items ≡ old.hands.items ++ report.hand ∷ []) (pieces : new.pieces.items ≡ old.pieces.items ++ report.pieces.items)
+    (tasks : new.tasks.items ≡ old.tasks.items ++ tasks_in report.rest) (better : IsBetter i old.best report.best new.best) (opening : IsOpening word new.watch) (out : out_count new.watch ≡ out_count old.watch - 1)
+    (sees : seen new.watch ≡ seen old.watch ++ seen report.watch) (offered : offers new.watch ≡ offers old.watch ++ offers report.watch) where
   takes_more : IsPermutation (all_taken new.hands.items) (all_taken (begun ++ job.hand ∷ []) ++ (tasks_of (g.turns ++ r.account.turns) ++ (g.in_hand ++ held report.rest)))
   takes_more =
       let a = r.account in
@@ -91,7 +90,7 @@ module _ {J : Type 0} (i : Instance) (word : Incumbent) (count : ℕ) (begun : L
       let inner = IsPermutation-append_right (all_taken begun ++ taken job.hand) _ _ (interleave (tasks_of g.turns) g.in_hand (tasks_of a.turns) (held report.rest)) in
       let left = ap all_taken hands ∙ one_more taken old.hands.items report.hand in
       let right : all_taken (begun ++ job.hand ∷ []) ++ (tasks_of (g.turns ++ a.turns) ++ (g.in_hand ++ held report.rest)) ≡ (all_taken begun ++ taken job.hand) ++ ((tasks_of g.turns ++ tasks_of a.turns) ++ (g.in_hand ++ held report.rest)) =
-          λ k. one_more taken begun job.hand k ++ (map-append (λ (t : Turn). t.task) g.turns a.turns k ++ (g.in_hand ++ held report.rest)) in
+      λ k. one_more taken begun job.hand k ++ (map-append (λ (t : Turn). t.task) g.turns a.turns k ++ (g.in_hand ++ held report.rest)) in
       first_is _ _ _ left (then_is _ _ _ (IsPermutation-trans _ _ _ all inner) (sym right))
 
   pushes_more : IsPermutation (all_pushed new.hands.items ++ (g.kept_back ++ unpushed report.rest)) (all_pushed (begun ++ job.hand ∷ []) ++ all_born i (g.turns ++ r.account.turns))
@@ -104,7 +103,7 @@ module _ {J : Type 0} (i : Instance) (word : Incumbent) (count : ℕ) (begun : L
       let all = both (all_pushed old.hands.items ++ g.kept_back) (pushed report.hand ++ U) (all_pushed begun) (all_born i g.turns) (pushed job.hand) (all_born i a.turns) g.pushes own in
       let left = ap (λ (l : List Task). l ++ (g.kept_back ++ U)) (ap all_pushed hands ∙ one_more pushed old.hands.items report.hand) in
       let right : all_pushed (begun ++ job.hand ∷ []) ++ all_born i (g.turns ++ a.turns) ≡ (all_pushed begun ++ pushed job.hand) ++ (all_born i g.turns ++ all_born i a.turns) =
-          λ k. one_more pushed begun job.hand k ++ flat_map-append (born i) g.turns a.turns k in
+      λ k. one_more pushed begun job.hand k ++ flat_map-append (born i) g.turns a.turns k in
       first_is _ _ _ left (then_is _ _ _ (IsPermutation-trans _ _ _ apart all) (sym right))
 
   offers_above : All (λ value. limit_of i new.best ≤ value) (offers new.watch)

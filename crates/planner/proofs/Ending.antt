@@ -1,14 +1,12 @@
 -- What a search comes to, once what it left is closed.
-use Rattle.std.proofs.Common.{◌≡◌, ℕ, zero, suc, ◌<◌, ◌≤◌, min, List, [], ◌∷◌, ◌++◌, Option, ◌⊎◌, inl, inr, refl, sym, ap, subst, ◌∙◌, arith, length, get_or, All, Contains}
+use Rattle.std.proofs.Common.{◌≡◌, ℕ, zero, suc, ◌<◌, ◌≤◌, min, List, [], ◌∷◌, ◌++◌, Option, ◌⊎◌, inl, inr, sym, ap, subst, ◌∙◌, arith, length, get_or, All, Contains}
 use Rattle.std.proofs.lemmas.List.{map-append}
 use Rattle.std.proofs.lemmas.List.Elements.{All-append, All-weaker, All-contains, Contains-append_left, Contains-append_right}
 use Rattle.ttp_model.specs.declared.plan.Plan.{Plan}
 use Rattle.ttp_model.specs.declared.step.Leaf.{Leaf}
 use Rattle.ttp_model.specs.Instance.{Instance}
-use Rattle.ttp_model.specs.Rules.{IsInstance}
 use Rattle.tt_choice.specs.Choice.{Choice}
 use Rattle.certificate.specs.declared.limits.TheConstants.{MOST_BRANCHES_ABOVE}
-use Rattle.certificate.specs.declared.node.Node.{Node}
 use Rattle.certificate.specs.declared.node.Node.TheVariants as node
 use Rattle.branch_tree.specs.declared.piece.Piece.{Piece}
 use Rattle.branch_tree.specs.Name.{Name}

@@ -1,13 +1,12 @@
 -- The hands of a pool, after some of them have changed.
-use Rattle.std.proofs.Common.{◌≡◌, ◌≢◌, ℕ, zero, suc, ◌<◌, List, [], ◌∷◌, ◌++◌, inl, inr, ⊎_elim, refl, sym, ap, subst, ◌∙◌, arith, length, length-set, set}
+use Rattle.std.proofs.Common.{◌≡◌, ℕ, zero, suc, List, [], ◌∷◌, ◌++◌, refl, sym, ap, subst, ◌∙◌, length, length-set}
 use Rattle.std.specs.List.Sorted.{IsPermutation}
-use Rattle.std.proofs.lemmas.List.{append-nil}
 use mathlib.Core.Option.{some, some-injective, some-ne-none}
 use lib.ListN.{get_elem?}
 use Rattle.branch_tree.specs.Task.{Task}
 use Rattle.steal_pool.specs.declared.hand.Hand.{Hand}
 use Rattle.steal_pool.specs.Door.{DequeId}
-use Rattle.steal_pool.specs.Hand.{pushed, taken, IsSameHand, IsHandOf, IsPool, ChangesAt, all_pushed, all_taken, deques, own_deque, out_count}
+use Rattle.steal_pool.specs.Hand.{pushed, taken, IsSameHand, IsHandOf, IsPool, ChangesAt, all_pushed, all_taken}
 use Rattle.steal_pool.proofs.Orders.{more_in_one, same_in_all}
 use Rattle.steal_pool.proofs.Pools.{each_change}
 use Rattle.planner.specs.Crew.{AreSameHands}

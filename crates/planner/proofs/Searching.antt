@@ -1,6 +1,5 @@
 -- How a search begins, and what work on a task makes of it.
-use Rattle.std.proofs.Common.{◌≡◌, ℕ, ◌+◌, ◌≤◌, List, [], ◌∷◌, ◌++◌, Option, None, Some, inl, inr, refl, sym, ap, subst, ◌∙◌, arith, append_assoc, All, Contains}
-use Rattle.std.specs.List.{flat_map}
+use Rattle.std.proofs.Common.{◌≡◌, ℕ, ◌≤◌, List, [], ◌∷◌, ◌++◌, Option, refl, sym, ap, subst, ◌∙◌, arith, append_assoc, All, Contains}
 use Rattle.std.specs.List.Sorted.{IsPermutation}
 use Rattle.std.proofs.lemmas.Grind.{flat_map-append}
 use Rattle.std.proofs.lemmas.List.{append-nil, map-append}
@@ -15,9 +14,9 @@ use Rattle.certificate.specs.declared.node.Node.TheVariants as node
 use Rattle.branch_tree.specs.declared.piece.Piece.{Piece}
 use Rattle.branch_tree.specs.Task.{Task, IsTask, root_task}
 use Rattle.pool_worker.specs.Best.{IsPlanFound}
-use Rattle.pool_worker.specs.Tasks.{Turn, IsTurn, tasks_of, pieces_of, born, all_born}
+use Rattle.pool_worker.specs.Tasks.{Turn, IsTurn, tasks_of, born, all_born}
 use Rattle.planner.specs.Answers.{limit_of}
-use Rattle.planner.specs.Gathering.{HasGoal, HaveGoals}
+use Rattle.planner.specs.Gathering.{HasGoal}
 use Rattle.planner.specs.Searched.{IsFound}
 use Rattle.planner.specs.Searching.{IsSearching}
 

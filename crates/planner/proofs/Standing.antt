@@ -1,6 +1,6 @@
 -- Turns that account for the tasks of a tree make a tree of names, and each of their tasks stands at its name.
 use Rattle.std.proofs.Common.{◌≡◌, ℕ, zero, suc, ◌+◌, ◌<◌, ◌≤◌, List, [], ◌∷◌, ◌++◌, ◌⊎◌, inl, inr, refl, sym, ap, subst, ◌∙◌, arith, map, length, length-append, All, Contains}
-use Rattle.std.specs.List.{flat_map, range_with_len}
+use Rattle.std.specs.List.{range_with_len}
 use Rattle.std.specs.List.Sorted.{IsPermutation}
 use Rattle.std.proofs.lemmas.List.{map-append}
 use Rattle.std.proofs.lemmas.List.Elements.{All-head, All-tail, All-contains, Contains-append_left, All-map}
@@ -11,14 +11,14 @@ use Rattle.certificate.specs.declared.limits.TheConstants.{MOST_BRANCHES_ABOVE}
 use Rattle.certificate.specs.Trees.{children}
 use Rattle.branch_tree.specs.declared.piece.Piece.{Piece}
 use Rattle.branch_tree.specs.Name.{Name, root_name, child_name}
-use Rattle.branch_tree.specs.Task.{Task, IsTask, root_task}
+use Rattle.branch_tree.specs.Task.{Task, root_task}
 use Rattle.branch_tree.specs.Pieces.{names_of, names_below, all_below, choice_below, IsRight, StandsAt, at_root, at_child, AreRight}
 use Rattle.branch_tree.specs.Account.{IsWholeTree}
 use Rattle.search_core.proofs.Right.{stands_alone}
 use Rattle.pool_worker.specs.Tasks.{Turn, IsTurn, tasks_of, pieces_of, born, child_task, all_born}
 use Rattle.planner.specs.Gathering.{AreShallow}
 use Rattle.planner.specs.Searching.{task_names}
-use Rattle.planner.proofs.Has.{Has, has_left, has_map, has_from_map, has_from_flat_map, in_range, has_from_contains, contains_from_has}
+use Rattle.planner.proofs.Has.{Has, has_map, has_from_map, has_from_flat_map, in_range, has_from_contains, contains_from_has}
 
 abbrev name_of : Task → Name
 name_of t = t.name

@@ -102,10 +102,7 @@ fn deal<J: Searched>(
 }
 
 /// The tasks that are left in the deques of a pool, behind these.
-fn drained<J: Searched>(
-    hands: Vec<Hand<J>>,
-    tasks: Vec<Task>,
-) -> Result<Vec<Task>, MemoryFault>
+fn drained<J: Searched>(hands: Vec<Hand<J>>, tasks: Vec<Task>) -> Result<Vec<Task>, MemoryFault>
     requires pool { IsPool hands.items }
     requires tasks { All (IsTask J.instance) tasks.items }
     ensures left { IfOk result (λ all. HasLeft hands.items tasks.items all.items) }

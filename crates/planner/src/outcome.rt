@@ -11,7 +11,7 @@ use ttp_model::{MemoryFault, Plan};
 /// How a search is to be done.
 #[derive(Clone, Copy, Debug)]
 pub struct Options {
-    /// How many workers search, from 1 to 16. As yet one does, whatever is said here.
+    /// How many workers search, each in a thread of its own, from 1 to 16; 0 is read as 1.
     pub workers: u32,
     /// How many subtrees are worked at most.
     pub budget: u64,

@@ -11,10 +11,10 @@ ghost use Rattle.planner.specs.Searched.{IsFound, IsWorkedOut, IsAnswerOf};
 ghost use Rattle.planner.specs.Searching.{IsSearching};
 
 use crate::closing::close_all;
+use crate::collecting::searched;
 use crate::fault::GatherFault;
 use crate::gathering::gather;
 use crate::outcome::{Options, Outcome, SolveFault, Why};
-use crate::collecting::searched;
 use crate::search::{Search, limit};
 use branch_tree::Piece;
 use certificate::Cert;

@@ -4,8 +4,10 @@ use crate::solves::{Answered, CLUSTER_BEFORE_HORIZON, solved};
 use crate::streams::{FailingReader, FullWriter};
 use crate::told::Told;
 use solve_command::{Options, solve_run};
-use std::alloc::AllocError;
+use std::alloc::{Alloc, AllocError, Global};
+use std::sync::Wait;
 use std::test::Fail;
+use std::thread::Threads;
 
 const ONE_PROCESS: &str =
     "[[node]]\nname = 'A'\ncapacities = [0]\n[[process]]\nname = 'p'\nnode = 'A'\nwcet = 5\n";
@@ -30,7 +32,10 @@ const FINDING_NONE: Search = ("horizon = 4\n", 100);
 
 const STOPPED: Search = ("horizon = 5\n", 0);
 
-fn searched(rt: &HostRuntime, (horizon, budget): Search) -> Result<Case, AllocError> {
+fn searched(
+    rt: &(impl Alloc<A = Global> + Threads + Wait),
+    (horizon, budget): Search,
+) -> Result<Case, AllocError> {
     let options = Options { workers: 1, budget };
     let instance = [CLUSTER_BEFORE_HORIZON, horizon, ONE_PROCESS];
     let whole = solved(rt, &instance, options)?;
@@ -46,7 +51,7 @@ impl Case {
     /// What is told where the reader fails after so many calls, and the output is full after so many bytes.
     fn told(
         &self,
-        rt: &HostRuntime,
+        rt: &(impl Alloc<A = Global> + Threads + Wait),
         calls: usize,
         certificate: Option<&mut FullWriter>,
         room: usize,
@@ -62,7 +67,7 @@ impl Case {
     }
 
     /// Whether a reader that fails after so many calls leaves both writers as they were.
-    fn is_unread_at(&self, rt: &HostRuntime, calls: usize) -> bool {
+    fn is_unread_at(&self, rt: &(impl Alloc<A = Global> + Threads + Wait), calls: usize) -> bool {
         let mut certificate = FullWriter::with_room(rt.alloc(), ROOM);
         let told = self.told(rt, calls, Some(&mut certificate), ROOM);
         let alone = self.told(rt, calls, None, ROOM);
@@ -72,7 +77,11 @@ impl Case {
     }
 
     /// Whether an output of this room has what fits of the answer, and the certificate is whole.
-    fn is_right_with_output(&self, rt: &HostRuntime, room: usize) -> bool {
+    fn is_right_with_output(
+        &self,
+        rt: &(impl Alloc<A = Global> + Threads + Wait),
+        room: usize,
+    ) -> bool {
         let mut certificate = FullWriter::with_room(rt.alloc(), ROOM);
         let told = self.told(rt, self.calls(), Some(&mut certificate), room);
         let alone = self.told(rt, self.calls(), None, room);
@@ -92,7 +101,11 @@ impl Case {
     }
 
     /// Whether a certificate's writer of this room has what fits of it, and nothing is told where that isn't all.
-    fn is_right_with_certificate(&self, rt: &HostRuntime, room: usize) -> bool {
+    fn is_right_with_certificate(
+        &self,
+        rt: &(impl Alloc<A = Global> + Threads + Wait),
+        room: usize,
+    ) -> bool {
         let whole = self.whole.certificate.as_slice();
         let mut certificate = FullWriter::with_room(rt.alloc(), room);
         let told = self.told(rt, self.calls(), Some(&mut certificate), ROOM);
@@ -104,12 +117,12 @@ impl Case {
     }
 
     /// The first room for the output with which something else is written than fits.
-    fn wrong_output(&self, rt: &HostRuntime) -> Option<usize> {
+    fn wrong_output(&self, rt: &(impl Alloc<A = Global> + Threads + Wait)) -> Option<usize> {
         (0..self.whole.told.out.len() + 1).find(|room| !self.is_right_with_output(rt, *room))
     }
 
     /// The same of the room for the certificate.
-    fn wrong_certificate(&self, rt: &HostRuntime) -> Option<usize> {
+    fn wrong_certificate(&self, rt: &(impl Alloc<A = Global> + Threads + Wait)) -> Option<usize> {
         (0..self.whole.certificate.len() + 1).find(|room| !self.is_right_with_certificate(
             rt, *room,
         ))
@@ -117,7 +130,10 @@ impl Case {
 }
 
 /// The first room for the output or for the certificate with which something else is written than fits.
-fn wrong_room(rt: &HostRuntime, search: Search) -> Result<Option<usize>, AllocError> {
+fn wrong_room(
+    rt: &(impl Alloc<A = Global> + Threads + Wait),
+    search: Search,
+) -> Result<Option<usize>, AllocError> {
     let case = searched(rt, search)?;
     Ok(case.wrong_output(rt).or(case.wrong_certificate(rt)))
 }
@@ -141,7 +157,10 @@ fn full_writers_have_a_prefix_of_bounds_and_their_certificate(rt: HostRuntime) -
 }
 
 /// The first call at which a failed read leaves something written.
-fn wrong_call(rt: &HostRuntime, search: Search) -> Result<Option<usize>, AllocError> {
+fn wrong_call(
+    rt: &(impl Alloc<A = Global> + Threads + Wait),
+    search: Search,
+) -> Result<Option<usize>, AllocError> {
     let case = searched(rt, search)?;
     for calls in 0..case.calls() {
         if !case.is_unread_at(rt, calls) {
@@ -158,7 +177,9 @@ fn a_failed_read_leaves_both_writers_as_they_were(rt: HostRuntime) -> Result<(),
 }
 
 /// Whether of two full writers the certificate's is told.
-fn certificate_goes_first(rt: &HostRuntime) -> Result<bool, AllocError> {
+fn certificate_goes_first(
+    rt: &(impl Alloc<A = Global> + Threads + Wait),
+) -> Result<bool, AllocError> {
     let case = searched(rt, FINDING_A_PLAN)?;
     let mut certificate = FullWriter::with_room(rt.alloc(), 0);
     let told = case.told(rt, case.calls(), Some(&mut certificate), 0);

@@ -2,9 +2,11 @@
 
 use crate::told::{Asked, CLUSTER, FIRST, FIRST_PARTS, Told, joined};
 use solve_command::{Options, solve_run};
-use std::alloc::{AllocError, Global};
+use std::alloc::{Alloc, AllocError, Global};
 use std::str::from_utf8;
+use std::sync::Wait;
 use std::test::Fail;
+use std::thread::Threads;
 
 const AMPLE: Options = Options {
     workers: 4,
@@ -64,7 +66,7 @@ pub struct Answered {
 
 /// What `solve` answers of an instance in parts.
 pub fn solved(
-    rt: &HostRuntime,
+    rt: &(impl Alloc<A = Global> + Threads + Wait),
     instance: &[&str],
     options: Options,
 ) -> Result<Answered, AllocError> {
@@ -182,7 +184,10 @@ static SHORTEST: &[Shortest] = &[
 ];
 
 /// The first of these instances for which something else is found.
-fn wrong_plan(rt: &HostRuntime, all: &[Shortest]) -> Result<Option<usize>, AllocError> {
+fn wrong_plan(
+    rt: &(impl Alloc<A = Global> + Threads + Wait),
+    all: &[Shortest],
+) -> Result<Option<usize>, AllocError> {
     for (k, &(instance, delay, lines)) in all.iter().enumerate() {
         let answer = solved(rt, instance, AMPLE)?;
         if !answer.is_shortest(rt.alloc(), delay, lines)? {
@@ -208,7 +213,10 @@ static PLANLESS: &[Planless] = &[
 ];
 
 /// The first of these instances for which something else is found.
-fn wrong_none(rt: &HostRuntime, all: &[Planless]) -> Result<Option<usize>, AllocError> {
+fn wrong_none(
+    rt: &(impl Alloc<A = Global> + Threads + Wait),
+    all: &[Planless],
+) -> Result<Option<usize>, AllocError> {
     for (k, &(instance, low)) in all.iter().enumerate() {
         let answer = solved(rt, instance, AMPLE)?;
         if !answer.is_none(rt.alloc(), low)? {
@@ -232,7 +240,10 @@ enum Standing {
     Wrong,
 }
 
-fn standing_at(rt: &HostRuntime, budget: u64) -> Result<Standing, AllocError> {
+fn standing_at(
+    rt: &(impl Alloc<A = Global> + Threads + Wait),
+    budget: u64,
+) -> Result<Standing, AllocError> {
     let instance = [TWO_WITH_LARGER_A, ONE_TO_TWO, TWO_MESSAGES, CLUSTER];
     let answer = solved(rt, &instance, Options { workers: 1, budget })?;
     if answer.is_shortest(rt.alloc(), 8, "order B A\ncap A 4\n")? {
@@ -245,7 +256,9 @@ fn standing_at(rt: &HostRuntime, budget: u64) -> Result<Standing, AllocError> {
 }
 
 /// The first budget that gives no bounds, with what it gives.
-fn first_unbounded(rt: &HostRuntime) -> Result<Option<(u64, Standing)>, AllocError> {
+fn first_unbounded(
+    rt: &(impl Alloc<A = Global> + Threads + Wait),
+) -> Result<Option<(u64, Standing)>, AllocError> {
     for budget in 0..1000 {
         let standing = standing_at(rt, budget)?;
         if standing != Standing::Bounded {
@@ -266,7 +279,7 @@ fn every_budget_gives_bounds_until_the_answer_is_known(rt: HostRuntime) -> Resul
 }
 
 /// Whether without a budget the first example is answered by a bound of at least its path bound.
-fn is_stopped_at_once(rt: &HostRuntime) -> Result<bool, AllocError> {
+fn is_stopped_at_once(rt: &(impl Alloc<A = Global> + Threads + Wait)) -> Result<bool, AllocError> {
     let none = Options {
         workers: 1,
         budget: 0,
@@ -284,7 +297,7 @@ fn without_a_budget_the_search_is_stopped(rt: HostRuntime) -> Result<(), Fail> {
 }
 
 /// Whether the tree of one process that is released at 2 places its node, fixes its capacity and has one leaf, of goal 7.
-fn is_tree_of_released(rt: &HostRuntime) -> Result<bool, AllocError> {
+fn is_tree_of_released(rt: &(impl Alloc<A = Global> + Threads + Wait)) -> Result<bool, AllocError> {
     let answer = solved(rt, &[ALONE, RELEASED, CLUSTER], AMPLE)?;
     let Ok(tree) = from_utf8(answer.certificate.as_slice()) else {
         return Ok(false);

@@ -8,3 +8,4 @@ pub mod Standing
 pub mod Cover
 pub mod Ledger
 pub mod Right
+pub mod OneMessage

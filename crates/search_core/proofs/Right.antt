@@ -188,7 +188,7 @@ pieces_back (s ∷ xs) (suc w) t d x h there =
 abbrev NoneNew : World → World → Type 0
 NoneNew m n = (x : Piece) → Contains (all_pieces n) x → Contains (all_pieces m) x
 
-none_new : (m : World) (w : ℕ) (t : Worker) → IsThere m w → t.pieces ≡ (worker_at m w).pieces → NoneNew m (put m w t)
+pub none_new : (m : World) (w : ℕ) (t : Worker) → IsThere m w → t.pieces ≡ (worker_at m w).pieces → NoneNew m (put m w t)
 none_new m w t there same x h =
     elim (pieces_back m.seats w t (idle_seat 0) x there h) [
       | inl old ↦ old

@@ -4,3 +4,4 @@ pub mod Steps
 pub mod Once
 pub mod Bounds
 pub mod Ledger
+pub mod Worked

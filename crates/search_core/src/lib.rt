@@ -6,6 +6,7 @@ mod event;
 mod hand;
 mod laws;
 mod reply;
+mod worked;
 mod worker;
 mod world;
 
@@ -16,5 +17,6 @@ pub use laws::{
     accounts_balance, bounds_hold, names_are_a_tree, one_choice_stands, pieces_are_right,
 };
 pub use reply::{Illegal, Reply};
+pub use worked::one_message_is_searched;
 pub use worker::Worker;
 pub use world::World;

@@ -3,7 +3,9 @@
 use cert_check::check;
 use planner::{Options, Outcome, Why, solve};
 use std::alloc::Global;
+use std::sync::Wait;
 use std::test::Fail;
+use std::thread::Threads;
 use ttp_model::{Instance, Plan};
 
 /// An answer in ticks. Its plan has the delay that is stated, and its certificate proves the bound.
@@ -65,8 +67,23 @@ pub fn read(alloc: Global, instance: &Instance, outcome: &Outcome) -> Result<Ans
     }
 }
 
-/// What is answered for an instance, with this budget.
-pub fn solved(alloc: Global, instance: &Instance, budget: u64) -> Result<Answer, Fail> {
-    let outcome = solve(&(), alloc, instance, options(budget))?;
+/// What is answered for an instance by one worker, with this budget.
+pub fn solved<R: Threads + Wait>(
+    rt: &R,
+    alloc: Global,
+    instance: &Instance,
+    budget: u64,
+) -> Result<Answer, Fail> {
+    solved_by(rt, alloc, instance, options(budget))
+}
+
+/// What is answered for an instance.
+pub fn solved_by<R: Threads + Wait>(
+    rt: &R,
+    alloc: Global,
+    instance: &Instance,
+    options: Options,
+) -> Result<Answer, Fail> {
+    let outcome = solve(rt, alloc, instance, options)?;
     read(alloc, instance, &outcome)
 }

@@ -6,7 +6,9 @@ use crate::answers::{Answer, solved};
 use exhaustive::least_delay;
 use std::alloc::Global;
 use std::process::Abort;
+use std::sync::Wait;
 use std::test::Fail;
+use std::thread::Threads;
 use ttp_model::{Cluster, Instance, Link, Message, Name, Node, Numbers, Process};
 
 /// A linear congruence: numbers that look like chance, the same in each run.
@@ -219,7 +221,12 @@ fn instance(alloc: Global, sizes: Sizes, number: u32) -> Result<Instance, Fail> 
 }
 
 /// Whether an instance has a plan. Solved, it has to have the answer that trying every plan gives.
-fn compared(rt: &impl Abort, alloc: Global, sizes: Sizes, number: u32) -> Result<bool, Fail> {
+fn compared<R: Abort + Threads + Wait>(
+    rt: &R,
+    alloc: Global,
+    sizes: Sizes,
+    number: u32,
+) -> Result<bool, Fail> {
     let instance = instance(alloc, sizes, number)?;
     let delay = least_delay(alloc, &instance)?;
     let wanted = Answer {
@@ -227,13 +234,18 @@ fn compared(rt: &impl Abort, alloc: Global, sizes: Sizes, number: u32) -> Result
         low: delay.unwrap_or(u64::from(instance.past_horizon())),
         delay,
     };
-    let answer = solved(alloc, &instance, 100_000)?;
+    let answer = solved(rt, alloc, &instance, 100_000)?;
     assert_eq!(rt; answer, wanted, "instance {number}");
     Ok(delay.is_some())
 }
 
 /// Compares this many instances, some of which have a plan and some have none.
-fn compare(rt: &impl Abort, alloc: Global, sizes: Sizes, count: u32) -> Result<(), Fail> {
+fn compare<R: Abort + Threads + Wait>(
+    rt: &R,
+    alloc: Global,
+    sizes: Sizes,
+    count: u32,
+) -> Result<(), Fail> {
     let (mut with, mut without) = (0u32, 0u32);
     for number in 0..count {
         if compared(rt, alloc, sizes, number)? {

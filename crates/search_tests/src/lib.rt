@@ -16,6 +16,8 @@ mod good_plans;
 #[cfg(test)]
 mod instances;
 #[cfg(test)]
+mod many_workers;
+#[cfg(test)]
 mod searches;
 #[cfg(test)]
 mod subtrees;

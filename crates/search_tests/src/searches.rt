@@ -4,19 +4,26 @@ use crate::answers::{Answer, options, read, solved};
 use crate::instances::{LEAST_DELAYS, Sample};
 use planner::{SolveFault, Why, solve};
 use std::alloc::Global;
+use std::sync::Wait;
 use std::test::Fail;
+use std::thread::Threads;
 use ttp_model::Instance;
 
 /// The answer for an instance that is named, with this budget.
-fn solved_sample(alloc: Global, sample: Sample, budget: u64) -> Result<Answer, Fail> {
+fn solved_sample<R: Threads + Wait>(
+    rt: &R,
+    alloc: Global,
+    sample: Sample,
+    budget: u64,
+) -> Result<Answer, Fail> {
     let instance = sample.build(alloc)?;
-    solved(alloc, &instance, budget)
+    solved(rt, alloc, &instance, budget)
 }
 
 #[test]
 fn a_thousand_subtrees_give_the_least_delay(rt: HostRuntime) -> Result<(), Fail> {
     for (sample, least) in LEAST_DELAYS {
-        let answer = solved_sample(rt.alloc(), sample, 1_000)?;
+        let answer = solved_sample(&rt, rt.alloc(), sample, 1_000)?;
         assert_eq!(rt; answer.delay, least, "{sample:?}");
         assert!(rt; answer.stopped.is_none(), "{sample:?}");
     }
@@ -25,7 +32,7 @@ fn a_thousand_subtrees_give_the_least_delay(rt: HostRuntime) -> Result<(), Fail>
 
 #[test]
 fn without_a_budget_the_path_bound_is_answered(rt: HostRuntime) -> Result<(), Fail> {
-    let answer = solved_sample(rt.alloc(), Sample::OneMessage(100), 0)?;
+    let answer = solved_sample(&rt, rt.alloc(), Sample::OneMessage(100), 0)?;
     assert_eq!(rt; answer.stopped, Some(Why::Budget));
     assert!(rt; matches!(answer.low, 8 | 9));
     Ok(())
@@ -50,7 +57,7 @@ fn each_budget_bounds_two_messages_until_eight_ticks_are_least(
 ) -> Result<(), Fail> {
     let instance = Sample::TwoReceivers.build(rt.alloc())?;
     for budget in 0..1_000 {
-        let answer = solved(rt.alloc(), &instance, budget)?;
+        let answer = solved(&rt, rt.alloc(), &instance, budget)?;
         assert!(rt;
             is_right(answer, Why::Budget),
             "budget {budget}: {answer:?}"
@@ -63,10 +70,14 @@ fn each_budget_bounds_two_messages_until_eight_ticks_are_least(
 }
 
 /// Whether it is said that 8 ticks are least, or memory was refused; then what is told has to hold.
-fn survives_refusals(alloc: Global, instance: &Instance) -> Result<bool, Fail> {
-    match solve(&(), alloc, instance, options(1_000)) {
+fn survives_refusals<R: Threads + Wait>(
+    rt: &R,
+    alloc: Global,
+    instance: &Instance,
+) -> Result<bool, Fail> {
+    match solve(rt, alloc, instance, options(1_000)) {
         Ok(outcome) => Ok(is_right(read(alloc, instance, &outcome)?, Why::Memory)),
-        Err(fault) => Ok(fault == SolveFault::Memory),
+        Err(fault) => Ok(matches!(fault, SolveFault::Memory | SolveFault::Thread)),
     }
 }
 
@@ -75,6 +86,6 @@ fn survives_refusals(alloc: Global, instance: &Instance) -> Result<bool, Fail> {
 #[test]
 fn a_refusal_of_memory_changes_no_answer(rt: HostRuntime) -> Result<(), Fail> {
     let instance = Sample::TwoReceivers.build(rt.alloc())?;
-    assert!(rt; survives_refusals(rt.alloc(), &instance)?);
+    assert!(rt; survives_refusals(&rt, rt.alloc(), &instance)?);
     Ok(())
 }

@@ -8,6 +8,8 @@ pub use solve_command::{Options, solve_run};
 use std::fs::File;
 use std::io;
 use std::process::ExitCode;
+use std::sync::Wait;
+use std::thread::Threads;
 
 /// An instance's file and a second one, both opened, in the order of the words.
 fn open_both(
@@ -72,7 +74,13 @@ fn create_certificate(rt: &HostRuntime, name: Option<&str>) -> Result<Option<Fil
 }
 
 /// Searches an instance: its file is opened first, then that of the certificate, and then the first is read.
-fn run_solve(rt: &HostRuntime, instance: &str, certificate: Option<&str>, options: Options) -> End {
+fn run_solve(
+    rt: &HostRuntime,
+    threads: &(impl Threads + Wait),
+    instance: &str,
+    certificate: Option<&str>,
+    options: Options,
+) -> End {
     let Ok(mut instance) = File::open(rt, instance) else {
         return End::Refused(Fault::Unread(Source::Instance));
     };
@@ -81,7 +89,7 @@ fn run_solve(rt: &HostRuntime, instance: &str, certificate: Option<&str>, option
         Err(fault) => return End::Refused(fault),
     };
     solve_run(
-        rt,
+        threads,
         rt.alloc(),
         &mut instance,
         options,
@@ -90,8 +98,8 @@ fn run_solve(rt: &HostRuntime, instance: &str, certificate: Option<&str>, option
     )
 }
 
-/// Does what is asked for.
-fn run(rt: &HostRuntime, request: Request) -> End {
+/// Does what is asked for. A search alone starts threads, and waits for them.
+fn run(rt: &HostRuntime, threads: &(impl Threads + Wait), request: Request) -> End {
     match request {
         Request::OnFiles {
             instance,
@@ -103,7 +111,10 @@ fn run(rt: &HostRuntime, request: Request) -> End {
             certificate,
             workers,
             budget,
-        } => run_solve(rt, instance, certificate, Options { workers, budget }),
+        } => {
+            let options = Options { workers, budget };
+            run_solve(rt, threads, instance, certificate, options)
+        }
         Request::Check {
             instance,
             certificate,
@@ -113,9 +124,9 @@ fn run(rt: &HostRuntime, request: Request) -> End {
 }
 
 /// Runs the words' request, says on standard error why it was refused, and gives the status.
-fn status_of_words(rt: &HostRuntime, words: &[String]) -> u8 {
+fn status_of_words(rt: &HostRuntime, threads: &(impl Threads + Wait), words: &[String]) -> u8 {
     match request_in(rt.alloc(), words) {
-        Ok(request) => ended(rt, &run(rt, request)),
+        Ok(request) => ended(rt, &run(rt, threads, request)),
         Err(error) => refuse(&error, &mut rt.stderr()),
     }
 }
@@ -128,7 +139,7 @@ fn ended(rt: &HostRuntime, end: &End) -> u8 {
 
 fn main(rt: HostRuntime) -> ExitCode {
     let status = match command_words::all(&rt) {
-        Ok(words) => status_of_words(&rt, words.as_slice()),
+        Ok(words) => status_of_words(&rt, &rt, words.as_slice()),
         Err(error) if error.kind() == io::ErrorKind::OutOfMemory => {
             ended(&rt, &End::Refused(Fault::Memory))
         }

@@ -1,4 +1,3 @@
-use Rattle.std.proofs.Common.{rules}
 use Rattle.planner.proofs.Pools.{pool_same}
 use Rattle.planner.proofs.Collected.{ends_searching}
 use Rattle.planner.proofs.collecting.collected.Goals as goal

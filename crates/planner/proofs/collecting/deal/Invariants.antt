@@ -1,4 +1,4 @@
-use Rattle.std.proofs.Common.{◌≡◌, ◌≤◌, ◌+◌, length}
+use Rattle.std.proofs.Common.{◌≡◌, ◌+◌, length}
 use Rattle.std.specs.Prelude.{All}
 use Rattle.incumbent.specs.Watch.{offers, out_count, IsOpening}
 use Rattle.planner.specs.Crew.{budget_of, hands_of, IsJob}

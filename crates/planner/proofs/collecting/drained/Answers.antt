@@ -1,11 +1,10 @@
-use Rattle.std.proofs.Common.{rules, ◌≡◌, ◌++◌, ◌∷◌, [], List, All, refl, sym, ap, ◌∙◌, subst, append_assoc}
-use Rattle.std.specs.List.Sorted.{IsPermutation}
+use Rattle.std.proofs.Common.{◌++◌, ◌∷◌, [], List, All, refl, sym, ap, ◌∙◌, subst, append_assoc}
 use Rattle.std.proofs.lemmas.List.{append-nil}
 use Rattle.std.proofs.lemmas.List.Elements.{All-push}
-use Rattle.std.proofs.lemmas.List.Sorted.{IsPermutation-refl, IsPermutation-trans, IsPermutation-cons, IsPermutation-append_left, IsPermutation-append_right, IsPermutation-append_comm}
+use Rattle.std.proofs.lemmas.List.Sorted.{IsPermutation-refl, IsPermutation-trans, IsPermutation-append_right}
 use Rattle.branch_tree.specs.Task.{Task, IsTask}
-use Rattle.steal_pool.specs.Drained.{pushed_there, taken_there}
-use Rattle.planner.proofs.Searching.{first_is, then_is}
+use Rattle.steal_pool.specs.Drained.{taken_there}
+use Rattle.planner.proofs.Searching.{first_is}
 use Rattle.planner.proofs.Collected.{one_drained}
 use Rattle.planner.proofs.collecting.drained.Goals as goal
 

@@ -2,7 +2,6 @@ use Rattle.std.proofs.Common.{◌≡◌, ◌++◌, List}
 use Rattle.std.specs.Prelude.{All, IsPermutation}
 use Rattle.branch_tree.specs.Task.{Task, IsTask}
 use Rattle.steal_pool.specs.Drained.{left_there, pushed_there, taken_there}
-use Rattle.steal_pool.specs.Hand.{all_pushed, all_taken}
 use Rattle.planner.proofs.collecting.drained.Given as goal
 
 abbrev pub decreases-left : goal.decreases-left

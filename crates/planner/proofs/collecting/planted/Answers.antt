@@ -1,7 +1,7 @@
-use Rattle.std.proofs.Common.{rules, arith, ◌≡◌, ◌<◌, ◌∷◌, [], length, slice_set, ap, ◌∙◌, subst}
+use Rattle.std.proofs.Common.{rules, ◌≡◌, ◌<◌, ◌∷◌, [], length, slice_set, ap, ◌∙◌, subst}
 use Rattle.std.specs.List.Sorted.{IsPermutation}
 use Rattle.branch_tree.specs.Task.{Task, root_task}
-use Rattle.steal_pool.specs.Hand.{ChangesAt, all_pushed}
+use Rattle.steal_pool.specs.Hand.{all_pushed}
 use Rattle.steal_pool.proofs.Pools.{changed}
 use Rattle.planner.proofs.Pools.{IsGiven, pool_given, pushed_given, taken_given}
 use Rattle.planner.proofs.collecting.planted.Goals as goal

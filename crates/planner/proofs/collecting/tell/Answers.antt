@@ -1,4 +1,4 @@
-use Rattle.std.proofs.Common.{arith, ◌≡◌, Option, Some, subst}
+use Rattle.std.proofs.Common.{arith, subst}
 use Rattle.ttp_model.specs.declared.error.Place.TheVariants.{AtCluster}
 use Rattle.planner.specs.Searched.{IsFound}
 use Rattle.planner.proofs.Searching.{found_small}

@@ -1,4 +1,3 @@
-use Rattle.std.proofs.Common.{rules, ◌≡◌, Option, None, Some, sym, subst}
 use Rattle.planner.proofs.Crews.{better_none, better_first}
 use Rattle.planner.proofs.crew.better.Goals as goal
 

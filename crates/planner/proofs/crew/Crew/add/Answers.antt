@@ -1,7 +1,7 @@
-use Rattle.std.proofs.Common.{rules, ℕ, ◌≡◌, ◌++◌, ◌∷◌, [], List, Option, None, Some, sym, ap, ◌∙◌, subst}
+use Rattle.std.proofs.Common.{ℕ, ◌≡◌, Option, sym, subst}
 use Rattle.ttp_model.specs.declared.plan.Plan.{Plan}
 use Rattle.planner.specs.declared.crew.Crew.{Crew}
-use Rattle.planner.specs.Crew.{IsBetter, tasks_in}
+use Rattle.planner.specs.Crew.{IsBetter}
 use Rattle.planner.specs.Searched.{IsFound}
 use Rattle.planner.proofs.Crews.{gathers_more, found_of}
 use Rattle.planner.proofs.crew.Crew.add.Goals as goal

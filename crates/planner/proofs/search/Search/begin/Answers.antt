@@ -1,7 +1,3 @@
-use Rattle.std.proofs.Common.{List, sym, subst}
-use Rattle.branch_tree.specs.declared.piece.Piece.{Piece}
-use Rattle.branch_tree.specs.Task.{Task}
-use Rattle.planner.specs.Searching.{IsSearching}
 use Rattle.planner.proofs.Searching.{starts}
 use Rattle.planner.proofs.search.Search.begin.Goals as goal
 

@@ -1,4 +1,4 @@
-use Rattle.std.proofs.Common.{rules, arith, ℕ, Option, ◌≡◌, ◌≤◌, ◌++◌, All, List, [], ◌∷◌, Some, length, refl, sym, ap, ◌∙◌, subst}
+use Rattle.std.proofs.Common.{rules, arith, ℕ, Option, ◌≡◌, ◌≤◌, ◌++◌, All, List, [], ◌∷◌, Some, length, refl, ap, ◌∙◌, subst}
 use Rattle.std.proofs.lemmas.List.{append-nil}
 use Rattle.std.proofs.lemmas.List.Elements.{All-nil, All-contains}
 use Rattle.ttp_model.specs.declared.plan.Plan.{Plan}
