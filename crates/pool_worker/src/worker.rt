@@ -20,14 +20,15 @@ use ttp_model::Instance;
 /// How many sweeps one after another find no task before a worker ends.
 const SWEEPS: u64 = 1000;
 
-/// How often the processor is given up between two of them: longer than the first subtree takes on a large instance, so
-/// that no worker ends before there are tasks for all, and shorter in all than is noticed.
-const WAITS: u32 = 32;
+/// How often a worker spins between two of them: in all some ten milliseconds, longer than the first subtree takes, so
+/// that no worker ends before there are tasks for all. It doesn't give the processor up, since on a busy machine each
+/// time would take longer than that.
+const SPINS: u32 = 4;
 
 /// Waits between two sweeps.
 fn wait(backoff: &Backoff) {
-    for _turn in 0..WAITS {
-        backoff.snooze();
+    for _turn in 0..SPINS {
+        backoff.spin();
     }
 }
 
