@@ -31,7 +31,7 @@ pub enum Request<'a> {
     Solve {
         instance: &'a str,
         certificate: Option<&'a str>,
-        /// How many workers may search.
+        /// How many workers search.
         workers: u32,
         /// How many subtrees are searched at most.
         budget: u64,
@@ -128,7 +128,7 @@ fn solve_command<'a>(alloc: Global) -> Result<Command<'a>, AllocError> {
         "workers",
         ValueParser::unsigned(1, MOST_WORKERS),
         "4",
-        "How many workers may search, 1 to 16; as yet one does",
+        "How many workers search, 1 to 16",
     );
     let budget = number(
         alloc,

@@ -140,9 +140,9 @@ best_above : (i : Instance) (low : ℕ) (best : Option (Plan × ℕ)) → IsFoun
 best_above i low None found less = tt
 best_above i low (Some best) found less = (found, less)
 
-cause_is : (i : Instance) (budget : ℕ) (why : Why) (best : Option (Plan × ℕ)) (worked closed : List Piece) (cert : Cert) → IsTreeOf (worked ++ closed) cert.tree → HaveGoals (limit_of i best) worked → IsWorkedOut budget worked why → IsCause i budget best cert why
-cause_is i budget Budget best worked closed cert is goals all = omega (arith, all_worked (limit_of i best) worked closed cert.tree is goals, all)
-cause_is i budget Memory best worked closed cert is goals all = tt
+cause_is : (i : Instance) (budget : ℕ) (why : Why) (best : Option (Plan × ℕ)) (worked closed : List Piece) (low : ℕ) (cert : Cert) → IsTreeOf (worked ++ closed) cert.tree → All (IsClosedLeaf i (limit_of i best) low) closed → HaveGoals (limit_of i best) worked → IsWorkedOut budget worked why → IsCause i budget best cert why
+cause_is i budget Budget best worked closed low cert is leaves goals all = omega (arith, all_worked (limit_of i best) worked closed cert.tree is goals, all)
+cause_is i budget Memory best worked closed low cert is leaves goals all = omega (arith, within_budget i (limit_of i best) low worked closed cert.tree is leaves, all)
 
 reached_below : (low limit : ℕ) (closed : List Piece) → (low ≡ limit) ⊎ ((low < limit) × ReachesGoal low closed) → low < limit → ReachesGoal low closed
 reached_below low limit closed (inl same) less = absurd (omega arith)
@@ -190,7 +190,7 @@ search_answers i options why best worked closed low cert (Stopped cause bound fo
         most = omega (arith, answer.0, limit_small i best w is.found);
         path = path_below i limit low closed is.leaves reaches;
         above = best_above i low best is.found answer.0;
-        cause = cause_is i options.budget why best worked closed cert gathered.tree is.goals is.cause;
+        cause = cause_is i options.budget why best worked closed low cert gathered.tree is.leaves is.goals is.cause;
       };
     } in
     same_stopped i options cause why bound low found best own cert answer.1 answer.2 answer.3 answer.4 stopped

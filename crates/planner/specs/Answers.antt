@@ -58,7 +58,7 @@ pub record IsLeastGoal (tree : Trees) (low : ℕ) : Type 0 where
 -- the cause of a stop, by what was worked
 abbrev pub IsCause : Instance → ℕ → Option (Plan × ℕ) → Cert → Why → Type 0
 IsCause i budget best cert Budget = budget ≤ worked_at (limit_of i best) cert.tree
-IsCause i budget best cert Memory = Unit {0}
+IsCause i budget best cert Memory = branches cert.tree < budget
 
 -- the search was stopped with a bound and the best plan found
 pub record IsStopped (i : Instance) (budget : ℕ) (why : Why) (low : ℕ) (best : Option (Plan × ℕ)) (cert : Cert) : Type 0 where

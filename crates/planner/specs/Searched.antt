@@ -42,10 +42,10 @@ pub record ReachesGoal (low : ℕ) (pieces : List Piece) : Type 0 where
   pub is : piece.node ≡ node.Leaf leaf
   pub goal : leaf.goal ≡ low
 
--- how many were worked, where the budget was the cause
+-- how many were worked: as many as the budget allows where it was the cause, and fewer where memory was
 abbrev pub IsWorkedOut : ℕ → List Piece → Why → Type 0
 IsWorkedOut budget worked Budget = length worked ≡ budget
-IsWorkedOut budget worked Memory = Unit {0}
+IsWorkedOut budget worked Memory = length worked < budget
 
 -- A search at its end. The bound is the limit, or the goal of a leaf that closed what was left.
 pub record IsSearched (i : Instance) (budget : ℕ) (why : Why) (best : Option (Plan × ℕ)) (worked closed : List Piece) (low : ℕ) : Type 0 where
