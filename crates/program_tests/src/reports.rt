@@ -1,7 +1,8 @@
-//! What stands on standard error after a refusal whose line isn't written in full?
+//! Which line and status does a refusal have, and what stands on standard error where it isn't written in full?
 
 use crate::streams::FullWriter;
-use command_streams::{End, Fault, report};
+use crate::told::Told;
+use command_streams::{End, Fault, SearchFault, Sink, Source, report};
 use std::alloc::Global;
 use std::test::Fail;
 
@@ -28,5 +29,44 @@ fn a_full_standard_error_has_a_prefix_of_the_line(rt: HostRuntime) -> Result<(),
 fn nothing_is_told_of_an_end_without_a_fault(rt: HostRuntime) -> Result<(), Fail> {
     let mut error = FullWriter::with_room(rt.alloc(), 0);
     assert!(rt; report(&End::Absent, &mut error).is_ok());
+    Ok(())
+}
+
+/// The first of these faults that has another line or another status.
+fn wrong_line(alloc: Global) -> Option<usize> {
+    let rows = [
+        (Fault::NoMark, "usage bundle\n", 2),
+        (Fault::LossForm(3), "usage loss 3\n", 2),
+        (Fault::Memory, "memory\n", 4),
+        (Fault::StatedDelay(9), "plan D1 9\n", 5),
+        (Fault::TooFewNodes, "replay N1\n", 5),
+        (Fault::WrongLoss(0), "replay N2 0\n", 5),
+        (Fault::Unread(Source::Instance), "read instance\n", 6),
+        (Fault::Unread(Source::Plan), "read plan\n", 6),
+        (Fault::Unread(Source::Certificate), "read certificate\n", 6),
+        (Fault::Unwritten(Sink::Out), "write out\n", 6),
+        (
+            Fault::Unwritten(Sink::Certificate),
+            "write certificate\n",
+            6,
+        ),
+        (Fault::Search(SearchFault::Thread), "solve thread\n", 7),
+        (Fault::Search(SearchFault::DoubledName), "solve P1\n", 7),
+        (Fault::Search(SearchFault::MissingName), "solve P2\n", 7),
+        (Fault::Search(SearchFault::StrayName), "solve P3\n", 7),
+        (Fault::Search(SearchFault::LowGoal), "solve P4\n", 7),
+    ];
+    for (k, (fault, line, status)) in rows.into_iter().enumerate() {
+        let told = Told::at(alloc, &End::Refused(fault), Vec::new(alloc));
+        if !told.is(line, status) {
+            return Some(k);
+        }
+    }
+    None
+}
+
+#[test]
+fn each_fault_beside_those_of_texts_has_its_line(rt: HostRuntime) -> Result<(), Fail> {
+    assert_eq!(rt; wrong_line(rt.alloc()), None);
     Ok(())
 }

@@ -48,10 +48,12 @@ closes pieces none _ _ (at_child piece c k there stands inside) = absurd (none p
 
 pub honest : AreHonest one_message (start 1 9) root_closed
 honest n r pop =
-    let popped = after_pop (start 1 9) n r pop bare_at_first in
-    (tt, λ o s look.
-        let looked = after_look n o s look popped in
-        (tt, λ last t work. ((tt, λ name c hand stands. closes (all_pieces o) looked name c stands), tt)))
+    let popped = after_pop (start 1 9) n r pop bare_at_first in (
+      tt,
+      λ o s look.
+          let looked = after_look n o s look popped in
+          (tt, λ last t work. ((tt, λ name c hand stands. closes (all_pieces o) looked name c stands), tt)),
+    )
 
 -- the worker, with the root in hand, and after its look
 with_task : Worker
