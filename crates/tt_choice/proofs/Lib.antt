@@ -8,8 +8,10 @@ pub mod Completes
 pub mod Unplaced
 pub mod ChildLists
 pub mod Children
+pub mod Decisions
 pub mod Smaller
 pub mod Bounds
 pub mod Extend
 pub mod Exact
+pub mod Inside
 pub mod Places

@@ -2,7 +2,9 @@ pub mod Precedence
 pub mod Choice
 pub mod Extremes
 pub mod Branches
+pub mod Decisions
 pub mod Sizes
+pub mod Inside
 pub use Rattle.ttp_model.specs.Instance
 pub use Rattle.ttp_model.specs.Rules
 pub use Rattle.ttp_model.specs.Slots

@@ -1,6 +1,6 @@
 //! What follows from the definitions alone? These functions do nothing: their contracts are laws.
 
-ghost use Rattle.std.specs.Prelude.{◌≡◌, ◌-◌, ◌<◌, ◌≤◌, ℕ, length};
+ghost use Rattle.std.specs.Prelude.{◌≡◌, ◌-◌, ◌<◌, ◌≤◌, ℕ, List, length};
 ghost use Rattle.ttp_model.specs.declared.plan.Plan.{Plan};
 ghost use Rattle.ttp_model.specs.declared.step.Kind.{Kind};
 ghost use Rattle.ttp_model.specs.declared.step.Kind.TheVariants.{Place};
@@ -9,6 +9,8 @@ ghost use Rattle.ttp_model.specs.Rules.{IsInstance};
 ghost use Rattle.ttp_model.specs.Plans.{IsValid};
 ghost use Rattle.tt_choice.specs.Choice.{Choice, IsChoice, IsIn};
 ghost use Rattle.tt_choice.specs.Branches.{IsOpen, children, child};
+ghost use Rattle.tt_choice.specs.declared.decision.Decision.{Decision};
+ghost use Rattle.tt_choice.specs.Decisions.{choice_after, IsOpenDecision, choice_after_all, AreOpenDecisions, decision_of};
 ghost use Rattle.tt_choice.specs.Sizes.{size_left, Halves};
 ghost use Rattle.tt_choice.specs.Extremes.{IsLeastOf, IsMostOf, start_at, end_at, start_least, start_most, end_least, end_most};
 
@@ -29,6 +31,19 @@ pub fn children_share_the_plans()
         → size_left i (child i c kind k) < size_left i c }
     ensures no_larger { (i : Instance) (c : Choice) (kind : Kind) (k : ℕ)
         → IsChoice i c → IsOpen i c kind → size_left i (child i c kind k) ≤ size_left i c }
+{}
+
+/// Each child of an open branch is the choice with one open decision more; and a choice with open decisions more is one of
+/// the instance, whose plans were plans before.
+pub fn decisions_lead_to_the_children()
+    ensures child { (i : Instance) (c : Choice) (kind : Kind) (k : ℕ)
+        → child i c kind k ≡ choice_after i c (decision_of i c kind k) }
+    ensures is_open { (i : Instance) (c : Choice) (kind : Kind) (k : ℕ)
+        → IsOpen i c kind → k < children i c kind → IsOpenDecision i c (decision_of i c kind k) }
+    ensures choice { (i : Instance) (c : Choice) (decisions : List Decision)
+        → IsChoice i c → AreOpenDecisions i c decisions → IsChoice i (choice_after_all i c decisions) }
+    ensures plans { (i : Instance) (c : Choice) (decision : Decision) (plan : Plan)
+        → IsChoice i c → IsOpenDecision i c decision → IsIn i (choice_after i c decision) plan → IsIn i c plan }
 {}
 
 /// A place has as many children as there are nodes beside the prefix.

@@ -2,9 +2,14 @@
 #![tactic(auto)]
 
 mod choice;
+mod decision;
 mod laws;
 mod precedence;
 
 pub use choice::Choice;
-pub use laws::{children_share_the_plans, sums_are_the_extremes, unplaced_nodes_are_the_rest};
+pub use decision::Decision;
+pub use laws::{
+    children_share_the_plans, decisions_lead_to_the_children, sums_are_the_extremes,
+    unplaced_nodes_are_the_rest,
+};
 pub use precedence::Precedence;

@@ -1,25 +1,17 @@
 -- A conclusion only sharpens what is known.
-use Rattle.std.proofs.Common.{ℕ, ◌<◌, ◌≤◌, min, max, List, length, slice_index, slice_set, IsTrue, arith, inl, inr, refl, ap}
+use Rattle.std.proofs.Common.{ℕ, ◌<◌, ◌≤◌, min, max, List, length, slice_index, slice_set, arith, inl, inr, refl, ap}
 use Rattle.std.proofs.lemmas.Bool.{cases_eq}
 use Rattle.ttp_model.specs.declared.step.Step.{Step}
 use Rattle.ttp_model.specs.Instance.{Instance}
 use Rattle.ttp_model.specs.Rules.{IsInstance}
 use Rattle.tt_choice.specs.Choice.{Choice}
 use Rattle.tt_choice.proofs.Before.{put_kept}
-use Rattle.tt_infer.specs.Known.{Known, Fits, es_of, le_of, lo_of, top_of, bef_of}
+use Rattle.tt_infer.specs.Known.{Known, Fits}
 use Rattle.tt_infer.specs.Conclusions.{Conclusion, StartsFrom, EndsUntil, SentFrom, SentBefore, GoesFirst, NothingLeft, IsAbout, sharpened, capped}
 use Rattle.tt_infer.specs.Table.{IsLawful}
+pub use Rattle.tt_infer.specs.Sharper.{IsSharper}
 use Rattle.tt_infer.proofs.Keeps.{changed_here, changed_there}
 use Rattle.tt_infer.proofs.Sound.{step_is_about}
-
--- at least as much is known
-pub record IsSharper (f g : Known) : Type 0 where
-  pub es : (p : ℕ) → es_of f p ≤ es_of g p
-  pub le : (p : ℕ) → le_of g p ≤ le_of f p
-  pub lo : (m : ℕ) → lo_of f m ≤ lo_of g m
-  pub top : (m : ℕ) → top_of g m ≤ top_of f m
-  pub bef : (p q : ℕ) → IsTrue (bef_of f p q) → IsTrue (bef_of g p q)
-  pub closed : IsTrue f.closed → IsTrue g.closed
 
 rises : (xs : List ℕ) (k low : ℕ) → k < length xs → (j : ℕ) → slice_index xs j ≤ slice_index (slice_set xs k (max (slice_index xs k) low)) j
 rises xs k low there j = elim (cases_eq j k) [

@@ -4,6 +4,7 @@ pub mod Premises
 pub mod Dominance
 pub mod Table
 pub mod Leaves
+pub mod Sharper
 pub mod Worked
 pub mod Answers
 pub mod Facts

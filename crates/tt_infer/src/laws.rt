@@ -1,18 +1,22 @@
 //! What follows from the table of steps alone? These functions do nothing: their contracts are laws.
 
-ghost use Rattle.std.specs.Prelude.{◌≡◌, ◌≤◌, IsTrue, ◌∷◌, ◌++◌, ℕ, List, Result};
+ghost use Rattle.std.specs.Prelude.{◌≡◌, ◌<◌, ◌≤◌, IsTrue, IsFalse, ◌∷◌, ◌++◌, ◌⊎◌, ℕ, List, Result};
 ghost use Rattle.ttp_model.specs.declared.plan.Plan.{Plan};
 ghost use Rattle.ttp_model.specs.declared.step.Step.{Step};
 ghost use Rattle.ttp_model.specs.declared.step.Leaf.{Leaf};
+ghost use Rattle.ttp_model.specs.declared.step.Kind.{Kind};
 ghost use Rattle.ttp_model.specs.Instance.{Instance};
 ghost use Rattle.ttp_model.specs.Rules.{IsInstance};
 ghost use Rattle.tt_choice.specs.Choice.{Choice, IsChoice};
+ghost use Rattle.tt_choice.specs.Branches.{IsOpen, children, child};
+ghost use Rattle.tt_choice.specs.Inside.{IsInside};
 ghost use Rattle.tt_infer.specs.Known.{Known, Fits, IsSought, AreTrueOf, Hold, es_of, le_of, lo_of, top_of, bef_of, first_facts};
 ghost use Rattle.tt_infer.specs.Conclusions.{Conclusion, IsTrueOf, IsAbout};
 ghost use Rattle.tt_infer.specs.Table.{rule, IsLawful};
 ghost use Rattle.tt_infer.specs.declared.fault.StepFault.{StepFault};
 ghost use Rattle.tt_infer.specs.Answers.{IsStepFault, Takes};
 ghost use Rattle.tt_infer.specs.Leaves.{Lead, ClosesLeaf};
+ghost use Rattle.tt_infer.specs.Sharper.{IsSharper, LeadsAsFar, MissesRound, LeadAsFar, LeadToClose};
 
 /// Each rule of the table is sound: of a sought plan of which the facts are true, what the rule
 /// concludes is true too, and it is about processes and messages that are there.
@@ -93,4 +97,33 @@ pub fn rules_conclude()
     ensures { (i : Instance) (c : Choice) (goal : ℕ) (f : Known) (step : Step)
         → IsInstance i → (rule i c goal f step).premise
         → (k : Conclusion) × (rule i c goal f step).concludes k }
+{}
+
+/// Steps that are lawful at a choice and a goal are lawful at each choice inside it and each goal no
+/// larger, from where at least as much is known, and lead to where at least as much is known: so steps
+/// needn't be looked for again there. The exceptions are `LeSend` and `UsSettled`, where a message has
+/// no round left: then its `XRound` is lawful, and no plan is left. So it is of whole leaves.
+pub fn steps_lead_as_far_inside()
+    ensures first { (i : Instance) (inner outer : Choice)
+        → IsChoice i inner → IsChoice i outer → IsInside i inner outer
+        → IsSharper (first_facts i outer) (first_facts i inner) }
+    ensures children { (i : Instance) (c : Choice) (kind : Kind) (k : ℕ)
+        → IsChoice i c → IsOpen i c kind → k < children i c kind → IsInside i (child i c kind k) c }
+    ensures one { (i : Instance) (inner outer : Choice) (aim goal : ℕ) (f h : Known) (step : Step) (g : Known)
+        → IsInstance i → IsChoice i inner → IsChoice i outer → IsInside i inner outer → aim ≤ goal
+        → Fits i f → Fits i h → IsSharper f h → IsFalse h.closed → IsLawful i outer goal f step g
+        → LeadsAsFar i inner aim h step g ⊎ MissesRound i inner aim h step }
+    ensures several { (i : Instance) (inner outer : Choice) (aim goal : ℕ) (f h : Known) (steps : List Step) (g : Known)
+        → IsInstance i → IsChoice i inner → IsChoice i outer → IsInside i inner outer → aim ≤ goal
+        → Fits i f → Fits i h → IsSharper f h → IsFalse h.closed → Lead i outer goal f steps g
+        → LeadAsFar i inner aim h steps g ⊎ LeadToClose i inner aim h steps }
+    ensures from_first { (i : Instance) (inner outer : Choice) (aim goal : ℕ) (steps : List Step) (g : Known)
+        → IsInstance i → IsChoice i inner → IsChoice i outer → IsInside i inner outer → aim ≤ goal
+        → Lead i outer goal (first_facts i outer) steps g
+        → LeadAsFar i inner aim (first_facts i inner) steps g ⊎ LeadToClose i inner aim (first_facts i inner) steps }
+    ensures leaves { (i : Instance) (inner outer : Choice) (aim : ℕ) (leaf : Leaf)
+        → IsInstance i → IsChoice i inner → IsChoice i outer → IsInside i inner outer → aim ≤ leaf.goal
+        → ClosesLeaf i outer leaf
+        → ClosesLeaf i inner (record { goal = aim; steps = leaf.steps })
+        ⊎ LeadToClose i inner aim (first_facts i inner) leaf.steps }
 {}

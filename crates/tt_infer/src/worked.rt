@@ -1,10 +1,11 @@
 //! Steps on worked examples. These functions do nothing: their contracts are what the steps come to.
 
 ghost use Rattle.std.specs.Prelude.{◌≡◌, ◌∷◌, [], ℕ};
-ghost use Rattle.ttp_model.specs.declared.step.Step.TheVariants.{EsRelease, LoSend, EsArrive, LeOwn, OrdTwin, UsSettled, XWindow, XLoad, XLate, XSilent};
+ghost use Rattle.ttp_model.specs.declared.step.Step.TheVariants.{EsRelease, LoSend, EsArrive, LeOwn, LeSend, HiArrive, OrdTwin, UsSettled, XWindow, XRound, XLoad, XLate, XSilent};
 ghost use Rattle.ttp_model.specs.Delays.{IsLowerBound};
 ghost use Rattle.ttp_model.specs.Worked.{one_message, three_alike};
 ghost use Rattle.tt_choice.specs.Branches.{root_choice, at_least, place_next};
+ghost use Rattle.tt_choice.specs.Inside.{IsInside};
 ghost use Rattle.tt_infer.specs.declared.fault.StepFault.TheVariants.{NoPremise};
 ghost use Rattle.tt_infer.specs.Known.{Known, first_facts};
 ghost use Rattle.tt_infer.specs.Leaves.{Lead, ClosesLeaf};
@@ -23,6 +24,26 @@ pub fn one_message_closes_at_9()
       steps = EsRelease 0 ∷ LoSend 0 ∷ EsArrive 0 1 ∷ LeOwn 1 ∷ XWindow 1 ∷ [];
     }) }
     ensures bound { IsLowerBound one_message 9 }
+{}
+
+/// The choice in which B is placed first is inside the root, so the five steps that close the root at
+/// 9 close it too, at 8. Three other steps lead on at the root at 9; inside at 3 the third asks for a
+/// round, and the message has none left: it is refused, and the closer on its rounds closes the choice.
+pub fn one_message_closes_inside()
+    ensures inside { IsInside one_message (place_next (root_choice one_message) 1) (root_choice one_message) }
+    ensures at_8 { ClosesLeaf one_message (place_next (root_choice one_message) 1) (record {
+      goal = 8;
+      steps = EsRelease 0 ∷ LoSend 0 ∷ EsArrive 0 1 ∷ LeOwn 1 ∷ XWindow 1 ∷ [];
+    }) }
+    ensures leads { (g : Known) × Lead one_message (root_choice one_message) 9 (first_facts one_message (root_choice one_message))
+        (LeOwn 1 ∷ HiArrive 0 1 ∷ LeSend 0 ∷ []) g }
+    ensures refused { (g : Known) × Lead one_message (place_next (root_choice one_message) 1) 3 (first_facts one_message (place_next (root_choice one_message) 1))
+        (LeOwn 1 ∷ HiArrive 0 1 ∷ []) g
+        × IsStepFault one_message (place_next (root_choice one_message) 1) 3 g (LeSend 0) NoPremise }
+    ensures at_3 { ClosesLeaf one_message (place_next (root_choice one_message) 1) (record {
+      goal = 3;
+      steps = LeOwn 1 ∷ HiArrive 0 1 ∷ XRound 0 ∷ [];
+    }) }
 {}
 
 /// A settled plan sends the message in round 0 or 1: two steps close the choice in which it is sent in

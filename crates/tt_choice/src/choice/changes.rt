@@ -5,9 +5,11 @@ ghost use Rattle.ttp_model.specs.Instance.{Instance, node_at};
 ghost use Rattle.ttp_model.specs.Plans.{EndsBefore, round_of};
 ghost use Rattle.ttp_model.specs.declared.plan.Plan.{Plan};
 ghost use Rattle.tt_choice.specs.Choice.{IsChoice, IsIn, least_round, greatest_round};
+ghost use Rattle.tt_choice.specs.Decisions.{choice_after, IsOpenDecision};
 ghost use Rattle.tt_choice.specs.Branches.{IsUnplaced, IsOpen, place_next, fix_option, order_pair, at_most, at_least};
 
 use crate::choice::Choice;
+use crate::decision::Decision;
 use std::alloc::Global;
 use ttp_model::{Instance, Kind, MemoryFault};
 
@@ -21,6 +23,35 @@ fn option_at(instance: &Instance, n: u32, k: u32) -> u32
 }
 
 impl Choice {
+    /// Makes an open decision. Unchanged after a refusal.
+    pub fn change(
+        &mut self,
+        alloc: Global,
+        instance: &Instance,
+        decision: Decision,
+    ) -> Result<(), MemoryFault>
+        requires of { IsChoice instance.now self.old }
+        requires open { IsOpenDecision instance.now self.old decision }
+        ensures ok { OnOk result (self.new ≡ choice_after instance.now self.old decision) }
+        ensures choice { OnOk result (IsChoice instance.now self.new) }
+        ensures err { OnErr result (self.new ≡ self.old) }
+    {
+        let _messages = instance.messages();
+        match decision {
+            Decision::Place(n) => self.place(alloc, instance, n),
+            Decision::Cap(n, k) => self.fix_cap(alloc, instance, n, k),
+            Decision::Before(p, q) => self.before(alloc, instance, p, q),
+            Decision::AtMost(m, r) => {
+                self.rounds_at_most(m, r);
+                Ok(())
+            }
+            Decision::AtLeast(m, r) => {
+                self.rounds_at_least(m, r);
+                Ok(())
+            }
+        }
+    }
+
     /// Puts node `n` next in the slot order. Unchanged after a refusal.
     pub fn place(&mut self, _alloc: Global, instance: &Instance, n: u32) -> Result<(), MemoryFault>
         requires of { IsChoice instance.now self.old }

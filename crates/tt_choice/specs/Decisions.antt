@@ -1,0 +1,60 @@
+-- Decisions: what each makes of a choice, and when one is open. Own profile.
+use Rattle.std.specs.Prelude.{ℕ, zero, suc, ◌+◌, ◌<◌, ◌≤◌, List, [], ◌∷◌, length, slice_index, map}
+use Rattle.std.specs.List.{range_with_len}
+use Rattle.ttp_model.specs.declared.step.Kind.{Kind}
+use Rattle.ttp_model.specs.declared.step.Kind.TheVariants.{Place, Cap, Pair, Round}
+use Rattle.ttp_model.specs.Instance.{Instance, node_at}
+use Rattle.tt_choice.specs.declared.decision.Decision.{Decision}
+use Rattle.tt_choice.specs.declared.decision.Decision.TheVariants as decided
+use Rattle.tt_choice.specs.Choice.{Choice, least_round, greatest_round}
+use Rattle.tt_choice.specs.Branches.{place_next, fix_option, order_pair, at_most, at_least, unplaced, IsUnplaced, IsUnorderedPair, CutsRange, IsOpen, children}
+
+-- the choice with one decision more
+abbrev pub choice_after : Instance → Choice → Decision → Choice
+choice_after i c (decided.Place n) = place_next c n
+choice_after i c (decided.Cap n k) = fix_option i c n k
+choice_after i c (decided.Before p q) = order_pair c p q
+choice_after i c (decided.AtMost m r) = at_most c m r
+choice_after i c (decided.AtLeast m r) = at_least c m r
+
+-- an option of a node whose capacity is free
+pub record IsFreeOption (i : Instance) (c : Choice) (n k : ℕ) : Type 0 where
+  pub free : IsOpen i c (Cap n)
+  pub option : k < length (node_at i n).capacities
+
+-- a round that takes the first rounds from a message's range, and leaves some
+pub record CutsFirst (i : Instance) (c : Choice) (m r : ℕ) : Type 0 where
+  pub message : m < length i.messages
+  pub above : least_round c m < r
+  pub to : r ≤ greatest_round c m
+
+-- what is decided is there and isn't decided yet
+abbrev pub IsOpenDecision : Instance → Choice → Decision → Type 0
+IsOpenDecision i c (decided.Place n) = IsUnplaced i c n
+IsOpenDecision i c (decided.Cap n k) = IsFreeOption i c n k
+IsOpenDecision i c (decided.Before p q) = IsUnorderedPair i c p q
+IsOpenDecision i c (decided.AtMost m r) = CutsRange i c m r
+IsOpenDecision i c (decided.AtLeast m r) = CutsFirst i c m r
+
+-- the choice with all of these decisions more, one after another
+abbrev pub choice_after_all : Instance → Choice → List Decision → Choice
+choice_after_all i c [] = c
+choice_after_all i c (d ∷ ds) = choice_after_all i (choice_after i c d) ds
+
+-- each is open when its turn comes
+abbrev pub AreOpenDecisions : Instance → Choice → List Decision → Type 0
+AreOpenDecisions i c [] = Unit {0}
+AreOpenDecisions i c (d ∷ ds) = IsOpenDecision i c d × AreOpenDecisions i (choice_after i c d) ds
+
+-- the decision that leads to a branch's child of a number
+abbrev pub decision_of : Instance → Choice → Kind → ℕ → Decision
+decision_of i c Place k = decided.Place (slice_index (unplaced i c) k)
+decision_of i c (Cap n) k = decided.Cap n k
+decision_of i c (Pair p q) zero = decided.Before p q
+decision_of i c (Pair p q) (suc k) = decided.Before q p
+decision_of i c (Round m r) zero = decided.AtMost m r
+decision_of i c (Round m r) (suc k) = decided.AtLeast m (r + 1)
+
+-- the decisions of a branch, one for each child, in order
+abbrev pub decisions_of : Instance → Choice → Kind → List Decision
+decisions_of i c kind = map (decision_of i c kind) (range_with_len 0 (children i c kind))

@@ -1,0 +1,14 @@
+pub mod Nested
+pub mod Sharpened
+pub mod Slots
+pub mod Starts
+pub mod Ends
+pub mod Rounds
+pub mod Orders
+pub mod Waits
+pub mod Closers
+pub mod Loads
+pub mod Dominance
+pub mod Steps
+pub mod FirstFacts
+pub mod Inside
