@@ -3,13 +3,13 @@
 ghost use Rattle.std.specs.Prelude.{◌≡◌, ◌<◌, length, All, IfOk};
 ghost use Rattle.tt_choice.specs.Choice.{IsChoice};
 
-use crate::decisions::Decision::{AtLeast, AtMost, Before, Cap, Place};
-use crate::decisions::{Decision, chosen};
+use crate::decisions::chosen;
 use crate::instances::Small;
 use std::alloc::Global;
 use std::process::Abort;
 use std::test::Fail;
-use tt_choice::Choice;
+use tt_choice::Decision::{AtLeast, AtMost, Before, Cap, Place};
+use tt_choice::{Choice, Decision};
 use ttp_model::{Instance, Kind};
 use worked_instances::PLAIN;
 

@@ -1,12 +1,13 @@
 //! Complete choices of small instances: their earliest plans and their clashes.
 
-use crate::decisions::Decision::{AtLeast, AtMost, Before, Cap, Place};
-use crate::decisions::{Decision, chosen};
+use crate::decisions::chosen;
 use crate::instances::Small;
 use earliest_starts::{Clash, Earliest, earliest};
 use std::alloc::Global;
 use std::process::Abort;
 use std::test::Fail;
+use tt_choice::Decision;
+use tt_choice::Decision::{AtLeast, AtMost, Before, Cap, Place};
 use ttp_model::Numbers;
 use worked_instances::PLAIN;
 

@@ -1,27 +1,61 @@
 //! Which choice do these decisions lead to, one after another?
 
-ghost use Rattle.std.specs.Prelude.{◌≡◌, IfOk, OnOk};
+ghost use Rattle.std.specs.Prelude.{IfOk, IsTrue};
 ghost use Rattle.tt_choice.specs.Choice.{IsChoice};
+ghost use Rattle.tt_choice.specs.Decisions.{IsOpenDecision};
 
 use std::alloc::Global;
 use std::process::Abort;
 use std::test::Fail;
-use tt_choice::Choice;
+use tt_choice::{Choice, Decision};
 use ttp_model::{Instance, Kind};
 
-/// One decision more.
-#[derive(Clone, Copy)]
-pub enum Decision {
-    /// This node comes next in the order.
-    Place(u32),
-    /// This node has the capacity at this place of its options.
-    Cap(u32, u32),
-    /// The first process goes before the second.
-    Before(u32, u32),
-    /// This message is sent in this round or a later one.
-    AtLeast(u32, u32),
-    /// This message is sent in this round or an earlier one.
-    AtMost(u32, u32),
+/// Whether a decision is open.
+pub fn is_open(i: &Instance, choice: &Choice, decision: Decision) -> bool
+    requires { IsChoice i.now choice.now }
+    ensures { IsTrue result → IsOpenDecision i.now choice.now decision }
+{
+    let _nodes = i.nodes();
+    match decision {
+        Decision::Place(n) => is_unplaced(i, choice, n),
+        Decision::Cap(n, k) => is_free_option(i, choice, n, k),
+        Decision::Before(p, q) => choice.is_open(i, &Kind::Pair(p, q)),
+        Decision::AtMost(m, r) => choice.is_open(i, &Kind::Round(m, r)),
+        Decision::AtLeast(m, r) => cuts_first(i, choice, m, r),
+    }
+}
+
+/// Whether node `n` is there and isn't placed.
+fn is_unplaced(i: &Instance, choice: &Choice, n: u32) -> bool
+    requires { IsChoice i.now choice.now }
+    ensures { IsTrue result → IsOpenDecision i.now choice.now (Decision.Place n) }
+{
+    if (n as usize) >= i.nodes().len() {
+        return false;
+    }
+    !choice.prefix().contains(&n)
+}
+
+/// Whether the capacity of node `n` is free and has an option `k`.
+fn is_free_option(i: &Instance, choice: &Choice, n: u32, k: u32) -> bool
+    requires { IsChoice i.now choice.now }
+    ensures { IsTrue result → IsOpenDecision i.now choice.now (Decision.Cap n k) }
+{
+    if !choice.is_open(i, &Kind::Cap(n)) {
+        return false;
+    }
+    (k as usize) < i.nodes()[n as usize].capacities.as_slice().len()
+}
+
+/// Whether round `r` takes the first rounds from the range of message `m`, and leaves some.
+fn cuts_first(i: &Instance, choice: &Choice, m: u32, r: u32) -> bool
+    requires { IsChoice i.now choice.now }
+    ensures { IsTrue result → IsOpenDecision i.now choice.now (Decision.AtLeast m r) }
+{
+    if (m as usize) >= i.messages().len() {
+        return false;
+    }
+    choice.lo(m) < r && r <= choice.hi(m)
 }
 
 /// The choice in which just these decisions are made.
@@ -35,105 +69,8 @@ pub fn chosen(
 {
     let mut choice = Choice::root(alloc, i)?;
     for decision in decisions {
-        decide(rt, alloc, i, &mut choice, *decision)?;
+        assert!(rt; is_open(i, &choice, *decision));
+        choice.change(alloc, i, *decision)?;
     }
     Ok(choice)
-}
-
-/// Makes a decision that is open.
-fn decide(
-    rt: &impl Abort,
-    alloc: Global,
-    i: &Instance,
-    choice: &mut Choice,
-    decision: Decision,
-) -> Result<(), Fail>
-    requires { IsChoice i.now choice.old }
-    ensures { OnOk result (IsChoice i.now choice.new) }
-{
-    match decision {
-        Decision::Place(n) => place(rt, alloc, i, choice, n),
-        Decision::Cap(n, k) => fix_cap(rt, alloc, i, choice, n, k),
-        Decision::Before(p, q) => order(rt, alloc, i, choice, p, q),
-        Decision::AtLeast(m, r) => {
-            send_from(rt, i, choice, m, r);
-            Ok(())
-        }
-        Decision::AtMost(m, r) => {
-            send_by(rt, i, choice, m, r);
-            Ok(())
-        }
-    }
-}
-
-/// Puts node `n` next in the order.
-fn place(
-    rt: &impl Abort,
-    alloc: Global,
-    i: &Instance,
-    choice: &mut Choice,
-    n: u32,
-) -> Result<(), Fail>
-    requires { IsChoice i.now choice.old }
-    ensures { OnOk result (IsChoice i.now choice.new) }
-{
-    assert!(rt; (n as usize) < i.nodes().len());
-    assert!(rt; !choice.prefix().contains(&n));
-    choice.place(alloc, i, n)?;
-    Ok(())
-}
-
-/// Fixes the capacity of node `n` to its option `k`.
-fn fix_cap(
-    rt: &impl Abort,
-    alloc: Global,
-    i: &Instance,
-    choice: &mut Choice,
-    n: u32,
-    k: u32,
-) -> Result<(), Fail>
-    requires { IsChoice i.now choice.old }
-    ensures { OnOk result (IsChoice i.now choice.new) }
-{
-    assert!(rt; choice.is_open(i, &Kind::Cap(n)));
-    assert!(rt; (k as usize) < i.nodes()[n as usize].capacities.len());
-    choice.fix_cap(alloc, i, n, k)?;
-    Ok(())
-}
-
-/// Lets process `p` go before `q`.
-fn order(
-    rt: &impl Abort,
-    alloc: Global,
-    i: &Instance,
-    choice: &mut Choice,
-    p: u32,
-    q: u32,
-) -> Result<(), Fail>
-    requires { IsChoice i.now choice.old }
-    ensures { OnOk result (IsChoice i.now choice.new) }
-{
-    assert!(rt; choice.is_open(i, &Kind::Pair(p, q)));
-    choice.before(alloc, i, p, q)?;
-    Ok(())
-}
-
-/// Lets message `m` be sent in round `r` at least.
-fn send_from(rt: &impl Abort, i: &Instance, choice: &mut Choice, m: u32, r: u32)
-    requires { IsChoice i.now choice.old }
-    ensures { IsChoice i.now choice.new }
-{
-    assert!(rt; (m as usize) < i.messages().len());
-    assert!(rt; choice.lo(m) < r && r <= choice.hi(m));
-    choice.rounds_at_least(m, r);
-}
-
-/// Lets message `m` be sent in round `r` at most.
-fn send_by(rt: &impl Abort, i: &Instance, choice: &mut Choice, m: u32, r: u32)
-    requires { IsChoice i.now choice.old }
-    ensures { IsChoice i.now choice.new }
-{
-    assert!(rt; (m as usize) < i.messages().len());
-    assert!(rt; choice.lo(m) <= r && r < choice.hi(m));
-    choice.rounds_at_most(m, r);
 }

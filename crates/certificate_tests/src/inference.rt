@@ -5,12 +5,13 @@ mod closers;
 mod dominance;
 mod refusals;
 
-use crate::decisions::{Decision, chosen};
+use crate::decisions::chosen;
 use crate::instances::Small;
 use certificate::{Node, read};
 use std::alloc::Global;
 use std::process::Abort;
 use std::test::Fail;
+use tt_choice::Decision;
 use tt_infer::{Facts, StepFault};
 
 /// A step in the words of a certificate, how it is answered, and what is known after it.

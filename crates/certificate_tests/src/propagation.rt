@@ -1,17 +1,18 @@
 //! Bounds of small instances, counted by hand.
 
 mod fixed_points;
+mod trail;
 
 ghost use Rattle.tt_choice.specs.Choice.{IsChoice};
 
-use crate::decisions::Decision::{AtLeast, AtMost, Before};
-use crate::decisions::{Decision, chosen};
+use crate::decisions::chosen;
 use crate::instances::Small;
 use path_bounds::{Reached, best_goal, path_bound, propagate};
 use std::alloc::Global;
 use std::process::Abort;
 use std::test::Fail;
-use tt_choice::Choice;
+use tt_choice::Decision::{AtLeast, AtMost, Before};
+use tt_choice::{Choice, Decision};
 use tt_infer::Facts;
 use ttp_model::{Cluster, Instance, Leaf, MOST_TICKS, Step};
 use worked_instances::PLAIN;

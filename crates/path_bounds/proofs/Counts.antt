@@ -119,3 +119,8 @@ module _ (i : Instance) (c : Choice) (w : IsInstance i) (ok : IsChoice i c) wher
       let all = appended_of goal [] new start end s (Ok Closed) begins advances same steps closed in
       let lead = subst (λ (xs : List Step). Lead i c goal (first_facts i c) xs all.known) (sym all.appended) all.lead in
       ((all.known, lead, all.reached), omega (arith, all.few, ap length all.appended))
+
+  -- a log from the first facts on, where no plan is left
+  pub closes_log : (goal : ℕ) (steps : List Step) (g : Known) → LeadSharply i c goal (first_facts i c) steps g → IsTrue g.closed → ClosesLeaf i c (record { goal = goal; steps = steps }) × (length steps < 2 ^ 32)
+  closes_log goal steps g lead closed =
+      ((g, Lead-sharply i c goal (first_facts i c) steps g lead, closed), omega (arith, steps_lower i c goal (first_facts i c) steps g w (first_facts_fit i c ok) lead, first_slack))

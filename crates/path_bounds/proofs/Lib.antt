@@ -5,3 +5,4 @@ pub mod Lists
 pub mod Counts
 pub mod Walks
 pub mod Complete
+pub mod KeptLogs

@@ -1,6 +1,7 @@
 pub mod Targets
 pub mod Journal
 pub mod Propagation
+pub mod Propagator
 pub mod Required
 pub mod Walks
 pub use Rattle.ttp_model.specs.Instance

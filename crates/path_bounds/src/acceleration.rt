@@ -5,21 +5,42 @@ ghost use Rattle.path_bounds.specs.Journal.{Advances};
 use crate::agenda::Agenda;
 use crate::fact::target;
 use crate::journal::Journal;
-use crate::opening::opening_steps;
+use crate::opening::{opening_steps, slot_steps};
 use std::alloc::Global;
+use tt_choice::Decision;
+use tt_infer::Facts;
 use ttp_model::{MemoryFault, Step};
 
 /// More turns than there can be steps.
 const MOST_TURNS: u32 = 2_000_000_000;
 
-/// Tries the steps that may sharpen what is known, cheap ones first and each again only once a fact
+/// Tries the steps that may sharpen what is known at first, cheap ones first and each again only once a fact
 /// that it reads has been sharpened, until none is left or no plan is.
-pub fn accelerate(alloc: Global, journal: &mut Journal) -> Result<(), MemoryFault>
+pub fn accelerate(
+    alloc: Global,
+    agenda: &mut Agenda,
+    journal: &mut Journal,
+) -> Result<(), MemoryFault>
     ensures { Advances journal.old journal.new }
 {
-    let mut agenda = Agenda::new(alloc, journal.facts())?;
+    agenda.begin(journal.facts().instance())?;
     let mut steps = opening_steps(alloc, journal.facts())?;
-    follow(alloc, journal, &mut agenda, &mut steps)
+    follow(alloc, journal, agenda, &mut steps)
+}
+
+/// The same after a decision, where all was tried that could sharpen what was known before it.
+pub fn go_on(
+    alloc: Global,
+    agenda: &mut Agenda,
+    before: &Facts,
+    decision: Decision,
+    journal: &mut Journal,
+) -> Result<(), MemoryFault>
+    ensures { Advances journal.old journal.new }
+{
+    agenda.resume(before, journal.facts(), decision)?;
+    let mut steps = slot_steps(alloc, journal.facts(), decision)?;
+    follow(alloc, journal, agenda, &mut steps)
 }
 
 /// Tries these steps and those that come of them.

@@ -10,6 +10,7 @@ use crate::rings::ring_step;
 use load_bounds::{frame_load, node_load};
 use std::alloc::Global;
 use std::collections::VecDeque;
+use tt_choice::Decision;
 use tt_infer::Facts;
 use ttp_model::{Instance, MOST_NODES, MOST_PROCESSES, MemoryFault, Step};
 
@@ -36,28 +37,103 @@ pub struct Agenda {
 }
 
 impl Agenda {
-    /// All that is known at first, as if it had just been sharpened, but for the orders: what they say
-    /// is tried with the starts and ends of their processes.
-    pub fn new(alloc: Global, facts: &Facts) -> Result<Self, MemoryFault> {
-        let instance = facts.instance();
-        let mut agenda = Agenda {
+    /// Nothing that waits.
+    pub fn of(alloc: Global, instance: &Instance) -> Result<Self, MemoryFault> {
+        Ok(Agenda {
             network: Network::of(alloc, instance)?,
             changed: VecDeque::new(alloc),
             waiting: FactSet::none(alloc, instance)?,
-            unsettled: [true; MOST_PROCESSES],
-            runs: [true; MOST_NODES],
-            sendings: [true; MOST_NODES],
+            unsettled: [false; MOST_PROCESSES],
+            runs: [false; MOST_NODES],
+            sendings: [false; MOST_NODES],
             until_ring: 0,
-        };
-        agenda.add_all(instance)?;
-        Ok(agenda)
+        })
     }
 
-    /// Adds all facts but the orders.
-    fn add_all(&mut self, instance: &Instance) -> Result<(), MemoryFault> {
+    /// Begins anew with all that is known at first, as if it had just been sharpened, but for the orders: what they say
+    /// is tried with the starts and ends of their processes.
+    pub fn begin(&mut self, instance: &Instance) -> Result<(), MemoryFault> {
+        self.clear();
+        self.unsettled = [true; MOST_PROCESSES];
+        self.runs = [true; MOST_NODES];
+        self.sendings = [true; MOST_NODES];
         self.add_starts(instance)?;
         self.add_ends(instance)?;
         self.add_rounds(instance)
+    }
+
+    /// Begins anew with what is known better than before, as if it had just been sharpened, and with a decision.
+    pub fn resume(
+        &mut self,
+        before: &Facts,
+        facts: &Facts,
+        decision: Decision,
+    ) -> Result<(), MemoryFault> {
+        self.clear();
+        self.note_processes(before, facts)?;
+        self.note_messages(before, facts)?;
+        match decision {
+            Decision::Before(p, q) => self.note(facts, Fact::Order(p, q)),
+            Decision::Place(_) | Decision::Cap(_, _) => {
+                self.raise_messages(facts.instance());
+                Ok(())
+            }
+            Decision::AtMost(_, _) | Decision::AtLeast(_, _) => Ok(()),
+        }
+    }
+
+    /// Forgets all that waits.
+    fn clear(&mut self) {
+        for _ in 0..self.changed.len() {
+            if let Some(fact) = self.changed.pop_front() {
+                self.waiting.remove(fact);
+            }
+        }
+        self.unsettled = [false; MOST_PROCESSES];
+        self.runs = [false; MOST_NODES];
+        self.sendings = [false; MOST_NODES];
+        self.until_ring = 0;
+    }
+
+    /// Takes note of the starts and ends that are known better than before.
+    fn note_processes(&mut self, before: &Facts, facts: &Facts) -> Result<(), MemoryFault> {
+        let count = facts.instance().processes().len() as u32;
+        for p in 0..count {
+            self.note_change(before, facts, Fact::Start(p))?;
+            self.note_change(before, facts, Fact::End(p))?;
+        }
+        Ok(())
+    }
+
+    /// Takes note of the rounds that are known better than before.
+    fn note_messages(&mut self, before: &Facts, facts: &Facts) -> Result<(), MemoryFault> {
+        let count = facts.instance().messages().len() as u32;
+        for m in 0..count {
+            self.note_change(before, facts, Fact::FirstRound(m))?;
+            self.note_change(before, facts, Fact::LateRound(m))?;
+        }
+        Ok(())
+    }
+
+    /// Takes note of a fact, where it is known better than before.
+    fn note_change(
+        &mut self,
+        before: &Facts,
+        facts: &Facts,
+        fact: Fact,
+    ) -> Result<(), MemoryFault> {
+        if value(facts, fact) == value(before, fact) {
+            return Ok(());
+        }
+        self.note(facts, fact)
+    }
+
+    /// What slots say of each message may have changed: its receivers may wait less long, and its frames may be too full.
+    fn raise_messages(&mut self, instance: &Instance) {
+        let count = instance.messages().len() as u32;
+        for m in 0..count {
+            self.note_late_round(instance, m);
+        }
     }
 
     /// Adds the starts of all processes.
@@ -88,9 +164,13 @@ impl Agenda {
         Ok(())
     }
 
-    /// Adds a fact that isn't among them.
+    /// Adds a fact that isn't among them. An order is sharpened once, so it isn't looked for.
     fn add(&mut self, fact: Fact) -> Result<(), MemoryFault> {
-        if !self.waiting.insert(fact) {
+        let waits = match fact {
+            Fact::Order(_, _) => false,
+            _ => self.waiting.insert(fact),
+        };
+        if !waits {
             self.changed.push_back(fact)?;
         }
         Ok(())

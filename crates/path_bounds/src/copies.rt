@@ -36,3 +36,14 @@ pub fn copied(alloc: Global, step: &Step) -> Result<Step, MemoryFault>
     };
     Ok(copy)
 }
+
+/// The same steps in memory of their own.
+pub fn all_copied(alloc: Global, steps: &[Step]) -> Result<Vec<Step>, MemoryFault>
+    ensures { IfOk result (λ copies. copies.items ≡ steps.now) }
+{
+    let mut copies = Vec::new(alloc);
+    for step in steps {
+        copies.push(copied(alloc, step)?)?;
+    }
+    Ok(copies)
+}

@@ -77,6 +77,13 @@ impl<'a> Journal<'a> {
         &self.facts
     }
 
+    /// The steps.
+    pub fn steps(&self) -> &[Step]
+        ensures { result.now ≡ self.now.steps }
+    {
+        self.steps.as_slice()
+    }
+
     /// Tries a step, and appends it where it sharpens what is known. Whether it does. Reserves room
     /// for it first.
     #[tactic(auto, using(crate::proofs::Logs::advances_refl, crate::proofs::Logs::advances_step))]

@@ -1,8 +1,9 @@
 //! Which steps are tried first?
 
 use crate::flags::{is_up, raise};
-use crate::parts::source;
+use crate::parts::{receivers, source};
 use std::alloc::Global;
+use tt_choice::Decision;
 use tt_infer::Facts;
 use ttp_model::{Instance, MOST_NODES, MOST_PROCESSES, MemoryFault, Step};
 
@@ -21,6 +22,49 @@ fn add_opening(facts: &Facts, steps: &mut Vec<Step>) -> Result<(), MemoryFault> 
     add_silent_twins(facts, steps)?;
     add_own(instance, steps)?;
     add_frames(instance, steps)
+}
+
+/// The steps that read what a decision changes beside the facts: where slots stand and how long they are.
+pub fn slot_steps(
+    alloc: Global,
+    facts: &Facts,
+    decision: Decision,
+) -> Result<Vec<Step>, MemoryFault> {
+    let mut steps = Vec::new(alloc);
+    match decision {
+        Decision::Place(_) => {
+            add_transfers(facts.instance(), &mut steps)?;
+            add_silent_twins(facts, &mut steps)?;
+        }
+        Decision::Cap(_, _) => {
+            add_transfers(facts.instance(), &mut steps)?;
+            add_frames(facts.instance(), &mut steps)?;
+        }
+        Decision::Before(_, _) | Decision::AtMost(_, _) | Decision::AtLeast(_, _) => {}
+    }
+    Ok(steps)
+}
+
+/// Adds the steps of each message that read its slot.
+fn add_transfers(instance: &Instance, steps: &mut Vec<Step>) -> Result<(), MemoryFault> {
+    let messages = instance.messages().len() as u32;
+    for m in 0..messages {
+        add_transfers_of(instance, m, steps)?;
+        steps.push(Step::LeSend(m))?;
+        steps.push(Step::LoSend(m))?;
+    }
+    Ok(())
+}
+
+/// Adds those of message `m` to its receivers.
+fn add_transfers_of(instance: &Instance, m: u32, steps: &mut Vec<Step>) -> Result<(), MemoryFault> {
+    for q in receivers(instance, m) {
+        steps.push(Step::LeMessage(m, *q))?;
+        steps.push(Step::HiArrive(m, *q))?;
+        steps.push(Step::EsMessage(m, *q))?;
+        steps.push(Step::EsArrive(m, *q))?;
+    }
+    Ok(())
 }
 
 /// Adds the release and the latest end of each process.

@@ -5,10 +5,12 @@ ghost use Rattle.ttp_model.specs.Chains.{IsPathBound};
 ghost use Rattle.tt_choice.specs.Choice.{IsChoice, IsComplete};
 ghost use Rattle.ttp_model.specs.declared.plan.Plan.{Plan};
 ghost use Rattle.tt_infer.specs.Known.{first_facts};
-ghost use Rattle.path_bounds.specs.Journal.{Advances};
+ghost use Rattle.path_bounds.specs.Journal.{Journal, Advances};
+ghost use Rattle.path_bounds.specs.Propagator.{Begins};
 ghost use Rattle.path_bounds.specs.Propagation.{Propagates, IsClosed, IsPlanBelow, FindsPlan};
 
 use crate::acceleration::accelerate;
+use crate::agenda::Agenda;
 use crate::journal::Journal;
 use crate::reached::Reached;
 use crate::required::required_steps;
@@ -18,13 +20,14 @@ use tt_choice::Choice;
 use tt_infer::Facts;
 use ttp_model::{Instance, MemoryFault, Step};
 
-/// Sharpens what is known at first until the steps that a propagation rests on sharpen no more.
-fn reach(
+/// Sharpens what is known at first until the steps that a propagation rests on sharpen no more. Gives its agenda, to be
+/// used again.
+pub fn reach(
     alloc: Global,
     instance: &Instance,
     choice: &Choice,
     journal: &mut Journal,
-) -> Result<(), MemoryFault>
+) -> Result<Agenda, MemoryFault>
     requires of { IsChoice instance.now choice.now }
     requires begins { journal.old.facts ≡ record {
       instance = instance.now;
@@ -39,8 +42,33 @@ fn reach(
         → IsFalse journal.new.facts.known.closed
         → (plan : Plan) × IsPlanBelow instance.now choice.now journal.old.facts.goal plan) }
 {
-    accelerate(alloc, journal)?;
+    let mut agenda = Agenda::of(alloc, instance)?;
+    accelerate(alloc, &mut agenda, journal)?;
     if journal.facts().closed() {
+        return Ok(agenda);
+    }
+    let steps = required_steps(alloc, instance, choice)?;
+    journal.settle(alloc, steps.as_slice())?;
+    let known = journal.facts();
+    let _same = known.instance();
+    Ok(agenda)
+}
+
+/// Where nothing is left to choose, sharpens what is known until the steps that decide a complete choice sharpen no more.
+pub fn complete(
+    alloc: Global,
+    instance: &Instance,
+    choice: &Choice,
+    journal: &mut Journal,
+) -> Result<(), MemoryFault>
+    requires of { IsChoice instance.now choice.now }
+    ensures advances { Advances journal.old journal.new }
+    ensures found { OnOk result ((goal : ℕ) (start : Journal) → Begins instance.now choice.now goal start
+        → Advances start journal.old → IsComplete instance.now choice.now
+        → IsFalse journal.new.facts.known.closed
+        → (plan : Plan) × IsPlanBelow instance.now choice.now goal plan) }
+{
+    if journal.facts().closed() || !choice.is_complete(instance) {
         return Ok(());
     }
     let steps = required_steps(alloc, instance, choice)?;

@@ -5,7 +5,7 @@ ghost use Rattle.tt_choice.specs.Choice.{IsChoice};
 ghost use Rattle.tt_infer.specs.Leaves.{ClosesLeaf};
 ghost use Rattle.path_bounds.specs.Journal.{Advances};
 
-use crate::copies::copied;
+use crate::copies::{all_copied, copied};
 use crate::fact::{Fact, target};
 use crate::fact_set::FactSet;
 use crate::journal::Journal;
@@ -42,6 +42,28 @@ pub fn closed_leaf(
     match trimmed {
         Some(short) => Ok(leaf_of(goal, short)),
         None => Ok(leaf_of(goal, steps)),
+    }
+}
+
+/// A leaf of the steps that lead to what is known, where no plan is left, without those that its closer doesn't need.
+pub fn trimmed_leaf(alloc: Global, facts: &Facts, steps: &[Step]) -> Result<Leaf, MemoryFault>
+    requires closes { ClosesLeaf facts.now.instance facts.now.choice (record { goal = facts.now.goal; steps = steps.now }) }
+    requires few { length steps.now < 2 ^ 32 }
+    ensures closes { IfOk result (ClosesLeaf facts.now.instance facts.now.choice) }
+    ensures goal { IfOk result (λ leaf. leaf.goal ≡ facts.now.goal) }
+{
+    let needed = marked(alloc, facts, steps)?;
+    let trimmed = replayed(
+        alloc,
+        facts.instance(),
+        facts.choice(),
+        facts.goal(),
+        steps,
+        needed.as_slice(),
+    )?;
+    match trimmed {
+        Some(short) => Ok(leaf_of(facts.goal(), short)),
+        None => Ok(leaf_of(facts.goal(), all_copied(alloc, steps)?)),
     }
 }
 

@@ -1,10 +1,10 @@
 //! Steps one after another, and what is known after each.
 
 use super::{line, replay};
-use crate::decisions::Decision::Before;
 use crate::decisions::chosen;
 use crate::instances::Small;
 use std::test::Fail;
+use tt_choice::Decision::Before;
 use tt_infer::Facts;
 use ttp_model::Cluster;
 use worked_instances::PLAIN;

@@ -1,9 +1,9 @@
 //! Steps after which no plan is left, and how close they come to not being taken.
 
 use super::replay;
-use crate::decisions::Decision::{AtMost, Before};
 use crate::instances::Small;
 use std::test::Fail;
+use tt_choice::Decision::{AtMost, Before};
 use tt_infer::StepFault::NoPremise;
 use worked_instances::PLAIN;
 

@@ -1,9 +1,9 @@
 //! Steps on settled plans alone: what is known after each, and each cause for which one is refused.
 
 use super::replay;
-use crate::decisions::Decision::{AtLeast, AtMost, Place};
 use crate::instances::Small;
 use std::test::Fail;
+use tt_choice::Decision::{AtLeast, AtMost, Place};
 use tt_infer::StepFault::{NoPremise, NoSuchIndex};
 use ttp_model::Cluster;
 use worked_instances::PLAIN;

@@ -2,12 +2,13 @@
 
 use super::Load::{Messages, Processes};
 use super::{Row, expect};
-use crate::decisions::Decision::{AtMost, Cap, Place};
-use crate::decisions::{Decision, chosen};
+use crate::decisions::chosen;
 use crate::instances::sending;
 use std::alloc::Global;
 use std::process::Abort;
 use std::test::Fail;
+use tt_choice::Decision;
+use tt_choice::Decision::{AtMost, Cap, Place};
 use tt_infer::Facts;
 
 /// Node A's options, and the sizes of its messages.

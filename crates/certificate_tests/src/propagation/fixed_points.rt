@@ -2,15 +2,15 @@
 
 ghost use Rattle.tt_choice.specs.Choice.{IsChoice};
 
-use crate::decisions::Decision::{AtLeast, AtMost, Before};
-use crate::decisions::{Decision, chosen};
+use crate::decisions::chosen;
 use crate::instances::Small;
 use load_bounds::{frame_load, node_load};
 use path_bounds::{Reached, propagate};
 use std::alloc::Global;
 use std::process::Abort;
 use std::test::Fail;
-use tt_choice::Choice;
+use tt_choice::Decision::{AtLeast, AtMost, Before};
+use tt_choice::{Choice, Decision};
 use tt_infer::Facts;
 use ttp_model::{Instance, Ring, Step};
 use worked_instances::PLAIN;
@@ -70,7 +70,7 @@ fn add_messages(i: &Instance, steps: &mut Vec<Step>) -> Result<(), Fail> {
 }
 
 /// All that is known, as numbers.
-fn known(alloc: Global, facts: &Facts) -> Result<Vec<u32>, Fail> {
+pub fn known(alloc: Global, facts: &Facts) -> Result<Vec<u32>, Fail> {
     let i = facts.instance();
     let mut numbers = vec![in alloc; u32::from(facts.closed())]?;
     let processes = i.processes().len() as u32;
@@ -98,7 +98,7 @@ fn all_steps(alloc: Global, i: &Instance) -> Result<Vec<Step>, Fail> {
 }
 
 /// No step sharpens what is known.
-fn expect_idle(rt: &impl Abort, alloc: Global, facts: &mut Facts) -> Result<(), Fail> {
+pub fn expect_idle(rt: &impl Abort, alloc: Global, facts: &mut Facts) -> Result<(), Fail> {
     let before = known(alloc, facts)?;
     for step in all_steps(alloc, facts.instance())? {
         let _ = facts.apply(&step);

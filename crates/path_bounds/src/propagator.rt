@@ -1,0 +1,198 @@
+//! How does propagation go on after a decision?
+
+ghost use Rattle.std.specs.Prelude.{◌≡◌, ◌<◌, ◌≤◌, ℕ, [], IfOk, OnOk, OnErr, IsTrue, IsFalse, length};
+ghost use Rattle.ttp_model.specs.Chains.{IsPathBound};
+ghost use Rattle.tt_choice.specs.Choice.{IsChoice};
+ghost use Rattle.tt_choice.specs.Decisions.{choice_after, IsOpenDecision};
+ghost use Rattle.tt_infer.specs.Leaves.{ClosesLeaf};
+ghost use Rattle.path_bounds.specs.Propagator.{IsPropagation, IsStarted, Decides, Undoes, IsLog};
+
+use crate::acceleration::go_on;
+use crate::agenda::Agenda;
+use crate::journal::Journal;
+use crate::propagation::{complete, reach};
+use crate::trim::trimmed_leaf;
+use std::alloc::Global;
+use std::marker::Model;
+use std::mem;
+use tt_choice::{Choice, Decision};
+use tt_infer::Facts;
+use ttp_model::{Instance, Leaf, MemoryFault, Step};
+
+/// What is known of the plans below a goal, after decisions that can be taken back one by one: what was known before each
+/// is kept.
+#[derive(Drop)]
+pub struct Propagator<'a> {
+    instance: &'a Instance,
+    /// In ticks.
+    goal: u32,
+    decisions: Vec<Decision>,
+    /// What was known before each decision.
+    earlier: Vec<Journal<'a>>,
+    current: Journal<'a>,
+    agenda: Agenda,
+}
+
+impl<'a> Model for Propagator<'a> {
+    ghost use Rattle.path_bounds.specs.Propagator.{Propagator, IsPropagation};
+
+    ghost Value = { Propagator };
+
+    ghost view = { λ s. record {
+      instance = s.instance.now;
+      goal = s.goal;
+      decisions = s.decisions.items;
+      earlier = s.earlier.items;
+      current = s.current;
+    } };
+
+    ghost invariant = { λ s. IsPropagation (record {
+      instance = s.instance.now;
+      goal = s.goal;
+      decisions = s.decisions.items;
+      earlier = s.earlier.items;
+      current = s.current;
+    }) };
+}
+
+/// The choice with one decision more.
+fn decided(
+    alloc: Global,
+    instance: &Instance,
+    choice: &Choice,
+    decision: Decision,
+) -> Result<Choice, MemoryFault>
+    requires of { IsChoice instance.now choice.now }
+    requires is_open { IsOpenDecision instance.now choice.now decision }
+    ensures value { IfOk result (λ c. c ≡ choice_after instance.now choice.now decision) }
+    ensures choice { IfOk result (IsChoice instance.now) }
+{
+    let mut next = choice.copy(alloc)?;
+    next.change(alloc, instance, decision)?;
+    Ok(next)
+}
+
+/// What is known after a decision: first what the steps so far say of the choice that it makes, then what comes of that.
+fn next_level<'a>(
+    alloc: Global,
+    agenda: &mut Agenda,
+    level: &Journal<'a>,
+    decision: Decision,
+) -> Result<Journal<'a>, MemoryFault>
+    requires is_open { IsOpenDecision level.now.facts.instance level.now.facts.choice decision }
+    requires above { (bound : ℕ) → IsPathBound level.now.facts.instance bound → bound < level.now.facts.goal }
+    ensures { IfOk result (IsLog level.now.facts.instance
+        (choice_after level.now.facts.instance level.now.facts.choice decision) level.now.facts.goal) }
+{
+    let facts = level.facts();
+    let instance = facts.instance();
+    let choice = decided(alloc, instance, facts.choice(), decision)?;
+    let first = Facts::new(alloc, instance, &choice, facts.goal())?;
+    let room = Vec::with_capacity(alloc, level.steps().len())?;
+    let mut next = Journal::new(first, room);
+    next.sweep(alloc, level.steps())?;
+    go_on(alloc, agenda, facts, decision, &mut next)?;
+    complete(alloc, instance, &choice, &mut next)?;
+    Ok(next)
+}
+
+impl<'a> Propagator<'a> {
+    /// What is known of all plans with a delay below `goal` ticks, before any decision.
+    pub fn start(
+        alloc: Global,
+        instance: &'a Instance,
+        goal: u32,
+    ) -> Result<Propagator<'a>, MemoryFault>
+        ensures { IfOk result (IsStarted instance.now goal) }
+    {
+        let _nodes = instance.nodes();
+        let root = Choice::root(alloc, instance)?;
+        let first = Facts::new(alloc, instance, &root, goal)?;
+        let mut current = Journal::new(first, Vec::new(alloc));
+        let agenda = reach(alloc, instance, &root, &mut current)?;
+        Ok(Propagator {
+            instance,
+            goal,
+            decisions: Vec::new(alloc),
+            earlier: Vec::new(alloc),
+            current,
+            agenda,
+        })
+    }
+
+    /// Whether no plan is left: always so at a goal of at most the path bound.
+    pub fn closed(&self) -> bool
+        ensures value { result ≡ self.now.current.facts.known.closed }
+        ensures bound { (bound : ℕ) → IsPathBound self.now.instance bound → self.now.goal ≤ bound → IsTrue result }
+    {
+        self.current.facts().closed()
+    }
+
+    /// Makes an open decision, where a plan may be left. Unchanged after a refusal.
+    pub fn decide(&mut self, alloc: Global, decision: Decision) -> Result<(), MemoryFault>
+        requires left { IsFalse self.old.current.facts.known.closed }
+        requires is_open { IsOpenDecision self.old.instance self.old.current.facts.choice decision }
+        ensures ok { OnOk result (Decides decision self.old self.new) }
+        ensures err { OnErr result (self.new ≡ self.old) }
+    {
+        self.decisions.reserve(1)?;
+        self.earlier.reserve(1)?;
+        let next = next_level(alloc, &mut self.agenda, &self.current, decision)?;
+        let before = mem::replace(&mut self.current, next);
+        self.earlier.push_reserved(before);
+        self.decisions.push_reserved(decision);
+        Ok(())
+    }
+
+    /// Takes the last decision back. Takes no memory.
+    pub fn undo(&mut self)
+        requires { 0 < length self.old.decisions }
+        ensures { Undoes self.old self.new }
+    {
+        let _last = self.decisions.pop();
+        let before = self.earlier.pop();
+        if let Some(before) = before {
+            self.current = before;
+        }
+    }
+
+    /// The decisions that were made and not taken back, the first first.
+    pub fn decisions(&self) -> &[Decision]
+        ensures value { result.now ≡ self.now.decisions }
+        ensures is { IsPropagation self.now }
+    {
+        self.decisions.as_slice()
+    }
+
+    /// The plans that are sought have delays below this tick.
+    pub fn goal(&self) -> u32
+        ensures { result ≡ self.now.goal }
+    {
+        self.goal
+    }
+
+    /// What is known.
+    pub fn facts(&self) -> &Facts<'a>
+        ensures value { result.now ≡ self.now.current.facts }
+        ensures is { IsPropagation self.now }
+    {
+        self.current.facts()
+    }
+
+    /// The steps that lead to it from what is known at first of the choice that the decisions make.
+    pub fn log(&self) -> &[Step]
+        ensures value { result.now ≡ self.now.current.steps }
+        ensures is { IsPropagation self.now }
+    {
+        self.current.steps()
+    }
+
+    /// A leaf of that choice at the goal, where no plan is left.
+    pub fn leaf(&self, alloc: Global) -> Result<Leaf, MemoryFault>
+        requires { IsTrue self.now.current.facts.known.closed }
+        ensures closes { IfOk result (ClosesLeaf self.now.instance self.now.current.facts.choice) }
+        ensures goal { IfOk result (λ leaf. leaf.goal ≡ self.now.goal) }
+    {
+        trimmed_leaf(alloc, self.facts(), self.log())
+    }
+}
