@@ -7,3 +7,6 @@ pub mod ChildTasks
 pub mod CompleteSteps
 pub mod ClosedClashes
 pub mod OneMessageChoices
+pub mod Weights
+pub mod Once
+pub mod OneChoice

@@ -2,6 +2,7 @@ pub mod Name
 pub mod Task
 pub mod Pieces
 pub mod Account
+pub mod Once
 pub mod Work
 pub mod Branching
 pub mod Trials

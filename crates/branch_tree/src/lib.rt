@@ -14,7 +14,10 @@ mod worked;
 mod working;
 
 pub use examples::{one_message_in_round_0, one_message_in_round_1};
-pub use laws::{clashes_are_closed_by_their_closers, plans_are_closed_up_to_their_delay};
+pub use laws::{
+    clashes_are_closed_by_their_closers, names_stand_once, one_choice_stands,
+    plans_are_closed_up_to_their_delay,
+};
 pub use name::Name;
 pub use piece::Piece;
 pub use task::Task;

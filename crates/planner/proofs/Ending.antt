@@ -14,7 +14,7 @@ use Rattle.branch_tree.specs.Task.{Task, IsTask}
 use Rattle.branch_tree.specs.Pieces.{IsRight, StandsAt, AreRight}
 use Rattle.branch_tree.specs.Account.{IsWholeTree}
 use Rattle.branch_tree.specs.Work.{IsLeftClosed}
-use Rattle.search_core.proofs.Right.{stands_alone}
+use Rattle.branch_tree.proofs.OneChoice.{stands_alone}
 use Rattle.pool_worker.specs.Tasks.{tasks_of}
 use Rattle.planner.specs.Answers.{limit_of}
 use Rattle.planner.specs.Gathering.{HasGoal, HaveGoals, AreShallow}

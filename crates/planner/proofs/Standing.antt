@@ -14,7 +14,7 @@ use Rattle.branch_tree.specs.Name.{Name, root_name, child_name}
 use Rattle.branch_tree.specs.Task.{Task, root_task}
 use Rattle.branch_tree.specs.Pieces.{names_of, names_below, all_below, choice_below, IsRight, StandsAt, at_root, at_child, AreRight}
 use Rattle.branch_tree.specs.Account.{IsWholeTree}
-use Rattle.search_core.proofs.Right.{stands_alone}
+use Rattle.branch_tree.proofs.OneChoice.{stands_alone}
 use Rattle.pool_worker.specs.Tasks.{Turn, IsTurn, tasks_of, pieces_of, born, child_task, all_born}
 use Rattle.planner.specs.Gathering.{AreShallow}
 use Rattle.planner.specs.Searching.{task_names}

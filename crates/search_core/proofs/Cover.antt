@@ -42,10 +42,11 @@ use Rattle.search_core.specs.Steps.{Step, IsThere, Runs}
 use Rattle.search_core.specs.Steps.Step.{pops, steals, looks, works, pushes, offers, rests}
 use Rattle.search_core.specs.Steps.Runs.{ends, goes, stops}
 use Rattle.search_core.specs.Bounds.{known, with_hand, least_with, IsDelay, IsTop, IsHonest, AreHonest, IsOpenPlan, Bounds}
-use Rattle.search_core.proofs.Weights.{weigh, same_or_other, only, only-other, contained, weighs}
+use Rattle.branch_tree.proofs.Weights.{weigh, same_or_other, only, only-other, contained, weighs}
 use Rattle.search_core.proofs.Effects.{openw, open_weight, put_weight, seat_other, there_still, piece_made, pops_open, looks_open, works_open, pushes_open, offers_open, rests_open, steals_open}
 use Rattle.search_core.proofs.Known.{known_best, least_put, least_found, least_given, least_best, IsOneOf, Each, Each-set, Each-weaker, Each-get_or, HasDelay, known_is}
-use Rattle.search_core.proofs.Standing.{stands_still, pieces_of, pieces_put, pieces_new}
+use Rattle.branch_tree.proofs.OneChoice.{stands_still}
+use Rattle.search_core.proofs.Standing.{pieces_of, pieces_put, pieces_new}
 
 -- a settled plan below a goal is sought in a choice that it is in
 sought : (i : Instance) (c : Choice) (goal : ℕ) (plan : Plan) → IsSettled i plan → IsIn i c plan → delay i plan < goal → IsSought i c goal plan

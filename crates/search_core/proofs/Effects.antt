@@ -9,7 +9,7 @@ use Rattle.search_core.specs.declared.event.Worked.TheVariants.{Split, Closed, F
 use Rattle.search_core.specs.World.{Worker, World, idle_seat, worker_at, put, held_names, open_of, open_names, all_pieces}
 use Rattle.search_core.specs.Turns.{Pops, LosesFirst, TakesName, Looks, Works, Pushes, Offers, Rests, IsFitting, node_made, hand_after, children_left}
 use Rattle.search_core.specs.Steps.{IsThere}
-use Rattle.search_core.proofs.Weights.{weigh, weigh-append, weigh-map, weigh-flat_map, weigh-set}
+use Rattle.branch_tree.proofs.Weights.{weigh, weigh-append, weigh-map, weigh-flat_map, weigh-set}
 
 pub weigh-same : {A : Type 0} (f g : A → ℕ) (xs : List A) → ((x : A) → f x ≡ g x) → weigh f xs ≡ weigh g xs
 weigh-same f g [] h = refl

@@ -21,7 +21,7 @@ use Rattle.search_core.specs.Steps.Step.{pops, steals, looks, works, pushes, off
 use Rattle.search_core.specs.Steps.Runs.{ends, goes, stops}
 use Rattle.search_core.specs.Ledger.{Done, Goes, name_told, name_pushed, of_worker, taken, pushed, IsAccount}
 use Rattle.search_core.specs.Ledger.Goes.{none, more}
-use Rattle.search_core.proofs.Weights.{weigh, weigh-append, weigh-map, weigh-flat_map, same_names}
+use Rattle.branch_tree.proofs.Weights.{weigh, weigh-append, weigh-map, weigh-flat_map, same_names}
 use Rattle.search_core.proofs.Effects.{namew, beloww, seat_other, there_still, piece_made, hand_below}
 
 -- a hand's task, and its children

@@ -1,6 +1,4 @@
 pub mod Turned
-pub mod Weights
-pub mod Once
 pub mod Effects
 pub mod Tree
 pub mod Known

@@ -3,18 +3,8 @@ use Rattle.std.proofs.Common.{ℕ, zero, suc, ◌<◌, List, [], ◌∷◌, leng
 use Rattle.std.specs.List.{flat_map, Contains}
 use Rattle.std.proofs.lemmas.List.{get_or-set_same}
 use Rattle.std.proofs.lemmas.List.Elements.{Contains-append_cases, Contains-append_left, Contains-append_right}
-use Rattle.ttp_model.specs.Instance.{Instance}
-use Rattle.tt_choice.specs.Choice.{Choice}
 use Rattle.branch_tree.specs.declared.piece.Piece.{Piece}
-use Rattle.branch_tree.specs.Name.{Name}
-use Rattle.branch_tree.specs.Pieces.{StandsAt}
-use Rattle.branch_tree.specs.Pieces.StandsAt.{at_root, at_child}
 use Rattle.search_core.specs.World.{Worker}
-
-pub stands_still : (i : Instance) (few many : List Piece) → ((x : Piece) → Contains few x → Contains many x) → (name : Name) (c : Choice) → StandsAt i few name c → StandsAt i many name c
-stands_still i few many more _ _ at_root = at_root
-stands_still i few many more _ _ (at_child piece c k there stands inside) =
-    at_child piece c k (more piece there) (stands_still i few many more piece.name c stands) inside
 
 -- the pieces of workers
 abbrev pub pieces_of : Worker → List Piece

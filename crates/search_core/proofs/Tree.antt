@@ -13,7 +13,7 @@ use Rattle.search_core.specs.Turns.{Works}
 use Rattle.search_core.specs.Steps.{Step, IsThere, Runs}
 use Rattle.search_core.specs.Steps.Step.{pops, steals, looks, works, pushes, offers, rests}
 use Rattle.search_core.specs.Steps.Runs.{ends, goes, stops}
-use Rattle.search_core.proofs.Weights.{weigh, weigh-append, same_names}
+use Rattle.branch_tree.proofs.Weights.{weigh, weigh-append, same_names}
 use Rattle.search_core.proofs.Effects.{openw, namew, beloww, open_weight, name_weight, below_weight, put_weight, piece_made, pops_open, looks_open, works_open, pushes_open, offers_open, rests_open, steals_open, steals_pieces}
 
 -- by one weight, workers have what a tree has

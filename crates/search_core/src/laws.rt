@@ -1,29 +1,22 @@
 //! What holds after any events? These functions do nothing: their contracts are laws.
 
-ghost use Rattle.std.specs.Prelude.{◌≡◌, ℕ, List, ◌++◌, ◌≤◌, Result, map, Contains};
+ghost use Rattle.std.specs.Prelude.{◌≡◌, ℕ, List, ◌++◌, ◌≤◌, Result, map};
 ghost use Rattle.ttp_model.specs.Instance.{Instance};
 ghost use Rattle.ttp_model.specs.Rules.{IsInstance};
-ghost use Rattle.tt_choice.specs.Choice.{Choice};
-ghost use Rattle.branch_tree.specs.declared.piece.Piece.{Piece};
-ghost use Rattle.branch_tree.specs.Name.{Name};
-ghost use Rattle.branch_tree.specs.Pieces.{names_of, StandsAt, AreRight};
+ghost use Rattle.branch_tree.specs.Pieces.{AreRight};
 ghost use Rattle.branch_tree.specs.Account.{IsWholeTree};
 ghost use Rattle.search_core.specs.declared.event.Event.{Event};
 ghost use Rattle.search_core.specs.declared.reply.Illegal.{Illegal};
 ghost use Rattle.search_core.specs.World.{World, start, worker_at, open_names, all_pieces};
 ghost use Rattle.search_core.specs.Bounds.{IsTop, AreHonest, Bounds};
 ghost use Rattle.search_core.specs.Ledger.{Done, Goes, IsAccount};
-ghost use Rattle.search_core.specs.Once.{NoneTwice};
 ghost use Rattle.search_core.specs.Steps.{Runs};
 
-/// After any events, legal or not, the names of all pieces and the open names are those of a tree;
-/// and in a tree no name stands twice.
+/// After any events, legal or not, the names of all pieces and the open names are those of a tree.
 pub fn names_are_a_tree()
-    ensures whole { (workers top : ℕ) (events : List Event) (result : Result Unit Illegal) (last : World)
+    ensures { (workers top : ℕ) (events : List Event) (result : Result Unit Illegal) (last : World)
         → 1 ≤ workers → Runs (start workers top) events result last
         → IsWholeTree (all_pieces last) (open_names last) }
-    ensures once { (pieces : List Piece) (unworked : List Name)
-        → IsWholeTree pieces unworked → NoneTwice (names_of pieces ++ unworked) }
 {}
 
 /// After any events each worker's account balances: by name, what it popped or stole is what its
@@ -44,15 +37,6 @@ pub fn bounds_hold()
         → IsInstance i → 1 ≤ workers → IsTop i top
         → AreHonest i (start workers top) events → Runs (start workers top) events result last
         → Bounds i top last }
-{}
-
-/// In a tree just one choice stands at each name, by the branches of its pieces.
-pub fn one_choice_stands()
-    ensures some { (i : Instance) (pieces : List Piece) (unworked : List Name) (name : Name)
-        → IsWholeTree pieces unworked → Contains (names_of pieces ++ unworked) name
-        → (c : Choice) × StandsAt i pieces name c }
-    ensures one { (i : Instance) (pieces : List Piece) (unworked : List Name) (name : Name) (c d : Choice)
-        → IsWholeTree pieces unworked → StandsAt i pieces name c → StandsAt i pieces name d → c ≡ d }
 {}
 
 /// After any events of which each is honest when it comes, each piece is right for the choice at its name.

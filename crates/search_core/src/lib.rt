@@ -13,9 +13,7 @@ mod world;
 pub use brood::Brood;
 pub use event::{Event, Worked};
 pub use hand::Hand;
-pub use laws::{
-    accounts_balance, bounds_hold, names_are_a_tree, one_choice_stands, pieces_are_right,
-};
+pub use laws::{accounts_balance, bounds_hold, names_are_a_tree, pieces_are_right};
 pub use reply::{Illegal, Reply};
 pub use worked::one_message_is_searched;
 pub use worker::Worker;

@@ -19,6 +19,20 @@ pub struct Answer {
     pub delay: Option<u64>,
 }
 
+impl Answer {
+    /// Whether it is right where this delay is least: it says so, or was stopped for this cause with bounds around it.
+    pub fn is_right(self, least: u64, cause: Why) -> bool {
+        let Some(why) = self.stopped else {
+            return self.low == least && self.delay == Some(least);
+        };
+        let is_above = match self.delay {
+            Some(delay) => least <= delay && self.low < delay,
+            None => true,
+        };
+        why == cause && self.low <= least && is_above
+    }
+}
+
 /// One worker, with this budget.
 pub fn options(budget: u64) -> Options {
     Options { workers: 1, budget }

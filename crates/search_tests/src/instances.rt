@@ -3,7 +3,7 @@
 use std::alloc::Global;
 use std::test::Fail;
 use ttp_model::{Cluster, Instance, MOST_TICKS, ModelError};
-use worked_instances::{Draft, PLAIN, deadline, no_frame, one_message, three_alike};
+use worked_instances::{Draft, PLAIN, deadline, no_frame, one_message, overfull, three_alike};
 
 /// An instance that tests name.
 #[derive(Clone, Copy, Debug)]
@@ -18,6 +18,10 @@ pub enum Sample {
     NoFrame,
     /// A process of 5 ticks, which is released at tick 2.
     Alone,
+    /// Two messages for a frame that has no room for both.
+    Overfull,
+    /// Processes of 3 and 2 ticks on one node.
+    Unequal,
     /// Process p of 1 tick on A, whose slot carries 2 or 4 bytes, sends 2 bytes to each of two
     /// processes of 1 tick on B.
     TwoReceivers,
@@ -46,7 +50,7 @@ pub enum Sample {
 }
 
 /// The least delays of instances.
-pub const LEAST_DELAYS: [(Sample, Option<u64>); 13] = [
+pub const LEAST_DELAYS: [(Sample, Option<u64>); 15] = [
     (Sample::OneMessage(100), Some(9)),
     (Sample::OneMessage(9), Some(9)),
     (Sample::OneMessage(8), None),
@@ -54,6 +58,8 @@ pub const LEAST_DELAYS: [(Sample, Option<u64>); 13] = [
     (Sample::InAHurry, Some(5)),
     (Sample::NoFrame, None),
     (Sample::Alone, Some(7)),
+    (Sample::Overfull, Some(13)),
+    (Sample::Unequal, Some(5)),
     (Sample::TwoReceivers, Some(8)),
     (Sample::ShortReceiver(&[0, 1], 2), Some(6)),
     (Sample::ShortReceiver(&[0], 1), Some(5)),
@@ -71,6 +77,14 @@ fn alone(alloc: Global) -> Result<Instance, ModelError> {
     Draft::of(alloc, PLAIN)
         .node("A", &[0])?
         .process_within("p", 0, 5, (2, MOST_TICKS))?
+        .build()
+}
+
+fn unequal(alloc: Global) -> Result<Instance, ModelError> {
+    Draft::of(alloc, PLAIN)
+        .node("A", &[0])?
+        .process("a", 0, 3)?
+        .process("b", 0, 2)?
         .build()
 }
 
@@ -172,6 +186,8 @@ impl Sample {
             Sample::InAHurry => deadline(alloc),
             Sample::NoFrame => no_frame(alloc),
             Sample::Alone => alone(alloc),
+            Sample::Overfull => overfull(alloc),
+            Sample::Unequal => unequal(alloc),
             Sample::TwoReceivers => two_receivers(alloc),
             Sample::ShortReceiver(capacities, wcet) => short_receiver(alloc, capacities, wcet),
             Sample::ManyMessages(count) => return many_messages(alloc, count),

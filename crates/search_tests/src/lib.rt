@@ -10,6 +10,8 @@ mod every_plan;
 #[cfg(test)]
 mod every_plan_tried;
 #[cfg(test)]
+mod gates;
+#[cfg(test)]
 mod gathering;
 #[cfg(test)]
 mod good_plans;
@@ -18,6 +20,12 @@ mod instances;
 #[cfg(test)]
 mod many_workers;
 #[cfg(test)]
+mod one_thread;
+#[cfg(test)]
+mod refusals;
+#[cfg(test)]
 mod searches;
 #[cfg(test)]
 mod subtrees;
+#[cfg(test)]
+mod two_workers;

@@ -2,31 +2,11 @@
 
 use crate::answers::{Answer, solved_by};
 use crate::instances::{LEAST_DELAYS, Sample};
-use incumbent::Incumbent;
-use planner::Options;
+use planner::{Options, Why};
 use std::alloc::Global;
 use std::sync::Wait;
 use std::test::Fail;
 use std::thread::Threads;
-use ttp_model::MemoryFault;
-
-/// What the second watch sees and is answered, and the word at its end.
-fn word_of_two(alloc: Global) -> Result<(u32, u32, u32), MemoryFault> {
-    let (word, first) = Incumbent::begin(alloc, 101)?;
-    let mut first = first;
-    let mut second = word.split(alloc, &mut first)?;
-    word.offer(&mut first, 9);
-    let seen = word.look(&mut second);
-    let told = word.offer(&mut second, 12);
-    word.join(&mut first, second);
-    Ok((seen, told, word.close(first)))
-}
-
-#[test]
-fn a_watch_sees_what_another_one_offered(rt: HostRuntime) -> Result<(), Fail> {
-    assert_eq!(rt; word_of_two(rt.alloc())?, (9, 9, 9));
-    Ok(())
-}
 
 /// The answer for an instance that is named, by so many workers with this budget.
 fn solved_sample<R: Threads + Wait>(
@@ -48,6 +28,30 @@ fn many_workers_find_the_least_delay(rt: HostRuntime) -> Result<(), Fail> {
             assert_eq!(rt; answer.delay, least, "{sample:?} by {workers}");
             assert!(rt; answer.stopped.is_none(), "{sample:?} by {workers}");
         }
+    }
+    Ok(())
+}
+
+/// How often each instance is solved by sixteen workers.
+const ROUNDS: u32 = 10;
+
+#[test]
+fn sixteen_workers_always_find_the_same_delay(rt: HostRuntime) -> Result<(), Fail> {
+    for round in 0..ROUNDS {
+        for (sample, least) in LEAST_DELAYS {
+            let answer = solved_sample(&rt, rt.alloc(), sample, 16, 1_000)?;
+            assert_eq!(rt; answer.delay, least, "{sample:?} in round {round}");
+        }
+    }
+    Ok(())
+}
+
+#[test]
+fn workers_without_a_budget_leave_the_path_bound(rt: HostRuntime) -> Result<(), Fail> {
+    for workers in [1, 2, 16] {
+        let answer = solved_sample(&rt, rt.alloc(), Sample::OneMessage(100), workers, 0)?;
+        assert_eq!(rt; answer.stopped, Some(Why::Budget));
+        assert!(rt; matches!(answer.low, 8 | 9) && answer.delay.is_none());
     }
     Ok(())
 }

@@ -1,6 +1,5 @@
-use Rattle.search_core.proofs.Once.{none_twice}
 use Rattle.search_core.proofs.Tree.{whole_tree}
 use Rattle.search_core.proofs.laws.names_are_a_tree.Goals as goal
 
 pub returns : goal.returns
-returns c = record { whole = whole_tree; once = none_twice }
+returns c = whole_tree

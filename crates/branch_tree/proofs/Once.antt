@@ -12,8 +12,8 @@ use Rattle.branch_tree.specs.declared.piece.Piece.{Piece}
 use Rattle.branch_tree.specs.Name.{Name, root_name, child_name, child_names}
 use Rattle.branch_tree.specs.Pieces.{names_below, names_of, all_below}
 use Rattle.branch_tree.specs.Account.{IsWholeTree}
-use Rattle.search_core.specs.Once.{NoneTwice}
-use Rattle.search_core.proofs.Weights.{weigh, weigh-append, weigh-map, weigh-flat_map, weigh-two, weigh-le, weigh-none, same_or_other, only, only-same, only-other}
+use Rattle.branch_tree.specs.Once.{NoneTwice}
+use Rattle.branch_tree.proofs.Weights.{weigh, weigh-append, weigh-map, weigh-flat_map, weigh-two, weigh-le, weigh-none, same_or_other, only, only-same, only-other}
 
 weigh-sum : {A : Type 0} (g : A → ℕ) (xs : List A) → weigh g xs ≡ sum_by g xs
 weigh-sum g [] = refl
