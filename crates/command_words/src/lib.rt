@@ -1,8 +1,11 @@
 //! What the command line asks for, and how words are refused that ask for nothing.
 #![tactic(auto)]
 
+mod misuse;
+mod names;
+mod numbers;
 mod refusal;
 mod words;
 
 pub use refusal::refuse;
-pub use words::{Request, Task, all, request_in};
+pub use words::{Request, Task, VERSION, all, request_in};

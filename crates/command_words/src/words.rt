@@ -1,8 +1,13 @@
 //! What the words of the command line ask for.
 
-use clap::builder::ValueParser;
+ghost use Rattle.std.specs.Prelude.{◌≤◌, IfOk, IfSome};
+ghost use Rattle.command_words.specs.Requests.{IsSound};
+
+use crate::misuse::Misuse;
+use crate::names::name_one_file;
+use crate::numbers::{BUDGET, NumberOption, WORKERS};
 use clap::error::ErrorKind;
-use clap::{Arg, ArgMatches, Command, Error};
+use clap::{Arg, ArgAction, ArgMatches, Command, Error};
 use std::alloc::{AllocError, Global};
 use std::io;
 use std::rt::Env;
@@ -31,10 +36,12 @@ pub enum Request<'a> {
     Solve {
         instance: &'a str,
         certificate: Option<&'a str>,
-        /// How many workers search.
+        /// How many workers search, 1 to 16.
         workers: u32,
         /// How many subtrees are searched at most.
         budget: u64,
+        /// Whether it is to say how far it is.
+        progress: bool,
     },
     /// Check the certificate of one file for the instance of another.
     Check {
@@ -43,7 +50,13 @@ pub enum Request<'a> {
     },
     /// Verify an instance and a plan in one stream: no words were given.
     VerifyBundle,
+    /// Say which version this is.
+    Version,
 }
+
+/// The program's version, and those of the texts that it reads and writes.
+pub const VERSION: &str =
+    "ttplan 0.1.0\ntexts: ttplan 1, ttcert 1, ttmedl 1, ttguard 1, ttreplay 1\n";
 
 /// The words that the program was called with. The error's kind is `InvalidData` where one is not UTF-8.
 pub fn all(rt: &(impl Env + AllocGlobal)) -> io::Result<Vec<String>> {
@@ -54,12 +67,9 @@ pub fn all(rt: &(impl Env + AllocGlobal)) -> io::Result<Vec<String>> {
 /// What an instance's file holds.
 const INSTANCE_HELP: &str = "The cluster and its processes, in TOML";
 
-/// How many workers can be asked for.
-const MOST_WORKERS: u64 = 16;
-
-/// What a search prints.
+/// What a search prints, and how to go on where it is stopped.
 const SOLVE_HELP: &str =
-    "It prints one of these, and ends with the status beside it:\n   0  the text of a plan: it is valid, and no valid plan has a smaller delay\n  10  `none`: no plan is valid\n  11  `stopped WHY LOW BEST`, and behind it the text of the best plan found\n\nWHY is `budget`, where the budget is spent, or `memory`, where memory ran out. No valid plan has a delay below LOW ticks. BEST is the delay of the best plan found, or `none`, and then no text follows.\n\nBefore the search a good plan is looked for, where more than 32 are left to choose: nodes to place, capacities, pairs of processes, and binary digits of rounds.";
+    "It prints one of these, and ends with the status beside it:\n   0  the text of a plan: it is valid, and no valid plan has a smaller delay\n  10  `none`: no plan is valid\n  11  `stopped WHY LOW BEST`, and behind it the text of the best plan found\n\nWHY is `budget`, where the budget is spent, or `memory`, where memory ran out. No valid plan has a delay below LOW ticks. BEST is the delay of the best plan found, or `none`, and then no text follows.\n\nA search that is interrupted keeps nothing: no plan is printed, and FILE is empty. To go in steps, begin with a small budget, and take ten times as much after each `stopped budget`. Each run begins anew; those before the last work at most a ninth of its budget.\n\nBefore the search a good plan is looked for, where more than 32 are left to choose: nodes to place, capacities, pairs of processes, and binary digits of rounds.";
 
 /// A file that has to be named.
 fn file<'a>(alloc: Global, name: &'a str, help: &'a str) -> Arg<'a> {
@@ -106,39 +116,40 @@ fn replay_command<'a>(alloc: Global) -> Result<Command<'a>, AllocError> {
     .arg(losses)
 }
 
-/// An option `--name` that takes a number within bounds, and has a value where it isn't used.
-fn number<'a>(
-    alloc: Global,
-    name: &'a str,
-    bounds: ValueParser<'a>,
-    default: &'a str,
-    help: &'a str,
-) -> Arg<'a> {
-    Arg::new(alloc, name)
-        .long(name)
+/// An option `--name` that takes a number, and has a value where it isn't used.
+fn number<'a>(alloc: Global, option: NumberOption, help: &'a str) -> Arg<'a> {
+    Arg::new(alloc, option.name)
+        .long(option.name)
         .value_name("N")
-        .value_parser(bounds)
-        .default_value(default)
+        .allow_negative_numbers(true)
+        .default_value(option.default)
         .help(help)
 }
 
-fn solve_command<'a>(alloc: Global) -> Result<Command<'a>, AllocError> {
-    let workers = number(
-        alloc,
-        "workers",
-        ValueParser::unsigned(1, MOST_WORKERS),
-        "4",
-        "How many workers search, 1 to 16",
-    );
+/// The file of a certificate.
+fn certificate<'a>(alloc: Global) -> Arg<'a> {
+    Arg::new(alloc, "cert").long("cert").value_name("FILE").help(
+        "Also writes the certificate that proves the answer, whichever it is, to this file, before the answer is printed; `ttplan check INSTANCE FILE` accepts it. A file that is there is emptied first; INSTANCE itself is refused",
+    )
+}
+
+/// Whether a search says how far it is.
+fn progress<'a>(alloc: Global) -> Arg<'a> {
+    Arg::new(alloc, "progress")
+        .long("progress")
+        .action(ArgAction::SetTrue)
+        .help(
+            "Says once a second on standard error how far the search is: seconds, subtrees worked, how many a second, how many are in work, and the bound that is known before the search",
+        )
+}
+
+/// The subcommand that searches.
+pub(crate) fn solve_command<'a>(alloc: Global) -> Result<Command<'a>, AllocError> {
+    let workers = number(alloc, WORKERS, "How many workers search, 1 to 16");
     let budget = number(
         alloc,
-        "budget",
-        ValueParser::unsigned(0, u64::MAX),
-        "1000000",
+        BUDGET,
         "How many subtrees are searched at most: each that is split, closed or gives a plan counts once; with 0 no plan is looked for",
-    );
-    let certificate = Arg::new(alloc, "cert").long("cert").value_name("FILE").help(
-        "Also writes the certificate that proves the answer, whichever it is, to this file, before the answer is printed; `ttplan check INSTANCE FILE` accepts it. A file that is there is emptied first",
     );
     Command::new(alloc, "solve")
         .about(
@@ -148,7 +159,8 @@ fn solve_command<'a>(alloc: Global) -> Result<Command<'a>, AllocError> {
         .arg(file(alloc, "INSTANCE", INSTANCE_HELP))?
         .arg(workers)?
         .arg(budget)?
-        .arg(certificate)
+        .arg(certificate(alloc))?
+        .arg(progress(alloc))
 }
 
 fn check_command<'a>(alloc: Global) -> Result<Command<'a>, AllocError> {
@@ -162,6 +174,7 @@ fn check_command<'a>(alloc: Global) -> Result<Command<'a>, AllocError> {
 fn command<'a>(alloc: Global) -> Result<Command<'a>, AllocError> {
     Command::new(alloc, "ttplan")
         .about("Plans time-triggered clusters, and checks their plans")
+        .version(VERSION)
         .after_help(
             "Without words it reads an instance, a line `%%` and a plan from standard input, and verifies the plan.",
         )
@@ -172,18 +185,47 @@ fn command<'a>(alloc: Global) -> Result<Command<'a>, AllocError> {
         .subcommand(replay_command(alloc)?)
 }
 
-/// A search with its numbers, each in its range.
-fn solve_request<'a>(matches: &ArgMatches<'a>) -> Option<Request<'a>> {
-    Some(Request::Solve {
-        instance: matches.get_str("INSTANCE")?,
-        certificate: matches.get_str("cert"),
-        workers: matches.get_one("workers")?,
-        budget: matches.get_one("budget")?,
+/// The number of an option.
+fn number_of<'a>(option: NumberOption, matches: &ArgMatches<'a>) -> Result<u64, Misuse<'a>>
+    ensures { IfOk result (λ n. (option.least ≤ n) × (n ≤ option.most)) }
+{
+    let Some(word) = matches.get_str(option.name) else {
+        return Err(Misuse::Missing);
+    };
+    match option.read(word) {
+        Some(number) => Ok(number),
+        None => Err(Misuse::Number(option, word)),
+    }
+}
+
+/// A search with its numbers, each in its range, and a certificate that isn't written over the instance.
+fn solve_request<'a>(alloc: Global, matches: &ArgMatches<'a>) -> Result<Request<'a>, Misuse<'a>>
+    ensures { IfOk result IsSound }
+{
+    let Some(instance) = matches.get_str("INSTANCE") else {
+        return Err(Misuse::Missing);
+    };
+    let workers = number_of(WORKERS, matches)? as u32;
+    let budget = number_of(BUDGET, matches)?;
+    let certificate = matches.get_str("cert");
+    if let Some(file) = certificate {
+        if name_one_file(alloc, file, instance)? {
+            return Err(Misuse::Overwriting(file));
+        }
+    }
+    Ok(Request::Solve {
+        instance,
+        certificate,
+        workers,
+        budget,
+        progress: matches.get_flag("progress"),
     })
 }
 
 /// A check of a certificate.
-fn check_request<'a>(matches: &ArgMatches<'a>) -> Option<Request<'a>> {
+fn check_request<'a>(matches: &ArgMatches<'a>) -> Option<Request<'a>>
+    ensures { IfSome result IsSound }
+{
     Some(Request::Check {
         instance: matches.get_str("INSTANCE")?,
         certificate: matches.get_str("CERT")?,
@@ -191,7 +233,9 @@ fn check_request<'a>(matches: &ArgMatches<'a>) -> Option<Request<'a>> {
 }
 
 /// A task on an instance and a plan.
-fn request_on_files<'a>(matches: &ArgMatches<'a>, task: Task<'a>) -> Option<Request<'a>> {
+fn request_on_files<'a>(matches: &ArgMatches<'a>, task: Task<'a>) -> Option<Request<'a>>
+    ensures { IfSome result IsSound }
+{
     Some(Request::OnFiles {
         instance: matches.get_str("INSTANCE")?,
         plan: matches.get_str("PLAN")?,
@@ -205,35 +249,43 @@ fn replay_task<'a>(alloc: Global, matches: &ArgMatches<'a>) -> Result<Task<'a>, 
     Ok(Task::Replay(losses))
 }
 
-/// What the words of the subcommand of this name ask for. None where no subcommand has the name or a value is missing,
-/// which `clap` has seen to.
+/// What the words of the subcommand of this name ask for.
 fn request_of<'a>(
     alloc: Global,
     name: &str,
     matches: &ArgMatches<'a>,
-) -> Result<Option<Request<'a>>, AllocError> {
-    match name {
-        "solve" => Ok(solve_request(matches)),
-        "check" => Ok(check_request(matches)),
-        "verify" => Ok(request_on_files(matches, Task::Verify)),
-        "tables" => Ok(request_on_files(matches, Task::Tables)),
-        "replay" => Ok(request_on_files(matches, replay_task(alloc, matches)?)),
-        _ => Ok(None),
+) -> Result<Request<'a>, Misuse<'a>>
+    ensures { IfOk result IsSound }
+{
+    let request = match name {
+        "solve" => return solve_request(alloc, matches),
+        "check" => check_request(matches),
+        "verify" => request_on_files(matches, Task::Verify),
+        "tables" => request_on_files(matches, Task::Tables),
+        "replay" => request_on_files(matches, replay_task(alloc, matches)?),
+        _ => None,
+    };
+    match request {
+        Some(request) => Ok(request),
+        None => Err(Misuse::Missing),
     }
 }
 
 /// What the words ask for, of which the first is the program's own name.
-pub fn request_in<'a>(alloc: Global, words: &'a [String]) -> Result<Request<'a>, Error> {
+pub fn request_in<'a>(alloc: Global, words: &'a [String]) -> Result<Request<'a>, Error>
+    ensures { IfOk result IsSound }
+{
     let mut command = command(alloc)?;
-    let matches = command.try_get_matches_from_mut(words)?;
+    let matches = match command.try_get_matches_from_mut(words) {
+        Ok(matches) => matches,
+        Err(error) if error.kind() == ErrorKind::DisplayVersion => return Ok(Request::Version),
+        Err(error) => return Err(error),
+    };
     let Some((name, matches)) = matches.subcommand() else {
         return Ok(Request::VerifyBundle);
     };
-    match request_of(alloc, name, matches)? {
-        Some(request) => Ok(request),
-        None => Err(command.error(
-            ErrorKind::InvalidSubcommand,
-            "the subcommand is unknown, or lacks a value",
-        )?),
+    match request_of(alloc, name, matches) {
+        Ok(request) => Ok(request),
+        Err(misuse) => Err(misuse.error(alloc)?),
     }
 }

@@ -6,7 +6,7 @@ use crate::told::{CLUSTER, FIRST, ONE_NODE, Row, wrong_row};
 use std::alloc::{AllocError, Global};
 use std::test::Fail;
 
-const FIRST_CERTIFICATE: &str =
+pub const FIRST_CERTIFICATE: &str =
     "ttcert 1\nlow 9\nleaf 9 5\nes-release 0\nlo-send 0\nes-arrive 0 1\nle-own 1\nx-window 1\n";
 
 /// Its steps, and the same without the end of the last.

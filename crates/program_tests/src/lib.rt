@@ -6,6 +6,8 @@ mod bundles;
 #[cfg(test)]
 mod checks;
 #[cfg(test)]
+mod progress;
+#[cfg(test)]
 mod replays;
 #[cfg(test)]
 mod reports;

@@ -14,7 +14,7 @@ const THREE: &[&str] = &[
 
 const THREE_PLAN: &str = "ttplan 1\ndelay 3\norder A B C\ncap A 0\ncap B 0\ncap C 0\nstart p 0\n";
 
-const ALL_RECEIVED: &str =
+pub const ALL_RECEIVED: &str =
     "ttreplay 1\nslot 0 0 A sent\nslot 0 1 B sent\nack A\nslot 0 2 C sent\nack B\nmember A A B C\nmember B A B C\nmember C A B C\n";
 
 const ONE_LOST: &str =

@@ -1,7 +1,12 @@
 //! Which words ask for which command, and which are refused.
 
-use command_words::{refuse, request_in};
+use crate::checks::FIRST_CERTIFICATE;
+use crate::replays::ALL_RECEIVED;
+use crate::table_texts::FIRST_TABLES;
+use crate::told::FIRST_PLAN;
+use command_words::{VERSION, refuse, request_in};
 use std::alloc::{AllocError, Global};
+use std::str::from_utf8;
 use std::test::Fail;
 
 /// The words of a command line, behind the program's name.
@@ -29,16 +34,26 @@ static COMMANDS: &[Asking] = &[
     (&["ttplan", "check", "a", "c"], "Check { instance: \"a\", certificate: \"c\" }"),
     (
         &["ttplan", "solve", "a"],
-        "Solve { instance: \"a\", certificate: None, workers: 4, budget: 1000000 }",
+        "Solve { instance: \"a\", certificate: None, workers: 4, budget: 1000000, progress: false }",
     ),
     (
         &["ttplan", "solve", "a", "--cert", "c", "--workers", "1", "--budget", "0"],
-        "Solve { instance: \"a\", certificate: Some(\"c\"), workers: 1, budget: 0 }",
+        "Solve { instance: \"a\", certificate: Some(\"c\"), workers: 1, budget: 0, progress: false }",
     ),
     (
         &["ttplan", "solve", "a", "--workers", "16", "--budget", "18446744073709551615"],
-        "Solve { instance: \"a\", certificate: None, workers: 16, budget: 18446744073709551615 }",
+        "Solve { instance: \"a\", certificate: None, workers: 16, budget: 18446744073709551615, progress: false }",
     ),
+    (
+        &["ttplan", "solve", "a", "--progress", "--cert", "b/a"],
+        "Solve { instance: \"a\", certificate: Some(\"b/a\"), workers: 4, budget: 1000000, progress: true }",
+    ),
+    (
+        &["ttplan", "solve", "/a", "--cert", "a"],
+        "Solve { instance: \"/a\", certificate: Some(\"a\"), workers: 4, budget: 1000000, progress: false }",
+    ),
+    (&["ttplan", "--version"], "Version"),
+    (&["ttplan", "-V"], "Version"),
 ];
 
 /// Whether the words ask for this.
@@ -68,40 +83,65 @@ fn commands_are_asked_for_by_name_with_numbers_in_their_ranges(
     Ok(())
 }
 
+/// Words that are refused, and what the text that says so contains.
+type Refused = (&'static [&'static str], &'static str);
+
+const NO_WORKERS: &str = "for '--workers <N>': a whole number from 1 to 16 is expected";
+
+const NO_BUDGET: &str =
+    "for '--budget <N>': a whole number from 0 to 18446744073709551615 is expected";
+
+const OVERWRITING: &str =
+    "for '--cert <FILE>': that is the instance's file, which would be emptied";
+
 #[rattlefmt::skip]
-static USAGE_FAULTS: &[&[&str]] = &[
-    &["ttplan", "plan", "a", "b"],
-    &["ttplan", "solve"],
-    &["ttplan", "verify", "a"],
-    &["ttplan", "check", "a"],
-    &["ttplan", "tables", "a", "b", "c"],
-    &["ttplan", "--help"],
-    &["ttplan", "solve", "a", "--workers", "0"],
-    &["ttplan", "solve", "a", "--workers", "17"],
-    &["ttplan", "solve", "a", "--workers", "4294967297"],
-    &["ttplan", "solve", "a", "--workers", "x"],
-    &["ttplan", "solve", "a", "--budget", "18446744073709551616"],
-    &["ttplan", "solve", "a", "--budget", "-1"],
-    &["ttplan", "solve", "a", "--budget", "1.5"],
-    &["ttplan", "solve", "a", "--budget", ""],
+static USAGE_FAULTS: &[Refused] = &[
+    (&["ttplan", "plan", "a", "b"], "unrecognized subcommand 'plan'"),
+    (&["ttplan", "solve"], "<INSTANCE>"),
+    (&["ttplan", "verify", "a"], "<PLAN>"),
+    (&["ttplan", "check", "a"], "<CERT>"),
+    (&["ttplan", "tables", "a", "b", "c"], "unexpected argument 'c'"),
+    (&["ttplan", "--help"], "Usage: ttplan"),
+    (&["ttplan", "solve", "a", "--version"], "unexpected argument '--version'"),
+    (&["ttplan", "solve", "a", "--workers", "0"], NO_WORKERS),
+    (&["ttplan", "solve", "a", "--workers", "17"], NO_WORKERS),
+    (&["ttplan", "solve", "a", "--workers", "4294967297"], NO_WORKERS),
+    (&["ttplan", "solve", "a", "--workers", "x"], NO_WORKERS),
+    (&["ttplan", "solve", "a", "--budget", "18446744073709551616"], NO_BUDGET),
+    (&["ttplan", "solve", "a", "--budget", "-1"], NO_BUDGET),
+    (&["ttplan", "solve", "a", "--budget", "1.5"], NO_BUDGET),
+    (&["ttplan", "solve", "a", "--budget", "1e6"], NO_BUDGET),
+    (&["ttplan", "solve", "a", "--budget", ""], NO_BUDGET),
+    (&["ttplan", "solve", "a", "--cert", "a"], OVERWRITING),
+    (&["ttplan", "solve", "a", "--cert=./a"], OVERWRITING),
+    (&["ttplan", "solve", "/b//a", "--cert", "/./b/a"], OVERWRITING),
 ];
 
-/// Whether the words are refused as a usage fault is, with a text.
-fn are_usage_fault(alloc: Global, words: &[&str]) -> Result<bool, AllocError> {
+/// Whether the words are refused as a usage fault is, with a text that contains this.
+fn are_usage_fault(alloc: Global, words: &[&str], said: &str) -> Result<bool, AllocError> {
     let words = words_of(alloc, words)?;
     match request_in(alloc, words.as_slice()) {
         Ok(_) => Ok(false),
         Err(error) => {
             let mut text = Vec::new(alloc);
-            Ok(refuse(&error, &mut text) == 2 && !text.is_empty())
+            let status = refuse(&error, &mut text);
+            Ok(status == 2 && contains(text.as_slice(), said))
         }
     }
 }
 
+/// Whether bytes are a text that contains this.
+fn contains(bytes: &[u8], said: &str) -> bool {
+    match from_utf8(bytes) {
+        Ok(text) => text.contains(said),
+        Err(_) => false,
+    }
+}
+
 /// The first words that are refused otherwise, or not at all.
-fn wrong_usage(alloc: Global, all: &[&[&str]]) -> Result<Option<usize>, AllocError> {
-    for (k, words) in all.iter().enumerate() {
-        if !are_usage_fault(alloc, words)? {
+fn wrong_usage(alloc: Global, all: &[Refused]) -> Result<Option<usize>, AllocError> {
+    for (k, &(words, said)) in all.iter().enumerate() {
+        if !are_usage_fault(alloc, words, said)? {
             return Ok(Some(k));
         }
     }
@@ -111,5 +151,27 @@ fn wrong_usage(alloc: Global, all: &[&[&str]]) -> Result<Option<usize>, AllocErr
 #[test]
 fn other_words_and_numbers_are_usage_faults(rt: HostRuntime) -> Result<(), Fail> {
     assert_eq!(rt; wrong_usage(rt.alloc(), USAGE_FAULTS)?, None);
+    Ok(())
+}
+
+/// Texts as commands write them, and lines that say what they are.
+#[rattlefmt::skip]
+static TEXTS: &[(&str, &str)] = &[
+    (FIRST_PLAN, "ttplan 1\n"),
+    (FIRST_CERTIFICATE, "ttcert 1\n"),
+    (FIRST_TABLES, "ttmedl 1\n"),
+    (FIRST_TABLES, "ttguard 1\n"),
+    (ALL_RECEIVED, "ttreplay 1\n"),
+];
+
+/// The first text that lacks its line, or whose line the version lacks.
+fn wrong_text(texts: &[(&str, &str)]) -> Option<usize> {
+    texts.iter().position(|(text, line)| !text.contains(*line)
+        || !VERSION.contains(line.trim_end()))
+}
+
+#[test]
+fn the_version_names_those_of_the_texts(rt: HostRuntime) -> Result<(), Fail> {
+    assert_eq!(rt; wrong_text(TEXTS), None);
     Ok(())
 }

@@ -5,7 +5,7 @@ use crate::told::Asked::Tables;
 use crate::told::{FIRST, FIRST_HEAD, FIRST_PLAN, Row, wrong_row};
 use std::test::Fail;
 
-const FIRST_TABLES: &str =
+pub const FIRST_TABLES: &str =
     "ttmedl 1\nrounds 3\nnode A\nrow 0 0 A 2\nrow 0 1 B 0\nrow 1 0 A 2 m:0\nrow 1 1 B 0\nrow 2 0 A 2\nrow 2 1 B 0\nnode B\nrow 0 0 A 2\nrow 0 1 B 0\nrow 1 0 A 2 m:0\nrow 1 1 B 0\nrow 2 0 A 2\nrow 2 1 B 0\nttguard 1\nwindow 0 A 0 3\nwindow 0 B 3 4\nwindow 1 A 4 7\nwindow 1 B 7 8\nwindow 2 A 8 11\nwindow 2 B 11 12\n";
 
 /// A cluster of a node alone, whose clocks differ by up to 2 ticks.

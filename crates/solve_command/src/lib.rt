@@ -1,7 +1,9 @@
 //! The command that searches for the shortest plan.
 #![tactic(auto)]
 
+mod progress;
 mod solve;
 
 pub use planner::Options;
-pub use solve::solve_run;
+pub use progress::{Follower, Progress, Reading};
+pub use solve::{solve_run, solve_run_with};

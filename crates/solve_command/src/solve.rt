@@ -6,12 +6,14 @@ ghost use Rattle.command_streams.specs.Streams.{TakesAtMost};
 ghost use Rattle.planner.specs.Answers.{cert_of, IsBestPlan, Shows};
 ghost use Rattle.solve_command.specs.Solved.{best_word, end_told, fault_of, held, left, stopped_line, why_word, IsAnswerText, IsCertifying, IsSolveAnswer, IsSolved, IsStoppedText, IsUnsolved, IsWritingTo};
 
+use crate::progress::Follower;
 use certificate::Cert;
 use command_streams::{End, Fault, SearchFault, Sink, read_instance, write_text};
-use planner::{GatherFault, Options, Outcome, SolveFault, Why, solve};
+use planner::{FreeGate, GatherFault, Options, Outcome, SolveFault, Why, solve_with};
 use std::alloc::{AllocError, Global};
 use std::fmt;
 use std::io::{Read, Write};
+use std::marker::Sync;
 use std::sync::Wait;
 use std::thread::Threads;
 use ttp_model::{Instance, MemoryFault, Plan};
@@ -146,11 +148,12 @@ fn fault_of(fault: SolveFault) -> SearchFault
 }
 
 /// Searches the instance that a reader's bytes state, and makes the answer's text.
-fn solved_of_reader<R: Threads + Wait, I: Read>(
+fn solved_of_reader<R: Threads + Wait, G: Follower + Sync, I: Read>(
     rt: &R,
     alloc: Global,
     instance: &mut I,
     options: Options,
+    follower: &G,
 ) -> Result<Solved, Fault>
     ensures judged { IfSome (I.remaining instance.old) (λ bytes. MatchResult result
         (IsSolved bytes options)
@@ -158,7 +161,8 @@ fn solved_of_reader<R: Threads + Wait, I: Read>(
     ensures most { TakesAtMost (instance_limit + 1) (I.remaining instance.old) (I.remaining instance.new) }
 {
     let instance = read_instance(alloc, instance)?;
-    let outcome = match solve(rt, alloc, &instance, options) {
+    follower.begin(alloc, &instance);
+    let outcome = match solve_with(rt, alloc, &instance, options, follower) {
         Ok(outcome) => outcome,
         Err(fault) => return Err(Fault::Search(fault_of(fault))),
     };
@@ -198,18 +202,19 @@ fn write_answer<W: Write>(solved: &Solved, out: &mut W) -> End
 
 /// `solve_run` where no certificate is asked for.
 #[tactic(auto, unfolding(crate::specs::Solved::IsSolveAnswer))]
-fn solve_alone<R: Threads + Wait, I: Read, W: Write>(
+fn solve_alone<R: Threads + Wait, G: Follower + Sync, I: Read, W: Write>(
     rt: &R,
     alloc: Global,
     instance: &mut I,
     options: Options,
+    follower: &G,
     out: &mut W,
 ) -> End
     ensures answer { IfSome (I.remaining instance.old) (λ bytes.
         IsSolveAnswer bytes options false None None (W.contents out.old) (W.contents out.new) result) }
     ensures most { TakesAtMost (instance_limit + 1) (I.remaining instance.old) (I.remaining instance.new) }
 {
-    match solved_of_reader(rt, alloc, instance, options) {
+    match solved_of_reader(rt, alloc, instance, options, follower) {
         Ok(solved) => write_answer(&solved, out),
         Err(fault) => End::Refused(fault),
     }
@@ -217,11 +222,12 @@ fn solve_alone<R: Threads + Wait, I: Read, W: Write>(
 
 /// `solve_run` with a writer for the certificate.
 #[tactic(auto, unfolding(crate::specs::Solved::IsSolveAnswer))]
-fn solve_certified<R: Threads + Wait, I: Read, C: Write, W: Write>(
+fn solve_certified<R: Threads + Wait, G: Follower + Sync, I: Read, C: Write, W: Write>(
     rt: &R,
     alloc: Global,
     instance: &mut I,
     options: Options,
+    follower: &G,
     certificate: &mut C,
     out: &mut W,
 ) -> End
@@ -230,13 +236,35 @@ fn solve_certified<R: Threads + Wait, I: Read, C: Write, W: Write>(
         (W.contents out.old) (W.contents out.new) result) }
     ensures most { TakesAtMost (instance_limit + 1) (I.remaining instance.old) (I.remaining instance.new) }
 {
-    let solved = match solved_of_reader(rt, alloc, instance, options) {
+    let solved = match solved_of_reader(rt, alloc, instance, options, follower) {
         Ok(solved) => solved,
         Err(fault) => return End::Refused(fault),
     };
     match write_certificate(alloc, cert_of(&solved.outcome), certificate) {
         Ok(()) => write_answer(&solved, out),
         Err(fault) => End::Refused(fault),
+    }
+}
+
+/// Searches and writes as `solve_run` does, and tells a follower how the search goes on.
+pub fn solve_run_with<R: Threads + Wait, G: Follower + Sync, I: Read, C: Write, W: Write>(
+    rt: &R,
+    alloc: Global,
+    instance: &mut I,
+    options: Options,
+    follower: &G,
+    certificate: Option<&mut C>,
+    out: &mut W,
+) -> End
+    ensures answer { IfSome (I.remaining instance.old) (λ bytes.
+        IsSolveAnswer bytes options (is_some certificate.entry)
+        (held C.contents certificate.entry) (left C.contents certificate.exit)
+        (W.contents out.old) (W.contents out.new) result) }
+    ensures most { TakesAtMost (instance_limit + 1) (I.remaining instance.old) (I.remaining instance.new) }
+{
+    match certificate {
+        None => solve_alone(rt, alloc, instance, options, follower, out),
+        Some(writer) => solve_certified(rt, alloc, instance, options, follower, writer, out),
     }
 }
 
@@ -262,7 +290,7 @@ pub fn solve_run<R: Threads + Wait, I: Read, C: Write, W: Write>(
     ensures most { TakesAtMost (instance_limit + 1) (I.remaining instance.old) (I.remaining instance.new) }
 {
     match certificate {
-        None => solve_alone(rt, alloc, instance, options, out),
-        Some(writer) => solve_certified(rt, alloc, instance, options, writer, out),
+        None => solve_alone(rt, alloc, instance, options, &FreeGate, out),
+        Some(writer) => solve_certified(rt, alloc, instance, options, &FreeGate, writer, out),
     }
 }

@@ -1,10 +1,12 @@
 //! The planner's program: which command the words ask for, and on which files it works.
 #![tactic(auto)]
 
+use command_streams::end_with;
 pub use command_streams::{End, Fault, SearchFault, Sink, Source, report, status};
-use command_words::{Request, Task, refuse, request_in};
+use command_words::{Request, Task, VERSION, refuse, request_in};
 pub use plan_commands::{check_run, replay_run, tables, verify, verify_bundle};
 pub use solve_command::{Options, solve_run};
+use solve_command::{Progress, solve_run_with};
 use std::fs::File;
 use std::io;
 use std::process::ExitCode;
@@ -80,6 +82,7 @@ fn run_solve(
     instance: &str,
     certificate: Option<&str>,
     options: Options,
+    progress: bool,
 ) -> End {
     let Ok(mut instance) = File::open(rt, instance) else {
         return End::Refused(Fault::Unread(Source::Instance));
@@ -88,14 +91,27 @@ fn run_solve(
         Ok(file) => file,
         Err(fault) => return End::Refused(fault),
     };
-    solve_run(
-        threads,
-        rt.alloc(),
-        &mut instance,
-        options,
-        certificate.as_mut(),
-        &mut rt.stdout(),
-    )
+    let mut out = rt.stdout();
+    if progress {
+        solve_run_with(
+            threads,
+            rt.alloc(),
+            &mut instance,
+            options,
+            &Progress::on(rt),
+            certificate.as_mut(),
+            &mut out,
+        )
+    } else {
+        solve_run(
+            threads,
+            rt.alloc(),
+            &mut instance,
+            options,
+            certificate.as_mut(),
+            &mut out,
+        )
+    }
 }
 
 /// Does what is asked for. A search alone starts threads, and waits for them.
@@ -111,15 +127,17 @@ fn run(rt: &HostRuntime, threads: &(impl Threads + Wait), request: Request) -> E
             certificate,
             workers,
             budget,
+            progress,
         } => {
             let options = Options { workers, budget };
-            run_solve(rt, threads, instance, certificate, options)
+            run_solve(rt, threads, instance, certificate, options, progress)
         }
         Request::Check {
             instance,
             certificate,
         } => run_check(rt, instance, certificate),
         Request::VerifyBundle => { verify_bundle(rt.alloc(), &mut rt.stdin(), &mut rt.stdout()) }
+        Request::Version => end_with(&mut rt.stdout(), VERSION.as_bytes()),
     }
 }
 

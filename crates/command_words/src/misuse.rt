@@ -1,0 +1,65 @@
+//! Why do the values of a subcommand ask for nothing?
+
+ghost use Rattle.std.specs.Prelude.{◌≡◌};
+ghost use Rattle.command_words.specs.declared.misuse.Misuse.TheVariants.{Memory};
+
+use crate::numbers::NumberOption;
+use crate::words::solve_command;
+use clap::Error;
+use clap::error::ErrorKind;
+use std::alloc::{AllocError, Global};
+
+/// Why the values of a subcommand ask for nothing.
+#[derive(Debug, Drop)]
+pub enum Misuse<'a> {
+    /// When one is missing, which `clap` has seen to.
+    Missing,
+    /// When the option's value is no number within its bounds.
+    Number(NumberOption, &'a str),
+    /// When the certificate would be written over the instance.
+    Overwriting(&'a str),
+    /// When memory was wanted, and refused.
+    Memory,
+}
+
+impl From<AllocError> for Misuse<'_> {
+    ghost from_gives = { λ _ e. e ≡ Memory };
+
+    fn from(_error: AllocError) -> Self {
+        Misuse::Memory
+    }
+}
+
+impl Misuse<'_> {
+    /// What is said of it, in the words of `clap`.
+    fn text(&self, alloc: Global) -> Result<String, AllocError> {
+        match self {
+            Misuse::Missing => String::from_str(
+                alloc,
+                "the subcommand is unknown, or lacks a value",
+            ),
+            Misuse::Number(option, word) => {
+                let NumberOption {
+                    name,
+                    least,
+                    most,
+                    ..
+                } = option;
+                format!(in alloc;
+                    "invalid value '{word}' for '--{name} <N>': a whole number from {least} to {most} is expected"
+                )
+            }
+            Misuse::Overwriting(word) => format!(in alloc;
+                "invalid value '{word}' for '--cert <FILE>': that is the instance's file, which would be emptied"
+            ),
+            Misuse::Memory => Err(AllocError),
+        }
+    }
+
+    /// It as an error of `clap`.
+    pub fn error(&self, alloc: Global) -> Result<Error, AllocError> {
+        let text = self.text(alloc)?;
+        let mut command = solve_command(alloc)?.bin_name("ttplan solve")?;
+        command.error(ErrorKind::ValueValidation, text.as_str())
+    }
+}

@@ -1,0 +1,137 @@
+//! How a search says how far it is, and that its answer is the same.
+
+use crate::told::{FIRST, FIRST_PLAN, Told, joined};
+use solve_command::{Options, Progress, Reading, solve_run_with};
+use std::alloc::{Alloc, AllocError, Global};
+use std::fmt::Display;
+use std::io;
+use std::rt::Clock;
+use std::sync::Wait;
+use std::sync::atomic::{AtomicU64, Ordering};
+use std::test::Fail;
+use std::thread::Threads;
+use std::time::Duration;
+
+/// A clock that goes on by some seconds each time it is read, and a screen that counts its lines, and those that are one
+/// line.
+#[derive(Drop)]
+struct Screen {
+    alloc: Global,
+    step: u64,
+    time: AtomicU64,
+    line: &'static str,
+    lines: AtomicU64,
+    found: AtomicU64,
+}
+
+impl Screen {
+    fn new(alloc: Global, step: u64, line: &'static str) -> Screen {
+        Screen {
+            alloc,
+            step,
+            time: AtomicU64::new(0),
+            line,
+            lines: AtomicU64::new(0),
+            found: AtomicU64::new(0),
+        }
+    }
+
+    /// How many lines there are, and how many are the one that is looked for.
+    fn counts(&self) -> (u64, u64) {
+        let lines = self.lines.load(Ordering::SeqCst);
+        (lines, self.found.load(Ordering::SeqCst))
+    }
+}
+
+impl Clock for Screen {
+    fn monotonic(&self) -> io::Result<Duration> {
+        let time = self.time.fetch_add(self.step, Ordering::SeqCst);
+        Ok(Duration::from_secs(time))
+    }
+
+    fn since_1970(&self) -> io::Result<Duration> {
+        self.monotonic()
+    }
+}
+
+impl Eprint for Screen {
+    fn eprint<D: Display + Drop>(&self, _value: D) -> io::Result<()> {
+        Ok(())
+    }
+
+    fn eprintln<D: Display + Drop>(&self, value: D) -> io::Result<()> {
+        let line = format!(in self.alloc; "{value}")?;
+        self.lines.fetch_add(1, Ordering::SeqCst);
+        if line.as_str() == self.line {
+            self.found.fetch_add(1, Ordering::SeqCst);
+        }
+        Ok(())
+    }
+}
+
+/// How many lines the search of the first example writes by a clock with this step, and how many are this one. None where
+/// its answer isn't the plan.
+fn counts(
+    rt: &(impl Alloc<A = Global> + Threads + Wait),
+    workers: u32,
+    step: u64,
+    line: &'static str,
+) -> Result<Option<(u64, u64)>, AllocError> {
+    let alloc = rt.alloc();
+    let instance = joined(alloc, FIRST)?;
+    let options = Options {
+        workers,
+        budget: 1000,
+    };
+    let screen = Screen::new(alloc, step, line);
+    let mut out = Vec::new(alloc);
+    let end = solve_run_with(
+        rt,
+        alloc,
+        &mut instance.as_bytes(),
+        options,
+        &Progress::on(&screen),
+        None::<&mut Vec<u8>>,
+        &mut out,
+    );
+    let told = Told::at(alloc, &end, out);
+    Ok(told.is(FIRST_PLAN, 0).then_some(screen.counts()))
+}
+
+/// The line before the search, which knows the bound of a search that works nothing.
+const BEFORE: &str = "0 s: 0 subtrees worked, 0 a second, 0 in work, no plan below 9";
+
+/// The line of the second subtree, where each look at the clock is a second later.
+const SECOND: &str = "3 s: 1 subtrees worked, 1 a second, 1 in work, no plan below 9";
+
+#[test]
+fn a_line_is_written_before_the_search_and_then_one_a_second(rt: HostRuntime) -> Result<(), Fail> {
+    assert_eq!(rt; counts(&rt, 1, 0, BEFORE)?, Some((1, 1)));
+    let (_, found) = counts(&rt, 1, 1, SECOND)?.unwrap_or((0, 0));
+    assert_eq!(rt; found, 1);
+    Ok(())
+}
+
+#[test]
+fn the_answer_of_many_workers_is_the_same(rt: HostRuntime) -> Result<(), Fail> {
+    assert!(rt; counts(&rt, 4, 1, BEFORE)?.is_some());
+    Ok(())
+}
+
+const READING: Reading = Reading {
+    seconds: 12,
+    worked: 2400,
+    rate: 210,
+    open: 4,
+    low: 120,
+};
+
+#[test]
+fn a_reading_says_what_its_numbers_are(rt: HostRuntime) -> Result<(), Fail> {
+    let line = format!(in rt.alloc(); "{READING}")?;
+    assert_eq!(rt;
+        line.as_str(),
+        "12 s: 2400 subtrees worked, 210 a second, 4 in work, no plan below 120"
+    );
+    Ok(())
+}

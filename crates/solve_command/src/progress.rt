@@ -1,0 +1,153 @@
+//! How far is a search?
+
+use branch_tree::{Name, Task, close_left};
+use certificate::Node;
+use planner::{FreeGate, Gate};
+use std::alloc::Global;
+use std::fmt;
+use std::rt::Clock;
+use std::sync::atomic::{AtomicU64, Ordering};
+use std::time::Instant;
+use ttp_model::Instance;
+
+/// Who follows a search: a gate of its workers, which hears of the instance before they begin.
+pub trait Follower: Gate {
+    /// The instance is read, and will be searched.
+    fn begin(&self, alloc: Global, instance: &Instance);
+}
+
+impl Follower for FreeGate {
+    fn begin(&self, _alloc: Global, _instance: &Instance) {}
+}
+
+/// How far a search is.
+#[derive(Clone, Copy, Debug, PartialEq, Eq)]
+pub struct Reading {
+    /// How long the program has been at work.
+    pub seconds: u64,
+    /// How many subtrees they are done with.
+    pub worked: u64,
+    /// How many of these a second, since the last reading.
+    pub rate: u64,
+    /// How many are in their hands.
+    pub open: u64,
+    /// No plan has a delay below so many ticks, which is known before the search.
+    pub low: u64,
+}
+
+impl fmt::Display for Reading {
+    fn fmt<W: fmt::Write>(&self, f: &mut fmt::Formatter<W>) -> fmt::Result {
+        let Reading {
+            seconds,
+            worked,
+            rate,
+            open,
+            low,
+        } = self;
+        write!(
+            f,
+            "{seconds} s: {worked} subtrees worked, {rate} a second, {open} in work, no plan below {low}"
+        )
+    }
+}
+
+/// Says how far a search is: a line before it begins, and then one a second. A worker that is done with a subtree writes it,
+/// and no other waits for that.
+#[derive(Drop)]
+pub struct Progress<'a, S: Clock + Eprint> {
+    screen: &'a S,
+    started: Option<Instant>,
+    low: AtomicU64,
+    taken: AtomicU64,
+    worked: AtomicU64,
+    /// The second of the last line, and what was worked by then.
+    told: AtomicU64,
+    told_worked: AtomicU64,
+}
+
+/// A delay in ticks that no plan of the instance is below; 0 where memory was refused.
+fn bound(alloc: Global, instance: &Instance) -> u32 {
+    let Ok(root) = Task::root(alloc, instance) else {
+        return 0;
+    };
+    match close_left(alloc, instance, root, instance.past_horizon()) {
+        Ok(piece) => match &piece.node {
+            Node::Leaf(leaf) => leaf.goal,
+            Node::Branch(_) => 0,
+        },
+        Err(_) => 0,
+    }
+}
+
+impl<'a, S: Clock + Eprint> Progress<'a, S> {
+    /// Nothing is done yet. Where the clock can't be read, the first line is the only one.
+    pub fn on(screen: &'a S) -> Self {
+        Progress {
+            screen,
+            started: Instant::now(screen).ok(),
+            low: AtomicU64::new(0),
+            taken: AtomicU64::new(0),
+            worked: AtomicU64::new(0),
+            told: AtomicU64::new(0),
+            told_worked: AtomicU64::new(0),
+        }
+    }
+
+    /// The seconds that have passed; 0 where the clock can't be read.
+    fn seconds(&self) -> u64 {
+        match &self.started {
+            Some(started) => match started.elapsed(self.screen) {
+                Ok(time) => time.as_secs(),
+                Err(_) => 0,
+            },
+            None => 0,
+        }
+    }
+
+    /// Writes the line of a second, so many seconds after the last one.
+    fn tell(&self, seconds: u64, passed: u64) {
+        let worked = self.worked.load(Ordering::SeqCst);
+        let newly = worked.saturating_sub(self.told_worked.swap(worked, Ordering::SeqCst));
+        let taken = self.taken.load(Ordering::SeqCst);
+        let reading = Reading {
+            seconds,
+            worked,
+            rate: newly.checked_div(passed).unwrap_or(0),
+            open: taken.saturating_sub(worked),
+            low: self.low.load(Ordering::SeqCst),
+        };
+        let _ = self.screen.eprintln(reading);
+    }
+}
+
+impl<'a, S: Clock + Eprint> Gate for Progress<'a, S> {
+    fn start(&self, _worker: usize) {}
+
+    fn enter(&self, _worker: usize, _name: &Name) {
+        self.taken.fetch_add(1, Ordering::SeqCst);
+    }
+
+    fn leave(&self, _worker: usize, _name: &Name) {
+        let order = Ordering::SeqCst;
+        let (seconds, last) = (self.seconds(), self.told.load(order));
+        if seconds > last
+            && self
+                .told
+                .compare_exchange(last, seconds, order, order)
+                .is_ok()
+        {
+            self.tell(seconds, seconds - last);
+        }
+        self.worked.fetch_add(1, order);
+    }
+}
+
+impl<'a, S: Clock + Eprint> Follower for Progress<'a, S> {
+    fn begin(&self, alloc: Global, instance: &Instance) {
+        let low = bound(alloc, instance);
+        self.low.store(u64::from(low), Ordering::SeqCst);
+        let seconds = self.seconds();
+        self.told.store(seconds, Ordering::SeqCst);
+        self.tell(seconds, 0);
+    }
+}
