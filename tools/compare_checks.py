@@ -1,0 +1,314 @@
+#!/usr/bin/env python3
+"""Compares ttplan with tools/second_check.py on texts that are damaged or made at random:
+
+    tools/compare_checks.py [--cases N] [--seed S] [--program FILE] [--keep FOLDER]
+
+The texts are the examples' and those of small instances made here, with plans and certificates; most are damaged in one to
+three places. Both programs have to write the same words and end with the same status. A case on which they differ is
+told, and kept in FOLDER. What was answered how often is written at the end, and the status is 1 where any case differed.
+
+Which circle of processes is told is left out (M13)."""
+
+import argparse
+import collections
+import pathlib
+import random
+import re
+import subprocess
+import sys
+import tempfile
+
+ROOT = pathlib.Path(__file__).resolve().parent.parent
+sys.path.insert(0, str(ROOT / "tools"))
+import second_check  # noqa: E402
+
+NUMBERS = [0, 1, 2, 3, 5, 8, 9, 16, 17, 63, 64, 65, 99, 100, 101, 102, 1000, 1001, 10000, 10001, 1000000, 1000001,
+           4294967295, 4294967296, 2**63 - 1, 2**63, -1, -(2**63) - 1]
+SPELLINGS = ["00", "01", "+1", "-0", "0x10", "0o7", "0b11", "1_0", "1__0", "1e3", "1.5", "inf", "true", '"1"', "'q'", "[1]",
+             "[]", "{}", "{a = 1}", "2024-01-01", "12:00:00", "", '"""x"""', "[[1]]", '["q", 1]', '[4294967296, "x"]']
+BYTES = b"09aZ_\n\r\t \"'[]{}=#\x00\xff\xc3.,-+\\"
+
+
+# Damage
+
+
+def other_number(dice, text):
+    found = list(re.finditer(rb"\d+", text))
+    if not found:
+        return text
+    place = dice.choice(found)
+    near = int(place[0]) + dice.choice([-2, -1, 1, 2]) if len(place[0]) < 20 else 0
+    new = dice.choice([str(near), str(near), str(near), str(dice.choice(NUMBERS)), dice.choice(SPELLINGS)])
+    return text[:place.start()] + new.encode() + text[place.end():]
+
+
+def other_word(dice, text):
+    found = list(re.finditer(rb"[^ \n=\"]+", text))
+    if not found:
+        return text
+    place, other = dice.choice(found), dice.choice(found)
+    return text[:place.start()] + other[0] + text[place.end():]
+
+
+def other_lines(dice, text):
+    lines = text.split(b"\n")
+    j, k = dice.randrange(len(lines)), dice.randrange(len(lines))
+    kind = dice.randrange(4)
+    if kind == 0:
+        del lines[j]
+    elif kind == 1:
+        lines.insert(j, lines[k])
+    elif kind == 2:
+        lines[j], lines[k] = lines[k], lines[j]
+    else:
+        lines[j] = lines[j] + dice.choice([b" ", b" 0", b"\r", b"#", b",", b" = 1"])
+    return b"\n".join(lines)
+
+
+def other_bytes(dice, text):
+    k, many = dice.randrange(len(text) + 1), dice.choice([0, 1, 1, 1, 2, 20])
+    new = bytes([dice.choice(BYTES)]) * dice.choice([0, 1, 1])
+    return text[:k] + new + text[k + many:]
+
+
+def cut_or_longer(dice, text):
+    return dice.choice([text[: dice.randrange(len(text) + 1)], text[:-1], text + b"\n", text + b"x", text + text])
+
+
+def damaged(dice, text):
+    ways = [other_number] * 5 + [other_word] * 2 + [other_lines] * 2 + [other_bytes] * 2 + [cut_or_longer]
+    for _ in range(dice.choice([1, 1, 1, 2, 3])):
+        text = dice.choice(ways)(dice, text)
+    return text
+
+
+# Instances and plans made at random
+
+
+def made_instance(dice):
+    """The text of a small instance, mostly one without a fault."""
+    precision = dice.choice([0, 0, 1])
+    horizon = dice.choice([8, 12, 20, 30, 60])
+    cluster = {"precision": precision, "lead": 2 * precision + dice.choice([0, 0, 1]),
+               "trail": precision + dice.choice([0, 0, 1]), "head": dice.choice([1, 1, 2]), "per_byte": dice.choice([1, 1, 2]),
+               "copy_out": dice.choice([0, 0, 1]), "copy_in": dice.choice([0, 0, 1]), "horizon": horizon}
+    out = ["[cluster]"] + [f"{key} = {value}" for key, value in cluster.items()]
+    nodes, count = dice.choice([1, 2, 2, 3, 4]), dice.choice([1, 2, 3, 4, 5, 6])
+    for n in range(nodes):
+        options = sorted(dice.sample(range(6), dice.choice([1, 1, 2, 3]))) if dice.random() < 0.7 else [0]
+        out += ["[[node]]", f'name = "N{n}"', f"capacities = {options}"]
+    homes = [dice.randrange(nodes) for _ in range(count)]
+    wcets = [dice.choice([1, 2, 2, 3]) for _ in range(count)]
+    for p in range(count):
+        out += ["[[process]]", f'name = "p{p}"', f'node = "N{homes[p]}"', f"wcet = {wcets[p]}"]
+        if dice.random() < 0.2:
+            out.append(f"release = {dice.randrange(4)}")
+        if dice.random() < 0.2:
+            out.append(f"deadline = {dice.randrange(6, horizon + 3)}")
+    messages = []
+    for p in range(count):
+        for q in range(p + 1, count):
+            if homes[p] == homes[q] and dice.random() < 0.25:
+                out += ["[[link]]", f'from = "p{p}"', f'to = "p{q}"']
+        to = [q for q in range(p + 1, count) if homes[q] != homes[p] and dice.random() < 0.4]
+        if to:
+            messages.append((p, to))
+    for m, (p, to) in enumerate(messages):
+        receivers = ", ".join(f'"p{q}"' for q in to)
+        out += ["[[message]]", f'name = "m{m}"', f'from = "p{p}"', f"to = [{receivers}]", f"bytes = {dice.choice([1, 1, 2, 3])}"]
+    return "".join(line + "\n" for line in out).encode()
+
+
+def made_plan(dice, instance):
+    """The text of a plan of early starts, which mostly is valid."""
+    nodes = list(range(len(instance.nodes)))
+    dice.shuffle(nodes)
+    caps = [node.capacities[-1] for node in instance.nodes]
+    durations = [instance.duration(capacity) for capacity in caps]
+    starts, ends = {}, {}
+    rounds = [0] * len(instance.messages)
+    for p, process in enumerate(instance.processes):
+        start = process.release
+        start = max([start] + [end for q, end in ends.items() if instance.processes[q].node == process.node])
+        for m in instance.sent_to[p]:
+            n = instance.sender_node(m)
+            offset = sum(durations[u] for u in nodes[:nodes.index(n)])
+            rounds[m] = max(rounds[m], -(-(ends.get(instance.messages[m].sender, 0) + instance.copy_out - offset) // sum(durations)))
+            start = max(start, rounds[m] * sum(durations) + offset + durations[n] + instance.copy_in)
+        starts[p], ends[p] = start, start + process.wcet
+    out = ["ttplan 1", f"delay {max(ends.values())}", "order " + " ".join(instance.nodes[n].name for n in nodes)]
+    out += [f"cap {node.name} {caps[n]}" for n, node in enumerate(instance.nodes)]
+    out += [f"start {process.name} {starts[p]}" for p, process in enumerate(instance.processes)]
+    out += [f"round {message.name} {rounds[m]}" for m, message in enumerate(instance.messages)]
+    return "".join(line + "\n" for line in out).encode()
+
+
+# Certificates made at random
+
+
+def random_step(dice, instance, facts):
+    """A step, mostly of things that are there, and with numbers that matter."""
+    word = dice.choice([*second_check.STEPS, b"x-cycle"])
+    many = dice.randrange(2, 4) if word == b"x-cycle" else second_check.STEPS[word]
+    p = dice.randrange(len(instance.processes))
+    m = dice.randrange(len(instance.messages) + 1)
+    n = dice.randrange(len(instance.nodes))
+    kind = word.split(b"-")[1]
+    if kind in (b"arrive", b"message"):
+        to = instance.messages[m].to if m < len(instance.messages) else [0]
+        numbers = [m, dice.choice(to) if dice.random() < 0.95 else p]
+    elif kind in (b"before", b"window", b"twin", b"cycle") and many > 1:
+        numbers = [dice.choice(instance.by_node[instance.processes[p].node]) for _ in range(many)]
+    elif kind == b"load":
+        start, end = facts.es[p], facts.le[dice.choice(instance.by_node[instance.processes[p].node])]
+        numbers = [instance.processes[p].node, start, max(end + dice.choice([-1, 0, 0, 0, 1]), 0)]
+    elif kind == b"frames":
+        numbers = [n, dice.choice(facts.lo or [0]), dice.choice(facts.top or [0])]
+    elif kind == b"late":
+        numbers = [m, max(0, (facts.lo[m] if m < len(facts.lo) else 0) - dice.choice([0, 1, 1, 1, 2, 3]))]
+    elif kind == b"silent":
+        numbers = [n, dice.randrange(len(instance.nodes))]
+    elif kind in (b"send", b"round", b"frame"):
+        numbers = [m]
+    elif kind == b"link":
+        numbers = [dice.randrange(len(instance.links) + 1)]
+    else:
+        numbers = [p]
+    if dice.random() < 0.003:
+        numbers[dice.randrange(len(numbers))] = dice.choice([16, 64, 128, 256, 4294967295, 4294967296])
+    return word, numbers
+
+
+def nearly_lawful(instance, facts):
+    """Steps that would leave nothing if one start, end or round were sharper by one."""
+    windows = [b"x-window %d" % p for p, process in enumerate(instance.processes) if facts.es[p] + process.wcet == facts.le[p]]
+    return windows + [b"x-round %d" % m for m in range(len(facts.lo)) if facts.lo[m] + 1 == facts.top[m]]
+
+
+def leaf_lines(dice, instance, choice, low):
+    """A leaf, most of whose steps are lawful. Its last one leaves nothing where such a step is found."""
+    goal = max(low + dice.choice([0, 0, 0, 1, 2, -1 if dice.random() < 0.02 else 0]), 0)
+    facts = second_check.Facts(instance, choice, goal)
+    lines, turns = [], dice.choice([5, 40, 100, 300])
+    for turn in range(turns):
+        word, numbers = random_step(dice, instance, facts)
+        closes = word.startswith(b"x-")
+        if closes and turn < turns // 2:
+            continue
+        if second_check.STEP_FUNCTIONS[word](facts, *numbers) or dice.random() < (0.02 if closes else 0.001):
+            lines.append(b" ".join([word, *(str(number).encode() for number in numbers)]))
+            if facts.closed and dice.random() < 0.98:
+                break
+    if not facts.closed and (closers := nearly_lawful(instance, facts)):
+        lines.append(dice.choice(closers))
+    stated = len(lines) + (dice.choice([-1, 1]) if dice.random() < 0.005 else 0)
+    return [b"leaf %d %d" % (goal, max(stated, 0))] + lines
+
+
+def tree_lines(dice, instance, choice, low, depth):
+    if dice.random() < 0.35 + 0.1 * depth:
+        return leaf_lines(dice, instance, choice, low)
+    word = dice.choice([b"place", b"cap", b"pair", b"pair", b"round"])
+    if word == b"place":
+        numbers = []
+    elif word == b"cap":
+        numbers = [dice.randrange(len(instance.nodes))]
+    elif word == b"pair":
+        numbers = dice.choices(range(len(instance.processes)), k=2)
+    else:
+        numbers = [dice.randrange(len(instance.messages) + 1), dice.choice([0, 0, 1, 2, 3, instance.horizon - 2])]
+    counted = word in (b"place", b"cap")
+    below = second_check.children(instance, choice, word, numbers + [1] * counted)
+    if below is None:
+        if dice.random() < 0.95:
+            return tree_lines(dice, instance, choice, low, depth + 0.5)
+        below = [choice] * (dice.randrange(3) if counted else 2)
+    if counted and dice.random() < 0.01:
+        below = below[:-1] if dice.random() < 0.5 else below + below[-1:]
+    numbers += [len(below)] * counted
+    lines = [b" ".join([word, *(str(number).encode() for number in numbers)])]
+    for child in below:
+        lines += tree_lines(dice, instance, child, low, depth + 1)
+    return lines
+
+
+def made_certificate(dice, instance):
+    low = dice.choice([0, 1, 2, 3, 4, 5, 6, 8, 10, instance.horizon + 1, dice.randrange(instance.horizon + 3)])
+    lines = [b"ttcert 1", b"low %d" % low] + tree_lines(dice, instance, second_check.root(instance), low, 0)
+    return b"".join(line + b"\n" for line in lines)
+
+
+# The comparison
+
+
+def example_cases():
+    """The examples' instances with the plans and certificates that go with them by name."""
+    folder = ROOT / "examples"
+    for instance in sorted(folder.glob("*.toml")):
+        for text in sorted(folder.glob("*.plan")) + sorted(folder.glob("*.cert")):
+            if text.stem.startswith(instance.stem):
+                yield ("verify" if text.suffix == ".plan" else "check"), instance.read_bytes(), text.read_bytes()
+
+
+def case(dice, examples):
+    """A command and its two texts."""
+    if dice.random() < 0.3:
+        command, instance, text = dice.choice(examples)
+    else:
+        command, instance = dice.choice(["verify", "check", "check"]), made_instance(dice)
+        try:
+            read = second_check.Instance(instance)
+        except second_check.Refused:
+            return command, instance, b""
+        text = made_plan(dice, read) if command == "verify" else made_certificate(dice, read)
+        if command == "check" and dice.random() < 0.7:
+            return command, instance, text
+    where = dice.random()
+    if where < 0.3:
+        instance = damaged(dice, instance)
+    elif where < 0.9:
+        text = damaged(dice, text)
+    return command, instance, text
+
+
+def second(command, instance, text):
+    try:
+        return 0, second_check.COMMANDS[command][0](second_check.Instance(instance), text)
+    except second_check.Refused as fault:
+        return fault.status, fault.line
+
+
+def main():
+    words = argparse.ArgumentParser(description="Compares ttplan with second_check.py on damaged texts.")
+    words.add_argument("--cases", type=int, default=3000)
+    words.add_argument("--seed", type=int, default=1)
+    words.add_argument("--program", default=str(ROOT / "build/ttplan"))
+    words.add_argument("--keep", help="where the texts are kept on which the two differ")
+    asked = words.parse_args()
+    if not pathlib.Path(asked.program).exists():
+        sys.exit("compare_checks.py: the proved program isn't built yet: ./ttplan prove")
+    dice, examples = random.Random(asked.seed), list(example_cases())
+    answers, differ = collections.Counter(), 0
+    with tempfile.TemporaryDirectory(prefix="ttplan-") as room:
+        files = [pathlib.Path(room, name) for name in ("instance", "text")]
+        for k in range(asked.cases):
+            command, *texts = case(dice, examples)
+            for file, text in zip(files, texts):
+                file.write_bytes(text)
+            ran = subprocess.run([asked.program, command, *map(str, files)], capture_output=True, text=True)
+            first = ran.returncode, (ran.stdout + ran.stderr).rstrip("\n")
+            other = second(command, *texts)
+            answers[" ".join(other[1].split(" ")[: 1 if other[0] == 0 else 2])] += 1
+            if first != other and not (first[1].startswith("instance M13") and other[1].startswith("instance M13")):
+                differ += 1
+                print(f"case {k}: {command}: ttplan {first}, second_check {other}", flush=True)
+                if asked.keep:
+                    for name, text in zip(("toml", "text"), texts):
+                        pathlib.Path(asked.keep, f"case{k}.{name}").write_bytes(text)
+    print(", ".join(f"{answer} {count}" for answer, count in sorted(answers.items())))
+    print(f"{asked.cases} cases, {differ} differ")
+    return 1 if differ else 0
+
+
+if __name__ == "__main__":
+    sys.exit(main())

@@ -1,0 +1,855 @@
+#!/usr/bin/env python3
+"""Judges plans and certificates a second time, by a program that shares no code with ttplan:
+
+    tools/second_check.py verify INSTANCE PLAN     writes `valid D`
+    tools/second_check.py check INSTANCE CERT      writes `bound LOW`
+
+Anything else is told in one line on standard error, with the words and the statuses of `ttplan verify` and `ttplan check`.
+It was written from docs/FORMATS.md and docs/CERTIFICATES.md alone and is proved in no way: where it and ttplan differ, a
+document is wrong, or one of the two programs is.
+
+Two things may differ: which circle of processes is told (M13), where there are several, and what Python's reader of TOML
+1.0 takes for no TOML (T1): new lines and a last comma in inline tables, `\\e` and `\\x41` in strings, times without seconds,
+a second 60 and the year 0."""
+
+import codecs
+import math
+import os
+import re
+import sys
+import tomllib
+from dataclasses import dataclass, replace
+
+INSTANCE_BYTES, PLAN_BYTES, CERTIFICATE_BYTES = 1_048_576, 65_536, 268_435_456
+NUMBER_MOST = 4_294_967_295
+TICKS_MOST = 1_000_000
+NESTING_MOST = 80  # of brackets in brackets, and of a key's parts
+BRANCHES_MOST = 4_608
+NAME = re.compile(rb"[A-Za-z_][A-Za-z0-9_]{0,31}")
+NUMBER = re.compile(rb"0|[1-9][0-9]*")
+QUOTED = re.compile(
+    r"""\"{3}(?:\\.|[^\\])*?(?:\"{3,5}|\Z)|'{3}.*?(?:'{3,5}|\Z)|"(?:\\.|[^"\\\n])*"?|'[^'\n]*'?|\#[^\n]*""", re.DOTALL)
+LONG_KEY = re.compile(r"(?<![\w-])(?:[\w-]+[ \t]*\.[ \t]*){%d}" % NESTING_MOST)
+
+
+class Refused(Exception):
+    """The exit status and the line that tells why."""
+
+    def __init__(self, status, *words):
+        self.status = status
+        self.line = " ".join(str(word) for word in words)
+
+
+# The instance: its text
+
+
+CLUSTER_KEYS = ("precision", "lead", "trail", "head", "per_byte", "copy_out", "copy_in", "horizon")
+
+
+@dataclass
+class Node:
+    name: str
+    capacities: list
+
+
+@dataclass
+class Process:
+    name: str
+    node: int
+    wcet: int
+    release: int
+    deadline: int
+
+
+@dataclass
+class Link:
+    before: int
+    after: int
+
+
+@dataclass
+class Message:
+    name: str
+    sender: int
+    to: list
+    bytes: int
+
+
+class Table:
+    """A table of the text at its place. Its keys are asked for in the order in which they are judged."""
+
+    def __init__(self, members, place, keys):
+        self.members, self.place = members, place
+        if set(members) - set(keys):
+            raise Refused(3, "instance T2", place)
+
+    def value(self, key, kind, missing=None):
+        if key not in self.members:
+            if missing is None:
+                raise Refused(3, "instance T3", self.place, key)
+            return missing
+        return self.of_kind(key, self.members[key], kind)
+
+    def of_kind(self, key, value, kind):
+        # A truth value is an int to Python, and a date-time is a date.
+        if type(value) is not kind:
+            raise Refused(3, "instance T4", self.place, key)
+        if kind is int and not 0 <= value <= NUMBER_MOST:
+            raise Refused(3, "instance T5", self.place, key)
+        return value
+
+    def items(self, key, kind, missing=None):
+        for item in self.value(key, list, missing):
+            yield self.of_kind(key, item, kind)
+
+    def number(self, key, missing=None):
+        return self.value(key, int, missing)
+
+    def named(self, key, name, indices):
+        if name not in indices:
+            raise Refused(3, "instance T6", self.place, key)
+        return indices[name]
+
+    def index(self, key, indices):
+        return self.named(key, self.value(key, str), indices)
+
+
+def indices_of(things):
+    """The index of each name; a name that stands twice means the first that has it."""
+    return {thing.name: k for k, thing in reversed(list(enumerate(things)))}
+
+
+def is_too_deep(text):
+    """Whether brackets stand too deep in one another, or a key has too many parts, in a text that is TOML."""
+    bare = QUOTED.sub("q", text)
+    if LONG_KEY.search(bare):
+        return True
+    depth = 0
+    for bracket in re.findall(r"[][{}]", bare):
+        depth += 1 if bracket in "[{" else -1
+        if depth > NESTING_MOST:
+            return True
+    return False
+
+
+def finite(digits):
+    number = float(digits)
+    if math.isinf(number) and "inf" not in digits:
+        raise ValueError("a number that is too great")
+    return number
+
+
+def holds_long_number(value):
+    """Whether a whole number stands in the value that is beyond 64 bits."""
+    left = [value]
+    while left:
+        value = left.pop()
+        if type(value) is int and not -(2**63) <= value < 2**63:
+            return True
+        if isinstance(value, (dict, list)):
+            left += value.values() if isinstance(value, dict) else value
+    return False
+
+
+def parse(text):
+    """The text as a table."""
+    try:
+        text = text.removeprefix(codecs.BOM_UTF8).decode("utf-8")
+        # Python's reader isn't asked to read what is too deep for it.
+        top = None if is_too_deep(text) else tomllib.loads(text, parse_float=finite)
+    except ValueError as fault:
+        raise Refused(3, "instance T1") from fault
+    if top is None or holds_long_number(top):
+        raise Refused(3, "instance T1")
+    return top
+
+
+class Instance:
+    """The instance that a text states, or the first thing that is wrong with it."""
+
+    def __init__(self, text):
+        if len(text) > INSTANCE_BYTES:
+            raise Refused(6, "read instance")
+        top = Table(parse(text), "top", ("cluster", "node", "process", "link", "message"))
+        cluster = top.value("cluster", dict)
+        lists = {key: list(top.items(key, dict, missing)) for key, missing in
+                 (("node", None), ("process", None), ("link", []), ("message", []))}
+        cluster = Table(cluster, "cluster", CLUSTER_KEYS)
+        self.cluster = {key: cluster.number(key) for key in CLUSTER_KEYS}
+        # The cluster's numbers are the instance's own, as in instance.head.
+        self.__dict__.update(self.cluster)
+        self.nodes, self.processes, self.links, self.messages = [], [], [], []
+        for k, members in enumerate(lists["node"]):
+            table = Table(members, f"node {k}", ("name", "capacities"))
+            self.nodes.append(Node(table.value("name", str), list(table.items("capacities", int))))
+        nodes = indices_of(self.nodes)
+        for k, members in enumerate(lists["process"]):
+            table = Table(members, f"process {k}", ("name", "node", "wcet", "release", "deadline"))
+            self.processes.append(Process(
+                table.value("name", str), table.index("node", nodes), table.number("wcet"),
+                table.number("release", 0), table.number("deadline", TICKS_MOST)))
+        processes = indices_of(self.processes)
+        for k, members in enumerate(lists["link"]):
+            table = Table(members, f"link {k}", ("from", "to"))
+            self.links.append(Link(table.index("from", processes), table.index("to", processes)))
+        for k, members in enumerate(lists["message"]):
+            table = Table(members, f"message {k}", ("name", "from", "to", "bytes"))
+            self.messages.append(Message(
+                table.value("name", str), table.index("from", processes),
+                [table.named("to", name, processes) for name in table.items("to", str)], table.number("bytes")))
+        for code, place in self.faults():
+            raise Refused(3, f"instance {code}", *place)
+        self.by_node = [[p for p, process in enumerate(self.processes) if process.node == n]
+                        for n in range(len(self.nodes))]
+        self.sent_by = [[m for m in range(len(self.messages)) if self.sender_node(m) == n]
+                        for n in range(len(self.nodes))]
+        self.sent_to = [[m for m, message in enumerate(self.messages) if p in message.to]
+                        for p in range(len(self.processes))]
+        self.linked = {(link.before, link.after) for link in self.links}
+        self.waits = self.linked | {(message.sender, q) for message in self.messages for q in message.to}
+
+    def sender_node(self, m):
+        return self.processes[self.messages[m].sender].node
+
+    def duration(self, capacity):
+        return self.lead + self.head + self.per_byte * capacity + self.trail
+
+    def faults(self):
+        """The codes M1 to M13 with their places, the one that is told first."""
+        lists = (("node", self.nodes, 1, 16), ("process", self.processes, 1, 64),
+                 ("link", self.links, 0, 256), ("message", self.messages, 0, 128))
+        for word, things, least, most in lists:
+            if not least <= len(things) <= most:
+                yield "M1", (word,)
+        for k, message in enumerate(self.messages):
+            if not message.to:
+                yield "M1", ("message", k)
+        named = (("node", self.nodes), ("process", self.processes), ("message", self.messages))
+        for word, things in named:
+            for k, thing in enumerate(things):
+                if not NAME.fullmatch(thing.name.encode()):
+                    yield "M2", (word, k)
+        for word, things in named:
+            for k, thing in enumerate(things):
+                if indices_of(things)[thing.name] < k:
+                    yield "M3", (word, k)
+        yield from self.faults_of_numbers()
+        for k, message in enumerate(self.messages):
+            if any(self.processes[q].node == self.sender_node(k) for q in message.to):
+                yield "M7", ("message", k)
+        if self.lead < 2 * self.precision:
+            yield "M8", ()
+        if self.trail < self.precision:
+            yield "M9", ()
+        for k, process in enumerate(self.processes):
+            if process.deadline < process.release + process.wcet:
+                yield "M10", ("process", k)
+        for k, link in enumerate(self.links):
+            ends = self.processes[link.before], self.processes[link.after]
+            if link.before == link.after or ends[0].node != ends[1].node:
+                yield "M11", ("link", k)
+        for k, message in enumerate(self.messages):
+            if len(set(message.to)) < len(message.to):
+                yield "M12", ("message", k)
+        if circle := self.circle():
+            yield "M13", circle
+
+    def faults_of_numbers(self):
+        """M5 and M6."""
+        least = {"head": 1, "per_byte": 1, "horizon": 1}
+        most = {"per_byte": 1_000, "horizon": TICKS_MOST}
+        if any(not least.get(key, 0) <= value <= most.get(key, 10_000) for key, value in self.cluster.items()):
+            yield "M5", ("cluster",)
+        for k, process in enumerate(self.processes):
+            if not (1 <= process.wcet <= TICKS_MOST and process.release <= TICKS_MOST
+                    and 1 <= process.deadline <= TICKS_MOST):
+                yield "M5", ("process", k)
+        for k, message in enumerate(self.messages):
+            if not 1 <= message.bytes <= 1_000:
+                yield "M5", ("message", k)
+        for k, node in enumerate(self.nodes):
+            options = node.capacities
+            rising = all(one < next_one for one, next_one in zip(options, options[1:]))
+            if not (1 <= len(options) <= 8 and rising and options[-1] <= 1_000):
+                yield "M6", ("node", k)
+
+    def circle(self):
+        """Processes that wait for each other, or none. Those that wait for nothing are taken out until none is left."""
+        waits = {(link.before, link.after) for link in self.links}
+        waits |= {(message.sender, q) for message in self.messages for q in message.to}
+        while True:
+            behind = {q for _, q in waits}
+            kept = {(p, q) for p, q in waits if p in behind}
+            if kept == waits:
+                break
+            waits = kept
+        if not waits:
+            return []
+        # Each process here waits for one that does so too: going back, one comes again.
+        before = {q: p for p, q in sorted(waits)}
+        path = [min(before)]
+        while (process := before[path[-1]]) not in path:
+            path.append(process)
+        path = path[path.index(process):][::-1]
+        first = path.index(min(path))
+        return path[first:] + path[:first]
+
+
+# Lines of a text
+
+
+class Lines:
+    """The lines of a text, each without its LF, counted from 1. `early` and `behind` tell its end."""
+
+    def __init__(self, text, refuse, early, behind):
+        self.lines = text.split(b"\n")
+        self.rest = self.lines.pop()
+        self.refuse, self.early, self.behind = refuse, early, behind
+        self.count = 0
+
+    def next(self):
+        self.count += 1
+        if self.count > len(self.lines):
+            raise self.refuse(self.early, self.count)
+        return self.lines[self.count - 1]
+
+    def end(self):
+        if self.rest or self.count < len(self.lines):
+            raise self.refuse(self.behind, self.count + 1)
+
+
+def is_too_great(word):
+    return len(word) > 10 or int(word) > NUMBER_MOST
+
+
+# A plan
+
+
+@dataclass
+class Plan:
+    delay: int
+    order: list
+    caps: list
+    starts: list
+    rounds: list
+
+
+def plan_fault(code, *place):
+    return Refused(5, f"plan {code}", *place)
+
+
+def stated_number(lines, *words):
+    """The number at the end of the next line, behind a keyword and the name that has to stand there."""
+    line, count = lines.next(), lines.count
+    found = line.split(b" ")
+    if (len(found) != len(words) + 1 or found[0] != words[0] or not NUMBER.fullmatch(found[-1])
+            or not all(NAME.fullmatch(name) for name in found[1:-1])):
+        raise plan_fault("F1", count)
+    if is_too_great(found[-1]):
+        raise plan_fault("F4", count)
+    if tuple(found[:-1]) != words:
+        raise plan_fault("F2", count)
+    return int(found[-1])
+
+
+def stated_order(lines, instance):
+    line, count = lines.next(), lines.count
+    word, *names = line.split(b" ")
+    if word != b"order" or not all(NAME.fullmatch(name) for name in names):
+        raise plan_fault("F1", count)
+    indices = {node.name.encode(): n for n, node in enumerate(instance.nodes)}
+    if any(name not in indices for name in names):
+        raise plan_fault("F2", count)
+    order = [indices[name] for name in names]
+    if sorted(order) != list(range(len(instance.nodes))):
+        raise plan_fault("F3", count)
+    return order
+
+
+def read_plan(instance, text):
+    lines = Lines(text, plan_fault, "F5", "F6")
+    if lines.next() != b"ttplan 1":
+        raise plan_fault("F1", lines.count)
+    plan = Plan(
+        stated_number(lines, b"delay"),
+        stated_order(lines, instance),
+        [stated_number(lines, b"cap", node.name.encode()) for node in instance.nodes],
+        [stated_number(lines, b"start", process.name.encode()) for process in instance.processes],
+        [stated_number(lines, b"round", message.name.encode()) for message in instance.messages])
+    lines.end()
+    return plan
+
+
+def plan_faults(instance, plan):
+    """The rules V3 to V10 that a plan breaks, the one that is told first; its text keeps V1 and V2."""
+    processes, starts = instance.processes, plan.starts
+    ends = [start + process.wcet for start, process in zip(starts, processes)]
+    durations = [instance.duration(capacity) for capacity in plan.caps]
+    length = sum(durations)
+    offsets = {n: sum(durations[u] for u in plan.order[:k]) for k, n in enumerate(plan.order)}
+    for n, node in enumerate(instance.nodes):
+        if plan.caps[n] not in node.capacities:
+            yield "V3", n
+    for p, process in enumerate(processes):
+        if starts[p] < process.release:
+            yield "V4", p
+    for p, process in enumerate(processes):
+        if ends[p] > min(process.deadline, instance.horizon):
+            yield "V5", p
+    for p, process in enumerate(processes):
+        for q in range(p + 1, len(processes)):
+            if process.node == processes[q].node and ends[p] > starts[q] and ends[q] > starts[p]:
+                yield "V6", p, q
+    for k, link in enumerate(instance.links):
+        if ends[link.before] > starts[link.after]:
+            yield "V7", k
+    begins = [plan.rounds[m] * length + offsets[instance.sender_node(m)] for m in range(len(instance.messages))]
+    for m, message in enumerate(instance.messages):
+        if ends[message.sender] + instance.copy_out > begins[m]:
+            yield "V8", m
+    for m, message in enumerate(instance.messages):
+        for q in message.to:
+            if begins[m] + durations[instance.sender_node(m)] + instance.copy_in > starts[q]:
+                yield "V9", m, q
+    for m in range(len(instance.messages)):
+        n, r = instance.sender_node(m), plan.rounds[m]
+        if sum(instance.messages[x].bytes for x in instance.sent_by[n] if plan.rounds[x] == r) > plan.caps[n]:
+            yield "V10", n, r
+
+
+def verify(instance, plan_text):
+    """The line of a valid plan; raises Refused."""
+    if len(plan_text) > PLAN_BYTES:
+        raise Refused(6, "read plan")
+    plan = read_plan(instance, plan_text)
+    for fault in plan_faults(instance, plan):
+        raise plan_fault(*fault)
+    delay = max(start + process.wcet for start, process in zip(plan.starts, instance.processes))
+    if delay != plan.delay:
+        raise plan_fault("D1", delay)
+    return f"valid {delay}"
+
+
+# A certificate: its text
+
+
+BRANCHES = {b"place": 1, b"cap": 2, b"pair": 2, b"round": 2}
+STEPS = {
+    b"es-release": 1, b"es-link": 1, b"es-before": 2, b"es-arrive": 2, b"es-message": 2, b"lo-send": 1, b"le-own": 1,
+    b"le-link": 1, b"le-before": 2, b"le-message": 2, b"le-send": 1, b"hi-arrive": 2, b"ord-window": 2, b"ord-twin": 2,
+    b"us-settled": 1, b"x-window": 1, b"x-round": 1, b"x-load": 3, b"x-frame": 1, b"x-frames": 3, b"x-late": 2,
+    b"x-silent": 2}
+
+
+def certificate_fault(code, line):
+    return Refused(5, f"certificate {code}", line)
+
+
+def is_step(word, numbers):
+    return len(numbers) >= 2 if word == b"x-cycle" else STEPS.get(word) == len(numbers)
+
+
+def is_node(word, numbers):
+    return len(numbers) == 2 if word == b"leaf" else BRANCHES.get(word) == len(numbers)
+
+
+def parts(line):
+    """The word and the numbers of a line that was read before."""
+    word, *numbers = line.split(b" ")
+    return word, [int(number) for number in numbers]
+
+
+def stated_line(lines, is_right):
+    """The next line, which has the form that `is_right` asks for."""
+    line = lines.next()
+    word, *numbers = line.split(b" ")
+    if not is_right(word, numbers) or not all(NUMBER.fullmatch(number) for number in numbers):
+        raise certificate_fault("G2", lines.count)
+    if any(is_too_great(number) for number in numbers):
+        raise certificate_fault("G3", lines.count)
+    return line
+
+
+def children_stated(word, numbers):
+    return numbers[-1] if word in (b"place", b"cap") else 2
+
+
+def read_certificate(text):
+    """The bound, and the nodes in the order of their lines: the number of the line, the word, the numbers and the steps' lines."""
+    lines = Lines(text, certificate_fault, "G5", "G6")
+    if lines.next() != b"ttcert 1":
+        raise certificate_fault("G1", lines.count)
+    _, (low,) = parts(stated_line(lines, lambda word, numbers: word == b"low" and len(numbers) == 1))
+    nodes = []
+    # How many children are still to come of each branch above the next node: the root is one child of nothing.
+    left = [1]
+    while left:
+        if left[-1] == 0:
+            left.pop()
+            continue
+        left[-1] -= 1
+        word, numbers = parts(stated_line(lines, is_node))
+        if len(left) - 1 > BRANCHES_MOST:
+            raise certificate_fault("G4", lines.count)
+        steps, line = [], lines.count
+        if word == b"leaf":
+            for _ in range(numbers[1]):
+                steps.append(stated_line(lines, is_step))
+        else:
+            left.append(children_stated(word, numbers))
+        nodes.append((line, word, numbers, steps))
+    lines.end()
+    return low, nodes
+
+
+# A certificate: its tree
+
+
+@dataclass(frozen=True)
+class Choice:
+    """What the branches above a node decide; ranges are from the first to the last round."""
+
+    order: tuple
+    caps: tuple
+    pairs: frozenset
+    ranges: tuple
+
+
+def root(instance):
+    return Choice((), (None,) * len(instance.nodes), frozenset(), ((0, instance.horizon - 1),) * len(instance.messages))
+
+
+def with_item(items, k, item):
+    return items[:k] + (item,) + items[k + 1:]
+
+
+def children(instance, choice, word, numbers):
+    """The choices of a branch's children in order, or None where it doesn't stand rightly."""
+    a, *b = numbers
+    if word == b"place":
+        unplaced = [n for n in range(len(instance.nodes)) if n not in choice.order]
+        return [replace(choice, order=choice.order + (n,)) for n in unplaced] or None
+    if word == b"cap":
+        if a >= len(instance.nodes) or choice.caps[a] is not None:
+            return None
+        return [replace(choice, caps=with_item(choice.caps, a, option)) for option in instance.nodes[a].capacities]
+    if word == b"pair":
+        pairs = (a, b[0]), (b[0], a)
+        if not are_neighbours(instance, *pairs[0]) or any(pair in choice.pairs for pair in pairs):
+            return None
+        return [replace(choice, pairs=choice.pairs | {pair}) for pair in pairs]
+    if a >= len(instance.messages) or not choice.ranges[a][0] <= b[0] < choice.ranges[a][1]:
+        return None
+    first, last = choice.ranges[a]
+    return [replace(choice, ranges=with_item(choice.ranges, a, cut)) for cut in ((first, b[0]), (b[0] + 1, last))]
+
+
+def are_neighbours(instance, p, q):
+    """Two processes of one node."""
+    processes = instance.processes
+    return p != q and max(p, q) < len(processes) and processes[p].node == processes[q].node
+
+
+def are_twins(instance, p, q):
+    if not are_neighbours(instance, p, q):
+        return False
+    times = [(x.wcet, x.release, x.deadline) for x in (instance.processes[p], instance.processes[q])]
+    talks = any(x in (message.sender, *message.to) for message in instance.messages for x in (p, q))
+    linked = instance.linked
+    before = [{x for x, y in linked if y == z} for z in (p, q)]
+    after = [{y for x, y in linked if x == z} for z in (p, q)]
+    apart = (p, q) not in linked and (q, p) not in linked
+    return times[0] == times[1] and not talks and before[0] == before[1] and after[0] == after[1] and apart
+
+
+def are_silent_twins(instance, u, v):
+    nodes = instance.nodes
+    return (u != v and max(u, v) < len(nodes) and nodes[u].capacities == nodes[v].capacities
+            and not instance.sent_by[u] and not instance.sent_by[v])
+
+
+class Facts:
+    """What is known at a leaf: each step has a function of its own, which answers whether it is lawful."""
+
+    def __init__(self, instance, choice, goal):
+        self.instance, self.order, self.goal = instance, choice.order, goal
+        nodes = range(len(instance.nodes))
+        self.cap_least = [choice.caps[n] if choice.caps[n] is not None else instance.nodes[n].capacities[0] for n in nodes]
+        self.cap_most = [choice.caps[n] if choice.caps[n] is not None else instance.nodes[n].capacities[-1] for n in nodes]
+        self.dur_least = [instance.duration(capacity) for capacity in self.cap_least]
+        self.dur_most = [instance.duration(capacity) for capacity in self.cap_most]
+        self.round_least, self.round_most = sum(self.dur_least), sum(self.dur_most)
+        self.offset_least, self.offset_most = [], []
+        for n in nodes:
+            placed = self.order[:self.order.index(n)] if n in self.order else self.order
+            others = placed if n in self.order else [u for u in nodes if u != n]
+            self.offset_least.append(sum(self.dur_least[u] for u in placed))
+            self.offset_most.append(sum(self.dur_most[u] for u in others))
+        self.es = [0] * len(instance.processes)
+        self.le = [instance.horizon] * len(instance.processes)
+        self.lo = [first for first, _ in choice.ranges]
+        self.top = [last + 1 for _, last in choice.ranges]
+        self.bef = set(choice.pairs)
+        self.closed = False
+
+    # Extremes
+
+    def begin_least(self, n, r):
+        return r * self.round_least + self.offset_least[n]
+
+    def begin_most(self, n, r):
+        return r * self.round_most + self.offset_most[n]
+
+    def end_least(self, n, r):
+        return self.begin_least(n, r) + self.dur_least[n]
+
+    def end_most(self, n, r):
+        return self.begin_most(n, r) + self.dur_most[n]
+
+    # What is there
+
+    def process(self, p):
+        return self.instance.processes[p] if p < len(self.instance.processes) else None
+
+    def message(self, m):
+        return self.instance.messages[m] if m < len(self.instance.messages) else None
+
+    def link(self, l):
+        return self.instance.links[l] if l < len(self.instance.links) else None
+
+    # What is concluded
+
+    def at_least(self, known, k, number):
+        known[k] = max(known[k], min(number, self.instance.horizon + 1))
+        return True
+
+    def at_most(self, known, k, number):
+        known[k] = min(known[k], max(number, 0))
+        return True
+
+    def is_before(self, p, q):
+        self.bef.add((p, q))
+        return True
+
+    def closes(self, holds):
+        self.closed = holds
+        return holds
+
+    # The steps
+
+    def es_release(self, p):
+        return bool(self.process(p)) and self.at_least(self.es, p, self.process(p).release)
+
+    def es_after(self, p, q):
+        return self.at_least(self.es, q, self.es[p] + self.process(p).wcet)
+
+    def es_link(self, l):
+        return bool(self.link(l)) and self.es_after(self.link(l).before, self.link(l).after)
+
+    def es_before(self, p, q):
+        return (p, q) in self.bef and self.es_after(p, q)
+
+    def es_arrive(self, m, q):
+        if not self.message(m) or q not in self.message(m).to:
+            return False
+        n = self.instance.sender_node(m)
+        return self.at_least(self.es, q, self.end_least(n, self.lo[m]) + self.instance.copy_in)
+
+    def ready(self, m):
+        """How early a message can be copied out."""
+        s = self.message(m).sender
+        return self.es[s] + self.process(s).wcet + self.instance.copy_out
+
+    def es_message(self, m, q):
+        if not self.message(m) or q not in self.message(m).to:
+            return False
+        n = self.instance.sender_node(m)
+        return self.at_least(self.es, q, self.ready(m) + self.dur_least[n] + self.instance.copy_in)
+
+    def lo_send(self, m):
+        if not self.message(m):
+            return False
+        short = self.ready(m) - self.offset_most[self.instance.sender_node(m)]
+        return self.at_least(self.lo, m, -(-short // self.round_most))
+
+    def le_own(self, p):
+        if not self.process(p):
+            return False
+        return self.at_most(self.le, p, min(self.process(p).deadline, self.instance.horizon, max(self.goal - 1, 0)))
+
+    def le_after(self, p, q):
+        return self.at_most(self.le, p, self.le[q] - self.process(q).wcet)
+
+    def le_link(self, l):
+        return bool(self.link(l)) and self.le_after(self.link(l).before, self.link(l).after)
+
+    def le_before(self, p, q):
+        return (p, q) in self.bef and self.le_after(p, q)
+
+    def le_message(self, m, q):
+        if not self.message(m) or q not in self.message(m).to:
+            return False
+        between = self.instance.copy_in + self.dur_least[self.instance.sender_node(m)] + self.instance.copy_out
+        return self.at_most(self.le, self.message(m).sender, self.le[q] - self.process(q).wcet - between)
+
+    def le_send(self, m):
+        if not self.message(m) or self.top[m] < 1:
+            return False
+        begin = self.begin_most(self.instance.sender_node(m), self.top[m] - 1)
+        return self.at_most(self.le, self.message(m).sender, begin - self.instance.copy_out)
+
+    def hi_arrive(self, m, q):
+        if not self.message(m) or q not in self.message(m).to:
+            return False
+        first = self.end_least(self.instance.sender_node(m), 0) + self.instance.copy_in + self.process(q).wcet
+        return self.at_most(self.top, m, (self.le[q] - first) // self.round_least + 1)
+
+    def ord_window(self, p, q):
+        if not are_neighbours(self.instance, p, q):
+            return False
+        return self.es[q] + self.process(q).wcet + self.process(p).wcet > self.le[p] and self.is_before(p, q)
+
+    def ord_twin(self, p, q):
+        return p < q and are_twins(self.instance, p, q) and self.is_before(p, q)
+
+    def us_settled(self, p):
+        if not self.process(p) or any(self.top[m] < 1 for m in self.instance.sent_to[p]):
+            return False
+        waits = [self.process(p).release]
+        waits += [self.le[x] for x in self.instance.by_node[self.process(p).node]
+                  if x != p and (p, x) not in self.bef and (p, x) not in self.instance.linked]
+        waits += [self.end_most(self.instance.sender_node(m), self.top[m] - 1) + self.instance.copy_in
+                  for m in self.instance.sent_to[p]]
+        return self.at_most(self.le, p, self.process(p).wcet + max(waits))
+
+    def x_window(self, p):
+        return self.closes(bool(self.process(p)) and self.es[p] + self.process(p).wcet > self.le[p])
+
+    def x_round(self, m):
+        return self.closes(bool(self.message(m)) and self.lo[m] >= self.top[m])
+
+    def x_cycle(self, *circle):
+        turns = zip(circle, circle[1:] + circle[:1])
+        return self.closes(all(turn in self.bef or turn in self.instance.waits for turn in turns))
+
+    def x_load(self, n, a, b):
+        if n >= len(self.instance.nodes) or a > b:
+            return False
+        load = sum(self.process(p).wcet for p in self.instance.by_node[n] if a <= self.es[p] and self.le[p] <= b)
+        return self.closes(load > b - a)
+
+    def x_frame(self, m):
+        return self.closes(bool(self.message(m)) and self.message(m).bytes > self.cap_most[self.instance.sender_node(m)])
+
+    def x_frames(self, n, a, b):
+        if n >= len(self.instance.nodes) or a > b:
+            return False
+        load = sum(self.message(m).bytes for m in self.instance.sent_by[n] if a <= self.lo[m] and self.top[m] <= b)
+        return self.closes(load > (b - a) * self.cap_most[n])
+
+    def x_late(self, m, r):
+        if not self.message(m) or r >= self.lo[m]:
+            return False
+        n = self.instance.sender_node(m)
+        if self.le[self.message(m).sender] + self.instance.copy_out > self.begin_least(n, r):
+            return False
+        load = sum(self.message(x).bytes for x in self.instance.sent_by[n] if x == m or self.lo[x] <= r < self.top[x])
+        return self.closes(load <= self.cap_least[n])
+
+    def x_silent(self, u, v):
+        if not (u < v and are_silent_twins(self.instance, u, v) and v in self.order):
+            return False
+        return self.closes(u not in self.order or self.order.index(u) > self.order.index(v))
+
+
+STEP_FUNCTIONS = {word: getattr(Facts, word.decode().replace("-", "_")) for word in (*STEPS, b"x-cycle")}
+
+
+def check_leaf(instance, choice, low, node):
+    line, _, (goal, _), steps = node
+    if goal < low:
+        raise certificate_fault("C3", line)
+    facts = Facts(instance, choice, goal)
+    for k, step in enumerate(steps, 1):
+        word, numbers = parts(step)
+        if facts.closed or not STEP_FUNCTIONS[word](facts, *numbers):
+            raise certificate_fault("C4", line + k)
+    if not facts.closed:
+        raise certificate_fault("C5", line)
+
+
+def check(instance, certificate_text):
+    """The line of a certificate that proves its bound; raises Refused."""
+    if len(certificate_text) > CERTIFICATE_BYTES:
+        raise Refused(6, "read certificate")
+    low, nodes = read_certificate(certificate_text)
+    if low > instance.horizon + 1:
+        raise certificate_fault("C6", 2)
+    # The choices of the nodes that are still to come, the next one last.
+    choices = [root(instance)]
+    for node in nodes:
+        line, word, numbers, _ = node
+        choice = choices.pop()
+        if word == b"leaf":
+            check_leaf(instance, choice, low, node)
+            continue
+        below = children(instance, choice, word, numbers)
+        if below is None:
+            raise certificate_fault("C2", line)
+        if len(below) != children_stated(word, numbers):
+            raise certificate_fault("C1", line)
+        choices += below[::-1]
+    return f"bound {low}"
+
+
+# The program
+
+
+COMMANDS = {"verify": (verify, "plan", PLAN_BYTES), "check": (check, "certificate", CERTIFICATE_BYTES)}
+
+
+def opened(path, what):
+    try:
+        return open(path, "rb")
+    except OSError as fault:
+        raise Refused(6, f"read {what}") from fault
+
+
+def taken(file, what, limit):
+    """The bytes of a file: of one over its limit, one more than that."""
+    try:
+        return file.read(limit + 1)
+    except OSError as fault:
+        raise Refused(6, f"read {what}") from fault
+
+
+def run(words):
+    if len(words) != 3 or words[0] not in COMMANDS:
+        raise Refused(2, "usage: second_check.py verify INSTANCE PLAN | check INSTANCE CERT")
+    judge, what, limit = COMMANDS[words[0]]
+    with opened(words[1], "instance") as instance, opened(words[2], what) as text:
+        judged = Instance(taken(instance, "instance", INSTANCE_BYTES))
+        return judge(judged, taken(text, what, limit))
+
+
+def write_out(line):
+    try:
+        os.write(1, line.encode() + b"\n")
+    except OSError as fault:
+        raise Refused(6, "write out") from fault
+
+
+def main():
+    try:
+        write_out(run(sys.argv[1:]))
+        return 0
+    except Refused as fault:
+        print(fault.line, file=sys.stderr)
+        return fault.status
+    except MemoryError:
+        print("memory", file=sys.stderr)
+        return 4
+
+
+if __name__ == "__main__":
+    sys.exit(main())
