@@ -16,7 +16,7 @@ use Rattle.incumbent.specs.Watch.{seen, offers, out_count, IsOpening}
 use Rattle.steal_pool.specs.declared.hand.Hand.{Hand}
 use Rattle.steal_pool.specs.Hand.{pushed, taken, IsSameHand, all_pushed, all_taken}
 use Rattle.pool_worker.specs.declared.report.Report.{Report}
-use Rattle.pool_worker.specs.Tasks.{Turn, IsTurn, tasks_of, all_born, born}
+use Rattle.pool_worker.specs.Tasks.{Turn, IsTurn, tasks_of, pieces_of, all_born, born}
 use Rattle.pool_worker.specs.Goals.{goals_of, goals_at, IsReached}
 use Rattle.pool_worker.specs.Best.{IsBestOf}
 use Rattle.pool_worker.specs.Report.{held, unpushed}
@@ -24,7 +24,7 @@ use Rattle.planner.specs.declared.crew.Job.{Job}
 use Rattle.planner.specs.declared.crew.Crew.{Crew}
 use Rattle.planner.specs.Answers.{limit_of}
 use Rattle.planner.specs.Searched.{IsFound}
-use Rattle.planner.specs.Crew.{AreSameHands, Gathers, IsBetter, IsJob, IsReportOfJob, tasks_in, told}
+use Rattle.planner.specs.Crew.{AreSameHands, AreTogether, Gathers, IsBetter, IsJob, IsReportOfJob, tasks_in, told}
 use Rattle.planner.proofs.Searching.{first_is, then_is, found_small, one_only}
 
 -- ---- lists
@@ -76,35 +76,64 @@ above_best i made (Some best) is = is.1
 lower_all : (n m : ℕ) (xs : List ℕ) → m ≤ n → All (λ x. n ≤ x) xs → All (λ x. m ≤ x) xs
 lower_all n m xs le h k d small = let p = h k d small in omega arith
 
+-- ---- turns
+
+-- turns of two, in either order
+record AreBoth (i : Instance) (first second turns : List Turn) : Type 0 where
+  tasks : IsPermutation (tasks_of first ++ tasks_of second) (tasks_of turns)
+  gave : IsPermutation (all_born i first ++ all_born i second) (all_born i turns)
+  each : All (IsTurn i) first → All (IsTurn i) second → All (IsTurn i) turns
+
+in_order : (i : Instance) (first second : List Turn) → AreBoth i first second (first ++ second)
+in_order i first second = record {
+  tasks = then_is _ _ _ (IsPermutation-refl (tasks_of first ++ tasks_of second)) (sym (map-append (λ (t : Turn). t.task) first second));
+  gave = then_is _ _ _ (IsPermutation-refl (all_born i first ++ all_born i second)) (sym (flat_map-append (born i) first second));
+  each = All-append (IsTurn i) first second;
+}
+
+turned : (i : Instance) (first second : List Turn) → AreBoth i first second (second ++ first)
+turned i first second = record {
+  tasks = then_is _ _ _ (IsPermutation-append_comm (tasks_of first) (tasks_of second)) (sym (map-append (λ (t : Turn). t.task) second first));
+  gave = then_is _ _ _ (IsPermutation-append_comm (all_born i first) (all_born i second)) (sym (flat_map-append (born i) second first));
+  each = λ one other. All-append (IsTurn i) second first other one;
+}
+
+-- the goals of two lists of pieces, one behind the other
+all_goals : (P : ℕ → Type 0) (first second all : List Piece) → all ≡ first ++ second → All P (goals_of first) → All P (goals_of second) → All P (goals_of all)
+all_goals P first second all same one other =
+    let grown = ap goals_of same ∙ flat_map-append (λ (p : Piece). goals_at p.node) first second in
+    subst (All P) (sym grown) (All-append P (goals_of first) (goals_of second) one other)
+
 -- ---- one more report
 
 module _ {J : Type 0} (i : Instance) (word : Incumbent) (count : ℕ) (begun : List (Hand J)) (old new : Crew J) (job : Job J) (report : Report J) (w : IsInstance i) (g : Gathers i word count begun old) (j : IsJob word job)
-    (r : IsReportOfJob i job report) (hands : new.hands.items ≡ old.hands.items ++ report.hand ∷ []) (pieces : new.pieces.items ≡ old.pieces.items ++ report.pieces.items)
+    (r : IsReportOfJob i job report) (hands : new.hands.items ≡ old.hands.items ++ report.hand ∷ []) (pieces : AreTogether old.pieces.items report.pieces.items new.pieces.items)
     (tasks : new.tasks.items ≡ old.tasks.items ++ tasks_in report.rest) (better : IsBetter i old.best report.best new.best) (opening : IsOpening word new.watch) (out : out_count new.watch ≡ out_count old.watch - 1)
     (sees : seen new.watch ≡ seen old.watch ++ seen report.watch) (offered : offers new.watch ≡ offers old.watch ++ offers report.watch) where
-  takes_more : IsPermutation (all_taken new.hands.items) (all_taken (begun ++ job.hand ∷ []) ++ (tasks_of (g.turns ++ r.account.turns) ++ (g.in_hand ++ held report.rest)))
-  takes_more =
+  takes_more : (turns : List Turn) → AreBoth i g.turns r.account.turns turns → IsPermutation (all_taken new.hands.items) (all_taken (begun ++ job.hand ∷ []) ++ (tasks_of turns ++ (g.in_hand ++ held report.rest)))
+  takes_more turns of_both =
       let a = r.account in
+      let left_over = g.in_hand ++ held report.rest in
       let took = IsPermutation-trans _ _ _ a.takes (IsPermutation-append_right (taken job.hand) a.took (tasks_of a.turns ++ held report.rest) a.account.took) in
       let all = both (all_taken old.hands.items) (taken report.hand) (all_taken begun) (tasks_of g.turns ++ g.in_hand) (taken job.hand) (tasks_of a.turns ++ held report.rest) g.takes took in
       let inner = IsPermutation-append_right (all_taken begun ++ taken job.hand) _ _ (interleave (tasks_of g.turns) g.in_hand (tasks_of a.turns) (held report.rest)) in
+      let worked = IsPermutation-append_right (all_taken begun ++ taken job.hand) _ _ (IsPermutation-append_left left_over _ _ of_both.tasks) in
       let left = ap all_taken hands ∙ one_more taken old.hands.items report.hand in
-      let right : all_taken (begun ++ job.hand ∷ []) ++ (tasks_of (g.turns ++ a.turns) ++ (g.in_hand ++ held report.rest)) ≡ (all_taken begun ++ taken job.hand) ++ ((tasks_of g.turns ++ tasks_of a.turns) ++ (g.in_hand ++ held report.rest)) =
-      λ k. one_more taken begun job.hand k ++ (map-append (λ (t : Turn). t.task) g.turns a.turns k ++ (g.in_hand ++ held report.rest)) in
-      first_is _ _ _ left (then_is _ _ _ (IsPermutation-trans _ _ _ all inner) (sym right))
+      let right = ap (λ (l : List Task). l ++ (tasks_of turns ++ left_over)) (one_more taken begun job.hand) in
+      first_is _ _ _ left (then_is _ _ _ (IsPermutation-trans _ _ _ all (IsPermutation-trans _ _ _ inner worked)) (sym right))
 
-  pushes_more : IsPermutation (all_pushed new.hands.items ++ (g.kept_back ++ unpushed report.rest)) (all_pushed (begun ++ job.hand ∷ []) ++ all_born i (g.turns ++ r.account.turns))
-  pushes_more =
+  pushes_more : (turns : List Turn) → AreBoth i g.turns r.account.turns turns → IsPermutation (all_pushed new.hands.items ++ (g.kept_back ++ unpushed report.rest)) (all_pushed (begun ++ job.hand ∷ []) ++ all_born i turns)
+  pushes_more turns of_both =
       let a = r.account in
       let U = unpushed report.rest in
       let own = first_is _ _ _ (ap (λ (l : List Task). l ++ U) a.pushes ∙ append_assoc (pushed job.hand) a.gave U)
       (IsPermutation-append_right (pushed job.hand) (a.gave ++ U) (all_born i a.turns) (IsPermutation-sym (all_born i a.turns) (a.gave ++ U) a.account.gave)) in
       let apart = interleave (all_pushed old.hands.items) (pushed report.hand) g.kept_back U in
       let all = both (all_pushed old.hands.items ++ g.kept_back) (pushed report.hand ++ U) (all_pushed begun) (all_born i g.turns) (pushed job.hand) (all_born i a.turns) g.pushes own in
+      let gave = IsPermutation-append_right (all_pushed begun ++ pushed job.hand) _ _ of_both.gave in
       let left = ap (λ (l : List Task). l ++ (g.kept_back ++ U)) (ap all_pushed hands ∙ one_more pushed old.hands.items report.hand) in
-      let right : all_pushed (begun ++ job.hand ∷ []) ++ all_born i (g.turns ++ a.turns) ≡ (all_pushed begun ++ pushed job.hand) ++ (all_born i g.turns ++ all_born i a.turns) =
-      λ k. one_more pushed begun job.hand k ++ flat_map-append (born i) g.turns a.turns k in
-      first_is _ _ _ left (then_is _ _ _ (IsPermutation-trans _ _ _ apart all) (sym right))
+      let right = ap (λ (l : List Task). l ++ all_born i turns) (one_more pushed begun job.hand) in
+      first_is _ _ _ left (then_is _ _ _ (IsPermutation-trans _ _ _ apart (IsPermutation-trans _ _ _ all gave)) (sym right))
 
   offers_above : All (λ value. limit_of i new.best ≤ value) (offers new.watch)
   offers_above =
@@ -130,32 +159,42 @@ module _ {J : Type 0} (i : Instance) (word : Incumbent) (count : ℕ) (begun : L
     at_most = h.at_most;
   }
 
-  all_reached : All (IsReached new.watch) (goals_of new.pieces.items)
-  all_reached =
-      let grown = ap goals_of pieces ∙ flat_map-append (λ (p : Piece). goals_at p.node) old.pieces.items report.pieces.items in
-      subst (All (IsReached new.watch)) (sym grown)
-      (All-append (IsReached new.watch) (goals_of old.pieces.items) (goals_of report.pieces.items)
-      (All-weaker (IsReached old.watch) (IsReached new.watch) left_reached (goals_of old.pieces.items) g.reached)
-      (All-weaker (IsReached report.watch) (IsReached new.watch) right_reached (goals_of report.pieces.items) r.goals.reached))
+  old_reached : All (IsReached new.watch) (goals_of old.pieces.items)
+  old_reached = All-weaker (IsReached old.watch) (IsReached new.watch) left_reached (goals_of old.pieces.items) g.reached
 
-  pub gathers_more : Gathers i word count (begun ++ job.hand ∷ []) new
-  gathers_more = record {
+  own_reached : All (IsReached new.watch) (goals_of report.pieces.items)
+  own_reached = All-weaker (IsReached report.watch) (IsReached new.watch) right_reached (goals_of report.pieces.items) r.goals.reached
+
+  gathers_turns : (turns : List Turn) → AreBoth i g.turns r.account.turns turns → pieces_of turns ≡ new.pieces.items → All (IsReached new.watch) (goals_of new.pieces.items) → Gathers i word count (begun ++ job.hand ∷ []) new
+  gathers_turns turns of_both made reached = record {
     same = subst (AreSameHands (begun ++ job.hand ∷ [])) (sym hands) (same_snoc begun old.hands.items job.hand report.hand g.same r.hand);
-    turns = g.turns ++ r.account.turns;
-    each = All-append (IsTurn i) g.turns r.account.turns g.each r.account.each;
-    pieces = map-append (λ (t : Turn). t.piece) g.turns r.account.turns ∙ (λ k. g.pieces k ++ r.account.pieces k) ∙ sym pieces;
+    turns = turns;
+    each = of_both.each g.each r.account.each;
+    pieces = made;
     in_hand = g.in_hand ++ held report.rest;
     kept_back = g.kept_back ++ unpushed report.rest;
-    takes = takes_more;
-    pushes = pushes_more;
+    takes = takes_more turns of_both;
+    pushes = pushes_more turns of_both;
     rest = first_is _ _ _ tasks (both old.tasks.items (tasks_in report.rest) g.in_hand g.kept_back (held report.rest) (unpushed report.rest) g.rest (IsPermutation-refl (tasks_in report.rest)));
     open_tasks = subst (All (IsTask i)) (sym tasks) (All-append (IsTask i) old.tasks.items (tasks_in report.rest) g.open_tasks (All-append (IsTask i) (held report.rest) (unpushed report.rest) r.account.one_of r.account.others_of));
     opening = opening;
     joined = omega (arith, out, g.joined, length-append begun (job.hand ∷ []));
     found = better.found;
     best = offers_above;
-    reached = all_reached;
+    reached = reached;
   }
+
+  pub gathers_more : Gathers i word count (begun ++ job.hand ∷ []) new
+  gathers_more = ⊎_elim
+      (λ (same : new.pieces.items ≡ old.pieces.items ++ report.pieces.items).
+      gathers_turns (g.turns ++ r.account.turns) (in_order i g.turns r.account.turns)
+      (map-append (λ (t : Turn). t.piece) g.turns r.account.turns ∙ (λ k. g.pieces k ++ r.account.pieces k) ∙ sym same)
+      (all_goals (IsReached new.watch) old.pieces.items report.pieces.items new.pieces.items same old_reached own_reached))
+      (λ (same : new.pieces.items ≡ report.pieces.items ++ old.pieces.items).
+      gathers_turns (r.account.turns ++ g.turns) (turned i g.turns r.account.turns)
+      (map-append (λ (t : Turn). t.piece) r.account.turns g.turns ∙ (λ k. r.account.pieces k ++ g.pieces k) ∙ sym same)
+      (all_goals (IsReached new.watch) report.pieces.items old.pieces.items new.pieces.items same own_reached old_reached))
+      pieces
 
 -- ---- nobody yet
 

@@ -18,5 +18,6 @@ pub mod Searching
 pub mod Leaves
 pub mod Ending
 pub mod Crews
+pub mod Reports
 pub mod Pools
 pub mod Collected

@@ -1,10 +1,10 @@
--- How a search begins, and what work on a task makes of it.
+-- What work on a task makes of a search.
 use Rattle.std.proofs.Common.{◌≡◌, ℕ, ◌≤◌, List, [], ◌∷◌, ◌++◌, Option, refl, sym, ap, subst, ◌∙◌, arith, append_assoc, All, Contains}
 use Rattle.std.specs.List.Sorted.{IsPermutation}
 use Rattle.std.proofs.lemmas.Grind.{flat_map-append}
 use Rattle.std.proofs.lemmas.List.{append-nil, map-append}
 use Rattle.std.proofs.lemmas.List.Elements.{All-head, All-tail, All-cons, All-nil, All-append, All-push, All-weaker, Contains-append_right}
-use Rattle.std.proofs.lemmas.List.Sorted.{IsPermutation-refl, IsPermutation-trans, IsPermutation-append_left, IsPermutation-append_right, IsPermutation-append_comm}
+use Rattle.std.proofs.lemmas.List.Sorted.{IsPermutation-trans, IsPermutation-append_left, IsPermutation-append_right, IsPermutation-append_comm}
 use Rattle.ttp_model.specs.declared.plan.Plan.{Plan}
 use Rattle.ttp_model.specs.Instance.{Instance}
 use Rattle.ttp_model.specs.Rules.{IsInstance}
@@ -44,19 +44,6 @@ moves_over a f k t =
     let first = append_assoc a (t ∷ []) (f ++ k) in
     let swapped = IsPermutation-append_right a _ _ (IsPermutation-append_left k _ _ (IsPermutation-append_comm (t ∷ []) f)) in
     first_is _ _ _ first (then_is _ _ _ swapped (sym (append_assoc a (f ++ t ∷ []) k)))
-
--- ---- a search begins
-
-pub starts : (i : Instance) (found : Option (Plan × ℕ)) (root : Task) → root ≡ root_task i → IsTask i root → IsFound i found → IsSearching i [] (root ∷ []) found
-starts i found root same task is = record {
-  turns = [];
-  each = All-nil (IsTurn i);
-  pieces = refl;
-  account = subst (λ (t : Task). IsPermutation (t ∷ []) (root_task i ∷ [])) (sym same) (IsPermutation-refl (root_task i ∷ []));
-  open_tasks = one_only (IsTask i) root task;
-  goals = All-nil (λ (q : Piece). HasGoal (limit_of i found) q.node);
-  found = is;
-}
 
 -- ---- a task is worked
 

@@ -1,5 +1,5 @@
 -- What workers begin with, and what they come to together. Only private contracts ask for it.
-use Rattle.std.specs.Prelude.{◌≡◌, ℕ, ◌+◌, ◌-◌, ◌≤◌, List, [], ◌∷◌, ◌++◌, map, length, sum_by, All, Option, None, Some, IsPermutation}
+use Rattle.std.specs.Prelude.{◌≡◌, ◌⊎◌, ℕ, ◌+◌, ◌-◌, ◌≤◌, List, [], ◌∷◌, ◌++◌, map, length, sum_by, All, Option, None, Some, IsPermutation}
 use Rattle.ttp_model.specs.declared.plan.Plan.{Plan}
 use Rattle.ttp_model.specs.Instance.{Instance}
 use Rattle.branch_tree.specs.Task.{Task, IsTask, root_task}
@@ -32,6 +32,13 @@ pub record IsJob {J : Type 0} (word : Incumbent) (job : Job J) : Type 0 where
   pub other : IsOther word job.watch
   pub silent : offers job.watch ≡ []
 
+-- reports of jobs, one of each, in order
+abbrev pub AreReportsOf : {J : Type 0} → Instance → List (Job J) → List (Report J) → Type 0
+AreReportsOf i [] [] = Unit {0}
+AreReportsOf i [] (r ∷ rs) = ⊥
+AreReportsOf i (job ∷ jobs) [] = ⊥
+AreReportsOf i (job ∷ jobs) (r ∷ rs) = IsReportOfJob i job r × AreReportsOf i jobs rs
+
 abbrev pub hands_of : {J : Type 0} → List (Job J) → List (Hand J)
 hands_of {J} jobs = map (λ (job : Job J). job.hand) jobs
 
@@ -49,6 +56,10 @@ AreSameHands (g ∷ gs) (h ∷ hs) = IsSameHand g h × AreSameHands gs hs
 -- what is in hand: the task that wasn't worked, or the children that weren't pushed
 abbrev pub tasks_in : Rest → List Task
 tasks_in rest = held rest ++ unpushed rest
+
+-- two lists one behind the other, in either order
+abbrev pub AreTogether : {X : Type 0} → List X → List X → List X → Type 0
+AreTogether a b all = (all ≡ a ++ b) ⊎ (all ≡ b ++ a)
 
 -- the better of two plans that may have been found
 pub record IsBetter (i : Instance) (a b best : Option (Plan × ℕ)) : Type 0 where

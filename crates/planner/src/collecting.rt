@@ -12,6 +12,7 @@ ghost use Rattle.planner.specs.Crew.{budget_of, hands_of, told, Gathers, HasLeft
 
 use crate::crew::{Crew, Job, run_all};
 use crate::outcome::{Options, SolveFault};
+use crate::reserve::Reserve;
 use crate::search::Search;
 use branch_tree::Task;
 use incumbent::{Incumbent, Watch};
@@ -164,7 +165,10 @@ pub fn searched<J: Searched + Send + Sync, G: Gate + Sync, R: Threads + Wait>(
     tell(&word, &mut opening, &first, instance);
     let jobs = deal(alloc, &word, &mut opening, hands, options.budget)?;
     let crew = Crew::begin(alloc, jobs.len(), opening, first)?;
-    let crew = run_all(rt, alloc, instance, &word, gate, jobs, crew)?;
+    let reserve = Reserve::begin(alloc)?;
+    let reports = run_all(rt, alloc, instance, &word, gate, jobs)?;
+    reserve.give_back();
+    let crew = crew.add_all(&word, reports)?;
     let search = collected(word, crew)?;
     Ok(search)
 }

@@ -1,15 +1,17 @@
 //! Workers in threads of one scope, and what they come to together.
 
-ghost use Rattle.std.specs.Prelude.{◌≡◌, ◌≤◌, ◌+◌, ℕ, List, [], ◌∷◌, ◌++◌, IfOk, OnOk, IfErr, length, All};
+ghost use Rattle.std.specs.Prelude.{◌≡◌, ◌≤◌, ◌+◌, ℕ, List, [], ◌∷◌, ◌++◌, IfOk, OnOk, IfErr, length, vec_len, vec_capacity, All};
 ghost use Rattle.ttp_model.specs.Instance.{Instance};
 ghost use Rattle.ttp_model.specs.Rules.{IsInstance};
 ghost use Rattle.incumbent.specs.Watch.{IsOpening, IsWatchOf};
 ghost use Rattle.steal_pool.specs.declared.hand.Hand.{Hand};
 ghost use Rattle.planner.specs.declared.crew.Job.{Job};
+ghost use Rattle.planner.specs.declared.outcome.SolveFault.TheVariants as fault;
 ghost use Rattle.planner.specs.Answers.{IsRefusal};
 ghost use Rattle.planner.specs.Searched.{IsFound};
-ghost use Rattle.planner.specs.Crew.{IsBetter, IsReportOfJob, IsJob, hands_of, budget_of, tasks_in, Gathers};
+ghost use Rattle.planner.specs.Crew.{IsBetter, IsReportOfJob, AreReportsOf, IsJob, hands_of, budget_of, tasks_in, Gathers};
 
+use crate::joining::together;
 use crate::outcome::SolveFault;
 use branch_tree::{Piece, Task};
 use incumbent::{Incumbent, Watch};
@@ -123,35 +125,51 @@ impl<J: Searched> Crew<J> {
         })
     }
 
-    /// Takes in what a worker reports.
-    fn add(&mut self, word: &Incumbent, report: Report<J>) -> Result<(), MemoryFault>
-        requires opening { IsOpening word.now self.old.watch }
+    /// Takes in what a worker reports. Of the two lists of pieces that with more room takes in the other.
+    fn add(self, word: &Incumbent, report: Report<J>) -> Result<Self, MemoryFault>
+        requires opening { IsOpening word.now self.watch }
         requires watch { IsWatchOf word.now report.watch }
-        ensures gathers { OnOk result ((count : ℕ) (begun : List (Hand J)) (job : Job J) → IsInstance J.instance
-            → Gathers J.instance word.now count begun self.old → IsJob word.now job → IsReportOfJob J.instance job report
-            → Gathers J.instance word.now count (begun ++ job.hand ∷ []) self.new) }
-        ensures opening { OnOk result (IsOpening word.now self.new.watch) }
-        ensures more { OnOk result (length self.new.pieces.items ≡ length self.old.pieces.items + length report.pieces.items) }
+        ensures gathers { IfOk result (λ all. (count : ℕ) (begun : List (Hand J)) (job : Job J) → IsInstance J.instance
+            → Gathers J.instance word.now count begun self → IsJob word.now job → IsReportOfJob J.instance job report
+            → Gathers J.instance word.now count (begun ++ job.hand ∷ []) all) }
+        ensures opening { IfOk result (λ all. IsOpening word.now all.watch) }
+        ensures more { IfOk result (λ all. length all.pieces.items ≡ length self.pieces.items + length report.pieces.items) }
     {
-        let Report {
-            hand,
+        let (mut hands, mut watch, mut tasks) = (self.hands, self.watch, self.tasks);
+        word.join(&mut watch, report.watch);
+        hands.push(report.hand)?;
+        let pieces = together(self.pieces, report.pieces)?;
+        hold(&mut tasks, report.rest)?;
+        let best = better(self.best, report.best);
+        Ok(Crew {
+            hands,
             watch,
             pieces,
+            tasks,
             best,
-            rest,
-            ..
-        } = report;
-        let mut pieces = pieces;
-        word.join(&mut self.watch, watch);
-        self.hands.push(hand)?;
-        self.pieces.append(&mut pieces)?;
-        hold(&mut self.tasks, rest)?;
-        self.best = better(self.best.take(), best);
-        Ok(())
+        })
+    }
+
+    /// Takes in what workers report, in order.
+    pub fn add_all(self, word: &Incumbent, reports: Vec<Report<J>>) -> Result<Self, MemoryFault>
+        requires opening { IsOpening word.now self.watch }
+        requires watches { All (λ report. IsWatchOf word.now report.watch) reports.items }
+        ensures gathers { IfOk result (λ all. (count : ℕ) (jobs : List (Job J)) → IsInstance J.instance
+            → All (IsJob word.now) jobs → AreReportsOf J.instance jobs reports.items
+            → Gathers J.instance word.now count [] self → Gathers J.instance word.now count (hands_of jobs) all) }
+        ensures within { IfOk result (λ all. (jobs : List (Job J)) → AreReportsOf J.instance jobs reports.items
+            → length all.pieces.items ≤ length self.pieces.items + budget_of jobs) }
+    {
+        let mut crew = self;
+        for report in reports {
+            crew = crew.add(word, report)?;
+        }
+        Ok(crew)
     }
 }
 
-/// Starts a thread for the last job, does the same for the others, and joins it.
+/// Starts a thread for the last job, does the same for the others, and joins it: their reports, in the order of the jobs, in
+/// a list that has room for all.
 fn start_all<'s, E, J: Searched + Send + Sync + 's, G: Gate + Sync, R: Threads>(
     rt: &R,
     scope: &'s Scope<'s, E>,
@@ -160,19 +178,19 @@ fn start_all<'s, E, J: Searched + Send + Sync + 's, G: Gate + Sync, R: Threads>(
     word: &'s Incumbent,
     gate: &'s G,
     mut jobs: Vec<Job<J>>,
-    crew: Crew<J>,
-) -> Result<Crew<J>, SolveFault>
+    reports: Vec<Report<J>>,
+) -> Result<Vec<Report<J>>, SolveFault>
     requires of { instance.now ≡ J.instance }
     requires jobs { All (IsJob word.now) jobs.items }
-    requires opening { IsOpening word.now crew.watch }
-    ensures gathers { IfOk result (λ all. (count : ℕ) → Gathers J.instance word.now count [] crew → Gathers J.instance word.now count (hands_of jobs.items) all) }
-    ensures opening { IfOk result (λ all. IsOpening word.now all.watch) }
-    ensures within { IfOk result (λ all. length all.pieces.items ≤ length crew.pieces.items + budget_of jobs.items) }
-    ensures err { IfErr result IsRefusal }
+    requires none { reports.items ≡ [] }
+    requires room { vec_len jobs ≤ vec_capacity reports }
+    ensures reports { IfOk result (λ all. AreReportsOf J.instance jobs.items all.items) }
+    ensures many { IfOk result (λ all. vec_len all ≡ vec_len jobs) }
+    ensures room { IfOk result (λ all. vec_capacity all ≡ vec_capacity reports) }
+    ensures err { IfErr result (λ e. e ≡ fault.Thread) }
 {
-    let _nodes = instance.nodes();
     let Some(job) = jobs.pop() else {
-        return Ok(crew);
+        return Ok(reports);
     };
     let promise = ReportOf(Snapshot::of(&job));
     let Ok(child) = scope.spawn_with(
@@ -184,14 +202,15 @@ fn start_all<'s, E, J: Searched + Send + Sync + 's, G: Gate + Sync, R: Threads>(
     ) else {
         return Err(SolveFault::Thread);
     };
-    let others = start_all(rt, scope, alloc, instance, word, gate, jobs, crew);
+    let others = start_all(rt, scope, alloc, instance, word, gate, jobs, reports);
     let report = child.join(rt);
     let mut all = others?;
-    all.add(word, report)?;
+    all.push_reserved(report);
     Ok(all)
 }
 
-/// A thread for each job, and what they come to together.
+/// A thread for each job, and what they report, in order. The list of reports is made before a thread is started: as they end
+/// no memory is taken.
 pub fn run_all<J: Searched + Send + Sync, G: Gate + Sync, R: Threads + Wait>(
     rt: &R,
     alloc: Global,
@@ -199,23 +218,22 @@ pub fn run_all<J: Searched + Send + Sync, G: Gate + Sync, R: Threads + Wait>(
     word: &Incumbent,
     gate: &G,
     jobs: Vec<Job<J>>,
-    crew: Crew<J>,
-) -> Result<Crew<J>, SolveFault>
+) -> Result<Vec<Report<J>>, SolveFault>
     requires of { instance.now ≡ J.instance }
     requires jobs { All (IsJob word.now) jobs.items }
-    requires opening { IsOpening word.now crew.watch }
-    ensures gathers { IfOk result (λ all. (count : ℕ) → Gathers J.instance word.now count [] crew → Gathers J.instance word.now count (hands_of jobs.items) all) }
-    ensures within { IfOk result (λ all. length all.pieces.items ≤ length crew.pieces.items + budget_of jobs.items) }
+    ensures reports { IfOk result (λ all. AreReportsOf J.instance jobs.items all.items) }
     ensures err { IfErr result IsRefusal }
 {
+    let Ok(reports) = Vec::with_capacity(alloc, jobs.len()) else {
+        return Err(SolveFault::Memory);
+    };
     thread::scope(
         thread::scope_env(),
         rt,
-        move |scope| -> Result<Crew<J>, SolveFault>
-            requires { (instance.now ≡ J.instance) × All (IsJob word.now) jobs.items × IsOpening word.now crew.watch }
-            ensures gathers { IfOk result (λ all. (count : ℕ) → Gathers J.instance word.entry.now count [] crew → Gathers J.instance word.entry.now count (hands_of jobs.items) all) }
-            ensures within { IfOk result (λ all. length all.pieces.items ≤ length crew.pieces.items + budget_of jobs.items) }
+        move |scope| -> Result<Vec<Report<J>>, SolveFault>
+            requires { (instance.now ≡ J.instance) × All (IsJob word.now) jobs.items × (reports.items ≡ []) × (vec_len jobs ≤ vec_capacity reports) }
+            ensures reports { IfOk result (λ all. AreReportsOf J.instance jobs.items all.items) }
             ensures err { IfErr result IsRefusal }
-        { start_all(rt, scope, alloc, instance, word, gate, jobs, crew) },
+        { start_all(rt, scope, alloc, instance, word, gate, jobs, reports) },
     )
 }

@@ -6,9 +6,11 @@ mod collecting;
 mod crew;
 mod fault;
 mod gathering;
+mod joining;
 mod laws;
 mod names;
 mod outcome;
+mod reserve;
 mod search;
 mod solving;
 

@@ -1,7 +1,7 @@
 //! The caller's part of a search: it works what is left of the tree.
 
-ghost use Rattle.std.specs.Prelude.{◌≡◌, ◌≤◌, ◌+◌, ◌∷◌, [], IfOk, OnOk, cond, length};
-ghost use Rattle.branch_tree.specs.Task.{root_task, IsTask};
+ghost use Rattle.std.specs.Prelude.{◌≡◌, ◌≤◌, ◌<◌, ◌+◌, ◌++◌, OnOk, cond, length, vec_len, vec_capacity};
+ghost use Rattle.ttp_model.specs.declared.limits.TheConstants.{MOST_NODES};
 ghost use Rattle.planner.specs.Answers.{limit_of};
 ghost use Rattle.planner.specs.Searched.{IsFound, IsWorkedOut};
 ghost use Rattle.planner.specs.Searching.{IsSearching};
@@ -10,7 +10,7 @@ use crate::outcome::Why;
 use branch_tree::{Piece, Task, Worked, work};
 use certificate::{Branch, Node};
 use std::alloc::Global;
-use ttp_model::{Instance, MemoryFault, Plan};
+use ttp_model::{Instance, MOST_NODES, MemoryFault, Plan};
 
 /// What is worked, and what is still open; the best plan that was found, settled, with its delay in ticks.
 #[derive(Debug, Drop)]
@@ -32,85 +32,90 @@ pub fn limit(instance: &Instance, best: &Option<(Plan, u64)>) -> u32
     }
 }
 
+/// Puts tasks behind those that are open, in the room that there is.
+fn open_all(pending: &mut Vec<Task>, tasks: Vec<Task>)
+    requires { vec_len pending.old + vec_len tasks ≤ vec_capacity pending.old }
+    ensures { pending.new.items ≡ pending.old.items ++ tasks.items }
+{
+    let mut tasks = tasks;
+    match pending.append(&mut tasks) {
+        Ok(()) => {}
+        Err(_) => unreachable!(),
+    }
+}
+
 impl Search {
-    /// The whole tree is to be searched, for plans better than the one that is known.
-    pub fn begin(
-        alloc: Global,
-        instance: &Instance,
-        first: Option<(Plan, u64)>,
-    ) -> Result<Self, MemoryFault>
-        requires { IsFound instance.now first }
-        ensures searching { IfOk result (λ s. IsSearching instance.now s.pieces.items s.tasks.items s.best) }
-        ensures none { IfOk result (λ s. s.pieces.items ≡ []) }
-        ensures known { IfOk result (λ s. s.best ≡ first) }
+    /// Asks for room: in the list of pieces for one more, for leaves of all that is open, and for as many again as are made,
+    /// which is free once the search is at its end; in that of tasks for all that one of them can be split into.
+    fn make_room(&mut self) -> Result<(), MemoryFault>
+        ensures pieces { self.new.pieces.items ≡ self.old.pieces.items }
+        ensures tasks { self.new.tasks.items ≡ self.old.tasks.items }
+        ensures best { self.new.best ≡ self.old.best }
+        ensures one { OnOk result (vec_len self.new.pieces < vec_capacity self.new.pieces) }
+        ensures split { OnOk result (vec_len self.new.tasks + MOST_NODES ≤ vec_capacity self.new.tasks) }
     {
-        let root = Task::root(alloc, instance)?;
-        let tasks = vec![in alloc; root]?;
-        Ok(Search {
-            pieces: Vec::new(alloc),
-            tasks,
-            best: first,
-        })
+        let (made, open) = (self.pieces.len(), self.tasks.len());
+        self.pieces.reserve(made + open + 1)?;
+        self.tasks.reserve(MOST_NODES)?;
+        Ok(())
     }
 
-    /// Works the newest task, where there is one: whether it was worked. Where memory is refused while it is worked, it
-    /// is left.
-    fn turn(&mut self, alloc: Global, instance: &Instance) -> Result<bool, MemoryFault>
+    /// Works the newest task, where there is one: whether it was worked. Where memory is refused, it is left.
+    fn turn(&mut self, alloc: Global, instance: &Instance) -> bool
         requires { IsSearching instance.now self.old.pieces.items self.old.tasks.items self.old.best }
-        ensures searching { OnOk result (IsSearching instance.now self.new.pieces.items self.new.tasks.items self.new.best) }
-        ensures one { IfOk result (λ worked. length self.new.pieces.items ≡ length self.old.pieces.items + cond worked 1 0) }
+        ensures searching { IsSearching instance.now self.new.pieces.items self.new.tasks.items self.new.best }
+        ensures one { length self.new.pieces.items ≡ length self.old.pieces.items + cond result 1 0 }
     {
         let _nodes = instance.nodes();
+        if self.make_room().is_err() {
+            return false;
+        }
         let Some(task) = self.tasks.pop() else {
-            return Ok(false);
+            return false;
         };
         let goal = limit(instance, &self.best);
-        self.pieces.reserve(1)?;
-        let name = task.name().copy(alloc)?;
+        let Ok(name) = task.name().copy(alloc) else {
+            self.tasks.push_reserved(task);
+            return false;
+        };
         match work(alloc, instance, task, goal) {
             Ok(Worked::Split(kind, tasks)) => {
-                let mut tasks = tasks;
                 let node = Node::Branch(Branch::new(kind, tasks.len() as u32));
-                self.tasks.append(&mut tasks)?;
+                open_all(&mut self.tasks, tasks);
                 self.pieces.push_reserved(Piece { name, node });
-                Ok(true)
+                true
             }
             Ok(Worked::Closed(leaf)) => {
                 let node = Node::Leaf(leaf);
                 self.pieces.push_reserved(Piece { name, node });
-                Ok(true)
+                true
             }
             Ok(Worked::Found(plan, delay, leaf)) => {
                 let node = Node::Leaf(leaf);
                 self.best = Some((plan, delay));
                 self.pieces.push_reserved(Piece { name, node });
-                Ok(true)
+                true
             }
             Err((task, _)) => {
-                self.tasks.push(task)?;
-                Ok(false)
+                self.tasks.push_reserved(task);
+                false
             }
         }
     }
 
-    /// Works tasks until `budget` pieces are made. Why it ended, where tasks are left.
-    pub fn go(
-        &mut self,
-        alloc: Global,
-        instance: &Instance,
-        budget: u64,
-    ) -> Result<Why, MemoryFault>
+    /// Works tasks until `budget` pieces are made, or memory is refused. Why it ended, where tasks are left.
+    pub fn go(&mut self, alloc: Global, instance: &Instance, budget: u64) -> Why
         requires searching { IsSearching instance.now self.old.pieces.items self.old.tasks.items self.old.best }
         requires within { length self.old.pieces.items ≤ budget }
-        ensures searching { OnOk result (IsSearching instance.now self.new.pieces.items self.new.tasks.items self.new.best) }
-        ensures within { OnOk result (length self.new.pieces.items ≤ budget) }
-        ensures cause { IfOk result (λ why. IsWorkedOut budget self.new.pieces.items why) }
+        ensures searching { IsSearching instance.now self.new.pieces.items self.new.tasks.items self.new.best }
+        ensures within { length self.new.pieces.items ≤ budget }
+        ensures cause { IsWorkedOut budget self.new.pieces.items result }
     {
         for _turn in 0..budget - self.pieces.len() as u64 {
-            if !self.turn(alloc, instance)? {
-                return Ok(Why::Memory);
+            if !self.turn(alloc, instance) {
+                return Why::Memory;
             }
         }
-        Ok(Why::Budget)
+        Why::Budget
     }
 }

@@ -14,7 +14,9 @@ use crate::closing::close_all;
 use crate::collecting::searched;
 use crate::fault::GatherFault;
 use crate::gathering::gather;
+use crate::joining::joined;
 use crate::outcome::{Options, Outcome, SolveFault, Why};
+use crate::reserve::Reserve;
 use crate::search::{Search, limit};
 use branch_tree::Piece;
 use certificate::Cert;
@@ -45,12 +47,12 @@ fn first_plan(
     good_plan(alloc, instance)
 }
 
-/// Pieces and others after them.
-fn joined(pieces: Vec<Piece>, others: Vec<Piece>) -> Result<Vec<Piece>, MemoryFault>
+/// Pieces and others after them, in no more room than they take: what is left of it is free for the certificate.
+fn all_of(pieces: Vec<Piece>, others: Vec<Piece>) -> Result<Vec<Piece>, MemoryFault>
     ensures { IfOk result (λ all. all.items ≡ pieces.items ++ others.items) }
 {
-    let (mut all, mut others) = (pieces, others);
-    all.append(&mut others)?;
+    let mut all = joined(pieces, others)?;
+    all.shrink_to_fit();
     Ok(all)
 }
 
@@ -120,7 +122,7 @@ fn concluded(
     } = search;
     let limit = limit(instance, &best);
     let (closed, low) = close_all(alloc, instance, tasks, limit)?;
-    let pieces = joined(worked, closed)?;
+    let pieces = all_of(worked, closed)?;
     let cert = certified(alloc, pieces, low)?;
     Ok(answer(why, best, limit, low, cert))
 }
@@ -139,9 +141,11 @@ pub fn solve_with<R: Threads + Wait, G: Gate + Sync>(
     ensures err { IfErr result IsRefusal }
 {
     let _nodes = instance.nodes();
+    let reserve = Reserve::begin(alloc)?;
     let first = first_plan(alloc, instance, options.budget)?;
     let mut search = searched::<Brand, G, R>(rt, alloc, instance, options, first, gate)?;
-    let why = search.go(alloc, instance, options.budget)?;
+    let why = search.go(alloc, instance, options.budget);
+    reserve.give_back();
     concluded(alloc, instance, options, search, why)
 }
 

@@ -59,7 +59,8 @@ fn push_all<J: Searched>(hand: &mut Hand<J>, mut tasks: Vec<Task>) -> Vec<Task>
 impl<J: Searched> Run<J> {
     /// Works a task at the best delay so far, and pushes its children, or offers the delay of the plan that was found:
     /// what became of the task, and the children that couldn't be pushed. All memory is asked for before the task is
-    /// worked; where it is refused, the task comes back.
+    /// worked, and room for as many pieces again as are made, in which those of others can be put with them at the end;
+    /// where it is refused, the task comes back.
     fn make(
         &mut self,
         alloc: Global,
@@ -76,7 +77,8 @@ impl<J: Searched> Run<J> {
     {
         let _nodes = instance.nodes();
         let goal = word.look(&mut self.watch);
-        if self.pieces.reserve(1).is_err() {
+        let made = self.pieces.len();
+        if self.pieces.reserve(made + 1).is_err() {
             return Err(task);
         }
         let Ok(name) = task.name().copy(alloc) else {
