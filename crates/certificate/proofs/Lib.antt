@@ -1,11 +1,16 @@
+pub mod Blocks
 pub mod Branches
 pub mod Heads
+pub mod LowSource
 pub mod NodeLaws
 pub mod NodeLoop
+pub mod Opened
 pub mod Pushed
 pub mod Rings
 pub mod Said
+pub mod Sources
 pub mod StepLoop
+pub mod StreamLaws
 pub mod Tables
 pub mod TreeLaws
 pub mod TreeLists

@@ -101,7 +101,7 @@ node_takes above line text x e =
       high,
     )
 
-node_steps : (above line : ℕ) (text first after rest : List ℕ) (head : Head) (steps : List Step) → line_at line text ≡ Ok (first, after) → said_in head_words heads_with line first ≡ Ok head → nat_le above MOST_BRANCHES_ABOVE ≡ true
+pub node_steps : (above line : ℕ) (text first after rest : List ℕ) (head : Head) (steps : List Step) → line_at line text ≡ Ok (first, after) → said_in head_words heads_with line first ≡ Ok head → nat_le above MOST_BRANCHES_ABOVE ≡ true
     → steps_at (count_of head) (line + 1) after ≡ Ok (steps, rest) → text_node above line text ≡ Ok (node_of_head head steps, rest)
 unfolding text_node
 node_steps above line text first after rest head steps a b c d = rw (a, b, c, d) refl

@@ -15,12 +15,6 @@ regroup : (front : List Step) (step : Step) (read : Reading (List Step × List �
 regroup front step (Ok x) = ap (λ (steps : List Step). Ok (steps, x.1)) (simp append_assoc)
 regroup front step (Err f) = refl
 
--- how far the loop is
-pub record IsReadSoFar (count line : ℕ) (text : List ℕ) (k : ℕ) (front : List Step) (rest : List ℕ) : Type 0 where
-  pub same : with_steps front (steps_at (count - k) (line + k) rest) ≡ steps_at count line text
-  pub all : length front ≡ k
-  pub shorter : length rest + k ≤ length text
-
 pub goes_on : (count line : ℕ) (text : List ℕ) (k : ℕ) (front : List Step) (rest : List ℕ) (step : Step) (after : List ℕ) → k < count → text_step (line + k) rest ≡ Ok (step, after)
     → with_steps front (steps_at (count - k) (line + k) rest) ≡ steps_at count line text → with_steps (front ++ step ∷ []) (steps_at (count - (k + 1)) (line + (k + 1)) after) ≡ steps_at count line text
 unfolding steps_at
@@ -30,13 +24,13 @@ goes_on count line text k front rest step after lt h so_far =
     let one : with_steps front (steps_at (count - k) (line + k) rest) ≡ with_steps (front ++ step ∷ []) (steps_at (count - (k + 1)) (line + k + 1) after) = rw (m, h) (regroup front step (steps_at (count - (k + 1)) (line + k + 1) after)) in
     ap (λ (l : ℕ). with_steps (front ++ step ∷ []) (steps_at (count - (k + 1)) l after)) (sym next) ∙ (sym one ∙ so_far)
 
-pub ends : (e : CertTextError) (count line : ℕ) (text : List ℕ) (k : ℕ) (front : List Step) (rest : List ℕ) → k < count → IsFaultOf (Unit {0}) e (text_step (line + k) rest)
-    → with_steps front (steps_at (count - k) (line + k) rest) ≡ steps_at count line text → IsFaultOf (Unit {0}) e (steps_at count line text)
+-- a step's fault is that of all of them
+pub step_fault : (fault : CertTextError) (count line : ℕ) (text : List ℕ) (k : ℕ) (front : List Step) (rest : List ℕ) → k < count → text_step (line + k) rest ≡ Err fault
+    → with_steps front (steps_at (count - k) (line + k) rest) ≡ steps_at count line text → steps_at count line text ≡ Err fault
 unfolding steps_at
-ends OutOfMemory count line text k front rest lt h so_far = tt
-ends (At at fault) count line text k front rest lt h so_far =
+step_fault fault count line text k front rest lt h so_far =
     let m : count - k ≡ suc (count - (k + 1)) = omega arith in
-    let one : with_steps front (steps_at (count - k) (line + k) rest) ≡ Err (At at fault) = rw (m, h) refl in
+    let one : with_steps front (steps_at (count - k) (line + k) rest) ≡ Err fault = rw (m, h) refl in
     sym so_far ∙ one
 
 pub is_done : (count line : ℕ) (text : List ℕ) (k : ℕ) (front : List Step) (rest : List ℕ) → count ≤ k

@@ -65,26 +65,9 @@ nodes_of (Ok trees) nodes rest e =
     let rest_is : rest ≡ trees.1 = ap (λ (x : List Node × List ℕ). x.1) same in
     (trees.0, (ap (λ (r : List ℕ). Ok (trees.0, r)) (sym rest_is), ap (λ (x : List Node × List ℕ). x.0) same))
 
--- the tree that was read
-read_tree : (text : List ℕ) (nodes : List Node) (rest : List ℕ) → ReadsNodes text (Ok (nodes, rest)) → ReadsTrees 0 1 3 text (Ok (trees_of nodes, rest)) × IsTree (trees_of nodes)
-read_tree text nodes rest h =
-    let t = nodes_of h.0 nodes rest h.1.1 in
-    let r : ReadsTrees 0 1 3 text (Ok (t.0, rest)) = subst (ReadsTrees 0 1 3 text) t.1.0 h.1.0 in
-    let taken : IsTaken 0 1 text t.0 rest = trees_take r (omega arith) in
-    let is : trees_of nodes ≡ t.0 = ap trees_of t.1.1 ∙ trees_of-preorder 1 t.0 taken.trees in
-    (subst (λ (x : Trees). ReadsTrees 0 1 3 text (Ok (x, rest))) (sym is) r, subst IsTree (sym is) (record { one = taken.trees; shallow = omega (arith, taken.shallow) }))
-
-pub is_tree : (text : List ℕ) (nodes : List Node) (rest : List ℕ) → ReadsNodes text (Ok (nodes, rest)) → IsTree (trees_of nodes)
-is_tree text nodes rest h = (read_tree text nodes rest h).1
-
 pub nothing_left : (rest : List ℕ) → (length rest == 0) ≡ true → rest ≡ []
 nothing_left [] e = refl
 nothing_left (x ∷ xs) e = absurd (grind arith)
-
-pub read_by : (text body : List ℕ) (low : ℕ) (nodes : List Node) (rest : List ℕ) → low_at text ≡ Ok (low, body) → ReadsNodes body (Ok (nodes, rest)) → rest ≡ [] → Reads text (Ok (record { low = low; tree = trees_of nodes }))
-read_by text body low nodes rest e h none =
-    let r = (read_tree body nodes rest h).0 in
-    rw e (Ok (trees_of nodes, rest), (r, rw none refl))
 
 -- ---- what is read is spelled so
 

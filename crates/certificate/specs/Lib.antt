@@ -9,3 +9,7 @@ pub mod Spelling
 pub mod Reading
 pub mod Numbers
 pub mod Nodes
+pub mod Sources
+pub mod Opened
+pub mod Blocks
+pub mod Streams

@@ -5,3 +5,7 @@ use Rattle.std.specs.Prelude.{ℕ}
 -- each of 128 messages, whose range of rounds is halved
 abbrev pub most_branches_above : ℕ
 most_branches_above = 4608
+
+-- the bytes of a text that is taken of a reader
+abbrev pub most_text_bytes : ℕ
+most_text_bytes = 268435456

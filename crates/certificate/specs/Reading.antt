@@ -26,6 +26,10 @@ Reading A = Result A CertTextError
 abbrev pub line_at : ℕ → List ℕ → Reading (List ℕ × List ℕ)
 line_at line text = or_fault (At line EarlyEnd) (cut 10 text)
 
+-- nothing stands at this line: the text ends
+abbrev pub end_at : ℕ → List ℕ → Reading (Unit {0})
+end_at line text = check (At line Trailing) (length text == 0)
+
 -- ---- a line of a keyword and numbers
 
 -- what the words of a text are as numbers: a word is what stands between spaces

@@ -2,6 +2,7 @@
 
 ghost use Rattle.std.specs.Prelude.{◌≡◌};
 ghost use Rattle.certificate.specs.declared.fault.CertTextError.TheVariants.{OutOfMemory};
+ghost use Rattle.certificate.specs.declared.fault.StreamFault.TheVariants.{Text};
 
 use std::alloc::{AllocError, AllocFailed};
 use thiserror::Error;
@@ -63,5 +64,44 @@ impl<T: Drop> From<AllocFailed<T>> for CertTextError {
 
     fn from(_error: AllocFailed<T>) -> CertTextError {
         CertTextError::OutOfMemory
+    }
+}
+
+/// Why a reader's bytes give no certificate. A failed read goes before a text that is too long, and that before what is
+/// wrong with the text.
+#[derive(Clone, Copy, Debug, PartialEq, Eq, Error)]
+pub enum StreamFault {
+    /// When the reader failed.
+    #[error("the reader failed")]
+    Read,
+    /// When it has more bytes than `MOST_TEXT_BYTES`.
+    #[error("the text is too long")]
+    TooLong,
+    /// When the text spells no certificate, or memory is refused.
+    #[error("{0}")]
+    Text(CertTextError),
+}
+
+impl From<CertTextError> for StreamFault {
+    ghost from_gives = { λ error e. e ≡ Text error };
+
+    fn from(error: CertTextError) -> StreamFault {
+        StreamFault::Text(error)
+    }
+}
+
+impl From<AllocError> for StreamFault {
+    ghost from_gives = { λ _ e. e ≡ Text OutOfMemory };
+
+    fn from(_error: AllocError) -> StreamFault {
+        StreamFault::Text(CertTextError::OutOfMemory)
+    }
+}
+
+impl<T: Drop> From<AllocFailed<T>> for StreamFault {
+    ghost from_gives = { λ _ e. e ≡ Text OutOfMemory };
+
+    fn from(_error: AllocFailed<T>) -> StreamFault {
+        StreamFault::Text(CertTextError::OutOfMemory)
     }
 }

@@ -1,29 +1,35 @@
 //! Certificates as text, both ways.
 #![tactic(auto)]
 
+mod block;
 mod branch;
 mod cert;
 mod fault;
 mod head;
 mod laws;
 mod limits;
-mod line;
 mod low;
 mod node;
+mod nodes;
 mod numbers;
 mod printing;
+mod reader_lines;
 mod reading;
 mod ring;
+mod slice_lines;
+mod source;
 mod steps;
+mod stream;
 
 pub use branch::Branch;
 pub use cert::Cert;
-pub use fault::{CertTextError, LineFault};
+pub use fault::{CertTextError, LineFault, StreamFault};
 pub use laws::{
     nodes_in_preorder_are_the_trees, reading_gives_one_answer, spelling_is_of_one_certificate,
 };
-pub use limits::MOST_BRANCHES_ABOVE;
+pub use limits::{MOST_BRANCHES_ABOVE, MOST_TEXT_BYTES};
 pub use node::Node;
 pub use printing::print;
 pub use reading::read;
+pub use stream::CertStream;
 pub use ttp_model::MemoryFault;

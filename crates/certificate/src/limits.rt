@@ -15,3 +15,6 @@ pub const MOST_BRANCHES_ABOVE: usize = MOST_NODES
     + MOST_NODES
     + MOST_PAIRS
     + MOST_MESSAGES * MOST_HALVINGS;
+
+/// The bytes of a certificate's text that are taken of a reader.
+pub const MOST_TEXT_BYTES: usize = 268_435_456;

@@ -1,13 +1,14 @@
 //! Which bound do the first two lines state?
 
-ghost use Rattle.std.specs.Prelude.{◌≡◌, ◌<◌, ◌+◌, length, IfOk};
+ghost use Rattle.std.specs.Prelude.{◌≡◌, ◌+◌, ℕ, List, Option, IfOk, IfErr, OnOk};
 ghost use Rattle.certificate.specs.Words.{low_words, lows_with};
 ghost use Rattle.certificate.specs.Reading.{IsAnswer, said_in, with_keyword, low_at};
 ghost use Rattle.certificate.specs.Numbers.{numbers_in};
+ghost use Rattle.certificate.specs.Sources.{Says, IsFaultOn};
 
-use crate::fault::{CertTextError, LineFault};
-use crate::line::line_of;
+use crate::fault::{CertTextError, LineFault, StreamFault};
 use crate::numbers::{FewNumbers, words_of};
+use crate::source::LineSource;
 use line_text::cut;
 
 fn low_with(keyword: &[u8], numbers: FewNumbers) -> Option<u32>
@@ -37,17 +38,19 @@ fn low_in(line: u64, text: &[u8]) -> Result<u32, CertTextError>
     Ok(low)
 }
 
-/// The bound that the first two lines state, in ticks, and the text behind them.
-#[tactic(auto, unfolding(crate::specs::Reading::low_at))]
-pub fn low_of(text: &[u8]) -> Result<(u32, &[u8]), CertTextError>
-    ensures value { IsAnswer ⊥ (λ x. (x.0, x.1.now)) result (low_at text.now) }
-    ensures shorter { IfOk result (λ x. length x.1.now + 9 < length text.now) }
+/// The bound that the first two lines of a source state, in ticks.
+pub fn low_from<L: LineSource>(source: &mut L) -> Result<u32, StreamFault>
+    requires { L.passed source.old ≡ 0 }
+    ensures said { IfOk result (Says (L.may_leave source.old) (L.may_leave source.new) low_at) }
+    ensures passed { OnOk result (L.passed source.new ≡ 2) }
+    ensures err { IfErr result (IsFaultOn (L.may_stop source.new) (L.may_leave source.old) low_at) }
+    ensures from { (all : Option (List ℕ)) → L.may_be_from source.old all → L.may_be_from source.new all }
 {
-    let (first, after) = line_of(1, text)?;
-    if first != b"ttcert 1".as_slice() {
-        return Err(LineFault::FirstLine.at(1));
+    source.next_line()?;
+    if source.line() != b"ttcert 1".as_slice() {
+        return Err(StreamFault::Text(LineFault::FirstLine.at(1)));
     }
-    let (second, rest) = line_of(2, after)?;
-    let low = low_in(2, second)?;
-    Ok((low, rest))
+    source.next_line()?;
+    let low = low_in(2, source.line())?;
+    Ok(low)
 }

@@ -1,0 +1,71 @@
+-- What a stream says of a whole text, from what its lines and nodes say.
+use Rattle.std.proofs.Common.{◌≡◌, ℕ, List, [], ◌∷◌, ◌++◌, reverse, Option, IfSome, Ok, Err, refl, sym, ap, subst, ◌∙◌, rules}
+use Rattle.certificate.specs.declared.fault.CertTextError.{CertTextError}
+use Rattle.certificate.specs.declared.fault.CertTextError.TheVariants.{At, OutOfMemory}
+use Rattle.certificate.specs.declared.fault.StreamFault.{StreamFault}
+use Rattle.certificate.specs.declared.fault.StreamFault.TheVariants.{Read, TooLong, Text}
+use Rattle.certificate.specs.declared.node.Node.{Node}
+use Rattle.certificate.specs.Trees.{trees_of}
+use Rattle.certificate.specs.Reading.{Reading, low_at, HasLow, IsFaultIn, Reads}
+use Rattle.certificate.specs.Sources.{Says, HasText, IsFaultOn, OrMemory}
+use Rattle.certificate.specs.Opened.{ReadsRest, Gives, IsRestFault, IsTextFault, certificate_with}
+use Rattle.certificate.specs.Blocks.{MayLeave, Stops}
+use Rattle.certificate.specs.Streams.{IsCertFault, IsNodeFault}
+use Rattle.certificate.proofs.Opened.{whole_text}
+
+-- a text that may be left where nothing is taken is what the reader has
+pub untouched : (known : Option (List ℕ)) (front text : List ℕ) → front ≡ [] → MayLeave known front text → IfSome known (λ bytes. bytes ≡ text)
+untouched known front text none left =
+    let is : text ≡ left.more = left.text_is ∙ ap (λ (f : List ℕ). f ++ left.more) none in
+    subst (λ (t : List ℕ). IfSome known (λ bytes. bytes ≡ t)) (sym is) left.known_is
+
+-- the nodes that are left behind the bound make the whole
+pub with_low : (Before After : List ℕ → Type 0) (due : List ℕ) (line low : ℕ) → due ≡ 1 ∷ [] → line ≡ 3 → Says Before After low_at low
+    → (read : Reading (List Node)) → Gives After due line read → (text : List ℕ) × (Before text × Reads text (certificate_with low read))
+with_low Before After due line low due_is line_is said read g =
+    let t = said g.0 g.1.0 in
+    let one : ReadsRest (reverse (1 ∷ [])) line g.0 read = subst (λ (ks : List ℕ). ReadsRest (reverse ks) line g.0 read) due_is g.1.1 in
+    let rest : ReadsRest (1 ∷ []) 3 g.0 read = subst (λ (n : ℕ). ReadsRest (1 ∷ []) n g.0 read) line_is one in
+    (t.0, (t.1.0, whole_text t.0 g.0 low read t.1.1 rest))
+
+-- a fault of the first two lines is that of the whole
+pub low_fault : (Before : List ℕ → Type 0) (taken : ℕ) (e : StreamFault) → IsFaultOn (Stops taken) Before low_at e
+    → IsCertFault (λ reading. (text : List ℕ) × (Before text × Reads text reading)) taken e
+low_fault Before taken Read h = tt
+low_fault Before taken TooLong h = h
+low_fault Before taken (Text OutOfMemory) h = tt
+low_fault Before taken (Text (At line fault)) h = (h.0, (h.1.0, rw h.1.1 refl))
+
+pub node_fault : (Before : List ℕ → Type 0) (due : List ℕ) (line taken : ℕ) (e : StreamFault) → IsRestFault (OrMemory (Stops taken)) Before due line e
+    → IsNodeFault (Gives Before due line) taken e
+node_fault Before due line taken Read h = tt
+node_fault Before due line taken TooLong h = h
+node_fault Before due line taken (Text OutOfMemory) h = tt
+node_fault Before due line taken (Text (At at fault)) h = h
+
+-- ---- a text that is all there
+
+pub cert_reads : (text first : List ℕ) (After : List ℕ → Type 0) (line low : ℕ) (nodes : List Node) → first ≡ text → line ≡ 3 → Says (λ t. t ≡ first) After low_at low → Gives After (1 ∷ []) line (Ok nodes)
+    → Reads text (Ok (record { low = low; tree = trees_of nodes }))
+cert_reads text first After line low nodes is line_is said g =
+    let whole = with_low (λ t. t ≡ first) After (1 ∷ []) line low refl line_is said (Ok nodes) g in
+    subst (λ (t : List ℕ). Reads t (Ok (record { low = low; tree = trees_of nodes }))) (whole.1.0 ∙ is) whole.1.1
+
+has_low : (text first : List ℕ) (After : List ℕ → Type 0) (low : ℕ) → first ≡ text → Says (λ t. t ≡ first) After low_at low → HasText After → HasLow text
+has_low text first After low is said has =
+    let t = said has.0 has.1 in
+    let e : low_at text ≡ Ok (low, has.0) = ap low_at (sym (t.1.0 ∙ is)) ∙ t.1.1 in
+    rw e (search rules)
+
+pub cert_fault : (e : StreamFault) (text first : List ℕ) (After : List ℕ → Type 0) (line low : ℕ) → first ≡ text → line ≡ 3 → Says (λ t. t ≡ first) After low_at low → HasText After
+    → IsRestFault (OrMemory (λ x. ⊥)) After (1 ∷ []) line e → IsTextFault text e
+cert_fault Read text first After line low is line_is said has h = absurd h
+cert_fault TooLong text first After line low is line_is said has h = absurd h
+cert_fault (Text OutOfMemory) text first After line low is line_is said has h = has_low text first After low is said has
+cert_fault (Text (At at fault)) text first After line low is line_is said has h =
+    let whole = with_low (λ t. t ≡ first) After (1 ∷ []) line low refl line_is said (Err (At at fault)) h in
+    subst (λ (t : List ℕ). Reads t (Err (At at fault))) (whole.1.0 ∙ is) whole.1.1
+
+pub told_fault : (text : List ℕ) (e : CertTextError) → IsTextFault text (Text e) → IsFaultIn (HasLow text) e (Reads text)
+told_fault text OutOfMemory h = h
+told_fault text (At at fault) h = h

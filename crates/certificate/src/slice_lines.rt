@@ -1,0 +1,69 @@
+//! Which lines does a text in memory have?
+
+ghost use Rattle.std.specs.Prelude.{◌≡◌, ◌+◌, ◌<◌, ◌^◌, [], length};
+
+use crate::fault::{LineFault, StreamFault};
+use crate::source::LineSource;
+use line_text::cut;
+
+/// The lines of a text that is all there.
+#[derive(Drop)]
+pub struct SliceLines<'a> {
+    rest: &'a [u8],
+    line: &'a [u8],
+    passed: u64,
+    ghost counted: { passed + length rest.now < 2 ^ 63 },
+}
+
+impl<'a> SliceLines<'a> {
+    /// No line is passed yet.
+    pub fn new(text: &'a [u8]) -> SliceLines<'a>
+        ensures rest { result.rest.now ≡ text.now }
+        ensures passed { result.passed ≡ 0 }
+    {
+        SliceLines {
+            rest: text,
+            line: &[],
+            passed: 0,
+        }
+    }
+}
+
+impl<'a> LineSource for SliceLines<'a> {
+    ghost may_leave = { λ s text. text ≡ s.rest.now };
+
+    ghost passed = { λ s. s.passed };
+
+    ghost line = { λ s. s.line.now };
+
+    ghost may_stop = { λ s e. ⊥ };
+
+    ghost may_be_from = { λ s all. Unit {0} };
+
+    fn next_line(&mut self) -> Result<(), StreamFault> {
+        match cut(b'\n', self.rest) {
+            None => Err(StreamFault::Text(LineFault::EarlyEnd.at(self.number()))),
+            Some((line, rest)) => {
+                self.line = line;
+                self.rest = rest;
+                self.passed += 1;
+                Ok(())
+            }
+        }
+    }
+
+    fn line(&self) -> &[u8] {
+        self.line
+    }
+
+    fn number(&self) -> u64 {
+        self.passed + 1
+    }
+
+    fn end(&mut self) -> Result<(), StreamFault> {
+        if !self.rest.is_empty() {
+            return Err(StreamFault::Text(LineFault::Trailing.at(self.number())));
+        }
+        Ok(())
+    }
+}

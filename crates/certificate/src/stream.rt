@@ -1,0 +1,101 @@
+//! Which nodes does a reader give, one after another?
+
+ghost use Rattle.std.specs.Prelude.{◌≡◌, ◌+◌, ◌∷◌, ◌≤◌, [], ℕ, List, Option, length, IfOk, IfErr, IfSome, OnOk};
+ghost use Rattle.std.specs.Io.KnownBytes.{IsAtEnd};
+ghost use Rattle.certificate.specs.declared.node.Node.{Node};
+ghost use Rattle.certificate.specs.Limits.{most_branches_above, most_text_bytes};
+ghost use Rattle.certificate.specs.Lines.{node_lines};
+ghost use Rattle.certificate.specs.Cert.{Cert};
+ghost use Rattle.certificate.specs.Reading.{Reading};
+ghost use Rattle.certificate.specs.Opened.{TakesChild, certificate_with};
+ghost use Rattle.certificate.specs.Streams.{IsFresh, LeavesNodes, LeavesCert, LeavesNext, BytesRead, StreamIsFrom, IsCertFault, IsNodeFault, next_line, still_to_come, bytes_taken, stream_reader};
+ghost use Rattle.certificate.specs.Blocks.{Stops};
+
+use crate::block::Block;
+use crate::fault::StreamFault;
+use crate::low::low_from;
+use crate::node::Node;
+use crate::nodes::next_node;
+use crate::reader_lines::ReaderLines;
+use crate::source::LineSource;
+use std::alloc::{AllocError, Global};
+use std::io::Read;
+
+/// The certificate that a reader's bytes spell: its bound, and then its nodes, each in front of those below it. No more
+/// bytes are taken than `MOST_TEXT_BYTES` and one, in blocks. Memory is held for a block, a line, a node with its steps,
+/// and a count for each open branch and the tree itself, of which there are at most `MOST_BRANCHES_ABOVE + 2`.
+///
+/// After a fault nothing but `read_on` is to be called.
+#[derive(Drop)]
+pub struct CertStream<R> {
+    lines: ReaderLines<R>,
+    due: Vec<u32>,
+}
+
+impl<R: Read> CertStream<R> {
+    /// Takes memory, and no byte.
+    pub fn new(alloc: Global, reader: R) -> Result<CertStream<R>, AllocError>
+    where
+        R: Drop,
+        ensures fresh { IfOk result IsFresh }
+        ensures text { IfOk result (λ s. (reading : Reading Cert) → LeavesCert R.remaining s reading → BytesRead (R.remaining reader) reading) }
+        ensures from { IfOk result (λ s. StreamIsFrom R.remaining s (R.remaining reader)) }
+    {
+        let block = Block::new(alloc)?;
+        Ok(CertStream {
+            lines: ReaderLines { reader, block },
+            due: Vec::new(alloc),
+        })
+    }
+
+    /// The bound, in ticks, which the first two lines state.
+    pub fn low(&mut self) -> Result<u32, StreamFault>
+        requires { IsFresh self.old }
+        // Whatever nodes it leaves, with the bound they are what the whole text gives.
+        ensures low { IfOk result (λ low. (read : Reading (List Node)) → LeavesNodes R.remaining self.new read
+            → LeavesCert R.remaining self.old (certificate_with low read)) }
+        ensures due { OnOk result (still_to_come self.new ≡ 1 ∷ []) }
+        ensures line { OnOk result (next_line self.new ≡ 3) }
+        ensures err { IfErr result (IsCertFault (LeavesCert R.remaining self.old) (bytes_taken self.new)) }
+        ensures from { (all : Option (List ℕ)) → StreamIsFrom R.remaining self.old all → StreamIsFrom R.remaining self.new all }
+    {
+        let low = low_from(&mut self.lines)?;
+        self.due.push(1)?;
+        Ok(low)
+    }
+
+    /// The next node and its line, or none behind the last one, where the text has to end.
+    pub fn next_node(&mut self, alloc: Global) -> Result<Option<(Node, u64)>, StreamFault>
+        // Whatever is left behind it, with the node in front it was left before.
+        ensures next { IfOk result (LeavesNext R.remaining self.old self.new) }
+        ensures line { IfOk result (λ next. IfSome next (λ said. said.1 ≡ next_line self.old)) }
+        ensures due { IfOk result (λ next. IfSome next (λ said. TakesChild (still_to_come self.old) (still_to_come self.new) said.0)) }
+        ensures passed { IfOk result (λ next. IfSome next (λ said. next_line self.new ≡ next_line self.old + node_lines said.0)) }
+        ensures few { IfOk result (λ next. IfSome next (λ said. length (still_to_come self.new) ≤ most_branches_above + 2)) }
+        ensures err { IfErr result (IsNodeFault (LeavesNodes R.remaining self.old) (bytes_taken self.new)) }
+        ensures from { (all : Option (List ℕ)) → StreamIsFrom R.remaining self.old all → StreamIsFrom R.remaining self.new all }
+    {
+        let line = self.lines.number();
+        match next_node(alloc, &mut self.lines, &mut self.due)? {
+            Some(node) => Ok(Some((node, line))),
+            None => Ok(None),
+        }
+    }
+
+    /// Reads on to the end, as after any other fault, and keeps nothing.
+    pub fn read_on(&mut self) -> Result<(), StreamFault>
+        ensures end { OnOk result (IsAtEnd (R.remaining (stream_reader self.new))) }
+        ensures within { OnOk result (bytes_taken self.new ≤ most_text_bytes) }
+        ensures err { IfErr result (Stops (bytes_taken self.new)) }
+        ensures from { (all : Option (List ℕ)) → StreamIsFrom R.remaining self.old all → StreamIsFrom R.remaining self.new all }
+    {
+        self.lines.block.read_on(&mut self.lines.reader)
+    }
+
+    /// The reader, where it stands.
+    pub fn into_reader(self) -> R
+        ensures { result ≡ stream_reader self }
+    {
+        self.lines.reader
+    }
+}
