@@ -1,9 +1,12 @@
 pub mod RootSize
 pub mod EarliestDelays
 pub mod Incomplete
+pub mod Chosen
+pub mod DecisionLists
 pub mod Splits
 pub mod Trials
 pub mod ChildTasks
+pub mod Workbenches
 pub mod CompleteSteps
 pub mod ClosedClashes
 pub mod OneMessageChoices

@@ -1,5 +1,5 @@
 -- How much the root's choice leaves to choose: no more branches than a certificate's tree may have above a node.
-use Rattle.std.proofs.Common.{◌≡◌, ℕ, zero, suc, List, [], ◌+◌, ◌-◌, ◌*◌, ◌^◌, ◌<◌, ◌≤◌, if◌then◌else◌, length, arith, refl, count_by, Bool, true, false, is_none, None}
+use Rattle.std.proofs.Common.{◌≡◌, ℕ, zero, suc, [], ◌+◌, ◌-◌, ◌*◌, ◌^◌, ◌<◌, ◌≤◌, if◌then◌else◌, length, arith, refl, sym, subst, count_by, Bool, true, false, is_none, None}
 use Rattle.std.proofs.lemmas.List.{length-replicate, get_or-replicate}
 use Rattle.std.proofs.lemmas.List.Sums.{count_by-le-length}
 use Rattle.std.proofs.lemmas.Int.Digits.{length-digits_of-le}
@@ -13,6 +13,8 @@ use Rattle.ttp_model.proofs.Totals.{total_le, total_more, total_bound}
 use Rattle.tt_choice.specs.Choice.{Choice, is_unordered, unordered_below, unordered_pairs, least_round, greatest_round}
 use Rattle.tt_choice.specs.Branches.{root_choice}
 use Rattle.tt_choice.specs.Sizes.{size_left, range_size}
+use Rattle.branch_tree.specs.Name.{root_name}
+use Rattle.branch_tree.specs.Task.{Task, root_task, IsTask}
 use Rattle.certificate.specs.declared.limits.TheConstants.{MOST_PAIRS, MOST_HALVINGS, MOST_BRANCHES_ABOVE}
 
 -- no test counts more than one
@@ -71,8 +73,11 @@ size_left-root i w =
     (pairs_few i (root_choice i) w.limits.processes)
     (ranges_few i w.limits.messages (w.ranges AtCluster).horizon)
 
-pub shallow_at_root : (i : Instance) (name : List ℕ) (c : Choice) → IsInstance i → name ≡ [] → c ≡ root_choice i → length name + size_left i c ≤ MOST_BRANCHES_ABOVE
-shallow_at_root i name c w no_name root =
-    let size : size_left i c ≤ MOST_BRANCHES_ABOVE = rw root (size_left-root i w) in
-    let none : length name ≡ 0 = rw no_name refl in
-    omega (arith, size, none)
+-- so the whole tree is a task
+pub root_is_task : (i : Instance) → IsInstance i → IsTask i root_task
+root_is_task i w = record { decisions = tt; shallow = omega (arith, size_left-root i w) }
+
+pub is_root_task : (i : Instance) (t : Task) → IsInstance i → t.name ≡ root_name → t.decisions ≡ [] → IsTask i t
+is_root_task i t w no_name nothing =
+    let same : root_task ≡ t = λ j. record { name = sym no_name j; decisions = sym nothing j } in
+    subst (IsTask i) same (root_is_task i w)

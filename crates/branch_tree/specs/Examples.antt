@@ -12,4 +12,5 @@ one_message_in round = record {
   unordered = 0;
   lo = round ∷ [];
   hi = round ∷ [];
+  kept = [];
 }

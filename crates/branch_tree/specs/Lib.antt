@@ -4,6 +4,7 @@ pub mod Pieces
 pub mod Account
 pub mod Once
 pub mod Work
+pub mod Workbench
 pub mod Branching
 pub mod Trials
 pub mod Closers

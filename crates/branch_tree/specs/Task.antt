@@ -1,22 +1,32 @@
 -- What contracts see of a task. Own profile.
-use Rattle.std.specs.Prelude.{◌+◌, ◌≤◌, length}
+use Rattle.std.specs.Prelude.{ℕ, ◌+◌, ◌≤◌, List, [], ◌∷◌, ◌++◌, length}
 use Rattle.ttp_model.specs.Instance.{Instance}
-use Rattle.tt_choice.specs.Choice.{Choice, IsChoice}
+use Rattle.tt_choice.specs.declared.decision.Decision.{Decision}
+use Rattle.tt_choice.specs.Choice.{Choice}
 use Rattle.tt_choice.specs.Branches.{root_choice}
+use Rattle.tt_choice.specs.Decisions.{AreOpenDecisions, chosen}
 use Rattle.tt_choice.specs.Sizes.{size_left}
 use Rattle.certificate.specs.Limits.{most_branches_above}
-use Rattle.branch_tree.specs.Name.{Name, root_name}
+use Rattle.branch_tree.specs.Name.{Name, root_name, child_name}
 
--- a choice, and where it stands in the tree
+-- where it stands in the tree, and the decisions that lead there
 pub record Task : Type 0 where
   pub name : Name
-  pub choice : Choice
+  pub decisions : List Decision
+
+-- the choice that it begins with: what its decisions make of the one in which nothing is chosen
+abbrev pub choice_of : Instance → Task → Choice
+choice_of i t = chosen i t.decisions
 
 -- the whole tree
-abbrev pub root_task : Instance → Task
-root_task i = record { name = root_name; choice = root_choice i }
+abbrev pub root_task : Task
+root_task = record { name = root_name; decisions = [] }
 
--- the choice is the instance's, and the branches above it and those that it can still need are few enough
+-- the task of the child of a number, with the decision that leads to it
+abbrev pub task_after : Task → ℕ → Decision → Task
+task_after t k d = record { name = child_name t.name k; decisions = t.decisions ++ d ∷ [] }
+
+-- each decision was open, and the branches above the choice and those that it can still need are few enough
 pub record IsTask (i : Instance) (t : Task) : Type 0 where
-  pub choice : IsChoice i t.choice
-  pub shallow : length t.name + size_left i t.choice ≤ most_branches_above
+  pub decisions : AreOpenDecisions i (root_choice i) t.decisions
+  pub shallow : length t.name + size_left i (choice_of i t) ≤ most_branches_above

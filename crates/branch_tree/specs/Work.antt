@@ -1,5 +1,5 @@
 -- What became of a worked task. Own profile.
-use Rattle.std.specs.Prelude.{◌≡◌, ℕ, ◌<◌, ◌≤◌, min, List, length, slice_index_or, map, All}
+use Rattle.std.specs.Prelude.{◌≡◌, ℕ, ◌<◌, ◌≤◌, min, List, [], ◌∷◌, ◌++◌, length, slice_index_or, map, All}
 use Rattle.ttp_model.specs.declared.plan.Plan.{Plan}
 use Rattle.ttp_model.specs.declared.step.Kind.{Kind}
 use Rattle.ttp_model.specs.declared.step.Kind.TheVariants.{Place}
@@ -9,8 +9,10 @@ use Rattle.ttp_model.specs.Plans.{IsValid}
 use Rattle.ttp_model.specs.Delays.{delay}
 use Rattle.ttp_model.specs.Chains.{IsPathBound}
 use Rattle.ttp_model.specs.Moves.{IsSettled, MovesLead}
+use Rattle.tt_choice.specs.declared.decision.Decision.{Decision}
 use Rattle.tt_choice.specs.Choice.{Choice, IsIn, IsComplete}
-use Rattle.tt_choice.specs.Branches.{IsBranch, child_choices}
+use Rattle.tt_choice.specs.Decisions.{decisions_of}
+use Rattle.tt_choice.specs.Branches.{IsBranch}
 use Rattle.tt_choice.specs.Sizes.{size_left}
 use Rattle.tt_infer.specs.Leaves.{ClosesLeaf}
 use Rattle.earliest_starts.specs.Answers.{IsEarliest}
@@ -19,29 +21,30 @@ use Rattle.branch_tree.specs.declared.piece.Piece.{Piece}
 use Rattle.branch_tree.specs.declared.worked.Worked.{Worked}
 use Rattle.branch_tree.specs.declared.worked.Worked.TheVariants.{Split, Closed, Found}
 use Rattle.branch_tree.specs.Name.{child_names}
-use Rattle.branch_tree.specs.Task.{Task, root_task, IsTask}
+use Rattle.branch_tree.specs.Task.{Task, choice_of, root_task, IsTask}
 
 -- each valid plan of the task is in a child
 abbrev pub Cover : Instance → Task → List Task → Type 0
-Cover i t tasks = (plan : Plan) → IsValid i plan → IsIn i t.choice plan
-    → (k : ℕ) × (k < length tasks) × IsIn i (slice_index_or tasks k t).choice plan
+Cover i t tasks = (plan : Plan) → IsValid i plan → IsIn i (choice_of i t) plan
+    → (k : ℕ) × (k < length tasks) × IsIn i (choice_of i (slice_index_or tasks k t)) plan
 
--- a task for each child of a branch, in order
+-- a task for each child of a branch, in order: each has one decision more
 pub record AreChildren (i : Instance) (t : Task) (kind : Kind) (tasks : List Task) : Type 0 where
   pub names : map (λ (task : Task). task.name) tasks ≡ child_names t.name (length tasks)
-  pub choices : map (λ (task : Task). task.choice) tasks ≡ child_choices i t.choice kind
+  pub decisions : map (λ (task : Task). task.decisions) tasks
+      ≡ map (λ (d : Decision). t.decisions ++ d ∷ []) (decisions_of i (choice_of i t) kind)
 
 -- An open branch of a choice that leaves something to choose, at a goal above the path bound, and a
 -- task for each of its children, in order. The root's branch places a node, where there are several.
 pub record IsSplit (i : Instance) (t : Task) (goal : ℕ) (kind : Kind) (tasks : List Task) : Type 0 where
-  pub incomplete : ¬ IsComplete i t.choice
+  pub incomplete : ¬ IsComplete i (choice_of i t)
   pub above : (bound : ℕ) → IsPathBound i bound → bound < goal
-  pub branch : IsBranch i t.choice kind (length tasks)
+  pub branch : IsBranch i (choice_of i t) kind (length tasks)
   pub children : AreChildren i t kind tasks
   pub each : All (IsTask i) tasks
-  pub smaller : All (λ (task : Task). size_left i task.choice < size_left i t.choice) tasks
+  pub smaller : All (λ (task : Task). size_left i (choice_of i task) < size_left i (choice_of i t)) tasks
   pub cover : Cover i t tasks
-  pub root : t ≡ root_task i → 2 ≤ length i.nodes → kind ≡ Place
+  pub root : t ≡ root_task → 2 ≤ length i.nodes → kind ≡ Place
 
 -- The earliest plan of a complete choice has a delay below the goal. It was settled, by moves that lead
 -- from it, and then has this delay; and a leaf closes the choice at the delay that it had.
@@ -65,15 +68,15 @@ pub record ClosesAt (i : Instance) (c : Choice) (goal : ℕ) (leaf : Leaf) : Typ
 -- what is answered for a task at a goal
 abbrev pub IsWorked : Instance → Task → ℕ → Worked → Type 0
 IsWorked i t goal (Split kind tasks) = IsSplit i t goal kind tasks.items
-IsWorked i t goal (Closed leaf) = ClosesAt i t.choice goal leaf
-IsWorked i t goal (Found plan ticks leaf) = IsFind i t.choice goal plan ticks leaf
+IsWorked i t goal (Closed leaf) = ClosesAt i (choice_of i t) goal leaf
+IsWorked i t goal (Found plan ticks leaf) = IsFind i (choice_of i t) goal plan ticks leaf
 
 -- the task's leaf, at a goal of at most this one and at least the lesser of it and the path bound
 pub record IsLeftClosed (i : Instance) (t : Task) (top : ℕ) (piece : Piece) : Type 0 where
   pub leaf : Leaf
   pub node : piece.node ≡ AsLeaf leaf
   pub name : piece.name ≡ t.name
-  pub closes : ClosesLeaf i t.choice leaf
+  pub closes : ClosesLeaf i (choice_of i t) leaf
   pub most : leaf.goal ≤ top
   pub least : (bound : ℕ) → IsPathBound i bound → min top bound ≤ leaf.goal
 

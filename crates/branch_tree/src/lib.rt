@@ -10,6 +10,7 @@ mod name;
 mod piece;
 mod task;
 mod trial;
+mod workbench;
 mod worked;
 mod working;
 
@@ -21,5 +22,6 @@ pub use laws::{
 pub use name::Name;
 pub use piece::Piece;
 pub use task::Task;
+pub use workbench::Workbench;
 pub use worked::Worked;
-pub use working::{close_left, work};
+pub use working::{close_left, work, work_on};

@@ -306,3 +306,39 @@ fn the_children_of_a_pair_are_its_two_orders(rt: HostRuntime) -> Result<(), Fail
     assert_eq!(rt; orders(&choices[1]), (false, false, true));
     Ok(())
 }
+
+/// Checks the decisions of a branch that is open where nothing is chosen.
+fn expect_decisions(
+    rt: &impl Abort,
+    alloc: Global,
+    small: Small,
+    kind: Kind,
+    decisions: &[Decision],
+) -> Result<(), Fail> {
+    let i = small.build(alloc)?;
+    let root = Choice::root(alloc, &i)?;
+    assert!(rt; root.is_open(&i, &kind));
+    assert_eq!(rt; root.decisions(alloc, &i, &kind)?.as_slice(), decisions);
+    Ok(())
+}
+
+#[test]
+fn the_decisions_of_a_branch_come_in_order(rt: HostRuntime) -> Result<(), Fail> {
+    let small = Small::TwoOptions;
+    let rows: [(Kind, &[Decision]); 3] = [
+        (Kind::Place, &[Place(0), Place(1)]),
+        (Kind::Cap(0), &[Cap(0, 0), Cap(0, 1)]),
+        (Kind::Round(0, 4), &[AtMost(0, 4), AtLeast(0, 5)]),
+    ];
+    for (kind, decisions) in &rows {
+        expect_decisions(&rt, rt.alloc(), small, *kind, decisions)?;
+    }
+    let pair = [Before(1, 0), Before(0, 1)];
+    expect_decisions(
+        &rt,
+        rt.alloc(),
+        Small::ThreeLengths,
+        Kind::Pair(1, 0),
+        &pair,
+    )
+}

@@ -1,4 +1,4 @@
-//! Which choice do these decisions lead to, one after another?
+//! Which decisions are open, and which choice do they lead to, one after another?
 
 ghost use Rattle.std.specs.Prelude.{IfOk, IsTrue};
 ghost use Rattle.tt_choice.specs.Choice.{IsChoice};
@@ -70,7 +70,37 @@ pub fn chosen(
     let mut choice = Choice::root(alloc, i)?;
     for decision in decisions {
         assert!(rt; is_open(i, &choice, *decision));
-        choice.change(alloc, i, *decision)?;
+        choice.decide(alloc, i, *decision)?;
     }
     Ok(choice)
+}
+
+/// A number below a count, of a random one.
+fn below(random: u32, count: usize) -> u32 {
+    if count == 0 {
+        0
+    } else {
+        (random as usize % count) as u32
+    }
+}
+
+/// The next of some numbers that look random.
+pub fn next(seed: u32) -> u32 {
+    seed.wrapping_mul(1_664_525).wrapping_add(1_013_904_223)
+}
+
+/// Some decision, which needn't be open.
+pub fn some_decision(i: &Instance, seed: u32) -> Decision {
+    let first = next(seed) >> 8;
+    let second = next(next(seed)) >> 8;
+    let p = below(first, i.processes().len());
+    let m = below(first, i.messages().len());
+    let n = below(first, i.nodes().len());
+    match (seed >> 8) % 5 {
+        0 => Decision::Place(n),
+        1 => Decision::Cap(n, below(second, 3)),
+        2 => Decision::Before(p, below(second, i.processes().len())),
+        3 => Decision::AtMost(m, below(second, 40)),
+        _ => Decision::AtLeast(m, below(second, 20)),
+    }
 }

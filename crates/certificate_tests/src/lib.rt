@@ -4,6 +4,8 @@
 #[cfg(test)]
 mod alike;
 #[cfg(test)]
+mod certificate_streams;
+#[cfg(test)]
 mod certificate_texts;
 #[cfg(test)]
 mod choices;
@@ -15,6 +17,8 @@ mod decisions;
 mod inference;
 #[cfg(test)]
 mod instances;
+#[cfg(test)]
+mod kept_decisions;
 #[cfg(test)]
 mod loads;
 #[cfg(test)]

@@ -1,5 +1,5 @@
 -- Logs that go on after decisions.
-use Rattle.std.proofs.Common.{◌≡◌, ℕ, ◌+◌, ◌<◌, ◌≤◌, ◌^◌, List, [], ◌∷◌, ◌++◌, length, slice_index_or, take, Option, None, Some, IsSome, option_to_list, IsTrue, IsFalse, arith, inl, inr, refl, ap, sym, subst, ◌∙◌}
+use Rattle.std.proofs.Common.{◌≡◌, ℕ, ◌<◌, ◌^◌, List, [], ◌∷◌, ◌++◌, length, slice_index_or, take, Option, None, Some, IsSome, option_to_list, IsTrue, IsFalse, arith, inl, inr, refl, ap, sym, subst, ◌∙◌}
 use Rattle.std.proofs.lemmas.Bool.{cases_lt, false≢true}
 use Rattle.std.proofs.lemmas.List.{length-append, take-append-le, get_or_append_left, get_or_push, take_all}
 use Rattle.ttp_model.specs.declared.plan.Plan.{Plan}
@@ -10,15 +10,14 @@ use Rattle.ttp_model.specs.Chains.{IsPathBound}
 use Rattle.tt_choice.specs.declared.decision.Decision.{Decision}
 use Rattle.tt_choice.specs.Choice.{Choice, IsChoice, IsComplete}
 use Rattle.tt_choice.specs.Branches.{root_choice}
-use Rattle.tt_choice.specs.Decisions.{choice_after, choice_after_all, AreOpenDecisions, IsOpenDecision}
-use Rattle.tt_choice.proofs.Decisions.{IsChoice-after, after_all-more, open-more, open-front}
-use Rattle.tt_infer.specs.Known.{Known, first_facts}
+use Rattle.tt_choice.specs.Decisions.{choice_after, IsOpenDecision, chosen}
+use Rattle.tt_choice.proofs.Decisions.{after_all-more, open-more, open-front}
+use Rattle.tt_infer.specs.Known.{first_facts}
 use Rattle.tt_infer.specs.Facts.{Facts, after}
-use Rattle.tt_infer.specs.Leaves.{Lead, ClosesLeaf}
+use Rattle.tt_infer.specs.Leaves.{ClosesLeaf}
 use Rattle.path_bounds.specs.Journal.{Journal, Advances}
 use Rattle.path_bounds.specs.Propagation.{LeadSharply, IsPlanBelow}
-use Rattle.path_bounds.specs.Propagator.{IsLog, Begins, Propagator, IsPropagation, chosen, Decides, Undoes}
-use Rattle.path_bounds.proofs.Logs.{Lead-sharply}
+use Rattle.path_bounds.specs.Propagator.{IsLog, Propagator, IsPropagation, Undoes}
 use Rattle.path_bounds.proofs.Counts.{closes_log}
 
 -- where a log that began without steps leads
@@ -106,6 +105,10 @@ undone p ds d logs log is all kept = record {
 pub undone_of : (p : Propagator) (ds : List Decision) (last : Option Decision) (logs : List Journal) (log : Journal) → IsPropagation p → IsSome last → p.decisions ≡ ds ++ option_to_list last → p.earlier ≡ logs ++ log ∷ [] → IsPropagation (record p { decisions = ds; earlier = logs; current = log })
 undone_of p ds None logs log is some all kept = absurd (false≢true some)
 undone_of p ds (Some d) logs log is some all kept = undone p ds d logs log is all kept
+
+pub undoes_of : (p q : Propagator) (last : Option Decision) → IsSome last → q.instance ≡ p.instance → q.goal ≡ p.goal → p.decisions ≡ q.decisions ++ option_to_list last → p.earlier ≡ q.earlier ++ q.current ∷ [] → Undoes p q
+undoes_of p q None some instance goal decisions earlier = absurd (false≢true some)
+undoes_of p q (Some d) some instance goal decisions earlier = record { instance = instance; goal = goal; last = d; decisions = decisions; earlier = earlier }
 
 -- what closes
 pub closes : (i : Instance) (c : Choice) (goal : ℕ) (log : Journal) → IsInstance i → IsLog i c goal log → IsTrue log.facts.known.closed → ClosesLeaf i c (record { goal = goal; steps = log.steps }) × (length log.steps < 2 ^ 32)

@@ -7,9 +7,8 @@ use Rattle.ttp_model.specs.Chains.{IsPathBound}
 use Rattle.tt_choice.specs.declared.decision.Decision.{Decision}
 use Rattle.tt_choice.specs.Choice.{Choice, IsChoice, IsComplete}
 use Rattle.tt_choice.specs.Branches.{root_choice}
-use Rattle.tt_choice.specs.Decisions.{choice_after, choice_after_all, AreOpenDecisions}
-use Rattle.tt_infer.specs.Known.{Known, first_facts}
-use Rattle.tt_infer.specs.Facts.{Facts}
+use Rattle.tt_choice.specs.Decisions.{AreOpenDecisions, chosen}
+use Rattle.tt_infer.specs.Known.{first_facts}
 use Rattle.path_bounds.specs.Journal.{Journal}
 use Rattle.path_bounds.specs.Propagation.{LeadSharply, IsPlanBelow}
 
@@ -33,10 +32,6 @@ pub record Propagator : Type 0 where
   pub decisions : List Decision
   pub earlier : List Journal
   pub current : Journal
-
--- the choice that decisions make of the one in which nothing is chosen
-abbrev pub chosen : Instance → List Decision → Choice
-chosen i decisions = choice_after_all i (root_choice i) decisions
 
 -- each decision was open, and each log is one of the choice that the decisions before it make
 pub record IsPropagation (p : Propagator) : Type 0 where

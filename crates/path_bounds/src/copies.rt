@@ -41,7 +41,7 @@ pub fn copied(alloc: Global, step: &Step) -> Result<Step, MemoryFault>
 pub fn all_copied(alloc: Global, steps: &[Step]) -> Result<Vec<Step>, MemoryFault>
     ensures { IfOk result (λ copies. copies.items ≡ steps.now) }
 {
-    let mut copies = Vec::new(alloc);
+    let mut copies = Vec::with_capacity(alloc, steps.len())?;
     for step in steps {
         copies.push(copied(alloc, step)?)?;
     }

@@ -2,6 +2,7 @@
 
 ghost use Rattle.std.specs.Prelude.{◌≡◌, ◌<◌, ◌++◌, [], All, IfOk, IfSome, IsTrue, IsFalse};
 ghost use Rattle.tt_choice.specs.Choice.{IsChoice};
+ghost use Rattle.tt_choice.specs.Decisions.{choice_after, IsOpenDecision};
 ghost use Rattle.tt_infer.specs.Known.{first_facts};
 ghost use Rattle.tt_infer.specs.Facts.{after};
 ghost use Rattle.path_bounds.specs.Journal.{Advances, Sharpens, SharpensNothing, slack_of};
@@ -10,7 +11,7 @@ use crate::copies::copied;
 use crate::fact::{target, value};
 use std::alloc::Global;
 use std::marker::Model;
-use tt_choice::Choice;
+use tt_choice::{Choice, Decision};
 use tt_infer::Facts;
 use ttp_model::{Instance, MemoryFault, Step};
 
@@ -50,6 +51,31 @@ impl<'a> Journal<'a> {
         ensures { result ≡ record { facts = facts.entry; steps = steps.items } }
     {
         Journal { facts, steps }
+    }
+
+    /// The log without steps of what is known at first after a decision on what another log is about, in the room of this one.
+    pub fn after(
+        self,
+        alloc: Global,
+        level: &Journal<'a>,
+        decision: Decision,
+    ) -> Result<Journal<'a>, MemoryFault>
+        requires { IsOpenDecision level.now.facts.instance level.now.facts.choice decision }
+        ensures { IfOk result (λ log. log ≡ record {
+          facts = record {
+            instance = level.now.facts.instance;
+            choice = choice_after level.now.facts.instance level.now.facts.choice decision;
+            goal = level.now.facts.goal;
+            known = first_facts level.now.facts.instance (choice_after level.now.facts.instance level.now.facts.choice decision);
+          };
+          steps = [];
+        }) }
+    {
+        let facts = self.facts.after(alloc, level.facts(), decision)?;
+        let mut steps = self.steps;
+        steps.clear();
+        steps.reserve(level.steps.len())?;
+        Ok(Journal { facts, steps })
     }
 
     /// What is known, and the steps.

@@ -1,11 +1,14 @@
 //! How does propagation go on after a decision?
 
 ghost use Rattle.std.specs.Prelude.{◌≡◌, ◌<◌, ◌≤◌, ℕ, [], IfOk, OnOk, OnErr, IsTrue, IsFalse, length};
+ghost use Rattle.ttp_model.specs.declared.plan.Plan.{Plan};
 ghost use Rattle.ttp_model.specs.Chains.{IsPathBound};
-ghost use Rattle.tt_choice.specs.Choice.{IsChoice};
+ghost use Rattle.tt_choice.specs.Choice.{IsComplete};
 ghost use Rattle.tt_choice.specs.Decisions.{choice_after, IsOpenDecision};
 ghost use Rattle.tt_infer.specs.Leaves.{ClosesLeaf};
-ghost use Rattle.path_bounds.specs.Propagator.{IsPropagation, IsStarted, Decides, Undoes, IsLog};
+ghost use Rattle.path_bounds.specs.Journal.{Journal, Advances};
+ghost use Rattle.path_bounds.specs.Propagation.{IsPlanBelow};
+ghost use Rattle.path_bounds.specs.Propagator.{Begins, IsPropagation, IsStarted, Decides, Undoes, IsLog};
 
 use crate::acceleration::go_on;
 use crate::agenda::Agenda;
@@ -30,6 +33,8 @@ pub struct Propagator<'a> {
     /// What was known before each decision.
     earlier: Vec<Journal<'a>>,
     current: Journal<'a>,
+    /// What was known after decisions that were taken back, for its memory.
+    spare: Vec<Journal<'a>>,
     agenda: Agenda,
 }
 
@@ -55,27 +60,50 @@ impl<'a> Model for Propagator<'a> {
     }) };
 }
 
-/// The choice with one decision more.
-fn decided(
+/// Memory for what is known after a decision: that of a decision that was taken back, where there is one.
+fn room<'a>(
     alloc: Global,
-    instance: &Instance,
-    choice: &Choice,
-    decision: Decision,
-) -> Result<Choice, MemoryFault>
-    requires of { IsChoice instance.now choice.now }
-    requires is_open { IsOpenDecision instance.now choice.now decision }
-    ensures value { IfOk result (λ c. c ≡ choice_after instance.now choice.now decision) }
-    ensures choice { IfOk result (IsChoice instance.now) }
+    spare: &mut Vec<Journal<'a>>,
+    level: &Journal<'a>,
+) -> Result<Journal<'a>, MemoryFault> {
+    if let Some(room) = spare.pop() {
+        return Ok(room);
+    }
+    let facts = level.facts();
+    let first = Facts::new(alloc, facts.instance(), facts.choice(), facts.goal())?;
+    Ok(Journal::new(first, Vec::new(alloc)))
+}
+
+/// Keeps memory to be used again, where there is a place for it.
+fn keep<'a>(spare: &mut Vec<Journal<'a>>, room: Journal<'a>) {
+    if spare.len() < spare.capacity() {
+        spare.push_reserved(room);
+    }
+}
+
+/// Where nothing is left to choose, sharpens what is known until the steps that decide that sharpen no more.
+fn finish(alloc: Global, journal: &mut Journal) -> Result<(), MemoryFault>
+    ensures advances { Advances journal.old journal.new }
+    ensures found { OnOk result ((goal : ℕ) (start : Journal)
+        → Begins journal.old.facts.instance journal.old.facts.choice goal start
+        → Advances start journal.old → IsComplete journal.old.facts.instance journal.old.facts.choice
+        → IsFalse journal.new.facts.known.closed
+        → (plan : Plan) × IsPlanBelow journal.old.facts.instance journal.old.facts.choice goal plan) }
 {
-    let mut next = choice.copy(alloc)?;
-    next.change(alloc, instance, decision)?;
-    Ok(next)
+    let facts = journal.facts();
+    let instance = facts.instance();
+    if !facts.choice().is_complete(instance) {
+        return Ok(());
+    }
+    let choice = facts.choice().whole_copy(alloc)?;
+    complete(alloc, instance, &choice, journal)
 }
 
 /// What is known after a decision: first what the steps so far say of the choice that it makes, then what comes of that.
 fn next_level<'a>(
     alloc: Global,
     agenda: &mut Agenda,
+    room: Journal<'a>,
     level: &Journal<'a>,
     decision: Decision,
 ) -> Result<Journal<'a>, MemoryFault>
@@ -84,15 +112,11 @@ fn next_level<'a>(
     ensures { IfOk result (IsLog level.now.facts.instance
         (choice_after level.now.facts.instance level.now.facts.choice decision) level.now.facts.goal) }
 {
-    let facts = level.facts();
-    let instance = facts.instance();
-    let choice = decided(alloc, instance, facts.choice(), decision)?;
-    let first = Facts::new(alloc, instance, &choice, facts.goal())?;
-    let room = Vec::with_capacity(alloc, level.steps().len())?;
-    let mut next = Journal::new(first, room);
+    let mut next = room.after(alloc, level, decision)?;
+    let _choice = next.facts().choice();
     next.sweep(alloc, level.steps())?;
-    go_on(alloc, agenda, facts, decision, &mut next)?;
-    complete(alloc, instance, &choice, &mut next)?;
+    go_on(alloc, agenda, level.facts(), decision, &mut next)?;
+    finish(alloc, &mut next)?;
     Ok(next)
 }
 
@@ -116,6 +140,7 @@ impl<'a> Propagator<'a> {
             decisions: Vec::new(alloc),
             earlier: Vec::new(alloc),
             current,
+            spare: Vec::new(alloc),
             agenda,
         })
     }
@@ -137,7 +162,9 @@ impl<'a> Propagator<'a> {
     {
         self.decisions.reserve(1)?;
         self.earlier.reserve(1)?;
-        let next = next_level(alloc, &mut self.agenda, &self.current, decision)?;
+        self.spare.reserve(self.earlier.len() + 1)?;
+        let room = room(alloc, &mut self.spare, &self.current)?;
+        let next = next_level(alloc, &mut self.agenda, room, &self.current, decision)?;
         let before = mem::replace(&mut self.current, next);
         self.earlier.push_reserved(before);
         self.decisions.push_reserved(decision);
@@ -152,7 +179,8 @@ impl<'a> Propagator<'a> {
         let _last = self.decisions.pop();
         let before = self.earlier.pop();
         if let Some(before) = before {
-            self.current = before;
+            let room = mem::replace(&mut self.current, before);
+            keep(&mut self.spare, room);
         }
     }
 

@@ -10,7 +10,7 @@ use Rattle.certificate.specs.declared.limits.TheConstants.{MOST_BRANCHES_ABOVE}
 use Rattle.certificate.specs.declared.node.Node.TheVariants as node
 use Rattle.branch_tree.specs.declared.piece.Piece.{Piece}
 use Rattle.branch_tree.specs.Name.{Name}
-use Rattle.branch_tree.specs.Task.{Task, IsTask}
+use Rattle.branch_tree.specs.Task.{Task, choice_of, IsTask}
 use Rattle.branch_tree.specs.Pieces.{IsRight, StandsAt, AreRight}
 use Rattle.branch_tree.specs.Account.{IsWholeTree}
 use Rattle.branch_tree.specs.Work.{IsLeftClosed}
@@ -55,8 +55,8 @@ module _ (i : Instance) (made : List Piece) (tasks : List Task) (found : Option 
   made_shallow : AreShallow made
   made_shallow = subst AreShallow s.pieces (shallow i s.turns tasks s.each s.account)
 
-  made_stands : (t : Task) → Contains tasks t → StandsAt i made t.name t.choice
-  made_stands t there = subst (λ (ps : List Piece). StandsAt i ps t.name t.choice) s.pieces (stands i s.turns tasks s.each s.account t (Contains-append_right (tasks_of s.turns) tasks t there))
+  made_stands : (t : Task) → Contains tasks t → StandsAt i made t.name (choice_of i t)
+  made_stands t there = subst (λ (ps : List Piece). StandsAt i ps t.name (choice_of i t)) s.pieces (stands i s.turns tasks s.each s.account t (Contains-append_right (tasks_of s.turns) tasks t there))
 
   closes_shallow : (p : Piece) → ClosesOne i tasks limit p → length p.name ≤ MOST_BRANCHES_ABOVE
   closes_shallow p one =
@@ -84,8 +84,8 @@ module _ (i : Instance) (made : List Piece) (tasks : List Task) (found : Option 
   closes_right p d there stands =
       let one : ClosesOne i tasks limit p = All-contains (ClosesOne i tasks limit) closed p c.each there in
       let here : StandsAt i made one.task.name d = subst (λ (w : Name). StandsAt i made w d) one.is.name stands in
-      let same : one.task.choice ≡ d = stands_alone i made (task_names tasks) one.task.name one.task.choice d made_whole (made_stands one.task one.there) here in
-      subst (λ (e : Choice). IsRight i e p.node) same (subst (IsRight i one.task.choice) (sym one.is.node) one.is.closes)
+      let same : choice_of i one.task ≡ d = stands_alone i made (task_names tasks) one.task.name (choice_of i one.task) d made_whole (made_stands one.task one.there) here in
+      subst (λ (e : Choice). IsRight i e p.node) same (subst (IsRight i (choice_of i one.task)) (sym one.is.node) one.is.closes)
 
   pub ended : (budget : ℕ) (why : Why) → limit ≡ limit_of i found → length made ≤ budget → IsWorkedOut budget made why → IsSearched i budget why found made closed low
   ended budget why is within cause = record {

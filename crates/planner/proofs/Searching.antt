@@ -58,12 +58,12 @@ pub works : (i : Instance) (made : List Piece) (front : List Task) (turn : Turn)
 works i made front turn old new kids s is same each lower goal found =
     let grown = flat_map-append (born i) s.turns (turn ∷ []) ∙ ap (λ (l : List Task). all_born i s.turns ++ l) (append-nil (born i turn) ∙ sym same) in
     let tasks = map-append (λ (x : Turn). x.task) s.turns (turn ∷ []) in
-    let account = IsPermutation-trans _ _ _ (moves_over (tasks_of s.turns) front kids turn.task) (IsPermutation-append_left kids (tasks_of s.turns ++ (front ++ turn.task ∷ [])) (root_task i ∷ all_born i s.turns) s.account) in
+    let account = IsPermutation-trans _ _ _ (moves_over (tasks_of s.turns) front kids turn.task) (IsPermutation-append_left kids (tasks_of s.turns ++ (front ++ turn.task ∷ [])) (root_task ∷ all_born i s.turns) s.account) in
     record {
       turns = s.turns ++ turn ∷ [];
       each = All-push (IsTurn i) s.turns turn s.each is;
       pieces = map-append (λ (x : Turn). x.piece) s.turns (turn ∷ []) ∙ ap (λ (l : List Piece). l ++ turn.piece ∷ []) s.pieces;
-      account = first_is _ _ _ (ap (λ (l : List Task). l ++ (front ++ kids)) tasks) (then_is _ _ _ account (ap (λ (l : List Task). root_task i ∷ l) (sym grown)));
+      account = first_is _ _ _ (ap (λ (l : List Task). l ++ (front ++ kids)) tasks) (then_is _ _ _ account (ap (λ (l : List Task). root_task ∷ l) (sym grown)));
       open_tasks = All-append (IsTask i) front kids (front_of (IsTask i) front turn.task s.open_tasks) each;
       goals = All-push (λ (q : Piece). HasGoal (limit_of i new) q.node) made turn.piece
           (All-weaker (λ (q : Piece). HasGoal (limit_of i old) q.node) (λ (q : Piece). HasGoal (limit_of i new) q.node) (λ q. weaker_goal (limit_of i old) (limit_of i new) lower q.node) made s.goals) goal;

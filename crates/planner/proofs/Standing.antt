@@ -11,10 +11,11 @@ use Rattle.certificate.specs.declared.limits.TheConstants.{MOST_BRANCHES_ABOVE}
 use Rattle.certificate.specs.Trees.{children}
 use Rattle.branch_tree.specs.declared.piece.Piece.{Piece}
 use Rattle.branch_tree.specs.Name.{Name, root_name, child_name}
-use Rattle.branch_tree.specs.Task.{Task, root_task}
+use Rattle.branch_tree.specs.Task.{Task, choice_of, root_task}
 use Rattle.branch_tree.specs.Pieces.{names_of, names_below, all_below, choice_below, IsRight, StandsAt, at_root, at_child, AreRight}
 use Rattle.branch_tree.specs.Account.{IsWholeTree}
 use Rattle.branch_tree.proofs.OneChoice.{stands_alone}
+use Rattle.pool_worker.proofs.Children.{choice_of_child}
 use Rattle.pool_worker.specs.Tasks.{Turn, IsTurn, tasks_of, pieces_of, born, child_task, all_born}
 use Rattle.planner.specs.Gathering.{AreShallow}
 use Rattle.planner.specs.Searching.{task_names}
@@ -48,24 +49,26 @@ all_names i (turn ∷ turns) each =
     let rest = all_names i turns (All-tail (IsTurn i) turn turns each) in
     λ j. first j ∷ rest j
 
-module _ (i : Instance) (turns : List Turn) (tasks : List Task) (each : All (IsTurn i) turns) (account : IsPermutation (tasks_of turns ++ tasks) (root_task i ∷ all_born i turns)) where
+module _ (i : Instance) (turns : List Turn) (tasks : List Task) (each : All (IsTurn i) turns) (account : IsPermutation (tasks_of turns ++ tasks) (root_task ∷ all_born i turns)) where
   pub whole : IsWholeTree (pieces_of turns) (task_names tasks)
   whole =
       let left = map-append name_of (tasks_of turns) tasks ∙ ap (λ (l : List Name). l ++ task_names tasks) (all_names i turns each) in
       let right = ap (λ (l : List Name). root_name ∷ l) (all_names_born i turns each) in
       subst (λ (l : List Name). IsPermutation l (root_name ∷ all_below (pieces_of turns))) left
-      (subst (λ (l : List Name). IsPermutation (map name_of (tasks_of turns ++ tasks)) l) right (IsPermutation-map name_of (tasks_of turns ++ tasks) (root_task i ∷ all_born i turns) account))
+      (subst (λ (l : List Name). IsPermutation (map name_of (tasks_of turns ++ tasks)) l) right (IsPermutation-map name_of (tasks_of turns ++ tasks) (root_task ∷ all_born i turns) account))
 
   -- the choice of a child's task stands at its name, where its parent's does
-  below : (turn : Turn) (t : Task) (k : ℕ) → Has turns turn → k < children turn.piece.node → child_task i turn k ≡ t → StandsAt i (pieces_of turns) turn.task.name turn.task.choice → StandsAt i (pieces_of turns) t.name t.choice
+  below : (turn : Turn) (t : Task) (k : ℕ) → Has turns turn → k < children turn.piece.node → child_task i turn k ≡ t → StandsAt i (pieces_of turns) turn.task.name (choice_of i turn.task) → StandsAt i (pieces_of turns) t.name (choice_of i t)
   below turn t k there lt is stands =
       let own : IsTurn i turn = All-contains (IsTurn i) turns turn each (contains_from_has turns turn there) in
       let piece : Contains (pieces_of turns) turn.piece = contains_from_has (pieces_of turns) turn.piece (has_map (λ (x : Turn). x.piece) turns turn there) in
-      let here : StandsAt i (pieces_of turns) turn.piece.name turn.task.choice = subst (λ (w : Name). StandsAt i (pieces_of turns) w turn.task.choice) (sym own.name) stands in
-      let at : StandsAt i (pieces_of turns) (child_name turn.piece.name k) (choice_below i turn.task.choice turn.piece.node k) = at_child turn.piece turn.task.choice k piece here lt in
-      let named : StandsAt i (pieces_of turns) (child_name turn.task.name k) (choice_below i turn.task.choice turn.piece.node k) =
-      subst (λ (w : Name). StandsAt i (pieces_of turns) (child_name w k) (choice_below i turn.task.choice turn.piece.node k)) own.name at in
-      subst (λ (u : Task). StandsAt i (pieces_of turns) u.name u.choice) is named
+      let here : StandsAt i (pieces_of turns) turn.piece.name (choice_of i turn.task) = subst (λ (w : Name). StandsAt i (pieces_of turns) w (choice_of i turn.task)) (sym own.name) stands in
+      let at : StandsAt i (pieces_of turns) (child_name turn.piece.name k) (choice_below i (choice_of i turn.task) turn.piece.node k) = at_child turn.piece (choice_of i turn.task) k piece here lt in
+      let named : StandsAt i (pieces_of turns) (child_name turn.task.name k) (choice_below i (choice_of i turn.task) turn.piece.node k) =
+      subst (λ (w : Name). StandsAt i (pieces_of turns) (child_name w k) (choice_below i (choice_of i turn.task) turn.piece.node k)) own.name at in
+      let chosen : StandsAt i (pieces_of turns) (child_name turn.task.name k) (choice_of i (child_task i turn k)) =
+      subst (StandsAt i (pieces_of turns) (child_name turn.task.name k)) (sym (choice_of_child i turn.task turn.piece.node k)) named in
+      subst (λ (u : Task). StandsAt i (pieces_of turns) u.name (choice_of i u)) is chosen
 
   -- a task is the root, or the child of a turn's task
   record IsChild (t : Task) : Type 0 where
@@ -75,9 +78,9 @@ module _ (i : Instance) (turns : List Turn) (tasks : List Task) (each : All (IsT
     pub inside : index < children turn.piece.node
     pub is : child_task i turn index ≡ t
 
-  root_or_child : (t : Task) → Contains (tasks_of turns ++ tasks) t → (root_task i ≡ t) ⊎ IsChild t
+  root_or_child : (t : Task) → Contains (tasks_of turns ++ tasks) t → (root_task ≡ t) ⊎ IsChild t
   root_or_child t there =
-      let from = has_from_contains (root_task i ∷ all_born i turns) t (Contains-permutation (tasks_of turns ++ tasks) (root_task i ∷ all_born i turns) t account there) in
+      let from = has_from_contains (root_task ∷ all_born i turns) t (Contains-permutation (tasks_of turns ++ tasks) (root_task ∷ all_born i turns) t account there) in
       elim from [
         | inl same ↦ inl same
         | inr later ↦
@@ -93,17 +96,17 @@ module _ (i : Instance) (turns : List Turn) (tasks : List Task) (each : All (IsT
   longer : (t : Task) (c : IsChild t) → length t.name ≡ length c.turn.task.name + 1
   longer t c = ap (λ (u : Task). length u.name) (sym c.is) ∙ length-append c.turn.task.name (c.index ∷ [])
 
-  stands_within : (n : ℕ) (t : Task) → length t.name ≤ n → Contains (tasks_of turns ++ tasks) t → StandsAt i (pieces_of turns) t.name t.choice
+  stands_within : (n : ℕ) (t : Task) → length t.name ≤ n → Contains (tasks_of turns ++ tasks) t → StandsAt i (pieces_of turns) t.name (choice_of i t)
   stands_within zero t short there = elim (root_or_child t there) [
-    | inl same ↦ subst (λ (u : Task). StandsAt i (pieces_of turns) u.name u.choice) same at_root
+    | inl same ↦ subst (λ (u : Task). StandsAt i (pieces_of turns) u.name (choice_of i u)) same at_root
     | inr c ↦ absurd (omega (arith, short, longer t c))
   ]
   stands_within (suc n) t short there = elim (root_or_child t there) [
-    | inl same ↦ subst (λ (u : Task). StandsAt i (pieces_of turns) u.name u.choice) same at_root
+    | inl same ↦ subst (λ (u : Task). StandsAt i (pieces_of turns) u.name (choice_of i u)) same at_root
     | inr c ↦ below c.turn t c.index c.there c.inside c.is (stands_within n c.turn.task (omega (arith, short, longer t c)) (own_task c.turn c.there))
   ]
 
-  pub stands : (t : Task) → Contains (tasks_of turns ++ tasks) t → StandsAt i (pieces_of turns) t.name t.choice
+  pub stands : (t : Task) → Contains (tasks_of turns ++ tasks) t → StandsAt i (pieces_of turns) t.name (choice_of i t)
   stands t there = stands_within (length t.name) t (omega arith) there
 
   pub right : AreRight i (pieces_of turns)
@@ -113,7 +116,7 @@ module _ (i : Instance) (turns : List Turn) (tasks : List Task) (each : All (IsT
       let own : IsTurn i turn = All-contains (IsTurn i) turns turn each (contains_from_has turns turn from.there) in
       let here = stands turn.task (own_task turn from.there) in
       let named : StandsAt i (pieces_of turns) turn.task.name c = subst (λ (w : Name). StandsAt i (pieces_of turns) w c) (sym (ap (λ (p : Piece). p.name) from.is) ∙ own.name) at in
-      let same : turn.task.choice ≡ c = stands_alone i (pieces_of turns) (task_names tasks) turn.task.name turn.task.choice c whole here named in
+      let same : choice_of i turn.task ≡ c = stands_alone i (pieces_of turns) (task_names tasks) turn.task.name (choice_of i turn.task) c whole here named in
       subst (λ (p : Piece). IsRight i c p.node) from.is (subst (λ (d : Choice). IsRight i d turn.piece.node) same own.right)
 
   pub shallow : AreShallow (pieces_of turns)

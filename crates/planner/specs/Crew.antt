@@ -103,6 +103,6 @@ pub record HaveEnded {J : Type 0} (i : Instance) (word : Incumbent) (crew : Crew
   pub begun : List (Hand J)
   pub gathers : Gathers i word (length begun) begun crew
   pub pool : IsPool begun
-  pub pushes : IsPermutation (all_pushed begun) (root_task i ∷ [])
+  pub pushes : IsPermutation (all_pushed begun) (root_task ∷ [])
   pub takes : all_taken begun ≡ []
   pub top : first_value word ≡ i.cluster.horizon + 1

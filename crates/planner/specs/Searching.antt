@@ -21,7 +21,7 @@ pub record IsSearching (i : Instance) (made : List Piece) (tasks : List Task) (b
   pub turns : List Turn
   pub each : All (IsTurn i) turns
   pub pieces : pieces_of turns ≡ made
-  pub account : IsPermutation (tasks_of turns ++ tasks) (root_task i ∷ all_born i turns)
+  pub account : IsPermutation (tasks_of turns ++ tasks) (root_task ∷ all_born i turns)
   pub open_tasks : All (IsTask i) tasks
   pub goals : HaveGoals (limit_of i best) made
   pub found : IsFound i best

@@ -33,7 +33,7 @@ fn planted<J: Searched>(
     requires of { instance.now ≡ J.instance }
     requires some { 1 ≤ workers }
     ensures pool { IfOk result (λ hands. IsPool hands.items) }
-    ensures pushed { IfOk result (λ hands. IsPermutation (all_pushed hands.items) (root_task J.instance ∷ [])) }
+    ensures pushed { IfOk result (λ hands. IsPermutation (all_pushed hands.items) (root_task ∷ [])) }
     ensures taken { IfOk result (λ hands. all_taken hands.items ≡ []) }
 {
     let mut hands = pool::<J>(alloc, instance, workers)?;

@@ -2,6 +2,7 @@
 
 ghost use Rattle.std.specs.Prelude.{◌≡◌, ◌≢◌, ◌<◌, ◌≤◌, ◌+◌, ◌++◌, All, IfOk, OnOk, IfErr, length, vec_len, vec_capacity};
 ghost use Rattle.branch_tree.specs.Task.{IsTask};
+ghost use Rattle.branch_tree.specs.Workbench.{IsWorkbenchOf};
 ghost use Rattle.incumbent.specs.Watch.{IsOther};
 ghost use Rattle.steal_pool.specs.Hand.{pushed, taken, IsSameHand};
 ghost use Rattle.pool_worker.specs.declared.run.Sweep.TheVariants as sweep;
@@ -9,7 +10,7 @@ ghost use Rattle.pool_worker.specs.Run.{GoesOn, Refuses, Works, rest_after};
 
 use crate::gate::Gate;
 use crate::report::Rest;
-use branch_tree::{Piece, Task, Worked, work};
+use branch_tree::{Piece, Task, Workbench, Worked, work_on};
 use certificate::{Branch, Node};
 use incumbent::{Incumbent, Watch};
 use std::alloc::Global;
@@ -57,23 +58,26 @@ fn push_all<J: Searched>(hand: &mut Hand<J>, mut tasks: Vec<Task>) -> Vec<Task>
 }
 
 impl<J: Searched> Run<J> {
-    /// Works a task at the best delay so far, and pushes its children, or offers the delay of the plan that was found:
-    /// what became of the task, and the children that couldn't be pushed. All memory is asked for before the task is
-    /// worked, and room for as many pieces again as are made, in which those of others can be put with them at the end;
-    /// where it is refused, the task comes back.
-    fn make(
+    /// Works a task at the best delay so far, on from the last one, and pushes its children, or offers the delay of the plan
+    /// that was found: what became of the task, and the children that couldn't be pushed. All memory is asked for before the
+    /// task is worked, and room for as many pieces again as are made, in which those of others can be put with them at the
+    /// end; where it is refused, the task comes back.
+    fn make<'a>(
         &mut self,
         alloc: Global,
-        instance: &Instance,
+        instance: &'a Instance,
+        bench: &mut Workbench<'a>,
         word: &Incumbent,
         task: Task,
     ) -> Result<(Piece, Vec<Task>), Task>
         requires of { instance.now ≡ J.instance }
         requires task { IsTask instance.now task }
         requires watch { IsOther word.now self.old.watch }
+        requires bench { IsWorkbenchOf instance.now bench.old }
         ensures made { IfOk result (λ made. Works instance.now self.old self.new (record { task = task; piece = made.0 }) made.1.items) }
         ensures room { OnOk result (vec_len self.new.pieces < vec_capacity self.new.pieces) }
         ensures back { IfErr result (λ back. (back ≡ task) × Refuses self.old self.new) }
+        ensures bench { IsWorkbenchOf instance.now bench.new }
     {
         let _nodes = instance.nodes();
         let goal = word.look(&mut self.watch);
@@ -84,7 +88,7 @@ impl<J: Searched> Run<J> {
         let Ok(name) = task.name().copy(alloc) else {
             return Err(task);
         };
-        match work(alloc, instance, task, goal) {
+        match work_on(alloc, instance, bench, task, goal) {
             Ok(Worked::Split(kind, tasks)) => {
                 let node = Node::Branch(Branch::new(kind, tasks.len() as u32));
                 let left = push_all(&mut self.hand, tasks);
@@ -105,27 +109,30 @@ impl<J: Searched> Run<J> {
     }
 
     /// Takes a task, where one is found, and works it.
-    pub fn turn<G: Gate>(
+    pub fn turn<'a, G: Gate>(
         &mut self,
         alloc: Global,
-        instance: &Instance,
+        instance: &'a Instance,
+        bench: &mut Workbench<'a>,
         word: &Incumbent,
         gate: &G,
     ) -> Sweep
         requires of { instance.now ≡ J.instance }
         requires watch { IsOther word.now self.old.watch }
+        requires bench { IsWorkbenchOf instance.now bench.old }
         ensures goes_on { GoesOn instance.now self.old self.new (rest_after result) }
         ensures watch { IsOther word.now self.new.watch }
         ensures idle { result ≡ sweep.Idle → vec_len self.new.pieces ≡ vec_len self.old.pieces }
         ensures worked { result ≡ sweep.Worked → vec_len self.new.pieces ≡ vec_len self.old.pieces + 1 }
         ensures most { vec_len self.new.pieces ≤ vec_len self.old.pieces + 1 }
+        ensures bench { IsWorkbenchOf instance.now bench.new }
     {
         let Some(task) = self.hand.take() else {
             return Sweep::Idle;
         };
         let worker = self.hand.number();
         gate.enter(worker, task.name());
-        match self.make(alloc, instance, word, task) {
+        match self.make(alloc, instance, bench, word, task) {
             Ok((piece, left)) => {
                 gate.leave(worker, &piece.name);
                 self.pieces.push_reserved(piece);

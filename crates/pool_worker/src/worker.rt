@@ -11,6 +11,7 @@ ghost use Rattle.pool_worker.specs.Report.{HasAccount};
 use crate::gate::Gate;
 use crate::report::{Ending, Report, Rest};
 use crate::run::{Run, Sweep};
+use branch_tree::Workbench;
 use crossbeam_utils::Backoff;
 use incumbent::{Incumbent, Watch};
 use std::alloc::Global;
@@ -84,10 +85,11 @@ pub fn run_worker<J: Searched, G: Gate>(
         pieces: Vec::new(alloc),
         best: None,
     };
+    let mut bench = Workbench::new();
     let (mut worked, mut idle) = (0, 0);
     let backoff = Backoff::new();
     while worked < budget && idle < SWEEPS {
-        match run.turn(alloc, instance, word, gate) {
+        match run.turn(alloc, instance, &mut bench, word, gate) {
             Sweep::Idle => {
                 idle += 1;
                 wait(&backoff);

@@ -84,13 +84,14 @@ fn counts(
         budget: 1000,
     };
     let screen = Screen::new(alloc, step, line);
+    let follower = Progress::on(alloc, &screen, workers)?;
     let mut out = Vec::new(alloc);
     let end = solve_run_with(
         rt,
         alloc,
         &mut instance.as_bytes(),
         options,
-        &Progress::on(&screen),
+        &follower,
         None::<&mut Vec<u8>>,
         &mut out,
     );
@@ -99,10 +100,12 @@ fn counts(
 }
 
 /// The line before the search, which knows the bound of a search that works nothing.
-const BEFORE: &str = "0 s: 0 subtrees worked, 0 a second, 0 in work, no plan below 9";
+const BEFORE: &str =
+    "0 s: 0 subtrees worked, 0 or more by each worker, 0 a second, 0 in work, no plan below 9";
 
 /// The line of the second subtree, where each look at the clock is a second later.
-const SECOND: &str = "3 s: 1 subtrees worked, 1 a second, 1 in work, no plan below 9";
+const SECOND: &str =
+    "3 s: 1 subtrees worked, 1 or more by each worker, 1 a second, 1 in work, no plan below 9";
 
 #[test]
 fn a_line_is_written_before_the_search_and_then_one_a_second(rt: HostRuntime) -> Result<(), Fail> {
@@ -121,6 +124,7 @@ fn the_answer_of_many_workers_is_the_same(rt: HostRuntime) -> Result<(), Fail> {
 const READING: Reading = Reading {
     seconds: 12,
     worked: 2400,
+    fewest: 590,
     rate: 210,
     open: 4,
     low: 120,
@@ -131,7 +135,7 @@ fn a_reading_says_what_its_numbers_are(rt: HostRuntime) -> Result<(), Fail> {
     let line = format!(in rt.alloc(); "{READING}")?;
     assert_eq!(rt;
         line.as_str(),
-        "12 s: 2400 subtrees worked, 210 a second, 4 in work, no plan below 120"
+        "12 s: 2400 subtrees worked, 590 or more by each worker, 210 a second, 4 in work, no plan below 120"
     );
     Ok(())
 }

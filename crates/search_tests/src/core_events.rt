@@ -1,14 +1,14 @@
-//! Worked events, and a hundred thousand of them by a hostile generator.
+//! Worked events of the search core.
 
-use search_core::{Event, Hand, Illegal, Reply, Worked, World};
+use search_core::{Event, Illegal, Reply, Worked, World};
 use std::alloc::{AllocError, Global};
 use std::process::Abort;
 use std::test::Fail;
 use ttp_model::{Kind, Leaf, Steps};
 
 /// An event of a worker, the first number. Its leaves have no steps.
-#[derive(Clone, Copy)]
-enum Act {
+#[derive(Clone, Copy, Debug)]
+pub enum Act {
     Pop(u32),
     /// From this other worker.
     Steal(u32, u32),
@@ -42,7 +42,7 @@ fn leaf(alloc: Global, goal: u32) -> Leaf {
 }
 
 impl Act {
-    fn event(self, alloc: Global) -> Event {
+    pub fn event(self, alloc: Global) -> Event {
         match self {
             Act::Pop(worker) => Event::Pop(worker),
             Act::Steal(worker, other) => Event::Steal(worker, other),
@@ -182,95 +182,5 @@ fn a_run_stops_at_the_first_refusal(rt: HostRuntime) -> Result<(), Fail> {
         (Act::Rest(0), Effect::Refused(Illegal::WrongHand)),
     ];
     play(&rt, rt.alloc(), &mut world, &script);
-    Ok(())
-}
-
-/// The next number of a fixed sequence.
-fn next(number: u64) -> u64 {
-    number
-        .wrapping_mul(6_364_136_223_846_793_005)
-        .wrapping_add(1_442_695_040_888_963_407)
-}
-
-/// Work of some kind, often with a wrong count or goal.
-fn some_work(worker: u32, number: u64, seen: u32) -> Act {
-    let count = ((number >> 20) % 5) as u32;
-    match (number >> 40) % 8 {
-        0 | 1 | 2 => Act::Split(worker, Kind::Place, count),
-        3 => Act::Split(worker, Kind::Cap(0), count),
-        4 => Act::Split(worker, Kind::Pair(0, 1), count),
-        5 => Act::Found(worker, count, count),
-        6 => Act::Found(worker, seen.saturating_sub(1), seen.saturating_sub(count)),
-        _ => Act::Closed(worker, seen),
-    }
-}
-
-/// An event, often of a worker that isn't there or with a wrong hand.
-fn some_act(number: u64, seen: u32) -> Act {
-    let worker = ((number >> 33) % 5) as u32;
-    match (number >> 50) % 8 {
-        0 => Act::Pop(worker),
-        1 => Act::Steal(worker, ((number >> 37) % 5) as u32),
-        2 => Act::Look(worker),
-        3 => some_work(worker, number, seen),
-        4 | 5 => Act::Push(worker),
-        6 => Act::Offer(worker),
-        _ if number % 64 == 0 => Act::Rest(worker),
-        _ => Act::Push(worker),
-    }
-}
-
-/// What the first worker saw last.
-fn first_seen(world: &World) -> u32 {
-    match world.workers().first() {
-        Some(worker) => worker.seen(),
-        None => 0,
-    }
-}
-
-/// How many names a hand holds.
-fn in_hand(hand: &Hand) -> u64 {
-    match hand {
-        Hand::Task(_) => 1,
-        Hand::Children(brood) => brood.len() as u64,
-        _ => 0,
-    }
-}
-
-/// How many pieces and open names there are, and how many a tree with these pieces has.
-fn census(world: &World) -> (u64, u64) {
-    let mut names: u64 = 0;
-    let mut tree: u64 = 1;
-    for worker in world.workers() {
-        names = names.saturating_add(worker.deque().len() as u64);
-        names = names.saturating_add(in_hand(worker.hand()));
-        names = names.saturating_add(worker.left().len() as u64);
-        for piece in worker.pieces() {
-            names = names.saturating_add(1);
-            tree = tree.saturating_add(piece.node.children() as u64);
-        }
-    }
-    (names, tree)
-}
-
-#[test]
-fn hostile_events_leave_a_tree(rt: HostRuntime) -> Result<(), Fail> {
-    let alloc = rt.alloc();
-    let mut world = World::start(alloc, 4, 1_000_000)?;
-    let mut number: u64 = 2026;
-    let mut done: u32 = 0;
-    for count in 1..=100_000u32 {
-        number = next(number);
-        let act = some_act(number, first_seen(&world));
-        match world.step(alloc, act.event(alloc)) {
-            Ok(_) => done = done.saturating_add(1),
-            Err(fault) => assert_ne!(rt; fault, Illegal::OutOfMemory),
-        }
-        if count % 1_000 == 0 {
-            let (names, tree) = census(&world);
-            assert_eq!(rt; names, tree);
-        }
-    }
-    assert!(rt; 1_000 < done);
     Ok(())
 }

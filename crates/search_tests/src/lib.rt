@@ -16,6 +16,8 @@ mod gathering;
 #[cfg(test)]
 mod good_plans;
 #[cfg(test)]
+mod hostile_events;
+#[cfg(test)]
 mod instances;
 #[cfg(test)]
 mod many_workers;

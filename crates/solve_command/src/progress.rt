@@ -3,7 +3,7 @@
 use branch_tree::{Name, Task, close_left};
 use certificate::Node;
 use planner::{FreeGate, Gate};
-use std::alloc::Global;
+use std::alloc::{AllocError, Global};
 use std::fmt;
 use std::rt::Clock;
 use std::sync::atomic::{AtomicU64, Ordering};
@@ -25,8 +25,10 @@ impl Follower for FreeGate {
 pub struct Reading {
     /// How long the program has been at work.
     pub seconds: u64,
-    /// How many subtrees they are done with.
+    /// How many subtrees the workers are done with.
     pub worked: u64,
+    /// How many of these the worker with the fewest has worked.
+    pub fewest: u64,
     /// How many of these a second, since the last reading.
     pub rate: u64,
     /// How many are in their hands.
@@ -40,13 +42,14 @@ impl fmt::Display for Reading {
         let Reading {
             seconds,
             worked,
+            fewest,
             rate,
             open,
             low,
         } = self;
         write!(
             f,
-            "{seconds} s: {worked} subtrees worked, {rate} a second, {open} in work, no plan below {low}"
+            "{seconds} s: {worked} subtrees worked, {fewest} or more by each worker, {rate} a second, {open} in work, no plan below {low}"
         )
     }
 }
@@ -59,7 +62,8 @@ pub struct Progress<'a, S: Clock + Eprint> {
     started: Option<Instant>,
     low: AtomicU64,
     taken: AtomicU64,
-    worked: AtomicU64,
+    /// How many subtrees each worker is done with.
+    shares: Vec<AtomicU64>,
     /// The second of the last line, and what was worked by then.
     told: AtomicU64,
     told_worked: AtomicU64,
@@ -79,18 +83,38 @@ fn bound(alloc: Global, instance: &Instance) -> u32 {
     }
 }
 
+/// A count of nothing for each of so many workers.
+fn no_shares(alloc: Global, workers: u32) -> Result<Vec<AtomicU64>, AllocError> {
+    let mut shares = Vec::with_capacity(alloc, workers as usize)?;
+    for _worker in 0..workers {
+        shares.push(AtomicU64::new(0))?;
+    }
+    Ok(shares)
+}
+
 impl<'a, S: Clock + Eprint> Progress<'a, S> {
-    /// Nothing is done yet. Where the clock can't be read, the first line is the only one.
-    pub fn on(screen: &'a S) -> Self {
-        Progress {
+    /// So many workers have done nothing yet. Where the clock can't be read, the first line is the only one.
+    pub fn on(alloc: Global, screen: &'a S, workers: u32) -> Result<Self, AllocError> {
+        Ok(Progress {
             screen,
             started: Instant::now(screen).ok(),
             low: AtomicU64::new(0),
             taken: AtomicU64::new(0),
-            worked: AtomicU64::new(0),
+            shares: no_shares(alloc, workers)?,
             told: AtomicU64::new(0),
             told_worked: AtomicU64::new(0),
+        })
+    }
+
+    /// How many subtrees all workers are done with, and how many the one with the fewest.
+    fn worked(&self) -> (u64, u64) {
+        let (mut all, mut fewest) = (0u64, u64::MAX);
+        for share in &self.shares {
+            let count = share.load(Ordering::SeqCst);
+            all = all.saturating_add(count);
+            fewest = fewest.min(count);
         }
+        (all, fewest.min(all))
     }
 
     /// The seconds that have passed; 0 where the clock can't be read.
@@ -106,12 +130,13 @@ impl<'a, S: Clock + Eprint> Progress<'a, S> {
 
     /// Writes the line of a second, so many seconds after the last one.
     fn tell(&self, seconds: u64, passed: u64) {
-        let worked = self.worked.load(Ordering::SeqCst);
+        let (worked, fewest) = self.worked();
         let newly = worked.saturating_sub(self.told_worked.swap(worked, Ordering::SeqCst));
         let taken = self.taken.load(Ordering::SeqCst);
         let reading = Reading {
             seconds,
             worked,
+            fewest,
             rate: newly.checked_div(passed).unwrap_or(0),
             open: taken.saturating_sub(worked),
             low: self.low.load(Ordering::SeqCst),
@@ -127,7 +152,7 @@ impl<'a, S: Clock + Eprint> Gate for Progress<'a, S> {
         self.taken.fetch_add(1, Ordering::SeqCst);
     }
 
-    fn leave(&self, _worker: usize, _name: &Name) {
+    fn leave(&self, worker: usize, _name: &Name) {
         let order = Ordering::SeqCst;
         let (seconds, last) = (self.seconds(), self.told.load(order));
         if seconds > last
@@ -138,7 +163,9 @@ impl<'a, S: Clock + Eprint> Gate for Progress<'a, S> {
         {
             self.tell(seconds, seconds - last);
         }
-        self.worked.fetch_add(1, order);
+        if let Some(share) = self.shares.get(worker) {
+            share.fetch_add(1, order);
+        }
     }
 }
 

@@ -9,8 +9,10 @@ use Rattle.ttp_model.specs.declared.step.Kind.{Kind}
 use Rattle.ttp_model.specs.declared.step.Kind.TheVariants.{Place}
 use Rattle.ttp_model.specs.Instance.{Instance}
 use Rattle.ttp_model.proofs.Ranges.{range_more}
+use Rattle.tt_choice.specs.declared.decision.Decision.TheVariants as decided
 use Rattle.tt_choice.specs.Choice.{Choice, IsChoice}
 use Rattle.tt_choice.specs.Branches.{is_placed, unplaced, place_next, IsOpen, children, child, child_choices}
+use Rattle.tt_choice.specs.Decisions.{decisions_of}
 use Rattle.tt_choice.proofs.Children.{IsChoice-child}
 
 -- a list's elements, one after another
@@ -25,17 +27,21 @@ each_again g xs =
 passing_more : (p : ℕ → Bool) (n : ℕ) → filter p (range_with_len 0 (n + 1)) ≡ filter p (range_with_len 0 n) ++ filter p (n ∷ [])
 passing_more p n = ap (filter p) (range_more n) ∙ filter-append p (range_with_len 0 n) (n ∷ [])
 
--- a node that isn't placed is one child more
-pub next_more : (c : Choice) (n : ℕ) → is_placed c n ≡ false → map (place_next c) (filter (λ m. not (is_placed c m)) (range_with_len 0 n)) ++ place_next c n ∷ [] ≡ map (place_next c) (filter (λ m. not (is_placed c m)) (range_with_len 0 (n + 1)))
-next_more c n new = rw (passing_more (λ m. not (is_placed c m)) n, new) (sym (map-append (place_next c) (filter (λ m. not (is_placed c m)) (range_with_len 0 n)) (n ∷ [])))
+-- one more for a node that isn't placed
+pub next_more : {X : Type 0} (g : ℕ → X) (c : Choice) (n : ℕ) → is_placed c n ≡ false → map g (filter (λ m. not (is_placed c m)) (range_with_len 0 n)) ++ g n ∷ [] ≡ map g (filter (λ m. not (is_placed c m)) (range_with_len 0 (n + 1)))
+next_more g c n new = rw (passing_more (λ m. not (is_placed c m)) n, new) (sym (map-append g (filter (λ m. not (is_placed c m)) (range_with_len 0 n)) (n ∷ [])))
 
--- a node that is placed is none
-pub next_same : (c : Choice) (n : ℕ) → is_placed c n ≡ true → map (place_next c) (filter (λ m. not (is_placed c m)) (range_with_len 0 n)) ≡ map (place_next c) (filter (λ m. not (is_placed c m)) (range_with_len 0 (n + 1)))
-next_same c n placed = rw (passing_more (λ m. not (is_placed c m)) n, placed) (grind (arith, common_steps))
+-- none for one that is
+pub next_same : {X : Type 0} (g : ℕ → X) (c : Choice) (n : ℕ) → is_placed c n ≡ true → map g (filter (λ m. not (is_placed c m)) (range_with_len 0 n)) ≡ map g (filter (λ m. not (is_placed c m)) (range_with_len 0 (n + 1)))
+next_same g c n placed = rw (passing_more (λ m. not (is_placed c m)) n, placed) (grind (arith, common_steps))
 
 -- the unplaced nodes put next are the children of a place
 pub placed_each : (i : Instance) (c : Choice) → map (place_next c) (unplaced i c) ≡ child_choices i c Place
 placed_each i c = sym (each_again (place_next c) (unplaced i c))
+
+-- and as decisions those of a place
+pub place_each : (i : Instance) (c : Choice) → map decided.Place (unplaced i c) ≡ decisions_of i c Place
+place_each i c = sym (each_again decided.Place (unplaced i c))
 
 -- as many as the branch has
 pub length-child_choices : (i : Instance) (c : Choice) (kind : Kind) → length (child_choices i c kind) ≡ children i c kind

@@ -9,6 +9,7 @@ pub mod Unplaced
 pub mod ChildLists
 pub mod Children
 pub mod Decisions
+pub mod Trail
 pub mod Smaller
 pub mod Bounds
 pub mod Extend

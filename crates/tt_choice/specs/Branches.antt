@@ -18,34 +18,35 @@ open_choice i unordered = record {
   unordered = unordered;
   lo = replicate (length i.messages) 0;
   hi = replicate (length i.messages) (i.cluster.horizon - 1);
+  kept = [];
 }
 
 -- the choice in which nothing is chosen: all pairs of processes of one node are in neither order
 abbrev pub root_choice : Instance → Choice
 root_choice i = open_choice i (unordered_pairs i (open_choice i 0))
 
--- The changes of a choice follow: each is one decision.
+-- The changes of a choice follow: each is one decision, and none is kept.
 
 -- node n comes next in the order
 abbrev pub place_next : Choice → ℕ → Choice
-place_next c n = record c { prefix = c.prefix ++ n ∷ [] }
+place_next c n = record c { prefix = c.prefix ++ n ∷ []; kept = [] }
 
 -- the capacity of node n is that at place k of its options
 abbrev pub fix_option : Instance → Choice → ℕ → ℕ → Choice
 fix_option i c n k =
-    record c { fixed = slice_set c.fixed n (Some (slice_index (node_at i n).capacities k)) }
+    record c { fixed = slice_set c.fixed n (Some (slice_index (node_at i n).capacities k)); kept = [] }
 
 -- process p goes before q
 abbrev pub order_pair : Choice → ℕ → ℕ → Choice
-order_pair c p q = record c { before = put_before c.before p q; unordered = c.unordered - 1 }
+order_pair c p q = record c { before = put_before c.before p q; unordered = c.unordered - 1; kept = [] }
 
 -- message m is sent in round r at most
 abbrev pub at_most : Choice → ℕ → ℕ → Choice
-at_most c m r = record c { hi = slice_set c.hi m r }
+at_most c m r = record c { hi = slice_set c.hi m r; kept = [] }
 
 -- message m is sent in round r at least
 abbrev pub at_least : Choice → ℕ → ℕ → Choice
-at_least c m r = record c { lo = slice_set c.lo m r }
+at_least c m r = record c { lo = slice_set c.lo m r; kept = [] }
 
 -- node n stands in the prefix
 abbrev pub is_placed : Choice → ℕ → Bool

@@ -1,15 +1,17 @@
 -- What is chosen so far, and which plans agree with it: a choice stands for a set of plans.
-use Rattle.std.specs.Prelude.{◌≡◌, ◌≢◌, ℕ, ◌*◌, ◌<◌, ◌≤◌, ◌⊎◌, ◌==◌, ◌&&◌, ◌||◌, not, if◌then◌else◌, List, length, slice_index, slice_index_or, Option, None, Some, IsSome, Bool, IsTrue, Contains}
+use Rattle.std.specs.Prelude.{◌≡◌, ◌≢◌, ℕ, ◌*◌, ◌<◌, ◌≤◌, ◌⊎◌, ◌==◌, ◌&&◌, ◌||◌, not, if◌then◌else◌, List, [], length, slice_index, slice_index_or, Option, None, Some, IsSome, Bool, IsTrue, Contains}
 use Rattle.ttp_model.specs.declared.plan.Plan.{Plan}
 use Rattle.ttp_model.specs.Instance.{Instance, node_at, node_of}
 use Rattle.ttp_model.specs.Lists.{HasNoRepeats}
 use Rattle.ttp_model.specs.Plans.{HasLengths, IsNodeOrder, HasOwnCapacity, EndsBefore, round_of}
 use Rattle.ttp_model.specs.Totals.{total}
+use Rattle.tt_choice.specs.declared.reversal.Reversal.{Reversal}
 use Rattle.tt_choice.specs.Precedence.{Precedence, goes_before}
 
 -- the first nodes of the slot order; by node a fixed capacity in bytes, or none; which processes go
 -- before which, and how many pairs of one node are in neither order; by message its least and its
--- greatest round
+-- greatest round; and what takes the kept decisions back, the first first, on which nothing that is
+-- said of plans rests
 pub record Choice : Type 0 where
   pub prefix : List ℕ
   pub fixed : List (Option ℕ)
@@ -17,6 +19,11 @@ pub record Choice : Type 0 where
   pub unordered : ℕ
   pub lo : List ℕ
   pub hi : List ℕ
+  pub kept : List Reversal
+
+-- the same, and no decision is kept
+abbrev pub bare : Choice → Choice
+bare c = record c { kept = [] }
 
 -- the capacity that is fixed for a node; none past the last node
 abbrev pub fixed_cap : Choice → ℕ → Option ℕ

@@ -1,13 +1,16 @@
--- Decisions: what each makes of a choice, and when one is open. Own profile.
-use Rattle.std.specs.Prelude.{ℕ, zero, suc, ◌+◌, ◌<◌, ◌≤◌, List, [], ◌∷◌, length, slice_index, map}
+-- Decisions: what each makes of a choice, when one is open, and what takes one back. Own profile.
+use Rattle.std.specs.Prelude.{ℕ, zero, suc, ◌+◌, ◌-◌, ◌<◌, ◌≤◌, List, [], ◌∷◌, ◌++◌, length, slice_index, slice_set, take, map, None}
 use Rattle.std.specs.List.{range_with_len}
 use Rattle.ttp_model.specs.declared.step.Kind.{Kind}
 use Rattle.ttp_model.specs.declared.step.Kind.TheVariants.{Place, Cap, Pair, Round}
 use Rattle.ttp_model.specs.Instance.{Instance, node_at}
 use Rattle.tt_choice.specs.declared.decision.Decision.{Decision}
 use Rattle.tt_choice.specs.declared.decision.Decision.TheVariants as decided
+use Rattle.tt_choice.specs.declared.reversal.Reversal.{Reversal}
+use Rattle.tt_choice.specs.declared.reversal.Reversal.TheVariants.{Unplace, Free, Unorder, Most, Least}
+use Rattle.tt_choice.specs.Precedence.{take_back}
 use Rattle.tt_choice.specs.Choice.{Choice, least_round, greatest_round}
-use Rattle.tt_choice.specs.Branches.{place_next, fix_option, order_pair, at_most, at_least, unplaced, IsUnplaced, IsUnorderedPair, CutsRange, IsOpen, children}
+use Rattle.tt_choice.specs.Branches.{root_choice, place_next, fix_option, order_pair, at_most, at_least, unplaced, IsUnplaced, IsUnorderedPair, CutsRange, IsOpen, children}
 
 -- the choice with one decision more
 abbrev pub choice_after : Instance → Choice → Decision → Choice
@@ -45,6 +48,30 @@ choice_after_all i c (d ∷ ds) = choice_after_all i (choice_after i c d) ds
 abbrev pub AreOpenDecisions : Instance → Choice → List Decision → Type 0
 AreOpenDecisions i c [] = Unit {0}
 AreOpenDecisions i c (d ∷ ds) = IsOpenDecision i c d × AreOpenDecisions i (choice_after i c d) ds
+
+-- the choice that decisions make of the one in which nothing is chosen
+abbrev pub chosen : Instance → List Decision → Choice
+chosen i decisions = choice_after_all i (root_choice i) decisions
+
+-- what takes a decision back: it has what stood before, where the decision doesn't tell
+abbrev pub reversal_of : Choice → Decision → Reversal
+reversal_of c (decided.Place n) = Unplace
+reversal_of c (decided.Cap n k) = Free n
+reversal_of c (decided.Before p q) = Unorder p q c.unordered
+reversal_of c (decided.AtMost m r) = Most m (greatest_round c m)
+reversal_of c (decided.AtLeast m r) = Least m (least_round c m)
+
+-- the choice with one decision more, which is kept after those that are
+abbrev pub kept_after : Instance → Choice → Decision → Choice
+kept_after i c d = record (choice_after i c d) { kept = c.kept ++ reversal_of c d ∷ [] }
+
+-- the choice with one decision less, of which none is kept
+abbrev pub taken_back : Choice → Reversal → Choice
+taken_back c Unplace = record c { prefix = take (length c.prefix - 1) c.prefix; kept = [] }
+taken_back c (Free n) = record c { fixed = slice_set c.fixed n None; kept = [] }
+taken_back c (Unorder p q unordered) = record c { before = take_back c.before p q; unordered = unordered; kept = [] }
+taken_back c (Most m r) = at_most c m r
+taken_back c (Least m r) = at_least c m r
 
 -- the decision that leads to a branch's child of a number
 abbrev pub decision_of : Instance → Choice → Kind → ℕ → Decision

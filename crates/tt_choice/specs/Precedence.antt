@@ -23,3 +23,7 @@ nothing_before count = record { processes = count; tests = replicate (count * co
 -- the same, and p goes before q
 abbrev pub put_before : Precedence → ℕ → ℕ → Precedence
 put_before b p q = record b { tests = slice_set b.tests (place_in b p q) true }
+
+-- the same, and the test of p before q fails
+abbrev pub take_back : Precedence → ℕ → ℕ → Precedence
+take_back b p q = record b { tests = slice_set b.tests (place_in b p q) false }

@@ -1,18 +1,20 @@
 //! What of a plan is chosen so far?
 
-ghost use Rattle.std.specs.Prelude.{◌≡◌, ◌-◌, ◌<◌, ◌≤◌, length, IfOk};
+ghost use Rattle.std.specs.Prelude.{◌≡◌, ◌-◌, ◌<◌, ◌≤◌, length, IfOk, OnOk};
 ghost use Rattle.ttp_model.specs.declared.limits.TheConstants.{MOST_PROCESSES};
 ghost use Rattle.ttp_model.specs.Plans.{IsValid};
 ghost use Rattle.ttp_model.specs.declared.plan.Plan.{Plan};
-ghost use Rattle.tt_choice.specs.Choice.{IsChoice, IsIn, fixed_cap, is_before, least_round, greatest_round, unordered_below, unordered_pairs};
+ghost use Rattle.tt_choice.specs.Choice.{IsChoice, IsIn, bare, fixed_cap, is_before, least_round, greatest_round, unordered_below, unordered_pairs};
 ghost use Rattle.tt_choice.specs.Branches.{open_choice, root_choice};
 
 mod changes;
 mod children;
 mod extremes;
 mod questions;
+mod trail;
 
 use crate::precedence::Precedence;
+use crate::reversal::Reversal;
 use std::alloc::Global;
 use std::marker::Model;
 use ttp_model::{Instance, MemoryFault};
@@ -36,6 +38,8 @@ pub struct Choice {
     lo: Vec<u32>,
     /// The greatest round of each message.
     hi: Vec<u32>,
+    /// What takes the kept decisions back, the first first.
+    kept: Vec<Reversal>,
 }
 
 impl Model for Choice {
@@ -50,6 +54,7 @@ impl Model for Choice {
       unordered = s.unordered;
       lo = s.lo.items;
       hi = s.hi.items;
+      kept = s.kept.items;
     } };
 }
 
@@ -81,12 +86,13 @@ impl Choice {
             unordered: pairs_of_one_node(instance),
             lo: vec![in alloc; 0u32; messages]?,
             hi: vec![in alloc; instance.cluster().horizon - 1; messages]?,
+            kept: Vec::new(alloc),
         })
     }
 
-    /// The same choice in memory of its own.
+    /// The same in memory of its own, with no decision kept.
     pub fn copy(&self, alloc: Global) -> Result<Self, MemoryFault>
-        ensures { IfOk result (λ c. c ≡ self.now) }
+        ensures { IfOk result (λ c. c ≡ bare self.now) }
     {
         Ok(Choice {
             prefix: Vec::from_slice(alloc, self.prefix.as_slice())?,
@@ -95,7 +101,32 @@ impl Choice {
             unordered: self.unordered,
             lo: Vec::from_slice(alloc, self.lo.as_slice())?,
             hi: Vec::from_slice(alloc, self.hi.as_slice())?,
+            kept: Vec::new(alloc),
         })
+    }
+
+    /// The same in memory of its own, with the decisions that are kept.
+    pub fn whole_copy(&self, alloc: Global) -> Result<Self, MemoryFault>
+        ensures { IfOk result (λ c. c ≡ self.now) }
+    {
+        let mut copy = self.copy(alloc)?;
+        copy.kept = Vec::from_slice(alloc, self.kept.as_slice())?;
+        Ok(copy)
+    }
+
+    /// Becomes the same choice as another, in the memory that it has where that suffices, with no decision kept. After a
+    /// refusal it is of use no more.
+    pub fn set_to(&mut self, other: &Choice) -> Result<(), MemoryFault>
+        ensures { OnOk result (self.new ≡ bare other.now) }
+    {
+        refill(&mut self.prefix, other.prefix.as_slice())?;
+        refill(&mut self.fixed, other.fixed.as_slice())?;
+        self.before.set_to(&other.before)?;
+        self.unordered = other.unordered;
+        refill(&mut self.lo, other.lo.as_slice())?;
+        refill(&mut self.hi, other.hi.as_slice())?;
+        self.kept.clear();
+        Ok(())
     }
 
     /// The nodes that are placed, in their order.
@@ -142,6 +173,15 @@ impl Choice {
     {
         self.hi[m as usize]
     }
+}
+
+/// Puts these items in place of those that are there.
+fn refill<T: Copy>(items: &mut Vec<T>, others: &[T]) -> Result<(), MemoryFault>
+    ensures { OnOk result (items.new.items ≡ others.now) }
+{
+    items.clear();
+    items.extend_from_slice(others)?;
+    Ok(())
 }
 
 /// How many processes before `p` stand on its node.

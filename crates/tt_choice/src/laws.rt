@@ -10,7 +10,7 @@ ghost use Rattle.ttp_model.specs.Plans.{IsValid};
 ghost use Rattle.tt_choice.specs.Choice.{Choice, IsChoice, IsIn};
 ghost use Rattle.tt_choice.specs.Branches.{IsOpen, children, child};
 ghost use Rattle.tt_choice.specs.declared.decision.Decision.{Decision};
-ghost use Rattle.tt_choice.specs.Decisions.{choice_after, IsOpenDecision, choice_after_all, AreOpenDecisions, decision_of};
+ghost use Rattle.tt_choice.specs.Decisions.{choice_after, IsOpenDecision, choice_after_all, AreOpenDecisions, decision_of, reversal_of, kept_after, taken_back};
 ghost use Rattle.tt_choice.specs.Sizes.{size_left, Halves};
 ghost use Rattle.tt_choice.specs.Extremes.{IsLeastOf, IsMostOf, start_at, end_at, start_least, start_most, end_least, end_most};
 
@@ -44,6 +44,13 @@ pub fn decisions_lead_to_the_children()
         → IsChoice i c → AreOpenDecisions i c decisions → IsChoice i (choice_after_all i c decisions) }
     ensures plans { (i : Instance) (c : Choice) (decision : Decision) (plan : Plan)
         → IsChoice i c → IsOpenDecision i c decision → IsIn i (choice_after i c decision) plan → IsIn i c plan }
+{}
+
+/// A decision that is kept is taken back by what is kept of it: the choice is what it was.
+pub fn decisions_are_taken_back()
+    ensures { (i : Instance) (c : Choice) (decision : Decision)
+        → IsChoice i c → IsOpenDecision i c decision
+        → record (taken_back (kept_after i c decision) (reversal_of c decision)) { kept = c.kept } ≡ c }
 {}
 
 /// A place has as many children as there are nodes beside the prefix.

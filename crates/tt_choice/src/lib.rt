@@ -5,11 +5,13 @@ mod choice;
 mod decision;
 mod laws;
 mod precedence;
+mod reversal;
 
 pub use choice::Choice;
 pub use decision::Decision;
 pub use laws::{
-    children_share_the_plans, decisions_lead_to_the_children, sums_are_the_extremes,
-    unplaced_nodes_are_the_rest,
+    children_share_the_plans, decisions_are_taken_back, decisions_lead_to_the_children,
+    sums_are_the_extremes, unplaced_nodes_are_the_rest,
 };
 pub use precedence::Precedence;
+pub use reversal::Reversal;

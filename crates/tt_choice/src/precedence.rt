@@ -1,7 +1,7 @@
 //! Which processes go before which?
 
-ghost use Rattle.std.specs.Prelude.{◌≡◌, ℕ, ◌<◌, ◌⊎◌, IfOk, IsTrue};
-ghost use Rattle.tt_choice.specs.Precedence.{goes_before, nothing_before, put_before};
+ghost use Rattle.std.specs.Prelude.{◌≡◌, ℕ, ◌<◌, ◌⊎◌, IfOk, OnOk, IsTrue};
+ghost use Rattle.tt_choice.specs.Precedence.{goes_before, nothing_before, put_before, take_back};
 
 use std::alloc::Global;
 use std::marker::Model;
@@ -48,6 +48,18 @@ impl Precedence {
         })
     }
 
+    /// Becomes the same table as another, in the memory that it has where that suffices. After a refusal no process is
+    /// there.
+    pub fn set_to(&mut self, other: &Precedence) -> Result<(), MemoryFault>
+        ensures { OnOk result (self.new ≡ other.now) }
+    {
+        self.processes = 0;
+        self.tests.clear();
+        self.tests.extend_from_slice(other.tests.as_slice())?;
+        self.processes = other.processes;
+        Ok(())
+    }
+
     /// How many processes the table is for.
     pub fn processes(&self) -> u32
         ensures { result ≡ self.now.processes }
@@ -79,5 +91,15 @@ impl Precedence {
     {
         let place = p as usize * self.processes as usize + q as usize;
         self.tests[place] = true;
+    }
+
+    /// Lets `p` go before `q` no more, of processes that are there.
+    pub(crate) fn take_back(&mut self, p: u32, q: u32)
+        ensures { self.new ≡ take_back self.old p q }
+    {
+        let place = p as usize * self.processes as usize + q as usize;
+        if place < self.tests.len() {
+            self.tests[place] = false;
+        }
     }
 }

@@ -14,6 +14,7 @@ pub mod SilentTwins
 pub mod Keeps
 pub mod Sound
 pub mod Sharper
+pub mod SlotsAfter
 pub mod Kept
 pub mod FirstFacts
 pub mod Leaves

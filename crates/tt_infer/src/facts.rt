@@ -3,6 +3,7 @@
 ghost use Rattle.std.specs.Prelude.{◌≡◌, ◌<◌, IfOk, IsTrue, length};
 ghost use Rattle.ttp_model.specs.declared.plan.Plan.{Plan};
 ghost use Rattle.tt_choice.specs.Choice.{IsChoice};
+ghost use Rattle.tt_choice.specs.Decisions.{choice_after, IsOpenDecision};
 ghost use Rattle.tt_infer.specs.Known.{IsSought, es_of, le_of, lo_of, top_of, bef_of, first_facts};
 ghost use Rattle.tt_infer.specs.Facts.{AreFacts, after};
 ghost use Rattle.tt_infer.specs.Answers.{Takes};
@@ -13,7 +14,7 @@ use crate::rules;
 use crate::setting::Setting;
 use std::alloc::Global;
 use std::marker::Model;
-use tt_choice::Choice;
+use tt_choice::{Choice, Decision};
 use ttp_model::{Instance, MemoryFault, Step};
 
 /// What is known of the plans of a choice with a delay below a goal: when each process starts at
@@ -56,6 +57,26 @@ impl<'a> Facts<'a> {
         let _nodes = instance.nodes();
         let setting = Setting::new(alloc, instance, choice, goal)?;
         let known = Known::first(alloc, instance, choice)?;
+        Ok(Facts { setting, known })
+    }
+
+    /// What is known at first of the plans of other facts that are as decided, in the room of these facts.
+    pub fn after(
+        self,
+        alloc: Global,
+        before: &Facts<'a>,
+        decision: Decision,
+    ) -> Result<Facts<'a>, MemoryFault>
+        requires { IsOpenDecision before.now.instance before.now.choice decision }
+        ensures { IfOk result (λ f. f ≡ record {
+          instance = before.now.instance;
+          choice = choice_after before.now.instance before.now.choice decision;
+          goal = before.now.goal;
+          known = first_facts before.now.instance (choice_after before.now.instance before.now.choice decision);
+        }) }
+    {
+        let setting = self.setting.after(alloc, &before.setting, decision)?;
+        let known = self.known.restarted(setting.instance(), setting.choice())?;
         Ok(Facts { setting, known })
     }
 

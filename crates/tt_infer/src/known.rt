@@ -1,6 +1,6 @@
 //! What is known of the plans that are sought, and how is it sharpened?
 
-ghost use Rattle.std.specs.Prelude.{◌≡◌, ℕ, ◌+◌, ◌<◌, ◌≤◌, length, min, max, map, IfOk};
+ghost use Rattle.std.specs.Prelude.{◌≡◌, ℕ, ◌+◌, ◌<◌, ◌≤◌, length, min, max, map, replicate, IfOk};
 ghost use Rattle.ttp_model.specs.declared.limits.TheConstants.{MOST_TICKS};
 ghost use Rattle.tt_choice.specs.Choice.{IsChoice, greatest_round};
 ghost use Rattle.tt_infer.specs.Known.{Known, Fits, es_of, le_of, lo_of, top_of, bef_of, first_facts};
@@ -41,25 +41,39 @@ fn lesser(a: u32, b: u64) -> u32
     if u64::from(a) <= b { a } else { b as u32 }
 }
 
-/// The least round of each message.
-fn least_rounds(alloc: Global, choice: &Choice, messages: u32) -> Result<Vec<u32>, MemoryFault>
+/// So many times the same number, in this room.
+fn all_alike(room: Vec<u32>, number: u32, count: usize) -> Result<Vec<u32>, MemoryFault>
+    ensures { IfOk result (λ numbers. numbers.items ≡ replicate count number) }
+{
+    let mut numbers = room;
+    numbers.clear();
+    numbers.resize(count, number)?;
+    Ok(numbers)
+}
+
+/// The least round of each message, in this room.
+fn least_rounds(room: Vec<u32>, choice: &Choice, messages: u32) -> Result<Vec<u32>, MemoryFault>
     requires { length choice.now.lo ≡ messages }
     ensures { IfOk result (λ rounds. rounds.items ≡ choice.now.lo) }
 {
-    let mut rounds = Vec::new(alloc);
+    let mut rounds = room;
+    rounds.clear();
+    rounds.reserve(messages as usize)?;
     for m in 0..messages {
         rounds.push(choice.lo(m))?;
     }
     Ok(rounds)
 }
 
-/// The first round of each message that is too late.
-fn late_rounds(alloc: Global, choice: &Choice, messages: u32) -> Result<Vec<u32>, MemoryFault>
+/// The first round of each message that is too late, in this room.
+fn late_rounds(room: Vec<u32>, choice: &Choice, messages: u32) -> Result<Vec<u32>, MemoryFault>
     requires all { length choice.now.hi ≡ messages }
     requires early { (m : ℕ) → m < messages → greatest_round choice.now m < MOST_TICKS }
     ensures { IfOk result (λ rounds. rounds.items ≡ map (λ r. r + 1) choice.now.hi) }
 {
-    let mut rounds = Vec::new(alloc);
+    let mut rounds = room;
+    rounds.clear();
+    rounds.reserve(messages as usize)?;
     for m in 0..messages {
         rounds.push(choice.hi(m) + 1)?;
     }
@@ -72,14 +86,32 @@ impl Known {
         requires { IsChoice instance.now choice.now }
         ensures { IfOk result (λ f. f ≡ first_facts instance.now choice.now) }
     {
+        let nothing = Known {
+            es: Vec::new(alloc),
+            le: Vec::new(alloc),
+            lo: Vec::new(alloc),
+            top: Vec::new(alloc),
+            bef: Precedence::none(alloc, 0)?,
+            closed: false,
+        };
+        nothing.restarted(instance, choice)
+    }
+
+    /// What is known at first, in the room of what was known.
+    pub fn restarted(self, instance: &Instance, choice: &Choice) -> Result<Self, MemoryFault>
+        requires { IsChoice instance.now choice.now }
+        ensures { IfOk result (λ f. f ≡ first_facts instance.now choice.now) }
+    {
         let processes = instance.processes().len();
         let messages = instance.messages().len() as u32;
+        let mut bef = self.bef;
+        bef.set_to(choice.precedence())?;
         Ok(Known {
-            es: vec![in alloc; 0u32; processes]?,
-            le: vec![in alloc; instance.cluster().horizon; processes]?,
-            lo: least_rounds(alloc, choice, messages)?,
-            top: late_rounds(alloc, choice, messages)?,
-            bef: choice.precedence().copy(alloc)?,
+            es: all_alike(self.es, 0, processes)?,
+            le: all_alike(self.le, instance.cluster().horizon, processes)?,
+            lo: least_rounds(self.lo, choice, messages)?,
+            top: late_rounds(self.top, choice, messages)?,
+            bef,
             closed: false,
         })
     }

@@ -3,13 +3,14 @@
 ghost use Rattle.std.specs.Prelude.{◌≡◌, ℕ, ◌+◌, ◌^◌, ◌<◌, ◌≤◌, ◌↔◌, IfOk, length};
 ghost use Rattle.ttp_model.specs.declared.limits.TheConstants.{MOST_BYTES, MOST_DURATION};
 ghost use Rattle.tt_choice.specs.Choice.{IsChoice};
+ghost use Rattle.tt_choice.specs.Decisions.{choice_after, IsOpenDecision};
 ghost use Rattle.tt_choice.specs.Extremes.{start_least, start_most, end_least, end_most, cap_least, cap_most, dur_least};
-ghost use Rattle.tt_infer.specs.Setting.{AreSlotTimes, AreShort};
+ghost use Rattle.tt_infer.specs.Setting.{AreSlotTimes, AreShort, AreSlots};
 
-use crate::slots::{self, SlotTimes};
+use crate::slots::{SlotTimes, slots_of};
 use std::alloc::Global;
 use std::marker::Model;
-use tt_choice::Choice;
+use tt_choice::{Choice, Decision};
 use ttp_model::{Instance, MemoryFault};
 
 /// The plans of a choice with a delay below a goal, and how far their slots move.
@@ -37,6 +38,36 @@ impl<'a> Model for Setting<'a> {
     }) s.slots.items };
 }
 
+/// These slots, in this room.
+fn refilled(room: Vec<SlotTimes>, others: &[SlotTimes]) -> Result<Vec<SlotTimes>, MemoryFault>
+    ensures { IfOk result (λ slots. slots.items ≡ others.now) }
+{
+    let mut slots = room;
+    slots.clear();
+    slots.extend_from_slice(others)?;
+    Ok(slots)
+}
+
+/// The slots of all nodes after a decision, in this room. Where slots stand and how long they are changes with a place and a
+/// capacity alone.
+fn slots_after(
+    room: Vec<SlotTimes>,
+    before: &Setting,
+    choice: &Choice,
+    decision: Decision,
+) -> Result<Vec<SlotTimes>, MemoryFault>
+    requires of { IsChoice before.now.instance choice.now }
+    requires after { choice.now ≡ choice_after before.now.instance before.now.choice decision }
+    ensures { IfOk result (λ slots. AreSlots before.now.instance choice.now slots.items) }
+{
+    match decision {
+        Decision::Place(_) | Decision::Cap(_, _) => slots_of(room, before.instance(), choice),
+        Decision::Before(_, _) | Decision::AtMost(_, _) | Decision::AtLeast(_, _) => {
+            refilled(room, before.slots.as_slice())
+        }
+    }
+}
+
 impl<'a> Setting<'a> {
     /// Keeps a copy of the choice.
     pub fn new(
@@ -53,11 +84,38 @@ impl<'a> Setting<'a> {
         }) }
     {
         let _nodes = instance.nodes();
-        let slots = slots::slots_of(alloc, instance, choice)?;
+        let slots = slots_of(Vec::new(alloc), instance, choice)?;
         Ok(Setting {
             instance,
-            choice: choice.copy(alloc)?,
+            choice: choice.whole_copy(alloc)?,
             goal,
+            slots,
+        })
+    }
+
+    /// The plans of another one that are as decided, in the room of this one.
+    pub fn after(
+        self,
+        alloc: Global,
+        before: &Setting<'a>,
+        decision: Decision,
+    ) -> Result<Setting<'a>, MemoryFault>
+        requires { IsOpenDecision before.now.instance before.now.choice decision }
+        ensures { IfOk result (λ s. s ≡ record {
+          instance = before.now.instance;
+          choice = choice_after before.now.instance before.now.choice decision;
+          goal = before.now.goal;
+        }) }
+    {
+        let instance = before.instance();
+        let mut choice = self.choice;
+        choice.set_to(before.choice())?;
+        choice.change(alloc, instance, decision)?;
+        let slots = slots_after(self.slots, before, &choice, decision)?;
+        Ok(Setting {
+            instance,
+            choice,
+            goal: before.goal,
             slots,
         })
     }

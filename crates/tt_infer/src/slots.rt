@@ -4,7 +4,6 @@ ghost use Rattle.std.specs.Prelude.{◌≡◌, ◌<◌, IfOk, length};
 ghost use Rattle.tt_choice.specs.Choice.{IsChoice};
 ghost use Rattle.tt_infer.specs.Setting.{AreSlotTimes, AreShort, AreSlots};
 
-use std::alloc::Global;
 use tt_choice::Choice;
 use ttp_model::{Instance, MemoryFault, slot_duration};
 
@@ -53,9 +52,9 @@ fn times_of(instance: &Instance, choice: &Choice, n: u32) -> SlotTimes
     }
 }
 
-/// The slots of all nodes.
+/// The slots of all nodes, in this room.
 pub fn slots_of(
-    alloc: Global,
+    room: Vec<SlotTimes>,
     instance: &Instance,
     choice: &Choice,
 ) -> Result<Vec<SlotTimes>, MemoryFault>
@@ -63,7 +62,9 @@ pub fn slots_of(
     ensures { IfOk result (λ slots. AreSlots instance.now choice.now slots.items) }
 {
     let count = instance.nodes().len() as u32;
-    let mut slots = Vec::new(alloc);
+    let mut slots = room;
+    slots.clear();
+    slots.reserve(count as usize)?;
     for n in 0..count {
         slots.push(times_of(instance, choice, n))?;
     }

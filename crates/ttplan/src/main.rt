@@ -91,27 +91,39 @@ fn run_solve(
         Ok(file) => file,
         Err(fault) => return End::Refused(fault),
     };
-    let mut out = rt.stdout();
     if progress {
-        solve_run_with(
-            threads,
-            rt.alloc(),
-            &mut instance,
-            options,
-            &Progress::on(rt),
-            certificate.as_mut(),
-            &mut out,
-        )
-    } else {
-        solve_run(
-            threads,
-            rt.alloc(),
-            &mut instance,
-            options,
-            certificate.as_mut(),
-            &mut out,
-        )
+        return run_solve_in_sight(rt, threads, &mut instance, certificate.as_mut(), options);
     }
+    solve_run(
+        threads,
+        rt.alloc(),
+        &mut instance,
+        options,
+        certificate.as_mut(),
+        &mut rt.stdout(),
+    )
+}
+
+/// Searches an instance, and says on standard error how far the search is.
+fn run_solve_in_sight(
+    rt: &HostRuntime,
+    threads: &(impl Threads + Wait),
+    instance: &mut File,
+    certificate: Option<&mut File>,
+    options: Options,
+) -> End {
+    let Ok(progress) = Progress::on(rt.alloc(), rt, options.workers) else {
+        return End::Refused(Fault::Memory);
+    };
+    solve_run_with(
+        threads,
+        rt.alloc(),
+        instance,
+        options,
+        &progress,
+        certificate,
+        &mut rt.stdout(),
+    )
 }
 
 /// Does what is asked for. A search alone starts threads, and waits for them.

@@ -1,7 +1,7 @@
 //! What is known after decisions, and again once they are taken back.
 
 use super::fixed_points::{expect_idle, known};
-use crate::decisions::is_open;
+use crate::decisions::{is_open, next, some_decision};
 use crate::instances::Small;
 use path_bounds::Propagator;
 use std::alloc::Global;
@@ -9,7 +9,6 @@ use std::process::Abort;
 use std::test::Fail;
 use tt_choice::Decision;
 use tt_infer::Facts;
-use ttp_model::Instance;
 use worked_instances::PLAIN;
 
 /// What a propagation has come to.
@@ -70,36 +69,6 @@ fn decide(alloc: Global, propagator: &mut Propagator, decision: Decision) -> Res
 fn undo(propagator: &mut Propagator) {
     if !propagator.decisions().is_empty() {
         propagator.undo();
-    }
-}
-
-/// A number below a count, of a random one.
-fn below(random: u32, count: usize) -> u32 {
-    if count == 0 {
-        0
-    } else {
-        (random as usize % count) as u32
-    }
-}
-
-/// The next of some numbers that look random.
-fn next(seed: u32) -> u32 {
-    seed.wrapping_mul(1_664_525).wrapping_add(1_013_904_223)
-}
-
-/// Some decision, which needn't be open.
-fn some_decision(i: &Instance, seed: u32) -> Decision {
-    let first = next(seed) >> 8;
-    let second = next(next(seed)) >> 8;
-    let p = below(first, i.processes().len());
-    let m = below(first, i.messages().len());
-    let n = below(first, i.nodes().len());
-    match (seed >> 8) % 5 {
-        0 => Decision::Place(n),
-        1 => Decision::Cap(n, below(second, 3)),
-        2 => Decision::Before(p, below(second, i.processes().len())),
-        3 => Decision::AtMost(m, below(second, 40)),
-        _ => Decision::AtLeast(m, below(second, 20)),
     }
 }
 

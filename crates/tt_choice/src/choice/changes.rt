@@ -1,6 +1,6 @@
-//! What does one more decision change?
+//! What does one more decision change? A choice that keeps decisions is changed by `decide` and `undo` alone.
 
-ghost use Rattle.std.specs.Prelude.{◌≡◌, ◌<◌, ◌≤◌, ◌↔◌, length, slice_index, IsOk, OnOk, OnErr};
+ghost use Rattle.std.specs.Prelude.{◌≡◌, ◌<◌, ◌≤◌, ◌↔◌, [], length, slice_index, IsOk, OnOk, OnErr};
 ghost use Rattle.ttp_model.specs.Instance.{Instance, node_at};
 ghost use Rattle.ttp_model.specs.Plans.{EndsBefore, round_of};
 ghost use Rattle.ttp_model.specs.declared.plan.Plan.{Plan};
@@ -31,6 +31,7 @@ impl Choice {
         decision: Decision,
     ) -> Result<(), MemoryFault>
         requires of { IsChoice instance.now self.old }
+        requires bare { self.old.kept ≡ [] }
         requires open { IsOpenDecision instance.now self.old decision }
         ensures ok { OnOk result (self.new ≡ choice_after instance.now self.old decision) }
         ensures choice { OnOk result (IsChoice instance.now self.new) }
@@ -55,6 +56,7 @@ impl Choice {
     /// Puts node `n` next in the slot order. Unchanged after a refusal.
     pub fn place(&mut self, _alloc: Global, instance: &Instance, n: u32) -> Result<(), MemoryFault>
         requires of { IsChoice instance.now self.old }
+        requires bare { self.old.kept ≡ [] }
         requires unplaced { IsUnplaced instance.now self.old n }
         ensures ok { OnOk result (self.new ≡ place_next self.old n) }
         ensures choice { OnOk result (IsChoice instance.now self.new) }
@@ -78,6 +80,7 @@ impl Choice {
         k: u32,
     ) -> Result<(), MemoryFault>
         requires of { IsChoice instance.now self.old }
+        requires bare { self.old.kept ≡ [] }
         requires open { IsOpen instance.now self.old (Kind.Cap n) }
         requires option { k < length (node_at instance.now n).capacities }
         ensures done { IsOk result }
@@ -100,6 +103,7 @@ impl Choice {
         q: u32,
     ) -> Result<(), MemoryFault>
         requires of { IsChoice instance.now self.old }
+        requires bare { self.old.kept ≡ [] }
         requires open { IsOpen instance.now self.old (Kind.Pair p q) }
         ensures done { IsOk result }
         ensures ok { OnOk result (self.new ≡ order_pair self.old p q) }
@@ -116,6 +120,7 @@ impl Choice {
     /// Lets message `m` be sent in round `r` at most. Takes no memory.
     pub fn rounds_at_most(&mut self, m: u32, r: u32)
         requires message { m < length self.old.hi }
+        requires bare { self.old.kept ≡ [] }
         requires from { least_round self.old m ≤ r }
         requires below { r < greatest_round self.old m }
         ensures value { self.new ≡ at_most self.old m r }
@@ -129,6 +134,7 @@ impl Choice {
     /// Lets message `m` be sent in round `r` at least. Takes no memory.
     pub fn rounds_at_least(&mut self, m: u32, r: u32)
         requires message { m < length self.old.lo }
+        requires bare { self.old.kept ≡ [] }
         requires above { least_round self.old m < r }
         requires to { r ≤ greatest_round self.old m }
         ensures value { self.new ≡ at_least self.old m r }

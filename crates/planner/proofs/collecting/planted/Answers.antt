@@ -1,6 +1,6 @@
-use Rattle.std.proofs.Common.{rules, ◌≡◌, ◌<◌, ◌∷◌, [], length, slice_set, ap, ◌∙◌, subst}
+use Rattle.std.proofs.Common.{rules, ◌≡◌, ◌<◌, ◌∷◌, [], length, slice_set, subst}
 use Rattle.std.specs.List.Sorted.{IsPermutation}
-use Rattle.branch_tree.specs.Task.{Task, root_task}
+use Rattle.branch_tree.specs.Task.{Task}
 use Rattle.steal_pool.specs.Hand.{all_pushed}
 use Rattle.steal_pool.proofs.Pools.{changed}
 use Rattle.planner.proofs.Pools.{IsGiven, pool_given, pushed_given, taken_given}
@@ -19,8 +19,7 @@ returns-in-Ok-clause-pushed g c =
     let some_hand : 0 < length hands = search rules in
     let change = changed hands 0 (IsGiven c.in_ok-root.root) c.index_mut-hand.result.now c.push.new.self some_hand c.index_mut-hand.ensures.value (record { same = c.push.ensures.same; pushes = c.in-Ok.ensures.ok; takes = c.push.ensures.taken }) in
     let one = pushed_given hands (slice_set hands 0 c.push.new.self) 0 c.in_ok-root.root change c.in_ok-hands.ensures.pushed in
-    let is : c.in_ok-root.root ≡ root_task g.J.Searched.instance = c.in_ok-root.ensures.value ∙ ap root_task c.requires.of in
-    subst (λ (t : Task). IsPermutation (all_pushed (slice_set hands 0 c.push.new.self)) (t ∷ [])) is one
+    subst (λ (t : Task). IsPermutation (all_pushed (slice_set hands 0 c.push.new.self)) (t ∷ [])) c.in_ok-root.ensures.value one
 
 pub returns-in-Ok-clause-taken : goal.returns-in-Ok-clause-taken
 returns-in-Ok-clause-taken g c =

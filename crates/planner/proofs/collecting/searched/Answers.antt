@@ -44,7 +44,7 @@ collected-requires-clause-ended g c =
       begun = begun;
       gathers = c.in_ok-crew-2.ensures.gathers (length begun) jobs is c.in_ok-jobs.ensures.jobs c.in_ok-reports.ensures.reports before;
       pool = subst IsPool (sym c.in_ok-jobs.ensures.hands) c.in_ok-hands.ensures.pool;
-      pushes = subst (λ (l : List (Hand g.row.J.Denot)). IsPermutation (all_pushed l) (root_task i ∷ [])) (sym c.in_ok-jobs.ensures.hands) c.in_ok-hands.ensures.pushed;
+      pushes = subst (λ (l : List (Hand g.row.J.Denot)). IsPermutation (all_pushed l) (root_task ∷ [])) (sym c.in_ok-jobs.ensures.hands) c.in_ok-hands.ensures.pushed;
       takes = ap all_taken c.in_ok-jobs.ensures.hands ∙ c.in_ok-hands.ensures.taken;
       top = c.in_ok-word.ensures.word ∙ c.past_horizon.ensures.value ∙ ap (λ (j : Instance). j.cluster.horizon + 1) c.requires.of;
     }

@@ -13,6 +13,7 @@ loop-worked-init g c =
     record {
       run = begins c.args.instance.now run c.new.ensures.items refl;
       watch = c.requires.watch;
+      bench = search rules;
       count = search rules;
       within = omega arith;
     }
@@ -21,6 +22,7 @@ pub loop-worked-preserved-in-Idle : goal.loop-worked-preserved-in-Idle
 loop-worked-preserved-in-Idle g c = record {
   run = c.in-Idle.ensures.goes_on c.args.hand c.args.watch c.loop-worked.invariant.run;
   watch = c.in-Idle.ensures.watch;
+  bench = c.in-Idle.ensures.bench;
   count = c.in-Idle.ensures.idle refl ∙ c.loop-worked.invariant.count;
   within = c.loop-worked.invariant.within;
 }
@@ -29,6 +31,7 @@ pub loop-worked-preserved : goal.loop-worked-preserved
 loop-worked-preserved g c = record {
   run = c.in-Worked.ensures.goes_on c.args.hand c.args.watch c.loop-worked.invariant.run;
   watch = c.in-Worked.ensures.watch;
+  bench = c.in-Worked.ensures.bench;
   count = omega (arith, c.in-Worked.ensures.worked refl, c.loop-worked.invariant.count);
   within = omega arith;
 }

@@ -1,4 +1,5 @@
 use Rattle.std.proofs.Common.{◌-◌, ◌≡◌, ◌≤◌, ◌+◌, ◌*◌, vec_len}
+use Rattle.branch_tree.specs.Workbench.{IsWorkbenchOf}
 use Rattle.incumbent.specs.Watch.{IsOther}
 use Rattle.pool_worker.specs.declared.report.Rest.TheVariants.{Nothing}
 use Rattle.pool_worker.specs.Run.{IsRun}
@@ -11,6 +12,7 @@ abbrev pub invariant-loop-worked : goal.invariant-loop-worked
 invariant-loop-worked g l = record {
   run : IsRun l.instance l.fn.hand l.fn.watch l.run Nothing;
   watch : IsOther l.word l.run.watch;
+  bench : IsWorkbenchOf l.instance l.bench;
   count : vec_len l.run.pieces ≡ l.worked;
   within : l.worked ≤ l.budget;
 }

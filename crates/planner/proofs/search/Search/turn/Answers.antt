@@ -3,9 +3,10 @@ use Rattle.std.proofs.lemmas.List.{append-nil}
 use Rattle.std.proofs.lemmas.List.Elements.{All-nil, All-contains}
 use Rattle.ttp_model.specs.declared.limits.TheConstants.{MOST_NODES}
 use Rattle.ttp_model.specs.declared.plan.Plan.{Plan}
-use Rattle.branch_tree.specs.Task.{Task, IsTask}
+use Rattle.branch_tree.specs.Task.{Task, choice_of, IsTask}
 use Rattle.branch_tree.specs.Work.{IsWorked, IsSplit, IsFind, ClosesAt}
 use Rattle.branch_tree.proofs.ChildTasks.{few_children}
+use Rattle.branch_tree.proofs.Chosen.{task_choice}
 use Rattle.certificate.specs.declared.node.Node.TheVariants as node
 use Rattle.certificate.specs.Branch.{branch_of}
 use Rattle.pool_worker.specs.Tasks.{Turn}
@@ -23,7 +24,7 @@ overflow_cast-len c =
     let front = c.pop.new.self.items in
     let popped : c.args.self.now.tasks.items ≡ front ++ t ∷ [] = sym c.make_room.ensures.tasks ∙ (search rules) in
     let own : IsTask i t = All-contains (IsTask i) (front ++ t ∷ []) t (subst (All (IsTask i)) popped c.requires.open_tasks) (last_there front t) in
-    omega (arith, c.len.ensures, c.in-Ok-Split.tasks.ok.0, split.branch.just, few_children i t.choice c.in-Ok-Split.kind c.nodes-nodes.ensures.instance own.choice split.branch.is_open)
+    omega (arith, c.len.ensures, c.in-Ok-Split.tasks.ok.0, split.branch.just, few_children i (choice_of i t) c.in-Ok-Split.kind c.nodes-nodes.ensures.instance (task_choice i t c.nodes-nodes.ensures.instance own) split.branch.is_open)
 
 pub open_all-requires : goal.open_all-requires
 open_all-requires c =
@@ -34,7 +35,7 @@ open_all-requires c =
     let front = c.pop.new.self.items in
     let popped : c.args.self.now.tasks.items ≡ front ++ t ∷ [] = sym c.make_room.ensures.tasks ∙ (search rules) in
     let own : IsTask i t = All-contains (IsTask i) (front ++ t ∷ []) t (subst (All (IsTask i)) popped c.requires.open_tasks) (last_there front t) in
-    let few = few_children i t.choice c.in-Ok-Split.kind c.nodes-nodes.ensures.instance own.choice split.branch.is_open in
+    let few = few_children i (choice_of i t) c.in-Ok-Split.kind c.nodes-nodes.ensures.instance (task_choice i t c.nodes-nodes.ensures.instance own) split.branch.is_open in
     let room : vec_len s.tasks + MOST_NODES ≤ vec_capacity s.tasks = search rules in
     omega (arith, room, few, split.branch.just, c.in-Ok-Split.tasks.ok.0, c.pop.ensures.capacity, c.pop.ensures.len)
 
@@ -70,7 +71,7 @@ returns-in-Ok-Closed-clause-searching c =
     let t = c.in-Some.task in
     let front = c.pop.new.self.items in
     let leaf = c.in-Ok-Closed.leaf in
-    let closed : ClosesAt i t.choice c.limit-goal.result leaf = subst (IsWorked i t c.limit-goal.result) c.in-Ok-Closed.field-0-is c.in-Ok-Closed.ensures.worked in
+    let closed : ClosesAt i (choice_of i t) c.limit-goal.result leaf = subst (IsWorked i t c.limit-goal.result) c.in-Ok-Closed.field-0-is c.in-Ok-Closed.ensures.worked in
     let popped : s.tasks.items ≡ front ++ t ∷ [] = search rules in
     let own : IsTask i t = All-contains (IsTask i) (front ++ t ∷ []) t (subst (All (IsTask i)) popped start.open_tasks) (last_there front t) in
     let before : IsSearching i s.pieces.items (front ++ t ∷ []) s.best = subst (λ (l : List Task). IsSearching i s.pieces.items l s.best) popped start in
@@ -90,7 +91,7 @@ returns-in-Ok-Found-clause-searching c =
     let front = c.pop.new.self.items in
     let leaf = c.in-Ok-Found.leaf in
     let best : Option (Plan × ℕ) = Some (c.in-Ok-Found.plan, c.in-Ok-Found.delay) in
-    let find : IsFind i t.choice c.limit-goal.result c.in-Ok-Found.plan c.in-Ok-Found.delay leaf = subst (IsWorked i t c.limit-goal.result) c.in-Ok-Found.field-0-is c.in-Ok-Found.ensures.worked in
+    let find : IsFind i (choice_of i t) c.limit-goal.result c.in-Ok-Found.plan c.in-Ok-Found.delay leaf = subst (IsWorked i t c.limit-goal.result) c.in-Ok-Found.field-0-is c.in-Ok-Found.ensures.worked in
     let popped : s.tasks.items ≡ front ++ t ∷ [] = search rules in
     let own : IsTask i t = All-contains (IsTask i) (front ++ t ∷ []) t (subst (All (IsTask i)) popped start.open_tasks) (last_there front t) in
     let before : IsSearching i s.pieces.items (front ++ t ∷ []) s.best = subst (λ (l : List Task). IsSearching i s.pieces.items l s.best) popped start in

@@ -1,8 +1,9 @@
 use Rattle.std.proofs.Common.{rules, arith, ℕ, ◌≡◌, ◌≤◌, ◌++◌, All, List, [], ◌∷◌, length, inl, inr, refl, sym, ap, ◌∙◌, subst}
 use Rattle.std.proofs.lemmas.List.Elements.{All-nil}
-use Rattle.branch_tree.specs.Task.{Task, IsTask}
+use Rattle.branch_tree.specs.Task.{Task, choice_of, IsTask}
 use Rattle.branch_tree.specs.Work.{IsWorked, IsSplit, IsFind, ClosesAt}
 use Rattle.branch_tree.proofs.ChildTasks.{few_children}
+use Rattle.branch_tree.proofs.Chosen.{task_choice}
 use Rattle.certificate.specs.Branch.{branch_of}
 use Rattle.incumbent.specs.Watch.{offers, IsBelowView}
 use Rattle.steal_pool.specs.Hand.{pushed}
@@ -17,7 +18,33 @@ overflow_cast-len g c =
     let i = c.args.instance.now in
     let t = c.args.task in
     let split : IsSplit i t c.look-goal.result c.in-Ok-Split.kind c.in-Ok-Split.tasks.items = subst (IsWorked i t c.look-goal.result) c.in-Ok-Split.field-0-is c.in-Ok-Split.ensures.worked in
-    omega (arith, c.len.ensures, c.in-Ok-Split.tasks.ok.0, split.branch.just, few_children i t.choice c.in-Ok-Split.kind c.nodes-nodes.ensures.instance c.requires.task.choice split.branch.is_open)
+    omega (arith, c.len.ensures, c.in-Ok-Split.tasks.ok.0, split.branch.just, few_children i (choice_of i t) c.in-Ok-Split.kind c.nodes-nodes.ensures.instance (task_choice i t c.nodes-nodes.ensures.instance c.requires.task) split.branch.is_open)
+
+pub returns-then-is_err-clause-back : goal.returns-then-is_err-clause-back
+returns-then-is_err-clause-back g c = (
+  refl,
+  record {
+    same = record { number = refl; own = refl; deques = refl; out = refl };
+    takes = refl;
+    pushes = refl;
+    pieces = c.reserve.ensures.items;
+    follows = looked c.args.self.now.watch c.look-goal.new.watch c.look-goal.result c.look-goal.ensures.same c.look-goal.ensures.seen c.look-goal.ensures.offers;
+    best = record { offered = c.look-goal.ensures.offers; best = refl };
+  },
+)
+
+pub returns-in_default-clause-back : goal.returns-in_default-clause-back
+returns-in_default-clause-back g c = (
+  refl,
+  record {
+    same = record { number = refl; own = refl; deques = refl; out = refl };
+    takes = refl;
+    pushes = refl;
+    pieces = c.reserve.ensures.items;
+    follows = looked c.args.self.now.watch c.look-goal.new.watch c.look-goal.result c.look-goal.ensures.same c.look-goal.ensures.seen c.look-goal.ensures.offers;
+    best = record { offered = c.look-goal.ensures.offers; best = refl };
+  },
+)
 
 pub returns-in-Ok-Split-clause-made : goal.returns-in-Ok-Split-clause-made
 returns-in-Ok-Split-clause-made g c =
@@ -47,7 +74,7 @@ returns-in-Ok-Closed-clause-made g c =
     let i = c.args.instance.now in
     let t = c.args.task in
     let leaf = c.in-Ok-Closed.leaf in
-    let closed : ClosesAt i t.choice c.look-goal.result leaf = subst (IsWorked i t c.look-goal.result) c.in-Ok-Closed.field-0-is c.in-Ok-Closed.ensures.worked in
+    let closed : ClosesAt i (choice_of i t) c.look-goal.result leaf = subst (IsWorked i t c.look-goal.result) c.in-Ok-Closed.field-0-is c.in-Ok-Closed.ensures.worked in
     let old = c.args.self.now.watch in
     let new = c.look-goal.new.watch in
     record {
@@ -69,7 +96,7 @@ returns-in-Ok-Found-clause-made g c =
     let i = c.args.instance.now in
     let t = c.args.task in
     let leaf = c.in-Ok-Found.leaf in
-    let find : IsFind i t.choice c.look-goal.result c.in-Ok-Found.plan c.in-Ok-Found.delay leaf = subst (IsWorked i t c.look-goal.result) c.in-Ok-Found.field-0-is c.in-Ok-Found.ensures.worked in
+    let find : IsFind i (choice_of i t) c.look-goal.result c.in-Ok-Found.plan c.in-Ok-Found.delay leaf = subst (IsWorked i t c.look-goal.result) c.in-Ok-Found.field-0-is c.in-Ok-Found.ensures.worked in
     let old = c.args.self.now.watch in
     let mid = c.look-goal.new.watch in
     let new = c.offer.new.watch in

@@ -7,8 +7,8 @@ use Rattle.tt_choice.proofs.choice.Choice.next_nodes.Goals as goal
 
 pub loop-n-preserved : goal.loop-n-preserved
 loop-n-preserved c = elim c.if-not-contains.branch [
-  | then-not-contains+in_ok-child+in_ok-place+in_ok-push w ↦ rw (w.children-is, w.in_ok-push.ensures.items, w.in_ok-place.ensures.ok, w.in_ok-child.ensures, c.loop-n.invariant) (next_more c.args.self.now c.loop-n.n-counter (rw (← c.prefix.ensures) (sym c.contains.ensures.value ∙ w.if-not-contains.true)))
-  | else-not-contains w ↦ rw (w.children-is, c.loop-n.invariant) (next_same c.args.self.now c.loop-n.n-counter (rw (← c.prefix.ensures) (sym c.contains.ensures.value ∙ w.if-not-contains.false)))
+  | then-not-contains+in_ok-child+in_ok-place+in_ok-push w ↦ rw (w.children-is, w.in_ok-push.ensures.items, w.in_ok-place.ensures.ok, w.in_ok-child.ensures, c.loop-n.invariant) (next_more (place_next c.args.self.now) c.args.self.now c.loop-n.n-counter (rw (← c.prefix.ensures) (sym c.contains.ensures.value ∙ w.if-not-contains.true)))
+  | else-not-contains w ↦ rw (w.children-is, c.loop-n.invariant) (next_same (place_next c.args.self.now) c.args.self.now c.loop-n.n-counter (rw (← c.prefix.ensures) (sym c.contains.ensures.value ∙ w.if-not-contains.false)))
 ]
 
 pub returns : goal.returns

@@ -1,0 +1,205 @@
+//! A hundred thousand events by a hostile generator: after each of them the names are a tree, and what is refused changes
+//! nothing.
+
+use crate::core_events::Act;
+use branch_tree::Piece;
+use search_core::{Hand, Illegal, Reply, Worker, World};
+use std::alloc::Global;
+use std::test::Fail;
+use ttp_model::Kind;
+
+/// How many searches there are.
+const SEARCHES: u32 = 500;
+
+/// How many events each has.
+const EVENTS: u32 = 200;
+
+/// The next number of a fixed sequence.
+fn next(number: u64) -> u64 {
+    number
+        .wrapping_mul(6_364_136_223_846_793_005)
+        .wrapping_add(1_442_695_040_888_963_407)
+}
+
+/// Work of some kind, often with a wrong count or goal.
+fn some_work(worker: u32, number: u64, seen: u32) -> Act {
+    let count = ((number >> 20) % 5) as u32;
+    match (number >> 40) % 8 {
+        0 | 1 | 2 => Act::Split(worker, Kind::Place, count),
+        3 => Act::Split(worker, Kind::Cap(0), count),
+        4 => Act::Split(worker, Kind::Pair(0, 1), count),
+        5 => Act::Found(worker, count, count),
+        6 => Act::Found(worker, seen.saturating_sub(1), seen.saturating_sub(count)),
+        _ => Act::Closed(worker, seen),
+    }
+}
+
+/// An event, often of a worker that isn't there or with a wrong hand.
+fn some_act(number: u64, seen: u32) -> Act {
+    let worker = ((number >> 33) % 5) as u32;
+    match (number >> 50) % 8 {
+        0 => Act::Pop(worker),
+        1 => Act::Steal(worker, ((number >> 37) % 5) as u32),
+        2 => Act::Look(worker),
+        3 => some_work(worker, number, seen),
+        4 | 5 => Act::Push(worker),
+        6 => Act::Offer(worker),
+        _ if number % 64 == 0 => Act::Rest(worker),
+        _ => Act::Push(worker),
+    }
+}
+
+/// What the first worker saw last.
+fn first_seen(world: &World) -> u32 {
+    match world.workers().first() {
+        Some(worker) => worker.seen(),
+        None => 0,
+    }
+}
+
+/// The indices of a name.
+type Indices = Vec<u32>;
+
+/// The names of the children from the one of this name on, so many.
+fn add_children(
+    alloc: Global,
+    names: &mut Vec<Indices>,
+    first: &[u32],
+    count: u32,
+) -> Result<(), Fail> {
+    if let Some((index, parent)) = first.split_last() {
+        for k in 0..count {
+            let mut name = Vec::from_slice(alloc, parent)?;
+            name.push(index.saturating_add(k))?;
+            names.push(name)?;
+        }
+    }
+    Ok(())
+}
+
+/// The names in a hand.
+fn add_held(alloc: Global, names: &mut Vec<Indices>, hand: &Hand) -> Result<(), Fail> {
+    match hand {
+        Hand::Task(name) => {
+            names.push(Vec::from_slice(alloc, name.as_slice())?)?;
+            Ok(())
+        }
+        Hand::Children(brood) => {
+            let first = brood.first(alloc)?;
+            add_children(alloc, names, first.as_slice(), brood.len())
+        }
+        _ => Ok(()),
+    }
+}
+
+/// The names that a worker has, of pieces and of what is open.
+fn add_names(alloc: Global, names: &mut Vec<Indices>, worker: &Worker) -> Result<(), Fail> {
+    for name in worker.deque() {
+        names.push(Vec::from_slice(alloc, name.as_slice())?)?;
+    }
+    for name in worker.left() {
+        names.push(Vec::from_slice(alloc, name.as_slice())?)?;
+    }
+    for piece in worker.pieces() {
+        names.push(Vec::from_slice(alloc, piece.name.as_slice())?)?;
+    }
+    add_held(alloc, names, worker.hand())
+}
+
+/// How many children the branch of this name has, of one worker's pieces; 0 where it has no such branch.
+fn children_of(pieces: &[Piece], name: &[u32]) -> u32 {
+    for piece in pieces {
+        if piece.name.as_slice() == name {
+            return piece.node.children();
+        }
+    }
+    0
+}
+
+/// Whether a name is the root's, or that of a branch's child.
+fn is_wanted(world: &World, name: &[u32]) -> bool {
+    match name.split_last() {
+        None => true,
+        Some((index, parent)) => world
+            .workers()
+            .iter()
+            .any(|worker| *index < children_of(worker.pieces(), parent)),
+    }
+}
+
+/// How many children all branches have.
+fn children(world: &World) -> usize {
+    let mut count = 0usize;
+    for worker in world.workers() {
+        for piece in worker.pieces() {
+            count = count.saturating_add(piece.node.children() as usize);
+        }
+    }
+    count
+}
+
+/// Whether the names of pieces and those that are open are a tree's, each once: no name is there twice, each is wanted, and
+/// they are as many as are wanted.
+fn is_tree(alloc: Global, world: &World) -> Result<bool, Fail> {
+    let mut names = Vec::new(alloc);
+    for worker in world.workers() {
+        add_names(alloc, &mut names, worker)?;
+    }
+    for (place, name) in names.iter().enumerate() {
+        let twice = names[..place].iter().any(|other| other == name);
+        if twice || !is_wanted(world, name.as_slice()) {
+            return Ok(false);
+        }
+    }
+    Ok(names.len() == children(world).saturating_add(1))
+}
+
+/// How many events were done, and how many were refused.
+#[derive(Clone, Copy, Debug)]
+struct Tally {
+    done: u32,
+    refused: u32,
+}
+
+impl Tally {
+    fn add(&mut self, reply: &Result<Reply, Illegal>) {
+        match reply {
+            Ok(_) => self.done = self.done.saturating_add(1),
+            Err(_) => self.refused = self.refused.saturating_add(1),
+        }
+    }
+}
+
+/// The first event of a search after which the names are no tree, or that was refused and changed something.
+fn wrong_event(alloc: Global, number: &mut u64, tally: &mut Tally) -> Result<Option<u32>, Fail> {
+    let mut world = World::start(alloc, 4, 1_000_000)?;
+    let mut before = format!(in alloc; "{world:?}")?;
+    for event in 0..EVENTS {
+        *number = next(*number);
+        let act = some_act(*number, first_seen(&world));
+        let reply = world.step(alloc, act.event(alloc));
+        tally.add(&reply);
+        let after = format!(in alloc; "{world:?}")?;
+        let changed = before.as_str() != after.as_str();
+        if (reply.is_err() && changed) || !is_tree(alloc, &world)? {
+            return Ok(Some(event));
+        }
+        before = after;
+    }
+    Ok(None)
+}
+
+#[test]
+fn hostile_events(rt: HostRuntime) -> Result<(), Fail> {
+    let mut number: u64 = 2026;
+    let mut tally = Tally {
+        done: 0,
+        refused: 0,
+    };
+    for search in 0..SEARCHES {
+        let wrong = wrong_event(rt.alloc(), &mut number, &mut tally)?;
+        assert_eq!(rt; wrong, None, "search {search}");
+    }
+    assert!(rt; 10_000 < tally.done && 10_000 < tally.refused, "{tally:?}");
+    Ok(())
+}
