@@ -6,7 +6,13 @@ mod bundles;
 #[cfg(test)]
 mod checks;
 #[cfg(test)]
+mod failing_streams;
+#[cfg(test)]
+mod hostile_texts;
+#[cfg(test)]
 mod progress;
+#[cfg(test)]
+mod refusals;
 #[cfg(test)]
 mod replays;
 #[cfg(test)]

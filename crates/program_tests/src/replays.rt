@@ -6,13 +6,14 @@ use crate::told::{CLUSTER, FIRST, FIRST_PLAN, Row, wrong_row};
 use std::alloc::{AllocError, Global};
 use std::test::Fail;
 
-const THREE: &[&str] = &[
+pub const THREE: &[&str] = &[
     CLUSTER,
     "[[node]]\nname = \"A\"\ncapacities = [0]\n[[node]]\nname = \"B\"\ncapacities = [0]\n[[node]]\nname = \"C\"\ncapacities = [0]\n",
     "[[process]]\nname = \"p\"\nnode = \"A\"\nwcet = 3\n",
 ];
 
-const THREE_PLAN: &str = "ttplan 1\ndelay 3\norder A B C\ncap A 0\ncap B 0\ncap C 0\nstart p 0\n";
+pub const THREE_PLAN: &str =
+    "ttplan 1\ndelay 3\norder A B C\ncap A 0\ncap B 0\ncap C 0\nstart p 0\n";
 
 pub const ALL_RECEIVED: &str =
     "ttreplay 1\nslot 0 0 A sent\nslot 0 1 B sent\nack A\nslot 0 2 C sent\nack B\nmember A A B C\nmember B A B C\nmember C A B C\n";

@@ -9,10 +9,13 @@ use std::test::Fail;
 use ttp_model::Kind;
 
 /// How many searches there are.
-const SEARCHES: u32 = 500;
+const SEARCHES: u32 = 2_000;
 
 /// How many events each has.
-const EVENTS: u32 = 200;
+const EVENTS: u32 = 50;
+
+/// How many workers there are.
+const WORKERS: u32 = 4;
 
 /// The next number of a fixed sequence.
 fn next(number: u64) -> u64 {
@@ -21,31 +24,76 @@ fn next(number: u64) -> u64 {
         .wrapping_add(1_442_695_040_888_963_407)
 }
 
+/// A worker, or one that isn't there.
+fn some_worker(bits: u64) -> u32 {
+    (bits % u64::from(WORKERS + 1)) as u32
+}
+
 /// Work of some kind, often with a wrong count or goal.
 fn some_work(worker: u32, number: u64, seen: u32) -> Act {
     let count = ((number >> 20) % 5) as u32;
-    match (number >> 40) % 8 {
-        0 | 1 | 2 => Act::Split(worker, Kind::Place, count),
-        3 => Act::Split(worker, Kind::Cap(0), count),
-        4 => Act::Split(worker, Kind::Pair(0, 1), count),
-        5 => Act::Found(worker, count, count),
-        6 => Act::Found(worker, seen.saturating_sub(1), seen.saturating_sub(count)),
+    match (number >> 40) % 16 {
+        0..=5 => Act::Split(worker, Kind::Place, count),
+        6 | 7 => Act::Split(worker, Kind::Cap(0), count),
+        8..=10 => Act::Split(worker, Kind::Pair(0, 1), count),
+        11 => Act::Split(worker, Kind::Round(0, 0), count),
+        12 => Act::Found(worker, count, count),
+        13 => Act::Found(worker, seen.saturating_sub(1), seen.saturating_sub(count)),
+        14 => Act::Closed(worker, seen.saturating_sub(count)),
         _ => Act::Closed(worker, seen),
     }
 }
 
-/// An event, often of a worker that isn't there or with a wrong hand.
-fn some_act(number: u64, seen: u32) -> Act {
-    let worker = ((number >> 33) % 5) as u32;
+/// Any event of a worker.
+fn some_act(worker: u32, number: u64, seen: u32) -> Act {
     match (number >> 50) % 8 {
         0 => Act::Pop(worker),
-        1 => Act::Steal(worker, ((number >> 37) % 5) as u32),
+        1 => Act::Steal(worker, some_worker(number >> 37)),
         2 => Act::Look(worker),
-        3 => some_work(worker, number, seen),
-        4 | 5 => Act::Push(worker),
+        3 | 4 => some_work(worker, number, seen),
+        5 => Act::Push(worker),
         6 => Act::Offer(worker),
-        _ if number % 64 == 0 => Act::Rest(worker),
-        _ => Act::Push(worker),
+        _ => Act::Rest(worker),
+    }
+}
+
+/// An event that this hand allows, or a theft from its worker; the work may be wrong.
+fn act_by_hand(worker: u32, hand: &Hand, number: u64, seen: u32) -> Act {
+    let dice = (number >> 50) % 32;
+    match hand {
+        Hand::Empty if dice < 16 => Act::Pop(worker),
+        Hand::Empty => Act::Steal(some_worker(number >> 37), worker),
+        Hand::Task(_) if dice < 6 => Act::Look(worker),
+        Hand::Task(_) if dice == 31 => Act::Rest(worker),
+        Hand::Task(_) => some_work(worker, number, seen),
+        Hand::Children(_) if dice == 31 => Act::Rest(worker),
+        Hand::Children(_) => Act::Push(worker),
+        Hand::Value(_) => Act::Offer(worker),
+    }
+}
+
+/// The first worker from this one on that has a name or a value; this one where none has.
+fn busy_worker(world: &World, from: u32) -> u32 {
+    for step in 0..WORKERS {
+        let index = from.wrapping_add(step) % WORKERS;
+        if let Some(worker) = world.workers().get(index as usize) {
+            if !worker.deque().is_empty() || !matches!(worker.hand(), Hand::Empty) {
+                return index;
+            }
+        }
+    }
+    from
+}
+
+/// An event: half of them fit the hand of a worker that is busy.
+fn next_act(world: &World, number: u64) -> Act {
+    let named = some_worker(number >> 33);
+    let busy = busy_worker(world, named);
+    match world.workers().get(busy as usize) {
+        Some(worker) if (number >> 60) % 2 == 0 => {
+            act_by_hand(busy, worker.hand(), number, worker.seen())
+        }
+        _ => some_act(named, number, first_seen(world)),
     }
 }
 
@@ -172,16 +220,19 @@ impl Tally {
 
 /// The first event of a search after which the names are no tree, or that was refused and changed something.
 fn wrong_event(alloc: Global, number: &mut u64, tally: &mut Tally) -> Result<Option<u32>, Fail> {
-    let mut world = World::start(alloc, 4, 1_000_000)?;
+    let mut world = World::start(alloc, WORKERS, 1_000_000)?;
     let mut before = format!(in alloc; "{world:?}")?;
     for event in 0..EVENTS {
         *number = next(*number);
-        let act = some_act(*number, first_seen(&world));
+        let act = next_act(&world, *number);
         let reply = world.step(alloc, act.event(alloc));
         tally.add(&reply);
         let after = format!(in alloc; "{world:?}")?;
-        let changed = before.as_str() != after.as_str();
-        if (reply.is_err() && changed) || !is_tree(alloc, &world)? {
+        let is_right = match reply {
+            Ok(_) => is_tree(alloc, &world)?,
+            Err(_) => before.as_str() == after.as_str(),
+        };
+        if !is_right {
             return Ok(Some(event));
         }
         before = after;

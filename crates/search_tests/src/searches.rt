@@ -1,8 +1,8 @@
 //! Small instances, solved.
 
-use crate::answers::{Answer, solved};
+use crate::answers::{Answer, solved, solved_by};
 use crate::instances::{LEAST_DELAYS, Sample};
-use planner::Why;
+use planner::{Options, Why};
 use std::alloc::Global;
 use std::sync::Wait;
 use std::test::Fail;
@@ -38,20 +38,32 @@ fn without_a_budget_the_path_bound_is_answered(rt: HostRuntime) -> Result<(), Fa
     Ok(())
 }
 
-#[test]
-fn each_budget_bounds_two_messages_until_eight_ticks_are_least(
-    rt: HostRuntime,
-) -> Result<(), Fail> {
-    let instance = Sample::TwoReceivers.build(rt.alloc())?;
+/// The first budget with which so many workers say that 8 ticks are least; None where what is told with a smaller one is
+/// wrong.
+fn budget_for_eight<R: Threads + Wait>(
+    rt: &R,
+    alloc: Global,
+    instance: &Instance,
+    workers: u32,
+) -> Result<Option<u64>, Fail> {
     for budget in 0..1_000 {
-        let answer = solved(&rt, rt.alloc(), &instance, budget)?;
-        assert!(rt;
-            answer.is_right(8, Why::Budget),
-            "budget {budget}: {answer:?}"
-        );
+        let answer = solved_by(rt, alloc, instance, Options { workers, budget })?;
+        if !answer.is_right(8, Why::Budget) {
+            return Ok(None);
+        }
         if answer.stopped.is_none() {
-            return Ok(());
+            return Ok(Some(budget));
         }
     }
-    panic!(rt; "a thousand subtrees are enough")
+    Ok(None)
+}
+
+#[test]
+fn every_budget(rt: HostRuntime) -> Result<(), Fail> {
+    let instance = Sample::TwoReceivers.build(rt.alloc())?;
+    for workers in [1, 3] {
+        let budget = budget_for_eight(&rt, rt.alloc(), &instance, workers)?;
+        assert!(rt; budget.is_some(), "by {workers}");
+    }
+    Ok(())
 }
