@@ -1,5 +1,7 @@
 //! Each read and each write of each command fails in turn, where a call moves one byte, a few, or all that it can.
 
+ghost use Rattle.std.specs.Prelude.{◌≤◌, IfOk};
+
 use crate::checks::FIRST_CERTIFICATE;
 use crate::replays::{THREE, THREE_PLAN};
 use crate::told::Asked::{Check, Replay, Tables, Verify};
@@ -26,7 +28,9 @@ struct Calls {
 
 impl Calls {
     /// How many of so many bytes the next call moves.
-    fn next(&mut self, length: usize) -> io::Result<usize> {
+    fn next(&mut self, length: usize) -> io::Result<usize>
+        ensures { IfOk result (λ moved. moved ≤ length) }
+    {
         if self.left == 0 {
             self.failed = true;
             return Err(io::Error::from(io::ErrorKind::Other));
