@@ -85,8 +85,9 @@ fn deal<J: Searched>(
     ensures opening { OnOk result (IsOpening word.now opening.new) }
     ensures offers { OnOk result (offers opening.new ≡ offers opening.old) }
 {
-    let mut ahead = hands.len();
-    let mut jobs = Vec::with_capacity(alloc, ahead)?;
+    let workers = hands.len();
+    let mut jobs = Vec::with_capacity(alloc, workers)?;
+    let mut ahead = workers;
     let mut left = budget;
     for hand in hands {
         let watch = word.split(alloc, opening)?;
@@ -97,6 +98,7 @@ fn deal<J: Searched>(
             hand,
             watch,
             budget,
+            workers,
         })?;
     }
     Ok(jobs)
@@ -131,6 +133,7 @@ fn collected<J: Searched>(word: Incumbent, crew: Crew<J>) -> Result<Search, Memo
         hands,
         watch,
         pieces,
+        room,
         tasks,
         best,
     } = crew;
@@ -138,6 +141,7 @@ fn collected<J: Searched>(word: Incumbent, crew: Crew<J>) -> Result<Search, Memo
     let tasks = drained(hands, tasks)?;
     Ok(Search {
         pieces,
+        room,
         tasks,
         best,
     })

@@ -11,9 +11,10 @@ ghost use Rattle.planner.specs.Answers.{IsRefusal};
 ghost use Rattle.planner.specs.Searched.{IsFound};
 ghost use Rattle.planner.specs.Crew.{IsBetter, IsReportOfJob, AreReportsOf, IsJob, hands_of, budget_of, tasks_in, Gathers};
 
-use crate::joining::together;
+use crate::joining::{roomier, together};
 use crate::outcome::SolveFault;
 use branch_tree::{Piece, Task};
+use certificate::Node;
 use incumbent::{Incumbent, Watch};
 use pool_worker::{Gate, Report, Rest, run_worker};
 use std::alloc::Global;
@@ -31,6 +32,8 @@ pub struct Job<J: Searched> {
     pub hand: Hand<J>,
     pub watch: Watch,
     pub budget: u64,
+    /// How many jobs there are.
+    pub workers: usize,
 }
 
 /// The promise that the report is one of this job.
@@ -57,8 +60,9 @@ fn done<J: Searched, G: Gate>(
         hand,
         watch,
         budget,
+        workers,
     } = job;
-    run_worker(alloc, instance, hand, word, watch, budget, gate)
+    run_worker(alloc, instance, hand, word, watch, budget, workers, gate)
 }
 
 /// The better of two plans with their delays, where there is one.
@@ -73,13 +77,14 @@ fn better(a: Option<(Plan, u64)>, b: Option<(Plan, u64)>) -> Option<(Plan, u64)>
     }
 }
 
-/// What some workers came to: their hands, the opening watch with theirs joined, what they worked, the tasks that they
-/// hold, and the best plan that they know.
+/// What some workers came to: their hands, the opening watch with theirs joined, what they worked, room for a certificate's
+/// nodes, the tasks that they hold, and the best plan that they know.
 #[derive(Drop)]
 pub struct Crew<J: Searched> {
     pub hands: Vec<Hand<J>>,
     pub watch: Watch,
     pub pieces: Vec<Piece>,
+    pub room: Vec<Node>,
     pub tasks: Vec<Task>,
     pub best: Option<(Plan, u64)>,
 }
@@ -120,6 +125,7 @@ impl<J: Searched> Crew<J> {
             hands: Vec::with_capacity(alloc, workers)?,
             watch,
             pieces: Vec::new(alloc),
+            room: Vec::new(alloc),
             tasks: Vec::new(alloc),
             best,
         })
@@ -139,12 +145,14 @@ impl<J: Searched> Crew<J> {
         word.join(&mut watch, report.watch);
         hands.push(report.hand)?;
         let pieces = together(self.pieces, report.pieces)?;
+        let room = roomier(self.room, report.room);
         hold(&mut tasks, report.rest)?;
         let best = better(self.best, report.best);
         Ok(Crew {
             hands,
             watch,
             pieces,
+            room,
             tasks,
             best,
         })

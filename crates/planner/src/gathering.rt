@@ -57,26 +57,29 @@ fn judge(alloc: Global, pieces: &[Piece], low: u32) -> Result<(), GatherFault>
     Ok(())
 }
 
-/// The nodes of pieces, in their order.
-fn nodes_of(alloc: Global, pieces: Vec<Piece>) -> Result<Vec<Node>, MemoryFault>
+/// The nodes of pieces, in their order, in a list that may have room for them, and in no more room than they take.
+fn nodes_of(room: Vec<Node>, pieces: Vec<Piece>) -> Result<Vec<Node>, MemoryFault>
     ensures { IfOk result (λ nodes. nodes.items ≡ map (λ piece. piece.node) pieces.items) }
 {
-    let mut nodes = Vec::with_capacity(alloc, pieces.len())?;
+    let mut nodes = room;
+    nodes.clear();
+    nodes.reserve_exact(pieces.len())?;
     for piece in pieces {
         let Piece { node, .. } = piece;
         nodes.push(node)?;
     }
+    nodes.shrink_to_fit();
     Ok(nodes)
 }
 
 /// The certificate of the tree whose nodes in preorder are those of the pieces, in their order.
-fn certified(alloc: Global, pieces: Vec<Piece>, low: u32) -> Result<Cert, GatherFault>
+fn certified(room: Vec<Node>, pieces: Vec<Piece>, low: u32) -> Result<Cert, GatherFault>
     requires { IsTree (trees_of (map (λ piece. piece.node) pieces.items)) }
     ensures ok { IfOk result
         (λ cert. cert ≡ record { low = low; tree = trees_of (map (λ piece. piece.node) pieces.items) }) }
     ensures err { IfErr result (λ fault. fault ≡ OutOfMemory) }
 {
-    let nodes = nodes_of(alloc, pieces)?;
+    let nodes = nodes_of(room, pieces)?;
     Ok(Cert::new(low, nodes))
 }
 
@@ -94,10 +97,27 @@ pub fn gather(alloc: Global, pieces: Vec<Piece>, low: u32) -> Result<Cert, Gathe
     ensures only { (tree : Trees) → IsTreeOf pieces.items tree → HaveGoals low pieces.items
         → result ≢ Err OutOfMemory → result ≡ Ok (record { low = low; tree = tree }) }
 {
+    gather_into(alloc, Vec::new(alloc), pieces, low)
+}
+
+/// The same with a list whose room the certificate's nodes take, where it is enough; what is in it goes.
+pub fn gather_into(
+    alloc: Global,
+    room: Vec<Node>,
+    pieces: Vec<Piece>,
+    low: u32,
+) -> Result<Cert, GatherFault>
+    requires { AreShallow pieces.items }
+    ensures ok { IfOk result (λ cert. IsGathered low pieces.items cert) }
+    ensures err { IfErr result (IsFirstGatherFault low pieces.items) }
+    // The certificate of a tree without low leaves, unless memory is refused.
+    ensures only { (tree : Trees) → IsTreeOf pieces.items tree → HaveGoals low pieces.items
+        → result ≢ Err OutOfMemory → result ≡ Ok (record { low = low; tree = tree }) }
+{
     let mut pieces = pieces;
     sort_by_name(&mut pieces);
     match judge(alloc, pieces.as_slice(), low) {
-        Ok(()) => certified(alloc, pieces, low),
+        Ok(()) => certified(room, pieces, low),
         Err(fault) => Err(fault),
     }
 }

@@ -4,6 +4,7 @@ ghost use Rattle.std.specs.Prelude.{◌≡◌, ◌+◌, ◌++◌, IfOk, length};
 ghost use Rattle.planner.specs.Crew.{AreTogether};
 
 use branch_tree::Piece;
+use certificate::Node;
 use ttp_model::MemoryFault;
 
 /// Pieces and others after them. Takes no memory where the first list has room for all.
@@ -27,4 +28,9 @@ pub fn together(pieces: Vec<Piece>, others: Vec<Piece>) -> Result<Vec<Piece>, Me
     }
     let all = joined(pieces, others)?;
     Ok(all)
+}
+
+/// That of two empty lists which has more room.
+pub fn roomier(a: Vec<Node>, b: Vec<Node>) -> Vec<Node> {
+    if a.capacity() < b.capacity() { b } else { a }
 }

@@ -2,20 +2,22 @@
 
 ghost use Rattle.std.specs.Prelude.{◌≡◌, ◌≤◌, ◌<◌, ◌+◌, ◌++◌, OnOk, cond, length, vec_len, vec_capacity};
 ghost use Rattle.ttp_model.specs.declared.limits.TheConstants.{MOST_NODES};
+ghost use Rattle.branch_tree.specs.Workbench.{IsWorkbenchOf};
 ghost use Rattle.planner.specs.Answers.{limit_of};
 ghost use Rattle.planner.specs.Searched.{IsFound, IsWorkedOut};
 ghost use Rattle.planner.specs.Searching.{IsSearching};
 
 use crate::outcome::Why;
-use branch_tree::{Piece, Task, Worked, work};
+use branch_tree::{Piece, Task, Workbench, Worked, work_on};
 use certificate::{Branch, Node};
 use std::alloc::Global;
 use ttp_model::{Instance, MOST_NODES, MemoryFault, Plan};
 
-/// What is worked, and what is still open; the best plan that was found, settled, with its delay in ticks.
+/// What is worked, room for its nodes, and what is still open; the best plan that was found, settled, with its delay in ticks.
 #[derive(Debug, Drop)]
 pub struct Search {
     pub pieces: Vec<Piece>,
+    pub room: Vec<Node>,
     pub tasks: Vec<Task>,
     pub best: Option<(Plan, u64)>,
 }
@@ -45,8 +47,8 @@ fn open_all(pending: &mut Vec<Task>, tasks: Vec<Task>)
 }
 
 impl Search {
-    /// Asks for room: in the list of pieces for one more, for leaves of all that is open, and for as many again as are made,
-    /// which is free once the search is at its end; in that of tasks for all that one of them can be split into.
+    /// Asks for room: in the list of pieces for one more, and for leaves of all that is open once it is made; beside it for the
+    /// nodes of all these; and in that of tasks for all that one of them can be split into.
     fn make_room(&mut self) -> Result<(), MemoryFault>
         ensures pieces { self.new.pieces.items ≡ self.old.pieces.items }
         ensures tasks { self.new.tasks.items ≡ self.old.tasks.items }
@@ -54,17 +56,22 @@ impl Search {
         ensures one { OnOk result (vec_len self.new.pieces < vec_capacity self.new.pieces) }
         ensures split { OnOk result (vec_len self.new.tasks + MOST_NODES ≤ vec_capacity self.new.tasks) }
     {
-        let (made, open) = (self.pieces.len(), self.tasks.len());
-        self.pieces.reserve(made + open + 1)?;
+        let made = self.pieces.len();
+        let more = self.tasks.len() + MOST_NODES + 1;
+        self.pieces.reserve(more)?;
+        self.room.reserve(made + more)?;
         self.tasks.reserve(MOST_NODES)?;
         Ok(())
     }
 
-    /// Works the newest task, where there is one: whether it was worked. Where memory is refused, it is left.
-    fn turn(&mut self, alloc: Global, instance: &Instance) -> bool
-        requires { IsSearching instance.now self.old.pieces.items self.old.tasks.items self.old.best }
+    /// Works the newest task, where there is one, on from the last one: whether it was worked. Where memory is refused, it is
+    /// left.
+    fn turn<'a>(&mut self, alloc: Global, instance: &'a Instance, bench: &mut Workbench<'a>) -> bool
+        requires searching { IsSearching instance.now self.old.pieces.items self.old.tasks.items self.old.best }
+        requires bench { IsWorkbenchOf instance.now bench.old }
         ensures searching { IsSearching instance.now self.new.pieces.items self.new.tasks.items self.new.best }
         ensures one { length self.new.pieces.items ≡ length self.old.pieces.items + cond result 1 0 }
+        ensures bench { IsWorkbenchOf instance.now bench.new }
     {
         let _nodes = instance.nodes();
         if self.make_room().is_err() {
@@ -78,7 +85,7 @@ impl Search {
             self.tasks.push_reserved(task);
             return false;
         };
-        match work(alloc, instance, task, goal) {
+        match work_on(alloc, instance, bench, task, goal) {
             Ok(Worked::Split(kind, tasks)) => {
                 let node = Node::Branch(Branch::new(kind, tasks.len() as u32));
                 open_all(&mut self.tasks, tasks);
@@ -111,8 +118,9 @@ impl Search {
         ensures within { length self.new.pieces.items ≤ budget }
         ensures cause { IsWorkedOut budget self.new.pieces.items result }
     {
+        let mut bench = Workbench::new();
         for _turn in 0..budget - self.pieces.len() as u64 {
-            if !self.turn(alloc, instance) {
+            if !self.turn(alloc, instance, &mut bench) {
                 return Why::Memory;
             }
         }

@@ -13,13 +13,13 @@ ghost use Rattle.planner.specs.Searching.{IsSearching};
 use crate::closing::close_all;
 use crate::collecting::searched;
 use crate::fault::GatherFault;
-use crate::gathering::gather;
+use crate::gathering::gather_into;
 use crate::joining::joined;
 use crate::outcome::{Options, Outcome, SolveFault, Why};
 use crate::reserve::Reserve;
 use crate::search::{Search, limit};
 use branch_tree::Piece;
-use certificate::Cert;
+use certificate::{Cert, Node};
 use good_plan::good_plan;
 use pool_worker::{FreeGate, Gate};
 use std::alloc::Global;
@@ -47,7 +47,7 @@ fn first_plan(
     good_plan(alloc, instance)
 }
 
-/// Pieces and others after them, in no more room than they take: what is left of it is free for the certificate.
+/// Pieces and others after them, in no more room than they take: what is left of it is free.
 fn all_of(pieces: Vec<Piece>, others: Vec<Piece>) -> Result<Vec<Piece>, MemoryFault>
     ensures { IfOk result (λ all. all.items ≡ pieces.items ++ others.items) }
 {
@@ -67,15 +67,21 @@ fn fault_of(cause: GatherFault) -> SolveFault
     }
 }
 
-/// The certificate of a whole tree. Of such pieces no fault is told but a want of memory.
-fn certified(alloc: Global, pieces: Vec<Piece>, low: u32) -> Result<Cert, SolveFault>
+/// The certificate of a whole tree, in a list that may have room for its nodes. Of such pieces no fault is told but a want of
+/// memory.
+fn certified(
+    alloc: Global,
+    room: Vec<Node>,
+    pieces: Vec<Piece>,
+    low: u32,
+) -> Result<Cert, SolveFault>
     requires shallow { AreShallow pieces.items }
     requires whole { IsWholeTree pieces.items [] }
     requires goals { HaveGoals low pieces.items }
     ensures ok { IfOk result (IsGathered low pieces.items) }
     ensures err { IfErr result (λ e. e ≡ fault.Memory) }
 {
-    match gather(alloc, pieces, low) {
+    match gather_into(alloc, room, pieces, low) {
         Ok(cert) => Ok(cert),
         Err(cause) => Err(fault_of(cause)),
     }
@@ -117,13 +123,14 @@ fn concluded(
     let _nodes = instance.nodes();
     let Search {
         pieces: worked,
+        room,
         tasks,
         best,
     } = search;
     let limit = limit(instance, &best);
     let (closed, low) = close_all(alloc, instance, tasks, limit)?;
     let pieces = all_of(worked, closed)?;
-    let cert = certified(alloc, pieces, low)?;
+    let cert = certified(alloc, room, pieces, low)?;
     Ok(answer(why, best, limit, low, cert))
 }
 

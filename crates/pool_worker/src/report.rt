@@ -1,6 +1,7 @@
 //! What does a worker report?
 
 use branch_tree::{Piece, Task};
+use certificate::Node;
 use incumbent::Watch;
 use steal_pool::{Hand, Searched};
 use ttp_model::Plan;
@@ -33,6 +34,8 @@ pub struct Report<J: Searched> {
     pub watch: Watch,
     /// What became of the tasks that it worked, in that order.
     pub pieces: Vec<Piece>,
+    /// Room for the nodes of a certificate; nothing is in it.
+    pub room: Vec<Node>,
     /// The best plan that it found, with its delay in ticks.
     pub best: Option<(Plan, u64)>,
     pub rest: Rest,

@@ -15,15 +15,21 @@ use certificate::{Branch, Node};
 use incumbent::{Incumbent, Watch};
 use std::alloc::Global;
 use steal_pool::{Hand, Searched};
-use ttp_model::{Instance, Plan};
+use ttp_model::{Instance, MemoryFault, Plan};
 
-/// A worker between two turns: its hand and its watch, what became of the tasks that it worked, and the best plan that
-/// it found.
+/// For how many pieces there is room beside those that are made, at least: the leaves that close what is open in the end.
+const AHEAD: usize = 4096;
+
+/// A worker between two turns: its hand and its watch, what became of the tasks that it worked, room for a certificate's
+/// nodes, and the best plan that it found.
 #[derive(Drop)]
 pub struct Run<J: Searched> {
     pub hand: Hand<J>,
     pub watch: Watch,
     pub pieces: Vec<Piece>,
+    pub room: Vec<Node>,
+    /// How many workers there are.
+    pub workers: usize,
     pub best: Option<(Plan, u64)>,
 }
 
@@ -57,11 +63,39 @@ fn push_all<J: Searched>(hand: &mut Hand<J>, mut tasks: Vec<Task>) -> Vec<Task>
     tasks
 }
 
+/// Asks for room for so many in a list: where there is less, for an eighth more.
+fn widen<T: Drop>(list: &mut Vec<T>, all: usize) -> Result<(), MemoryFault>
+    ensures { list.new.items ≡ list.old.items }
+{
+    if list.capacity() < all {
+        let more = all.saturating_add(all / 8);
+        list.reserve_exact(more.saturating_sub(list.len()))?;
+    }
+    Ok(())
+}
+
+/// Asks for room for one more piece, and for what all workers come to where none of them makes more than this one: in its
+/// list of pieces for theirs and the leaves in the end, and beside it for their nodes. So where memory runs out, all of it goes
+/// into the lists of the one that made most.
+fn make_room(
+    pieces: &mut Vec<Piece>,
+    room: &mut Vec<Node>,
+    workers: usize,
+) -> Result<(), MemoryFault>
+    ensures same { pieces.new.items ≡ pieces.old.items }
+    ensures one { OnOk result (vec_len pieces.new < vec_capacity pieces.new) }
+{
+    let all = pieces.len().saturating_mul(workers).saturating_add(AHEAD);
+    widen(pieces, all)?;
+    widen(room, all)?;
+    pieces.reserve(1)?;
+    Ok(())
+}
+
 impl<J: Searched> Run<J> {
     /// Works a task at the best delay so far, on from the last one, and pushes its children, or offers the delay of the plan
     /// that was found: what became of the task, and the children that couldn't be pushed. All memory is asked for before the
-    /// task is worked, and room for as many pieces again as are made, in which those of others can be put with them at the
-    /// end; where it is refused, the task comes back.
+    /// task is worked, that for the end too; where it is refused, the task comes back.
     fn make<'a>(
         &mut self,
         alloc: Global,
@@ -81,8 +115,7 @@ impl<J: Searched> Run<J> {
     {
         let _nodes = instance.nodes();
         let goal = word.look(&mut self.watch);
-        let made = self.pieces.len();
-        if self.pieces.reserve(made + 1).is_err() {
+        if make_room(&mut self.pieces, &mut self.room, self.workers).is_err() {
             return Err(task);
         }
         let Ok(name) = task.name().copy(alloc) else {

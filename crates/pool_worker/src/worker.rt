@@ -48,6 +48,7 @@ impl<J: Searched> Run<J> {
             hand: self.hand,
             watch: self.watch,
             pieces: self.pieces,
+            room: self.room,
             best: self.best,
             rest,
             worked,
@@ -57,7 +58,8 @@ impl<J: Searched> Run<J> {
 }
 
 /// Takes tasks of a pool and works them, each at the best delay that is known by then, until `budget` of them are worked,
-/// memory is refused, or none was found for long. It never waits for another worker.
+/// memory is refused, or none was found for long. It never waits for another worker. Where memory is refused, the lists that
+/// it reports have room for what so many workers come to that make no more than it did.
 pub fn run_worker<J: Searched, G: Gate>(
     alloc: Global,
     instance: &Instance,
@@ -65,6 +67,7 @@ pub fn run_worker<J: Searched, G: Gate>(
     word: &Incumbent,
     watch: Watch,
     budget: u64,
+    workers: usize,
     gate: &G,
 ) -> Report<J>
     requires of { instance.now ≡ J.instance }
@@ -83,6 +86,8 @@ pub fn run_worker<J: Searched, G: Gate>(
         hand,
         watch,
         pieces: Vec::new(alloc),
+        room: Vec::new(alloc),
+        workers,
         best: None,
     };
     let mut bench = Workbench::new();

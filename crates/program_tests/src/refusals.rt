@@ -4,23 +4,43 @@ use crate::checks::FIRST_CERTIFICATE;
 use crate::replays::{ALL_RECEIVED, THREE, THREE_PLAN};
 use crate::table_texts::FIRST_TABLES;
 use crate::told::Asked::{Check, Replay, Tables, Verify};
-use crate::told::{FIRST, FIRST_PLAN, Row, joined};
-use command_streams::{report, status};
+use crate::told::{CLUSTER, FIRST, FIRST_PARTS, FIRST_PLAN, Row, joined};
+use command_streams::{End, report, status};
+use plan_commands::verify_bundle;
+use solve_command::{Options, solve_run};
 use std::alloc::Global;
 use std::io::Cursor;
+use std::sync::Wait;
 use std::test::Fail;
+use std::thread::Threads;
 
 /// A page that takes no memory.
-type Page = Cursor<[u8; 1024]>;
+type Page = Cursor<[u8; 4096]>;
 
 fn page() -> Page {
-    Cursor::new([0; 1024])
+    Cursor::new([0; 4096])
 }
 
 /// Whether a page has just this text.
 fn has(page: &Page, text: &str) -> bool {
     let end = page.position() as usize;
     page.get_ref().get(..end) == Some(text.as_bytes())
+}
+
+/// Whether a page begins with this text.
+fn begins(page: &Page, text: &str) -> bool {
+    page.get_ref().starts_with(text.as_bytes())
+}
+
+/// Whether a command that ended so has written this, or nothing and says that there is no memory.
+fn is_told(end: &End, out: &Page, text: &str) -> Result<bool, Fail> {
+    let mut error = page();
+    report(end, &mut error)?;
+    Ok(match status(end) {
+        0 => has(out, text) && has(&error, ""),
+        4 => has(out, "") && has(&error, "memory\n"),
+        _ => false,
+    })
 }
 
 /// Whether a command tells what it does where there is memory, or has written nothing and says that there is none.
@@ -30,19 +50,56 @@ fn survives_refusals(
 ) -> Result<bool, Fail> {
     let instance = joined(alloc, instance)?;
     let second = joined(alloc, second)?;
-    let (mut out, mut error) = (page(), page());
+    let mut out = page();
     let end = command.end(
         alloc,
         &mut instance.as_bytes(),
         &mut second.as_bytes(),
         &mut out,
     );
-    report(&end, &mut error)?;
-    Ok(match status(&end) {
-        0 => has(&out, text) && has(&error, ""),
-        4 => has(&out, "") && has(&error, "memory\n"),
+    is_told(&end, &out, text)
+}
+
+/// The same of a bundle.
+fn bundle_survives(alloc: Global) -> Result<bool, Fail> {
+    let bundle = joined(alloc, &[CLUSTER, FIRST_PARTS, "%%\n", FIRST_PLAN])?;
+    let mut out = page();
+    let end = verify_bundle(alloc, &mut bundle.as_bytes(), &mut out);
+    is_told(&end, &out, "valid 9\n")
+}
+
+/// Whether a search that ended so has written what it writes where there is memory, bounds and a certificate, or nothing.
+fn is_found(end: &End, out: &Page, certificate: &Page) -> Result<bool, Fail> {
+    let mut error = page();
+    report(end, &mut error)?;
+    Ok(match status(end) {
+        0 => has(out, FIRST_PLAN) && begins(certificate, "ttcert 1\nlow 9\n") && has(&error, ""),
+        4 => has(out, "") && has(&error, "memory\n"),
+        7 => has(out, "") && has(&error, "solve thread\n"),
+        11 => begins(out, "stopped memory ")
+            && begins(certificate, "ttcert 1\nlow ")
+            && has(&error, ""),
         _ => false,
     })
+}
+
+/// Whether a search with so many workers does so.
+fn search_survives<R: Threads + Wait>(rt: &R, alloc: Global, workers: u32) -> Result<bool, Fail> {
+    let instance = joined(alloc, FIRST)?;
+    let (mut out, mut certificate) = (page(), page());
+    let options = Options {
+        workers,
+        budget: 1_000,
+    };
+    let end = solve_run(
+        rt,
+        alloc,
+        &mut instance.as_bytes(),
+        options,
+        Some(&mut certificate),
+        &mut out,
+    );
+    is_found(&end, &out, &certificate)
 }
 
 #[rattlefmt::skip]
@@ -58,6 +115,20 @@ static ANSWERS: &[Row] = &[
 fn refused_in_turn(rt: HostRuntime) -> Result<(), Fail> {
     for (k, row) in ANSWERS.iter().enumerate() {
         assert!(rt; survives_refusals(rt.alloc(), *row)?, "row {k}");
+    }
+    Ok(())
+}
+
+#[test]
+fn bundle_refused_in_turn(rt: HostRuntime) -> Result<(), Fail> {
+    assert!(rt; bundle_survives(rt.alloc())?);
+    Ok(())
+}
+
+#[test]
+fn search_refused_in_turn(rt: HostRuntime) -> Result<(), Fail> {
+    for workers in [1, 2] {
+        assert!(rt; search_survives(&rt, rt.alloc(), workers)?, "{workers}");
     }
     Ok(())
 }

@@ -72,10 +72,18 @@ impl Effect {
     }
 }
 
+/// Does an event, and once more where memory was refused: the world is then as it was.
+fn step(alloc: Global, world: &mut World, act: Act) -> Result<Reply, Illegal> {
+    match world.step(alloc, act.event(alloc)) {
+        Err(Illegal::OutOfMemory) => world.step(alloc, act.event(alloc)),
+        reply => reply,
+    }
+}
+
 /// Does a script's events one after another, each of which has to come to what stands beside it.
 fn play(rt: &impl Abort, alloc: Global, world: &mut World, script: &[(Act, Effect)]) {
     for (index, (act, effect)) in script.iter().enumerate() {
-        let reply = world.step(alloc, act.event(alloc));
+        let reply = step(alloc, world, *act);
         assert!(rt; effect.is_of(&reply), "event {index}: {reply:?}");
     }
 }

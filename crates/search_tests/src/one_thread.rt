@@ -96,7 +96,7 @@ fn has_goal(piece: &Piece, goal: u32) -> bool {
 }
 
 /// A hand of a pool of one, which has the whole tree.
-fn lone_hand<J: Searched>(alloc: Global, instance: &Instance) -> Result<Hand<J>, Fail>
+pub fn lone_hand<J: Searched>(alloc: Global, instance: &Instance) -> Result<Hand<J>, Fail>
     requires { instance.now ≡ J.instance }
 {
     let Some(mut hand) = pool::<J>(alloc, instance, 1)?.pop() else {
@@ -118,7 +118,9 @@ fn works_at_offer<J: Searched>(alloc: Global, instance: &Instance, offer: u32) -
     let second = word.split(alloc, &mut opening)?;
     word.offer(&mut first, offer);
     let hand = lone_hand::<J>(alloc, instance)?;
-    let report = run_worker(alloc, instance, hand, &word, second, 1_000_000, &FreeGate);
+    let report = run_worker(
+        alloc, instance, hand, &word, second, 1_000_000, 1, &FreeGate,
+    );
     let pieces = report.pieces.as_slice();
     Ok(report.best.is_none() && pieces.iter().all(|piece| has_goal(piece, offer)))
 }

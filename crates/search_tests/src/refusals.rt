@@ -1,12 +1,20 @@
 //! Searches in which memory is refused.
 
+ghost use Rattle.std.specs.Prelude.{◌≡◌};
+
 use crate::answers::read;
 use crate::instances::Sample;
+use crate::one_thread::lone_hand;
+use branch_tree::Piece;
+use incumbent::Incumbent;
 use planner::{Options, SolveFault, Why, solve};
+use pool_worker::{Ending, FreeGate, Report, Rest, run_worker};
 use std::alloc::Global;
+use std::marker::Brand;
 use std::sync::Wait;
 use std::test::Fail;
 use std::thread::Threads;
+use steal_pool::{Hand, Searched};
 use ttp_model::Instance;
 
 /// Whether so many workers say that 8 ticks are least, or memory was refused; then what is told has to hold.
@@ -34,5 +42,63 @@ fn refused_in_turn(rt: HostRuntime) -> Result<(), Fail> {
             "{workers}"
         );
     }
+    Ok(())
+}
+
+/// How many children the branches among pieces have.
+fn children(pieces: &[Piece]) -> u64 {
+    let mut count = 0u64;
+    for piece in pieces {
+        count = count.saturating_add(u64::from(piece.node.children()));
+    }
+    count
+}
+
+/// How many tasks a hand can still take.
+fn left<J: Searched>(hand: &mut Hand<J>) -> u64 {
+    for count in 0..u64::MAX {
+        if hand.take().is_none() {
+            return count;
+        }
+    }
+    u64::MAX
+}
+
+/// How many tasks a worker had in hand as it ended.
+fn held(rest: &Rest) -> u64 {
+    match rest {
+        Rest::Nothing => 0,
+        Rest::One(_) => 1,
+        Rest::Children(tasks) => tasks.len() as u64,
+    }
+}
+
+/// Whether what a lone worker did, had in hand and left is the root and all children of its branches, and only want of
+/// memory left any.
+fn accounts_for_all<J: Searched>(report: Report<J>) -> bool {
+    let mut hand = report.hand;
+    let open = held(&report.rest).saturating_add(left(&mut hand));
+    let pieces = report.pieces.as_slice();
+    let all = (pieces.len() as u64).saturating_add(open);
+    all == children(pieces).saturating_add(1) && (open == 0 || report.ending == Ending::Memory)
+}
+
+/// Whether a lone worker accounts for each task.
+fn keeps_account<J: Searched>(alloc: Global, instance: &Instance) -> Result<bool, Fail>
+    requires { instance.now ≡ J.instance }
+{
+    let (word, opening) = Incumbent::begin(alloc, instance.past_horizon())?;
+    let mut opening = opening;
+    let watch = word.split(alloc, &mut opening)?;
+    let hand = lone_hand::<J>(alloc, instance)?;
+    let report = run_worker(alloc, instance, hand, &word, watch, 1_000, 1, &FreeGate);
+    Ok(accounts_for_all(report))
+}
+
+/// Run with each allocation refused in turn: no task is lost by a worker that ends.
+#[test]
+fn worker_refused_in_turn(rt: HostRuntime) -> Result<(), Fail> {
+    let instance = Sample::TwoReceivers.build(rt.alloc())?;
+    assert!(rt; keeps_account::<Brand>(rt.alloc(), &instance)?);
     Ok(())
 }

@@ -12,7 +12,7 @@ loop-hand-preserved g c =
     let word = c.args.word.now in
     let old = c.loop-hand.jobs.items in
     let inv = c.loop-hand.invariant in
-    let job : Job g.row.J.Denot = record { hand = c.in-Some.hand; watch = c.in_ok-watch.watch; budget = c.share-budget.result } in
+    let job : Job g.row.J.Denot = record { hand = c.in-Some.hand; watch = c.in_ok-watch.watch; budget = c.share-budget.result; workers = c.len-workers.result } in
     let items : c.push.new.self.items ≡ old ++ job ∷ [] = c.in_ok-push.ensures.items in
     let own : IsJob word job = record { other = c.in_ok-watch.ensures.other; silent = c.in_ok-watch.ensures.other_offers } in
     let sum : budget_of c.push.new.self.items ≡ budget_of old + c.share-budget.result = ap budget_of items ∙ sum_by_push (λ (j : Job g.row.J.Denot). j.budget) old job in

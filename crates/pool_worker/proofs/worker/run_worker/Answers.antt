@@ -9,7 +9,7 @@ use Rattle.pool_worker.proofs.worker.run_worker.Goals as goal
 
 pub loop-worked-init : goal.loop-worked-init
 loop-worked-init g c =
-    let run : Run g.row.J.Denot = record { hand = c.args.hand; watch = c.args.watch; pieces = c.new.result; best = None } in
+    let run : Run g.row.J.Denot = record { hand = c.args.hand; watch = c.args.watch; pieces = c.new.result; room = c.new-2.result; workers = c.args.workers; best = None } in
     record {
       run = begins c.args.instance.now run c.new.ensures.items refl;
       watch = c.requires.watch;

@@ -23,7 +23,7 @@ overflow_cast-len c =
     let split : IsSplit i t c.limit-goal.result c.in-Ok-Split.kind c.in-Ok-Split.tasks.items = subst (IsWorked i t c.limit-goal.result) c.in-Ok-Split.field-0-is c.in-Ok-Split.ensures.worked in
     let front = c.pop.new.self.items in
     let popped : c.args.self.now.tasks.items ≡ front ++ t ∷ [] = sym c.make_room.ensures.tasks ∙ (search rules) in
-    let own : IsTask i t = All-contains (IsTask i) (front ++ t ∷ []) t (subst (All (IsTask i)) popped c.requires.open_tasks) (last_there front t) in
+    let own : IsTask i t = All-contains (IsTask i) (front ++ t ∷ []) t (subst (All (IsTask i)) popped c.requires.searching.open_tasks) (last_there front t) in
     omega (arith, c.len.ensures, c.in-Ok-Split.tasks.ok.0, split.branch.just, few_children i (choice_of i t) c.in-Ok-Split.kind c.nodes-nodes.ensures.instance (task_choice i t c.nodes-nodes.ensures.instance own) split.branch.is_open)
 
 pub open_all-requires : goal.open_all-requires
@@ -34,7 +34,7 @@ open_all-requires c =
     let split : IsSplit i t c.limit-goal.result c.in-Ok-Split.kind c.in-Ok-Split.tasks.items = subst (IsWorked i t c.limit-goal.result) c.in-Ok-Split.field-0-is c.in-Ok-Split.ensures.worked in
     let front = c.pop.new.self.items in
     let popped : c.args.self.now.tasks.items ≡ front ++ t ∷ [] = sym c.make_room.ensures.tasks ∙ (search rules) in
-    let own : IsTask i t = All-contains (IsTask i) (front ++ t ∷ []) t (subst (All (IsTask i)) popped c.requires.open_tasks) (last_there front t) in
+    let own : IsTask i t = All-contains (IsTask i) (front ++ t ∷ []) t (subst (All (IsTask i)) popped c.requires.searching.open_tasks) (last_there front t) in
     let few = few_children i (choice_of i t) c.in-Ok-Split.kind c.nodes-nodes.ensures.instance (task_choice i t c.nodes-nodes.ensures.instance own) split.branch.is_open in
     let room : vec_len s.tasks + MOST_NODES ≤ vec_capacity s.tasks = search rules in
     omega (arith, room, few, split.branch.just, c.in-Ok-Split.tasks.ok.0, c.pop.ensures.capacity, c.pop.ensures.len)
@@ -43,7 +43,7 @@ pub returns-in-Ok-Split-clause-searching : goal.returns-in-Ok-Split-clause-searc
 returns-in-Ok-Split-clause-searching c =
     let i = c.args.instance.now in
     let s = c.make_room.new.self in
-    let start : IsSearching i s.pieces.items s.tasks.items s.best = rw c.make_room.ensures.pieces (rw c.make_room.ensures.tasks (rw c.make_room.ensures.best c.requires)) in
+    let start : IsSearching i s.pieces.items s.tasks.items s.best = rw c.make_room.ensures.pieces (rw c.make_room.ensures.tasks (rw c.make_room.ensures.best c.requires.searching)) in
     let t = c.in-Some.task in
     let kind = c.in-Ok-Split.kind in
     let kids = c.in-Ok-Split.tasks.items in
@@ -67,7 +67,7 @@ pub returns-in-Ok-Closed-clause-searching : goal.returns-in-Ok-Closed-clause-sea
 returns-in-Ok-Closed-clause-searching c =
     let i = c.args.instance.now in
     let s = c.make_room.new.self in
-    let start : IsSearching i s.pieces.items s.tasks.items s.best = rw c.make_room.ensures.pieces (rw c.make_room.ensures.tasks (rw c.make_room.ensures.best c.requires)) in
+    let start : IsSearching i s.pieces.items s.tasks.items s.best = rw c.make_room.ensures.pieces (rw c.make_room.ensures.tasks (rw c.make_room.ensures.best c.requires.searching)) in
     let t = c.in-Some.task in
     let front = c.pop.new.self.items in
     let leaf = c.in-Ok-Closed.leaf in
@@ -86,7 +86,7 @@ pub returns-in-Ok-Found-clause-searching : goal.returns-in-Ok-Found-clause-searc
 returns-in-Ok-Found-clause-searching c =
     let i = c.args.instance.now in
     let s = c.make_room.new.self in
-    let start : IsSearching i s.pieces.items s.tasks.items s.best = rw c.make_room.ensures.pieces (rw c.make_room.ensures.tasks (rw c.make_room.ensures.best c.requires)) in
+    let start : IsSearching i s.pieces.items s.tasks.items s.best = rw c.make_room.ensures.pieces (rw c.make_room.ensures.tasks (rw c.make_room.ensures.best c.requires.searching)) in
     let t = c.in-Some.task in
     let front = c.pop.new.self.items in
     let leaf = c.in-Ok-Found.leaf in

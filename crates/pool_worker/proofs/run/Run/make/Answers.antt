@@ -27,7 +27,7 @@ returns-then-is_err-clause-back g c = (
     same = record { number = refl; own = refl; deques = refl; out = refl };
     takes = refl;
     pushes = refl;
-    pieces = c.reserve.ensures.items;
+    pieces = c.make_room.ensures.same;
     follows = looked c.args.self.now.watch c.look-goal.new.watch c.look-goal.result c.look-goal.ensures.same c.look-goal.ensures.seen c.look-goal.ensures.offers;
     best = record { offered = c.look-goal.ensures.offers; best = refl };
   },
@@ -40,7 +40,7 @@ returns-in_default-clause-back g c = (
     same = record { number = refl; own = refl; deques = refl; out = refl };
     takes = refl;
     pushes = refl;
-    pieces = c.reserve.ensures.items;
+    pieces = c.make_room.ensures.same;
     follows = looked c.args.self.now.watch c.look-goal.new.watch c.look-goal.result c.look-goal.ensures.same c.look-goal.ensures.seen c.look-goal.ensures.offers;
     best = record { offered = c.look-goal.ensures.offers; best = refl };
   },
@@ -60,7 +60,7 @@ returns-in-Ok-Split-clause-made g c =
       takes = c.push_all-left.ensures.taken;
       pushes = c.push_all-left.ensures.pushed ∙ ap (λ (l : List Task). pushed c.args.self.now.hand ++ l) all;
       more = c.push_all-left.ensures.more;
-      pieces = c.reserve.ensures.items;
+      pieces = c.make_room.ensures.same;
       right = record { of = c.requires.task; name = search rules; right = branch_right i t c.look-goal.result c.in-Ok-Split.kind kids split c.in-Ok.name c.new.result made };
       left = subst (λ (j : Instance). All (IsTask j) c.push_all-left.result.items) (sym c.requires.of) c.push_all-left.ensures.left;
       follows = looked c.args.self.now.watch c.look-goal.new.watch c.look-goal.result c.look-goal.ensures.same c.look-goal.ensures.seen c.look-goal.ensures.offers;
@@ -82,7 +82,7 @@ returns-in-Ok-Closed-clause-made g c =
       takes = refl;
       pushes = ap (λ (l : List Task). pushed c.args.self.now.hand ++ l) c.new-in-Ok-Closed.ensures.items;
       more = omega arith;
-      pieces = c.reserve.ensures.items;
+      pieces = c.make_room.ensures.same;
       right = record { of = c.requires.task; name = search rules; right = closed.closes };
       left = subst (All (IsTask i)) (sym c.new-in-Ok-Closed.ensures.items) (All-nil (IsTask i));
       follows = looked old new c.look-goal.result c.look-goal.ensures.same c.look-goal.ensures.seen c.look-goal.ensures.offers;
@@ -109,7 +109,7 @@ returns-in-Ok-Found-clause-made g c =
       takes = refl;
       pushes = ap (λ (l : List Task). pushed c.args.self.now.hand ++ l) c.new-in-Ok-Found.ensures.items;
       more = omega arith;
-      pieces = c.reserve.ensures.items;
+      pieces = c.make_room.ensures.same;
       right = record { of = c.requires.task; name = search rules; right = find.closes };
       left = subst (All (IsTask i)) (sym c.new-in-Ok-Found.ensures.items) (All-nil (IsTask i));
       follows = follows_still old mid new looks offers_one;

@@ -22,7 +22,7 @@ returns-else-is_empty-clause-goes_on g c = λ hand watch run.
     let made = c.in-Ok.ensures.made in
     let pieces = c.push_reserved.ensures.items ∙ ap (λ (l : List Piece). l ++ c.in-Ok.piece ∷ []) made.pieces in
     let turn : Turn = record { task = c.in-Some.task; piece = c.in-Ok.piece } in
-    let mid : Run g.row.J.Denot = record { hand = c.take.new.self; watch = old.watch; pieces = old.pieces; best = old.best } in
+    let mid : Run g.row.J.Denot = record { hand = c.take.new.self; watch = old.watch; pieces = old.pieces; room = old.room; workers = old.workers; best = old.best } in
     let account = account_works i hand old.hand c.take.new.self c.make.new.self.hand old.pieces.items turn (Children c.in-Ok.left) refl c.in-Some.ensures.some c.in-Some.ensures.pushed made.takes made.pushes made.more made.right made.left run.account in
     record {
       same = same_hand_still hand old.hand _ run.same (same_hand_still old.hand c.take.new.self c.make.new.self.hand c.in-Some.ensures.same made.same);
@@ -39,7 +39,7 @@ returns-then-is_empty-clause-goes_on g c = λ hand watch run.
     let made = c.in-Ok.ensures.made in
     let pieces = c.push_reserved.ensures.items ∙ ap (λ (l : List Piece). l ++ c.in-Ok.piece ∷ []) made.pieces in
     let turn : Turn = record { task = c.in-Some.task; piece = c.in-Ok.piece } in
-    let mid : Run g.row.J.Denot = record { hand = c.take.new.self; watch = old.watch; pieces = old.pieces; best = old.best } in
+    let mid : Run g.row.J.Denot = record { hand = c.take.new.self; watch = old.watch; pieces = old.pieces; room = old.room; workers = old.workers; best = old.best } in
     let none : c.in-Ok.left.items ≡ [] = nil_of_length c.in-Ok.left.items (search rules) in
     let pushes : pushed c.make.new.self.hand ++ [] ≡ pushed c.take.new.self ++ born i turn = ap (λ (l : List Task). pushed c.make.new.self.hand ++ l) (sym none) ∙ made.pushes in
     let account = account_works i hand old.hand c.take.new.self c.make.new.self.hand old.pieces.items turn Nothing refl c.in-Some.ensures.some c.in-Some.ensures.pushed made.takes pushes made.more made.right (All-nil (IsTask i)) run.account in
@@ -56,7 +56,7 @@ returns-in-Err-clause-goes_on g c = λ hand watch run.
     let i = c.args.instance.now in
     let old = c.args.self.now in
     let back = c.in-Err.ensures.back in
-    let mid : Run g.row.J.Denot = record { hand = c.take.new.self; watch = old.watch; pieces = old.pieces; best = old.best } in
+    let mid : Run g.row.J.Denot = record { hand = c.take.new.self; watch = old.watch; pieces = old.pieces; room = old.room; workers = old.workers; best = old.best } in
     let is : IsTask i c.in-Some.task = subst (λ (j : Instance). IsTask j c.in-Some.task) (sym c.requires.of) c.in-Some.ensures.task in
     let one = account_takes i hand old.hand c.make.new.self.hand old.pieces.items c.in-Some.task (first_same _ _ _ back.1.takes c.in-Some.ensures.some) (back.1.pushes ∙ c.in-Some.ensures.pushed) is run.account in
     let same : HasAccount i hand c.make.new.self.hand old.pieces.items (One c.in-Err.task) = subst (λ (t : Task). HasAccount i hand c.make.new.self.hand old.pieces.items (One t)) (sym back.0) one in
