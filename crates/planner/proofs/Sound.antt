@@ -1,6 +1,8 @@
--- Pieces that have the names of a tree and no low leaf have no fault.
+-- Pieces that have the names of a tree and no low leaf have no fault, and are answered once they are sorted.
 use Rattle.std.proofs.Common.{◌≡◌, ℕ, List, [], Result, Ok, Err, IfOk, IfErr, arith, ap, refl}
+use Rattle.std.specs.List.Sorted.{IsPermutation}
 use Rattle.std.proofs.lemmas.List.Elements.{All-contains}
+use Rattle.std.proofs.lemmas.List.Sorted.{All-permutation}
 use Rattle.branch_tree.specs.declared.piece.Piece.{Piece}
 use Rattle.branch_tree.specs.Account.{IsWholeTree}
 use Rattle.planner.specs.declared.fault.GatherFault.{GatherFault}
@@ -8,8 +10,11 @@ use Rattle.planner.specs.declared.fault.GatherFault.TheVariants.{DoubledName, Mi
 use Rattle.certificate.specs.Trees.{Trees}
 use Rattle.certificate.specs.Cert.{Cert}
 use Rattle.planner.specs.Trees.{IsTreeOf}
-use Rattle.planner.specs.Gathering.{HasGoal, HasTreeNames, HaveGoals, IsFirstGatherFault, IsGathered}
-use Rattle.planner.proofs.Gathered.{tree_has_names, tree_is_one}
+use Rattle.planner.specs.Gathering.{AreShallow, HasGoal, HasTreeNames, HaveGoals, IsFirstGatherFault, IsGathered}
+use Rattle.planner.specs.Order.{IsSorted}
+use Rattle.planner.proofs.Counting.{tree_names_move}
+use Rattle.planner.proofs.Finding.{doubled_before, rises_when_other}
+use Rattle.planner.proofs.Gathered.{IsAnswered, gathered, tree_has_names, tree_is_one}
 use Rattle.planner.proofs.Whole.{whole_tree_names}
 
 pub no_fault : (low : ℕ) (pieces : List Piece) (fault : GatherFault) → HasTreeNames pieces → HaveGoals low pieces → IsFirstGatherFault low pieces fault → fault ≡ OutOfMemory
@@ -29,3 +34,12 @@ pub only_answer : (low : ℕ) (pieces : List Piece) (r : Result Cert GatherFault
     → (r ≡ Err OutOfMemory → ⊥) → r ≡ Ok (record { low = low; tree = tree })
 only_answer low pieces (Ok cert) ok err tree is goals memory = ap Ok (same_cert cert low tree ok.bound (tree_is_one pieces cert.tree tree ok.tree is))
 only_answer low pieces (Err fault) ok err tree is goals memory = absurd (memory (ap Err (no_fault low pieces fault (tree_has_names pieces tree is) goals err)))
+
+pub gathered_whole : (low : ℕ) (pieces sorted : List Piece) → AreShallow pieces → HasTreeNames pieces → HaveGoals low pieces → IsPermutation pieces sorted → IsSorted sorted
+    → IsAnswered low pieces sorted
+gathered_whole low pieces sorted shallow names goals same order =
+    let moved = tree_names_move pieces sorted same names in
+    let up = rises_when_other sorted order
+    (λ k first lt twin. let twice = doubled_before sorted k first lt twin in omega (arith, twice.twice, moved.once twice.name)) in
+    gathered low pieces sorted shallow same up moved.complete moved.own
+    (All-permutation (λ (p : Piece). HasGoal low p.node) pieces sorted same goals)

@@ -4,7 +4,7 @@ ghost use Rattle.std.specs.Prelude.{◌≡◌, ◌≢◌, ◌↔◌, IsTrue, IfO
 ghost use Rattle.certificate.specs.Trees.{Trees, IsTree, trees_of};
 ghost use Rattle.planner.specs.declared.fault.GatherFault.TheVariants.{OutOfMemory};
 ghost use Rattle.planner.specs.Trees.{IsTreeOf};
-ghost use Rattle.planner.specs.Gathering.{AreShallow, HasGoal, HasLowLeaf, HaveGoals, IsFirstGatherFault, IsGathered};
+ghost use Rattle.planner.specs.Gathering.{AreShallow, HasGoal, HasLowLeaf, HasTreeNames, HaveGoals, IsFirstGatherFault, IsGathered};
 ghost use Rattle.planner.specs.Order.{IsSorted, IsSound};
 
 use crate::fault::GatherFault;
@@ -97,27 +97,26 @@ pub fn gather(alloc: Global, pieces: Vec<Piece>, low: u32) -> Result<Cert, Gathe
     ensures only { (tree : Trees) → IsTreeOf pieces.items tree → HaveGoals low pieces.items
         → result ≢ Err OutOfMemory → result ≡ Ok (record { low = low; tree = tree }) }
 {
-    gather_into(alloc, Vec::new(alloc), pieces, low)
-}
-
-/// The same with a list whose room the certificate's nodes take, where it is enough; what is in it goes.
-pub fn gather_into(
-    alloc: Global,
-    room: Vec<Node>,
-    pieces: Vec<Piece>,
-    low: u32,
-) -> Result<Cert, GatherFault>
-    requires { AreShallow pieces.items }
-    ensures ok { IfOk result (λ cert. IsGathered low pieces.items cert) }
-    ensures err { IfErr result (IsFirstGatherFault low pieces.items) }
-    // The certificate of a tree without low leaves, unless memory is refused.
-    ensures only { (tree : Trees) → IsTreeOf pieces.items tree → HaveGoals low pieces.items
-        → result ≢ Err OutOfMemory → result ≡ Ok (record { low = low; tree = tree }) }
-{
     let mut pieces = pieces;
     sort_by_name(&mut pieces);
     match judge(alloc, pieces.as_slice(), low) {
-        Ok(()) => certified(room, pieces, low),
+        Ok(()) => certified(Vec::new(alloc), pieces, low),
         Err(fault) => Err(fault),
     }
+}
+
+/// The certificate of this bound of pieces that are known to be a whole tree, with no leaf's goal below the bound, so that
+/// nothing of it is looked for again. Its nodes take the room of a list, where that is enough; what is in the list goes.
+///
+/// Sorts the pieces, and takes no memory but for the nodes.
+pub fn gather_whole(room: Vec<Node>, pieces: Vec<Piece>, low: u32) -> Result<Cert, GatherFault>
+    requires shallow { AreShallow pieces.items }
+    requires names { HasTreeNames pieces.items }
+    requires goals { HaveGoals low pieces.items }
+    ensures ok { IfOk result (IsGathered low pieces.items) }
+    ensures err { IfErr result (λ fault. fault ≡ OutOfMemory) }
+{
+    let mut pieces = pieces;
+    sort_by_name(&mut pieces);
+    certified(room, pieces, low)
 }

@@ -1,9 +1,8 @@
 //! The shortest plan of an instance, or how short it can be at best.
 
-ghost use Rattle.std.specs.Prelude.{◌≡◌, ◌≢◌, ◌≤◌, ◌+◌, ◌++◌, ℕ, IfOk, IfErr, IfSome, length, []};
+ghost use Rattle.std.specs.Prelude.{◌≡◌, ◌≤◌, ◌+◌, ◌++◌, ℕ, IfOk, IfErr, IfSome, length, []};
 ghost use Rattle.ttp_model.specs.Instance.{Instance};
 ghost use Rattle.branch_tree.specs.Account.{IsWholeTree};
-ghost use Rattle.planner.specs.declared.fault.GatherFault.TheVariants.{OutOfMemory};
 ghost use Rattle.planner.specs.declared.outcome.SolveFault.TheVariants as fault;
 ghost use Rattle.planner.specs.Answers.{IsOutcome, IsRefusal, Shows, limit_of};
 ghost use Rattle.planner.specs.Gathering.{AreShallow, HaveGoals, IsGathered};
@@ -12,8 +11,7 @@ ghost use Rattle.planner.specs.Searching.{IsSearching};
 
 use crate::closing::close_all;
 use crate::collecting::searched;
-use crate::fault::GatherFault;
-use crate::gathering::gather_into;
+use crate::gathering::gather_whole;
 use crate::joining::joined;
 use crate::outcome::{Options, Outcome, SolveFault, Why};
 use crate::reserve::Reserve;
@@ -56,34 +54,17 @@ fn all_of(pieces: Vec<Piece>, others: Vec<Piece>) -> Result<Vec<Piece>, MemoryFa
     Ok(all)
 }
 
-/// Why there is no answer, where pieces give no certificate.
-fn fault_of(cause: GatherFault) -> SolveFault
-    ensures memory { cause ≡ OutOfMemory → result ≡ fault.Memory }
-    ensures other { cause ≢ OutOfMemory → result ≡ fault.Gather cause }
-{
-    match cause {
-        GatherFault::OutOfMemory => SolveFault::Memory,
-        cause => SolveFault::Gather(cause),
-    }
-}
-
-/// The certificate of a whole tree, in a list that may have room for its nodes. Of such pieces no fault is told but a want of
-/// memory.
-fn certified(
-    alloc: Global,
-    room: Vec<Node>,
-    pieces: Vec<Piece>,
-    low: u32,
-) -> Result<Cert, SolveFault>
+/// The certificate of a whole tree, in a list that may have room for its nodes.
+fn certified(room: Vec<Node>, pieces: Vec<Piece>, low: u32) -> Result<Cert, SolveFault>
     requires shallow { AreShallow pieces.items }
     requires whole { IsWholeTree pieces.items [] }
     requires goals { HaveGoals low pieces.items }
     ensures ok { IfOk result (IsGathered low pieces.items) }
     ensures err { IfErr result (λ e. e ≡ fault.Memory) }
 {
-    match gather_into(alloc, room, pieces, low) {
+    match gather_whole(room, pieces, low) {
         Ok(cert) => Ok(cert),
-        Err(cause) => Err(fault_of(cause)),
+        Err(_) => Err(SolveFault::Memory),
     }
 }
 
@@ -130,7 +111,7 @@ fn concluded(
     let limit = limit(instance, &best);
     let (closed, low) = close_all(alloc, instance, tasks, limit)?;
     let pieces = all_of(worked, closed)?;
-    let cert = certified(alloc, room, pieces, low)?;
+    let cert = certified(room, pieces, low)?;
     Ok(answer(why, best, limit, low, cert))
 }
 

@@ -1,6 +1,5 @@
-use Rattle.planner.proofs.Sound.{whole_trees_are_sound}
+use Rattle.planner.proofs.Whole.{whole_tree_names}
 use Rattle.planner.proofs.solving.certified.Goals as goal
 
-pub returns-in-Err-clause-err : goal.returns-in-Err-clause-err
-returns-in-Err-clause-err c =
-    c.fault_of.ensures.memory (whole_trees_are_sound c.args.pieces.items c.args.low c.in-Err.cause c.requires.whole c.requires.goals c.in-Err.ensures.err)
+pub gather_whole-requires-clause-names : goal.gather_whole-requires-clause-names
+gather_whole-requires-clause-names c = whole_tree_names c.args.pieces.items c.requires.whole

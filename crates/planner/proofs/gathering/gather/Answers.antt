@@ -7,7 +7,7 @@ use Rattle.planner.specs.Order.{IsSound}
 use Rattle.planner.proofs.Gathered.{gathered}
 use Rattle.planner.proofs.Moved.{first_fault_moves}
 use Rattle.planner.proofs.Sound.{only_answer}
-use Rattle.planner.proofs.gathering.gather_into.Goals as goal
+use Rattle.planner.proofs.gathering.gather.Goals as goal
 
 pub certified-requires : goal.certified-requires
 certified-requires c =
