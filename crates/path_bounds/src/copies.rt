@@ -1,40 +1,46 @@
 //! Steps in memory of their own.
 
-ghost use Rattle.std.specs.Prelude.{◌≡◌, IfOk};
+ghost use Rattle.std.specs.Prelude.{◌≡◌, ◌++◌, ◌∷◌, [], IfOk, OnOk, OnErr};
 
 use std::alloc::Global;
 use ttp_model::{MemoryFault, Ring, Step};
 
-/// The same step in memory of its own. Takes memory for the processes of a cycle alone.
-pub fn copied(alloc: Global, step: &Step) -> Result<Step, MemoryFault>
-    ensures { IfOk result (λ copy. copy ≡ step.now) }
+/// Appends the same step in memory of its own, which is taken for its place and for the processes of a cycle. Nothing is
+/// appended where it is refused.
+pub fn push_copy(alloc: Global, steps: &mut Vec<Step>, step: &Step) -> Result<(), MemoryFault>
+    ensures ok { OnOk result (steps.new.items ≡ steps.old.items ++ step.now ∷ []) }
+    ensures err { OnErr result (steps.new.items ≡ steps.old.items) }
 {
-    let copy = match step {
-        Step::EsRelease(p) => Step::EsRelease(*p),
-        Step::EsLink(l) => Step::EsLink(*l),
-        Step::EsBefore(p, q) => Step::EsBefore(*p, *q),
-        Step::EsArrive(m, q) => Step::EsArrive(*m, *q),
-        Step::EsMessage(m, q) => Step::EsMessage(*m, *q),
-        Step::LoSend(m) => Step::LoSend(*m),
-        Step::LeOwn(p) => Step::LeOwn(*p),
-        Step::LeLink(l) => Step::LeLink(*l),
-        Step::LeBefore(p, q) => Step::LeBefore(*p, *q),
-        Step::LeMessage(m, q) => Step::LeMessage(*m, *q),
-        Step::LeSend(m) => Step::LeSend(*m),
-        Step::HiArrive(m, q) => Step::HiArrive(*m, *q),
-        Step::OrdWindow(p, q) => Step::OrdWindow(*p, *q),
-        Step::OrdTwin(p, q) => Step::OrdTwin(*p, *q),
-        Step::UsSettled(p) => Step::UsSettled(*p),
-        Step::XWindow(p) => Step::XWindow(*p),
-        Step::XRound(m) => Step::XRound(*m),
-        Step::XCycle(ring) => Step::XCycle(Ring::new(Vec::from_slice(alloc, ring.as_slice())?)),
-        Step::XLoad(n, a, b) => Step::XLoad(*n, *a, *b),
-        Step::XFrame(m) => Step::XFrame(*m),
-        Step::XFrames(n, a, b) => Step::XFrames(*n, *a, *b),
-        Step::XLate(m, r) => Step::XLate(*m, *r),
-        Step::XSilent(u, v) => Step::XSilent(*u, *v),
-    };
-    Ok(copy)
+    steps.try_reserve(1)?;
+    match step {
+        Step::EsRelease(p) => steps.push_reserved(Step::EsRelease(*p)),
+        Step::EsLink(l) => steps.push_reserved(Step::EsLink(*l)),
+        Step::EsBefore(p, q) => steps.push_reserved(Step::EsBefore(*p, *q)),
+        Step::EsArrive(m, q) => steps.push_reserved(Step::EsArrive(*m, *q)),
+        Step::EsMessage(m, q) => steps.push_reserved(Step::EsMessage(*m, *q)),
+        Step::LoSend(m) => steps.push_reserved(Step::LoSend(*m)),
+        Step::LeOwn(p) => steps.push_reserved(Step::LeOwn(*p)),
+        Step::LeLink(l) => steps.push_reserved(Step::LeLink(*l)),
+        Step::LeBefore(p, q) => steps.push_reserved(Step::LeBefore(*p, *q)),
+        Step::LeMessage(m, q) => steps.push_reserved(Step::LeMessage(*m, *q)),
+        Step::LeSend(m) => steps.push_reserved(Step::LeSend(*m)),
+        Step::HiArrive(m, q) => steps.push_reserved(Step::HiArrive(*m, *q)),
+        Step::OrdWindow(p, q) => steps.push_reserved(Step::OrdWindow(*p, *q)),
+        Step::OrdTwin(p, q) => steps.push_reserved(Step::OrdTwin(*p, *q)),
+        Step::UsSettled(p) => steps.push_reserved(Step::UsSettled(*p)),
+        Step::XWindow(p) => steps.push_reserved(Step::XWindow(*p)),
+        Step::XRound(m) => steps.push_reserved(Step::XRound(*m)),
+        Step::XCycle(ring) => {
+            let ring = Ring::new(Vec::from_slice(alloc, ring.as_slice())?);
+            steps.push_reserved(Step::XCycle(ring));
+        }
+        Step::XLoad(n, a, b) => steps.push_reserved(Step::XLoad(*n, *a, *b)),
+        Step::XFrame(m) => steps.push_reserved(Step::XFrame(*m)),
+        Step::XFrames(n, a, b) => steps.push_reserved(Step::XFrames(*n, *a, *b)),
+        Step::XLate(m, r) => steps.push_reserved(Step::XLate(*m, *r)),
+        Step::XSilent(u, v) => steps.push_reserved(Step::XSilent(*u, *v)),
+    }
+    Ok(())
 }
 
 /// The same steps in memory of their own.
@@ -43,7 +49,7 @@ pub fn all_copied(alloc: Global, steps: &[Step]) -> Result<Vec<Step>, MemoryFaul
 {
     let mut copies = Vec::with_capacity(alloc, steps.len())?;
     for step in steps {
-        copies.push(copied(alloc, step)?)?;
+        push_copy(alloc, &mut copies, step)?;
     }
     Ok(copies)
 }

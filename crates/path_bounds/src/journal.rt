@@ -7,7 +7,7 @@ ghost use Rattle.tt_infer.specs.Known.{first_facts};
 ghost use Rattle.tt_infer.specs.Facts.{after};
 ghost use Rattle.path_bounds.specs.Journal.{Advances, Sharpens, SharpensNothing, slack_of};
 
-use crate::copies::copied;
+use crate::copies::push_copy;
 use crate::fact::{target, value};
 use std::alloc::Global;
 use std::marker::Model;
@@ -128,6 +128,23 @@ impl<'a> Journal<'a> {
         Ok(false)
     }
 
+    /// The same with a step of another log, of which a copy is appended.
+    #[tactic(auto, using(crate::proofs::Logs::advances_refl, crate::proofs::Logs::advances_step))]
+    pub fn try_again(&mut self, alloc: Global, step: &Step) -> Result<bool, MemoryFault>
+        ensures advances { Advances self.old self.new }
+        ensures sharper { IfOk result (λ sharper.
+            IsTrue sharper → slack_of self.new.facts < slack_of self.old.facts) }
+        ensures same { IfOk result (λ sharper. IsFalse sharper → self.new ≡ self.old) }
+        ensures idle { IfOk result (λ sharper. IsFalse sharper → SharpensNothing self.old.facts step.now) }
+    {
+        push_copy(alloc, &mut self.steps, step)?;
+        if sharpens(&mut self.facts, step) {
+            return Ok(true);
+        }
+        let _copy = self.steps.pop();
+        Ok(false)
+    }
+
     /// Tries each of these steps once. Whether one sharpened what is known.
     #[tactic(auto, using(crate::proofs::Logs::advances_refl, crate::proofs::Logs::advances_trans))]
     pub fn sweep(&mut self, alloc: Global, steps: &[Step]) -> Result<bool, MemoryFault>
@@ -140,8 +157,7 @@ impl<'a> Journal<'a> {
     {
         let mut sharper = false;
         for step in steps {
-            let copy = copied(alloc, step)?;
-            let sharpens = self.try_step(copy)?;
+            let sharpens = self.try_again(alloc, step)?;
             if sharpens {
                 sharper = true;
             }

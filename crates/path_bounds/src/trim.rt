@@ -5,7 +5,7 @@ ghost use Rattle.tt_choice.specs.Choice.{IsChoice};
 ghost use Rattle.tt_infer.specs.Leaves.{ClosesLeaf};
 ghost use Rattle.path_bounds.specs.Journal.{Advances};
 
-use crate::copies::{all_copied, copied};
+use crate::copies::all_copied;
 use crate::fact::{Fact, target};
 use crate::fact_set::FactSet;
 use crate::journal::Journal;
@@ -113,8 +113,7 @@ fn try_marked(
 {
     'tries: for (k, step) in steps.iter().enumerate() {
         if marks.get(k) == Some(&true) {
-            let copy = copied(alloc, step)?;
-            journal.try_step(copy)?;
+            journal.try_again(alloc, step)?;
         }
     }
     Ok(())

@@ -1,15 +1,15 @@
 use Rattle.path_bounds.proofs.Logs.{advances_refl, advances_trans}
 use Rattle.path_bounds.proofs.trim.try_marked.Goals as goal
-use Rattle.path_bounds.proofs.trim.try_marked.Goals.{then-eq+in_ok-copy+in_ok-try_step, else-eq}
+use Rattle.path_bounds.proofs.trim.try_marked.Goals.{then-eq+in_ok-try_again, else-eq}
 
 pub tries-init : goal.tries-init
 tries-init c = advances_refl _
 
-pub returns-in_err-try_step : goal.returns-in_err-try_step
-returns-in_err-try_step c = advances_trans _ _ _ c.tries.invariant c.try_step.ensures.advances
+pub returns-in_err-try_again : goal.returns-in_err-try_again
+returns-in_err-try_again c = advances_trans _ _ _ c.tries.invariant c.try_again.ensures.advances
 
 pub tries-preserved : goal.tries-preserved
 tries-preserved c = elim c.if-eq.branch [
-  | then-eq+in_ok-copy+in_ok-try_step w ↦ rw w.journal-is (advances_trans _ _ _ c.tries.invariant w.try_step.ensures.advances)
+  | then-eq+in_ok-try_again w ↦ rw w.journal-is (advances_trans _ _ _ c.tries.invariant w.try_again.ensures.advances)
   | else-eq w ↦ rw w.journal-is c.tries.invariant
 ]
