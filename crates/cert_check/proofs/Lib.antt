@@ -1,5 +1,10 @@
+pub mod Bare
 pub mod Bounds
-pub mod Walks
+pub mod Turns
+pub mod Trees
+pub mod Seen
+pub mod Nodes
+pub mod NextNodes
 pub mod LeafSteps
-pub mod NodeSteps
 pub mod NoFaults
+pub mod Streams

@@ -20,7 +20,7 @@ use Rattle.cert_check.specs.declared.fault.CertFault.{CertFault}
 use Rattle.cert_check.specs.declared.fault.CertFault.TheVariants.{LowTooGreat, At, OutOfMemory}
 use Rattle.cert_check.specs.Proofs.{choices_below, ClosesFrom, Suits, AreProofs, Proves}
 use Rattle.cert_check.specs.Faults.{IsBranchFault, IsLeafFault, IsNodeFault, IsFirstTreeFault}
-use Rattle.cert_check.specs.Walks.{TellsFirst}
+use Rattle.cert_check.specs.Seen.{TellsFirst}
 
 -- nothing is wrong with a branch that is open and has just its children,
 no_branch_fault : (i : Instance) (c : Choice) (branch : Branch) (fault : NodeFault) → IsBranch i c branch.kind branch.children → ¬ IsBranchFault i c branch fault
@@ -62,7 +62,7 @@ no_first_fault i low (c ∷ cs) (grow node below beside) line at fault are is = 
 ]
 
 -- only want of memory is told of a certificate that proves its bound
-pub only_memory : (i : Instance) (cert : Cert) (fault : CertFault) → Proves i cert → TellsFirst i cert fault → fault ≡ OutOfMemory
+pub only_memory : (i : Instance) (cert : Cert) (fault : CertFault) → Proves i cert → TellsFirst i cert.low cert.tree fault → fault ≡ OutOfMemory
 only_memory i cert LowTooGreat proves tells = absurd tells
 only_memory i cert (At at fault) proves tells = absurd (no_first_fault i cert.low (root_choice i ∷ []) cert.tree 3 tells.0 fault proves.tree tells.2)
 only_memory i cert OutOfMemory proves tells = refl

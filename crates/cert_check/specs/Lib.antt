@@ -1,6 +1,9 @@
 pub mod Proofs
 pub mod Faults
-pub mod Walks
+pub mod Streams
+pub mod Turns
+pub mod Seen
+pub mod Going
 pub use Rattle.ttp_model.specs.Delays
 pub use Rattle.tt_infer.specs.Leaves
 pub use Rattle.certificate.specs.Cert

@@ -4,7 +4,7 @@ ghost use Rattle.std.specs.Prelude.{◌≤◌, IfErr, OnOk};
 ghost use Rattle.certificate.specs.declared.node.Node.TheVariants as node;
 ghost use Rattle.tt_choice.specs.Choice.{IsChoice};
 ghost use Rattle.tt_infer.specs.Leaves.{ClosesLeaf};
-ghost use Rattle.cert_check.specs.Walks.{TellsNode};
+ghost use Rattle.cert_check.specs.Seen.{TellsNode};
 
 use crate::fault::{CertFault, NodeFault};
 use std::alloc::Global;

@@ -1,86 +1,121 @@
-//! Does a certificate prove its bound?
+//! How does one choice go through a tree?
 
-ghost use Rattle.std.specs.Prelude.{◌≡◌, ◌≢◌, ◌+◌, ◌++◌, ◌∷◌, [], IfErr, IfOk, OnOk, Ok, Err, reverse};
-ghost use Rattle.ttp_model.specs.Delays.{HasNoPlan, IsLowerBound};
-ghost use Rattle.tt_choice.specs.Branches.{root_choice};
-ghost use Rattle.cert_check.specs.declared.fault.CertFault.TheVariants.{OutOfMemory};
-ghost use Rattle.cert_check.specs.Proofs.{AreProofs, Proves};
-ghost use Rattle.cert_check.specs.Faults.{IsJudged};
-ghost use Rattle.cert_check.specs.Walks.{TellsFirst};
+ghost use Rattle.std.specs.Prelude.{◌≡◌, ◌<◌, ◌++◌, ◌∷◌, ◌⊎◌, [], List, length, reverse, IfErr, IfNone, IfOk, IfSome, OnOk};
+ghost use Rattle.ttp_model.specs.Instance.{Instance};
+ghost use Rattle.tt_choice.specs.Choice.{Choice, bare};
+ghost use Rattle.tt_choice.specs.Branches.{IsBranch, child_choices, root_choice};
+ghost use Rattle.cert_check.specs.declared.walk.Turn.TheVariants as turn;
+ghost use Rattle.cert_check.specs.Turns.{IsWalk, TurnsNext, turns_to};
+ghost use Rattle.cert_check.specs.Seen.{TellsBranch};
 
-use crate::fault::CertFault;
-use crate::judge::judge;
-use certificate::Cert;
+use crate::fault::{CertFault, NodeFault};
+use certificate::Branch;
 use std::alloc::Global;
-use tt_choice::Choice;
+use tt_choice::{Choice, Decision};
 use ttp_model::{Instance, MemoryFault};
 
-/// The bound of a certificate that proves it, in ticks: no plan of the instance has a smaller delay,
-/// whoever made the certificate, and none is valid where the bound is past the horizon. Else the
-/// first fault: a bound that is too great, then what is first wrong in the tree, each node in front
-/// of those below it.
-///
-/// Takes memory for the choices that are open at one time and for the facts of one leaf. A pass over
-/// the nodes, a copy of a choice for each child of a branch, and each step once.
-pub fn check(alloc: Global, instance: &Instance, cert: &Cert) -> Result<u32, CertFault>
-    ensures answer { IsJudged instance.now cert.now result }
-    ensures only { Proves instance.now cert.now → result ≢ Err OutOfMemory → result ≡ Ok cert.now.low }
-    ensures bound { IfOk result (λ low. IsLowerBound instance.now low) }
-    ensures none { IfOk result
-        (λ low. low ≡ instance.now.cluster.horizon + 1 → HasNoPlan instance.now) }
-{
-    if cert.low() > instance.past_horizon() {
-        return Err(CertFault::LowTooGreat);
-    }
-    match go_through(alloc, instance, cert) {
-        Ok(()) => Ok(cert.low()),
-        Err(fault) => Err(fault),
-    }
+/// What leads to the next choice.
+#[derive(Clone, Copy, Debug, PartialEq, Eq)]
+pub enum Turn {
+    /// It is the one that is there.
+    Stay,
+    /// It has this decision more.
+    Down(Decision),
+    /// The last decision is taken back, and the next turn leads on.
+    Up,
 }
 
-/// Goes through the nodes of the tree, with the choices that are still to be proved, the next one
-/// last.
-fn go_through(alloc: Global, instance: &Instance, cert: &Cert) -> Result<(), CertFault>
-    ensures ok { OnOk result
-        (AreProofs instance.now cert.now.low (root_choice instance.now ∷ []) cert.now.tree) }
-    ensures err { IfErr result (TellsFirst instance.now cert.now) }
+/// A choice, and what leads it to those that are still to be proved, the next turn last.
+#[derive(Drop)]
+pub struct Walk {
+    choice: Choice,
+    turns: Vec<Turn>,
+}
+
+/// Puts a way down to each choice that a decision leads to, and up again, in front of the turns.
+fn push_turns(turns: &mut Vec<Turn>, decisions: Vec<Decision>) -> Result<(), MemoryFault>
+    ensures { OnOk result (reverse turns.new.items ≡ turns_to decisions.items ++ reverse turns.old.items) }
 {
-    let _processes = instance.processes();
-    let nodes = cert.nodes();
-    let low = cert.low();
-    let mut pending = all_plans(alloc, instance)?;
-    let mut line = 3u64;
-    for k in 0..nodes.len() {
-        let node = &nodes[k];
-        let choice = match pending.pop() {
-            Some(choice) => choice,
-            None => unreachable!(),
-        };
-        let below = match judge(alloc, instance, low, &choice, node, line) {
-            Ok(below) => below,
-            Err(fault) => return Err(fault),
-        };
-        push_turned(&mut pending, below)?;
-        line = line.saturating_add(node.lines());
+    let mut decisions = decisions;
+    while let Some(decision) = decisions.pop() {
+        turns.push(Turn::Up)?;
+        turns.push(Turn::Down(decision))?;
     }
     Ok(())
 }
 
-/// The choice of all plans, alone.
-fn all_plans(alloc: Global, instance: &Instance) -> Result<Vec<Choice>, MemoryFault>
-    ensures { IfOk result (λ pending. pending.items ≡ root_choice instance.now ∷ []) }
-{
-    let root = Choice::root(alloc, instance)?;
-    Ok(vec![in alloc; root]?)
-}
-
-/// Puts the choices behind the pending ones, the first of them last.
-fn push_turned(pending: &mut Vec<Choice>, below: Vec<Choice>) -> Result<(), MemoryFault>
-    ensures { OnOk result (pending.new.items ≡ pending.old.items ++ reverse below.items) }
-{
-    let mut below = below;
-    while let Some(choice) = below.pop() {
-        pending.push(choice)?;
+impl Walk {
+    /// In front of the choice of all plans.
+    pub fn new(alloc: Global, instance: &Instance) -> Result<Walk, MemoryFault>
+        ensures { IfOk result (λ walk. IsWalk instance.now walk (root_choice instance.now ∷ [])) }
+    {
+        let _processes = instance.processes();
+        let choice = Choice::root(alloc, instance)?;
+        let turns = vec![in alloc; Turn::Stay]?;
+        Ok(Walk { choice, turns })
     }
-    Ok(())
+
+    /// The choice that is there.
+    pub fn choice(&self) -> &Choice
+        ensures { result.now ≡ self.now.choice }
+    {
+        &self.choice
+    }
+
+    /// Takes decisions back until a turn leads to a choice. The decision that it has more, if it is another one.
+    fn go_up(&mut self) -> Option<Decision>
+        requires { (i : Instance) × (left : List Choice) × IsWalk i self.old left }
+        ensures down { IfSome result (λ decision. (i : Instance) (left : List Choice) → IsWalk i self.old left
+            → TurnsNext i self.new (turn.Down decision) left) }
+        ensures stay { IfNone result ((i : Instance) (left : List Choice) → IsWalk i self.old left
+            → TurnsNext i self.new turn.Stay left ⊎ (left ≡ [])) }
+    {
+        'turns: while let Some(turn) = self.turns.pop() {
+            match turn {
+                Turn::Up => self.choice.undo(),
+                Turn::Down(decision) => return Some(decision),
+                Turn::Stay => return None,
+            }
+        }
+        None
+    }
+
+    /// Goes to the next choice.
+    pub fn go_on(&mut self, alloc: Global, instance: &Instance) -> Result<(), MemoryFault>
+        requires { (c : Choice) × (left : List Choice) × IsWalk instance.now self.old (c ∷ left) }
+        ensures { OnOk result ((c : Choice) (left : List Choice) → IsWalk instance.now self.old (c ∷ left)
+            → (bare self.new.choice ≡ c) × IsWalk instance.now self.new left) }
+    {
+        match self.go_up() {
+            Some(decision) => self.choice.decide(alloc, instance, decision),
+            None => Ok(()),
+        }
+    }
+
+    /// Judges a branch of the choice: whether it is open, and then whether it has just its children, which are next.
+    pub fn branch(
+        &mut self,
+        alloc: Global,
+        instance: &Instance,
+        branch: &Branch,
+        line: u64,
+    ) -> Result<(), CertFault>
+        requires { (left : List Choice) × IsWalk instance.now self.old left }
+        ensures suits { OnOk result (IsBranch instance.now (bare self.old.choice) branch.now.kind branch.now.children) }
+        ensures below { OnOk result ((left : List Choice) → IsWalk instance.now self.old left
+            → IsWalk instance.now self.new (child_choices instance.now (bare self.old.choice) branch.now.kind ++ left)) }
+        ensures err { IfErr result (TellsBranch instance.now (bare self.old.choice) branch.now line) }
+    {
+        if !self.choice.is_open(instance, &branch.kind) {
+            let fault = NodeFault::NotOpen;
+            return Err(CertFault::At { line, fault });
+        }
+        let decisions = self.choice.decisions(alloc, instance, &branch.kind)?;
+        if decisions.len() != branch.children as usize {
+            let fault = NodeFault::ChildCount;
+            return Err(CertFault::At { line, fault });
+        }
+        push_turns(&mut self.turns, decisions)?;
+        Ok(())
+    }
 }

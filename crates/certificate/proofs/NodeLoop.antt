@@ -1,15 +1,13 @@
 -- Reading the nodes of a tree one after another, with the open branches on a stack.
-use Rattle.std.proofs.Common.{◌≡◌, ℕ, zero, suc, ◌-◌, ◌+◌, ◌≤◌, ◌<◌, ◌^◌, List, [], ◌∷◌, ◌++◌, length, reverse, Ok, Err, refl, sym, ap, subst, ◌∙◌, append_assoc, arith}
-use Rattle.std.proofs.lemmas.List.{append-nil, reverse-append, length-reverse}
-use Rattle.certificate.specs.declared.fault.CertTextError.{CertTextError}
-use Rattle.certificate.specs.declared.fault.CertTextError.TheVariants.{At, OutOfMemory}
+use Rattle.std.proofs.Common.{◌≡◌, ℕ, zero, suc, ◌+◌, List, [], ◌∷◌, ◌++◌, length, reverse, Ok, Err, refl, sym, ap, subst, ◌∙◌, append_assoc, arith}
+use Rattle.std.proofs.lemmas.List.{append-nil, reverse-append}
 use Rattle.certificate.specs.declared.node.Node.{Node}
-use Rattle.certificate.specs.Lines.{node_lines, lines, total_lines}
+use Rattle.certificate.specs.Lines.{node_lines, lines}
 use Rattle.certificate.specs.Trees.{Trees, none, grow, children, preorder}
-use Rattle.certificate.specs.Reading.{Reading, IsFaultOf, IsFaultIn, text_node, ReadsTrees, ends, wrong_node, wrong_below, wrong_beside, goes_on}
+use Rattle.certificate.specs.Reading.{Reading, text_node, ReadsTrees, ends, wrong_below, wrong_beside, goes_on}
 use Rattle.certificate.specs.Nodes.{ReadsNodes}
 use Rattle.certificate.specs.Opened.{with_front, Then, ReadsLevels}
-use Rattle.certificate.proofs.TreeLists.{lines-grow, total_lines-append}
+use Rattle.certificate.proofs.TreeLists.{lines-grow}
 
 regroup : (front more : List Node) (read : Reading (List Node × List ℕ)) → with_front front (with_front more read) ≡ with_front (front ++ more) read
 regroup front more (Ok x) = ap (λ (ns : List Node). Ok (ns, x.1)) (sym (append_assoc front more x.0))

@@ -4,8 +4,8 @@ use Rattle.std.proofs.lemmas.List.{length-reverse, append-nil}
 use Rattle.line_text.specs.Results.{◌>>=◌}
 use Rattle.certificate.specs.declared.fault.CertTextError.{CertTextError}
 use Rattle.certificate.specs.declared.fault.CertTextError.TheVariants.{At, OutOfMemory}
-use Rattle.certificate.specs.declared.fault.StreamFault.{StreamFault}
-use Rattle.certificate.specs.declared.fault.StreamFault.TheVariants.{Read, TooLong, Text}
+use Rattle.certificate.specs.declared.fault.SourceFault.{SourceFault}
+use Rattle.certificate.specs.declared.fault.SourceFault.TheVariants.{Read, TooLong, Text}
 use Rattle.certificate.specs.declared.node.Node.{Node}
 use Rattle.certificate.specs.declared.node.Node.TheVariants.{Branch, Leaf}
 use Rattle.certificate.specs.Lines.{node_lines, lines, total_lines}
@@ -103,8 +103,8 @@ node_fails Before due mid count line some was fault f =
     (f.0, (f.1.0, (Err fault, (all, refl))))
 
 -- a fault of a part is one of the rest
-pub rest_of_part : {A : Type 0} (e : StreamFault) (Stops Others : StreamFault → Type 0) (Before : List ℕ → Type 0) (at : List ℕ → Reading A) (due : List ℕ) (line : ℕ)
-    → ((x : StreamFault) → Stops x → Others x) → ((fault : CertTextError) → Fails Before at fault → Gives Before due line (Err fault))
+pub rest_of_part : {A : Type 0} (e : SourceFault) (Stops Others : SourceFault → Type 0) (Before : List ℕ → Type 0) (at : List ℕ → Reading A) (due : List ℕ) (line : ℕ)
+    → ((x : SourceFault) → Stops x → Others x) → ((fault : CertTextError) → Fails Before at fault → Gives Before due line (Err fault))
     → IsFaultOn Stops Before at e → IsRestFault Others Before due line e
 rest_of_part Read Stops Others Before at due line stop fails h = stop Read h
 rest_of_part TooLong Stops Others Before at due line stop fails h = stop TooLong h
@@ -139,38 +139,38 @@ whole_text text body low read e rest =
 abbrev pub behind : List Node → Reading (List Node) → Reading (List Node)
 behind front read = read >>= λ nodes. Ok (front ++ nodes)
 
--- Whatever is left of a tree, with the nodes so far in front it is what was left at first.
-abbrev pub IsGivenSoFar : (Before Now : List ℕ → Type 0) (due : List ℕ) (line line_now : ℕ) (front : List Node) → Type 0
-IsGivenSoFar Before Now due line line_now front = (read : Reading (List Node)) → Gives Now due line_now read → Gives Before (1 ∷ []) line (behind front read)
+-- Whatever is left, with the nodes so far in front it is what was left at first.
+abbrev pub IsGivenSoFar : (Before Now : List ℕ → Type 0) (first due : List ℕ) (line line_now : ℕ) (front : List Node) → Type 0
+IsGivenSoFar Before Now first due line line_now front = (read : Reading (List Node)) → Gives Now due line_now read → Gives Before first line (behind front read)
 
 behind_none : (read : Reading (List Node)) → behind [] read ≡ read
 behind_none (Ok nodes) = refl
 behind_none (Err fault) = refl
 
-pub given_first : (Before : List ℕ → Type 0) (due : List ℕ) (line : ℕ) → due ≡ 1 ∷ [] → IsGivenSoFar Before Before due line line []
-given_first Before due line e read g = rw behind_none (subst (λ (ks : List ℕ). Gives Before ks line read) e g)
+pub given_first : (Before : List ℕ → Type 0) (first due : List ℕ) (line : ℕ) → due ≡ first → IsGivenSoFar Before Before first due line line []
+given_first Before first due line e read g = rw behind_none (subst (λ (ks : List ℕ). Gives Before ks line read) e g)
 
 behind_more : (front : List Node) (node : Node) (read : Reading (List Node)) → behind front (in_front node read) ≡ behind (front ++ node ∷ []) read
 behind_more front node (Ok nodes) = ap Ok (sym (append_assoc front (node ∷ []) nodes))
 behind_more front node (Err fault) = refl
 
-pub given_more : (Before Now After : List ℕ → Type 0) (due new : List ℕ) (line line_now line_new : ℕ) (front : List Node) (node : Node)
-    → IsGivenSoFar Before Now due line line_now front → ((read : Reading (List Node)) → Gives After new line_new read → Gives Now due line_now (in_front node read))
-    → IsGivenSoFar Before After new line line_new (front ++ node ∷ [])
-given_more Before Now After due new line line_now line_new front node so_far next read g =
-    subst (λ (r : Reading (List Node)). Gives Before (1 ∷ []) line r) (behind_more front node read) (so_far (in_front node read) (next read g))
+pub given_more : (Before Now After : List ℕ → Type 0) (first due new : List ℕ) (line line_now line_new : ℕ) (front : List Node) (node : Node)
+    → IsGivenSoFar Before Now first due line line_now front → ((read : Reading (List Node)) → Gives After new line_new read → Gives Now due line_now (in_front node read))
+    → IsGivenSoFar Before After first new line line_new (front ++ node ∷ [])
+given_more Before Now After first due new line line_now line_new front node so_far next read g =
+    subst (λ (r : Reading (List Node)). Gives Before first line r) (behind_more front node read) (so_far (in_front node read) (next read g))
 
-pub given_all : (Before Now : List ℕ → Type 0) (due : List ℕ) (line line_now : ℕ) (front : List Node) → IsGivenSoFar Before Now due line line_now front → Gives Now due line_now (Ok [])
-    → Gives Before (1 ∷ []) line (Ok front)
-given_all Before Now due line line_now front so_far g =
-    subst (λ (ns : List Node). Gives Before (1 ∷ []) line (Ok ns)) (append-nil front) (so_far (Ok []) g)
+pub given_all : (Before Now : List ℕ → Type 0) (first due : List ℕ) (line line_now : ℕ) (front : List Node) → IsGivenSoFar Before Now first due line line_now front → Gives Now due line_now (Ok [])
+    → Gives Before first line (Ok front)
+given_all Before Now first due line line_now front so_far g =
+    subst (λ (ns : List Node). Gives Before first line (Ok ns)) (append-nil front) (so_far (Ok []) g)
 
-pub given_fault : (e : StreamFault) (Stops : StreamFault → Type 0) (Before Now : List ℕ → Type 0) (due : List ℕ) (line line_now : ℕ) (front : List Node)
-    → IsGivenSoFar Before Now due line line_now front → IsRestFault Stops Now due line_now e → IsRestFault Stops Before (1 ∷ []) line e
-given_fault Read Stops Before Now due line line_now front so_far h = h
-given_fault TooLong Stops Before Now due line line_now front so_far h = h
-given_fault (Text OutOfMemory) Stops Before Now due line line_now front so_far h = h
-given_fault (Text (At at fault)) Stops Before Now due line line_now front so_far h = so_far (Err (At at fault)) h
+pub given_fault : (e : SourceFault) (Stops : SourceFault → Type 0) (Before Now : List ℕ → Type 0) (first due : List ℕ) (line line_now : ℕ) (front : List Node)
+    → IsGivenSoFar Before Now first due line line_now front → IsRestFault Stops Now due line_now e → IsRestFault Stops Before first line e
+given_fault Read Stops Before Now first due line line_now front so_far h = h
+given_fault TooLong Stops Before Now first due line line_now front so_far h = h
+given_fault (Text OutOfMemory) Stops Before Now first due line line_now front so_far h = h
+given_fault (Text (At at fault)) Stops Before Now first due line line_now front so_far h = so_far (Err (At at fault)) h
 
 pub some_line : (node : Node) → 0 < node_lines node
 some_line (Branch branch) = omega arith

@@ -1,33 +1,33 @@
 -- What a source of lines says of a step and of a node, put together of what it says of their lines.
-use Rattle.std.proofs.Common.{◌≡◌, ℕ, ◌+◌, ◌-◌, ◌≤◌, ◌<◌, true, false, List, [], ◌∷◌, ◌++◌, length, Option, Ok, Err, refl, sym, ap, ◌∙◌, arith}
+use Rattle.std.proofs.Common.{◌≡◌, ℕ, ◌+◌, ◌-◌, ◌≤◌, ◌<◌, true, false, List, [], ◌∷◌, ◌++◌, length, Ok, Err, refl, sym, ap, ◌∙◌, arith}
 use Rattle.std.specs.Prelude.{nat_le}
 use Rattle.ttp_model.specs.declared.step.Step.{Step}
 use Rattle.certificate.specs.declared.fault.LineFault.TheVariants.{Depth}
 use Rattle.certificate.specs.declared.fault.CertTextError.{CertTextError}
 use Rattle.certificate.specs.declared.fault.CertTextError.TheVariants.{At, OutOfMemory}
-use Rattle.certificate.specs.declared.fault.StreamFault.{StreamFault}
-use Rattle.certificate.specs.declared.fault.StreamFault.TheVariants.{Read, TooLong, Text}
+use Rattle.certificate.specs.declared.fault.SourceFault.{SourceFault}
+use Rattle.certificate.specs.declared.fault.SourceFault.TheVariants.{Read, TooLong, Text}
 use Rattle.certificate.specs.declared.head.Head.{Head}
 use Rattle.certificate.specs.declared.head.Head.TheVariants.{OfBranch, OfLeaf}
 use Rattle.certificate.specs.Limits.{most_branches_above}
 use Rattle.certificate.specs.Lines.{node_lines}
 use Rattle.certificate.specs.Words.{head_words, heads_with, step_words, steps_with, count_of, node_of_head}
 use Rattle.certificate.specs.Reading.{Reading, IsFaultOf, line_at, said_in, text_step, steps_at, text_node}
-use Rattle.certificate.specs.Sources.{Says, Fails, HasText, IsFaultOn, OrMemory}
+use Rattle.certificate.specs.Sources.{Origin, Says, Fails, HasText, IsFaultOn, OrMemory}
 use Rattle.certificate.proofs.StepLoop.{with_steps, goes_on, step_fault, is_done}
 use Rattle.certificate.proofs.NodeLaws.{node_steps}
 
 -- ---- faults
 
-pub or_memory : (Stops : StreamFault → Type 0) (e : StreamFault) → Stops e → OrMemory Stops e
+pub or_memory : (Stops : SourceFault → Type 0) (e : SourceFault) → Stops e → OrMemory Stops e
 or_memory Stops Read h = h
 or_memory Stops TooLong h = h
 or_memory Stops (Text OutOfMemory) h = tt
 or_memory Stops (Text (At line fault)) h = h
 
 -- a fault of a part is one of the whole
-pub of_part : {A B : Type 0} (e : StreamFault) (Stops Others : StreamFault → Type 0) (Here There : List ℕ → Type 0) (at : List ℕ → Reading A) (whole : List ℕ → Reading B)
-    → ((x : StreamFault) → Stops x → Others x) → ((fault : CertTextError) → Fails Here at fault → Fails There whole fault)
+pub of_part : {A B : Type 0} (e : SourceFault) (Stops Others : SourceFault → Type 0) (Here There : List ℕ → Type 0) (at : List ℕ → Reading A) (whole : List ℕ → Reading B)
+    → ((x : SourceFault) → Stops x → Others x) → ((fault : CertTextError) → Fails Here at fault → Fails There whole fault)
     → IsFaultOn Stops Here at e → IsFaultOn Others There whole e
 of_part Read Stops Others Here There at whole stop fails h = stop Read h
 of_part TooLong Stops Others Here There at whole stop fails h = stop TooLong h
@@ -35,13 +35,13 @@ of_part (Text OutOfMemory) Stops Others Here There at whole stop fails h = stop 
 of_part (Text (At line fault)) Stops Others Here There at whole stop fails h = fails (At line fault) h
 
 -- so is one of what a line says, or memory is refused
-pub of_line : {A B : Type 0} (e : CertTextError) (Stops : StreamFault → Type 0) (There : List ℕ → Type 0) (said : Reading A) (whole : List ℕ → Reading B)
+pub of_line : {A B : Type 0} (e : CertTextError) (Stops : SourceFault → Type 0) (There : List ℕ → Type 0) (said : Reading A) (whole : List ℕ → Reading B)
     → ((fault : CertTextError) → said ≡ Err fault → Fails There whole fault) → IsFaultOf (Unit {0}) e said → IsFaultOn (OrMemory Stops) There whole (Text e)
 of_line OutOfMemory Stops There said whole fails h = tt
 of_line (At line fault) Stops There said whole fails h = fails (At line fault) h
 
 -- and of a line for which no memory is taken
-pub of_bare_line : {A B : Type 0} (e : CertTextError) (Stops : StreamFault → Type 0) (There : List ℕ → Type 0) (said : Reading A) (whole : List ℕ → Reading B)
+pub of_bare_line : {A B : Type 0} (e : CertTextError) (Stops : SourceFault → Type 0) (There : List ℕ → Type 0) (said : Reading A) (whole : List ℕ → Reading B)
     → ((fault : CertTextError) → said ≡ Err fault → Fails There whole fault) → IsFaultOf ⊥ e said → IsFaultOn Stops There whole (Text e)
 of_bare_line OutOfMemory Stops There said whole fails h = absurd h
 of_bare_line (At line fault) Stops There said whole fails h = fails (At line fault) h
@@ -81,11 +81,11 @@ SaysSteps Before Now count passed k front =
     (rest : List ℕ) → Now rest → (text : List ℕ) × (Before text × (with_steps front (steps_at (count - k) (passed + 1 + k) rest) ≡ steps_at count (passed + 1) text))
 
 -- how far the loop is
-pub record IsSteppedSoFar (Before Now : List ℕ → Type 0) (From FromNow : Option (List ℕ) → Type 0) (count passed passed_now k : ℕ) (front : List Step) : Type 0 where
+pub record IsSteppedSoFar (Before Now : List ℕ → Type 0) (From FromNow : Origin → Type 0) (count passed passed_now k : ℕ) (front : List Step) : Type 0 where
   pub said : SaysSteps Before Now count passed k front
   pub all : length front ≡ k
   pub here : passed_now ≡ passed + k
-  pub from : (all : Option (List ℕ)) → From all → FromNow all
+  pub from : (origin : Origin) → From origin → FromNow origin
 
 with_none : (read : Reading (List Step × List ℕ)) → with_steps [] read ≡ read
 with_none (Ok x) = refl

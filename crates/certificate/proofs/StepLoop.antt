@@ -1,11 +1,10 @@
 -- Reading the steps of a leaf one after another, as a loop does.
-use Rattle.std.proofs.Common.{◌≡◌, ℕ, suc, ◌-◌, ◌+◌, ◌≤◌, ◌<◌, List, [], ◌∷◌, ◌++◌, length, Ok, Err, refl, sym, ap, ◌∙◌, append_assoc, arith}
+use Rattle.std.proofs.Common.{◌≡◌, ℕ, suc, ◌-◌, ◌+◌, ◌≤◌, ◌<◌, List, [], ◌∷◌, ◌++◌, Ok, Err, refl, sym, ap, ◌∙◌, append_assoc, arith}
 use Rattle.std.proofs.lemmas.List.{append-nil}
 use Rattle.line_text.specs.Results.{◌>>=◌}
 use Rattle.ttp_model.specs.declared.step.Step.{Step}
 use Rattle.certificate.specs.declared.fault.CertTextError.{CertTextError}
-use Rattle.certificate.specs.declared.fault.CertTextError.TheVariants.{At, OutOfMemory}
-use Rattle.certificate.specs.Reading.{Reading, IsFaultOf, text_step, steps_at}
+use Rattle.certificate.specs.Reading.{Reading, text_step, steps_at}
 
 -- the steps after these ones are read
 abbrev pub with_steps : List Step → Reading (List Step × List ℕ) → Reading (List Step × List ℕ)

@@ -2,8 +2,8 @@
 use Rattle.std.proofs.Common.{◌≡◌, ℕ, List, [], ◌∷◌, ◌++◌, reverse, Option, IfSome, Ok, Err, refl, sym, ap, subst, ◌∙◌, rules}
 use Rattle.certificate.specs.declared.fault.CertTextError.{CertTextError}
 use Rattle.certificate.specs.declared.fault.CertTextError.TheVariants.{At, OutOfMemory}
-use Rattle.certificate.specs.declared.fault.StreamFault.{StreamFault}
-use Rattle.certificate.specs.declared.fault.StreamFault.TheVariants.{Read, TooLong, Text}
+use Rattle.certificate.specs.declared.fault.SourceFault.{SourceFault}
+use Rattle.certificate.specs.declared.fault.SourceFault.TheVariants.{Read, TooLong, Text}
 use Rattle.certificate.specs.declared.node.Node.{Node}
 use Rattle.certificate.specs.Trees.{trees_of}
 use Rattle.certificate.specs.Reading.{Reading, low_at, HasLow, IsFaultIn, Reads}
@@ -29,14 +29,14 @@ with_low Before After due line low due_is line_is said read g =
     (t.0, (t.1.0, whole_text t.0 g.0 low read t.1.1 rest))
 
 -- a fault of the first two lines is that of the whole
-pub low_fault : (Before : List ℕ → Type 0) (taken : ℕ) (e : StreamFault) → IsFaultOn (Stops taken) Before low_at e
+pub low_fault : (Before : List ℕ → Type 0) (taken : ℕ) (e : SourceFault) → IsFaultOn (Stops taken) Before low_at e
     → IsCertFault (λ reading. (text : List ℕ) × (Before text × Reads text reading)) taken e
 low_fault Before taken Read h = tt
 low_fault Before taken TooLong h = h
 low_fault Before taken (Text OutOfMemory) h = tt
 low_fault Before taken (Text (At line fault)) h = (h.0, (h.1.0, rw h.1.1 refl))
 
-pub node_fault : (Before : List ℕ → Type 0) (due : List ℕ) (line taken : ℕ) (e : StreamFault) → IsRestFault (OrMemory (Stops taken)) Before due line e
+pub node_fault : (Before : List ℕ → Type 0) (due : List ℕ) (line taken : ℕ) (e : SourceFault) → IsRestFault (OrMemory (Stops taken)) Before due line e
     → IsNodeFault (Gives Before due line) taken e
 node_fault Before due line taken Read h = tt
 node_fault Before due line taken TooLong h = h
@@ -57,7 +57,7 @@ has_low text first After low is said has =
     let e : low_at text ≡ Ok (low, has.0) = ap low_at (sym (t.1.0 ∙ is)) ∙ t.1.1 in
     rw e (search rules)
 
-pub cert_fault : (e : StreamFault) (text first : List ℕ) (After : List ℕ → Type 0) (line low : ℕ) → first ≡ text → line ≡ 3 → Says (λ t. t ≡ first) After low_at low → HasText After
+pub cert_fault : (e : SourceFault) (text first : List ℕ) (After : List ℕ → Type 0) (line low : ℕ) → first ≡ text → line ≡ 3 → Says (λ t. t ≡ first) After low_at low → HasText After
     → IsRestFault (OrMemory (λ x. ⊥)) After (1 ∷ []) line e → IsTextFault text e
 cert_fault Read text first After line low is line_is said has h = absurd h
 cert_fault TooLong text first After line low is line_is said has h = absurd h

@@ -13,15 +13,14 @@ use Rattle.certificate.specs.declared.fault.CertTextError.TheVariants.{At, OutOf
 use Rattle.certificate.specs.declared.node.Node.{Node}
 use Rattle.certificate.specs.Cert.{Cert}
 use Rattle.certificate.specs.Lines.{lines}
-use Rattle.certificate.specs.Trees.{Trees, preorder, trees_of, IsTree}
+use Rattle.certificate.specs.Trees.{Trees, preorder}
 use Rattle.certificate.specs.Words.{low_words, lows_with}
 use Rattle.certificate.specs.Spelling.{line_with, node_text, cert_text, CertHasText, SpellsCert}
 use Rattle.certificate.specs.Reading.{Reading, IsAnswerIn, HasLow, line_at, said_in, low_at, ReadsTrees, certificate_of, ReadsOn, Reads}
-use Rattle.certificate.specs.Nodes.{nodes_in, ReadsNodes}
+use Rattle.certificate.specs.Nodes.{nodes_in}
 use Rattle.certificate.proofs.Heads.{line_takes, line_again, version_takes}
 use Rattle.certificate.proofs.Said.{said_takes, said_again, line_lacks}
 use Rattle.certificate.proofs.Tables.{lows_said, low_sayable}
-use Rattle.certificate.proofs.TreeLists.{trees_of-preorder}
 use Rattle.certificate.proofs.TreeLaws.{trees_text, IsTaken, trees_take, trees_again, one_reading}
 
 -- ---- the first two lines

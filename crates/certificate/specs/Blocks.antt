@@ -1,13 +1,15 @@
 -- The bytes that are taken of a reader, and what is passed of them. Where what a reader has isn't known, any bytes may
 -- come. Own profile.
 use Rattle.std.specs.Prelude.{◌≡◌, ℕ, ◌+◌, List, ◌∷◌, ◌++◌, length, slice_range, Bool, true, false, Option, IfSome}
+use Rattle.std.specs.Borrow.{MutBor}
 use Rattle.std.specs.Io.KnownBytes.{Consumes, IsAtEnd}
 use Rattle.line_text.specs.Parts.{Lacks}
 use Rattle.certificate.specs.declared.block.Block.{Block}
 use Rattle.certificate.specs.declared.fault.CertTextError.TheVariants.{At, OutOfMemory}
-use Rattle.certificate.specs.declared.fault.StreamFault.{StreamFault}
-use Rattle.certificate.specs.declared.fault.StreamFault.TheVariants.{Read, TooLong, Text}
+use Rattle.certificate.specs.declared.fault.SourceFault.{SourceFault}
+use Rattle.certificate.specs.declared.fault.SourceFault.TheVariants.{Read, TooLong, Text}
 use Rattle.certificate.specs.Limits.{most_text_bytes}
+use Rattle.certificate.specs.Sources.{Origin}
 
 -- the bytes that are taken and not passed
 abbrev pub held : Block → List ℕ
@@ -25,8 +27,13 @@ pub record IsFrom (known : Option (List ℕ)) (taken : ℕ) (all : Option (List 
   pub consumes : Consumes all known bytes
   pub count : length bytes ≡ taken
 
+-- the reader is this one, and so many bytes were taken of those that it had at first
+abbrev pub IsOrigin : {R : Type 0} → (R → Option (List ℕ)) → MutBor R → ℕ → Origin → Type 0
+IsOrigin remaining reader taken origin =
+    (reader.ghost_name ≡ origin.reader) × IsFrom (remaining reader.now) taken origin.bytes
+
 -- why no more bytes are taken: the reader failed, or they are too many, or memory is refused
-abbrev pub Stops : (taken : ℕ) → StreamFault → Type 0
+abbrev pub Stops : (taken : ℕ) → SourceFault → Type 0
 Stops taken Read = Unit {0}
 Stops taken TooLong = taken ≡ most_text_bytes + 1
 Stops taken (Text OutOfMemory) = Unit {0}

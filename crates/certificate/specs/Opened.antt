@@ -2,8 +2,8 @@
 use Rattle.std.specs.Prelude.{◌≡◌, ℕ, zero, suc, ◌+◌, List, [], ◌∷◌, ◌++◌, length, reverse, Option, None, Some, Ok, Err}
 use Rattle.line_text.specs.Results.{◌>>=◌}
 use Rattle.certificate.specs.declared.fault.CertTextError.TheVariants.{At, OutOfMemory}
-use Rattle.certificate.specs.declared.fault.StreamFault.{StreamFault}
-use Rattle.certificate.specs.declared.fault.StreamFault.TheVariants.{Read, TooLong, Text}
+use Rattle.certificate.specs.declared.fault.SourceFault.{SourceFault}
+use Rattle.certificate.specs.declared.fault.SourceFault.TheVariants.{Read, TooLong, Text}
 use Rattle.certificate.specs.declared.node.Node.{Node}
 use Rattle.certificate.specs.Lines.{lines, total_lines}
 use Rattle.certificate.specs.Trees.{Trees, children, preorder, trees_of}
@@ -77,14 +77,14 @@ IsNext Before After due_old due_new line_old line_new (Some node) =
     (read : Reading (List Node)) → Gives After due_new line_new read → Gives Before due_old line_old (in_front node read)
 
 -- what is wrong with the text is so by what reading its rest gives, and else the source stops
-abbrev pub IsRestFault : (Stops : StreamFault → Type 0) (Before : List ℕ → Type 0) (due : List ℕ) (line : ℕ) → StreamFault → Type 0
+abbrev pub IsRestFault : (Stops : SourceFault → Type 0) (Before : List ℕ → Type 0) (due : List ℕ) (line : ℕ) → SourceFault → Type 0
 IsRestFault Stops Before due line Read = Stops Read
 IsRestFault Stops Before due line TooLong = Stops TooLong
 IsRestFault Stops Before due line (Text OutOfMemory) = Stops (Text OutOfMemory)
 IsRestFault Stops Before due line (Text (At at fault)) = Gives Before due line (Err (At at fault))
 
 -- what is wrong with a text that is all there: memory is taken once its first two lines are right
-abbrev pub IsTextFault : List ℕ → StreamFault → Type 0
+abbrev pub IsTextFault : List ℕ → SourceFault → Type 0
 IsTextFault text Read = ⊥
 IsTextFault text TooLong = ⊥
 IsTextFault text (Text OutOfMemory) = HasLow text

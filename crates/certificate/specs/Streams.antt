@@ -1,13 +1,15 @@
 -- What a stream of a certificate's nodes has said, and what it leaves. Own profile.
 use Rattle.std.specs.Prelude.{◌≡◌, ℕ, ◌+◌, List, [], Option, IfSome, None, Some, Ok, Err}
+use Rattle.std.specs.Borrow.{MutBor}
 use Rattle.certificate.specs.declared.fault.CertTextError.TheVariants.{At, OutOfMemory}
-use Rattle.certificate.specs.declared.fault.StreamFault.{StreamFault}
-use Rattle.certificate.specs.declared.fault.StreamFault.TheVariants.{Read, TooLong, Text}
+use Rattle.certificate.specs.declared.fault.SourceFault.{SourceFault}
+use Rattle.certificate.specs.declared.fault.SourceFault.TheVariants.{Read, TooLong, Text}
 use Rattle.certificate.specs.declared.node.Node.{Node}
 use Rattle.certificate.specs.declared.stream.CertStream.{CertStream}
 use Rattle.certificate.specs.Cert.{Cert}
 use Rattle.certificate.specs.Reading.{Reading, Reads}
-use Rattle.certificate.specs.Blocks.{held, MayLeave, IsFrom, Stops}
+use Rattle.certificate.specs.Sources.{Origin}
+use Rattle.certificate.specs.Blocks.{held, MayLeave, IsOrigin, Stops}
 use Rattle.certificate.specs.Opened.{Gives, in_front}
 
 -- the number of the next line
@@ -22,13 +24,13 @@ still_to_come s = s.due.items
 abbrev pub bytes_taken : {R : Type 0} → CertStream R → ℕ
 bytes_taken s = s.lines.block.taken
 
--- the reader
-abbrev pub stream_reader : {R : Type 0} → CertStream R → R
+-- the reader, which it borrows
+abbrev pub stream_reader : {R : Type 0} → CertStream R → MutBor R
 stream_reader s = s.lines.reader
 
 -- a text that a stream may leave
 abbrev pub StreamLeaves : {R : Type 0} → (R → Option (List ℕ)) → CertStream R → List ℕ → Type 0
-StreamLeaves remaining s text = MayLeave (remaining s.lines.reader) (held s.lines.block) text
+StreamLeaves remaining s text = MayLeave (remaining s.lines.reader.now) (held s.lines.block) text
 
 -- such a text gives these nodes and ends, or this fault, from the next line on
 abbrev pub LeavesNodes : {R : Type 0} → (R → Option (List ℕ)) → CertStream R → Reading (List Node) → Type 0
@@ -47,19 +49,19 @@ pub record IsFresh {R : Type 0} (s : CertStream R) : Type 0 where
   pub passed : s.lines.block.passed ≡ 0
   pub due : still_to_come s ≡ []
 
--- how many bytes were taken of a reader since it had all of these
-abbrev pub StreamIsFrom : {R : Type 0} → (R → Option (List ℕ)) → CertStream R → Option (List ℕ) → Type 0
-StreamIsFrom remaining s all = IsFrom (remaining s.lines.reader) s.lines.block.taken all
+-- the reader, and how many bytes were taken of those that it had at first
+abbrev pub StreamIsFrom : {R : Type 0} → (R → Option (List ℕ)) → CertStream R → Origin → Type 0
+StreamIsFrom remaining s origin = IsOrigin remaining s.lines.reader s.lines.block.taken origin
 
 -- what is wrong with the text is so by what reading it as a whole gives, and else the reader stops
-abbrev pub IsCertFault : (Tells : Reading Cert → Type 0) → (taken : ℕ) → StreamFault → Type 0
+abbrev pub IsCertFault : (Tells : Reading Cert → Type 0) → (taken : ℕ) → SourceFault → Type 0
 IsCertFault Tells taken Read = Unit {0}
 IsCertFault Tells taken TooLong = Stops taken TooLong
 IsCertFault Tells taken (Text OutOfMemory) = Unit {0}
 IsCertFault Tells taken (Text (At line fault)) = Tells (Err (At line fault))
 
 -- the same of the nodes that are left
-abbrev pub IsNodeFault : (Tells : Reading (List Node) → Type 0) → (taken : ℕ) → StreamFault → Type 0
+abbrev pub IsNodeFault : (Tells : Reading (List Node) → Type 0) → (taken : ℕ) → SourceFault → Type 0
 IsNodeFault Tells taken Read = Unit {0}
 IsNodeFault Tells taken TooLong = Stops taken TooLong
 IsNodeFault Tells taken (Text OutOfMemory) = Unit {0}

@@ -5,7 +5,7 @@ ghost use Rattle.std.specs.Io.KnownBytes.{Consumes, IsAtEnd, Keeps};
 ghost use Rattle.line_text.specs.Parts.{Lacks};
 ghost use Rattle.certificate.specs.Limits.{most_text_bytes};
 
-use crate::fault::StreamFault;
+use crate::fault::SourceFault;
 use crate::limits::MOST_TEXT_BYTES;
 use line_text::cut;
 use std::alloc::{AllocError, Global};
@@ -23,7 +23,6 @@ pub struct Block {
     line: Vec<u8>,
     taken: usize,
     passed: u64,
-    ghost has_room: { 0 < vec_len bytes },
     ghost ordered: { at ≤ end },
     ghost in_bounds: { end ≤ vec_len bytes },
     ghost within: { taken ≤ most_text_bytes + 1 },
@@ -50,39 +49,37 @@ fn add_part(held: &[u8], line: &mut Vec<u8>) -> Result<Option<usize>, AllocError
 }
 
 /// Reads once, into the first places.
-fn read_over<R: Read>(reader: &mut R, bytes: &mut Vec<u8>) -> Result<usize, StreamFault>
+fn read_over<R: Read>(reader: &mut R, bytes: &mut Vec<u8>) -> Result<usize, SourceFault>
     ensures length { vec_len bytes.new ≡ vec_len bytes.old }
     ensures within { IfOk result (λ count. count ≤ vec_len bytes.new) }
     ensures taken { IfOk result (λ count. Consumes (R.remaining reader.old) (R.remaining reader.new) (take count bytes.new.items)) }
     ensures end { IfOk result (λ count. count ≡ 0 → 0 < vec_len bytes.old → IsAtEnd (R.remaining reader.new)) }
-    ensures fault { IfErr result (λ e. e ≡ StreamFault.Read) }
+    ensures fault { IfErr result (λ e. e ≡ SourceFault.Read) }
     ensures kept { OnErr result (Keeps (R.remaining reader.old) (R.remaining reader.new)) }
 {
     match reader.read(bytes.as_mut_slice()) {
         Ok(count) => Ok(count),
-        Err(_) => Err(StreamFault::Read),
+        Err(_) => Err(SourceFault::Read),
     }
 }
 
 impl Block {
     ghost use Rattle.certificate.specs.Blocks.{held, IsFrom, Stops, PassesPart, PassesLine};
 
-    /// Nothing is taken yet.
-    pub fn new(alloc: Global) -> Result<Block, AllocError>
-        ensures held { IfOk result (λ block. held block ≡ []) }
-        ensures taken { IfOk result (λ block. block.taken ≡ 0) }
-        ensures passed { IfOk result (λ block. block.passed ≡ 0) }
+    /// Nothing is taken yet, and no memory.
+    pub fn new(alloc: Global) -> Block
+        ensures held { held result ≡ [] }
+        ensures taken { result.taken ≡ 0 }
+        ensures passed { result.passed ≡ 0 }
     {
-        let mut bytes = Vec::with_capacity(alloc, BLOCK)?;
-        bytes.resize(BLOCK, 0)?;
-        Ok(Block {
-            bytes,
+        Block {
+            bytes: Vec::new(alloc),
             at: 0,
             end: 0,
             line: Vec::new(alloc),
             taken: 0,
             passed: 0,
-        })
+        }
     }
 
     /// The line that was passed last, without its end.
@@ -129,7 +126,7 @@ impl Block {
     }
 
     /// Reads once, where nothing is held. Whether the reader has given bytes.
-    pub fn refill<R: Read>(&mut self, reader: &mut R) -> Result<bool, StreamFault>
+    pub fn refill<R: Read>(&mut self, reader: &mut R) -> Result<bool, SourceFault>
         requires { self.old.at ≡ self.old.end }
         ensures bytes { OnOk result (Consumes (R.remaining reader.old) (R.remaining reader.new) (held self.new)) }
         ensures some { IfOk result (λ more. IsTrue more → 0 < length (held self.new)) }
@@ -143,22 +140,23 @@ impl Block {
         ensures from { (all : Option (List ℕ)) → IsFrom (R.remaining reader.old) self.old.taken all → IsFrom (R.remaining reader.new) self.new.taken all }
     {
         if self.taken > MOST_TEXT_BYTES {
-            return Err(StreamFault::TooLong);
+            return Err(SourceFault::TooLong);
         }
         self.at = 0;
         self.end = 0;
-        self.bytes.truncate(MOST_TEXT_BYTES + 1 - self.taken);
+        self.bytes
+            .resize(BLOCK.min(MOST_TEXT_BYTES + 1 - self.taken), 0)?;
         let count = read_over(reader, &mut self.bytes)?;
         self.end = count;
         self.taken += count;
         if self.taken > MOST_TEXT_BYTES {
-            return Err(StreamFault::TooLong);
+            return Err(SourceFault::TooLong);
         }
         Ok(count > 0)
     }
 
     /// Passes a line, in reads that each give more. Whether it has an end.
-    pub fn pass_line<R: Read>(&mut self, reader: &mut R) -> Result<bool, StreamFault>
+    pub fn pass_line<R: Read>(&mut self, reader: &mut R) -> Result<bool, SourceFault>
         ensures line { IfOk result (PassesLine (R.remaining reader.old) (R.remaining reader.new) self.old self.new) }
         ensures whole { IfOk result (λ whole. IsTrue whole → self.new.passed ≡ self.old.passed + 1) }
         ensures err { IfErr result (Stops self.new.taken) }
@@ -174,7 +172,7 @@ impl Block {
     }
 
     /// Reads to the end, and keeps nothing.
-    pub fn read_on<R: Read>(&mut self, reader: &mut R) -> Result<(), StreamFault>
+    pub fn read_on<R: Read>(&mut self, reader: &mut R) -> Result<(), SourceFault>
         ensures end { OnOk result (IsAtEnd (R.remaining reader.new)) }
         ensures within { OnOk result (self.new.taken ≤ most_text_bytes) }
         ensures err { IfErr result (Stops self.new.taken) }

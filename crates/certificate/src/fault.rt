@@ -2,7 +2,7 @@
 
 ghost use Rattle.std.specs.Prelude.{◌≡◌};
 ghost use Rattle.certificate.specs.declared.fault.CertTextError.TheVariants.{OutOfMemory};
-ghost use Rattle.certificate.specs.declared.fault.StreamFault.TheVariants.{Text};
+ghost use Rattle.certificate.specs.declared.fault.SourceFault.TheVariants.{Text};
 
 use std::alloc::{AllocError, AllocFailed};
 use thiserror::Error;
@@ -70,7 +70,7 @@ impl<T: Drop> From<AllocFailed<T>> for CertTextError {
 /// Why a reader's bytes give no certificate. A failed read goes before a text that is too long, and that before what is
 /// wrong with the text.
 #[derive(Clone, Copy, Debug, PartialEq, Eq, Error)]
-pub enum StreamFault {
+pub enum SourceFault {
     /// When the reader failed.
     #[error("the reader failed")]
     Read,
@@ -82,26 +82,26 @@ pub enum StreamFault {
     Text(CertTextError),
 }
 
-impl From<CertTextError> for StreamFault {
+impl From<CertTextError> for SourceFault {
     ghost from_gives = { λ error e. e ≡ Text error };
 
-    fn from(error: CertTextError) -> StreamFault {
-        StreamFault::Text(error)
+    fn from(error: CertTextError) -> SourceFault {
+        SourceFault::Text(error)
     }
 }
 
-impl From<AllocError> for StreamFault {
+impl From<AllocError> for SourceFault {
     ghost from_gives = { λ _ e. e ≡ Text OutOfMemory };
 
-    fn from(_error: AllocError) -> StreamFault {
-        StreamFault::Text(CertTextError::OutOfMemory)
+    fn from(_error: AllocError) -> SourceFault {
+        SourceFault::Text(CertTextError::OutOfMemory)
     }
 }
 
-impl<T: Drop> From<AllocFailed<T>> for StreamFault {
+impl<T: Drop> From<AllocFailed<T>> for SourceFault {
     ghost from_gives = { λ _ e. e ≡ Text OutOfMemory };
 
-    fn from(_error: AllocFailed<T>) -> StreamFault {
-        StreamFault::Text(CertTextError::OutOfMemory)
+    fn from(_error: AllocFailed<T>) -> SourceFault {
+        SourceFault::Text(CertTextError::OutOfMemory)
     }
 }

@@ -23,7 +23,7 @@ mod stream;
 
 pub use branch::Branch;
 pub use cert::Cert;
-pub use fault::{CertTextError, LineFault, StreamFault};
+pub use fault::{CertTextError, LineFault, SourceFault};
 pub use laws::{
     nodes_in_preorder_are_the_trees, reading_gives_one_answer, spelling_is_of_one_certificate,
 };

@@ -1,12 +1,12 @@
 //! Which bound do the first two lines state?
 
-ghost use Rattle.std.specs.Prelude.{◌≡◌, ◌+◌, ℕ, List, Option, IfOk, IfErr, OnOk};
+ghost use Rattle.std.specs.Prelude.{◌≡◌, ◌+◌, IfOk, IfErr, OnOk};
 ghost use Rattle.certificate.specs.Words.{low_words, lows_with};
 ghost use Rattle.certificate.specs.Reading.{IsAnswer, said_in, with_keyword, low_at};
 ghost use Rattle.certificate.specs.Numbers.{numbers_in};
-ghost use Rattle.certificate.specs.Sources.{Says, IsFaultOn};
+ghost use Rattle.certificate.specs.Sources.{Origin, Says, IsFaultOn};
 
-use crate::fault::{CertTextError, LineFault, StreamFault};
+use crate::fault::{CertTextError, LineFault, SourceFault};
 use crate::numbers::{FewNumbers, words_of};
 use crate::source::LineSource;
 use line_text::cut;
@@ -39,16 +39,16 @@ fn low_in(line: u64, text: &[u8]) -> Result<u32, CertTextError>
 }
 
 /// The bound that the first two lines of a source state, in ticks.
-pub fn low_from<L: LineSource>(source: &mut L) -> Result<u32, StreamFault>
+pub fn low_from<L: LineSource>(source: &mut L) -> Result<u32, SourceFault>
     requires { L.passed source.old ≡ 0 }
     ensures said { IfOk result (Says (L.may_leave source.old) (L.may_leave source.new) low_at) }
     ensures passed { OnOk result (L.passed source.new ≡ 2) }
     ensures err { IfErr result (IsFaultOn (L.may_stop source.new) (L.may_leave source.old) low_at) }
-    ensures from { (all : Option (List ℕ)) → L.may_be_from source.old all → L.may_be_from source.new all }
+    ensures from { (origin : Origin) → L.may_be_from source.old origin → L.may_be_from source.new origin }
 {
     source.next_line()?;
     if source.line() != b"ttcert 1".as_slice() {
-        return Err(StreamFault::Text(LineFault::FirstLine.at(1)));
+        return Err(SourceFault::Text(LineFault::FirstLine.at(1)));
     }
     source.next_line()?;
     let low = low_in(2, source.line())?;

@@ -5,10 +5,10 @@ ghost use Rattle.certificate.specs.Words.{count_of, node_of_head};
 ghost use Rattle.certificate.specs.Limits.{most_branches_above};
 ghost use Rattle.certificate.specs.Lines.{node_lines};
 ghost use Rattle.certificate.specs.Reading.{text_step, steps_at, text_node};
-ghost use Rattle.certificate.specs.Sources.{Says, IsFaultOn, OrMemory};
+ghost use Rattle.certificate.specs.Sources.{Origin, Says, IsFaultOn, OrMemory};
 ghost use Rattle.certificate.specs.Opened.{still_due, IsNext, TakesChild, IsRestFault};
 
-use crate::fault::{LineFault, StreamFault};
+use crate::fault::{LineFault, SourceFault};
 use crate::head::{Head, head_in};
 use crate::limits::MOST_BRANCHES_ABOVE;
 use crate::node::Node;
@@ -18,11 +18,11 @@ use std::alloc::Global;
 use ttp_model::{Leaf, Step, Steps};
 
 /// The step in the next line.
-fn step_of<L: LineSource>(alloc: Global, source: &mut L) -> Result<Step, StreamFault>
+fn step_of<L: LineSource>(alloc: Global, source: &mut L) -> Result<Step, SourceFault>
     ensures said { IfOk result (Says (L.may_leave source.old) (L.may_leave source.new) (text_step (L.passed source.old + 1))) }
     ensures passed { OnOk result (L.passed source.new ≡ L.passed source.old + 1) }
     ensures err { IfErr result (IsFaultOn (OrMemory (L.may_stop source.new)) (L.may_leave source.old) (text_step (L.passed source.old + 1))) }
-    ensures from { (all : Option (List ℕ)) → L.may_be_from source.old all → L.may_be_from source.new all }
+    ensures from { (origin : Origin) → L.may_be_from source.old origin → L.may_be_from source.new origin }
 {
     let number = source.number();
     source.next_line()?;
@@ -35,12 +35,12 @@ fn steps_of<L: LineSource>(
     alloc: Global,
     count: u32,
     source: &mut L,
-) -> Result<Vec<Step>, StreamFault>
+) -> Result<Vec<Step>, SourceFault>
     ensures said { IfOk result (λ steps. Says (L.may_leave source.old) (L.may_leave source.new) (steps_at count (L.passed source.old + 1)) steps.items) }
     ensures count { IfOk result (λ steps. length steps.items ≡ count) }
     ensures passed { OnOk result (L.passed source.new ≡ L.passed source.old + count) }
     ensures err { IfErr result (IsFaultOn (OrMemory (L.may_stop source.new)) (L.may_leave source.old) (steps_at count (L.passed source.old + 1))) }
-    ensures from { (all : Option (List ℕ)) → L.may_be_from source.old all → L.may_be_from source.new all }
+    ensures from { (origin : Origin) → L.may_be_from source.old origin → L.may_be_from source.new origin }
 {
     let mut steps = Vec::new(alloc);
     for k in 0..count {
@@ -73,18 +73,18 @@ fn node_with(head: Head, steps: Vec<Step>) -> Node
 }
 
 /// The node in the next lines, which stands below so many branches.
-fn node_of<L: LineSource>(alloc: Global, above: usize, source: &mut L) -> Result<Node, StreamFault>
+fn node_of<L: LineSource>(alloc: Global, above: usize, source: &mut L) -> Result<Node, SourceFault>
     ensures said { IfOk result (Says (L.may_leave source.old) (L.may_leave source.new) (text_node above (L.passed source.old + 1))) }
     ensures place { OnOk result (above ≤ most_branches_above) }
     ensures passed { IfOk result (λ node. L.passed source.new ≡ L.passed source.old + node_lines node) }
     ensures err { IfErr result (IsFaultOn (OrMemory (L.may_stop source.new)) (L.may_leave source.old) (text_node above (L.passed source.old + 1))) }
-    ensures from { (all : Option (List ℕ)) → L.may_be_from source.old all → L.may_be_from source.new all }
+    ensures from { (origin : Origin) → L.may_be_from source.old origin → L.may_be_from source.new origin }
 {
     let number = source.number();
     source.next_line()?;
     let head = head_in(number, source.line())?;
     if above > MOST_BRANCHES_ABOVE {
-        return Err(StreamFault::Text(LineFault::Depth.at(number)));
+        return Err(SourceFault::Text(LineFault::Depth.at(number)));
     }
     let steps = steps_of(alloc, count_of(head), source)?;
     Ok(node_with(head, steps))
@@ -110,13 +110,14 @@ pub fn next_node<L: LineSource>(
     alloc: Global,
     source: &mut L,
     due: &mut Vec<u32>,
-) -> Result<Option<Node>, StreamFault>
+) -> Result<Option<Node>, SourceFault>
     ensures next { IfOk result (IsNext (L.may_leave source.old) (L.may_leave source.new) due.old.items due.new.items (L.passed source.old + 1) (L.passed source.new + 1)) }
     ensures due { IfOk result (λ next. IfSome next (TakesChild due.old.items due.new.items)) }
     ensures passed { IfOk result (λ next. IfSome next (λ node. L.passed source.new ≡ L.passed source.old + node_lines node)) }
     ensures few { IfOk result (λ next. IfSome next (λ _. length due.new.items ≤ most_branches_above + 2)) }
+    ensures closed { IfOk result (λ next. IfNone next (still_due (reverse due.old.items) ≡ [])) }
     ensures err { IfErr result (IsRestFault (OrMemory (L.may_stop source.new)) (L.may_leave source.old) due.old.items (L.passed source.old + 1)) }
-    ensures from { (all : Option (List ℕ)) → L.may_be_from source.old all → L.may_be_from source.new all }
+    ensures from { (origin : Origin) → L.may_be_from source.old origin → L.may_be_from source.new origin }
 {
     let Some(count) = take_due(due) else {
         source.end()?;

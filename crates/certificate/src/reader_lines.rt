@@ -3,22 +3,36 @@
 ghost use Rattle.std.specs.Prelude.{◌≡◌, ◌+◌, ◌≤◌, ℕ, List, [], Option, IfErr, OnOk};
 ghost use Rattle.std.specs.Io.KnownBytes.{IsAtEnd};
 ghost use Rattle.certificate.specs.Limits.{most_text_bytes};
-ghost use Rattle.certificate.specs.Blocks.{held, MayLeave, IsFrom, Stops};
+ghost use Rattle.certificate.specs.Sources.{Origin};
+ghost use Rattle.certificate.specs.Blocks.{held, MayLeave, IsOrigin, Stops};
 
 use crate::block::Block;
-use crate::fault::{LineFault, StreamFault};
+use crate::fault::{LineFault, SourceFault};
 use crate::source::LineSource;
 use std::io::Read;
 
 /// The lines of a reader's bytes, of which no more are taken than a limit and one.
 #[derive(Drop)]
-pub struct ReaderLines<R> {
-    pub reader: R,
+pub struct ReaderLines<'a, R> {
+    pub reader: &'a mut R,
     pub block: Block,
 }
 
-impl<R: Read> LineSource for ReaderLines<R> {
-    ghost may_leave = { λ s text. MayLeave (R.remaining s.reader) (held s.block) text };
+impl<'a, R: Read> ReaderLines<'a, R> {
+    /// Reads on to the end, and keeps nothing.
+    pub fn read_on(&mut self) -> Result<(), SourceFault>
+        ensures end { OnOk result (IsAtEnd (R.remaining self.new.reader.now)) }
+        ensures within { OnOk result (self.new.block.taken ≤ most_text_bytes) }
+        ensures err { IfErr result (Stops self.new.block.taken) }
+        ensures from { (origin : Origin) → IsOrigin R.remaining self.old.reader self.old.block.taken origin
+            → IsOrigin R.remaining self.new.reader self.new.block.taken origin }
+    {
+        self.block.read_on(self.reader)
+    }
+}
+
+impl<'a, R: Read> LineSource for ReaderLines<'a, R> {
+    ghost may_leave = { λ s text. MayLeave (R.remaining s.reader.now) (held s.block) text };
 
     ghost passed = { λ s. s.block.passed };
 
@@ -26,14 +40,14 @@ impl<R: Read> LineSource for ReaderLines<R> {
 
     ghost may_stop = { λ s e. Stops s.block.taken e };
 
-    ghost may_be_from = { λ s all. IsFrom (R.remaining s.reader) s.block.taken all };
+    ghost may_be_from = { λ s origin. IsOrigin R.remaining s.reader s.block.taken origin };
 
-    fn next_line(&mut self) -> Result<(), StreamFault> {
+    fn next_line(&mut self) -> Result<(), SourceFault> {
         let number = self.block.number();
-        if self.block.pass_line(&mut self.reader)? {
+        if self.block.pass_line(self.reader)? {
             Ok(())
         } else {
-            Err(StreamFault::Text(LineFault::EarlyEnd.at(number)))
+            Err(SourceFault::Text(LineFault::EarlyEnd.at(number)))
         }
     }
 
@@ -45,14 +59,14 @@ impl<R: Read> LineSource for ReaderLines<R> {
         self.block.number()
     }
 
-    fn end(&mut self) -> Result<(), StreamFault> {
+    fn end(&mut self) -> Result<(), SourceFault> {
         let number = self.block.number();
         if !self.block.is_empty() {
-            return Err(StreamFault::Text(LineFault::Trailing.at(number)));
+            return Err(SourceFault::Text(LineFault::Trailing.at(number)));
         }
-        let more = self.block.refill(&mut self.reader)?;
+        let more = self.block.refill(self.reader)?;
         if more {
-            return Err(StreamFault::Text(LineFault::Trailing.at(number)));
+            return Err(SourceFault::Text(LineFault::Trailing.at(number)));
         }
         Ok(())
     }

@@ -8,7 +8,7 @@ ghost use Rattle.certificate.specs.Sources.{OrMemory};
 ghost use Rattle.certificate.specs.Opened.{Gives, IsRestFault, IsTextFault};
 
 use crate::cert::Cert;
-use crate::fault::{CertTextError, StreamFault};
+use crate::fault::{CertTextError, SourceFault};
 use crate::low::low_from;
 use crate::node::Node;
 use crate::nodes::next_node;
@@ -17,7 +17,7 @@ use crate::source::LineSource;
 use std::alloc::Global;
 
 /// All nodes of a tree, from the next line on.
-fn nodes_of<L: LineSource>(alloc: Global, source: &mut L) -> Result<Vec<Node>, StreamFault>
+fn nodes_of<L: LineSource>(alloc: Global, source: &mut L) -> Result<Vec<Node>, SourceFault>
     ensures nodes { IfOk result (λ nodes. Gives (L.may_leave source.old) (1 ∷ []) (L.passed source.old + 1) (Ok nodes.items)) }
     ensures err { IfErr result (IsRestFault (OrMemory (L.may_stop source.new)) (L.may_leave source.old) (1 ∷ []) (L.passed source.old + 1)) }
 {
@@ -34,7 +34,7 @@ fn nodes_of<L: LineSource>(alloc: Global, source: &mut L) -> Result<Vec<Node>, S
 }
 
 /// What the lines of a text give, the first fault first.
-fn cert_of(alloc: Global, text: &[u8]) -> Result<Cert, StreamFault>
+fn cert_of(alloc: Global, text: &[u8]) -> Result<Cert, SourceFault>
     ensures cert { IfOk result (λ cert. Reads text.now (Ok cert)) }
     ensures fault { IfErr result (IsTextFault text.now) }
 {
@@ -58,8 +58,8 @@ pub fn read(alloc: Global, text: &[u8]) -> Result<Cert, CertTextError>
 {
     match cert_of(alloc, text) {
         Ok(cert) => Ok(cert),
-        Err(StreamFault::Text(fault)) => Err(fault),
-        Err(StreamFault::Read) => unreachable!(),
-        Err(StreamFault::TooLong) => unreachable!(),
+        Err(SourceFault::Text(fault)) => Err(fault),
+        Err(SourceFault::Read) => unreachable!(),
+        Err(SourceFault::TooLong) => unreachable!(),
     }
 }

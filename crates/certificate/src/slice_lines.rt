@@ -2,7 +2,7 @@
 
 ghost use Rattle.std.specs.Prelude.{◌≡◌, ◌+◌, ◌<◌, ◌^◌, [], length};
 
-use crate::fault::{LineFault, StreamFault};
+use crate::fault::{LineFault, SourceFault};
 use crate::source::LineSource;
 use line_text::cut;
 
@@ -38,11 +38,11 @@ impl<'a> LineSource for SliceLines<'a> {
 
     ghost may_stop = { λ s e. ⊥ };
 
-    ghost may_be_from = { λ s all. Unit {0} };
+    ghost may_be_from = { λ s origin. Unit {0} };
 
-    fn next_line(&mut self) -> Result<(), StreamFault> {
+    fn next_line(&mut self) -> Result<(), SourceFault> {
         match cut(b'\n', self.rest) {
-            None => Err(StreamFault::Text(LineFault::EarlyEnd.at(self.number()))),
+            None => Err(SourceFault::Text(LineFault::EarlyEnd.at(self.number()))),
             Some((line, rest)) => {
                 self.line = line;
                 self.rest = rest;
@@ -60,9 +60,9 @@ impl<'a> LineSource for SliceLines<'a> {
         self.passed + 1
     }
 
-    fn end(&mut self) -> Result<(), StreamFault> {
+    fn end(&mut self) -> Result<(), SourceFault> {
         if !self.rest.is_empty() {
-            return Err(StreamFault::Text(LineFault::Trailing.at(self.number())));
+            return Err(SourceFault::Text(LineFault::Trailing.at(self.number())));
         }
         Ok(())
     }

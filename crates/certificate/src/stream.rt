@@ -1,24 +1,25 @@
 //! Which nodes does a reader give, one after another?
 
-ghost use Rattle.std.specs.Prelude.{◌≡◌, ◌+◌, ◌∷◌, ◌≤◌, [], ℕ, List, Option, length, IfOk, IfErr, IfSome, OnOk};
+ghost use Rattle.std.specs.Prelude.{◌≡◌, ◌+◌, ◌∷◌, ◌≤◌, [], List, length, reverse, IfOk, IfErr, IfNone, IfSome, OnOk};
 ghost use Rattle.std.specs.Io.KnownBytes.{IsAtEnd};
 ghost use Rattle.certificate.specs.declared.node.Node.{Node};
 ghost use Rattle.certificate.specs.Limits.{most_branches_above, most_text_bytes};
 ghost use Rattle.certificate.specs.Lines.{node_lines};
 ghost use Rattle.certificate.specs.Cert.{Cert};
 ghost use Rattle.certificate.specs.Reading.{Reading};
-ghost use Rattle.certificate.specs.Opened.{TakesChild, certificate_with};
+ghost use Rattle.certificate.specs.Sources.{Origin};
+ghost use Rattle.certificate.specs.Opened.{TakesChild, certificate_with, still_due};
 ghost use Rattle.certificate.specs.Streams.{IsFresh, LeavesNodes, LeavesCert, LeavesNext, BytesRead, StreamIsFrom, IsCertFault, IsNodeFault, next_line, still_to_come, bytes_taken, stream_reader};
 ghost use Rattle.certificate.specs.Blocks.{Stops};
 
 use crate::block::Block;
-use crate::fault::StreamFault;
+use crate::fault::SourceFault;
 use crate::low::low_from;
 use crate::node::Node;
 use crate::nodes::next_node;
 use crate::reader_lines::ReaderLines;
 use crate::source::LineSource;
-use std::alloc::{AllocError, Global};
+use std::alloc::Global;
 use std::io::Read;
 
 /// The certificate that a reader's bytes spell: its bound, and then its nodes, each in front of those below it. No more
@@ -27,29 +28,27 @@ use std::io::Read;
 ///
 /// After a fault nothing but `read_on` is to be called.
 #[derive(Drop)]
-pub struct CertStream<R> {
-    lines: ReaderLines<R>,
+pub struct CertStream<'a, R> {
+    lines: ReaderLines<'a, R>,
     due: Vec<u32>,
 }
 
-impl<R: Read> CertStream<R> {
-    /// Takes memory, and no byte.
-    pub fn new(alloc: Global, reader: R) -> Result<CertStream<R>, AllocError>
-    where
-        R: Drop,
-        ensures fresh { IfOk result IsFresh }
-        ensures text { IfOk result (λ s. (reading : Reading Cert) → LeavesCert R.remaining s reading → BytesRead (R.remaining reader) reading) }
-        ensures from { IfOk result (λ s. StreamIsFrom R.remaining s (R.remaining reader)) }
+impl<'a, R: Read> CertStream<'a, R> {
+    /// Takes no byte yet, and no memory.
+    pub fn new(alloc: Global, reader: &'a mut R) -> CertStream<'a, R>
+        ensures fresh { IsFresh result }
+        ensures text { (reading : Reading Cert) → LeavesCert R.remaining result reading → BytesRead (R.remaining reader.old) reading }
+        ensures from { StreamIsFrom R.remaining result (record { reader = reader.entry.ghost_name; bytes = R.remaining reader.old }) }
     {
-        let block = Block::new(alloc)?;
-        Ok(CertStream {
+        let block = Block::new(alloc);
+        CertStream {
             lines: ReaderLines { reader, block },
             due: Vec::new(alloc),
-        })
+        }
     }
 
     /// The bound, in ticks, which the first two lines state.
-    pub fn low(&mut self) -> Result<u32, StreamFault>
+    pub fn low(&mut self) -> Result<u32, SourceFault>
         requires { IsFresh self.old }
         // Whatever nodes it leaves, with the bound they are what the whole text gives.
         ensures low { IfOk result (λ low. (read : Reading (List Node)) → LeavesNodes R.remaining self.new read
@@ -57,7 +56,7 @@ impl<R: Read> CertStream<R> {
         ensures due { OnOk result (still_to_come self.new ≡ 1 ∷ []) }
         ensures line { OnOk result (next_line self.new ≡ 3) }
         ensures err { IfErr result (IsCertFault (LeavesCert R.remaining self.old) (bytes_taken self.new)) }
-        ensures from { (all : Option (List ℕ)) → StreamIsFrom R.remaining self.old all → StreamIsFrom R.remaining self.new all }
+        ensures from { (origin : Origin) → StreamIsFrom R.remaining self.old origin → StreamIsFrom R.remaining self.new origin }
     {
         let low = low_from(&mut self.lines)?;
         self.due.push(1)?;
@@ -65,15 +64,16 @@ impl<R: Read> CertStream<R> {
     }
 
     /// The next node and its line, or none behind the last one, where the text has to end.
-    pub fn next_node(&mut self, alloc: Global) -> Result<Option<(Node, u64)>, StreamFault>
+    pub fn next_node(&mut self, alloc: Global) -> Result<Option<(Node, u64)>, SourceFault>
         // Whatever is left behind it, with the node in front it was left before.
         ensures next { IfOk result (LeavesNext R.remaining self.old self.new) }
         ensures line { IfOk result (λ next. IfSome next (λ said. said.1 ≡ next_line self.old)) }
         ensures due { IfOk result (λ next. IfSome next (λ said. TakesChild (still_to_come self.old) (still_to_come self.new) said.0)) }
         ensures passed { IfOk result (λ next. IfSome next (λ said. next_line self.new ≡ next_line self.old + node_lines said.0)) }
         ensures few { IfOk result (λ next. IfSome next (λ said. length (still_to_come self.new) ≤ most_branches_above + 2)) }
+        ensures closed { IfOk result (λ next. IfNone next (still_due (reverse (still_to_come self.old)) ≡ [])) }
         ensures err { IfErr result (IsNodeFault (LeavesNodes R.remaining self.old) (bytes_taken self.new)) }
-        ensures from { (all : Option (List ℕ)) → StreamIsFrom R.remaining self.old all → StreamIsFrom R.remaining self.new all }
+        ensures from { (origin : Origin) → StreamIsFrom R.remaining self.old origin → StreamIsFrom R.remaining self.new origin }
     {
         let line = self.lines.number();
         match next_node(alloc, &mut self.lines, &mut self.due)? {
@@ -83,19 +83,20 @@ impl<R: Read> CertStream<R> {
     }
 
     /// Reads on to the end, as after any other fault, and keeps nothing.
-    pub fn read_on(&mut self) -> Result<(), StreamFault>
-        ensures end { OnOk result (IsAtEnd (R.remaining (stream_reader self.new))) }
+    pub fn read_on(&mut self) -> Result<(), SourceFault>
+        ensures end { OnOk result (IsAtEnd (R.remaining (stream_reader self.new).now)) }
         ensures within { OnOk result (bytes_taken self.new ≤ most_text_bytes) }
         ensures err { IfErr result (Stops (bytes_taken self.new)) }
-        ensures from { (all : Option (List ℕ)) → StreamIsFrom R.remaining self.old all → StreamIsFrom R.remaining self.new all }
+        ensures from { (origin : Origin) → StreamIsFrom R.remaining self.old origin → StreamIsFrom R.remaining self.new origin }
     {
-        self.lines.block.read_on(&mut self.lines.reader)
+        self.lines.read_on()
     }
 
     /// The reader, where it stands.
-    pub fn into_reader(self) -> R
-        ensures { result ≡ stream_reader self }
+    pub fn into_reader(self) -> &'a mut R
+        ensures { result ≡ stream_reader self.entry }
     {
-        self.lines.reader
+        let lines = self.lines;
+        lines.reader
     }
 }

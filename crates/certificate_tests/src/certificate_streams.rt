@@ -2,58 +2,15 @@
 
 ghost use Rattle.certificate.specs.Streams.{IsFresh};
 
-use certificate::{CertStream, Node, StreamFault, read};
+use crate::readers::{Endless, Slow};
+use certificate::{CertStream, Node, SourceFault, read};
 use std::alloc::Global;
-use std::io;
 use std::io::Read;
 use std::process::Abort;
 use std::test::Fail;
 
 const TWO_LEAVES: &str =
     "ttcert 1\nlow 9\nround 0 1\nleaf 9 5\nes-release 0\nlo-send 0\nes-arrive 0 1\nle-own 1\nx-window 1\nleaf 101 2\nus-settled 0\nx-late 0 1\n";
-
-/// A reader that gives at most so many bytes a call, and fails at a call.
-#[derive(Drop)]
-struct Slow<'a> {
-    bytes: &'a [u8],
-    at_once: usize,
-    calls_left: usize,
-}
-
-impl<'a> Read for Slow<'a> {
-    fn read(&mut self, buf: &mut [u8]) -> io::Result<usize> {
-        if self.calls_left == 0 {
-            return Err(io::Error::from(io::ErrorKind::Other));
-        }
-        self.calls_left -= 1;
-        let count = self.at_once.min(self.bytes.len()).min(buf.len());
-        for k in 0..count {
-            buf[k] = self.bytes[k];
-        }
-        self.bytes = &self.bytes[count..];
-        Ok(count)
-    }
-}
-
-/// A reader that never ends.
-#[derive(Drop)]
-struct Endless<'a> {
-    first: &'a [u8],
-}
-
-impl<'a> Read for Endless<'a> {
-    fn read(&mut self, buf: &mut [u8]) -> io::Result<usize> {
-        let count = self.first.len().min(buf.len());
-        if count == 0 {
-            return Ok(buf.len());
-        }
-        for k in 0..count {
-            buf[k] = self.first[k];
-        }
-        self.first = &self.first[count..];
-        Ok(count)
-    }
-}
 
 /// The bound, and each node with its line.
 #[derive(Drop)]
@@ -63,7 +20,7 @@ struct Said {
 }
 
 /// What a stream says to its end, or its first fault.
-fn drained<R: Read>(alloc: Global, stream: &mut CertStream<R>) -> Result<Said, StreamFault>
+fn drained<R: Read>(alloc: Global, stream: &mut CertStream<R>) -> Result<Said, SourceFault>
     requires { IsFresh stream.old }
 {
     let low = stream.low()?;
@@ -74,15 +31,16 @@ fn drained<R: Read>(alloc: Global, stream: &mut CertStream<R>) -> Result<Said, S
             None => return Ok(Said { low, nodes }),
         }
     }
-    Err(StreamFault::TooLong)
+    Err(SourceFault::TooLong)
 }
 
 /// The same, where a fault of the reader goes before one of the text.
-fn judged<R: Read + Drop>(alloc: Global, reader: R) -> Result<Said, StreamFault> {
-    let mut stream = CertStream::new(alloc, reader)?;
+fn judged<R: Read + Drop>(alloc: Global, reader: R) -> Result<Said, SourceFault> {
+    let mut reader = reader;
+    let mut stream = CertStream::new(alloc, &mut reader);
     match drained(alloc, &mut stream) {
-        Err(StreamFault::Read) => Err(StreamFault::Read),
-        Err(StreamFault::TooLong) => Err(StreamFault::TooLong),
+        Err(SourceFault::Read) => Err(SourceFault::Read),
+        Err(SourceFault::TooLong) => Err(SourceFault::TooLong),
         other => {
             stream.read_on()?;
             other
@@ -90,18 +48,10 @@ fn judged<R: Read + Drop>(alloc: Global, reader: R) -> Result<Said, StreamFault>
     }
 }
 
-fn at_once(bytes: &[u8], at_once: usize) -> Slow<'_> {
-    Slow {
-        bytes,
-        at_once,
-        calls_left: usize::MAX,
-    }
-}
-
 /// Checks that a stream says what the whole text does.
 fn expect_same(rt: &impl Abort, alloc: Global, text: &[u8]) -> Result<(), Fail> {
     for count in [1, 2, 7, 100_000] {
-        match (read(alloc, text), judged(alloc, at_once(text, count))) {
+        match (read(alloc, text), judged(alloc, Slow::giving(count, text))) {
             (Ok(cert), Ok(said)) => {
                 assert_eq!(rt; said.low, cert.low());
                 assert_eq!(rt; said.nodes.len(), cert.nodes().len());
@@ -115,7 +65,7 @@ fn expect_same(rt: &impl Abort, alloc: Global, text: &[u8]) -> Result<(), Fail> 
                     line = other.lines().saturating_add(line);
                 }
             }
-            (Err(fault), Err(other)) => assert_eq!(rt; other, StreamFault::Text(fault)),
+            (Err(fault), Err(other)) => assert_eq!(rt; other, SourceFault::Text(fault)),
             _ => assert!(rt; false, "one of them has a fault"),
         }
     }
@@ -186,13 +136,9 @@ fn a_failed_read_goes_before_a_fault_of_the_text(rt: HostRuntime) -> Result<(), 
     ] {
         let bytes = text.as_bytes();
         for calls_left in 0..bytes.len() {
-            let reader = Slow {
-                bytes,
-                at_once: 1,
-                calls_left,
-            };
+            let reader = Slow::failing_after(calls_left, bytes);
             let fault = judged(rt.alloc(), reader).err();
-            assert_eq!(rt; fault, Some(StreamFault::Read), "{calls_left}");
+            assert_eq!(rt; fault, Some(SourceFault::Read), "{calls_left}");
         }
     }
     Ok(())
@@ -210,7 +156,7 @@ fn a_text_that_is_too_long_goes_before_its_fault(rt: HostRuntime) -> Result<(), 
         };
         assert_eq!(rt;
             judged(rt.alloc(), reader).err(),
-            Some(StreamFault::TooLong),
+            Some(SourceFault::TooLong),
             "{first}"
         );
     }

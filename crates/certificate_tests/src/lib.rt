@@ -24,6 +24,10 @@ mod loads;
 #[cfg(test)]
 mod propagation;
 #[cfg(test)]
+mod readers;
+#[cfg(test)]
 mod settled_plans;
+#[cfg(test)]
+mod streamed_checks;
 #[cfg(test)]
 mod verdicts;

@@ -1,11 +1,13 @@
 //! Certificates of small instances: which bounds they prove, and where others first go wrong.
 
 use crate::instances::Small;
-use cert_check::{CertFault, NodeFault, check};
+use crate::readers::Slow;
+use cert_check::{CertFault, NodeFault, StreamFault, check, check_stream};
 use certificate::read;
 use std::alloc::Global;
 use std::process::Abort;
 use std::test::Fail;
+use std::thread::Threads;
 use ttp_model::Instance;
 use worked_instances::PLAIN;
 
@@ -42,11 +44,64 @@ fn answer(alloc: Global, i: &Instance, text: &str) -> Result<Result<u32, CertFau
     }
 }
 
+/// How many leaves are judged together, and how many bytes a reader gives a call.
+type Pace = (usize, usize);
+
+const PACES: &[Pace] = &[
+    (1, 1),
+    (2, 1),
+    (2_048, 1),
+    (1, 100_000),
+    (2, 100_000),
+    (2_048, 100_000),
+];
+
+/// What the check says of a certificate as it is read.
+fn streamed_answer(
+    rt: &(impl Threads + Sync),
+    alloc: Global,
+    i: &Instance,
+    text: &str,
+    (batch, at_once): Pace,
+) -> Result<Result<u32, CertFault>, Fail> {
+    let mut reader = Slow::giving(at_once, text.as_bytes());
+    match check_stream(rt, alloc, i, &mut reader, batch) {
+        Ok(low) => Ok(Ok(low)),
+        Err(StreamFault::Cert(CertFault::OutOfMemory)) => Err(CertFault::OutOfMemory.into()),
+        Err(StreamFault::Cert(fault)) => Ok(Err(fault)),
+        Err(fault) => Err(fault.into()),
+    }
+}
+
+/// Checks what the check says of a text, read as a whole and at each pace.
+fn expect_row(
+    rt: &(impl Abort + Threads + Sync),
+    alloc: Global,
+    i: &Instance,
+    row: &Row,
+) -> Result<(), Fail> {
+    assert_eq!(rt; answer(alloc, i, row.0)?, row.1, "{}", row.0);
+    for pace in PACES {
+        assert_eq!(rt;
+            streamed_answer(rt, alloc, i, row.0, *pace)?,
+            row.1,
+            "{}",
+            row.0
+        );
+    }
+    Ok(())
+}
+
 /// Checks what the check says of each text.
-fn expect(rt: &impl Abort, alloc: Global, small: Small, rows: &[Row]) -> Result<(), Fail> {
+fn expect(
+    rt: &(impl Abort + Threads + Sync),
+    alloc: Global,
+    small: Small,
+    rows: &[Row],
+) -> Result<(), Fail> {
     let i = small.build(alloc)?;
     for row in rows {
-        assert_eq!(rt; answer(alloc, &i, row.0)?, row.1, "{}", row.0);
+        expect_row(rt, alloc, &i, row)?;
     }
     Ok(())
 }

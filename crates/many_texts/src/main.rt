@@ -5,9 +5,10 @@
 use command_streams::{End, report, status, take_input, write_text};
 use line_text::{NumberWord, cut, number_word, push_number, push_number_word};
 use plan_commands::{check_run, verify, verify_bundle};
-use std::alloc::{AllocError, Global};
+use std::alloc::{Alloc, AllocError, Global};
 use std::io::{Read, Write};
 use std::process::ExitCode;
+use std::thread::Threads;
 
 /// The bytes of a header: a command's word and two lengths, each with a space behind it, and anything up to its end.
 const HEADER_LENGTH: u32 = 32;
@@ -80,6 +81,7 @@ fn next_bytes<R: Read>(alloc: Global, input: &mut R, length: u32) -> Result<Vec<
 
 /// How a command ends on two texts.
 fn end_of<W: Write>(
+    rt: &(impl Threads + Sync),
     alloc: Global,
     command: Command,
     mut first: &[u8],
@@ -89,19 +91,20 @@ fn end_of<W: Write>(
     match command {
         Command::Verify => verify(alloc, &mut first, &mut second, out),
         Command::Bundle => verify_bundle(alloc, &mut first, out),
-        Command::Check => check_run(alloc, &mut first, &mut second, out),
+        Command::Check => check_run(rt, alloc, &mut first, &mut second, out),
     }
 }
 
 /// A command's status, the lengths of what it writes on standard output and on standard error, and both.
 fn answer_of(
+    rt: &(impl Threads + Sync),
     alloc: Global,
     command: Command,
     first: &[u8],
     second: &[u8],
 ) -> Result<Vec<u8>, AllocError> {
     let (mut out, mut error) = (Vec::new(alloc), Vec::new(alloc));
-    let end = end_of(alloc, command, first, second, &mut out);
+    let end = end_of(rt, alloc, command, first, second, &mut out);
     let _ = report(&end, &mut error);
     let mut answer = Vec::new(alloc);
     push_number(&mut answer, u64::from(status(&end)))?;
@@ -114,7 +117,11 @@ fn answer_of(
 }
 
 /// The answer to the next case, or none where the input has ended.
-fn next_answer<R: Read>(alloc: Global, input: &mut R) -> Result<Option<Vec<u8>>, Stopped> {
+fn next_answer<R: Read>(
+    rt: &(impl Threads + Sync),
+    alloc: Global,
+    input: &mut R,
+) -> Result<Option<Vec<u8>>, Stopped> {
     let header = next_bytes(alloc, input, HEADER_LENGTH)?;
     if header.is_empty() {
         return Ok(None);
@@ -127,14 +134,24 @@ fn next_answer<R: Read>(alloc: Global, input: &mut R) -> Result<Option<Vec<u8>>,
     if first.len() != header.first as usize || second.len() != header.second as usize {
         return Err(Stopped("a text breaks off"));
     }
-    let answer = answer_of(alloc, header.command, first.as_slice(), second.as_slice())?;
+    let answer = answer_of(
+        rt,
+        alloc,
+        header.command,
+        first.as_slice(),
+        second.as_slice(),
+    )?;
     Ok(Some(answer))
 }
 
 /// Answers all cases of the input.
-fn answer_all<R: Read, W: Write>(alloc: Global, input: &mut R, out: &mut W) -> Result<(), Stopped> {
+fn answer_all<R: Read, W: Write>(
+    rt: &(impl Alloc<A = Global> + Threads + Sync),
+    input: &mut R,
+    out: &mut W,
+) -> Result<(), Stopped> {
     for _ in 0..u64::MAX {
-        let Some(answer) = next_answer(alloc, input)? else {
+        let Some(answer) = next_answer(rt, rt.alloc(), input)? else {
             return Ok(());
         };
         if write_text(out, answer.as_slice()).is_err() {
@@ -145,7 +162,7 @@ fn answer_all<R: Read, W: Write>(alloc: Global, input: &mut R, out: &mut W) -> R
 }
 
 fn main(rt: HostRuntime) -> ExitCode {
-    match answer_all(rt.alloc(), &mut rt.stdin(), &mut rt.stdout()) {
+    match answer_all(&rt, &mut rt.stdin(), &mut rt.stdout()) {
         Ok(()) => ExitCode::from(0),
         Err(Stopped(why)) => {
             let _ = rt.eprintln(why);

@@ -6,3 +6,4 @@ pub mod LossLists
 pub mod Traced
 pub mod Certificates
 pub mod Unread
+pub mod Streamed

@@ -5,6 +5,9 @@ use Rattle.ttp_model.specs.Delays.{IsLowerBound}
 use Rattle.certificate.specs.Cert.{Cert}
 use Rattle.certificate.specs.Spelling.{SpellsCert}
 use Rattle.certificate.specs.Reading as reading
+use Rattle.certificate.specs.declared.fault.CertTextError.TheVariants as text
+use Rattle.cert_check.specs.declared.fault.StreamFault.{StreamFault}
+use Rattle.cert_check.specs.declared.fault.StreamFault.TheVariants as stream
 use Rattle.cert_check.specs.Proofs.{Proves}
 use Rattle.cert_check.specs.Faults as checking
 use Rattle.command_streams.specs.Limits.{certificate_limit}
@@ -27,6 +30,14 @@ pub record HasBound (i : Instance) (bytes : List ℕ) (low : ℕ) : Type 0 where
   pub proves : Proves i cert
   pub low_is : low ≡ cert.low
   pub bound : IsLowerBound i low
+
+-- the fault of a certificate's bytes, as it is told
+abbrev pub fault_of : StreamFault → Fault
+fault_of stream.Read = Unread source.Certificate
+fault_of stream.TooLong = Unread source.Certificate
+fault_of (stream.Text text.OutOfMemory) = Memory
+fault_of (stream.Text (text.At line fault)) = CertificateText (text.At line fault)
+fault_of (stream.Cert fault) = Certificate fault
 
 -- why bytes within their limit give no certificate that proves its bound
 abbrev pub IsCertificateFault : Instance → List ℕ → Fault → Type 0

@@ -1,42 +1,39 @@
 //! What `check` says of an instance and a certificate.
 
-ghost use Rattle.std.specs.Prelude.{◌≡◌, ◌≤◌, ◌+◌, length, string_bytes, IfErr, IfOk, IfSome, MatchResult};
-ghost use Rattle.plan_commands.specs.Certified.{HasBound, IsCertificateFault, IsCheckAnswer, bound_line};
+ghost use Rattle.std.specs.Prelude.{◌≡◌, ◌+◌, string_bytes, IfErr, IfOk, IfSome, MatchResult};
+ghost use Rattle.plan_commands.specs.Certified.{HasBound, IsCertificateFault, IsCheckAnswer, bound_line, fault_of};
 ghost use Rattle.std.specs.Io.KnownBytes.{Keeps};
 ghost use Rattle.command_streams.specs.Limits.{certificate_limit, instance_limit};
-ghost use Rattle.command_streams.specs.Streams.{IsOfReadBytes, TakesAtMost};
+ghost use Rattle.command_streams.specs.Streams.{TakesAtMost};
 ghost use Rattle.command_streams.specs.Instances.{IsOfInstance};
 ghost use Rattle.command_streams.specs.Outcomes.{IfRefused, IsWritingUnlessMemory};
 
-use command_streams::{End, Fault, Source, end_with, read_all, read_instance};
+use cert_check::{StreamFault, check_stream};
+use certificate::CertTextError;
+use command_streams::{End, Fault, Source, end_with, read_instance};
 use std::alloc::{AllocError, Global};
 use std::io::{Read, Write};
+use std::thread::Threads;
 use ttp_model::Instance;
 
-/// The bytes of a certificate's text, at most.
-pub const CERTIFICATE_LIMIT: usize = 268_435_456;
+/// How many leaves of a certificate are judged together.
+const BATCH: usize = 2_048;
 
-/// The bound, in ticks, that a certificate's text proves of an instance.
-fn bound_of_text(alloc: Global, instance: &Instance, bytes: &[u8]) -> Result<u32, Fault>
-    requires { length bytes.now ≤ CERTIFICATE_LIMIT }
-    ensures judged { MatchResult result
-        (HasBound instance.now bytes.now)
-        (IsCertificateFault instance.now bytes.now) }
-    ensures read { IfErr result IsOfReadBytes }
-    ensures later { IfErr result (λ fault. ¬ IsOfInstance fault) }
+/// A fault of a certificate's bytes, as it is told.
+fn fault_of(fault: StreamFault) -> Fault
+    ensures { result ≡ fault_of fault }
 {
-    let cert = match certificate::read(alloc, bytes) {
-        Ok(cert) => cert,
-        Err(error) => return Err(Fault::CertificateText(error)),
-    };
-    match cert_check::check(alloc, instance, &cert) {
-        Ok(low) => Ok(low),
-        Err(fault) => Err(Fault::Certificate(fault)),
+    match fault {
+        StreamFault::Read | StreamFault::TooLong => Fault::Unread(Source::Certificate),
+        StreamFault::Text(CertTextError::OutOfMemory) => Fault::Memory,
+        StreamFault::Text(error) => Fault::CertificateText(error),
+        StreamFault::Cert(fault) => Fault::Certificate(fault),
     }
 }
 
 /// The bound that the certificate of a reader's bytes proves.
 fn read_bound<R: Read>(
+    rt: &(impl Threads + Sync),
     alloc: Global,
     instance: &Instance,
     certificate: &mut R,
@@ -47,8 +44,10 @@ fn read_bound<R: Read>(
     ensures later { IfErr result (λ fault. ¬ IsOfInstance fault) }
     ensures most { TakesAtMost (certificate_limit + 1) (R.remaining certificate.old) (R.remaining certificate.new) }
 {
-    let bytes = read_all(alloc, certificate, CERTIFICATE_LIMIT, Source::Certificate)?;
-    bound_of_text(alloc, instance, bytes.as_slice())
+    match check_stream(rt, alloc, instance, certificate, BATCH) {
+        Ok(low) => Ok(low),
+        Err(fault) => Err(fault_of(fault)),
+    }
 }
 
 /// The line of a bound, in ticks.
@@ -70,9 +69,11 @@ fn write_bound<W: Write>(alloc: Global, low: u32, out: &mut W) -> End
 
 /// Reads an instance and a certificate, and writes `bound` with the bound, in ticks, that the certificate proves:
 /// no plan of the instance has a smaller delay, whoever made the certificate, and none is valid where the bound is
-/// past the horizon. The instance is read and judged first, then the certificate's text, then the certificate.
-/// Where anything else ends the command nothing is written, and after a failed write a prefix of the line stands.
+/// past the horizon. The instance is read and judged first, then the certificate's text, then the certificate, which is
+/// judged as it is read, its leaves on all processors. Where anything else ends the command nothing is written, and after
+/// a failed write a prefix of the line stands.
 pub fn check_run<I: Read, C: Read, W: Write>(
+    rt: &(impl Threads + Sync),
     alloc: Global,
     instance: &mut I,
     certificate: &mut C,
@@ -90,7 +91,7 @@ pub fn check_run<I: Read, C: Read, W: Write>(
         Ok(instance) => instance,
         Err(fault) => return End::Refused(fault),
     };
-    match read_bound(alloc, &instance, certificate) {
+    match read_bound(rt, alloc, &instance, certificate) {
         Ok(low) => write_bound(alloc, low, out),
         Err(fault) => End::Refused(fault),
     }

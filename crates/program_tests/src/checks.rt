@@ -3,8 +3,9 @@
 use crate::streams::Case;
 use crate::told::Asked::Check;
 use crate::told::{CLUSTER, FIRST, ONE_NODE, Row, wrong_row};
-use std::alloc::{AllocError, Global};
+use std::alloc::{Alloc, AllocError, Global};
 use std::test::Fail;
+use std::thread::Threads;
 
 pub const FIRST_CERTIFICATE: &str =
     "ttcert 1\nlow 9\nleaf 9 5\nes-release 0\nlo-send 0\nes-arrive 0 1\nle-own 1\nx-window 1\n";
@@ -28,7 +29,7 @@ static FIRST_CERTIFICATES: &[Row] = &[
 fn the_first_certificate_is_accepted_and_its_variants_are_refused(
     rt: HostRuntime,
 ) -> Result<(), Fail> {
-    assert_eq!(rt; wrong_row(rt.alloc(), FIRST_CERTIFICATES)?, None);
+    assert_eq!(rt; wrong_row(&rt, FIRST_CERTIFICATES)?, None);
     Ok(())
 }
 
@@ -89,7 +90,7 @@ static CERTIFICATES: &[Row] = &[
 fn worked_certificates_are_accepted_and_their_variants_are_refused(
     rt: HostRuntime,
 ) -> Result<(), Fail> {
-    assert_eq!(rt; wrong_row(rt.alloc(), CERTIFICATES)?, None);
+    assert_eq!(rt; wrong_row(&rt, CERTIFICATES)?, None);
     Ok(())
 }
 
@@ -111,7 +112,7 @@ static TREES: &[Row] = &[
 
 #[test]
 fn trees_are_judged_at_their_lines(rt: HostRuntime) -> Result<(), Fail> {
-    assert_eq!(rt; wrong_row(rt.alloc(), TREES)?, None);
+    assert_eq!(rt; wrong_row(&rt, TREES)?, None);
     Ok(())
 }
 
@@ -125,7 +126,7 @@ const FIRST_STREAMS: Case = Case {
 
 #[test]
 fn failing_streams_are_told_and_leave_a_prefix_of_the_bound(rt: HostRuntime) -> Result<(), Fail> {
-    assert_eq!(rt; FIRST_STREAMS.wrong(rt.alloc())?, None);
+    assert_eq!(rt; FIRST_STREAMS.wrong(&rt)?, None);
     Ok(())
 }
 
@@ -162,10 +163,13 @@ static LAWFUL_LEAVES: &[Leaf] = &[
 ];
 
 /// The first of these leaves that isn't taken.
-fn refused_leaf(alloc: Global, leaves: &[Leaf]) -> Result<Option<usize>, AllocError> {
+fn refused_leaf(
+    rt: &(impl Alloc<A = Global> + Threads + Sync),
+    leaves: &[Leaf],
+) -> Result<Option<usize>, AllocError> {
     for (k, &(count, first, others)) in leaves.iter().enumerate() {
         let certificate = [LOW_ZERO, count, first, others];
-        if !Check.tells(alloc, LINKED, &certificate, "bound 0\n", 0)? {
+        if !Check.tells(rt, LINKED, &certificate, "bound 0\n", 0)? {
             return Ok(Some(k));
         }
     }
@@ -174,7 +178,7 @@ fn refused_leaf(alloc: Global, leaves: &[Leaf]) -> Result<Option<usize>, AllocEr
 
 #[test]
 fn each_step_is_taken_where_it_is_lawful(rt: HostRuntime) -> Result<(), Fail> {
-    assert_eq!(rt; refused_leaf(rt.alloc(), LAWFUL_LEAVES)?, None);
+    assert_eq!(rt; refused_leaf(&rt, LAWFUL_LEAVES)?, None);
     Ok(())
 }
 
@@ -218,11 +222,11 @@ static REFUSALS: &[Refusals] = &[
 
 /// The first step that isn't refused behind this front.
 fn taken_step(
-    alloc: Global,
+    rt: &(impl Alloc<A = Global> + Threads + Sync),
     (front, steps, error): Refusals,
 ) -> Result<Option<&'static str>, AllocError> {
     for step in steps {
-        if !Check.tells(alloc, LINKED, &[LOW_ZERO, front, step], error, 5)? {
+        if !Check.tells(rt, LINKED, &[LOW_ZERO, front, step], error, 5)? {
             return Ok(Some(*step));
         }
     }
@@ -230,9 +234,12 @@ fn taken_step(
 }
 
 /// The first of these where a step isn't refused.
-fn wrong_refusals(alloc: Global, all: &[Refusals]) -> Result<Option<&'static str>, AllocError> {
+fn wrong_refusals(
+    rt: &(impl Alloc<A = Global> + Threads + Sync),
+    all: &[Refusals],
+) -> Result<Option<&'static str>, AllocError> {
     for refusals in all {
-        if let Some(step) = taken_step(alloc, *refusals)? {
+        if let Some(step) = taken_step(rt, *refusals)? {
             return Ok(Some(step));
         }
     }
@@ -241,6 +248,6 @@ fn wrong_refusals(alloc: Global, all: &[Refusals]) -> Result<Option<&'static str
 
 #[test]
 fn each_step_is_refused_for_each_cause(rt: HostRuntime) -> Result<(), Fail> {
-    assert_eq!(rt; wrong_refusals(rt.alloc(), REFUSALS)?, None);
+    assert_eq!(rt; wrong_refusals(&rt, REFUSALS)?, None);
     Ok(())
 }

@@ -137,12 +137,16 @@ const OPTIONS: Options = Options {
 
 impl Command {
     /// How the command ends.
-    fn end(self, rt: &(impl Alloc<A = Global> + Threads + Wait), streams: &mut Streams<'_>) -> End {
+    fn end(
+        self,
+        rt: &(impl Alloc<A = Global> + Threads + Wait + Sync),
+        streams: &mut Streams<'_>,
+    ) -> End {
         let alloc = rt.alloc();
         let instance = &mut streams.instance;
         let out = &mut streams.out;
         match self {
-            Command::OfTwo(asked) => asked.end(alloc, instance, &mut streams.second, out),
+            Command::OfTwo(asked) => asked.end(rt, instance, &mut streams.second, out),
             Command::OfBundle => verify_bundle(alloc, instance, out),
             Command::Search => {
                 let certificate = Some(&mut streams.certificate);
@@ -175,7 +179,7 @@ struct Run {
 
 /// A run of a command on an instance and a second text with this failure.
 fn run_with(
-    rt: &(impl Alloc<A = Global> + Threads + Wait),
+    rt: &(impl Alloc<A = Global> + Threads + Wait + Sync),
     command: Command,
     instance: &[u8],
     second: &[u8],
@@ -240,7 +244,7 @@ impl Run {
 
 /// The first failure that is told otherwise, of a stream whose calls move at most so many bytes.
 fn wrong_failure(
-    rt: &(impl Alloc<A = Global> + Threads + Wait),
+    rt: &(impl Alloc<A = Global> + Threads + Wait + Sync),
     command: Command,
     (instance, second): (&[u8], &[u8]),
     whole: &Run,
@@ -286,7 +290,7 @@ static ROWS: &[Row] = &[
 
 /// The first failure of a command's streams that is told otherwise, where calls move at most so many bytes.
 fn wrong_row(
-    rt: &(impl Alloc<A = Global> + Threads + Wait),
+    rt: &(impl Alloc<A = Global> + Threads + Wait + Sync),
     (command, instance, second): Row,
     most: usize,
 ) -> Result<Option<Failure>, AllocError> {

@@ -4,41 +4,47 @@ use crate::checks::FIRST_CERTIFICATE;
 use crate::solves::CLUSTER_BEFORE_HORIZON;
 use crate::told::Asked::{Check, Verify};
 use crate::told::{Asked, CLUSTER, FIRST, FIRST_PARTS, FIRST_PLAN, Row, Told, joined, wrong_row};
-use std::alloc::{AllocError, Global};
+use std::alloc::{Alloc, AllocError, Global};
 use std::test::Fail;
+use std::thread::Threads;
 
 /// What a command tells of two texts in bytes.
-fn told(alloc: Global, command: Asked, instance: &[u8], second: &[u8]) -> Told {
+fn told(
+    rt: &(impl Alloc<A = Global> + Threads + Sync),
+    command: Asked,
+    instance: &[u8],
+    second: &[u8],
+) -> Told {
     let mut instance = instance;
     let mut second = second;
-    let mut out = Vec::new(alloc);
-    let end = command.end(alloc, &mut instance, &mut second, &mut out);
-    Told::at(alloc, &end, out)
+    let mut out = Vec::new(rt.alloc());
+    let end = command.end(rt, &mut instance, &mut second, &mut out);
+    Told::at(rt.alloc(), &end, out)
 }
 
 /// Whether a second text is told by this code to end early on its last line, the one behind its last line's end.
 fn ends_early(
-    alloc: Global,
+    rt: &(impl Alloc<A = Global> + Threads + Sync),
     command: Asked,
     instance: &[u8],
     second: &[u8],
     code: &str,
 ) -> Result<bool, AllocError> {
     let ends = second.iter().filter(|byte| **byte == b'\n').count();
-    let line = format!(in alloc; "{code} {}\n", ends.saturating_add(1))?;
-    Ok(told(alloc, command, instance, second).is(line.as_str(), 5))
+    let line = format!(in rt.alloc(); "{code} {}\n", ends.saturating_add(1))?;
+    Ok(told(rt, command, instance, second).is(line.as_str(), 5))
 }
 
 /// The length of the first proper prefix of a second text of which something else is told.
 fn wrong_prefix(
-    alloc: Global,
+    rt: &(impl Alloc<A = Global> + Threads + Sync),
     command: Asked,
     text: &[u8],
     code: &str,
 ) -> Result<Option<usize>, AllocError> {
-    let instance = joined(alloc, FIRST)?;
+    let instance = joined(rt.alloc(), FIRST)?;
     for length in 0..text.len() {
-        if !ends_early(alloc, command, instance.as_bytes(), &text[..length], code)? {
+        if !ends_early(rt, command, instance.as_bytes(), &text[..length], code)? {
             return Ok(Some(length));
         }
     }
@@ -92,12 +98,14 @@ fn of_prefix(length: usize) -> (&'static str, u8) {
 }
 
 /// The length of the first prefix of the first instance of which something else is told.
-fn wrong_instance_prefix(alloc: Global) -> Result<Option<usize>, AllocError> {
-    let instance = joined(alloc, FIRST)?;
+fn wrong_instance_prefix(
+    rt: &(impl Alloc<A = Global> + Threads + Sync),
+) -> Result<Option<usize>, AllocError> {
+    let instance = joined(rt.alloc(), FIRST)?;
     let bytes = instance.as_bytes();
     for length in 0..bytes.len().saturating_add(1) {
         let (text, status) = of_prefix(length);
-        if !told(alloc, Verify, &bytes[..length], FIRST_PLAN.as_bytes()).is(text, status) {
+        if !told(rt, Verify, &bytes[..length], FIRST_PLAN.as_bytes()).is(text, status) {
             return Ok(Some(length));
         }
     }
@@ -156,10 +164,10 @@ static DEPTHS: &[Depth] = &[
 ];
 
 /// The first of these of which something else is told.
-fn wrong_depth(alloc: Global) -> Result<Option<u32>, AllocError> {
+fn wrong_depth(rt: &(impl Alloc<A = Global> + Threads + Sync)) -> Result<Option<u32>, AllocError> {
     for (branches, leaves, text) in DEPTHS {
-        let certificate = deep(alloc, *branches, *leaves)?;
-        if !Check.tells(alloc, FIRST, &[certificate.as_str()], text, 5)? {
+        let certificate = deep(rt.alloc(), *branches, *leaves)?;
+        if !Check.tells(rt, FIRST, &[certificate.as_str()], text, 5)? {
             return Ok(Some(*branches));
         }
     }
@@ -171,34 +179,38 @@ const NODE: &str = "[[node]]\nname = \"A\"\ncapacities = [0]\n";
 const PROCESS: &str = "[[process]]\nname = \"p\"\nnode = \"A\"\nwcet = 1\n";
 
 /// Whether this is told of an instance with so many nodes of one name.
-fn is_told_of_nodes(alloc: Global, count: u32, text: &str) -> Result<bool, AllocError> {
-    let mut instance = joined(alloc, &[CLUSTER, PROCESS])?;
+fn is_told_of_nodes(
+    rt: &(impl Alloc<A = Global> + Threads + Sync),
+    count: u32,
+    text: &str,
+) -> Result<bool, AllocError> {
+    let mut instance = joined(rt.alloc(), &[CLUSTER, PROCESS])?;
     for _ in 0..count {
         instance.push_str(NODE)?;
     }
-    Verify.tells(alloc, &[instance.as_str()], &[FIRST_PLAN], text, 3)
+    Verify.tells(rt, &[instance.as_str()], &[FIRST_PLAN], text, 3)
 }
 
 #[test]
 fn hostile_texts(rt: HostRuntime) -> Result<(), Fail> {
     let plan = FIRST_PLAN.as_bytes();
     assert_eq!(rt; plan.len(), 73);
-    assert_eq!(rt; wrong_prefix(rt.alloc(), Verify, plan, "plan F5")?, None);
+    assert_eq!(rt; wrong_prefix(&rt, Verify, plan, "plan F5")?, None);
     let certificate = FIRST_CERTIFICATE.as_bytes();
     assert_eq!(rt; certificate.len(), 81);
     assert_eq!(rt;
-        wrong_prefix(rt.alloc(), Check, certificate, "certificate G5")?,
+        wrong_prefix(&rt, Check, certificate, "certificate G5")?,
         None
     );
-    assert_eq!(rt; wrong_instance_prefix(rt.alloc())?, None);
+    assert_eq!(rt; wrong_instance_prefix(&rt)?, None);
     Ok(())
 }
 
 #[test]
 fn counts_and_depths_are_judged_by_the_lines_that_are_there(rt: HostRuntime) -> Result<(), Fail> {
-    assert_eq!(rt; wrong_row(rt.alloc(), ANNOUNCED)?, None);
-    assert_eq!(rt; wrong_depth(rt.alloc())?, None);
-    assert!(rt; is_told_of_nodes(rt.alloc(), 16, "instance M3 node 1\n")?);
-    assert!(rt; is_told_of_nodes(rt.alloc(), 17, "instance M1 node\n")?);
+    assert_eq!(rt; wrong_row(&rt, ANNOUNCED)?, None);
+    assert_eq!(rt; wrong_depth(&rt)?, None);
+    assert!(rt; is_told_of_nodes(&rt, 16, "instance M3 node 1\n")?);
+    assert!(rt; is_told_of_nodes(&rt, 17, "instance M1 node\n")?);
     Ok(())
 }

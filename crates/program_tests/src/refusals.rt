@@ -8,7 +8,7 @@ use crate::told::{CLUSTER, FIRST, FIRST_PARTS, FIRST_PLAN, Row, joined};
 use command_streams::{End, report, status};
 use plan_commands::verify_bundle;
 use solve_command::{Options, solve_run};
-use std::alloc::Global;
+use std::alloc::{Alloc, Global};
 use std::io::Cursor;
 use std::sync::Wait;
 use std::test::Fail;
@@ -45,14 +45,14 @@ fn is_told(end: &End, out: &Page, text: &str) -> Result<bool, Fail> {
 
 /// Whether a command tells what it does where there is memory, or has written nothing and says that there is none.
 fn survives_refusals(
-    alloc: Global,
+    rt: &(impl Alloc<A = Global> + Threads + Sync),
     (command, instance, second, text, _): Row,
 ) -> Result<bool, Fail> {
-    let instance = joined(alloc, instance)?;
-    let second = joined(alloc, second)?;
+    let instance = joined(rt.alloc(), instance)?;
+    let second = joined(rt.alloc(), second)?;
     let mut out = page();
     let end = command.end(
-        alloc,
+        rt,
         &mut instance.as_bytes(),
         &mut second.as_bytes(),
         &mut out,
@@ -114,7 +114,7 @@ static ANSWERS: &[Row] = &[
 #[test]
 fn refused_in_turn(rt: HostRuntime) -> Result<(), Fail> {
     for (k, row) in ANSWERS.iter().enumerate() {
-        assert!(rt; survives_refusals(rt.alloc(), *row)?, "row {k}");
+        assert!(rt; survives_refusals(&rt, *row)?, "row {k}");
     }
     Ok(())
 }

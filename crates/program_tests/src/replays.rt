@@ -3,8 +3,9 @@
 use crate::streams::Case;
 use crate::told::Asked::Replay;
 use crate::told::{CLUSTER, FIRST, FIRST_PLAN, Row, wrong_row};
-use std::alloc::{AllocError, Global};
+use std::alloc::{Alloc, AllocError, Global};
 use std::test::Fail;
+use std::thread::Threads;
 
 pub const THREE: &[&str] = &[
     CLUSTER,
@@ -30,7 +31,7 @@ static TRACES: &[Row] = &[
 
 #[test]
 fn a_trace_is_written_with_and_without_losses(rt: HostRuntime) -> Result<(), Fail> {
-    assert_eq!(rt; wrong_row(rt.alloc(), TRACES)?, None);
+    assert_eq!(rt; wrong_row(&rt, TRACES)?, None);
     Ok(())
 }
 
@@ -52,7 +53,7 @@ static WRONG_LOSSES: &[Row] = &[
 fn losses_are_refused_by_the_index_of_their_word_and_after_the_texts(
     rt: HostRuntime,
 ) -> Result<(), Fail> {
-    assert_eq!(rt; wrong_row(rt.alloc(), WRONG_LOSSES)?, None);
+    assert_eq!(rt; wrong_row(&rt, WRONG_LOSSES)?, None);
     Ok(())
 }
 
@@ -79,10 +80,13 @@ static MALFORMED: &[&str] = &[
 ];
 
 /// The first of these words that isn't told as malformed, before the texts are.
-fn read_word(alloc: Global, words: &[&str]) -> Result<Option<usize>, AllocError> {
+fn read_word(
+    rt: &(impl Alloc<A = Global> + Threads + Sync),
+    words: &[&str],
+) -> Result<Option<usize>, AllocError> {
     for (k, word) in words.iter().enumerate() {
         let words = ["0/0/*", word, "x"];
-        if !Replay(&words).tells(alloc, &["a = ="], &[], "usage loss 1\n", 2)? {
+        if !Replay(&words).tells(rt, &["a = ="], &[], "usage loss 1\n", 2)? {
             return Ok(Some(k));
         }
     }
@@ -91,7 +95,7 @@ fn read_word(alloc: Global, words: &[&str]) -> Result<Option<usize>, AllocError>
 
 #[test]
 fn malformed_words_are_told_first(rt: HostRuntime) -> Result<(), Fail> {
-    assert_eq!(rt; read_word(rt.alloc(), MALFORMED)?, None);
+    assert_eq!(rt; read_word(&rt, MALFORMED)?, None);
     Ok(())
 }
 
@@ -114,12 +118,12 @@ const THREE_STREAMS: Case = Case {
 
 #[test]
 fn failing_readers_are_told_before_losses(rt: HostRuntime) -> Result<(), Fail> {
-    assert_eq!(rt; WRONG_LOSS_STREAMS.wrong(rt.alloc())?, None);
+    assert_eq!(rt; WRONG_LOSS_STREAMS.wrong(&rt)?, None);
     Ok(())
 }
 
 #[test]
 fn failing_streams_are_told_and_leave_a_prefix_of_the_trace(rt: HostRuntime) -> Result<(), Fail> {
-    assert_eq!(rt; THREE_STREAMS.wrong(rt.alloc())?, None);
+    assert_eq!(rt; THREE_STREAMS.wrong(&rt)?, None);
     Ok(())
 }

@@ -92,58 +92,80 @@ pub fn solved(
 
 impl Answered {
     /// Whether `check` accepts the certificate at this bound.
-    fn is_proved(&self, alloc: Global, low: u32) -> Result<bool, AllocError> {
+    fn is_proved(
+        &self,
+        rt: &(impl Alloc<A = Global> + Threads + Sync),
+        low: u32,
+    ) -> Result<bool, AllocError> {
         let Ok(certificate) = from_utf8(self.certificate.as_slice()) else {
             return Ok(false);
         };
-        let line = format!(in alloc; "bound {low}\n")?;
-        let told = Asked::Check.told(alloc, self.instance.as_str(), certificate);
+        let line = format!(in rt.alloc(); "bound {low}\n")?;
+        let told = Asked::Check.told(rt, self.instance.as_str(), certificate);
         Ok(told.is(line.as_str(), 0))
     }
 
     /// Whether `verify` accepts a plan with this delay.
-    fn has_valid(&self, alloc: Global, plan: &str, delay: u32) -> Result<bool, AllocError> {
-        let line = format!(in alloc; "valid {delay}\n")?;
-        let told = Asked::Verify.told(alloc, self.instance.as_str(), plan);
+    fn has_valid(
+        &self,
+        rt: &(impl Alloc<A = Global> + Threads + Sync),
+        plan: &str,
+        delay: u32,
+    ) -> Result<bool, AllocError> {
+        let line = format!(in rt.alloc(); "valid {delay}\n")?;
+        let told = Asked::Verify.told(rt, self.instance.as_str(), plan);
         Ok(told.is(line.as_str(), 0))
     }
 
     /// Whether it is a valid plan of this delay, with these lines behind it, and is certified.
-    fn is_shortest(&self, alloc: Global, delay: u32, lines: &str) -> Result<bool, AllocError> {
+    fn is_shortest(
+        &self,
+        rt: &(impl Alloc<A = Global> + Threads + Sync),
+        delay: u32,
+        lines: &str,
+    ) -> Result<bool, AllocError> {
         let Ok(plan) = from_utf8(self.told.out.as_slice()) else {
             return Ok(false);
         };
-        let head = format!(in alloc; "ttplan 1\ndelay {delay}\n{lines}")?;
+        let head = format!(in rt.alloc(); "ttplan 1\ndelay {delay}\n{lines}")?;
         Ok(
             self.told.is(plan, 0)
                 && plan.starts_with(head.as_str())
-                && self.has_valid(alloc, plan, delay)?
-                && self.is_proved(alloc, delay)?,
+                && self.has_valid(rt, plan, delay)?
+                && self.is_proved(rt, delay)?,
         )
     }
 
     /// Whether it is that there is no plan, certified at this bound.
-    fn is_none(&self, alloc: Global, low: u32) -> Result<bool, AllocError> {
-        Ok(self.told.is("none\n", 10) && self.is_proved(alloc, low)?)
+    fn is_none(
+        &self,
+        rt: &(impl Alloc<A = Global> + Threads + Sync),
+        low: u32,
+    ) -> Result<bool, AllocError> {
+        Ok(self.told.is("none\n", 10) && self.is_proved(rt, low)?)
     }
 
     /// Whether a delay and a text are those of no plan, or of one that is above the bound and not below the least.
     fn has_best(
         &self,
-        alloc: Global,
+        rt: &(impl Alloc<A = Global> + Threads + Sync),
         low: u32,
         least: u32,
         best: &str,
         plan: &str,
     ) -> Result<bool, AllocError> {
         match best.parse() {
-            Ok(delay) => Ok(least <= delay && low < delay && self.has_valid(alloc, plan, delay)?),
+            Ok(delay) => Ok(least <= delay && low < delay && self.has_valid(rt, plan, delay)?),
             Err(_) => Ok(best == "none" && plan.is_empty()),
         }
     }
 
     /// Whether it has bounds on both sides of the least delay, which is this, with the best plan and certified.
-    fn is_stopped_around(&self, alloc: Global, least: u32) -> Result<bool, AllocError> {
+    fn is_stopped_around(
+        &self,
+        rt: &(impl Alloc<A = Global> + Threads + Sync),
+        least: u32,
+    ) -> Result<bool, AllocError> {
         let Ok(text) = from_utf8(self.told.out.as_slice()) else {
             return Ok(false);
         };
@@ -153,8 +175,8 @@ impl Answered {
         Ok(
             self.told.is(text, 11)
                 && low <= least
-                && self.has_best(alloc, low, least, best, plan)?
-                && self.is_proved(alloc, low)?,
+                && self.has_best(rt, low, least, best, plan)?
+                && self.is_proved(rt, low)?,
         )
     }
 }
@@ -185,12 +207,12 @@ static SHORTEST: &[Shortest] = &[
 
 /// The first of these instances for which something else is found.
 fn wrong_plan(
-    rt: &(impl Alloc<A = Global> + Threads + Wait),
+    rt: &(impl Alloc<A = Global> + Threads + Wait + Sync),
     all: &[Shortest],
 ) -> Result<Option<usize>, AllocError> {
     for (k, &(instance, delay, lines)) in all.iter().enumerate() {
         let answer = solved(rt, instance, AMPLE)?;
-        if !answer.is_shortest(rt.alloc(), delay, lines)? {
+        if !answer.is_shortest(rt, delay, lines)? {
             return Ok(Some(k));
         }
     }
@@ -214,12 +236,12 @@ static PLANLESS: &[Planless] = &[
 
 /// The first of these instances for which something else is found.
 fn wrong_none(
-    rt: &(impl Alloc<A = Global> + Threads + Wait),
+    rt: &(impl Alloc<A = Global> + Threads + Wait + Sync),
     all: &[Planless],
 ) -> Result<Option<usize>, AllocError> {
     for (k, &(instance, low)) in all.iter().enumerate() {
         let answer = solved(rt, instance, AMPLE)?;
-        if !answer.is_none(rt.alloc(), low)? {
+        if !answer.is_none(rt, low)? {
             return Ok(Some(k));
         }
     }
@@ -241,15 +263,15 @@ enum Standing {
 }
 
 fn standing_at(
-    rt: &(impl Alloc<A = Global> + Threads + Wait),
+    rt: &(impl Alloc<A = Global> + Threads + Wait + Sync),
     budget: u64,
 ) -> Result<Standing, AllocError> {
     let instance = [TWO_WITH_LARGER_A, ONE_TO_TWO, TWO_MESSAGES, CLUSTER];
     let answer = solved(rt, &instance, Options { workers: 1, budget })?;
-    if answer.is_shortest(rt.alloc(), 8, "order B A\ncap A 4\n")? {
+    if answer.is_shortest(rt, 8, "order B A\ncap A 4\n")? {
         return Ok(Standing::Known);
     }
-    if answer.is_stopped_around(rt.alloc(), 8)? {
+    if answer.is_stopped_around(rt, 8)? {
         return Ok(Standing::Bounded);
     }
     Ok(Standing::Wrong)
@@ -257,7 +279,7 @@ fn standing_at(
 
 /// The first budget that gives no bounds, with what it gives.
 fn first_unbounded(
-    rt: &(impl Alloc<A = Global> + Threads + Wait),
+    rt: &(impl Alloc<A = Global> + Threads + Wait + Sync),
 ) -> Result<Option<(u64, Standing)>, AllocError> {
     for budget in 0..1000 {
         let standing = standing_at(rt, budget)?;
@@ -279,7 +301,9 @@ fn every_budget_gives_bounds_until_the_answer_is_known(rt: HostRuntime) -> Resul
 }
 
 /// Whether without a budget the first example is answered by a bound of at least its path bound.
-fn is_stopped_at_once(rt: &(impl Alloc<A = Global> + Threads + Wait)) -> Result<bool, AllocError> {
+fn is_stopped_at_once(
+    rt: &(impl Alloc<A = Global> + Threads + Wait + Sync),
+) -> Result<bool, AllocError> {
     let none = Options {
         workers: 1,
         budget: 0,
@@ -287,7 +311,7 @@ fn is_stopped_at_once(rt: &(impl Alloc<A = Global> + Threads + Wait)) -> Result<
     let answer = solved(rt, FIRST, none)?;
     let is_told = answer.told.is("stopped budget 8 none\n", 11)
         || answer.told.is("stopped budget 9 none\n", 11);
-    Ok(is_told && answer.is_stopped_around(rt.alloc(), 9)?)
+    Ok(is_told && answer.is_stopped_around(rt, 9)?)
 }
 
 #[test]

@@ -1,9 +1,10 @@
 //! What stands after a read or a write of a command has failed?
 
 use crate::told::{Asked, Told, joined};
-use std::alloc::{AllocError, Global};
+use std::alloc::{Alloc, AllocError, Global};
 use std::io;
 use std::io::{Read, Write};
+use std::thread::Threads;
 
 /// A reader that gives one byte at a time, and fails at a call.
 #[derive(Drop)]
@@ -80,7 +81,13 @@ pub enum Wrong {
 
 impl<'a> Case<'a> {
     /// What is told where the two readers fail after so many calls, and the output is full after so many bytes.
-    fn told(&self, alloc: Global, instance: &str, calls: (usize, usize), room: usize) -> Told {
+    fn told(
+        &self,
+        rt: &(impl Alloc<A = Global> + Threads + Sync),
+        instance: &str,
+        calls: (usize, usize),
+        room: usize,
+    ) -> Told {
         let mut instance = FailingReader {
             bytes: instance.as_bytes(),
             calls_left: calls.0,
@@ -89,17 +96,19 @@ impl<'a> Case<'a> {
             bytes: self.second.as_bytes(),
             calls_left: calls.1,
         };
-        let mut out = FullWriter::with_room(alloc, room);
-        let end = self
-            .command
-            .end(alloc, &mut instance, &mut second, &mut out);
-        Told::at(alloc, &end, out.taken)
+        let mut out = FullWriter::with_room(rt.alloc(), room);
+        let end = self.command.end(rt, &mut instance, &mut second, &mut out);
+        Told::at(rt.alloc(), &end, out.taken)
     }
 
     /// The first call at which a failure of the instance's reader is told otherwise.
-    fn wrong_call_of_instance(&self, alloc: Global, instance: &str) -> Option<Wrong> {
+    fn wrong_call_of_instance(
+        &self,
+        rt: &(impl Alloc<A = Global> + Threads + Sync),
+        instance: &str,
+    ) -> Option<Wrong> {
         for calls in 0..instance.len() + 1 {
-            let told = self.told(alloc, instance, (calls, usize::MAX), usize::MAX);
+            let told = self.told(rt, instance, (calls, usize::MAX), usize::MAX);
             if !told.is("read instance\n", 6) {
                 return Some(Wrong::Instance(calls));
             }
@@ -108,9 +117,13 @@ impl<'a> Case<'a> {
     }
 
     /// The first call at which a failure of the second reader is told otherwise.
-    fn wrong_call_of_second(&self, alloc: Global, instance: &str) -> Option<Wrong> {
+    fn wrong_call_of_second(
+        &self,
+        rt: &(impl Alloc<A = Global> + Threads + Sync),
+        instance: &str,
+    ) -> Option<Wrong> {
         for calls in 0..self.second.len() + 1 {
-            let told = self.told(alloc, instance, (usize::MAX, calls), usize::MAX);
+            let told = self.told(rt, instance, (usize::MAX, calls), usize::MAX);
             if !told.is(self.error, 6) {
                 return Some(Wrong::Second(calls));
             }
@@ -119,10 +132,14 @@ impl<'a> Case<'a> {
     }
 
     /// The first room for the output with which it hasn't just a prefix of what is written.
-    fn wrong_room(&self, alloc: Global, instance: &str) -> Option<Wrong> {
+    fn wrong_room(
+        &self,
+        rt: &(impl Alloc<A = Global> + Threads + Sync),
+        instance: &str,
+    ) -> Option<Wrong> {
         let out = self.out.as_bytes();
         for room in 0..out.len() {
-            let told = self.told(alloc, instance, (usize::MAX, usize::MAX), room);
+            let told = self.told(rt, instance, (usize::MAX, usize::MAX), room);
             if !told.has(&out[..room], "write out\n", 6) {
                 return Some(Wrong::Out(room));
             }
@@ -131,13 +148,16 @@ impl<'a> Case<'a> {
     }
 
     /// The first failure that is told otherwise.
-    pub fn wrong(&self, alloc: Global) -> Result<Option<Wrong>, AllocError> {
-        let instance = joined(alloc, self.instance)?;
+    pub fn wrong(
+        &self,
+        rt: &(impl Alloc<A = Global> + Threads + Sync),
+    ) -> Result<Option<Wrong>, AllocError> {
+        let instance = joined(rt.alloc(), self.instance)?;
         let instance = instance.as_str();
         Ok(
-            self.wrong_call_of_instance(alloc, instance)
-                .or(self.wrong_call_of_second(alloc, instance))
-                .or(self.wrong_room(alloc, instance)),
+            self.wrong_call_of_instance(rt, instance)
+                .or(self.wrong_call_of_second(rt, instance))
+                .or(self.wrong_room(rt, instance)),
         )
     }
 }

@@ -28,7 +28,7 @@ static TABLES: &[Row] = &[
 
 #[test]
 fn tables_are_written_of_verified_plans_alone(rt: HostRuntime) -> Result<(), Fail> {
-    assert_eq!(rt; wrong_row(rt.alloc(), TABLES)?, None);
+    assert_eq!(rt; wrong_row(&rt, TABLES)?, None);
     Ok(())
 }
 
@@ -42,6 +42,6 @@ const FIRST_STREAMS: Case = Case {
 
 #[test]
 fn failing_streams_are_told_and_leave_a_prefix_of_the_tables(rt: HostRuntime) -> Result<(), Fail> {
-    assert_eq!(rt; FIRST_STREAMS.wrong(rt.alloc())?, None);
+    assert_eq!(rt; FIRST_STREAMS.wrong(&rt)?, None);
     Ok(())
 }

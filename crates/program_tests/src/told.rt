@@ -2,8 +2,9 @@
 
 use command_streams::{End, report, status};
 use plan_commands::{check_run, replay_run, tables, verify};
-use std::alloc::{AllocError, Global};
+use std::alloc::{Alloc, AllocError, Global};
 use std::io::{Read, Write};
+use std::thread::Threads;
 
 pub const CLUSTER: &str =
     "[cluster]\nprecision = 0\nlead = 0\ntrail = 0\nhead = 1\nper_byte = 1\ncopy_out = 0\ncopy_in = 0\nhorizon = 100\n";
@@ -78,43 +79,48 @@ impl<'a> Asked<'a> {
     /// How the command ends on two readers and a writer.
     pub fn end<I: Read, S: Read, W: Write>(
         self,
-        alloc: Global,
+        rt: &(impl Alloc<A = Global> + Threads + Sync),
         instance: &mut I,
         second: &mut S,
         out: &mut W,
     ) -> End {
         match self {
-            Asked::Verify => verify(alloc, instance, second, out),
-            Asked::Tables => tables(alloc, instance, second, out),
-            Asked::Replay(words) => replay_run(alloc, instance, second, words, out),
-            Asked::Check => check_run(alloc, instance, second, out),
+            Asked::Verify => verify(rt.alloc(), instance, second, out),
+            Asked::Tables => tables(rt.alloc(), instance, second, out),
+            Asked::Replay(words) => replay_run(rt.alloc(), instance, second, words, out),
+            Asked::Check => check_run(rt, rt.alloc(), instance, second, out),
         }
     }
 
     /// What it tells of two texts.
-    pub fn told(self, alloc: Global, instance: &str, second: &str) -> Told {
-        let mut out = Vec::new(alloc);
+    pub fn told(
+        self,
+        rt: &(impl Alloc<A = Global> + Threads + Sync),
+        instance: &str,
+        second: &str,
+    ) -> Told {
+        let mut out = Vec::new(rt.alloc());
         let end = self.end(
-            alloc,
+            rt,
             &mut instance.as_bytes(),
             &mut second.as_bytes(),
             &mut out,
         );
-        Told::at(alloc, &end, out)
+        Told::at(rt.alloc(), &end, out)
     }
 
     /// Whether it tells this text at this status, of two texts in parts.
     pub fn tells(
         self,
-        alloc: Global,
+        rt: &(impl Alloc<A = Global> + Threads + Sync),
         instance: &[&str],
         second: &[&str],
         text: &str,
         status: u8,
     ) -> Result<bool, AllocError> {
-        let instance = joined(alloc, instance)?;
-        let second = joined(alloc, second)?;
-        let told = self.told(alloc, instance.as_str(), second.as_str());
+        let instance = joined(rt.alloc(), instance)?;
+        let second = joined(rt.alloc(), second)?;
+        let told = self.told(rt, instance.as_str(), second.as_str());
         Ok(told.is(text, status))
     }
 }
@@ -129,9 +135,12 @@ pub type Row = (
 );
 
 /// The first row of which something else is told.
-pub fn wrong_row(alloc: Global, rows: &[Row]) -> Result<Option<usize>, AllocError> {
+pub fn wrong_row(
+    rt: &(impl Alloc<A = Global> + Threads + Sync),
+    rows: &[Row],
+) -> Result<Option<usize>, AllocError> {
     for (k, &(command, instance, second, text, status)) in rows.iter().enumerate() {
-        if !command.tells(alloc, instance, second, text, status)? {
+        if !command.tells(rt, instance, second, text, status)? {
             return Ok(Some(k));
         }
     }

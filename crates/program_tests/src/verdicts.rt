@@ -3,8 +3,9 @@
 use crate::streams::Case;
 use crate::told::Asked::Verify;
 use crate::told::{CLUSTER, FIRST, FIRST_HEAD, FIRST_PARTS, FIRST_PLAN, ONE_NODE, Row, wrong_row};
-use std::alloc::{AllocError, Global};
+use std::alloc::{Alloc, AllocError, Global};
 use std::test::Fail;
+use std::thread::Threads;
 
 /// The lines of the first example's plan behind its order.
 const TAIL: &str = "cap A 2\ncap B 0\nstart p 0\nstart q 7\nround m 1\n";
@@ -26,7 +27,7 @@ static FIRST_PLANS: &[Row] = &[
 
 #[test]
 fn the_first_example_is_verified_and_its_variants_are_refused(rt: HostRuntime) -> Result<(), Fail> {
-    assert_eq!(rt; wrong_row(rt.alloc(), FIRST_PLANS)?, None);
+    assert_eq!(rt; wrong_row(&rt, FIRST_PLANS)?, None);
     Ok(())
 }
 
@@ -62,7 +63,7 @@ static PLANS_OF_ONE_NODE: &[Row] = &[
 
 #[test]
 fn plans_of_one_node_are_judged(rt: HostRuntime) -> Result<(), Fail> {
-    assert_eq!(rt; wrong_row(rt.alloc(), PLANS_OF_ONE_NODE)?, None);
+    assert_eq!(rt; wrong_row(&rt, PLANS_OF_ONE_NODE)?, None);
     Ok(())
 }
 
@@ -85,7 +86,7 @@ static OVERFULL_FRAMES: &[Row] = &[
 
 #[test]
 fn an_overfull_frame_and_an_early_receiver_are_told(rt: HostRuntime) -> Result<(), Fail> {
-    assert_eq!(rt; wrong_row(rt.alloc(), OVERFULL_FRAMES)?, None);
+    assert_eq!(rt; wrong_row(&rt, OVERFULL_FRAMES)?, None);
     Ok(())
 }
 
@@ -120,7 +121,7 @@ static WRONG_INSTANCES: &[Row] = &[
 
 #[test]
 fn instances_are_refused_with_their_place(rt: HostRuntime) -> Result<(), Fail> {
-    assert_eq!(rt; wrong_row(rt.alloc(), WRONG_INSTANCES)?, None);
+    assert_eq!(rt; wrong_row(&rt, WRONG_INSTANCES)?, None);
     Ok(())
 }
 
@@ -134,7 +135,7 @@ const FIRST_STREAMS: Case = Case {
 
 #[test]
 fn failing_streams_are_told_and_leave_a_prefix_of_the_verdict(rt: HostRuntime) -> Result<(), Fail> {
-    assert_eq!(rt; FIRST_STREAMS.wrong(rt.alloc())?, None);
+    assert_eq!(rt; FIRST_STREAMS.wrong(&rt)?, None);
     Ok(())
 }
 
@@ -149,37 +150,37 @@ pub fn comment(alloc: Global, length: usize) -> Result<String, AllocError> {
 
 /// Whether this is told of a plan of so many bytes.
 fn is_told_of_long_plan(
-    alloc: Global,
+    rt: &(impl Alloc<A = Global> + Threads + Sync),
     length: usize,
     error: &str,
     status: u8,
 ) -> Result<bool, AllocError> {
-    let plan = comment(alloc, length)?;
-    Verify.tells(alloc, FIRST, &[plan.as_str()], error, status)
+    let plan = comment(rt.alloc(), length)?;
+    Verify.tells(rt, FIRST, &[plan.as_str()], error, status)
 }
 
 #[test]
 fn a_plan_over_its_limit_is_not_read(rt: HostRuntime) -> Result<(), Fail> {
-    assert!(rt; is_told_of_long_plan(rt.alloc(), 65_536, "plan F5 1\n", 5)?);
-    assert!(rt; is_told_of_long_plan(rt.alloc(), 65_537, "read plan\n", 6)?);
+    assert!(rt; is_told_of_long_plan(&rt, 65_536, "plan F5 1\n", 5)?);
+    assert!(rt; is_told_of_long_plan(&rt, 65_537, "read plan\n", 6)?);
     Ok(())
 }
 
 /// The same of an instance.
 fn is_told_of_long_instance(
-    alloc: Global,
+    rt: &(impl Alloc<A = Global> + Threads + Sync),
     length: usize,
     error: &str,
     status: u8,
 ) -> Result<bool, AllocError> {
-    let instance = comment(alloc, length)?;
-    Verify.tells(alloc, &[instance.as_str()], &[FIRST_PLAN], error, status)
+    let instance = comment(rt.alloc(), length)?;
+    Verify.tells(rt, &[instance.as_str()], &[FIRST_PLAN], error, status)
 }
 
 #[test]
 fn an_instance_over_its_limit_is_not_read(rt: HostRuntime) -> Result<(), Fail> {
     let unstated = "instance T3 top cluster\n";
-    assert!(rt; is_told_of_long_instance(rt.alloc(), 1_048_576, unstated, 3)?);
-    assert!(rt; is_told_of_long_instance(rt.alloc(), 1_048_577, "read instance\n", 6)?);
+    assert!(rt; is_told_of_long_instance(&rt, 1_048_576, unstated, 3)?);
+    assert!(rt; is_told_of_long_instance(&rt, 1_048_577, "read instance\n", 6)?);
     Ok(())
 }

@@ -50,13 +50,19 @@ fn run_on_files(rt: &HostRuntime, instance: &str, plan: &str, task: Task) -> End
 }
 
 /// Checks a certificate: both files are open before either is read.
-fn run_check(rt: &HostRuntime, instance: &str, certificate: &str) -> End {
+fn run_check(
+    rt: &HostRuntime,
+    threads: &(impl Threads + Sync),
+    instance: &str,
+    certificate: &str,
+) -> End {
     let files = open_both(rt, instance, certificate, Source::Certificate);
     let (mut instance, mut certificate) = match files {
         Ok(files) => files,
         Err(source) => return End::Refused(Fault::Unread(source)),
     };
     check_run(
+        threads,
         rt.alloc(),
         &mut instance,
         &mut certificate,
@@ -126,8 +132,8 @@ fn run_solve_in_sight(
     )
 }
 
-/// Does what is asked for. A search alone starts threads, and waits for them.
-fn run(rt: &HostRuntime, threads: &(impl Threads + Wait), request: Request) -> End {
+/// Does what is asked for. A search starts threads and waits for them, and so does the check of a certificate.
+fn run(rt: &HostRuntime, threads: &(impl Threads + Wait + Sync), request: Request) -> End {
     match request {
         Request::OnFiles {
             instance,
@@ -147,14 +153,18 @@ fn run(rt: &HostRuntime, threads: &(impl Threads + Wait), request: Request) -> E
         Request::Check {
             instance,
             certificate,
-        } => run_check(rt, instance, certificate),
+        } => run_check(rt, threads, instance, certificate),
         Request::VerifyBundle => { verify_bundle(rt.alloc(), &mut rt.stdin(), &mut rt.stdout()) }
         Request::Version => end_with(&mut rt.stdout(), VERSION.as_bytes()),
     }
 }
 
 /// Runs the words' request, says on standard error why it was refused, and gives the status.
-fn status_of_words(rt: &HostRuntime, threads: &(impl Threads + Wait), words: &[String]) -> u8 {
+fn status_of_words(
+    rt: &HostRuntime,
+    threads: &(impl Threads + Wait + Sync),
+    words: &[String],
+) -> u8 {
     match request_in(rt.alloc(), words) {
         Ok(request) => ended(rt, &run(rt, threads, request)),
         Err(error) => refuse(&error, &mut rt.stderr()),

@@ -1,0 +1,153 @@
+//! Do the bytes of a reader spell a certificate that proves its bound?
+
+ghost use Rattle.std.specs.Prelude.{◌≡◌, ◌+◌, ◌∷◌, [], ◌<◌, ◌≤◌, ℕ, List, Ok, IfErr, IfNone, IfOk, OnOk};
+ghost use Rattle.ttp_model.specs.Delays.{HasNoPlan, IsLowerBound};
+ghost use Rattle.certificate.specs.declared.node.Node.{Node};
+ghost use Rattle.certificate.specs.Cert.{Cert};
+ghost use Rattle.certificate.specs.Sources.{Origin};
+ghost use Rattle.certificate.specs.Streams.{IsFresh, LeavesNodes, LeavesCert, StreamIsFrom, IsCertFault, IsNodeFault, next_line, still_to_come, bytes_taken, stream_reader};
+ghost use Rattle.cert_check.specs.Streams.{IsAnswerOf, IsFound, IsStreamJudged, IsTakenFrom, TakesAll};
+ghost use Rattle.cert_check.specs.Going.{IsFoundIn};
+
+use crate::fault::{CertFault, StreamFault};
+use crate::going::Going;
+use certificate::{CertStream, SourceFault};
+use std::alloc::Global;
+use std::io::Read;
+use std::thread::Threads;
+use ttp_model::Instance;
+
+/// How many leaves wait for their judgement at most.
+pub const MOST_LEAVES_HELD: usize = 4_096;
+
+/// Reads the nodes that are left, and judges none.
+fn pass_nodes<R: Read>(alloc: Global, stream: &mut CertStream<R>) -> Result<(), SourceFault>
+    ensures rest { OnOk result ((rest : List Node) × LeavesNodes R.remaining stream.old (Ok rest)) }
+    ensures err { IfErr result (IsNodeFault (LeavesNodes R.remaining stream.old) (bytes_taken stream.new)) }
+    ensures from { (origin : Origin) → StreamIsFrom R.remaining stream.old origin → StreamIsFrom R.remaining stream.new origin }
+{
+    'rest: while let Some(_passed) = stream.next_node(alloc)? {}
+    Ok(())
+}
+
+/// Goes through all nodes. The first fault of their tree, if there is one.
+fn go_through<R: Read>(
+    rt: &(impl Threads + Sync),
+    alloc: Global,
+    instance: &Instance,
+    low: u32,
+    batch: usize,
+    stream: &mut CertStream<R>,
+) -> Result<Option<CertFault>, SourceFault>
+    requires due { still_to_come stream.old ≡ 1 ∷ [] }
+    requires line { next_line stream.old ≡ 3 }
+    ensures found { IfOk result (λ found. (nodes : List Node) × LeavesNodes R.remaining stream.old (Ok nodes)
+        × IsFoundIn instance.now low nodes found) }
+    ensures err { IfErr result (IsNodeFault (LeavesNodes R.remaining stream.old) (bytes_taken stream.new)) }
+    ensures from { (origin : Origin) → StreamIsFrom R.remaining stream.old origin → StreamIsFrom R.remaining stream.new origin }
+{
+    let mut going = match Going::new(alloc, instance) {
+        Ok(going) => going,
+        Err(_) => {
+            pass_nodes(alloc, stream)?;
+            return Ok(Some(CertFault::OutOfMemory));
+        }
+    };
+    'nodes: while let Some((node, line)) = stream.next_node(alloc)? {
+        match going.take(rt, alloc, instance, low, batch, node, line) {
+            Ok(()) => {}
+            Err(fault) => {
+                pass_nodes(alloc, stream)?;
+                return Ok(Some(fault));
+            }
+        }
+    }
+    match going.judge_all(rt, alloc, instance, low) {
+        Ok(()) => Ok(None),
+        Err(fault) => Ok(Some(fault)),
+    }
+}
+
+/// The bound that a stream states, in ticks, and the first fault of its certificate, if there is one.
+fn judge<R: Read>(
+    rt: &(impl Threads + Sync),
+    alloc: Global,
+    instance: &Instance,
+    batch: usize,
+    stream: &mut CertStream<R>,
+) -> Result<(u32, Option<CertFault>), SourceFault>
+    requires { IsFresh stream.old }
+    ensures found { IfOk result (λ said. (cert : Cert) × LeavesCert R.remaining stream.old (Ok cert)
+        × ((said.0 ≡ cert.low) × IsFound instance.now cert said.1)) }
+    ensures bound { IfOk result (λ said. IfNone said.1 (IsLowerBound instance.now said.0)) }
+    ensures none { IfOk result (λ said. IfNone said.1 (said.0 ≡ instance.now.cluster.horizon + 1 → HasNoPlan instance.now)) }
+    ensures err { IfErr result (IsCertFault (LeavesCert R.remaining stream.old) (bytes_taken stream.new)) }
+    ensures from { (origin : Origin) → StreamIsFrom R.remaining stream.old origin → StreamIsFrom R.remaining stream.new origin }
+{
+    let low = stream.low()?;
+    if low > instance.past_horizon() {
+        pass_nodes(alloc, stream)?;
+        return Ok((low, Some(CertFault::LowTooGreat)));
+    }
+    let found = go_through(rt, alloc, instance, low, batch, stream)?;
+    Ok((low, found))
+}
+
+/// The bound, in ticks, that a stream's certificate proves; else the first fault. The rest is read all the same.
+fn judge_all<R: Read>(
+    rt: &(impl Threads + Sync),
+    alloc: Global,
+    instance: &Instance,
+    batch: usize,
+    stream: &mut CertStream<R>,
+) -> Result<u32, StreamFault>
+    requires { IsFresh stream.old }
+    ensures answer { IsAnswerOf instance.now (LeavesCert R.remaining stream.old) result }
+    ensures bound { IfOk result (λ low. IsLowerBound instance.now low) }
+    ensures none { IfOk result
+        (λ low. low ≡ instance.now.cluster.horizon + 1 → HasNoPlan instance.now) }
+    ensures all { TakesAll (bytes_taken stream.new) (R.remaining (stream_reader stream.new).now) result }
+    ensures from { (origin : Origin) → StreamIsFrom R.remaining stream.old origin → StreamIsFrom R.remaining stream.new origin }
+{
+    match judge(rt, alloc, instance, batch, stream) {
+        Ok((low, found)) => {
+            stream.read_on()?;
+            match found {
+                None => Ok(low),
+                Some(fault) => Err(StreamFault::Cert(fault)),
+            }
+        }
+        Err(SourceFault::Text(error)) => {
+            stream.read_on()?;
+            Err(StreamFault::Text(error))
+        }
+        Err(SourceFault::TooLong) => Err(StreamFault::TooLong),
+        Err(SourceFault::Read) => Err(StreamFault::Read),
+    }
+}
+
+/// The bound, in ticks, that the certificate of a reader's bytes proves, as `check` says it of one that was read whole; else the
+/// first fault: of the reader, of a text that is too long, of the text, of the certificate. After a fault of the text or of the
+/// certificate the rest is still read; of no reader more than `certificate::MOST_TEXT_BYTES` and one byte are taken.
+///
+/// Up to `batch` leaves wait for their judgement, and are judged together on all processors: 1 at least, and
+/// `MOST_LEAVES_HELD` at most. Takes memory for one path of the tree, and for those leaves with the choice of each.
+pub fn check_stream<R: Read>(
+    rt: &(impl Threads + Sync),
+    alloc: Global,
+    instance: &Instance,
+    reader: &mut R,
+    batch: usize,
+) -> Result<u32, StreamFault>
+    ensures answer { IsStreamJudged instance.now (R.remaining reader.old) result }
+    ensures bound { IfOk result (λ low. IsLowerBound instance.now low) }
+    ensures none { IfOk result
+        (λ low. low ≡ instance.now.cluster.horizon + 1 → HasNoPlan instance.now) }
+    ensures taken { IsTakenFrom (R.remaining reader.old) (R.remaining reader.new) result }
+{
+    let batch = batch.min(MOST_LEAVES_HELD);
+    let mut stream = CertStream::new(alloc, reader);
+    let answer = judge_all(rt, alloc, instance, batch, &mut stream);
+    let _reader = stream.into_reader();
+    answer
+}

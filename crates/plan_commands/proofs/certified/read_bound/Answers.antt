@@ -1,0 +1,16 @@
+use Rattle.std.proofs.Common.{IfSome, sym, subst}
+use Rattle.command_streams.specs.declared.ending.Fault.{Fault}
+use Rattle.plan_commands.specs.Certified.{IsCertificateFault}
+use Rattle.plan_commands.proofs.Streamed.{bound_of_stream, fault_of_stream}
+use Rattle.plan_commands.proofs.certified.read_bound.Goals as goal
+
+pub returns-in-Ok-clause-judged : goal.returns-in-Ok-clause-judged
+returns-in-Ok-clause-judged g c =
+    let remaining = g.R.Read.remaining in
+    bound_of_stream c.args.instance.now (remaining c.args.certificate.now) (remaining c.check_stream.new.reader) c.in-Ok.low c.in-Ok.ensures.answer c.in-Ok.ensures.taken c.in-Ok.ensures.bound
+
+pub returns-in-Err-clause-judged : goal.returns-in-Err-clause-judged
+returns-in-Err-clause-judged g c =
+    let remaining = g.R.Read.remaining in
+    subst (λ (told : Fault). IfSome (remaining c.args.certificate.now) (λ bytes. IsCertificateFault c.args.instance.now bytes told)) (sym c.fault_of.ensures)
+    (fault_of_stream c.args.instance.now (remaining c.args.certificate.now) (remaining c.check_stream.new.reader) c.in-Err.fault c.in-Err.ensures.answer c.in-Err.ensures.taken)
