@@ -1,5 +1,5 @@
 -- The tasks of a branch's children: each is one of the instance, is smaller, and together they have all valid plans.
-use Rattle.std.proofs.Common.{◌≡◌, ℕ, ◌+◌, ◌<◌, ◌≤◌, List, [], ◌∷◌, ◌++◌, length, length-append, slice_index_or, All, arith, ap, sym, subst, ◌∙◌, Bool, true, IsTrue, ◌==◌, Some, eq-eqb}
+use Rattle.std.proofs.Common.{◌≡◌, ℕ, ◌+◌, ◌<◌, ◌≤◌, List, [], ◌∷◌, ◌++◌, length, length-append, slice_index_or, All, arith, ap, sym, subst, ◌∙◌, Bool, true, IsTrue, ◌==◌, Option, Some, eq-eqb}
 use Rattle.std.proofs.lemmas.List.{length-map, get_or-map}
 use Rattle.std.proofs.lemmas.List.FromFn.{get_or-map-range_with_len}
 use Rattle.std.proofs.Math.Nat.{zero-add}
@@ -83,13 +83,16 @@ module _ (i : Instance) (t : Task) (kind : Kind) (tasks : List Task) (are : AreC
       }
 
 -- a task whose name is the root's places a node first, where there are several
-pub root_places : (i : Instance) (t : Task) (kind : Kind) (at_root : Bool) → at_root ≡ (length t.name == 0) → (IsTrue at_root → 2 ≤ length i.nodes → length (choice_of i t).prefix < length i.nodes → Some kind ≡ Some Place) → t ≡ root_task → 2 ≤ length i.nodes → kind ≡ Place
+pub root_places : (i : Instance) (t : Task) (kind : Option Kind) (at_root : Bool) → at_root ≡ (length t.name == 0) → (IsTrue at_root → 2 ≤ length i.nodes → length (choice_of i t).prefix < length i.nodes → kind ≡ Some Place) → t ≡ root_task → 2 ≤ length i.nodes → kind ≡ Some Place
 root_places i t kind at_root is places same several =
     let no_name : length t.name ≡ 0 = ap (λ (task : Task). length task.name) same in
     let no_prefix : length (choice_of i t).prefix ≡ 0 = ap (λ (task : Task). length (choice_of i task).prefix) same in
     let root : at_root ≡ true = is ∙ eq-eqb (length t.name) 0 no_name in
-    let placed : Some kind ≡ Some Place = places root several (omega (arith, no_prefix, several)) in
-    cc
+    places root several (omega (arith, no_prefix, several))
+
+-- the branch that is there is a place
+pub some_place : (kind : Kind) → Some kind ≡ Some Place → kind ≡ Place
+some_place kind is = cc
 
 -- a branch that leaves less to choose, with a task for each child, is a split
 pub split_of : (i : Instance) (t : Task) (goal : ℕ) (kind : Kind) (tasks : List Task) → IsInstance i → IsTask i t → ((bound : ℕ) → IsPathBound i bound → bound < goal) → IsBranching i (choice_of i t) kind → AreChildren i t kind tasks → (t ≡ root_task → 2 ≤ length i.nodes → kind ≡ Place) → IsSplit i t goal kind tasks

@@ -10,6 +10,7 @@ mod name;
 mod piece;
 mod task;
 mod trial;
+mod tries;
 mod workbench;
 mod worked;
 mod working;

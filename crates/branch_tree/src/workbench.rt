@@ -5,8 +5,10 @@ ghost use Rattle.tt_choice.specs.Branches.{root_choice};
 ghost use Rattle.tt_choice.specs.Decisions.{AreOpenDecisions};
 ghost use Rattle.branch_tree.specs.Workbench.{IsWorkbenchOf, IsAt, ComesTo};
 
+use crate::tries::Tries;
 use path_bounds::Propagator;
 use std::alloc::Global;
+use std::mem;
 use tt_choice::Decision;
 use ttp_model::{Instance, MemoryFault};
 
@@ -15,6 +17,8 @@ use ttp_model::{Instance, MemoryFault};
 #[derive(Drop)]
 pub struct Workbench<'a> {
     kept: Option<Propagator<'a>>,
+    /// Which orders were tried, and whether that helped.
+    tries: Tries,
 }
 
 /// How many decisions at the beginning are the same.
@@ -64,7 +68,10 @@ impl<'a> Workbench<'a> {
     pub fn new() -> Self
         ensures { result.kept ≡ None }
     {
-        Workbench { kept: None }
+        Workbench {
+            kept: None,
+            tries: Tries::none(),
+        }
     }
 
     /// What is kept, where it is at this goal in ticks; else a propagation before any decision.
@@ -107,10 +114,18 @@ impl<'a> Workbench<'a> {
         Ok(kept)
     }
 
-    /// Keeps a propagation for the next subtree.
-    pub(crate) fn keep(&mut self, kept: Propagator<'a>)
+    /// Which orders were tried, to be kept again.
+    pub(crate) fn take_tries(&mut self) -> Tries
+        ensures { self.new.kept ≡ self.old.kept }
+    {
+        mem::replace(&mut self.tries, Tries::none())
+    }
+
+    /// Keeps a propagation for the next subtree, and which orders were tried.
+    pub(crate) fn keep(&mut self, kept: Propagator<'a>, tries: Tries)
         ensures { self.new.kept ≡ Some kept.entry }
     {
         self.kept = Some(kept);
+        self.tries = tries;
     }
 }

@@ -1,26 +1,30 @@
 //! What is a task worked into?
 
-ghost use Rattle.std.specs.Prelude.{◌≡◌, IfOk, IfErr};
-ghost use Rattle.tt_choice.specs.Choice.{IsChoice};
-ghost use Rattle.branch_tree.specs.Task.{choice_of, IsTask};
-ghost use Rattle.branch_tree.specs.Trials.{IsLeft};
+ghost use Rattle.std.specs.Prelude.{◌≡◌, ℕ, ◌<◌, ◌≤◌, length, Some, IfOk, IfErr};
+ghost use Rattle.ttp_model.specs.declared.plan.Plan.{Plan};
+ghost use Rattle.ttp_model.specs.declared.step.Kind.TheVariants.{Place};
+ghost use Rattle.ttp_model.specs.Chains.{IsPathBound};
+ghost use Rattle.tt_choice.specs.Choice.{IsChoice, IsComplete};
+ghost use Rattle.path_bounds.specs.Propagation.{IsPlanBelow};
+ghost use Rattle.branch_tree.specs.Branching.{Branches};
+ghost use Rattle.branch_tree.specs.Task.{choice_of, root_task, IsTask};
 ghost use Rattle.branch_tree.specs.Work.{IsWorked, IsLeftClosed};
 ghost use Rattle.branch_tree.specs.Workbench.{IsWorkbenchOf, ComesTo};
 
-use crate::branching::branch;
+use crate::branching::{branch, branch_on};
 use crate::children::child_tasks;
 use crate::finding::found;
 use crate::piece::Piece;
 use crate::task::Task;
 use crate::trial::{Trial, tried};
+use crate::tries::Tries;
 use crate::workbench::Workbench;
 use crate::worked::Worked;
 use certificate::Node;
 use path_bounds::{Propagator, best_goal};
 use std::alloc::Global;
 use tt_choice::Choice;
-use tt_infer::Facts;
-use ttp_model::{Instance, MemoryFault};
+use ttp_model::{Instance, Kind, MemoryFault};
 
 /// Works a task at a goal in ticks: closes it where propagation can, splits it where something is
 /// left to choose, and else gives the earliest plan of its choice, settled. So a task with nothing
@@ -75,9 +79,10 @@ fn worked<'a>(
     ensures worked { IfOk result (IsWorked instance.now task.now goal) }
     ensures bench { IsWorkbenchOf instance.now bench.new }
 {
-    let reached = bench.reach(alloc, instance, task.decisions(), goal)?;
-    let worked = worked_from(alloc, instance, &reached, task, goal);
-    bench.keep(reached);
+    let mut reached = bench.reach(alloc, instance, task.decisions(), goal)?;
+    let mut tries = bench.take_tries();
+    let worked = worked_from(alloc, instance, &mut reached, &mut tries, task, goal);
+    bench.keep(reached, tries);
     worked
 }
 
@@ -85,13 +90,15 @@ fn worked<'a>(
 fn worked_from(
     alloc: Global,
     instance: &Instance,
-    reached: &Propagator,
+    reached: &mut Propagator,
+    tries: &mut Tries,
     task: &Task,
     goal: u32,
 ) -> Result<Worked, MemoryFault>
     requires task { IsTask instance.now task.now }
-    requires comes { ComesTo instance.now goal task.now.decisions reached.now }
-    ensures { IfOk result (IsWorked instance.now task.now goal) }
+    requires comes { ComesTo instance.now goal task.now.decisions reached.old }
+    ensures worked { IfOk result (IsWorked instance.now task.now goal) }
+    ensures instance { reached.new.instance ≡ instance.now }
 {
     if reached.decisions().len() < task.decisions().len() {
         return worked_anew(alloc, instance, task, goal);
@@ -100,8 +107,10 @@ fn worked_from(
         let leaf = reached.leaf(alloc)?;
         return Ok(Worked::Closed(leaf));
     }
+    let at_root = task.name().as_slice().is_empty();
+    let kind = branch_on(alloc, instance, reached, tries, at_root)?;
     let facts = reached.facts();
-    branched(alloc, instance, facts.choice(), facts, task, goal)
+    taken(alloc, instance, facts.choice(), task, goal, kind)
 }
 
 /// The same by a propagation of its own: the choice is a closed one's, since the goal has fallen.
@@ -117,28 +126,34 @@ fn worked_anew(
     let choice = task.choice(alloc, instance)?;
     match tried(alloc, instance, &choice, goal)? {
         Trial::Closed(leaf) => Ok(Worked::Closed(leaf)),
-        Trial::At(facts) => branched(alloc, instance, &choice, &facts, task, goal),
+        Trial::At(facts) => {
+            let at_root = task.name().as_slice().is_empty();
+            let kind = branch(instance, &choice, &facts, at_root);
+            taken(alloc, instance, &choice, task, goal, kind)
+        }
     }
 }
 
 /// The branch that is taken, or the plan that is found where nothing is left to choose.
-fn branched(
+fn taken(
     alloc: Global,
     instance: &Instance,
     choice: &Choice,
-    facts: &Facts,
     task: &Task,
     goal: u32,
+    kind: Option<Kind>,
 ) -> Result<Worked, MemoryFault>
     requires task { IsTask instance.now task.now }
     requires of { IsChoice instance.now choice.now }
     requires choice { choice.now ≡ choice_of instance.now task.now }
-    requires left { IsLeft instance.now choice.now goal facts.now }
+    requires above { (bound : ℕ) → IsPathBound instance.now bound → bound < goal }
+    requires finds { IsComplete instance.now choice.now → (plan : Plan) × IsPlanBelow instance.now choice.now goal plan }
+    requires branches { Branches instance.now choice.now kind }
+    requires root { task.now ≡ root_task → 2 ≤ length instance.now.nodes → kind ≡ Some Place }
     ensures { IfOk result (IsWorked instance.now task.now goal) }
 {
     let _nodes = instance.nodes();
-    let at_root = task.name().as_slice().is_empty();
-    let Some(kind) = branch(instance, choice, facts, at_root) else {
+    let Some(kind) = kind else {
         return found(alloc, instance, choice, goal);
     };
     let tasks = child_tasks(alloc, instance, choice, task, &kind)?;

@@ -6,9 +6,10 @@ use Rattle.ttp_model.specs.Rules.{IsInstance}
 use Rattle.ttp_model.specs.Chains.{IsPathBound}
 use Rattle.tt_choice.specs.declared.decision.Decision.{Decision}
 use Rattle.tt_choice.specs.Choice.{Choice, IsChoice, IsComplete}
-use Rattle.tt_choice.specs.Branches.{root_choice}
+use Rattle.tt_choice.specs.Branches.{root_choice, order_pair}
 use Rattle.tt_choice.specs.Decisions.{AreOpenDecisions, chosen}
 use Rattle.tt_infer.specs.Known.{first_facts}
+use Rattle.tt_infer.specs.Facts.{Facts}
 use Rattle.path_bounds.specs.Journal.{Journal}
 use Rattle.path_bounds.specs.Propagation.{LeadSharply, IsPlanBelow}
 
@@ -62,3 +63,9 @@ pub record Undoes (old new : Propagator) : Type 0 where
   pub last : Decision
   pub decisions : old.decisions ≡ new.decisions ++ last ∷ []
   pub earlier : old.earlier ≡ new.earlier ++ new.current ∷ []
+
+-- what would be known of the plans below the goal in which one process goes before another
+pub record IsSupposition (s : Propagator) (p q : ℕ) (facts : Facts) : Type 0 where
+  pub instance : facts.instance ≡ s.instance
+  pub choice : facts.choice ≡ order_pair s.current.facts.choice p q
+  pub goal : facts.goal ≡ s.goal

@@ -43,6 +43,21 @@ pub fn go_on(
     follow(alloc, journal, agenda, &mut steps)
 }
 
+/// The same where process `p` was set to go before `q`, and all was tried that could sharpen what was known before that.
+pub fn suppose(
+    alloc: Global,
+    agenda: &mut Agenda,
+    p: u32,
+    q: u32,
+    journal: &mut Journal,
+) -> Result<(), MemoryFault>
+    ensures { Advances journal.old journal.new }
+{
+    agenda.suppose(journal.facts(), p, q)?;
+    let mut steps = Vec::new(alloc);
+    follow(alloc, journal, agenda, &mut steps)
+}
+
 /// Tries these steps and those that come of them.
 fn follow(
     alloc: Global,

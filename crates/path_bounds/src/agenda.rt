@@ -36,6 +36,12 @@ pub struct Agenda {
     until_ring: u32,
 }
 
+/// After how many facts rings are looked for again.
+fn facts_between_rings(instance: &Instance) -> u32 {
+    let parts = instance.processes().len() as u32 + instance.messages().len() as u32;
+    parts * FACTS_BETWEEN_RINGS
+}
+
 impl Agenda {
     /// Nothing that waits.
     pub fn of(alloc: Global, instance: &Instance) -> Result<Self, MemoryFault> {
@@ -80,6 +86,14 @@ impl Agenda {
             }
             Decision::AtMost(_, _) | Decision::AtLeast(_, _) => Ok(()),
         }
+    }
+
+    /// Begins anew with the order of two processes, as if it had just been sharpened, of facts in which all was tried. Rings
+    /// are looked for only after a while: along one the starts rise until a process has no room.
+    pub fn suppose(&mut self, facts: &Facts, p: u32, q: u32) -> Result<(), MemoryFault> {
+        self.clear();
+        self.until_ring = facts_between_rings(facts.instance());
+        self.note(facts, Fact::Order(p, q))
     }
 
     /// Forgets all that waits.
@@ -249,9 +263,7 @@ impl Agenda {
             self.until_ring -= 1;
             return Ok(());
         }
-        let instance = facts.instance();
-        let parts = instance.processes().len() as u32 + instance.messages().len() as u32;
-        self.until_ring = parts * FACTS_BETWEEN_RINGS;
+        self.until_ring = facts_between_rings(facts.instance());
         if let Some(step) = ring_step(alloc, &self.network, facts)? {
             steps.push(step)?;
         }

@@ -2,8 +2,10 @@
 
 ghost use Rattle.std.specs.Prelude.{◌≡◌, ◌<◌, ◌++◌, [], All, IfOk, IfSome, IsTrue, IsFalse};
 ghost use Rattle.tt_choice.specs.Choice.{IsChoice};
+ghost use Rattle.tt_choice.specs.Branches.{IsUnorderedPair, order_pair};
 ghost use Rattle.tt_choice.specs.Decisions.{choice_after, IsOpenDecision};
 ghost use Rattle.tt_infer.specs.Known.{first_facts};
+ghost use Rattle.tt_infer.specs.Conclusions.{GoesFirst, sharpened};
 ghost use Rattle.tt_infer.specs.Facts.{after};
 ghost use Rattle.path_bounds.specs.Journal.{Advances, Sharpens, SharpensNothing, slack_of};
 
@@ -75,6 +77,28 @@ impl<'a> Journal<'a> {
         let mut steps = self.steps;
         steps.clear();
         steps.reserve(level.steps.len())?;
+        Ok(Journal { facts, steps })
+    }
+
+    /// The log without steps of what another log is about, where besides process `p` goes before `q`, in the room of this one.
+    pub fn supposing(
+        self,
+        alloc: Global,
+        level: &Journal<'a>,
+        p: u32,
+        q: u32,
+    ) -> Result<Journal<'a>, MemoryFault>
+        requires { IsUnorderedPair level.now.facts.instance level.now.facts.choice p q }
+        ensures { IfOk result (λ log. log.facts ≡ record {
+          instance = level.now.facts.instance;
+          choice = order_pair level.now.facts.choice p q;
+          goal = level.now.facts.goal;
+          known = sharpened level.now.facts.instance level.now.facts.known (GoesFirst p q);
+        }) }
+    {
+        let facts = self.facts.supposing(alloc, level.facts(), p, q)?;
+        let mut steps = self.steps;
+        steps.clear();
         Ok(Journal { facts, steps })
     }
 

@@ -21,6 +21,7 @@ mod reached;
 mod reads;
 mod required;
 mod rings;
+mod supposition;
 mod trim;
 
 pub use chains::path_bound;
@@ -28,4 +29,5 @@ pub use goals::best_goal;
 pub use propagation::propagate;
 pub use propagator::Propagator;
 pub use reached::Reached;
+pub use supposition::Supposition;
 pub use trim::closed_leaf;

@@ -4,16 +4,18 @@ ghost use Rattle.std.specs.Prelude.{◌≡◌, ◌<◌, ◌≤◌, ℕ, [], IfOk
 ghost use Rattle.ttp_model.specs.declared.plan.Plan.{Plan};
 ghost use Rattle.ttp_model.specs.Chains.{IsPathBound};
 ghost use Rattle.tt_choice.specs.Choice.{IsComplete};
+ghost use Rattle.tt_choice.specs.Branches.{IsUnorderedPair};
 ghost use Rattle.tt_choice.specs.Decisions.{choice_after, IsOpenDecision};
 ghost use Rattle.tt_infer.specs.Leaves.{ClosesLeaf};
 ghost use Rattle.path_bounds.specs.Journal.{Journal, Advances};
 ghost use Rattle.path_bounds.specs.Propagation.{IsPlanBelow};
-ghost use Rattle.path_bounds.specs.Propagator.{Begins, IsPropagation, IsStarted, Decides, Undoes, IsLog};
+ghost use Rattle.path_bounds.specs.Propagator.{Begins, IsPropagation, IsStarted, Decides, Undoes, IsLog, IsSupposition};
 
-use crate::acceleration::go_on;
+use crate::acceleration::{go_on, suppose};
 use crate::agenda::Agenda;
 use crate::journal::Journal;
 use crate::propagation::{complete, reach};
+use crate::supposition::Supposition;
 use crate::trim::trimmed_leaf;
 use std::alloc::Global;
 use std::marker::Model;
@@ -182,6 +184,27 @@ impl<'a> Propagator<'a> {
             let room = mem::replace(&mut self.current, before);
             keep(&mut self.spare, room);
         }
+    }
+
+    /// What would be known, as far as that is found at once, if process `p` went before `q`: what is known is copied and that
+    /// order set, and propagation goes on from there. For the choice of a branch alone.
+    pub fn suppose(&mut self, alloc: Global, p: u32, q: u32) -> Result<Supposition<'a>, MemoryFault>
+        requires { IsUnorderedPair self.old.instance self.old.current.facts.choice p q }
+        ensures same { self.new ≡ self.old }
+        ensures about { IfOk result (IsSupposition self.old p q) }
+    {
+        self.spare.reserve(2)?;
+        let room = room(alloc, &mut self.spare, &self.current)?;
+        let mut journal = room.supposing(alloc, &self.current, p, q)?;
+        suppose(alloc, &mut self.agenda, p, q, &mut journal)?;
+        Ok(Supposition { journal })
+    }
+
+    /// Keeps the memory of what was supposed, to be used again.
+    pub fn release(&mut self, supposition: Supposition<'a>)
+        ensures { self.new ≡ self.old }
+    {
+        keep(&mut self.spare, supposition.journal);
     }
 
     /// The decisions that were made and not taken back, the first first.

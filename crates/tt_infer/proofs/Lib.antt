@@ -17,6 +17,7 @@ pub mod Sharper
 pub mod SlotsAfter
 pub mod Kept
 pub mod FirstFacts
+pub mod Supposed
 pub mod Leaves
 pub mod Determined
 pub mod GreatestWaits

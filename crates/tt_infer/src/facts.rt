@@ -5,6 +5,8 @@ ghost use Rattle.ttp_model.specs.declared.plan.Plan.{Plan};
 ghost use Rattle.tt_choice.specs.Choice.{IsChoice};
 ghost use Rattle.tt_choice.specs.Decisions.{choice_after, IsOpenDecision};
 ghost use Rattle.tt_infer.specs.Known.{IsSought, es_of, le_of, lo_of, top_of, bef_of, first_facts};
+ghost use Rattle.tt_choice.specs.Branches.{IsUnorderedPair, order_pair};
+ghost use Rattle.tt_infer.specs.Conclusions.{GoesFirst, sharpened};
 ghost use Rattle.tt_infer.specs.Facts.{AreFacts, after};
 ghost use Rattle.tt_infer.specs.Answers.{Takes};
 
@@ -77,6 +79,31 @@ impl<'a> Facts<'a> {
     {
         let setting = self.setting.after(alloc, &before.setting, decision)?;
         let known = self.known.restarted(setting.instance(), setting.choice())?;
+        Ok(Facts { setting, known })
+    }
+
+    /// What is known of the plans of other facts in which process `p` goes before `q`, in the room of these facts: what was
+    /// known of all, and that order.
+    pub fn supposing(
+        self,
+        alloc: Global,
+        before: &Facts<'a>,
+        p: u32,
+        q: u32,
+    ) -> Result<Facts<'a>, MemoryFault>
+        requires { IsUnorderedPair before.now.instance before.now.choice p q }
+        ensures { IfOk result (λ f. f ≡ record {
+          instance = before.now.instance;
+          choice = order_pair before.now.choice p q;
+          goal = before.now.goal;
+          known = sharpened before.now.instance before.now.known (GoesFirst p q);
+        }) }
+    {
+        let setting = self
+            .setting
+            .after(alloc, &before.setting, Decision::Before(p, q))?;
+        let mut known = self.known.set_to(&before.known)?;
+        known.go_first(setting.instance(), p, q);
         Ok(Facts { setting, known })
     }
 

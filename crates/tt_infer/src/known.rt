@@ -6,6 +6,7 @@ ghost use Rattle.tt_choice.specs.Choice.{IsChoice, greatest_round};
 ghost use Rattle.tt_infer.specs.Known.{Known, Fits, es_of, le_of, lo_of, top_of, bef_of, first_facts};
 ghost use Rattle.tt_infer.specs.Conclusions.{StartsFrom, EndsUntil, SentFrom, SentBefore, GoesFirst, NothingLeft, sharpened};
 
+use crate::rooms::refilled;
 use std::alloc::Global;
 use std::marker::Model;
 use tt_choice::{Choice, Precedence};
@@ -113,6 +114,22 @@ impl Known {
             top: late_rounds(self.top, choice, messages)?,
             bef,
             closed: false,
+        })
+    }
+
+    /// The same as is known elsewhere, in the room of what was known.
+    pub fn set_to(self, other: &Known) -> Result<Self, MemoryFault>
+        ensures { IfOk result (λ f. f ≡ other.now) }
+    {
+        let mut bef = self.bef;
+        bef.set_to(&other.bef)?;
+        Ok(Known {
+            es: refilled(self.es, other.es.as_slice())?,
+            le: refilled(self.le, other.le.as_slice())?,
+            lo: refilled(self.lo, other.lo.as_slice())?,
+            top: refilled(self.top, other.top.as_slice())?,
+            bef,
+            closed: other.closed,
         })
     }
 

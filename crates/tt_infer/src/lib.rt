@@ -8,6 +8,7 @@ mod indices;
 mod known;
 mod late;
 mod laws;
+mod rooms;
 mod rules;
 mod setting;
 mod slots;

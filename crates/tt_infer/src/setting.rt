@@ -7,6 +7,7 @@ ghost use Rattle.tt_choice.specs.Decisions.{choice_after, IsOpenDecision};
 ghost use Rattle.tt_choice.specs.Extremes.{start_least, start_most, end_least, end_most, cap_least, cap_most, dur_least};
 ghost use Rattle.tt_infer.specs.Setting.{AreSlotTimes, AreShort, AreSlots};
 
+use crate::rooms::refilled;
 use crate::slots::{SlotTimes, slots_of};
 use std::alloc::Global;
 use std::marker::Model;
@@ -36,16 +37,6 @@ impl<'a> Model for Setting<'a> {
       choice = s.choice;
       goal = s.goal;
     }) s.slots.items };
-}
-
-/// These slots, in this room.
-fn refilled(room: Vec<SlotTimes>, others: &[SlotTimes]) -> Result<Vec<SlotTimes>, MemoryFault>
-    ensures { IfOk result (λ slots. slots.items ≡ others.now) }
-{
-    let mut slots = room;
-    slots.clear();
-    slots.extend_from_slice(others)?;
-    Ok(slots)
 }
 
 /// The slots of all nodes after a decision, in this room. Where slots stand and how long they are changes with a place and a

@@ -39,6 +39,20 @@ pub fn is_bare(instance: &Instance, choice: &Choice) -> bool
     choice.prefix().len() < 2
 }
 
+/// How many decisions on the layout stand, of those that had several options.
+pub fn decisions(instance: &Instance, choice: &Choice) -> usize
+    requires { IsChoice instance.now choice.now }
+{
+    let count = instance.nodes().len() as u32;
+    let mut fixed = 0usize;
+    for n in 0..count {
+        if has_options(instance, n) && choice.fixed_cap(n).is_some() {
+            fixed = fixed.saturating_add(1);
+        }
+    }
+    choice.prefix().len().saturating_add(fixed)
+}
+
 /// Whether node `n` has several capacities to choose from.
 fn has_options(instance: &Instance, n: u32) -> bool {
     let nodes = instance.nodes();

@@ -5,9 +5,10 @@ ghost use Rattle.tt_choice.specs.Choice.{IsChoice};
 ghost use Rattle.branch_tree.specs.Branching.{MayBranch, MayTake};
 
 use crate::branching::candidate::{Candidate, tighter};
+use std::alloc::Global;
 use tt_choice::Choice;
 use tt_infer::Facts;
-use ttp_model::{Instance, Kind};
+use ttp_model::{Instance, Kind, MemoryFault};
 
 /// The branch on the two processes of one node that overlap and have the least freedom, if any do.
 /// Two passes over pairs.
@@ -48,6 +49,45 @@ fn tightest_with(
         }
     }
     tightest
+}
+
+/// The branches on two processes of one node that overlap, those with the least freedom first.
+pub fn overlapping_pairs(
+    alloc: Global,
+    instance: &Instance,
+    choice: &Choice,
+    facts: &Facts,
+) -> Result<Vec<Candidate>, MemoryFault>
+    requires of { IsChoice instance.now choice.now }
+    requires facts { facts.now.instance ≡ instance.now }
+{
+    let count = instance.processes().len() as u32;
+    let mut pairs = Vec::new(alloc);
+    for p in 0..count {
+        add_overlaps(instance, choice, facts, p, &mut pairs)?;
+    }
+    pairs.sort_unstable_by_key(|pair| pair.freedom);
+    Ok(pairs)
+}
+
+/// Adds the branches on process `p` and earlier ones that it overlaps with.
+fn add_overlaps(
+    instance: &Instance,
+    choice: &Choice,
+    facts: &Facts,
+    p: u32,
+    pairs: &mut Vec<Candidate>,
+) -> Result<(), MemoryFault>
+    requires of { IsChoice instance.now choice.now }
+    requires facts { facts.now.instance ≡ instance.now }
+    requires process { p < length instance.now.processes }
+{
+    for q in 0..p {
+        if let Some(candidate) = overlap(instance, choice, facts, q, p) {
+            pairs.push(candidate)?;
+        }
+    }
+    Ok(())
 }
 
 /// The branch on two processes, where they are in neither order and overlap. The order that leaves

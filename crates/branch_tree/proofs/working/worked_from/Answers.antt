@@ -2,8 +2,8 @@ use Rattle.std.proofs.Common.{◌∙◌, sym}
 use Rattle.branch_tree.proofs.Workbenches.{left_at}
 use Rattle.branch_tree.proofs.working.worked_from.Goals as goal
 
-pub branched-requires-clause-left : goal.branched-requires-clause-left
-branched-requires-clause-left c =
+pub taken-requires-clause-above : goal.taken-requires-clause-above
+taken-requires-clause-above c =
     let whole = rw (c.decisions-2.ensures, c.decisions.ensures.value) at c.if-decisions.false in
     let left = sym c.closed.ensures.value ∙ c.if-closed.false in
-    rw (c.choice.ensures.value, c.facts-facts.ensures.value) (left_at c.args.instance.now c.args.goal c.args.task.now.decisions c.args.reached.now c.requires.comes c.decisions.ensures.is whole left)
+    (left_at c.args.instance.now c.args.goal c.args.task.now.decisions c.args.reached.now c.requires.comes c.decisions.ensures.is whole left).above
