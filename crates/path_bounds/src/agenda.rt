@@ -1,11 +1,11 @@
 //! Which steps are tried next?
 
 use crate::consequences::add_consequences;
-use crate::fact::{Fact, value};
+use crate::fact::{Fact, link_after, value};
 use crate::fact_set::FactSet;
 use crate::flags::{lower, raise};
 use crate::network::Network;
-use crate::parts::{node, receivers, source};
+use crate::parts::{node, receivers, source, wcet};
 use crate::rings::ring_step;
 use load_bounds::{frame_load, node_load};
 use std::alloc::Global;
@@ -34,6 +34,11 @@ pub struct Agenda {
     sendings: [bool; MOST_NODES],
     /// How many facts are taken before rings are looked for.
     until_ring: u32,
+}
+
+/// Whether two lists have different numbers at a place.
+fn differ(before: &[u32], now: &[u32], place: u32) -> bool {
+    before.get(place as usize) != now.get(place as usize)
 }
 
 /// After how many facts rings are looked for again.
@@ -68,7 +73,8 @@ impl Agenda {
         self.add_rounds(instance)
     }
 
-    /// Begins anew with what is known better than before, as if it had just been sharpened, and with a decision.
+    /// Begins anew with what is known better than before, as if it had just been sharpened, and with a decision. Rings are looked
+    /// for at once where it is an order of two processes, and else after a while.
     pub fn resume(
         &mut self,
         before: &Facts,
@@ -78,14 +84,14 @@ impl Agenda {
         self.clear();
         self.note_processes(before, facts)?;
         self.note_messages(before, facts)?;
-        match decision {
-            Decision::Before(p, q) => self.note(facts, Fact::Order(p, q)),
-            Decision::Place(_) | Decision::Cap(_, _) => {
-                self.raise_messages(facts.instance());
-                Ok(())
-            }
-            Decision::AtMost(_, _) | Decision::AtLeast(_, _) => Ok(()),
+        if let Decision::Before(p, q) = decision {
+            return self.note(facts, Fact::Order(p, q));
         }
+        self.until_ring = facts_between_rings(facts.instance());
+        if let Decision::Place(_) | Decision::Cap(_, _) = decision {
+            self.raise_messages(facts.instance());
+        }
+        Ok(())
     }
 
     /// Begins anew with the order of two processes, as if it had just been sharpened, of facts in which all was tried. Rings
@@ -113,8 +119,12 @@ impl Agenda {
     fn note_processes(&mut self, before: &Facts, facts: &Facts) -> Result<(), MemoryFault> {
         let count = facts.instance().processes().len() as u32;
         for p in 0..count {
-            self.note_change(before, facts, Fact::Start(p))?;
-            self.note_change(before, facts, Fact::End(p))?;
+            if differ(before.starts(), facts.starts(), p) {
+                self.note(facts, Fact::Start(p))?;
+            }
+            if differ(before.ends(), facts.ends(), p) {
+                self.note(facts, Fact::End(p))?;
+            }
         }
         Ok(())
     }
@@ -123,23 +133,14 @@ impl Agenda {
     fn note_messages(&mut self, before: &Facts, facts: &Facts) -> Result<(), MemoryFault> {
         let count = facts.instance().messages().len() as u32;
         for m in 0..count {
-            self.note_change(before, facts, Fact::FirstRound(m))?;
-            self.note_change(before, facts, Fact::LateRound(m))?;
+            if differ(before.first_rounds(), facts.first_rounds(), m) {
+                self.note(facts, Fact::FirstRound(m))?;
+            }
+            if differ(before.late_rounds(), facts.late_rounds(), m) {
+                self.note(facts, Fact::LateRound(m))?;
+            }
         }
         Ok(())
-    }
-
-    /// Takes note of a fact, where it is known better than before.
-    fn note_change(
-        &mut self,
-        before: &Facts,
-        facts: &Facts,
-        fact: Fact,
-    ) -> Result<(), MemoryFault> {
-        if value(facts, fact) == value(before, fact) {
-            return Ok(());
-        }
-        self.note(facts, fact)
     }
 
     /// What slots say of each message may have changed: its receivers may wait less long, and its frames may be too full.
@@ -274,11 +275,36 @@ impl Agenda {
     fn add_settled(&mut self, facts: &Facts, steps: &mut Vec<Step>) -> Result<(), MemoryFault> {
         let count = facts.instance().processes().len() as u32;
         for p in 0..count {
-            if lower(&mut self.unsettled, p) {
+            if lower(&mut self.unsettled, p) && !self.may_end_last(facts, p) {
                 steps.push(Step::UsSettled(p))?;
             }
         }
         Ok(())
+    }
+
+    /// Whether process `p` may have to wait for another of its node until it can't end earlier than is known: then the rule on
+    /// settled plans says nothing of it.
+    fn may_end_last(&self, facts: &Facts, p: u32) -> bool {
+        for x in self.network.hosted(node(facts.instance(), p)) {
+            if *x != p
+                && !facts.bef(p, *x)
+                && fills(facts, *x, p)
+                && !self.is_linked(facts, p, *x)
+            {
+                return true;
+            }
+        }
+        false
+    }
+
+    /// Whether a link leads from process `p` to `x`.
+    fn is_linked(&self, facts: &Facts, p: u32, x: u32) -> bool {
+        for l in self.network.links_from(p) {
+            if link_after(facts.instance(), *l) == x {
+                return true;
+            }
+        }
+        false
     }
 
     /// Adds the closers of loads, and of messages that could go out earlier, for each node of which
@@ -305,6 +331,12 @@ impl Agenda {
         }
         Ok(())
     }
+}
+
+/// Whether process `p` behind the latest end of `x` ends as late as is known of it, or later.
+fn fills(facts: &Facts, x: u32, p: u32) -> bool {
+    let end = u64::from(value(facts, Fact::End(x))) + u64::from(wcet(facts.instance(), p));
+    end >= u64::from(value(facts, Fact::End(p)))
 }
 
 /// Adds the closers of the messages of node `n` that could go out earlier than they may. A message

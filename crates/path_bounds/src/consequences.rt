@@ -1,12 +1,12 @@
 //! Which steps may sharpen once a fact has been sharpened?
 
-use crate::fact::{Fact, value};
+use crate::fact::{Fact, link_after, link_before, value};
 use crate::network::Network;
 use crate::parts::{node, receivers, wcet};
 use tt_infer::Facts;
 use ttp_model::{MemoryFault, Step};
 
-/// Adds the steps that read a fact, the one to be tried first last.
+/// Adds the steps that read a fact, the one to be tried first last. Those that plainly say nothing new are left out.
 pub fn add_consequences(
     network: &Network,
     facts: &Facts,
@@ -17,8 +17,8 @@ pub fn add_consequences(
         Fact::Start(p) => add_after_start(network, facts, p, steps),
         Fact::End(p) => add_after_end(network, facts, p, steps),
         Fact::FirstRound(m) => add_after_first_round(facts, m, steps),
-        Fact::LateRound(m) => add_after_late_round(m, steps),
-        Fact::Order(p, q) => add_after_order(p, q, steps),
+        Fact::LateRound(m) => add_after_late_round(facts, m, steps),
+        Fact::Order(p, q) => add_after_order(facts, p, q, steps),
         Fact::Closed => Ok(()),
     }
 }
@@ -34,10 +34,35 @@ fn add_after_start(
     add_mates_after(network, facts, p, steps)?;
     add_sent(network, facts, p, steps)?;
     for l in network.links_from(p) {
-        steps.push(Step::EsLink(*l))?;
+        if pushes(facts, p, link_after(facts.instance(), *l)) {
+            steps.push(Step::EsLink(*l))?;
+        }
     }
-    steps.push(Step::XWindow(p))?;
+    add_window(facts, p, steps)
+}
+
+/// Adds the closer of process `p`, where it has no room.
+fn add_window(facts: &Facts, p: u32, steps: &mut Vec<Step>) -> Result<(), MemoryFault> {
+    if least_end(facts, p) > u64::from(value(facts, Fact::End(p))) {
+        steps.push(Step::XWindow(p))?;
+    }
     Ok(())
+}
+
+/// When process `p` ends at least, in ticks.
+fn least_end(facts: &Facts, p: u32) -> u64 {
+    u64::from(value(facts, Fact::Start(p))) + u64::from(wcet(facts.instance(), p))
+}
+
+/// Whether process `q` isn't known to start as late as `p` ends at least.
+fn pushes(facts: &Facts, p: u32, q: u32) -> bool {
+    u64::from(value(facts, Fact::Start(q))) < least_end(facts, p)
+}
+
+/// Whether process `p` isn't known to end as early as `q` starts at most.
+fn pulls(facts: &Facts, p: u32, q: u32) -> bool {
+    let end = u64::from(value(facts, Fact::End(p))) + u64::from(wcet(facts.instance(), q));
+    end > u64::from(value(facts, Fact::End(q)))
 }
 
 /// The orders of process `p` and the others of its node that a later start of it says more of.
@@ -49,10 +74,26 @@ fn add_mates_after(
 ) -> Result<(), MemoryFault> {
     for q in network.hosted(node(facts.instance(), p)) {
         if facts.bef(p, *q) {
-            steps.push(Step::EsBefore(p, *q))?;
+            add_before(facts, p, *q, steps)?;
         } else if is_too_late(facts, p, *q) {
             steps.push(Step::OrdWindow(*q, p))?;
         }
+    }
+    Ok(())
+}
+
+/// Adds what the end of process `p` says of `q`, which goes after it.
+fn add_before(facts: &Facts, p: u32, q: u32, steps: &mut Vec<Step>) -> Result<(), MemoryFault> {
+    if pushes(facts, p, q) {
+        steps.push(Step::EsBefore(p, q))?;
+    }
+    Ok(())
+}
+
+/// Adds what the start of process `q` says of `p`, which goes before it.
+fn add_behind(facts: &Facts, p: u32, q: u32, steps: &mut Vec<Step>) -> Result<(), MemoryFault> {
+    if pulls(facts, p, q) {
+        steps.push(Step::LeBefore(p, q))?;
     }
     Ok(())
 }
@@ -90,10 +131,11 @@ fn add_after_end(
     add_mates_before(network, facts, p, steps)?;
     add_received(network, p, steps)?;
     for l in network.links_to(p) {
-        steps.push(Step::LeLink(*l))?;
+        if pulls(facts, link_before(facts.instance(), *l), p) {
+            steps.push(Step::LeLink(*l))?;
+        }
     }
-    steps.push(Step::XWindow(p))?;
-    Ok(())
+    add_window(facts, p, steps)
 }
 
 /// The orders of process `p` and the others of its node that an earlier end of it says more of.
@@ -105,7 +147,7 @@ fn add_mates_before(
 ) -> Result<(), MemoryFault> {
     for q in network.hosted(node(facts.instance(), p)) {
         if facts.bef(*q, p) {
-            steps.push(Step::LeBefore(*q, p))?;
+            add_behind(facts, *q, p, steps)?;
         } else if is_too_late(facts, *q, p) {
             steps.push(Step::OrdWindow(p, *q))?;
         }
@@ -136,20 +178,30 @@ fn add_after_first_round(facts: &Facts, m: u32, steps: &mut Vec<Step>) -> Result
     for q in receivers(facts.instance(), m) {
         steps.push(Step::EsArrive(m, *q))?;
     }
-    steps.push(Step::XRound(m))?;
+    add_round(facts, m, steps)
+}
+
+/// Adds the closer of message `m`, where it has no round.
+fn add_round(facts: &Facts, m: u32, steps: &mut Vec<Step>) -> Result<(), MemoryFault> {
+    if value(facts, Fact::FirstRound(m)) >= value(facts, Fact::LateRound(m)) {
+        steps.push(Step::XRound(m))?;
+    }
     Ok(())
 }
 
 /// What an earlier last round of message `m` says: its sender ends earlier.
-fn add_after_late_round(m: u32, steps: &mut Vec<Step>) -> Result<(), MemoryFault> {
+fn add_after_late_round(facts: &Facts, m: u32, steps: &mut Vec<Step>) -> Result<(), MemoryFault> {
     steps.push(Step::LeSend(m))?;
-    steps.push(Step::XRound(m))?;
-    Ok(())
+    add_round(facts, m, steps)
 }
 
 /// What it says that process `p` goes before `q`.
-fn add_after_order(p: u32, q: u32, steps: &mut Vec<Step>) -> Result<(), MemoryFault> {
-    steps.push(Step::LeBefore(p, q))?;
-    steps.push(Step::EsBefore(p, q))?;
-    Ok(())
+fn add_after_order(
+    facts: &Facts,
+    p: u32,
+    q: u32,
+    steps: &mut Vec<Step>,
+) -> Result<(), MemoryFault> {
+    add_behind(facts, p, q, steps)?;
+    add_before(facts, p, q, steps)
 }

@@ -12,6 +12,7 @@ mod flags;
 mod goals;
 mod groups;
 mod journal;
+mod marks;
 mod network;
 mod opening;
 mod parts;

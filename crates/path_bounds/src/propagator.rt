@@ -14,6 +14,7 @@ ghost use Rattle.path_bounds.specs.Propagator.{Begins, IsPropagation, IsStarted,
 use crate::acceleration::{go_on, suppose};
 use crate::agenda::Agenda;
 use crate::journal::Journal;
+use crate::marks::Marks;
 use crate::propagation::{complete, reach};
 use crate::supposition::Supposition;
 use crate::trim::trimmed_leaf;
@@ -38,6 +39,7 @@ pub struct Propagator<'a> {
     /// What was known after decisions that were taken back, for its memory.
     spare: Vec<Journal<'a>>,
     agenda: Agenda,
+    marks: Marks,
 }
 
 impl<'a> Model for Propagator<'a> {
@@ -144,6 +146,7 @@ impl<'a> Propagator<'a> {
             current,
             spare: Vec::new(alloc),
             agenda,
+            marks: Marks::none(alloc, instance)?,
         })
     }
 
@@ -238,12 +241,25 @@ impl<'a> Propagator<'a> {
         self.current.steps()
     }
 
-    /// A leaf of that choice at the goal, where no plan is left.
-    pub fn leaf(&self, alloc: Global) -> Result<Leaf, MemoryFault>
-        requires { IsTrue self.now.current.facts.known.closed }
-        ensures closes { IfOk result (ClosesLeaf self.now.instance self.now.current.facts.choice) }
-        ensures goal { IfOk result (λ leaf. leaf.goal ≡ self.now.goal) }
+    /// A leaf of that choice at the goal, where no plan is left. Takes memory for its steps alone, once a decision was taken back.
+    pub fn leaf(&mut self, alloc: Global) -> Result<Leaf, MemoryFault>
+        requires { IsTrue self.old.current.facts.known.closed }
+        ensures same { self.new ≡ self.old }
+        ensures closes { IfOk result (ClosesLeaf self.old.instance self.old.current.facts.choice) }
+        ensures goal { IfOk result (λ leaf. leaf.goal ≡ self.old.goal) }
     {
-        trimmed_leaf(alloc, self.facts(), self.log())
+        self.spare.reserve(1)?;
+        let room = room(alloc, &mut self.spare, &self.current)?;
+        let (facts, steps) = room.into_parts();
+        let level = &self.current;
+        let (leaf, facts) = trimmed_leaf(
+            alloc,
+            facts,
+            &mut self.marks,
+            level.facts(),
+            level.steps(),
+        )?;
+        keep(&mut self.spare, Journal::new(facts, steps));
+        Ok(leaf)
     }
 }

@@ -1,15 +1,13 @@
-//! Which steps does a closer need?
+//! Which leaf do steps that close a choice make?
 
 ghost use Rattle.std.specs.Prelude.{◌≡◌, ◌^◌, ◌<◌, IfOk, IfSome, length};
-ghost use Rattle.tt_choice.specs.Choice.{IsChoice};
+ghost use Rattle.tt_choice.specs.Choice.{IsChoice, bare};
 ghost use Rattle.tt_infer.specs.Leaves.{ClosesLeaf};
 ghost use Rattle.path_bounds.specs.Journal.{Advances};
 
 use crate::copies::all_copied;
-use crate::fact::{Fact, target};
-use crate::fact_set::FactSet;
 use crate::journal::Journal;
-use crate::reads::add_reads;
+use crate::marks::Marks;
 use std::alloc::Global;
 use tt_choice::Choice;
 use tt_infer::Facts;
@@ -30,41 +28,42 @@ pub fn closed_leaf(
     ensures closes { IfOk result (ClosesLeaf instance.now choice.now) }
     ensures goal { IfOk result (λ leaf. leaf.goal ≡ goal) }
 {
-    let needed = needed(alloc, instance, choice, goal, steps.as_slice())?;
-    let trimmed = replayed(
-        alloc,
-        instance,
-        choice,
-        goal,
-        steps.as_slice(),
-        needed.as_slice(),
-    )?;
+    let facts = reached(alloc, instance, choice, goal, steps.as_slice())?;
+    let mut marks = Marks::none(alloc, instance)?;
+    marks.set_to(&facts, steps.as_slice())?;
+    let trimmed = replayed(alloc, instance, choice, goal, steps.as_slice(), &marks)?;
     match trimmed {
         Some(short) => Ok(leaf_of(goal, short)),
         None => Ok(leaf_of(goal, steps)),
     }
 }
 
-/// A leaf of the steps that lead to what is known, where no plan is left, without those that its closer doesn't need.
-pub fn trimmed_leaf(alloc: Global, facts: &Facts, steps: &[Step]) -> Result<Leaf, MemoryFault>
+/// A leaf of the steps that lead to what is known, where no plan is left, without those that its closer doesn't need; worked out
+/// in the room of other facts, which comes back.
+pub fn trimmed_leaf<'a>(
+    alloc: Global,
+    room: Facts<'a>,
+    marks: &mut Marks,
+    facts: &Facts<'a>,
+    steps: &[Step],
+) -> Result<(Leaf, Facts<'a>), MemoryFault>
+    requires none_kept { bare facts.now.choice ≡ facts.now.choice }
     requires closes { ClosesLeaf facts.now.instance facts.now.choice (record { goal = facts.now.goal; steps = steps.now }) }
     requires few { length steps.now < 2 ^ 32 }
-    ensures closes { IfOk result (ClosesLeaf facts.now.instance facts.now.choice) }
-    ensures goal { IfOk result (λ leaf. leaf.goal ≡ facts.now.goal) }
+    ensures closes { IfOk result (λ trimmed. ClosesLeaf facts.now.instance facts.now.choice trimmed.0) }
+    ensures goal { IfOk result (λ trimmed. trimmed.0.goal ≡ facts.now.goal) }
 {
-    let needed = marked(alloc, facts, steps)?;
-    let trimmed = replayed(
-        alloc,
-        facts.instance(),
-        facts.choice(),
-        facts.goal(),
-        steps,
-        needed.as_slice(),
-    )?;
-    match trimmed {
-        Some(short) => Ok(leaf_of(facts.goal(), short)),
-        None => Ok(leaf_of(facts.goal(), all_copied(alloc, steps)?)),
+    let _choice = facts.choice();
+    let count = marks.set_to(facts, steps)?;
+    let first = room.anew(facts)?;
+    let mut journal = Journal::new(first, Vec::with_capacity(alloc, count)?);
+    try_marked(alloc, &mut journal, steps, marks)?;
+    let (known, kept) = journal.into_parts();
+    if known.closed() {
+        return Ok((leaf_of(facts.goal(), kept), known));
     }
+    let all = all_copied(alloc, steps)?;
+    Ok((leaf_of(facts.goal(), all), known))
 }
 
 /// The leaf of these steps.
@@ -85,7 +84,7 @@ fn replayed(
     choice: &Choice,
     goal: u32,
     steps: &[Step],
-    marks: &[bool],
+    marks: &Marks,
 ) -> Result<Option<Vec<Step>>, MemoryFault>
     requires { IsChoice instance.now choice.now }
     ensures closes { IfOk result (λ found. IfSome found (λ steps.
@@ -107,51 +106,16 @@ fn try_marked(
     alloc: Global,
     journal: &mut Journal,
     steps: &[Step],
-    marks: &[bool],
+    marks: &Marks,
 ) -> Result<(), MemoryFault>
     ensures { Advances journal.old journal.new }
 {
     'tries: for (k, step) in steps.iter().enumerate() {
-        if marks.get(k) == Some(&true) {
+        if marks.is_marked(k) {
             journal.try_again(alloc, step)?;
         }
     }
     Ok(())
-}
-
-/// For each step whether the close needs it: the step that closes, and each that was the last to
-/// sharpen a fact before a needed step read it.
-fn needed(
-    alloc: Global,
-    instance: &Instance,
-    choice: &Choice,
-    goal: u32,
-    steps: &[Step],
-) -> Result<Vec<bool>, MemoryFault>
-    requires { IsChoice instance.now choice.now }
-{
-    let facts = reached(alloc, instance, choice, goal, steps)?;
-    marked(alloc, &facts, steps)
-}
-
-/// The same, where this is known after the steps.
-fn marked(alloc: Global, facts: &Facts, steps: &[Step]) -> Result<Vec<bool>, MemoryFault> {
-    let mut marks = vec![in alloc; false; steps.len()]?;
-    let mut wanted = FactSet::none(alloc, facts.instance())?;
-    wanted.insert(Fact::Closed);
-    mark(facts, steps, &mut wanted, &mut marks);
-    Ok(marks)
-}
-
-/// Marks the steps that are needed for the facts of a set, the last first.
-fn mark(facts: &Facts, steps: &[Step], wanted: &mut FactSet, marks: &mut [bool]) {
-    for k in (0..steps.len()).rev() {
-        let step = &steps[k];
-        if k < marks.len() && wanted.remove(target(facts.instance(), step)) {
-            marks[k] = true;
-            add_reads(wanted, facts, step);
-        }
-    }
 }
 
 /// What is known after these steps.

@@ -2,7 +2,7 @@
 
 ghost use Rattle.std.specs.Prelude.{◌≡◌, ◌<◌, IfOk, IsTrue, length};
 ghost use Rattle.ttp_model.specs.declared.plan.Plan.{Plan};
-ghost use Rattle.tt_choice.specs.Choice.{IsChoice};
+ghost use Rattle.tt_choice.specs.Choice.{IsChoice, bare};
 ghost use Rattle.tt_choice.specs.Decisions.{choice_after, IsOpenDecision};
 ghost use Rattle.tt_infer.specs.Known.{IsSought, es_of, le_of, lo_of, top_of, bef_of, first_facts};
 ghost use Rattle.tt_choice.specs.Branches.{IsUnorderedPair, order_pair};
@@ -78,6 +78,20 @@ impl<'a> Facts<'a> {
         }) }
     {
         let setting = self.setting.after(alloc, &before.setting, decision)?;
+        let known = self.known.restarted(setting.instance(), setting.choice())?;
+        Ok(Facts { setting, known })
+    }
+
+    /// What is known at first of the plans that other facts are about, in the room of these facts. No decision is kept.
+    pub fn anew(self, before: &Facts<'a>) -> Result<Facts<'a>, MemoryFault>
+        ensures { IfOk result (λ f. f ≡ record {
+          instance = before.now.instance;
+          choice = bare before.now.choice;
+          goal = before.now.goal;
+          known = first_facts before.now.instance (bare before.now.choice);
+        }) }
+    {
+        let setting = self.setting.set_to(&before.setting)?;
         let known = self.known.restarted(setting.instance(), setting.choice())?;
         Ok(Facts { setting, known })
     }
@@ -159,6 +173,34 @@ impl<'a> Facts<'a> {
         ensures { result ≡ top_of self.now.known m }
     {
         self.known.top(m)
+    }
+
+    /// By process, when it starts at least.
+    pub fn starts(&self) -> &[u32]
+        ensures { result.now ≡ self.now.known.es }
+    {
+        self.known.starts()
+    }
+
+    /// By process, when it ends at most.
+    pub fn ends(&self) -> &[u32]
+        ensures { result.now ≡ self.now.known.le }
+    {
+        self.known.ends()
+    }
+
+    /// By message, its least round.
+    pub fn first_rounds(&self) -> &[u32]
+        ensures { result.now ≡ self.now.known.lo }
+    {
+        self.known.first_rounds()
+    }
+
+    /// By message, the first round that is too late.
+    pub fn late_rounds(&self) -> &[u32]
+        ensures { result.now ≡ self.now.known.top }
+    {
+        self.known.late_rounds()
     }
 
     /// Whether process `p` is known to end before `q` starts: never where one of them isn't there.

@@ -165,6 +165,34 @@ impl Known {
         self.top[m as usize]
     }
 
+    /// By process, when it starts at least.
+    pub fn starts(&self) -> &[u32]
+        ensures { result.now ≡ self.now.es }
+    {
+        self.es.as_slice()
+    }
+
+    /// By process, when it ends at most.
+    pub fn ends(&self) -> &[u32]
+        ensures { result.now ≡ self.now.le }
+    {
+        self.le.as_slice()
+    }
+
+    /// By message, its least round.
+    pub fn first_rounds(&self) -> &[u32]
+        ensures { result.now ≡ self.now.lo }
+    {
+        self.lo.as_slice()
+    }
+
+    /// By message, the first round that is too late.
+    pub fn late_rounds(&self) -> &[u32]
+        ensures { result.now ≡ self.now.top }
+    {
+        self.top.as_slice()
+    }
+
     /// Whether process `p` is known to end before `q` starts.
     pub fn bef(&self, p: u32, q: u32) -> bool
         ensures { result ≡ bef_of self.now p q }

@@ -2,7 +2,7 @@
 
 ghost use Rattle.std.specs.Prelude.{◌≡◌, ℕ, ◌+◌, ◌^◌, ◌<◌, ◌≤◌, ◌↔◌, IfOk, length};
 ghost use Rattle.ttp_model.specs.declared.limits.TheConstants.{MOST_BYTES, MOST_DURATION};
-ghost use Rattle.tt_choice.specs.Choice.{IsChoice};
+ghost use Rattle.tt_choice.specs.Choice.{IsChoice, bare};
 ghost use Rattle.tt_choice.specs.Decisions.{choice_after, IsOpenDecision};
 ghost use Rattle.tt_choice.specs.Extremes.{start_least, start_most, end_least, end_most, cap_least, cap_most, dur_least};
 ghost use Rattle.tt_infer.specs.Setting.{AreSlotTimes, AreShort, AreSlots};
@@ -105,6 +105,25 @@ impl<'a> Setting<'a> {
         let slots = slots_after(self.slots, before, &choice, decision)?;
         Ok(Setting {
             instance,
+            choice,
+            goal: before.goal,
+            slots,
+        })
+    }
+
+    /// The same plans as of another one, in the room of this one. No decision is kept.
+    pub fn set_to(self, before: &Setting<'a>) -> Result<Setting<'a>, MemoryFault>
+        ensures { IfOk result (λ s. s ≡ record {
+          instance = before.now.instance;
+          choice = bare before.now.choice;
+          goal = before.now.goal;
+        }) }
+    {
+        let mut choice = self.choice;
+        choice.set_to(before.choice())?;
+        let slots = refilled(self.slots, before.slots.as_slice())?;
+        Ok(Setting {
+            instance: before.instance,
             choice,
             goal: before.goal,
             slots,

@@ -102,10 +102,13 @@ fn overlap(instance: &Instance, choice: &Choice, facts: &Facts, p: u32, q: u32) 
     requires second { q < length instance.now.processes }
     ensures { MayTake instance.now choice.now result }
 {
-    if !choice.is_open(instance, &Kind::Pair(p, q)) {
+    if instance.node_of(p as usize) != instance.node_of(q as usize) {
         return None;
     }
     if !runs_into(instance, facts, p, q) || !runs_into(instance, facts, q, p) {
+        return None;
+    }
+    if !choice.is_open(instance, &Kind::Pair(p, q)) {
         return None;
     }
     let forwards = slack(instance, facts, p, q);

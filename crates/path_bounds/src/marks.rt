@@ -1,0 +1,54 @@
+//! Which steps does a closer need?
+
+use crate::fact::{Fact, target};
+use crate::fact_set::FactSet;
+use crate::reads::add_reads;
+use std::alloc::Global;
+use tt_infer::Facts;
+use ttp_model::{Instance, MemoryFault, Step};
+
+/// Marks at steps, and the facts that the marked ones read, in memory that is used again.
+#[derive(Drop)]
+pub struct Marks {
+    marked: Vec<bool>,
+    wanted: FactSet,
+}
+
+impl Marks {
+    /// No marks.
+    pub fn none(alloc: Global, instance: &Instance) -> Result<Self, MemoryFault> {
+        Ok(Marks {
+            marked: Vec::new(alloc),
+            wanted: FactSet::none(alloc, instance)?,
+        })
+    }
+
+    /// Marks the steps that the close needs, where this is known after them: the step that closes, and each that was the last
+    /// to sharpen a fact before a marked step read it. How many are marked.
+    pub fn set_to(&mut self, facts: &Facts, steps: &[Step]) -> Result<usize, MemoryFault> {
+        self.marked.clear();
+        self.marked.resize(steps.len(), false)?;
+        self.wanted.clear();
+        self.wanted.insert(Fact::Closed);
+        Ok(self.mark(facts, steps))
+    }
+
+    /// Marks the steps that are needed for the facts that are wanted, the last first. How many are marked.
+    fn mark(&mut self, facts: &Facts, steps: &[Step]) -> usize {
+        let mut count = 0usize;
+        for k in (0..steps.len()).rev() {
+            let step = &steps[k];
+            if k < self.marked.len() && self.wanted.remove(target(facts.instance(), step)) {
+                self.marked[k] = true;
+                count = count.saturating_add(1);
+                add_reads(&mut self.wanted, facts, step);
+            }
+        }
+        count
+    }
+
+    /// Whether the step at a place is marked.
+    pub fn is_marked(&self, place: usize) -> bool {
+        self.marked.get(place) == Some(&true)
+    }
+}
