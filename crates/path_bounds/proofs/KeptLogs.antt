@@ -8,17 +8,18 @@ use Rattle.ttp_model.specs.Instance.{Instance}
 use Rattle.ttp_model.specs.Rules.{IsInstance}
 use Rattle.ttp_model.specs.Chains.{IsPathBound}
 use Rattle.tt_choice.specs.declared.decision.Decision.{Decision}
-use Rattle.tt_choice.specs.Choice.{Choice, IsChoice, IsComplete}
+use Rattle.tt_choice.specs.Choice.{Choice, IsChoice, IsComplete, bare}
 use Rattle.tt_choice.specs.Branches.{root_choice}
 use Rattle.tt_choice.specs.Decisions.{choice_after, IsOpenDecision, chosen}
 use Rattle.tt_choice.proofs.Decisions.{after_all-more, open-more, open-front}
+use Rattle.tt_choice.proofs.Trail.{IsChoice-keeping, bare-same, none_kept-after_all}
 use Rattle.tt_infer.specs.Known.{first_facts}
-use Rattle.tt_infer.specs.Facts.{Facts, after}
+use Rattle.tt_infer.specs.Facts.{Facts, AreFacts, after}
 use Rattle.tt_infer.specs.Leaves.{ClosesLeaf}
 use Rattle.path_bounds.specs.Journal.{Journal, Advances}
 use Rattle.path_bounds.specs.Propagation.{LeadSharply, IsPlanBelow}
 use Rattle.path_bounds.specs.Propagator.{IsLog, Propagator, IsPropagation, Undoes}
-use Rattle.path_bounds.proofs.Counts.{closes_log}
+use Rattle.path_bounds.proofs.Counts.{closes_log, closes_of}
 
 -- where a log that began without steps leads
 pub log_of : (i : Instance) (c : Choice) (goal : ℕ) (start end : Journal) → start ≡ record { facts = record { instance = i; choice = c; goal = goal; known = first_facts i c }; steps = [] } → Advances start end → IsChoice i c → (IsFalse end.facts.known.closed → (bound : ℕ) → IsPathBound i bound → bound < goal) → (IsComplete i c → IsFalse end.facts.known.closed → (plan : Plan) × IsPlanBelow i c goal plan) → IsLog i c goal end
@@ -139,6 +140,18 @@ started_of i goal c first room start end ds logs w c_is start_is first_is room_i
     subst (λ (xs : List Decision). IsPropagation (record { instance = i; goal = goal; decisions = xs; earlier = logs; current = end })) (sym ds_is)
     (subst (λ (ls : List Journal). IsPropagation (record { instance = i; goal = goal; decisions = []; earlier = ls; current = end })) (sym logs_is)
     (started i goal end w (subst (λ (x : Choice). IsLog i x goal end) c_is here)))
+
+-- What is known after decisions is of a choice that keeps none.
+pub bare_at : (p : Propagator) (s : Facts) → IsPropagation p → s ≡ p.current.facts → bare s.choice ≡ s.choice
+bare_at p s is s_is =
+    let about : s ≡ record { instance = p.instance; choice = chosen p.instance p.decisions; goal = p.goal; known = p.current.facts.known } = s_is ∙ is.current.facts in
+    subst (λ (t : Facts). bare t.choice ≡ t.choice) (sym about) (bare-same (chosen p.instance p.decisions) (none_kept-after_all p.instance (root_choice p.instance) p.decisions refl))
+
+-- Steps that are taken again from the first facts on, and leave no plan.
+pub trimmed_of : (s : Facts) (steps : List Step) (start end : Journal) (known : Facts) → AreFacts s → bare s.choice ≡ s.choice → start ≡ record { facts = record { instance = s.instance; choice = bare s.choice; goal = s.goal; known = first_facts s.instance (bare s.choice) }; steps = [] } → Advances start end → known ≡ end.facts → steps ≡ end.steps → IsTrue known.known.closed → ClosesLeaf s.instance s.choice (record { goal = s.goal; steps = steps }) × (length steps < 2 ^ 32)
+trimmed_of s steps start end known are none begins advances known_is steps_is closed =
+    let done = closes_of s.instance (bare s.choice) are.instance (IsChoice-keeping s.instance s.choice [] are.choice) s.goal steps start end known begins advances known_is steps_is closed in
+    (subst (λ (x : Choice). ClosesLeaf s.instance x (record { goal = s.goal; steps = steps })) none done.0, done.1)
 
 pub closes_at : (p : Propagator) (s : Facts) (steps : List Step) → IsPropagation p → s ≡ p.current.facts → steps ≡ p.current.steps → IsTrue p.current.facts.known.closed → ClosesLeaf s.instance s.choice (record { goal = s.goal; steps = steps }) × (length steps < 2 ^ 32)
 closes_at p s steps is s_is steps_is closed =

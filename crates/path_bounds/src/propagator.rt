@@ -136,6 +136,7 @@ impl<'a> Propagator<'a> {
         let _nodes = instance.nodes();
         let root = Choice::root(alloc, instance)?;
         let first = Facts::new(alloc, instance, &root, goal)?;
+        let marks = Marks::none(alloc, instance)?;
         let mut current = Journal::new(first, Vec::new(alloc));
         let agenda = reach(alloc, instance, &root, &mut current)?;
         Ok(Propagator {
@@ -146,7 +147,7 @@ impl<'a> Propagator<'a> {
             current,
             spare: Vec::new(alloc),
             agenda,
-            marks: Marks::none(alloc, instance)?,
+            marks,
         })
     }
 

@@ -1,10 +1,13 @@
-use Rattle.path_bounds.proofs.KeptLogs.{closes_at}
+use Rattle.path_bounds.proofs.KeptLogs.{bare_at, closes_at}
 use Rattle.path_bounds.proofs.propagator.Propagator.leaf.Goals as goal
+
+pub trimmed_leaf-requires-clause-none_kept : goal.trimmed_leaf-requires-clause-none_kept
+trimmed_leaf-requires-clause-none_kept c = bare_at _ c.facts.result.now c.self.invariant c.facts.ensures
 
 pub trimmed_leaf-requires-clause-closes : goal.trimmed_leaf-requires-clause-closes
 trimmed_leaf-requires-clause-closes c =
-    (closes_at c.args.self.now c.facts.result.now c.log.result.now c.log.ensures.is c.facts.ensures.value c.log.ensures.value c.requires).0
+    (closes_at _ c.facts.result.now c.steps.result.now c.self.invariant c.facts.ensures c.steps.ensures (rw (← c.self.view_is) at c.requires)).0
 
 pub trimmed_leaf-requires-clause-few : goal.trimmed_leaf-requires-clause-few
 trimmed_leaf-requires-clause-few c =
-    (closes_at c.args.self.now c.facts.result.now c.log.result.now c.log.ensures.is c.facts.ensures.value c.log.ensures.value c.requires).1
+    (closes_at _ c.facts.result.now c.steps.result.now c.self.invariant c.facts.ensures c.steps.ensures (rw (← c.self.view_is) at c.requires)).1
