@@ -25,7 +25,8 @@ use Rattle.planner.specs.declared.outcome.Why.{Why}
 use Rattle.planner.specs.declared.outcome.Why.TheVariants.{Budget, Memory}
 use Rattle.planner.specs.Trees.{IsTreeOf, pieces_of}
 use Rattle.planner.specs.Gathering.{HasGoal, HaveGoals, IsGathered}
-use Rattle.planner.specs.Answers.{is_branch, is_closed_at, branches, worked_at, limit_of, IsBestAbove, IsLeastGoal, IsCause, IsOutcome}
+use Rattle.dropped_decisions.specs.Branches.{is_branch, branches}
+use Rattle.planner.specs.Answers.{is_closed_at, worked_at, limit_of, IsBestAbove, IsLeastGoal, IsCause, IsOutcome}
 use Rattle.planner.specs.Searched.{IsFound, IsClosedLeaf, ReachesGoal, IsWorkedOut, IsSearched, IsAnswerOf}
 use Rattle.planner.proofs.Has.{has_map, has_from_contains, contains_from_has}
 use Rattle.planner.proofs.Existence.{tree_nodes}

@@ -1,5 +1,5 @@
 -- What an answer to an instance says: a least plan, no plan, or bounds, each with a tree that proves it.
-use Rattle.std.specs.Prelude.{◌≡◌, ℕ, ◌+◌, ◌≤◌, ◌<◌, ◌⊎◌, min, count_by, Bool, true, false, Option, None, Some, nat_le, Contains, All}
+use Rattle.std.specs.Prelude.{◌≡◌, ℕ, ◌+◌, ◌≤◌, ◌<◌, ◌⊎◌, min, count_by, Bool, false, Option, None, Some, nat_le, Contains, All}
 use Rattle.ttp_model.specs.declared.plan.Plan.{Plan}
 use Rattle.ttp_model.specs.Instance.{Instance}
 use Rattle.ttp_model.specs.Delays.{delay, IsLowerBound, IsLeastDelay, HasNoPlan}
@@ -11,6 +11,7 @@ use Rattle.certificate.specs.declared.node.Node.TheVariants as node
 use Rattle.certificate.specs.Trees.{Trees, preorder}
 use Rattle.certificate.specs.Cert.{Cert}
 use Rattle.cert_check.specs.Proofs.{Proves}
+use Rattle.dropped_decisions.specs.Branches.{branches}
 use Rattle.pool_worker.specs.Best.{IsPlanFound}
 use Rattle.planner.specs.declared.outcome.Options.{Options}
 use Rattle.planner.specs.declared.outcome.Outcome.{Outcome}
@@ -21,18 +22,10 @@ use Rattle.planner.specs.declared.outcome.Why.{Why}
 use Rattle.planner.specs.declared.outcome.Why.TheVariants.{Budget, Memory}
 use Rattle.planner.specs.Gathering.{HasGoal}
 
-abbrev pub is_branch : Node → Bool
-is_branch (node.Leaf leaf) = false
-is_branch _ = true
-
 -- a leaf at the limit or past it
 abbrev pub is_closed_at : ℕ → Node → Bool
 is_closed_at limit (node.Leaf leaf) = nat_le limit leaf.goal
 is_closed_at limit _ = false
-
--- how many branches a tree has
-abbrev pub branches : Trees → ℕ
-branches tree = count_by is_branch (preorder tree)
 
 -- how many of its nodes are branches or leaves at the limit
 abbrev pub worked_at : ℕ → Trees → ℕ

@@ -8,6 +8,7 @@ mod fault;
 mod gathering;
 mod joining;
 mod laws;
+mod leaner;
 mod names;
 mod outcome;
 mod reserve;

@@ -13,6 +13,7 @@ use crate::closing::close_all;
 use crate::collecting::searched;
 use crate::gathering::gather_whole;
 use crate::joining::joined;
+use crate::leaner::leaner;
 use crate::outcome::{Options, Outcome, SolveFault, Why};
 use crate::reserve::Reserve;
 use crate::search::{Search, limit};
@@ -134,7 +135,8 @@ pub fn solve_with<R: Threads + Wait, G: Gate + Sync>(
     let mut search = searched::<Brand, G, R>(rt, alloc, instance, options, first, gate)?;
     let why = search.go(alloc, instance, options.budget);
     reserve.give_back();
-    concluded(alloc, instance, options, search, why)
+    let outcome = concluded(alloc, instance, options, search, why)?;
+    Ok(leaner(alloc, instance, outcome))
 }
 
 /// Searches for the shortest plan of an instance, by workers in threads of their own: works at most `budget` subtrees, what the

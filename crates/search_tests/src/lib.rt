@@ -6,6 +6,8 @@ mod answers;
 #[cfg(test)]
 mod core_events;
 #[cfg(test)]
+mod dropped_branches;
+#[cfg(test)]
 mod every_plan;
 #[cfg(test)]
 mod every_plan_tried;

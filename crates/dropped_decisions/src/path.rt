@@ -1,0 +1,206 @@
+//! Which branch of a path decided what?
+
+use std::alloc::Global;
+use tt_choice::Decision;
+use ttp_model::{Instance, Kind, MemoryFault};
+
+/// A node of the slot order, and the branch that placed it.
+#[derive(Clone, Copy, Debug)]
+pub struct Placed {
+    pub node: u32,
+    pub level: u32,
+}
+
+/// The decisions of a path, each with the level of its branch. Of those on the least round of a message, or on its greatest, the
+/// last one counts.
+#[derive(Drop)]
+pub struct Path<'a> {
+    instance: &'a Instance,
+    /// The slot order, as far as it is decided.
+    order: Vec<Placed>,
+    /// By node, the branch that fixed its capacity above the least option.
+    above_least: Vec<Option<u32>>,
+    /// By node, the branch that fixed its capacity below the greatest option.
+    below_most: Vec<Option<u32>>,
+    /// By two processes, the branch that put the first before the second.
+    before: Vec<Vec<Option<u32>>>,
+    /// By message, the branch on its least round.
+    least: Vec<Option<u32>>,
+    /// By message, the branch on its greatest round.
+    greatest: Vec<Option<u32>>,
+}
+
+/// The level at a place, if there is one.
+fn level_at(levels: &[Option<u32>], k: u32) -> Option<u32> {
+    *levels.get(k as usize)?
+}
+
+/// Puts a level at a place that is there, in place of the one that is given back.
+fn put_at(levels: &mut Vec<Option<u32>>, k: u32, level: Option<u32>) -> Option<u32> {
+    let k = k as usize;
+    if k >= levels.len() {
+        return None;
+    }
+    let before = levels[k];
+    levels[k] = level;
+    before
+}
+
+/// For each two of so many processes, that no branch ordered them.
+fn no_order(alloc: Global, count: usize) -> Result<Vec<Vec<Option<u32>>>, MemoryFault> {
+    let mut rows = Vec::new(alloc);
+    for _ in 0..count {
+        let row: Vec<Option<u32>> = vec![in alloc; None; count]?;
+        rows.push(row)?;
+    }
+    Ok(rows)
+}
+
+impl<'a> Path<'a> {
+    /// The path to the root.
+    pub fn new(alloc: Global, instance: &'a Instance) -> Result<Path<'a>, MemoryFault> {
+        let nodes = instance.nodes().len();
+        let messages = instance.messages().len();
+        Ok(Path {
+            instance,
+            order: Vec::new(alloc),
+            above_least: vec![in alloc; None; nodes]?,
+            below_most: vec![in alloc; None; nodes]?,
+            before: no_order(alloc, instance.processes().len())?,
+            least: vec![in alloc; None; messages]?,
+            greatest: vec![in alloc; None; messages]?,
+        })
+    }
+
+    pub fn instance(&self) -> &'a Instance {
+        self.instance
+    }
+
+    /// The slot order, as far as it is decided.
+    pub fn order(&self) -> &[Placed] {
+        self.order.as_slice()
+    }
+
+    /// The branch that fixed a node's capacity above the least option.
+    pub fn above_least(&self, n: u32) -> Option<u32> {
+        level_at(self.above_least.as_slice(), n)
+    }
+
+    /// The branch that fixed a node's capacity below the greatest option.
+    pub fn below_most(&self, n: u32) -> Option<u32> {
+        level_at(self.below_most.as_slice(), n)
+    }
+
+    /// The branch that put a process before another.
+    pub fn before(&self, p: u32, q: u32) -> Option<u32> {
+        level_at(self.before.get(p as usize)?.as_slice(), q)
+    }
+
+    /// The branch on a message's least round.
+    pub fn least(&self, m: u32) -> Option<u32> {
+        level_at(self.least.as_slice(), m)
+    }
+
+    /// The branch on a message's greatest round.
+    pub fn greatest(&self, m: u32) -> Option<u32> {
+        level_at(self.greatest.as_slice(), m)
+    }
+
+    /// How many nodes stand in front of one in the order, where it is placed.
+    pub fn place_of(&self, n: u32) -> Option<usize> {
+        self.order.iter().position(|placed| placed.node == n)
+    }
+
+    /// The first node that isn't placed, from this one on.
+    fn unplaced_from(&self, n: u32) -> Option<u32> {
+        let count = self.instance.nodes().len() as u32;
+        for k in n..count {
+            if self.place_of(k).is_none() {
+                return Some(k);
+            }
+        }
+        None
+    }
+
+    /// The decision that leads to a branch's first child.
+    pub fn first_decision(&self, kind: Kind) -> Option<Decision> {
+        match kind {
+            Kind::Place => Some(Decision::Place(self.unplaced_from(0)?)),
+            Kind::Cap(n) => Some(Decision::Cap(n, 0)),
+            Kind::Pair(p, q) => Some(Decision::Before(p, q)),
+            Kind::Round(m, r) => Some(Decision::AtMost(m, r)),
+        }
+    }
+
+    /// The decision that leads to the child beside that of another decision.
+    pub fn decision_beside(&self, decision: Decision) -> Option<Decision> {
+        match decision {
+            Decision::Place(n) => Some(Decision::Place(self.unplaced_from(n.saturating_add(1))?)),
+            Decision::Cap(n, k) => Some(Decision::Cap(n, k.saturating_add(1))),
+            Decision::Before(p, q) => Some(Decision::Before(q, p)),
+            Decision::AtMost(m, r) => Some(Decision::AtLeast(m, r.saturating_add(1))),
+            Decision::AtLeast(_, _) => None,
+        }
+    }
+
+    /// Goes down by a decision of the branch at this level. The level that counted before, where the decision stands in place of
+    /// another.
+    pub fn go_down(&mut self, decision: Decision, level: u32) -> Result<Option<u32>, MemoryFault> {
+        match decision {
+            Decision::Place(node) => {
+                self.order.push(Placed { node, level })?;
+                Ok(None)
+            }
+            Decision::Cap(n, k) => {
+                self.fix(n, k, level);
+                Ok(None)
+            }
+            Decision::Before(p, q) => Ok(self.put_before(p, q, Some(level))),
+            Decision::AtMost(m, _) => Ok(put_at(&mut self.greatest, m, Some(level))),
+            Decision::AtLeast(m, _) => Ok(put_at(&mut self.least, m, Some(level))),
+        }
+    }
+
+    /// Goes up again, to the branch of a decision.
+    pub fn go_up(&mut self, decision: Decision, counted: Option<u32>) {
+        match decision {
+            Decision::Place(_) => {
+                let _last = self.order.pop();
+            }
+            Decision::Cap(n, _) => {
+                put_at(&mut self.above_least, n, None);
+                put_at(&mut self.below_most, n, None);
+            }
+            Decision::Before(p, q) => {
+                self.put_before(p, q, counted);
+            }
+            Decision::AtMost(m, _) => {
+                put_at(&mut self.greatest, m, counted);
+            }
+            Decision::AtLeast(m, _) => {
+                put_at(&mut self.least, m, counted);
+            }
+        }
+    }
+
+    /// Fixes a node's capacity as one of its options.
+    fn fix(&mut self, n: u32, k: u32, level: u32) {
+        let Some(node) = self.instance.nodes().get(n as usize) else {
+            return;
+        };
+        if k > 0 {
+            put_at(&mut self.above_least, n, Some(level));
+        }
+        if (k as usize) + 1 < node.capacities.len() {
+            put_at(&mut self.below_most, n, Some(level));
+        }
+    }
+
+    fn put_before(&mut self, p: u32, q: u32, level: Option<u32>) -> Option<u32> {
+        let p = p as usize;
+        if p >= self.before.len() {
+            return None;
+        }
+        put_at(&mut self.before[p], q, level)
+    }
+}

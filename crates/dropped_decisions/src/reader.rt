@@ -1,0 +1,214 @@
+//! Which branches above a leaf do its steps use?
+
+use crate::given::Given;
+use crate::levels::Levels;
+use crate::path::Path;
+use crate::uses::Uses;
+use std::alloc::Global;
+use ttp_model::{Instance, Leaf, MemoryFault, Step, has_link};
+
+/// Reads leaves one after another. What an earlier step of a leaf gave isn't used of a branch: a leaf that was trimmed has no
+/// step that another one makes idle.
+#[derive(Drop)]
+pub struct Reader<'a> {
+    instance: &'a Instance,
+    given: Given,
+}
+
+/// Whether a process sends a message to another.
+fn has_message(instance: &Instance, p: u32, q: u32) -> bool {
+    for m in 0..instance.messages().len() {
+        let message = instance.message_at(m);
+        if message.sender == p && message.receivers.contains(q) {
+            return true;
+        }
+    }
+    false
+}
+
+impl<'a> Reader<'a> {
+    /// In front of all leaves.
+    pub fn new(alloc: Global, instance: &'a Instance) -> Result<Reader<'a>, MemoryFault> {
+        Ok(Reader {
+            instance,
+            given: Given::nothing(alloc, instance)?,
+        })
+    }
+
+    /// The branches that a leaf's steps use, of a path with so many.
+    pub fn used_by(
+        &mut self,
+        alloc: Global,
+        path: &Path,
+        leaf: &Leaf,
+        depth: u32,
+    ) -> Result<Levels, MemoryFault> {
+        let mut uses = Uses::nothing(alloc, depth)?;
+        self.given.begin_leaf();
+        for step in leaf.steps.as_slice() {
+            self.read(path, step, &mut uses);
+        }
+        Ok(uses.levels(path))
+    }
+
+    /// Reads a step: what it uses, and what it gives.
+    fn read(&mut self, path: &Path, step: &Step, uses: &mut Uses) {
+        match step {
+            Step::EsRelease(_) | Step::EsLink(_) | Step::LeOwn(_) | Step::LeLink(_) => {}
+            Step::XWindow(_) | Step::XLoad(_, _, _) => {}
+            Step::EsBefore(p, q) | Step::LeBefore(p, q) => self.order(path, *p, *q, uses),
+            Step::OrdWindow(p, q) | Step::OrdTwin(p, q) => self.given.give_before(*p, *q),
+            Step::XCycle(ring) => self.ring(path, ring.as_slice(), uses),
+            Step::UsSettled(p) => self.settled(path, *p, uses),
+            Step::XSilent(_, v) => uses.place(path, *v),
+            Step::EsMessage(m, _) | Step::LeMessage(m, _) => self.least_frame(path, *m, uses),
+            Step::XFrame(m) => self.greatest_frame(path, *m, uses),
+            Step::EsArrive(m, _) => {
+                self.least_slot(path, *m, uses);
+                self.least(path, *m, uses);
+            }
+            Step::LoSend(m) => {
+                self.greatest_slot(path, *m, uses);
+                self.given.give_least(*m);
+            }
+            Step::LeSend(m) => {
+                self.greatest_slot(path, *m, uses);
+                self.greatest(path, *m, uses);
+            }
+            Step::HiArrive(m, _) => {
+                self.least_slot(path, *m, uses);
+                self.given.give_greatest(*m);
+            }
+            Step::XRound(m) => self.rounds(path, *m, uses),
+            Step::XFrames(n, _, _) => {
+                uses.branch(path.below_most(*n));
+                self.frames(path, *n, uses);
+            }
+            Step::XLate(m, _) => self.late(path, *m, uses),
+        }
+    }
+
+    /// The node that a message is sent from, if it is there.
+    fn source(&self, m: u32) -> Option<u32> {
+        if m as usize >= self.instance.messages().len() {
+            return None;
+        }
+        Some(self.instance.source_of(m as usize))
+    }
+
+    /// That a process goes before another.
+    fn order(&self, path: &Path, p: u32, q: u32, uses: &mut Uses) {
+        if !self.given.has_before(p, q) {
+            uses.branch(path.before(p, q));
+        }
+    }
+
+    /// The least round of a message.
+    fn least(&self, path: &Path, m: u32, uses: &mut Uses) {
+        if !self.given.has_least(m) {
+            uses.branch(path.least(m));
+        }
+    }
+
+    /// The greatest round of a message.
+    fn greatest(&self, path: &Path, m: u32, uses: &mut Uses) {
+        if !self.given.has_greatest(m) {
+            uses.branch(path.greatest(m));
+        }
+    }
+
+    /// Both.
+    fn rounds(&self, path: &Path, m: u32, uses: &mut Uses) {
+        self.least(path, m, uses);
+        self.greatest(path, m, uses);
+    }
+
+    /// When the slot of a message's node begins or ends at least.
+    fn least_slot(&self, path: &Path, m: u32, uses: &mut Uses) {
+        if let Some(n) = self.source(m) {
+            uses.least_slot(path, n);
+        }
+    }
+
+    /// When it begins or ends at most.
+    fn greatest_slot(&self, path: &Path, m: u32, uses: &mut Uses) {
+        if let Some(n) = self.source(m) {
+            uses.greatest_slot(path, n);
+        }
+    }
+
+    /// The least capacity of a message's node.
+    fn least_frame(&self, path: &Path, m: u32, uses: &mut Uses) {
+        if let Some(n) = self.source(m) {
+            uses.branch(path.above_least(n));
+        }
+    }
+
+    /// Its greatest capacity.
+    fn greatest_frame(&self, path: &Path, m: u32, uses: &mut Uses) {
+        if let Some(n) = self.source(m) {
+            uses.branch(path.below_most(n));
+        }
+    }
+
+    /// The rounds of all messages of a node.
+    fn frames(&self, path: &Path, n: u32, uses: &mut Uses) {
+        for m in 0..self.instance.messages().len() {
+            if self.instance.source_of(m) == n {
+                self.rounds(path, m as u32, uses);
+            }
+        }
+    }
+
+    /// What shows that a message could be sent earlier.
+    fn late(&self, path: &Path, m: u32, uses: &mut Uses) {
+        if let Some(n) = self.source(m) {
+            uses.least_slot(path, n);
+            uses.branch(path.above_least(n));
+            self.frames(path, n, uses);
+        }
+    }
+
+    /// What a process may have to wait for.
+    fn settled(&self, path: &Path, p: u32, uses: &mut Uses) {
+        self.last_ends(path, p, uses);
+        for m in 0..self.instance.messages().len() {
+            if self.instance.message_at(m).receivers.contains(p) {
+                uses.greatest_slot(path, self.instance.source_of(m));
+                self.greatest(path, m as u32, uses);
+            }
+        }
+    }
+
+    /// Which processes go behind one that no link leads to.
+    fn last_ends(&self, path: &Path, p: u32, uses: &mut Uses) {
+        let count = self.instance.processes().len() as u32;
+        for x in 0..count {
+            if path.before(p, x).is_some() && !has_link(self.instance, p, x) {
+                self.order(path, p, x, uses);
+            }
+        }
+    }
+
+    /// That each process goes before the next, and the last before the first.
+    fn ring(&self, path: &Path, processes: &[u32], uses: &mut Uses) {
+        let Some(last) = processes.last() else {
+            return;
+        };
+        let mut before = *last;
+        for process in processes {
+            self.ahead(path, before, *process, uses);
+            before = *process;
+        }
+    }
+
+    /// That a process goes before another, where neither a link nor a message says so.
+    fn ahead(&self, path: &Path, p: u32, q: u32, uses: &mut Uses) {
+        if path.before(p, q).is_some()
+            && !has_link(self.instance, p, q)
+            && !has_message(self.instance, p, q)
+        {
+            self.order(path, p, q, uses);
+        }
+    }
+}
