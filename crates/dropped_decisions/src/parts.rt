@@ -1,6 +1,7 @@
 //! What stays of a part of the tree?
 
 use crate::levels::Levels;
+use crate::path::Cut;
 use tt_choice::Decision;
 use ttp_model::Kind;
 
@@ -26,8 +27,8 @@ pub struct OpenBranch {
     pub left: u32,
     /// What leads to the child that is gone through.
     pub decision: Option<Decision>,
-    /// The level that counts again above that child.
-    pub counted: Option<u32>,
+    /// The bound on rounds that counts again above that child.
+    pub counted: Option<Cut>,
     /// The place behind the children that were gone through.
     pub to: usize,
     /// How many nodes stay of those children.

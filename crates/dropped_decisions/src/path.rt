@@ -11,6 +11,13 @@ pub struct Placed {
     pub level: u32,
 }
 
+/// A bound on the rounds of a message, and the branch that set it.
+#[derive(Clone, Copy, Debug)]
+pub struct Cut {
+    pub round: u32,
+    pub level: u32,
+}
+
 /// The decisions of a path, each with the level of its branch. Of those on the least round of a message, or on its greatest, the
 /// last one counts.
 #[derive(Drop)]
@@ -24,25 +31,25 @@ pub struct Path<'a> {
     below_most: Vec<Option<u32>>,
     /// By two processes, the branch that put the first before the second.
     before: Vec<Vec<Option<u32>>>,
-    /// By message, the branch on its least round.
-    least: Vec<Option<u32>>,
-    /// By message, the branch on its greatest round.
-    greatest: Vec<Option<u32>>,
+    /// By message, its least round.
+    least: Vec<Option<Cut>>,
+    /// By message, its greatest round.
+    greatest: Vec<Option<Cut>>,
 }
 
-/// The level at a place, if there is one.
-fn level_at(levels: &[Option<u32>], k: u32) -> Option<u32> {
-    *levels.get(k as usize)?
+/// What stands at a place, if anything does.
+fn item_at<T: Copy>(items: &[Option<T>], k: u32) -> Option<T> {
+    *items.get(k as usize)?
 }
 
-/// Puts a level at a place that is there, in place of the one that is given back.
-fn put_at(levels: &mut Vec<Option<u32>>, k: u32, level: Option<u32>) -> Option<u32> {
+/// Puts something at a place that is there, in place of what is given back.
+fn put_at<T: Copy>(items: &mut Vec<Option<T>>, k: u32, item: Option<T>) -> Option<T> {
     let k = k as usize;
-    if k >= levels.len() {
+    if k >= items.len() {
         return None;
     }
-    let before = levels[k];
-    levels[k] = level;
+    let before = items[k];
+    items[k] = item;
     before
 }
 
@@ -83,27 +90,27 @@ impl<'a> Path<'a> {
 
     /// The branch that fixed a node's capacity above the least option.
     pub fn above_least(&self, n: u32) -> Option<u32> {
-        level_at(self.above_least.as_slice(), n)
+        item_at(self.above_least.as_slice(), n)
     }
 
     /// The branch that fixed a node's capacity below the greatest option.
     pub fn below_most(&self, n: u32) -> Option<u32> {
-        level_at(self.below_most.as_slice(), n)
+        item_at(self.below_most.as_slice(), n)
     }
 
     /// The branch that put a process before another.
     pub fn before(&self, p: u32, q: u32) -> Option<u32> {
-        level_at(self.before.get(p as usize)?.as_slice(), q)
+        item_at(self.before.get(p as usize)?.as_slice(), q)
     }
 
-    /// The branch on a message's least round.
-    pub fn least(&self, m: u32) -> Option<u32> {
-        level_at(self.least.as_slice(), m)
+    /// A message's least round, where a branch decided it.
+    pub fn least(&self, m: u32) -> Option<Cut> {
+        item_at(self.least.as_slice(), m)
     }
 
-    /// The branch on a message's greatest round.
-    pub fn greatest(&self, m: u32) -> Option<u32> {
-        level_at(self.greatest.as_slice(), m)
+    /// A message's greatest round, where a branch decided it.
+    pub fn greatest(&self, m: u32) -> Option<Cut> {
+        item_at(self.greatest.as_slice(), m)
     }
 
     /// How many nodes stand in front of one in the order, where it is placed.
@@ -143,9 +150,9 @@ impl<'a> Path<'a> {
         }
     }
 
-    /// Goes down by a decision of the branch at this level. The level that counted before, where the decision stands in place of
-    /// another.
-    pub fn go_down(&mut self, decision: Decision, level: u32) -> Result<Option<u32>, MemoryFault> {
+    /// Goes down by a decision of the branch at this level. The bound on rounds that counted before, if it stands in place of
+    /// one.
+    pub fn go_down(&mut self, decision: Decision, level: u32) -> Result<Option<Cut>, MemoryFault> {
         match decision {
             Decision::Place(node) => {
                 self.order.push(Placed { node, level })?;
@@ -155,14 +162,21 @@ impl<'a> Path<'a> {
                 self.fix(n, k, level);
                 Ok(None)
             }
-            Decision::Before(p, q) => Ok(self.put_before(p, q, Some(level))),
-            Decision::AtMost(m, _) => Ok(put_at(&mut self.greatest, m, Some(level))),
-            Decision::AtLeast(m, _) => Ok(put_at(&mut self.least, m, Some(level))),
+            Decision::Before(p, q) => {
+                self.put_before(p, q, Some(level));
+                Ok(None)
+            }
+            Decision::AtMost(m, round) => {
+                Ok(put_at(&mut self.greatest, m, Some(Cut { round, level })))
+            }
+            Decision::AtLeast(m, round) => {
+                Ok(put_at(&mut self.least, m, Some(Cut { round, level })))
+            }
         }
     }
 
     /// Goes up again, to the branch of a decision.
-    pub fn go_up(&mut self, decision: Decision, counted: Option<u32>) {
+    pub fn go_up(&mut self, decision: Decision, counted: Option<Cut>) {
         match decision {
             Decision::Place(_) => {
                 let _last = self.order.pop();
@@ -172,7 +186,7 @@ impl<'a> Path<'a> {
                 put_at(&mut self.below_most, n, None);
             }
             Decision::Before(p, q) => {
-                self.put_before(p, q, counted);
+                self.put_before(p, q, None);
             }
             Decision::AtMost(m, _) => {
                 put_at(&mut self.greatest, m, counted);
@@ -196,11 +210,10 @@ impl<'a> Path<'a> {
         }
     }
 
-    fn put_before(&mut self, p: u32, q: u32, level: Option<u32>) -> Option<u32> {
+    fn put_before(&mut self, p: u32, q: u32, level: Option<u32>) {
         let p = p as usize;
-        if p >= self.before.len() {
-            return None;
+        if p < self.before.len() {
+            put_at(&mut self.before[p], q, level);
         }
-        put_at(&mut self.before[p], q, level)
     }
 }

@@ -26,6 +26,14 @@ fn has_message(instance: &Instance, p: u32, q: u32) -> bool {
     false
 }
 
+/// Whether a branch says that a message is sent before round `r`.
+fn ends_before(path: &Path, m: u32, r: u32) -> bool {
+    match path.greatest(m) {
+        Some(cut) => cut.round < r,
+        None => false,
+    }
+}
+
 impl<'a> Reader<'a> {
     /// In front of all leaves.
     pub fn new(alloc: Global, instance: &'a Instance) -> Result<Reader<'a>, MemoryFault> {
@@ -80,11 +88,8 @@ impl<'a> Reader<'a> {
                 self.given.give_greatest(*m);
             }
             Step::XRound(m) => self.rounds(path, *m, uses),
-            Step::XFrames(n, _, _) => {
-                uses.branch(path.below_most(*n));
-                self.frames(path, *n, uses);
-            }
-            Step::XLate(m, _) => self.late(path, *m, uses),
+            Step::XFrames(n, a, b) => self.frames(path, *n, *a, *b, uses),
+            Step::XLate(m, r) => self.late(path, *m, *r, uses),
         }
     }
 
@@ -106,14 +111,14 @@ impl<'a> Reader<'a> {
     /// The least round of a message.
     fn least(&self, path: &Path, m: u32, uses: &mut Uses) {
         if !self.given.has_least(m) {
-            uses.branch(path.least(m));
+            uses.cut(path.least(m));
         }
     }
 
     /// The greatest round of a message.
     fn greatest(&self, path: &Path, m: u32, uses: &mut Uses) {
         if !self.given.has_greatest(m) {
-            uses.branch(path.greatest(m));
+            uses.cut(path.greatest(m));
         }
     }
 
@@ -151,21 +156,74 @@ impl<'a> Reader<'a> {
         }
     }
 
-    /// The rounds of all messages of a node.
-    fn frames(&self, path: &Path, n: u32, uses: &mut Uses) {
+    /// That a node's messages of some rounds are too many for its frames.
+    fn frames(&self, path: &Path, n: u32, a: u32, b: u32, uses: &mut Uses) {
+        uses.branch(path.below_most(n));
         for m in 0..self.instance.messages().len() {
-            if self.instance.source_of(m) == n {
-                self.rounds(path, m as u32, uses);
+            let message = m as u32;
+            if self.instance.source_of(m) == n && self.may_count(path, message, a, b) {
+                self.greatest(path, message, uses);
+                if a > 0 {
+                    self.least(path, message, uses);
+                }
             }
         }
     }
 
-    /// What shows that a message could be sent earlier.
-    fn late(&self, path: &Path, m: u32, uses: &mut Uses) {
+    /// Whether a message may be known to be sent from round `a` on and before `b`.
+    fn may_count(&self, path: &Path, m: u32, a: u32, b: u32) -> bool {
+        self.may_end(path, m, b) && (a == 0 || self.may_begin(path, m, a))
+    }
+
+    /// Whether a message may be known to be sent before round `b`.
+    fn may_end(&self, path: &Path, m: u32, b: u32) -> bool {
+        ends_before(path, m, b)
+            || self.given.has_greatest(m)
+            || self.instance.cluster().horizon <= b
+    }
+
+    /// Whether a message may be known to be sent from round `a` on.
+    fn may_begin(&self, path: &Path, m: u32, a: u32) -> bool {
+        match path.least(m) {
+            Some(cut) => a <= cut.round || self.given.has_least(m),
+            None => self.given.has_least(m),
+        }
+    }
+
+    /// What shows that a message could be sent in round `r`, which is an earlier one.
+    fn late(&self, path: &Path, m: u32, r: u32, uses: &mut Uses) {
         if let Some(n) = self.source(m) {
             uses.least_slot(path, n);
             uses.branch(path.above_least(n));
-            self.frames(path, n, uses);
+            self.least(path, m, uses);
+            self.others_in_frame(path, m, n, r, uses);
+        }
+    }
+
+    /// That other messages of the node of one can't be sent in round `r`.
+    fn others_in_frame(&self, path: &Path, m: u32, n: u32, r: u32, uses: &mut Uses) {
+        for k in 0..self.instance.messages().len() {
+            let other = k as u32;
+            if other != m && self.instance.source_of(k) == n {
+                self.not_in_round(path, other, r, uses);
+            }
+        }
+    }
+
+    /// That a message can't be sent in round `r`, where a branch says so.
+    fn not_in_round(&self, path: &Path, m: u32, r: u32, uses: &mut Uses) {
+        if self.begins_behind(path, m, r) {
+            self.least(path, m, uses);
+        } else if ends_before(path, m, r) {
+            self.greatest(path, m, uses);
+        }
+    }
+
+    /// Whether a branch says that a message is sent after round `r`.
+    fn begins_behind(&self, path: &Path, m: u32, r: u32) -> bool {
+        match path.least(m) {
+            Some(cut) => r < cut.round && !self.given.has_least(m),
+            None => false,
         }
     }
 

@@ -1,7 +1,7 @@
 //! Which branches do times of slots rest on?
 
 use crate::levels::Levels;
-use crate::path::Path;
+use crate::path::{Cut, Path};
 use std::alloc::Global;
 use ttp_model::MemoryFault;
 
@@ -32,6 +32,13 @@ impl Uses {
     pub fn branch(&mut self, level: Option<u32>) {
         if let Some(level) = level {
             self.levels.insert(level);
+        }
+    }
+
+    /// Uses a bound on the rounds of a message, if there is one.
+    pub fn cut(&mut self, cut: Option<Cut>) {
+        if let Some(cut) = cut {
+            self.levels.insert(cut.level);
         }
     }
 

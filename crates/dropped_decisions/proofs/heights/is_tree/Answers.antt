@@ -1,5 +1,5 @@
 use Rattle.std.proofs.Common.{arith}
-use Rattle.dropped_decisions.proofs.TreeHeights.{none_left, one_more, all_left}
+use Rattle.dropped_decisions.proofs.TreeHeights.{none_left, one_more}
 use Rattle.dropped_decisions.proofs.heights.is_tree.Goals as goal
 
 pub loop-left-init : goal.loop-left-init

@@ -1,10 +1,12 @@
-use Rattle.std.proofs.lemmas.Result.{IfOk-weaker}
-use Rattle.planner.specs.Answers.{IsOutcome, Shows}
 use Rattle.planner.proofs.Shown.{answer_shows}
 use Rattle.planner.proofs.solving.solve_with.Goals as goal
 
+pub returns-clause-answer : goal.returns-clause-answer
+returns-clause-answer g c = c.leaner.ensures c.args.options c.in_ok-outcome.ensures.answer
+
 pub returns-clause-shows : goal.returns-clause-shows
 returns-clause-shows g c =
-    let i = c.args.instance.now in
-    IfOk-weaker c.concluded.result (IsOutcome i c.args.options) (Shows i)
-    (λ outcome is. answer_shows i c.args.options outcome c.nodes-nodes.ensures.instance is) c.concluded.ensures.answer
+    answer_shows c.args.instance.now c.args.options c.leaner.result c.nodes-nodes.ensures.instance (c.leaner.ensures c.args.options c.in_ok-outcome.ensures.answer)
+
+pub leaner-requires : goal.leaner-requires
+leaner-requires g c = (c.args.options, c.in_ok-outcome.ensures.answer)
