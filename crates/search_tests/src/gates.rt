@@ -109,6 +109,11 @@ impl InTurn {
         self.limits_met.get()
     }
 
+    /// How many names were left below the first and the second child.
+    pub fn names_left(&self) -> (u64, u64) {
+        self.left.counts()
+    }
+
     fn hold_until(&self, count: &Count, least: u64) {
         if !count.comes_to(least) {
             self.limits_met.add();

@@ -82,25 +82,56 @@ fn greatest_goal_below_first(cert: &Cert) -> u32 {
 }
 
 /// How many names one worker leaves below the root's first child and below its second.
-fn names_below<R: Threads + Wait>(rt: &R, alloc: Global) -> Result<(u64, u64), Fail> {
-    let instance = Sample::OneMessage(100).build(alloc)?;
+fn names_below<R: Threads + Wait>(
+    rt: &R,
+    alloc: Global,
+    sample: Sample,
+) -> Result<(u64, u64), Fail> {
+    let instance = sample.build(alloc)?;
     let gate = LeftBelow::new();
     solve_with(rt, alloc, &instance, options(BUDGET), &gate)?;
     Ok(gate.counts())
 }
 
-/// How many waits met their limit where one worker begins below the root's first child once the other has found the plan
-/// of 10 ticks below the second, and the greatest goal of the leaves below the first.
-fn in_turn<R: Threads + Wait>(rt: &R, alloc: Global) -> Result<(u64, u32), Fail> {
-    let instance = Sample::OneMessage(100).build(alloc)?;
-    let gate = InTurn::new(names_below(rt, alloc)?);
-    let outcome = solve_with(rt, alloc, &instance, TWO, &gate)?;
-    let cert = certificate(outcome)?;
-    Ok((gate.limits_met(), greatest_goal_below_first(&cert)))
+/// What came of it that one worker began below the root's first child once the other had searched below the second.
+#[derive(Clone, Copy, Debug)]
+struct InTurnWorked {
+    /// How many waits met their limit.
+    limits_met: u64,
+    /// The greatest goal of the certificate's leaves below the first child.
+    greatest_goal: u32,
+    /// How many names were left below the first child.
+    names_left: u64,
 }
 
+fn in_turn<R: Threads + Wait>(
+    rt: &R,
+    alloc: Global,
+    sample: Sample,
+) -> Result<InTurnWorked, Fail> {
+    let instance = sample.build(alloc)?;
+    let gate = InTurn::new(names_below(rt, alloc, sample)?);
+    let outcome = solve_with(rt, alloc, &instance, TWO, &gate)?;
+    let cert = certificate(outcome)?;
+    Ok(InTurnWorked {
+        limits_met: gate.limits_met(),
+        greatest_goal: greatest_goal_below_first(&cert),
+        names_left: gate.names_left().0,
+    })
+}
+
+/// Below the second child there is a plan of 10 ticks, which who works below the first one has to beat.
 #[test]
 fn shared_word(rt: HostRuntime) -> Result<(), Fail> {
-    assert_eq!(rt; in_turn(&rt, rt.alloc())?, (0, 10));
+    let worked = in_turn(&rt, rt.alloc(), Sample::OneMessage(100))?;
+    assert!(rt; worked.limits_met == 0 && worked.greatest_goal <= 10, "{worked:?}");
+    Ok(())
+}
+
+/// Below the second child there is the shortest plan. Who knows of it closes the first child at once.
+#[test]
+fn what_others_found_needs_no_search(rt: HostRuntime) -> Result<(), Fail> {
+    let worked = in_turn(&rt, rt.alloc(), Sample::ShortReceiver(&[0], 1))?;
+    assert!(rt; worked.limits_met == 0 && worked.names_left == 1, "{worked:?}");
     Ok(())
 }
