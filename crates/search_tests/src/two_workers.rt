@@ -104,11 +104,7 @@ struct InTurnWorked {
     names_left: u64,
 }
 
-fn in_turn<R: Threads + Wait>(
-    rt: &R,
-    alloc: Global,
-    sample: Sample,
-) -> Result<InTurnWorked, Fail> {
+fn in_turn<R: Threads + Wait>(rt: &R, alloc: Global, sample: Sample) -> Result<InTurnWorked, Fail> {
     let instance = sample.build(alloc)?;
     let gate = InTurn::new(names_below(rt, alloc, sample)?);
     let outcome = solve_with(rt, alloc, &instance, TWO, &gate)?;
@@ -124,7 +120,10 @@ fn in_turn<R: Threads + Wait>(
 #[test]
 fn shared_word(rt: HostRuntime) -> Result<(), Fail> {
     let worked = in_turn(&rt, rt.alloc(), Sample::OneMessage(100))?;
-    assert!(rt; worked.limits_met == 0 && worked.greatest_goal <= 10, "{worked:?}");
+    assert!(rt;
+        worked.limits_met == 0 && worked.greatest_goal <= 10,
+        "{worked:?}"
+    );
     Ok(())
 }
 
@@ -132,6 +131,9 @@ fn shared_word(rt: HostRuntime) -> Result<(), Fail> {
 #[test]
 fn what_others_found_needs_no_search(rt: HostRuntime) -> Result<(), Fail> {
     let worked = in_turn(&rt, rt.alloc(), Sample::ShortReceiver(&[0], 1))?;
-    assert!(rt; worked.limits_met == 0 && worked.names_left == 1, "{worked:?}");
+    assert!(rt;
+        worked.limits_met == 0 && worked.names_left == 1,
+        "{worked:?}"
+    );
     Ok(())
 }
