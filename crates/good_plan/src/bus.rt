@@ -1,16 +1,23 @@
-//! The slots of a round: when each begins and ends, and how many bytes it carries.
+//! The slots of a round, and what the frames of each node carry.
 
 use crate::draft::Draft;
 use crate::network::Network;
 use crate::table::Table;
 
-/// The slots of a draft, by node. Times are ticks from the begin of a round.
+/// The round of a frame that carries nothing yet.
+const UNUSED: u64 = u64::MAX;
+
+/// When slots begin and end, and which frames have room. Times are ticks.
 #[derive(Drop)]
 pub struct Bus {
+    /// By node, when its slot begins in a round and when it ends, and how many bytes it carries.
     begins: Table,
     ends: Table,
     pub capacities: Table,
     round_length: u64,
+    /// The frames that carry something, node after node: which round, and how many bytes so far.
+    rounds: Table,
+    loads: Table,
 }
 
 impl Bus {
@@ -22,10 +29,12 @@ impl Bus {
             ends: nothing,
             capacities: nothing,
             round_length: 1,
+            rounds: nothing,
+            loads: nothing,
         }
     }
 
-    /// Takes the slots of a draft.
+    /// Takes the slots of a draft, with frames that carry nothing.
     pub fn lay_out(&mut self, network: &Network, draft: &Draft) {
         let cluster = network.instance.cluster();
         let mut time = 0u64;
@@ -43,6 +52,8 @@ impl Bus {
             self.ends.set(node, time);
         }
         self.round_length = time.max(1);
+        self.rounds.fill(UNUSED);
+        self.loads.fill(0);
     }
 
     /// The first round in which a node sends at this time or later.
@@ -56,5 +67,39 @@ impl Bus {
         round
             .saturating_mul(self.round_length)
             .saturating_add(self.ends.at(node))
+    }
+
+    /// Puts a message into a frame of this round or later, and gives the frame's round.
+    pub fn load(
+        &mut self,
+        network: &Network,
+        draft: &Draft,
+        node: usize,
+        m: usize,
+        first: u64,
+    ) -> u64 {
+        let begin = network.sources.begin(node).saturating_mul(2);
+        let end = network
+            .sources
+            .begin(node.saturating_add(1))
+            .saturating_mul(2);
+        let mut passes = draft.holds.at(m);
+        let mut next = first;
+        for frame in begin..end {
+            if self.rounds.at(frame) == UNUSED {
+                self.rounds.set(frame, next);
+            }
+            let round = self.rounds.at(frame);
+            let load = self.loads.at(frame).saturating_add(network.bytes.at(m));
+            if round >= first && load <= self.capacities.at(node) {
+                if passes == 0 {
+                    self.loads.set(frame, load);
+                    return round;
+                }
+                passes = passes.saturating_sub(1);
+            }
+            next = round.saturating_add(1).max(first);
+        }
+        first
     }
 }

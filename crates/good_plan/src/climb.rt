@@ -5,7 +5,6 @@ use crate::change::Choice;
 use crate::draft::Draft;
 use crate::network::Network;
 use crate::path::Path;
-use crate::rounds::Rounds;
 use crate::timetable::Timetable;
 use std::alloc::{AllocError, Global};
 use ttp_model::{Instance, Numbers, Plan};
@@ -56,7 +55,7 @@ fn plan_of(alloc: Global, draft: &Draft, timetable: &Timetable) -> Result<Plan, 
         order: Numbers::new(draft.order.narrow(alloc)?),
         caps: Numbers::new(timetable.bus.capacities.narrow(alloc)?),
         starts: Numbers::new(timetable.starts.narrow(alloc)?),
-        rounds: Numbers::new(timetable.outbox.rounds.all().narrow(alloc)?),
+        rounds: Numbers::new(timetable.rounds.narrow(alloc)?),
     })
 }
 
@@ -66,7 +65,6 @@ fn plan_of(alloc: Global, draft: &Draft, timetable: &Timetable) -> Result<Plan, 
 struct Climb {
     draft: Draft,
     path: Path,
-    rounds: Rounds,
     cost: u64,
     chance: Chance,
     timetable: Timetable,
@@ -81,7 +79,6 @@ impl Climb {
         Climb {
             draft,
             path: Path::new(network.homes.len()),
-            rounds: Rounds::new(network.bytes.len()),
             cost: 0,
             chance: Chance::new(0),
             timetable: Timetable::new(network),
@@ -106,9 +103,6 @@ impl Climb {
         if number > 0 {
             self.draft.shuffle(&mut self.chance);
         }
-        if number % 2 == 1 {
-            self.draft.vary(network, &mut self.chance);
-        }
     }
 
     /// Tries changes of the draft, and keeps those that don't make its schedule much longer, with
@@ -121,17 +115,17 @@ impl Climb {
         let most = self.timetable.delay.saturating_mul(heat(number)) / 1000;
         for left in (0..turns).rev() {
             let leeway = (most.saturating_mul(left) / turns.max(1)).saturating_add(1);
-            self.step(network, leeway);
+            self.step(network, leeway, Climb::returns(number));
         }
     }
 
     /// Tries one change.
-    fn step(&mut self, network: &Network, leeway: u64) {
+    fn step(&mut self, network: &Network, leeway: u64, holds: bool) {
         let choice = Choice {
             network: &*network,
             draft: &self.draft,
             path: &self.path,
-            rounds: &self.rounds,
+            holds,
         };
         let change = choice.next(&mut self.chance);
         let back = self.draft.make(change);
@@ -162,6 +156,5 @@ impl Climb {
     fn stay(&mut self) {
         self.cost = self.timetable.cost();
         self.path = self.timetable.path;
-        self.rounds = self.timetable.outbox.rounds;
     }
 }

@@ -1,19 +1,22 @@
 //! What a schedule is made from, and small changes of it.
 
 use crate::chance::Chance;
-use crate::lane::Lane;
 use crate::network::Network;
 use crate::table::Table;
 
 /// A slot order, a capacity for each node, the processes of each node in the order in which they run,
-/// and its messages: of those that wait for a slot the first ones are sent.
+/// and which messages wait.
 #[derive(Clone, Copy)]
 pub struct Draft {
     pub order: Table,
     /// By node, a place in its list of capacities.
     pub options: Table,
-    pub line: Lane,
-    pub messages: Lane,
+    /// The processes in their order, node after node.
+    pub line: Table,
+    /// By process, its place in the line.
+    pub places: Table,
+    /// By message, how many frames with room it lets pass.
+    pub holds: Table,
 }
 
 /// A change of a draft.
@@ -27,20 +30,24 @@ pub enum Change {
     Option(usize, u64),
     /// The process at the first place of the line goes to the second.
     Line(usize, usize),
-    /// The message at the first place of all goes to the second.
-    Message(usize, usize),
+    /// A message lets so many frames pass.
+    Hold(usize, u64),
 }
 
 impl Draft {
-    /// Nodes in their own order, with the least capacities that do, and processes and messages the
-    /// earlier the longer the chains that begin with them take. No process then waits for a later one.
+    /// Nodes in their own order, with the capacities that carry most, and processes the earlier the
+    /// longer the chains that begin with them take. No process then waits for a later one.
     pub fn new(network: &Network) -> Self {
-        Draft {
+        let mut draft = Draft {
             order: Table::numbered(network.roomy.len()),
             options: network.roomy,
-            line: Lane::new(network.residents.all()),
-            messages: Lane::new(network.sources.all()),
-        }
+            line: network.residents.all(),
+            places: network.homes,
+            holds: Table::zeros(network.bytes.len()),
+        };
+        let last = draft.line.len();
+        draft.renumber(0, last);
+        draft
     }
 
     /// The capacity of a node in bytes.
@@ -56,23 +63,16 @@ impl Draft {
         }
     }
 
-    /// Takes capacities by chance.
-    pub fn vary(&mut self, network: &Network, chance: &mut Chance) {
-        for node in 0..self.options.len() {
-            self.options.set(node, network.any_option(node, chance));
-        }
-    }
-
     /// Whether a process of the same node stands before this one in the line.
     pub fn has_neighbour_before(&self, network: &Network, p: usize) -> bool {
-        let place = self.line.place(p);
-        place > 0 && network.share_a_node(self.line.item(place - 1), p)
+        let place = self.places.place_at(p);
+        place > 0 && network.share_a_node(self.line.place_at(place - 1), p)
     }
 
     /// The process of the same node that stands next in the line.
     pub fn neighbour_after(&self, network: &Network, p: usize) -> Option<usize> {
-        let place = self.line.place(p).saturating_add(1);
-        let next = self.line.item(place);
+        let place = self.places.place_at(p).saturating_add(1);
+        let next = self.line.place_at(place);
         if place < self.line.len() && network.share_a_node(p, next) {
             Some(next)
         } else {
@@ -98,12 +98,21 @@ impl Draft {
             }
             Change::Line(from, to) => {
                 self.line.carry(from, to);
+                self.renumber(from.min(to), from.max(to));
                 Change::Line(to, from)
             }
-            Change::Message(from, to) => {
-                self.messages.carry(from, to);
-                Change::Message(to, from)
+            Change::Hold(message, frames) => {
+                let before = self.holds.at(message);
+                self.holds.set(message, frames);
+                Change::Hold(message, before)
             }
+        }
+    }
+
+    /// Notes the places of the processes from one place of the line to another.
+    fn renumber(&mut self, first: usize, last: usize) {
+        for place in first..last.saturating_add(1).min(self.line.len()) {
+            self.places.set(self.line.place_at(place), place as u64);
         }
     }
 }

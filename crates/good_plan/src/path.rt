@@ -1,31 +1,14 @@
 //! What makes a schedule as long as it is.
 
 use crate::chance::Chance;
-use crate::network::Network;
 use crate::table::Table;
-
-/// What a process waits for last.
-#[derive(Clone, Copy)]
-pub enum Cause {
-    /// Another process, right after which it starts.
-    Process(usize),
-    /// A message.
-    Message(usize),
-}
-
-/// A wait on the path that makes a schedule long: a process and what it waits for last.
-#[derive(Clone, Copy)]
-pub struct Wait {
-    pub process: usize,
-    pub cause: Cause,
-}
 
 /// What each process waits for last, and where it ends late.
 #[derive(Clone, Copy)]
 pub struct Path {
-    /// By process, the process that it starts right after, or the number of processes and the message
-    /// that it starts with; else the greatest number.
-    causes: Table,
+    /// By process, the process that it starts right after or has its last message from; else their
+    /// number.
+    blockers: Table,
     /// The process that ends last.
     last: usize,
     /// The process that ends too late by most, and by how much: by 0 where none does.
@@ -36,30 +19,18 @@ pub struct Path {
 impl Path {
     /// Nothing waits, of so many processes.
     pub fn new(processes: usize) -> Self {
-        let mut path = Path {
-            causes: Table::zeros(processes),
+        let mut blockers = Table::zeros(processes);
+        blockers.fill(processes as u64);
+        Path {
+            blockers,
             last: 0,
             latest: 0,
             most: 0,
-        };
-        path.clear();
-        path
+        }
     }
 
-    /// Nothing waits.
-    pub fn clear(&mut self) {
-        self.causes.fill(u64::MAX);
-        self.last = 0;
-        self.latest = 0;
-        self.most = 0;
-    }
-
-    pub fn block(&mut self, process: usize, cause: Cause) {
-        let number = match cause {
-            Cause::Process(p) => p,
-            Cause::Message(m) => self.causes.len().saturating_add(m),
-        };
-        self.causes.set(process, number as u64);
+    pub fn block(&mut self, process: usize, by: usize) {
+        self.blockers.set(process, by as u64);
     }
 
     pub fn ends_last(&mut self, process: usize) {
@@ -74,61 +45,39 @@ impl Path {
         }
     }
 
-    /// A wait by chance of those that lead to the last end or, mostly where there is one, to the
-    /// latest one. None where that process waits for none.
-    pub fn wait(&self, network: &Network, chance: &mut Chance) -> Option<Wait> {
+    /// A process and the one that waits for it, by chance of those that lead to the last end or,
+    /// mostly where there is one, to the latest one. None where that process waits for none.
+    pub fn link(&self, chance: &mut Chance) -> Option<(usize, usize)> {
         let end = if self.most > 0 && chance.below(4) > 0 {
             self.latest
         } else {
             self.last
         };
-        let length = self.length(network, end);
+        let length = self.length(end);
         if length == 0 {
             return None;
         }
-        let process = self.back(network, end, chance.below(length));
-        let cause = self.cause(process)?;
-        Some(Wait { process, cause })
-    }
-
-    /// What a process waits for last, where it waits.
-    fn cause(&self, process: usize) -> Option<Cause> {
-        let number = self.causes.at(process);
-        let processes = self.causes.len();
-        if number == u64::MAX {
-            None
-        } else if (number as usize) < processes {
-            Some(Cause::Process(number as usize))
-        } else {
-            Some(Cause::Message((number as usize).saturating_sub(processes)))
-        }
-    }
-
-    /// The process that a process waits for last, by itself or for its message.
-    fn before(&self, network: &Network, process: usize) -> Option<usize> {
-        match self.cause(process)? {
-            Cause::Process(p) => Some(p),
-            Cause::Message(m) => Some(network.senders.place_at(m)),
-        }
+        let after = self.back(end, chance.below(length));
+        Some((self.blockers.place_at(after), after))
     }
 
     /// How many waits lead to a process.
-    fn length(&self, network: &Network, end: usize) -> usize {
+    fn length(&self, end: usize) -> usize {
         let mut at = end;
-        for length in 0..self.causes.len() {
-            match self.before(network, at) {
-                Some(p) => at = p,
-                None => return length,
+        for length in 0..self.blockers.len() {
+            at = self.blockers.place_at(at);
+            if at >= self.blockers.len() {
+                return length;
             }
         }
         0
     }
 
     /// The process so many waits before.
-    fn back(&self, network: &Network, end: usize, waits: usize) -> usize {
+    fn back(&self, end: usize, waits: usize) -> usize {
         let mut at = end;
         for _ in 0..waits {
-            at = self.before(network, at).unwrap_or(at);
+            at = self.blockers.place_at(at);
         }
         at
     }
