@@ -5,6 +5,8 @@ pub mod Trees
 pub mod Seen
 pub mod Nodes
 pub mod NextNodes
+pub mod Waiting
 pub mod LeafSteps
 pub mod NoFaults
 pub mod Streams
+pub mod Pieces

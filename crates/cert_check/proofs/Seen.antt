@@ -1,8 +1,6 @@
 -- One node more of a certificate that is gone through.
-use Rattle.std.proofs.Common.{◌≡◌, ℕ, ◌+◌, ◌⊎◌, List, [], ◌∷◌, ◌++◌, All, length, Option, None, Some, Result, Ok, Err, arith, inl, inr, refl, sym, ap, subst, ◌∙◌}
-use Rattle.std.specs.List.{AllZip}
+use Rattle.std.proofs.Common.{◌≡◌, ℕ, ◌+◌, ◌⊎◌, List, [], ◌∷◌, ◌++◌, length, arith, inl, inr, refl, sym, subst, ◌∙◌}
 use Rattle.std.proofs.lemmas.List.{append_assoc}
-use Rattle.std.proofs.lemmas.List.Elements.{All-nil, All-head, All-tail, All-push}
 use Rattle.ttp_model.specs.Instance.{Instance}
 use Rattle.tt_choice.specs.Choice.{Choice}
 use Rattle.tt_choice.specs.Branches.{root_choice}
@@ -15,60 +13,30 @@ use Rattle.certificate.proofs.TreeLists.{total_lines-append}
 use Rattle.cert_check.specs.declared.fault.NodeFault.{NodeFault}
 use Rattle.cert_check.specs.declared.fault.CertFault.{CertFault}
 use Rattle.cert_check.specs.declared.fault.CertFault.TheVariants.{LowTooGreat, At, OutOfMemory}
-use Rattle.cert_check.specs.declared.batch.HeldLeaf.{HeldLeaf}
 use Rattle.cert_check.specs.Proofs.{choices_below, Suits, AreProofs}
 use Rattle.cert_check.specs.Faults.{IsNodeFault, IsFirstTreeFault, told_line}
-use Rattle.cert_check.specs.Seen.{TellsNode, TellsBranch, Closes, AllClose, IsFirstHeldFault, IsLeafAnswer, first_error, TellsHeld, line_behind, TellsSeen, IsHeld, IsSeen}
+use Rattle.cert_check.specs.Seen.{ReadLeaf, TellsNode, TellsBranch, Closes, AllClose, IsFirstHeldFault, TellsFirst, TellsHeld, line_behind, TellsSeen, IsHeld, IsSeen}
 use Rattle.cert_check.proofs.Trees.{below_count, AreProofs-split, IsFirstFault-split}
 
--- ---- answers to leaves that wait
+-- ---- leaves that wait
 
-abbrev IsThere : Option CertFault → Type 0
-IsThere None = ⊥
-IsThere (Some fault) = Unit {0}
-
-some_none : (fault : CertFault) → Some fault ≡ None → ⊥
-some_none fault same = subst IsThere same tt
-
-abbrev fault_or : CertFault → Option CertFault → CertFault
-fault_or other None = other
-fault_or other (Some fault) = fault
-
-pub all_answered : (i : Instance) (low : ℕ) (held : List HeldLeaf) (answers : List (Result (Unit {0}) CertFault)) → AllZip (IsLeafAnswer i low) held answers → first_error answers ≡ None → AllClose i low held
-all_answered i low [] [] zip no_error = tt
-all_answered i low [] (answer ∷ answers) zip no_error = absurd zip
-all_answered i low (h ∷ held) [] zip no_error = absurd zip
-all_answered i low (h ∷ held) (Ok u ∷ answers) zip no_error = (zip.0, all_answered i low held answers zip.1 no_error)
-all_answered i low (h ∷ held) (Err fault ∷ answers) zip no_error = absurd (some_none fault no_error)
-
-later_held : (i : Instance) (low : ℕ) (h : HeldLeaf) (held : List HeldLeaf) (fault : CertFault) → Closes i low h → TellsHeld i low held fault → TellsHeld i low (h ∷ held) fault
+pub later_held : (i : Instance) (low : ℕ) (h : ReadLeaf) (held : List ReadLeaf) (fault : CertFault) → Closes i low h → TellsHeld i low held fault → TellsHeld i low (h ∷ held) fault
 later_held i low h held LowTooGreat closes tells = tells
 later_held i low h held (At at fault) closes tells = (tells.0, tells.1, inr (closes, tells.2))
 later_held i low h held OutOfMemory closes tells = tt
 
-first_held : (i : Instance) (low : ℕ) (h : HeldLeaf) (held : List HeldLeaf) (fault : CertFault) → IsHeld i h → TellsNode i low h.choice (node.Leaf h.leaf) h.line fault → TellsHeld i low (h ∷ held) fault
+pub first_held : (i : Instance) (low : ℕ) (h : ReadLeaf) (held : List ReadLeaf) (fault : CertFault) → IsHeld i h → TellsNode i low h.choice (node.Leaf h.leaf) h.line fault → TellsHeld i low (h ∷ held) fault
 first_held i low h held LowTooGreat ok tells = absurd tells
 first_held i low h held (At at fault) ok tells =
     let here = tells h.line ok.line in
     (here.0, here.1, inl here.2)
 first_held i low h held OutOfMemory ok tells = tt
 
-pub first_answered : (i : Instance) (low : ℕ) (held : List HeldLeaf) (answers : List (Result (Unit {0}) CertFault)) (fault : CertFault) → All (IsHeld i) held → AllZip (IsLeafAnswer i low) held answers → first_error answers ≡ Some fault → TellsHeld i low held fault
-first_answered i low [] [] fault ok zip some = absurd (some_none fault (sym some))
-first_answered i low [] (answer ∷ answers) fault ok zip some = absurd zip
-first_answered i low (h ∷ held) [] fault ok zip some = absurd zip
-first_answered i low (h ∷ held) (Ok u ∷ answers) fault ok zip some =
-    later_held i low h held fault zip.0 (first_answered i low held answers fault (All-tail (IsHeld i) h held ok) zip.1 some)
-first_answered i low (h ∷ held) (Err first ∷ answers) fault ok zip some =
-    let same : first ≡ fault = ap (fault_or first) some in
-    rw (← same) (first_held i low h held first (All-head (IsHeld i) h held ok) zip.0)
-
 -- ---- what was seen so far
 
 -- Nothing was seen, and the tree of the choice of all plans is to follow.
 pub seen_none : (i : Instance) (low : ℕ) → IsSeen i low [] [] (root_choice i ∷ [])
 seen_none i low = record {
-  each = All-nil (IsHeld i);
   proofs = λ closed rest are. are;
   follows = λ closed rest at fault is. is;
   waits = λ rest at fault is. absurd is;
@@ -88,13 +56,12 @@ IsFaultInParts i low below left trees line at fault k =
     ⊎ (AreProofs i low below (first_trees k trees) × IsFirstTreeFault i low left (trees_after k trees) (line + lines (first_trees k trees)) at fault)
 
 -- A node that suits its choice leads to the choices below it.
-pub seen_node : (i : Instance) (low : ℕ) (seen : List Node) (held : List HeldLeaf) (c : Choice) (left : List Choice) (n : Node) → IsSeen i low seen held (c ∷ left) → Suits i low c n → IsSeen i low (seen ++ n ∷ []) held (choices_below i c n ++ left)
+pub seen_node : (i : Instance) (low : ℕ) (seen : List Node) (held : List ReadLeaf) (c : Choice) (left : List Choice) (n : Node) → IsSeen i low seen held (c ∷ left) → Suits i low c n → IsSeen i low (seen ++ n ∷ []) held (choices_below i c n ++ left)
 unfolding trees_of
 seen_node i low seen held c left n s suits =
     let below = choices_below i c n in
     let count : length below ≡ children n = sym (below_count i low c n suits) in
     record {
-      each = s.each;
       proofs = λ closed rest are.
           let parts = subst (λ (k : ℕ). AreProofs i low below (first_trees k (trees_of rest)) × AreProofs i low left (trees_after k (trees_of rest))) count (AreProofs-split i low below left (trees_of rest) are) in
           rw (behind_one seen n rest) (s.proofs closed (n ∷ rest) (suits, parts));
@@ -107,14 +74,14 @@ seen_node i low seen held c left n s suits =
 
 -- ---- leaves that wait
 
-close_first : (i : Instance) (low : ℕ) (held : List HeldLeaf) (h : HeldLeaf) → AllClose i low (held ++ h ∷ []) → AllClose i low held × Closes i low h
+close_first : (i : Instance) (low : ℕ) (held : List ReadLeaf) (h : ReadLeaf) → AllClose i low (held ++ h ∷ []) → AllClose i low held × Closes i low h
 close_first i low [] h all = (tt, all.0)
 close_first i low (first ∷ held) h all =
     let rest = close_first i low held h all.1 in
     ((all.0, rest.0), rest.1)
 
 -- the first fault is one of those before the last, or where they close, of the last
-wait_first : (i : Instance) (low : ℕ) (held : List HeldLeaf) (h : HeldLeaf) (at : ℕ) (fault : NodeFault) → IsFirstHeldFault i low (held ++ h ∷ []) at fault → IsFirstHeldFault i low held at fault ⊎ (AllClose i low held × IsNodeFault i low h.choice (node.Leaf h.leaf) h.line at fault)
+wait_first : (i : Instance) (low : ℕ) (held : List ReadLeaf) (h : ReadLeaf) (at : ℕ) (fault : NodeFault) → IsFirstHeldFault i low (held ++ h ∷ []) at fault → IsFirstHeldFault i low held at fault ⊎ (AllClose i low held × IsNodeFault i low h.choice (node.Leaf h.leaf) h.line at fault)
 wait_first i low [] h at fault is = elim is [
   | inl own ↦ inr (tt, own)
   | inr later ↦ absurd later.1
@@ -128,12 +95,11 @@ wait_first i low (first ∷ held) h at fault is = elim is [
 ]
 
 -- A leaf waits.
-pub seen_leaf : (i : Instance) (low : ℕ) (seen : List Node) (held : List HeldLeaf) (h : HeldLeaf) (left : List Choice) → IsSeen i low seen held (h.choice ∷ left) → IsHeld i h → h.line ≡ line_behind seen → IsSeen i low (seen ++ node.Leaf h.leaf ∷ []) (held ++ h ∷ []) left
+pub seen_leaf : (i : Instance) (low : ℕ) (seen : List Node) (held : List ReadLeaf) (h : ReadLeaf) (left : List Choice) → IsSeen i low seen held (h.choice ∷ left) → h.line ≡ line_behind seen → IsSeen i low (seen ++ node.Leaf h.leaf ∷ []) (held ++ h ∷ []) left
 unfolding trees_of first_trees trees_after
-seen_leaf i low seen held h left s ok here =
+seen_leaf i low seen held h left s here =
     let n = node.Leaf h.leaf in
     record {
-      each = All-push (IsHeld i) held h s.each ok;
       proofs = λ closed rest are.
           let each = close_first i low held h closed in
           rw (behind_one seen n rest) (s.proofs each.0 (n ∷ rest) (each.1, (tt, are)));
@@ -148,9 +114,8 @@ seen_leaf i low seen held h left s ok here =
     }
 
 -- Those that wait close, and wait no more.
-pub seen_judged : (i : Instance) (low : ℕ) (seen : List Node) (held : List HeldLeaf) (left : List Choice) → AllClose i low held → IsSeen i low seen held left → IsSeen i low seen [] left
+pub seen_judged : (i : Instance) (low : ℕ) (seen : List Node) (held : List ReadLeaf) (left : List Choice) → AllClose i low held → IsSeen i low seen held left → IsSeen i low seen [] left
 seen_judged i low seen held left closed s = record {
-  each = All-nil (IsHeld i);
   proofs = λ all rest are. s.proofs closed rest are;
   follows = λ all rest at fault is. s.follows closed rest at fault is;
   waits = λ rest at fault is. absurd is;
@@ -158,8 +123,12 @@ seen_judged i low seen held left closed s = record {
 
 -- ---- faults
 
+-- a fault of what was seen stays the first where one node more is
+pub later_told : (i : Instance) (low : ℕ) (seen : List Node) (n : Node) (fault : CertFault) → TellsSeen i low seen fault → TellsSeen i low (seen ++ n ∷ []) fault
+later_told i low seen n fault tells = λ rest. subst (λ (ns : List Node). TellsFirst i low (trees_of ns) fault) (sym (behind_one seen n rest)) (tells (n ∷ rest))
+
 -- where those close, the next node is at fault
-pub node_fails : (i : Instance) (low : ℕ) (seen : List Node) (held : List HeldLeaf) (c : Choice) (left : List Choice) (n : Node) (line : ℕ) (fault : CertFault) → AllClose i low held → IsSeen i low seen held (c ∷ left) → line ≡ told_line (line_behind seen) → TellsNode i low c n line fault → TellsSeen i low (seen ++ n ∷ []) fault
+pub node_fails : (i : Instance) (low : ℕ) (seen : List Node) (held : List ReadLeaf) (c : Choice) (left : List Choice) (n : Node) (line : ℕ) (fault : CertFault) → AllClose i low held → IsSeen i low seen held (c ∷ left) → line ≡ told_line (line_behind seen) → TellsNode i low c n line fault → TellsSeen i low (seen ++ n ∷ []) fault
 unfolding trees_of
 node_fails i low seen held c left n line LowTooGreat closed s is tells = absurd tells
 node_fails i low seen held c left n line (At at fault) closed s is tells = λ rest.

@@ -1,31 +1,44 @@
 -- What the check of a stream has passed, and what it answers from what it found in the nodes.
-use Rattle.std.proofs.Common.{◌≡◌, ℕ, ◌+◌, ◌≤◌, List, [], ◌∷◌, ◌++◌, reverse, Option, None, Some, IfNone, Result, Ok, Err, arith, refl, subst, ◌∙◌}
+use Rattle.std.proofs.Common.{◌≡◌, ℕ, suc, ◌+◌, ◌≤◌, List, [], ◌∷◌, ◌++◌, All, length, reverse, Option, None, Some, IfNone, IfOk, IfErr, Result, Ok, Err, arith, inl, inr, refl, sym, ap, subst, ◌∙◌}
+use Rattle.std.specs.Global.{Vec}
+use Rattle.std.proofs.lemmas.List.{length-append}
+use Rattle.std.proofs.lemmas.List.Elements.{All-nil, All-push}
 use Rattle.ttp_model.specs.Instance.{Instance}
 use Rattle.ttp_model.specs.Rules.{IsInstance}
 use Rattle.ttp_model.specs.Delays.{IsLowerBound, HasNoPlan}
 use Rattle.tt_choice.specs.Choice.{Choice}
+use Rattle.tt_choice.specs.Branches.{IsBranch, child_choices, root_choice}
+use Rattle.certificate.specs.declared.branch.Branch.{Branch}
+use Rattle.certificate.specs.declared.fault.CertTextError.{CertTextError}
+use Rattle.certificate.specs.declared.head.Head.TheVariants.{OfLeaf}
+use Rattle.certificate.specs.declared.node.Node.TheVariants as node
+use Rattle.certificate.specs.RawLines.{node_said}
 use Rattle.certificate.specs.declared.fault.CertTextError.TheVariants as text
 use Rattle.certificate.specs.declared.fault.SourceFault.{SourceFault}
 use Rattle.certificate.specs.declared.fault.SourceFault.TheVariants as source
 use Rattle.certificate.specs.declared.node.Node.{Node}
 use Rattle.certificate.specs.declared.stream.CertStream.{CertStream}
 use Rattle.certificate.specs.Trees.{trees_of}
-use Rattle.certificate.specs.Lines.{node_lines}
 use Rattle.certificate.specs.Reading.{Reading}
 use Rattle.certificate.specs.Sources.{Origin}
-use Rattle.certificate.specs.Opened.{still_due, TakesChild, certificate_with}
-use Rattle.certificate.specs.Streams.{next_line, still_to_come, bytes_taken, StreamLeaves, LeavesNodes, LeavesCert, LeavesNext, StreamIsFrom, IsCertFault, IsNodeFault}
+use Rattle.certificate.specs.Opened.{in_front, still_due, TakesChild, certificate_with}
+use Rattle.certificate.specs.Streams.{next_line, still_to_come, bytes_taken, StreamLeaves, LeavesNodes, LeavesCert, LeavesNext, LeavesPiece, said_in_front, StreamIsFrom, IsCertFault, IsNodeFault}
 use Rattle.certificate.proofs.Opened.{IsGivenSoFar, given_first, given_more, given_all}
 use Rattle.cert_check.specs.declared.fault.CertFault.{CertFault}
 use Rattle.cert_check.specs.declared.fault.CertFault.TheVariants.{LowTooGreat, At, OutOfMemory}
 use Rattle.cert_check.specs.declared.fault.StreamFault.{StreamFault}
 use Rattle.cert_check.specs.declared.going.Going.{Going}
-use Rattle.cert_check.specs.Streams.{IsFound, TakesAll, IsTakenFrom}
-use Rattle.cert_check.specs.Seen.{TellsSeen, line_behind}
-use Rattle.cert_check.specs.Going.{IsOn, IsGoing, IsFoundIn}
+use Rattle.certificate.proofs.RawNodes.{steps_count}
+use Rattle.cert_check.specs.declared.batch.HeldLeaf.{HeldLeaf}
+use Rattle.cert_check.specs.Turns.{IsWalk}
+use Rattle.cert_check.specs.Streams.{IsFound, IsToldBehind, TakesAll, IsTakenFrom}
+use Rattle.cert_check.specs.Waiting.{Waits, leaf_with, held_leaf, AreRead, IsUnread, Finishes, TellsText}
+use Rattle.cert_check.specs.Seen.{ReadLeaf, AllClose, IsSeen, line_behind}
+use Rattle.cert_check.specs.Going.{total_due, IsFoundIn}
 use Rattle.cert_check.proofs.Bounds.{proved_bound, proved_none}
-use Rattle.cert_check.proofs.Seen.{line_more}
-use Rattle.cert_check.proofs.NextNodes.{going_ends, all_proved, found_in, found_at_end}
+use Rattle.cert_check.proofs.Seen.{line_more, seen_none, seen_node, seen_leaf, seen_judged}
+use Rattle.cert_check.proofs.Waiting.{read_last, unread_last}
+use Rattle.cert_check.proofs.NextNodes.{takes_one, leaves_more, none_due, branch_count, nothing_left, all_proved, held_tells, found_at_end}
 
 -- ---- one node after another
 
@@ -56,11 +69,11 @@ module _ {R : Type 0} (remaining : R → Option (List ℕ)) (first now : CertStr
   passed_all p ends = (p.seen, behind_all p.seen p.behind_them ends)
 
   -- nodes that are left stand behind those that were passed
-  behind_rest : (seen rest : List Node) → AreBehind remaining first now seen → LeavesNodes remaining now (Ok rest) → LeavesNodes remaining first (Ok (seen ++ rest))
+  pub behind_rest : (seen rest : List Node) → AreBehind remaining first now seen → LeavesNodes remaining now (Ok rest) → LeavesNodes remaining first (Ok (seen ++ rest))
   behind_rest seen rest so_far left = so_far (Ok rest) left
 
   -- a fault of what is left is one of all
-  behind_fault : (seen : List Node) (taken : ℕ) (fault : SourceFault) → AreBehind remaining first now seen → IsNodeFault (LeavesNodes remaining now) taken fault → IsNodeFault (LeavesNodes remaining first) taken fault
+  pub behind_fault : (seen : List Node) (taken : ℕ) (fault : SourceFault) → AreBehind remaining first now seen → IsNodeFault (LeavesNodes remaining now) taken fault → IsNodeFault (LeavesNodes remaining first) taken fault
   behind_fault seen taken source.Read so_far is = tt
   behind_fault seen taken source.TooLong so_far is = is
   behind_fault seen taken (source.Text text.OutOfMemory) so_far is = tt
@@ -70,7 +83,7 @@ module _ {R : Type 0} (remaining : R → Option (List ℕ)) (first now : CertStr
   passed_fault taken fault p is = behind_fault p.seen taken fault p.behind_them is
 
   module _ (next : CertStream R) (said : Node × ℕ) (leaves : LeavesNext remaining now next (Some said)) where
-    behind_more : (seen : List Node) → AreBehind remaining first now seen → AreBehind remaining first next (seen ++ said.0 ∷ [])
+    pub behind_more : (seen : List Node) → AreBehind remaining first now seen → AreBehind remaining first next (seen ++ said.0 ∷ [])
     behind_more seen so_far =
         given_more (StreamLeaves remaining first) (StreamLeaves remaining now) (StreamLeaves remaining next) (still_to_come first) (still_to_come now) (still_to_come next) (next_line first) (next_line now) (next_line next) seen said.0 so_far leaves
 
@@ -81,75 +94,176 @@ module _ {R : Type 0} (remaining : R → Option (List ℕ)) (first now : CertStr
       from = λ origin is. from origin (p.from origin is);
     }
 
+-- what is told where a text in front of what is left is at fault, and that was read in some way
+pub told_behind : {R : Type 0} (remaining : R → Option (List ℕ)) (s : CertStream R) (taken : ℕ) (fault : CertTextError) (read : Reading (List Node)) → LeavesNodes remaining s read → IsToldBehind remaining s taken fault (source.Text fault)
+told_behind remaining s taken text.OutOfMemory read left = tt
+told_behind remaining s taken (text.At line fault) read left = (refl, (read, left))
+
 -- ---- and what is found in them
 
--- Nodes were passed and judged, but for those that wait.
-pub record IsUnderWay {R : Type 0} (i : Instance) (low : ℕ) (remaining : R → Option (List ℕ)) (first now : CertStream R) (g : Going) : Type 0 where
+-- Nodes were passed, of which these leaves wait, and trees for these choices are to follow.
+pub record IsReadSoFar {R : Type 0} (i : Instance) (low : ℕ) (remaining : R → Option (List ℕ)) (first now : CertStream R) (left : List Choice) (rs : List ReadLeaf) : Type 0 where
   pub seen : List Node
   pub behind_them : AreBehind remaining first now seen
-  pub from : (origin : Origin) → StreamIsFrom remaining first origin → StreamIsFrom remaining now origin
-  pub going : IsGoing i low g seen (still_to_come now)
+  pub so_far : IsSeen i low seen rs left
   pub line : next_line now ≡ line_behind seen
 
+-- The same whatever the steps of those that wait say; where they aren't spelled, that is the fault of the text.
+pub record IsUnderWay {R : Type 0} (i : Instance) (low : ℕ) (remaining : R → Option (List ℕ)) (first now : CertStream R) (g : Going) : Type 0 where
+  pub left : List Choice
+  pub walk : IsWalk i g.walk left
+  pub count : length left ≡ total_due (reverse (still_to_come now))
+  pub waits : All (Waits i) g.held.items
+  pub from : (origin : Origin) → StreamIsFrom remaining first origin → StreamIsFrom remaining now origin
+  pub unread : (fault : CertTextError) → IsUnread g.held.items fault → (read : Reading (List Node)) → LeavesNodes remaining now read → LeavesNodes remaining first (Err fault)
+  pub so_far : (rs : List ReadLeaf) → AreRead g.held.items rs → IsReadSoFar i low remaining first now left rs
+
+none_read : (rs : List ReadLeaf) → AreRead [] rs → [] ≡ rs
+none_read [] are = refl
+none_read (r ∷ rs) are = absurd are
+
+abbrev ReadAs : List ReadLeaf → List HeldLeaf → Type 0
+ReadAs rs hs = AreRead hs rs
+
+abbrev UnreadAs : CertTextError → List HeldLeaf → Type 0
+UnreadAs fault hs = IsUnread hs fault
+
 module _ {R : Type 0} (i : Instance) (low : ℕ) (remaining : R → Option (List ℕ)) (first now : CertStream R) where
-  pub begins_under_way : (g : Going) → still_to_come first ≡ 1 ∷ [] → next_line first ≡ 3 → IsGoing i low g [] (1 ∷ []) → IsUnderWay i low remaining first first g
-  begins_under_way g due line going = record {
-    seen = [];
-    behind_them = behind_first remaining first first;
+  pub begins_under_way : (g : Going) → still_to_come first ≡ 1 ∷ [] → next_line first ≡ 3 → IsWalk i g.walk (root_choice i ∷ []) → g.held.items ≡ [] → IsUnderWay i low remaining first first g
+  begins_under_way g due line walk none = record {
+    left = root_choice i ∷ [];
+    walk = walk;
+    count = sym (ap (λ (ks : List ℕ). total_due (reverse ks)) due);
+    waits = subst (All (Waits i)) (sym none) (All-nil (Waits i));
     from = λ origin is. is;
-    going = rw due going;
-    line = line;
+    unread = λ fault is read left. absurd (subst (UnreadAs fault) none is);
+    so_far = λ rs are. record {
+      seen = [];
+      behind_them = behind_first remaining first first;
+      so_far = subst (λ (xs : List ReadLeaf). IsSeen i low [] xs (root_choice i ∷ [])) (none_read rs (subst (ReadAs rs) none are)) (seen_none i low);
+      line = line;
+    };
   }
 
-  pub under_way_fault : (g : Going) (taken : ℕ) (fault : SourceFault) → IsUnderWay i low remaining first now g → IsNodeFault (LeavesNodes remaining now) taken fault → IsNodeFault (LeavesNodes remaining first) taken fault
-  under_way_fault g taken fault u is = behind_fault remaining first now u.seen taken fault u.behind_them is
+  -- ---- a fault of the text
 
-  -- behind the last node all that wait are judged
-  pub found_none : (g judged : Going) → IsUnderWay i low remaining first now g → LeavesNodes remaining now (Ok []) → still_due (reverse (still_to_come now)) ≡ [] → judged.held.items ≡ []
-      → ((seen : List Node) (left : List Choice) → IsOn i low g seen left → IsOn i low judged seen left)
-      → (nodes : List Node) × LeavesNodes remaining first (Ok nodes) × IsFoundIn i low nodes None
-  found_none g judged u ends closed none on =
-      let ended = on u.seen [] (going_ends i low g u.seen (still_to_come now) u.going closed) in
-      (u.seen, behind_all remaining first now u.seen u.behind_them ends, all_proved i low judged u.seen ended none)
+  -- where the lines that follow are at fault, that is told, unless the text of those that wait is
+  pub under_way_fault : (g : Going) (taken : ℕ) (found told : SourceFault) → IsUnderWay i low remaining first now g → TellsText g.held.items found told → IsNodeFault (LeavesNodes remaining now) taken found → IsNodeFault (LeavesNodes remaining first) taken told
+  under_way_fault g taken found source.Read u tells is = tt
+  under_way_fault g taken found source.TooLong u tells is = subst (IsNodeFault (LeavesNodes remaining now) taken) tells is
+  under_way_fault g taken found (source.Text text.OutOfMemory) u tells is = tt
+  under_way_fault g taken found (source.Text (text.At line fault)) u tells is = elim tells [
+    | inl earlier ↦
+        let left = subst (IsNodeFault (LeavesNodes remaining now) taken) earlier.2.0 is in
+        u.unread (text.At line fault) earlier.2.1 (Err (text.At earlier.0 earlier.1)) left
+    | inr own ↦
+        let s = u.so_far own.1.0 own.1.1 in
+        let left = subst (IsNodeFault (LeavesNodes remaining now) taken) own.0 is in
+        s.behind_them (Err (text.At line fault)) left
+  ]
 
-  pub found_last : (g : Going) (fault : CertFault) → IsUnderWay i low remaining first now g → LeavesNodes remaining now (Ok []) → still_due (reverse (still_to_come now)) ≡ []
-      → ((seen : List Node) (left : List Choice) → IsOn i low g seen left → TellsSeen i low seen fault)
-      → (nodes : List Node) × LeavesNodes remaining first (Ok nodes) × IsFoundIn i low nodes (Some fault)
-  found_last g fault u ends closed tells =
-      let told = tells u.seen [] (going_ends i low g u.seen (still_to_come now) u.going closed) in
-      (u.seen, behind_all remaining first now u.seen u.behind_them ends, found_at_end i low u.seen fault told)
+  -- ---- behind the last node
 
-  module _ (next : CertStream R) (node : Node) (line : ℕ) (g : Going) (u : IsUnderWay i low remaining first now g) (leaves : LeavesNext remaining now next (Some (node, line)))
-      (due : TakesChild (still_to_come now) (still_to_come next) node) (here : line ≡ next_line now) where
-    pub line_is : line ≡ line_behind u.seen
-    line_is = here ∙ u.line
+  -- what is told behind the last node
+  pub finishes : (g : Going) (taken : ℕ) (result : Result (Option CertFault) SourceFault) → IsUnderWay i low remaining first now g → LeavesNodes remaining now (Ok []) → still_due (reverse (still_to_come now)) ≡ [] → Finishes i low g.held.items result
+      → IfOk result (λ found. (nodes : List Node) × LeavesNodes remaining first (Ok nodes) × IsFoundIn i low nodes found) × IfErr result (IsNodeFault (LeavesNodes remaining first) taken)
+  finishes g taken (Ok None) u ends closed is =
+      let s = u.so_far is.0 is.1.0 in
+      let last = subst (IsSeen i low s.seen is.0) (nothing_left u.left (u.count ∙ none_due (still_to_come now) closed)) s.so_far in
+      ((s.seen, behind_all remaining first now s.seen s.behind_them ends, all_proved i low s.seen is.0 last is.1.1), tt)
+  finishes g taken (Ok (Some fault)) u ends closed is =
+      let s = u.so_far is.0 is.1.0 in
+      ((s.seen, behind_all remaining first now s.seen s.behind_them ends, found_at_end i low s.seen fault (held_tells i low s.seen is.0 u.left fault s.so_far is.1.1)), tt)
+  finishes g taken (Err source.Read) u ends closed is = absurd is
+  finishes g taken (Err source.TooLong) u ends closed is = absurd is
+  finishes g taken (Err (source.Text text.OutOfMemory)) u ends closed is = (tt, tt)
+  finishes g taken (Err (source.Text (text.At line fault))) u ends closed is = (tt, u.unread (text.At line fault) is (Ok []) ends)
 
-    pub under_way_next : (taken : Going) → next_line next ≡ next_line now + node_lines node → ((origin : Origin) → StreamIsFrom remaining now origin → StreamIsFrom remaining next origin)
-        → ((seen : List Node) (due_old due_new : List ℕ) → IsGoing i low g seen due_old → line ≡ line_behind seen → TakesChild due_old due_new node → IsGoing i low taken (seen ++ node ∷ []) due_new)
-        → IsUnderWay i low remaining first next taken
-    under_way_next taken passed from goes = record {
-      seen = u.seen ++ node ∷ [];
-      behind_them = behind_more remaining first now next (node, line) leaves u.seen u.behind_them;
-      from = λ origin is. from origin (u.from origin is);
-      going = goes u.seen (still_to_come now) (still_to_come next) u.going line_is due;
-      line = omega (arith, passed, u.line, line_more u.seen node);
-    }
+  -- ---- one node more
 
-    -- a node is at fault, and the others are only passed
-    pub found_here : (fault : CertFault) (rest : List Node) → LeavesNodes remaining next (Ok rest)
-        → ((seen : List Node) (due_old due_new : List ℕ) → IsGoing i low g seen due_old → line ≡ line_behind seen → TakesChild due_old due_new node → TellsSeen i low (seen ++ node ∷ []) fault)
-        → (nodes : List Node) × LeavesNodes remaining first (Ok nodes) × IsFoundIn i low nodes (Some fault)
-    found_here fault rest left tells =
-        let seen = u.seen ++ node ∷ [] in
-        let told = tells u.seen (still_to_come now) (still_to_come next) u.going line_is due in (
-          seen ++ rest,
-          behind_rest remaining first next seen rest (behind_more remaining first now next (node, line) leaves u.seen u.behind_them) left,
-          found_in i low seen rest fault told,
-        )
+  module _ (next : CertStream R) (g : Going) (u : IsUnderWay i low remaining first now g) (from : (origin : Origin) → StreamIsFrom remaining now origin → StreamIsFrom remaining next origin)
+      (c : Choice) (left : List Choice) (there : u.left ≡ c ∷ left) where
+    more_left : suc (length left) ≡ total_due (reverse (still_to_come now))
+    more_left = sym (ap length there) ∙ u.count
 
-    pub fault_behind : (taken : ℕ) (fault : SourceFault) → IsNodeFault (LeavesNodes remaining next) taken fault → IsNodeFault (LeavesNodes remaining first) taken fault
-    fault_behind taken fault is =
-        behind_fault remaining first next (u.seen ++ node ∷ []) taken fault (behind_more remaining first now next (node, line) leaves u.seen u.behind_them) is
+    pub branch_taken : (taken : Going) (branch : Branch) → LeavesNext remaining now next (Some (node.Branch branch, next_line now)) → TakesChild (still_to_come now) (still_to_come next) (node.Branch branch) → next_line next ≡ next_line now + 1
+        → IsBranch i c branch.kind branch.children → IsWalk i taken.walk (child_choices i c branch.kind ++ left) → taken.held.items ≡ g.held.items → IsUnderWay i low remaining first next taken
+    branch_taken taken branch leaves t passed suits walk same =
+        let below = child_choices i c branch.kind in
+        let counted = branch_count i c branch suits in
+        record {
+          left = child_choices i c branch.kind ++ left;
+          walk = walk;
+          count = omega (arith, length-append (child_choices i c branch.kind) left, counted, more_left, takes_one (still_to_come now) (still_to_come next) (node.Branch branch) t, leaves_more (still_to_come now) (still_to_come next) (node.Branch branch) t);
+          waits = subst (All (Waits i)) (sym same) u.waits;
+          from = λ origin is. from origin (u.from origin is);
+          unread = λ fault is read left. u.unread fault (subst (UnreadAs fault) same is) (in_front (node.Branch branch) read) (leaves read left);
+          so_far = λ rs are.
+              let s = u.so_far rs (subst (ReadAs rs) same are) in
+              record {
+                seen = s.seen ++ node.Branch branch ∷ [];
+                behind_them = behind_more remaining first now next (node.Branch branch, next_line now) leaves s.seen s.behind_them;
+                so_far = seen_node i low s.seen rs c left (node.Branch branch) (subst (IsSeen i low s.seen rs) there s.so_far) suits;
+                line = omega (arith, passed, s.line, line_more s.seen (node.Branch branch));
+              };
+        }
+
+    module _ (goal count line : ℕ) (steps : Vec ℕ) (leaves : LeavesPiece remaining now next steps.items (Some (OfLeaf goal count, line))) (here : line ≡ next_line now) (passed : next_line next ≡ next_line now + 1 + count) where
+      pub leaf_read : (rs : List ReadLeaf) → AreRead (g.held.items ++ held_leaf c goal count line steps ∷ []) rs → IsReadSoFar i low remaining first next left rs
+      leaf_read rs are =
+          let last = read_last g.held.items (held_leaf c goal count line steps) rs are in
+          let s = u.so_far last.0 last.2.1.0 in
+          let said : node_said (OfLeaf goal count) line steps.items ≡ Ok (node.Leaf (record { goal = goal; steps = last.1 })) = rw last.2.1.1 refl in
+          let next_is : LeavesNext remaining now next (Some (node.Leaf (record { goal = goal; steps = last.1 }), line)) = λ read l. subst (λ (x : Reading Node). LeavesNodes remaining now (said_in_front x read)) said (leaves read l) in
+          let long = steps_count count (line + 1) steps.items last.1 last.2.1.1 in
+          let seen = seen_leaf i low s.seen last.0 (leaf_with (held_leaf c goal count line steps) last.1) left (subst (IsSeen i low s.seen last.0) there s.so_far) (here ∙ s.line) in
+          record {
+            seen = s.seen ++ node.Leaf (record { goal = goal; steps = last.1 }) ∷ [];
+            behind_them = behind_more remaining first now next (node.Leaf (record { goal = goal; steps = last.1 }), line) next_is s.seen s.behind_them;
+            so_far = subst (λ (xs : List ReadLeaf). IsSeen i low (s.seen ++ node.Leaf (record { goal = goal; steps = last.1 }) ∷ []) xs left) (sym last.2.0) seen;
+            line = omega (arith, passed, s.line, long, line_more s.seen (node.Leaf (record { goal = goal; steps = last.1 })));
+          }
+
+      pub leaf_unread : (fault : CertTextError) → IsUnread (g.held.items ++ held_leaf c goal count line steps ∷ []) fault → (read : Reading (List Node)) → LeavesNodes remaining next read → LeavesNodes remaining first (Err fault)
+      leaf_unread fault is read l = elim (unread_last g.held.items (held_leaf c goal count line steps) fault is) [
+        | inl before ↦ u.unread fault before (said_in_front (node_said (OfLeaf goal count) line steps.items) read) (leaves read l)
+        | inr own ↦
+            let said : node_said (OfLeaf goal count) line steps.items ≡ Err fault = rw own.1 refl in
+            let s = u.so_far own.0.0 own.0.1 in
+            s.behind_them (Err fault) (subst (λ (x : Reading Node). LeavesNodes remaining now (said_in_front x read)) said (leaves read l))
+      ]
+
+      -- it waits with the others
+      pub leaf_waits : (taken : Going) → Waits i (held_leaf c goal count line steps) → TakesChild (still_to_come now) (still_to_come next) (node.Leaf (record { goal = goal; steps = [] })) → IsWalk i taken.walk left → taken.held.items ≡ g.held.items ++ held_leaf c goal count line steps ∷ [] → IsUnderWay i low remaining first next taken
+      leaf_waits taken waits t walk same = record {
+        left = left;
+        walk = walk;
+        count = omega (arith, more_left, takes_one (still_to_come now) (still_to_come next) (node.Leaf (record { goal = goal; steps = [] })) t, leaves_more (still_to_come now) (still_to_come next) (node.Leaf (record { goal = goal; steps = [] })) t);
+        waits = subst (All (Waits i)) (sym same) (All-push (Waits i) g.held.items (held_leaf c goal count line steps) u.waits waits);
+        from = λ origin is. from origin (u.from origin is);
+        unread = λ fault is read l. leaf_unread fault (subst (UnreadAs fault) same is) read l;
+        so_far = λ rs are. leaf_read rs (subst (ReadAs rs) same are);
+      }
+
+      -- all of them were judged
+      pub leaf_judged : (taken : Going) → TakesChild (still_to_come now) (still_to_come next) (node.Leaf (record { goal = goal; steps = [] })) → IsWalk i taken.walk left → (rs : List ReadLeaf) → AreRead (g.held.items ++ held_leaf c goal count line steps ∷ []) rs → AllClose i low rs → taken.held.items ≡ []
+          → IsUnderWay i low remaining first next taken
+      leaf_judged taken t walk rs are closed none = record {
+        left = left;
+        walk = walk;
+        count = omega (arith, more_left, takes_one (still_to_come now) (still_to_come next) (node.Leaf (record { goal = goal; steps = [] })) t, leaves_more (still_to_come now) (still_to_come next) (node.Leaf (record { goal = goal; steps = [] })) t);
+        waits = subst (All (Waits i)) (sym none) (All-nil (Waits i));
+        from = λ origin is. from origin (u.from origin is);
+        unread = λ fault is read l. absurd (subst (UnreadAs fault) none is);
+        so_far = λ others others_are.
+            let s = leaf_read rs are in
+            record {
+              seen = s.seen;
+              behind_them = s.behind_them;
+              so_far = subst (λ (xs : List ReadLeaf). IsSeen i low s.seen xs left) (none_read others (subst (ReadAs others) none others_are)) (seen_judged i low s.seen rs left closed s.so_far);
+              line = s.line;
+            };
+      }
 
 -- ---- what is found of the certificate
 

@@ -3,6 +3,7 @@ pub mod Faults
 pub mod Streams
 pub mod Turns
 pub mod Seen
+pub mod Waiting
 pub mod Going
 pub use Rattle.ttp_model.specs.Delays
 pub use Rattle.tt_infer.specs.Leaves

@@ -1,5 +1,6 @@
 -- Where the check of a certificate stands once some of its nodes were seen. Only private contracts ask for it.
-use Rattle.std.specs.Prelude.{◌≡◌, ℕ, ◌+◌, List, [], ◌∷◌, ◌++◌, All, ◌⊎◌, Option, None, Some, Result, Ok, Err}
+use Rattle.std.specs.Prelude.{◌≡◌, ℕ, ◌+◌, List, [], ◌∷◌, ◌++◌, ◌⊎◌}
+use Rattle.ttp_model.specs.declared.step.Leaf.{Leaf}
 use Rattle.ttp_model.specs.Instance.{Instance}
 use Rattle.tt_choice.specs.Choice.{Choice, IsChoice}
 use Rattle.tt_choice.specs.Branches.{root_choice}
@@ -11,7 +12,6 @@ use Rattle.certificate.specs.Lines.{total_lines}
 use Rattle.cert_check.specs.declared.fault.NodeFault.{NodeFault}
 use Rattle.cert_check.specs.declared.fault.CertFault.{CertFault}
 use Rattle.cert_check.specs.declared.fault.CertFault.TheVariants.{LowTooGreat, At, OutOfMemory}
-use Rattle.cert_check.specs.declared.batch.HeldLeaf.{HeldLeaf}
 use Rattle.cert_check.specs.Proofs.{ClosesFrom, AreProofs}
 use Rattle.cert_check.specs.Faults.{IsBranchFault, IsNodeFault, IsFirstTreeFault, told_line}
 
@@ -37,41 +37,35 @@ TellsFirst i low trees (At at fault) =
     (exact : ℕ) × (at ≡ told_line exact) × IsFirstTreeFault i low (root_choice i ∷ []) trees 3 exact fault
 TellsFirst i low trees OutOfMemory = Unit {0}
 
--- ---- leaves that wait
+-- ---- leaves that wait, once their steps are read
+
+pub record ReadLeaf : Type 0 where
+  pub choice : Choice
+  pub leaf : Leaf
+  pub line : ℕ
 
 -- a leaf waits at a choice of the instance, and its line is one that is told by itself
-pub record IsHeld (i : Instance) (held : HeldLeaf) : Type 0 where
+pub record IsHeld (i : Instance) (held : ReadLeaf) : Type 0 where
   pub choice : IsChoice i held.choice
   pub line : held.line ≡ told_line held.line
 
 -- a leaf that waits closes the choice that it stands at
-abbrev pub Closes : Instance → ℕ → HeldLeaf → Type 0
+abbrev pub Closes : Instance → ℕ → ReadLeaf → Type 0
 Closes i low held = ClosesFrom i low held.choice held.leaf
 
-abbrev pub AllClose : Instance → ℕ → List HeldLeaf → Type 0
+abbrev pub AllClose : Instance → ℕ → List ReadLeaf → Type 0
 AllClose i low [] = Unit {0}
 AllClose i low (held ∷ others) = Closes i low held × AllClose i low others
 
 -- the first of them that doesn't is at fault so
-abbrev pub IsFirstHeldFault : Instance → ℕ → List HeldLeaf → ℕ → NodeFault → Type 0
+abbrev pub IsFirstHeldFault : Instance → ℕ → List ReadLeaf → ℕ → NodeFault → Type 0
 IsFirstHeldFault i low [] at fault = ⊥
 IsFirstHeldFault i low (held ∷ others) at fault =
     IsNodeFault i low held.choice (node.Leaf held.leaf) held.line at fault
     ⊎ (Closes i low held × IsFirstHeldFault i low others at fault)
 
--- what judging one of them answers
-abbrev pub IsLeafAnswer : Instance → ℕ → HeldLeaf → Result (Unit {0}) CertFault → Type 0
-IsLeafAnswer i low held (Ok _) = Closes i low held
-IsLeafAnswer i low held (Err fault) = TellsNode i low held.choice (node.Leaf held.leaf) held.line fault
-
--- the first fault of such answers
-abbrev pub first_error : List (Result (Unit {0}) CertFault) → Option CertFault
-first_error [] = None
-first_error (Ok _ ∷ others) = first_error others
-first_error (Err fault ∷ others) = Some fault
-
 -- the first fault of leaves that wait, as it is told
-abbrev pub TellsHeld : Instance → ℕ → List HeldLeaf → CertFault → Type 0
+abbrev pub TellsHeld : Instance → ℕ → List ReadLeaf → CertFault → Type 0
 TellsHeld i low held LowTooGreat = ⊥
 TellsHeld i low held (At at fault) = (exact : ℕ) × (at ≡ told_line exact) × IsFirstHeldFault i low held exact fault
 TellsHeld i low held OutOfMemory = Unit {0}
@@ -88,8 +82,7 @@ TellsSeen i low seen fault = (rest : List Node) → TellsFirst i low (trees_of (
 
 -- Nodes were seen, the branches of which suit, and these of their leaves wait; then trees for these choices are to follow. Where all
 -- that wait close and those are proofs, all are proofs; and the first fault of what waits, or else of what follows, is that of all.
-pub record IsSeen (i : Instance) (low : ℕ) (seen : List Node) (held : List HeldLeaf) (left : List Choice) : Type 0 where
-  pub each : All (IsHeld i) held
+pub record IsSeen (i : Instance) (low : ℕ) (seen : List Node) (held : List ReadLeaf) (left : List Choice) : Type 0 where
   pub proofs : AllClose i low held → (rest : List Node) → AreProofs i low left (trees_of rest)
       → AreProofs i low (root_choice i ∷ []) (trees_of (seen ++ rest))
   pub follows : AllClose i low held → (rest : List Node) (at : ℕ) (fault : NodeFault)

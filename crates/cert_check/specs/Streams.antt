@@ -7,9 +7,12 @@ use Rattle.certificate.specs.declared.fault.SourceFault.{SourceFault}
 use Rattle.certificate.specs.declared.fault.SourceFault.TheVariants as source
 use Rattle.certificate.specs.Cert.{Cert}
 use Rattle.certificate.specs.Limits.{most_text_bytes}
-use Rattle.certificate.specs.Blocks.{IsFrom}
 use Rattle.certificate.specs.Reading.{Reading}
-use Rattle.certificate.specs.Streams.{BytesRead}
+use Rattle.certificate.specs.Streams.{BytesRead, LeavesNodes}
+use Rattle.certificate.specs.declared.fault.CertTextError.{CertTextError}
+use Rattle.certificate.specs.declared.node.Node.{Node}
+use Rattle.certificate.specs.declared.stream.CertStream.{CertStream}
+use Rattle.certificate.specs.Blocks.{IsFrom, Stops}
 use Rattle.cert_check.specs.declared.fault.CertFault.{CertFault}
 use Rattle.cert_check.specs.declared.fault.StreamFault.{StreamFault}
 use Rattle.cert_check.specs.declared.fault.StreamFault.TheVariants.{Read, TooLong, Text, Cert as InCert}
@@ -54,3 +57,11 @@ pub record IsTakenFrom (known next : Option (List ℕ)) (answer : Result ℕ Str
   pub taken : ℕ
   pub from : IsFrom next taken known
   pub all : TakesAll taken next answer
+
+-- Where the text in front of a stream has this fault, it is told once what is left was read in some way; else why the reader stopped.
+abbrev pub IsToldBehind : {R : Type 0} → (R → Option (List ℕ)) → CertStream R → (taken : ℕ) → CertTextError → SourceFault → Type 0
+IsToldBehind remaining s taken fault source.Read = Unit {0}
+IsToldBehind remaining s taken fault source.TooLong = Stops taken source.TooLong
+IsToldBehind remaining s taken fault (source.Text text.OutOfMemory) = Unit {0}
+IsToldBehind remaining s taken fault (source.Text (text.At line at)) =
+    (fault ≡ text.At line at) × ((read : Reading (List Node)) × LeavesNodes remaining s read)

@@ -63,6 +63,15 @@ impl<T: Drop> From<AllocFailed<T>> for CertFault {
     }
 }
 
+/// What is wrong with leaves that wait: what is wrong with their text goes before what is wrong with a leaf.
+#[derive(Clone, Copy, Debug, PartialEq, Eq)]
+pub enum HeldFault {
+    /// When a step isn't spelled, or memory was refused in reading it.
+    InText(CertTextError),
+    /// When a leaf doesn't close.
+    InCert(CertFault),
+}
+
 /// Why a reader's bytes give no certificate that proves its bound. A failed read goes before a text that is too long, that
 /// before what is wrong with the text, and that before what is wrong with the certificate.
 #[derive(Clone, Copy, Debug, PartialEq, Eq, Error)]

@@ -6,12 +6,12 @@ ghost use Rattle.certificate.specs.declared.node.Node.{Node};
 ghost use Rattle.certificate.specs.Cert.{Cert};
 ghost use Rattle.certificate.specs.Sources.{Origin};
 ghost use Rattle.certificate.specs.Streams.{IsFresh, LeavesNodes, LeavesCert, StreamIsFrom, IsCertFault, IsNodeFault, next_line, still_to_come, bytes_taken, stream_reader};
-ghost use Rattle.cert_check.specs.Streams.{IsAnswerOf, IsFound, IsStreamJudged, IsTakenFrom, TakesAll};
+ghost use Rattle.cert_check.specs.Streams.{IsAnswerOf, IsFound, IsStreamJudged, IsTakenFrom, IsToldBehind, TakesAll};
 ghost use Rattle.cert_check.specs.Going.{IsFoundIn};
 
-use crate::fault::{CertFault, StreamFault};
+use crate::fault::{CertFault, HeldFault, StreamFault};
 use crate::going::Going;
-use certificate::{CertStream, SourceFault};
+use certificate::{CertStream, CertTextError, SourceFault};
 use std::alloc::Global;
 use std::io::Read;
 use std::thread::Threads;
@@ -28,6 +28,26 @@ fn pass_nodes<R: Read>(alloc: Global, stream: &mut CertStream<R>) -> Result<(), 
 {
     'rest: while let Some(_passed) = stream.next_node(alloc)? {}
     Ok(())
+}
+
+/// Reads the nodes that are left, where the text in front of them has this fault. What is told then.
+fn pass_fault<R: Read>(
+    alloc: Global,
+    stream: &mut CertStream<R>,
+    fault: CertTextError,
+) -> SourceFault
+    ensures told { IsToldBehind R.remaining stream.old (bytes_taken stream.new) fault result }
+    ensures from { (origin : Origin) → StreamIsFrom R.remaining stream.old origin → StreamIsFrom R.remaining stream.new origin }
+{
+    match pass_nodes(alloc, stream) {
+        Ok(()) => SourceFault::Text(fault),
+        Err(SourceFault::Text(CertTextError::At { .. })) => SourceFault::Text(fault),
+        Err(SourceFault::Text(CertTextError::OutOfMemory)) => {
+            SourceFault::Text(CertTextError::OutOfMemory)
+        }
+        Err(SourceFault::TooLong) => SourceFault::TooLong,
+        Err(SourceFault::Read) => SourceFault::Read,
+    }
 }
 
 /// Goes through all nodes. The first fault of their tree, if there is one.
@@ -53,18 +73,24 @@ fn go_through<R: Read>(
             return Ok(Some(CertFault::OutOfMemory));
         }
     };
-    'nodes: while let Some((node, line)) = stream.next_node(alloc)? {
-        match going.take(rt, alloc, instance, low, batch, node, line) {
-            Ok(()) => {}
-            Err(fault) => {
-                pass_nodes(alloc, stream)?;
-                return Ok(Some(fault));
+    let mut steps = Vec::new(alloc);
+    'nodes: loop {
+        match stream.next_piece(alloc, &mut steps) {
+            Err(fault) => return Err(going.first_text(rt, alloc, instance, low, fault)),
+            Ok(next) => {
+                let Some(said) = next else {
+                    return going.finish(rt, alloc, instance, low);
+                };
+                match going.take(rt, alloc, instance, low, batch, said.0, said.1, &mut steps) {
+                    Ok(()) => {}
+                    Err(HeldFault::InText(fault)) => return Err(pass_fault(alloc, stream, fault)),
+                    Err(HeldFault::InCert(fault)) => {
+                        pass_nodes(alloc, stream)?;
+                        return Ok(Some(fault));
+                    }
+                }
             }
         }
-    }
-    match going.judge_all(rt, alloc, instance, low) {
-        Ok(()) => Ok(None),
-        Err(fault) => Ok(Some(fault)),
     }
 }
 
@@ -130,8 +156,8 @@ fn judge_all<R: Read>(
 /// first fault: of the reader, of a text that is too long, of the text, of the certificate. After a fault of the text or of the
 /// certificate the rest is still read; of no reader more than `certificate::MOST_TEXT_BYTES` and one byte are taken.
 ///
-/// Up to `batch` leaves wait for their judgement, and are judged together on all processors: 1 at least, and
-/// `MOST_LEAVES_HELD` at most. Takes memory for one path of the tree, and for those leaves with the choice of each.
+/// Up to `batch` leaves wait, and their steps are read and judged together on all processors: 1 at least, and
+/// `MOST_LEAVES_HELD` at most. Takes memory for one path of the tree, and for those leaves with their lines and choices.
 pub fn check_stream<R: Read>(
     rt: &(impl Threads + Sync),
     alloc: Global,

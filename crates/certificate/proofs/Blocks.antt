@@ -94,7 +94,7 @@ not_cut byte bytes lacks (Some parts) e =
     let there : Lacks byte (parts.0 ++ byte ∷ parts.1) = subst (Lacks byte) joined lacks in
     absurd (All-head (λ b. b ≢ byte) byte parts.1 (lacks_behind byte parts.0 (byte ∷ parts.1) there) refl)
 
-early_end : (line : ℕ) (text : List ℕ) → Lacks 10 text → line_at line text ≡ Err (At line EarlyEnd)
+pub early_end : (line : ℕ) (text : List ℕ) → Lacks 10 text → line_at line text ≡ Err (At line EarlyEnd)
 early_end line text lacks = ap (or_fault (At line EarlyEnd)) (not_cut 10 text lacks (cut 10 text) refl)
 
 pub line_says : (known next : Option (List ℕ)) (old new : Block) (line : ℕ) → PassesLine known next old new true
@@ -118,7 +118,7 @@ nothing_held xs at end e =
     ap (λ (n : ℕ). take n (drop at xs)) none
 
 -- what is held behind bytes that were passed
-held_behind : (xs : List ℕ) (at end : ℕ) (front rest : List ℕ) → slice_range xs at end ≡ front ++ rest → slice_range xs (at + length front) end ≡ rest
+pub held_behind : (xs : List ℕ) (at end : ℕ) (front rest : List ℕ) → slice_range xs at end ≡ front ++ rest → slice_range xs (at + length front) end ≡ rest
 held_behind xs at end front rest e =
     let n = length front in
     let fits : length front ≤ end - at = omega (arith, length-take (end - at) (drop at xs), ap length e, length-append front rest) in

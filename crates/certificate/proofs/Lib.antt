@@ -1,10 +1,13 @@
 pub mod Blocks
+pub mod RawLines
+pub mod Runs
 pub mod Branches
 pub mod Heads
 pub mod LowSource
 pub mod NodeLaws
 pub mod NodeLoop
 pub mod Opened
+pub mod RawNodes
 pub mod Pushed
 pub mod Rings
 pub mod Said

@@ -136,7 +136,7 @@ node_without_steps : (above line : ℕ) (text first rest : List ℕ) (head : Hea
 unfolding text_node
 node_without_steps above line text first rest head fault a b c d = rw (a, b, c, d) refl
 
-is_high : (above : ℕ) → above ≤ most_branches_above → nat_le above most_branches_above ≡ true
+pub is_high : (above : ℕ) → above ≤ most_branches_above → nat_le above most_branches_above ≡ true
 is_high above le = grind (arith, le)
 
 is_deep : (above : ℕ) → most_branches_above < above → nat_le above most_branches_above ≡ false

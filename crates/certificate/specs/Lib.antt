@@ -12,4 +12,6 @@ pub mod Nodes
 pub mod Sources
 pub mod Opened
 pub mod Blocks
+pub mod ManyLines
+pub mod RawLines
 pub mod Streams

@@ -1,9 +1,11 @@
 -- What a stream of a certificate's nodes has said, and what it leaves. Own profile.
 use Rattle.std.specs.Prelude.{◌≡◌, ℕ, ◌+◌, List, [], Option, IfSome, None, Some, Ok, Err}
+use Rattle.line_text.specs.Results.{◌>>=◌}
 use Rattle.std.specs.Borrow.{MutBor}
 use Rattle.certificate.specs.declared.fault.CertTextError.TheVariants.{At, OutOfMemory}
 use Rattle.certificate.specs.declared.fault.SourceFault.{SourceFault}
 use Rattle.certificate.specs.declared.fault.SourceFault.TheVariants.{Read, TooLong, Text}
+use Rattle.certificate.specs.declared.head.Head.{Head}
 use Rattle.certificate.specs.declared.node.Node.{Node}
 use Rattle.certificate.specs.declared.stream.CertStream.{CertStream}
 use Rattle.certificate.specs.Cert.{Cert}
@@ -11,6 +13,7 @@ use Rattle.certificate.specs.Reading.{Reading, Reads}
 use Rattle.certificate.specs.Sources.{Origin}
 use Rattle.certificate.specs.Blocks.{held, MayLeave, IsOrigin, Stops}
 use Rattle.certificate.specs.Opened.{Gives, in_front}
+use Rattle.certificate.specs.RawLines.{node_said}
 
 -- the number of the next line
 abbrev pub next_line : {R : Type 0} → CertStream R → ℕ
@@ -72,3 +75,13 @@ abbrev pub LeavesNext : {R : Type 0} → (R → Option (List ℕ)) → (old new 
 LeavesNext remaining old new None = LeavesNodes remaining old (Ok [])
 LeavesNext remaining old new (Some said) =
     (read : Reading (List Node)) → LeavesNodes remaining new read → LeavesNodes remaining old (in_front said.0 read)
+
+-- a node as its lines say it, in front of those that are left
+abbrev pub said_in_front : Reading Node → Reading (List Node) → Reading (List Node)
+said_in_front said read = said >>= λ node. in_front node read
+
+-- The same where the next node's steps aren't read: what they say is in front of all that is left behind them.
+abbrev pub LeavesPiece : {R : Type 0} → (R → Option (List ℕ)) → (old new : CertStream R) → (steps : List ℕ) → Option (Head × ℕ) → Type 0
+LeavesPiece remaining old new steps None = LeavesNodes remaining old (Ok [])
+LeavesPiece remaining old new steps (Some said) =
+    (read : Reading (List Node)) → LeavesNodes remaining new read → LeavesNodes remaining old (said_in_front (node_said said.0 said.1 steps) read)

@@ -97,6 +97,11 @@ abbrev pub count_of : Head → ℕ
 count_of (OfLeaf goal count) = count
 count_of _ = 0
 
+-- how many trees stand below a node
+abbrev pub head_children : Head → ℕ
+head_children (OfBranch branch) = branch.children
+head_children (OfLeaf goal count) = 0
+
 -- the node of a line and the steps that follow it
 abbrev pub node_of_head : Head → List Step → Node
 node_of_head (OfBranch branch) steps = Branch branch

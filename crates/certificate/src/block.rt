@@ -7,12 +7,13 @@ ghost use Rattle.certificate.specs.Limits.{most_text_bytes};
 
 use crate::fault::SourceFault;
 use crate::limits::MOST_TEXT_BYTES;
+use crate::many_lines::lines_in;
 use line_text::cut;
 use std::alloc::{AllocError, Global};
 use std::io::Read;
 
 /// How many bytes are asked for at once.
-const BLOCK: usize = 16_384;
+const BLOCK: usize = 65_536;
 
 /// The bytes that are taken of a reader, up to a limit and one more, and not yet passed, with the last line that was.
 #[derive(Drop)]
@@ -65,6 +66,7 @@ fn read_over<R: Read>(reader: &mut R, bytes: &mut Vec<u8>) -> Result<usize, Sour
 
 impl Block {
     ghost use Rattle.certificate.specs.Blocks.{held, IsFrom, Stops, PassesPart, PassesLine};
+    ghost use Rattle.certificate.specs.RawLines.{PassesSome, PassesLines};
 
     /// Nothing is taken yet, and no memory.
     pub fn new(alloc: Global) -> Block
@@ -169,6 +171,51 @@ impl Block {
             }
         }
         Ok(true)
+    }
+
+    /// Passes what is held of so many lines, and adds it to a text. How many of them ended.
+    fn pass_some(&mut self, count: u32, text: &mut Vec<u8>) -> Result<u32, AllocError>
+        ensures some { IfOk result (PassesSome self.old self.new text.old.items text.new.items count) }
+        ensures few { IfOk result (λ ends. ends ≤ count) }
+        ensures passed { IfOk result (λ ends. self.new.passed ≡ self.old.passed + ends) }
+        ensures taken { self.new.taken ≡ self.old.taken }
+    {
+        let (at, end) = (self.at, self.end);
+        let held = &self.bytes.as_slice()[at..end];
+        let (size, ends) = lines_in(held, count);
+        let (part, _) = held.split_at(size);
+        text.extend_from_slice(part)?;
+        self.at = at + size;
+        self.passed += u64::from(ends);
+        Ok(ends)
+    }
+
+    /// Passes so many lines, in reads that each give more, and puts them into a text as they are. Whether all have an end.
+    pub fn pass_lines<R: Read>(
+        &mut self,
+        reader: &mut R,
+        count: u32,
+        text: &mut Vec<u8>,
+    ) -> Result<bool, SourceFault>
+        ensures lines { IfOk result (PassesLines (R.remaining reader.old) (R.remaining reader.new) self.old self.new text.new.items count) }
+        ensures passed { IfOk result (λ whole. IsTrue whole → self.new.passed ≡ self.old.passed + count) }
+        ensures err { IfErr result (Stops self.new.taken) }
+        ensures from { (all : Option (List ℕ)) → IsFrom (R.remaining reader.old) self.old.taken all → IsFrom (R.remaining reader.new) self.new.taken all }
+    {
+        text.clear();
+        if count == 0 {
+            return Ok(true);
+        }
+        let mut left = count;
+        'parts: loop {
+            left -= self.pass_some(left, text)?;
+            if left == 0 {
+                return Ok(true);
+            }
+            if !self.refill(reader)? {
+                return Ok(false);
+            }
+        }
     }
 
     /// Reads to the end, and keeps nothing.

@@ -1,7 +1,7 @@
 //! What does the line of a node say?
 
 ghost use Rattle.std.specs.Prelude.{◌≡◌, ◌∷◌, []};
-ghost use Rattle.certificate.specs.Words.{head_words, heads_with};
+ghost use Rattle.certificate.specs.Words.{head_words, heads_with, head_children};
 ghost use Rattle.certificate.specs.Reading.{IsAnswer, said_in, with_keyword};
 ghost use Rattle.certificate.specs.Numbers.{numbers_in};
 
@@ -16,6 +16,18 @@ use ttp_model::Kind;
 pub enum Head {
     OfBranch(Branch),
     OfLeaf(u32, u32),
+}
+
+impl Head {
+    /// How many children the node has.
+    pub fn children(self) -> u32
+        ensures { result ≡ head_children self }
+    {
+        match self {
+            Head::OfBranch(branch) => branch.children,
+            Head::OfLeaf(_, _) => 0,
+        }
+    }
 }
 
 fn with_two(keyword: &[u8], a: u32, b: u32) -> Option<Head>

@@ -31,7 +31,7 @@ fn step_of<L: LineSource>(alloc: Global, source: &mut L) -> Result<Step, SourceF
 }
 
 /// So many steps, one in each of the next lines.
-fn steps_of<L: LineSource>(
+pub fn steps_of<L: LineSource>(
     alloc: Global,
     count: u32,
     source: &mut L,
@@ -50,7 +50,8 @@ fn steps_of<L: LineSource>(
     Ok(steps)
 }
 
-fn count_of(head: Head) -> u32
+/// How many steps follow a node's line.
+pub fn count_of(head: Head) -> u32
     ensures { result ≡ count_of head }
 {
     match head {
@@ -92,7 +93,7 @@ fn node_of<L: LineSource>(alloc: Global, above: usize, source: &mut L) -> Result
 
 /// Closes the innermost branches that have no child to come. How many the next one out has, or none where all are closed;
 /// that one is taken off too.
-fn take_due(due: &mut Vec<u32>) -> Option<u32>
+pub fn take_due(due: &mut Vec<u32>) -> Option<u32>
     ensures some { IfSome result (λ count. (0 < count) × (still_due (reverse due.old.items) ≡ count ∷ reverse due.new.items)) }
     ensures none { IfNone result (still_due (reverse due.old.items) ≡ []) }
 {

@@ -1,10 +1,11 @@
 //! Which lines does a reader give?
 
-ghost use Rattle.std.specs.Prelude.{◌≡◌, ◌+◌, ◌≤◌, ℕ, List, [], Option, IfErr, OnOk};
+ghost use Rattle.std.specs.Prelude.{◌≡◌, ◌+◌, ◌≤◌, ℕ, List, [], Option, IfErr, IfOk, IsTrue, OnOk};
 ghost use Rattle.std.specs.Io.KnownBytes.{IsAtEnd};
 ghost use Rattle.certificate.specs.Limits.{most_text_bytes};
 ghost use Rattle.certificate.specs.Sources.{Origin};
 ghost use Rattle.certificate.specs.Blocks.{held, MayLeave, IsOrigin, Stops};
+ghost use Rattle.certificate.specs.RawLines.{PassesLines};
 
 use crate::block::Block;
 use crate::fault::{LineFault, SourceFault};
@@ -28,6 +29,17 @@ impl<'a, R: Read> ReaderLines<'a, R> {
             → IsOrigin R.remaining self.new.reader self.new.block.taken origin }
     {
         self.block.read_on(self.reader)
+    }
+
+    /// Passes so many lines, and puts them into a text as they are. Whether all have an end.
+    pub fn pass_lines(&mut self, count: u32, text: &mut Vec<u8>) -> Result<bool, SourceFault>
+        ensures lines { IfOk result (PassesLines (R.remaining self.old.reader.now) (R.remaining self.new.reader.now) self.old.block self.new.block text.new.items count) }
+        ensures passed { IfOk result (λ whole. IsTrue whole → self.new.block.passed ≡ self.old.block.passed + count) }
+        ensures err { IfErr result (Stops self.new.block.taken) }
+        ensures from { (origin : Origin) → IsOrigin R.remaining self.old.reader self.old.block.taken origin
+            → IsOrigin R.remaining self.new.reader self.new.block.taken origin }
+    {
+        self.block.pass_lines(self.reader, count, text)
     }
 }
 

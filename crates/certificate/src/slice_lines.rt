@@ -1,6 +1,6 @@
 //! Which lines does a text in memory have?
 
-ghost use Rattle.std.specs.Prelude.{◌≡◌, ◌+◌, ◌<◌, ◌^◌, [], length};
+ghost use Rattle.std.specs.Prelude.{◌≡◌, ◌+◌, ◌-◌, ◌<◌, ◌^◌, [], length};
 
 use crate::fault::{LineFault, SourceFault};
 use crate::source::LineSource;
@@ -12,7 +12,7 @@ pub struct SliceLines<'a> {
     rest: &'a [u8],
     line: &'a [u8],
     passed: u64,
-    ghost counted: { passed + length rest.now < 2 ^ 63 },
+    ghost counted: { passed + length rest.now < 2 ^ 64 - 1 },
 }
 
 impl<'a> SliceLines<'a> {
@@ -25,6 +25,19 @@ impl<'a> SliceLines<'a> {
             rest: text,
             line: &[],
             passed: 0,
+        }
+    }
+
+    /// The text stands behind so many lines.
+    pub fn behind(passed: u64, text: &'a [u8]) -> SliceLines<'a>
+        requires { passed < 2 ^ 63 }
+        ensures rest { result.rest.now ≡ text.now }
+        ensures passed { result.passed ≡ passed }
+    {
+        SliceLines {
+            rest: text,
+            line: &[],
+            passed,
         }
     }
 }

@@ -1,22 +1,26 @@
 //! Which nodes does a reader give, one after another?
 
-ghost use Rattle.std.specs.Prelude.{◌≡◌, ◌+◌, ◌∷◌, ◌≤◌, [], List, length, reverse, IfOk, IfErr, IfNone, IfSome, OnOk};
+ghost use Rattle.std.specs.Prelude.{◌≡◌, ◌+◌, ◌∷◌, ◌<◌, ◌≤◌, ◌^◌, [], List, length, reverse, IfOk, IfErr, IfNone, IfSome, OnOk};
 ghost use Rattle.std.specs.Io.KnownBytes.{IsAtEnd};
 ghost use Rattle.certificate.specs.declared.node.Node.{Node};
 ghost use Rattle.certificate.specs.Limits.{most_branches_above, most_text_bytes};
+ghost use Rattle.ttp_model.specs.declared.step.Step.{Step};
 ghost use Rattle.certificate.specs.Lines.{node_lines};
+ghost use Rattle.certificate.specs.Words.{count_of, node_of_head};
 ghost use Rattle.certificate.specs.Cert.{Cert};
 ghost use Rattle.certificate.specs.Reading.{Reading};
 ghost use Rattle.certificate.specs.Sources.{Origin};
 ghost use Rattle.certificate.specs.Opened.{TakesChild, certificate_with, still_due};
-ghost use Rattle.certificate.specs.Streams.{IsFresh, LeavesNodes, LeavesCert, LeavesNext, BytesRead, StreamIsFrom, IsCertFault, IsNodeFault, next_line, still_to_come, bytes_taken, stream_reader};
+ghost use Rattle.certificate.specs.Streams.{IsFresh, LeavesNodes, LeavesCert, LeavesNext, LeavesPiece, BytesRead, StreamIsFrom, IsCertFault, IsNodeFault, next_line, still_to_come, bytes_taken, stream_reader};
 ghost use Rattle.certificate.specs.Blocks.{Stops};
 
 use crate::block::Block;
 use crate::fault::SourceFault;
+use crate::head::Head;
 use crate::low::low_from;
 use crate::node::Node;
-use crate::nodes::next_node;
+use crate::nodes::{next_node, take_due};
+use crate::pieces::piece_of;
 use crate::reader_lines::ReaderLines;
 use crate::source::LineSource;
 use std::alloc::Global;
@@ -80,6 +84,36 @@ impl<'a, R: Read> CertStream<'a, R> {
             Some(node) => Ok(Some((node, line))),
             None => Ok(None),
         }
+    }
+
+    /// What the next node's line says and the line's number, or none behind the last node, where the text has to end. The steps
+    /// of a leaf are put into a text as they are, for `read_steps`: what is wrong with one of them comes before all that is
+    /// said of later lines.
+    pub fn next_piece(
+        &mut self,
+        alloc: Global,
+        steps: &mut Vec<u8>,
+    ) -> Result<Option<(Head, u64)>, SourceFault>
+        // Whatever is left behind it, with what its lines say in front it was left before.
+        ensures next { IfOk result (LeavesPiece R.remaining self.old self.new steps.new.items) }
+        ensures line { IfOk result (λ next. IfSome next (λ said. said.1 ≡ next_line self.old)) }
+        ensures low { IfOk result (λ next. IfSome next (λ said. said.1 < 2 ^ 63)) }
+        ensures due { IfOk result (λ next. IfSome next (λ said. (steps : List Step) → TakesChild (still_to_come self.old) (still_to_come self.new) (node_of_head said.0 steps))) }
+        ensures passed { IfOk result (λ next. IfSome next (λ said. next_line self.new ≡ next_line self.old + 1 + count_of said.0)) }
+        ensures closed { IfOk result (λ next. IfNone next (still_due (reverse (still_to_come self.old)) ≡ [])) }
+        ensures err { IfErr result (IsNodeFault (LeavesNodes R.remaining self.old) (bytes_taken self.new)) }
+        ensures from { (origin : Origin) → StreamIsFrom R.remaining self.old origin → StreamIsFrom R.remaining self.new origin }
+    {
+        let line = self.lines.number();
+        let Some(count) = take_due(&mut self.due) else {
+            self.lines.end()?;
+            return Ok(None);
+        };
+        let above = self.due.as_slice().len();
+        let head = piece_of(alloc, above, &mut self.lines, steps)?;
+        self.due.push(count - 1)?;
+        self.due.push(head.children())?;
+        Ok(Some((head, line)))
     }
 
     /// Reads on to the end, as after any other fault, and keeps nothing.

@@ -1,6 +1,6 @@
 use Rattle.std.proofs.Common.{ap, ◌∙◌}
 use Rattle.rayon.proofs.ToStd.{slice-AllZip}
-use Rattle.cert_check.specs.Seen.{IsLeafAnswer}
+use Rattle.cert_check.specs.Waiting.{IsLeafAnswer}
 use Rattle.cert_check.proofs.batch.answers.Goals as goal
 
 pub returns : goal.returns

@@ -1,34 +1,49 @@
 use Rattle.std.proofs.lemmas.Result.{err_from_is_err_and}
-use Rattle.certificate.specs.Streams.{bytes_taken, still_to_come}
-use Rattle.cert_check.proofs.NextNodes.{one_due}
-use Rattle.cert_check.proofs.Streams.{begins_under_way, under_way_fault, under_way_next, line_is, fault_behind, found_here, found_none, found_last}
+use Rattle.certificate.specs.Streams.{bytes_taken}
+use Rattle.cert_check.proofs.Streams.{begins_under_way, under_way_fault, finishes}
+use Rattle.cert_check.proofs.Pieces.{is_piece, next_there, taken_on, text_told, fault_seen, fault_found, text_behind}
 use Rattle.cert_check.proofs.stream.go_through.Goals as goal
 
 pub nodes-init : goal.nodes-init
-nodes-init g c = begins_under_way c.args.instance.now c.args.low g.R.Read.remaining c.args.stream.now c.args.stream.now c.in-Ok.going c.requires.due c.requires.line (c.in-Ok.ensures c.args.low)
+nodes-init g c = begins_under_way c.args.instance.now c.args.low g.R.Read.remaining c.args.stream.now c.args.stream.now c.in-Ok.going c.requires.due c.requires.line c.in-Ok.ensures.walk c.in-Ok.ensures.none
 
-pub returns-in_err-node-clause-err : goal.returns-in_err-node-clause-err
-returns-in_err-node-clause-err g c =
-    let p = err_from_is_err_and c.from_residual-in_err-node.result c.from_residual-in_err-node.ensures.1 in
-    rw (p.1, p.2)
-    (under_way_fault c.args.instance.now c.args.low g.R.Read.remaining c.args.stream.now c.nodes.stream c.nodes.going (bytes_taken c.next_node.new.self) c.in_err-node.field-0.0 c.nodes.invariant c.in_err-node.ensures.err)
+pub returns-in-Err-next_piece-clause-err : goal.returns-in-Err-next_piece-clause-err
+returns-in-Err-next_piece-clause-err g c =
+    under_way_fault c.args.instance.now c.args.low g.R.Read.remaining c.args.stream.now c.nodes.stream c.nodes.going (bytes_taken c.next_piece.new.self) c.in-Err-next_piece.fault c.first_text.result c.nodes.invariant c.first_text.ensures c.in-Err-next_piece.ensures.err
 
-pub returns-in_err-node-clause-from : goal.returns-in_err-node-clause-from
-returns-in_err-node-clause-from g c = λ origin is. c.in_err-node.ensures.from origin (c.nodes.invariant.from origin is)
+pub returns-in-Err-next_piece-clause-from : goal.returns-in-Err-next_piece-clause-from
+returns-in-Err-next_piece-clause-from g c = λ origin is. c.in-Err-next_piece.ensures.from origin (c.nodes.invariant.from origin is)
 
-pub take-requires-after_bounds : goal.take-requires-after_bounds
-take-requires-after_bounds g c κs within =
+pub returns-in_default-clause-found : goal.returns-in_default-clause-found
+returns-in_default-clause-found g c =
+    let ends = rw c.in_default.is at c.in-Ok-next_piece.ensures.next in
+    let closed = rw c.in_default.is at c.in-Ok-next_piece.ensures.closed in
+    let told = finishes c.args.instance.now c.args.low g.R.Read.remaining c.args.stream.now c.nodes.stream c.nodes.going (bytes_taken c.next_piece.new.self) c.finish.result c.nodes.invariant ends closed c.finish.ensures in
+    told.0
+
+pub returns-in_default-clause-err : goal.returns-in_default-clause-err
+returns-in_default-clause-err g c =
+    let ends = rw c.in_default.is at c.in-Ok-next_piece.ensures.next in
+    let closed = rw c.in_default.is at c.in-Ok-next_piece.ensures.closed in
+    let told = finishes c.args.instance.now c.args.low g.R.Read.remaining c.args.stream.now c.nodes.stream c.nodes.going (bytes_taken c.next_piece.new.self) c.finish.result c.nodes.invariant ends closed c.finish.ensures in
+    told.1
+
+pub returns-in_default-clause-from : goal.returns-in_default-clause-from
+returns-in_default-clause-from g c = λ origin is. c.in-Ok-next_piece.ensures.from origin (c.nodes.invariant.from origin is)
+
+pub take-requires-clause-walk : goal.take-requires-clause-walk
+take-requires-clause-walk g c κs within =
     let i = c.args.instance.now in
     let low = c.args.low in
     let remaining = g.R.Read.remaining in
     let first = c.args.stream.now in
     let now = c.nodes.stream in
-    let u = c.nodes.invariant in
-    let next = c.next_node.new.self in
-    let leaves = rw c.in-Some.is at c.in_ok-node.ensures.next in
-    let due = rw c.in-Some.is at c.in_ok-node.ensures.due in
-    let here = rw c.in-Some.is at c.in_ok-node.ensures.line in
-    (u.seen, still_to_come now, u.going, one_due (still_to_come now) (still_to_come next) c.in-Some.node due, line_is i low remaining first now next c.in-Some.node c.in-Some.line c.nodes.going u leaves due here)
+    let next = c.next_piece.new.self in
+    let steps = c.next_piece.new.steps in
+    let said = c.in-Some.said in
+    let e = c.in-Ok-next_piece.ensures in
+    let piece = is_piece remaining now next steps.items c.in-Ok-next_piece.next said c.in-Some.is e.next e.line e.low e.due e.passed e.from in
+    next_there i low remaining first now next c.nodes.going c.nodes.invariant said.0 said.1 steps.items piece
 
 pub nodes-preserved : goal.nodes-preserved
 nodes-preserved g c =
@@ -37,69 +52,72 @@ nodes-preserved g c =
     let remaining = g.R.Read.remaining in
     let first = c.args.stream.now in
     let now = c.nodes.stream in
-    let u = c.nodes.invariant in
-    let next = c.next_node.new.self in
-    let leaves = rw c.in-Some.is at c.in_ok-node.ensures.next in
-    let due = rw c.in-Some.is at c.in_ok-node.ensures.due in
-    let here = rw c.in-Some.is at c.in_ok-node.ensures.line in
-    let passed = rw c.in-Some.is at c.in_ok-node.ensures.passed in
-    under_way_next i low remaining first now next c.in-Some.node c.in-Some.line c.nodes.going u leaves due here c.take.new.self passed c.in_ok-node.ensures.from c.in-Ok-take.ensures.going
+    let next = c.next_piece.new.self in
+    let steps = c.next_piece.new.steps in
+    let said = c.in-Some.said in
+    let e = c.in-Ok-next_piece.ensures in
+    let piece = is_piece remaining now next steps.items c.in-Ok-next_piece.next said c.in-Some.is e.next e.line e.low e.due e.passed e.from in
+    taken_on i low remaining first now next c.nodes.going c.nodes.invariant c.take.new.self said.0 said.1 steps piece c.in-Ok-take.ensures.takes
 
-pub returns-in_err-pass_nodes-in-Err-take-clause-err :
-    goal.returns-in_err-pass_nodes-in-Err-take-clause-err
-returns-in_err-pass_nodes-in-Err-take-clause-err g c =
+pub returns-in-Err-InText-clause-err : goal.returns-in-Err-InText-clause-err
+returns-in-Err-InText-clause-err g c =
     let i = c.args.instance.now in
     let low = c.args.low in
     let remaining = g.R.Read.remaining in
     let first = c.args.stream.now in
     let now = c.nodes.stream in
-    let u = c.nodes.invariant in
-    let next = c.next_node.new.self in
-    let leaves = rw c.in-Some.is at c.in_ok-node.ensures.next in
-    let due = rw c.in-Some.is at c.in_ok-node.ensures.due in
-    let here = rw c.in-Some.is at c.in_ok-node.ensures.line in
-    let p = err_from_is_err_and c.from_residual-in_err-pass_nodes-in-Err-take.result c.from_residual-in_err-pass_nodes-in-Err-take.ensures.1 in
+    let next = c.next_piece.new.self in
+    let steps = c.next_piece.new.steps in
+    let said = c.in-Some.said in
+    let e = c.in-Ok-next_piece.ensures in
+    let piece = is_piece remaining now next steps.items c.in-Ok-next_piece.next said c.in-Some.is e.next e.line e.low e.due e.passed e.from in
+    let fails = rw c.in-Err-InText.field-0-is at c.in-Err-InText.ensures.err in
+    text_told i low remaining first now next c.nodes.going c.nodes.invariant said.0 said.1 steps c.in-Err-InText.fault (bytes_taken c.pass_fault.new.stream) c.pass_fault.result piece fails c.pass_fault.ensures.told
+
+pub returns-in-Err-InText-clause-from : goal.returns-in-Err-InText-clause-from
+returns-in-Err-InText-clause-from g c = λ origin is. c.pass_fault.ensures.from origin (c.in-Ok-next_piece.ensures.from origin (c.nodes.invariant.from origin is))
+
+pub returns-in_err-pass_nodes-in-Err-InCert-clause-err :
+    goal.returns-in_err-pass_nodes-in-Err-InCert-clause-err
+returns-in_err-pass_nodes-in-Err-InCert-clause-err g c =
+    let i = c.args.instance.now in
+    let low = c.args.low in
+    let remaining = g.R.Read.remaining in
+    let first = c.args.stream.now in
+    let now = c.nodes.stream in
+    let next = c.next_piece.new.self in
+    let steps = c.next_piece.new.steps in
+    let said = c.in-Some.said in
+    let e = c.in-Ok-next_piece.ensures in
+    let piece = is_piece remaining now next steps.items c.in-Ok-next_piece.next said c.in-Some.is e.next e.line e.low e.due e.passed e.from in
+    let fails = rw c.in-Err-InCert.field-0-is at c.in-Err-InCert.ensures.err in
+    let behind = fault_seen i low remaining first now next c.nodes.going c.nodes.invariant said.0 said.1 steps c.in-Err-InCert.fault piece fails in
+    let p = err_from_is_err_and c.from_residual-in_err-pass_nodes-in-Err-InCert.result c.from_residual-in_err-pass_nodes-in-Err-InCert.ensures.1 in
     rw (p.1, p.2)
-    (fault_behind i low remaining first now next c.in-Some.node c.in-Some.line c.nodes.going u leaves due here (bytes_taken c.pass_nodes-in-Err-take.new.stream) c.in_err-pass_nodes-in-Err-take.field-0.0 c.in_err-pass_nodes-in-Err-take.ensures.err)
+    (text_behind i low remaining first next c.in-Err-InCert.fault (bytes_taken c.pass_nodes-in-Err-InCert.new.stream) c.in_err-pass_nodes-in-Err-InCert.field-0.0 behind c.in_err-pass_nodes-in-Err-InCert.ensures.err)
 
-pub returns-in_err-pass_nodes-in-Err-take-clause-from :
-    goal.returns-in_err-pass_nodes-in-Err-take-clause-from
-returns-in_err-pass_nodes-in-Err-take-clause-from g c = λ origin is.
-    c.in_err-pass_nodes-in-Err-take.ensures.from origin (c.in_ok-node.ensures.from origin (c.nodes.invariant.from origin is))
+pub returns-in_err-pass_nodes-in-Err-InCert-clause-from :
+    goal.returns-in_err-pass_nodes-in-Err-InCert-clause-from
+returns-in_err-pass_nodes-in-Err-InCert-clause-from g c = λ origin is.
+    c.in_err-pass_nodes-in-Err-InCert.ensures.from origin (c.in-Ok-next_piece.ensures.from origin (c.nodes.invariant.from origin is))
 
-pub returns-in-Err-take-clause-found : goal.returns-in-Err-take-clause-found
-returns-in-Err-take-clause-found g c =
+pub returns-in-Err-InCert-clause-found : goal.returns-in-Err-InCert-clause-found
+returns-in-Err-InCert-clause-found g c =
     let i = c.args.instance.now in
     let low = c.args.low in
     let remaining = g.R.Read.remaining in
     let first = c.args.stream.now in
     let now = c.nodes.stream in
-    let u = c.nodes.invariant in
-    let next = c.next_node.new.self in
-    let leaves = rw c.in-Some.is at c.in_ok-node.ensures.next in
-    let due = rw c.in-Some.is at c.in_ok-node.ensures.due in
-    let here = rw c.in-Some.is at c.in_ok-node.ensures.line in
-    let rest = c.in_ok-pass_nodes-in-Err-take.ensures.rest in
-    found_here i low remaining first now next c.in-Some.node c.in-Some.line c.nodes.going u leaves due here c.in-Err-take.fault rest.0 rest.1 c.in-Err-take.ensures.err
+    let next = c.next_piece.new.self in
+    let steps = c.next_piece.new.steps in
+    let said = c.in-Some.said in
+    let e = c.in-Ok-next_piece.ensures in
+    let piece = is_piece remaining now next steps.items c.in-Ok-next_piece.next said c.in-Some.is e.next e.line e.low e.due e.passed e.from in
+    let fails = rw c.in-Err-InCert.field-0-is at c.in-Err-InCert.ensures.err in
+    let behind = fault_seen i low remaining first now next c.nodes.going c.nodes.invariant said.0 said.1 steps c.in-Err-InCert.fault piece fails in
+    let rest = c.in_ok-pass_nodes-in-Err-InCert.ensures.rest in
+    fault_found i low remaining first next c.in-Err-InCert.fault rest.0 behind rest.1
 
-pub returns-in-Err-take-clause-from : goal.returns-in-Err-take-clause-from
-returns-in-Err-take-clause-from g c = λ origin is.
-    c.in_ok-pass_nodes-in-Err-take.ensures.from origin (c.in_ok-node.ensures.from origin (c.nodes.invariant.from origin is))
-
-pub returns-in-Ok-judge_all-clause-found : goal.returns-in-Ok-judge_all-clause-found
-returns-in-Ok-judge_all-clause-found g c =
-    let ends = rw c.in_default.is at c.in_ok-node.ensures.next in
-    let closed = rw c.in_default.is at c.in_ok-node.ensures.closed in
-    found_none c.args.instance.now c.args.low g.R.Read.remaining c.args.stream.now c.nodes.stream c.nodes.going c.judge_all.new.self c.nodes.invariant ends closed c.in-Ok-judge_all.ensures.empty c.in-Ok-judge_all.ensures.on
-
-pub returns-in-Ok-judge_all-clause-from : goal.returns-in-Ok-judge_all-clause-from
-returns-in-Ok-judge_all-clause-from g c = λ origin is. c.in_ok-node.ensures.from origin (c.nodes.invariant.from origin is)
-
-pub returns-clause-found : goal.returns-clause-found
-returns-clause-found g c =
-    let ends = rw c.in_default.is at c.in_ok-node.ensures.next in
-    let closed = rw c.in_default.is at c.in_ok-node.ensures.closed in
-    found_last c.args.instance.now c.args.low g.R.Read.remaining c.args.stream.now c.nodes.stream c.nodes.going c.in-Err-judge_all.fault c.nodes.invariant ends closed c.in-Err-judge_all.ensures.err
-
-pub returns-clause-from : goal.returns-clause-from
-returns-clause-from g c = λ origin is. c.in_ok-node.ensures.from origin (c.nodes.invariant.from origin is)
+pub returns-in-Err-InCert-clause-from : goal.returns-in-Err-InCert-clause-from
+returns-in-Err-InCert-clause-from g c = λ origin is.
+    c.in_ok-pass_nodes-in-Err-InCert.ensures.from origin (c.in-Ok-next_piece.ensures.from origin (c.nodes.invariant.from origin is))

@@ -1,68 +1,63 @@
-use Rattle.std.proofs.Common.{[], ◌∷◌, ◌++◌, refl}
-use Rattle.std.proofs.lemmas.Result.{on_ok_weaker, IfErr-weaker}
-use Rattle.certificate.specs.declared.node.Node.TheVariants as node
-use Rattle.tt_choice.specs.Choice.{bare}
-use Rattle.tt_choice.specs.Branches.{child_choices}
-use Rattle.cert_check.specs.declared.going.Going.{Going}
-use Rattle.cert_check.proofs.NextNodes.{one_due, going_has, at_next, going_on, both_ok}
+use Rattle.std.proofs.Common.{◌++◌, ◌∷◌, [], Err, refl, sym, subst}
+use Rattle.std.proofs.lemmas.Result.{IfErr-weaker}
+use Rattle.tt_choice.specs.Choice.{Choice}
+use Rattle.tt_choice.specs.Branches.{IsBranch, child_choices}
+use Rattle.cert_check.specs.declared.walk.Walk.{Walk}
+use Rattle.cert_check.specs.Seen.{TellsBranch}
+use Rattle.cert_check.specs.Turns.{IsWalk}
+use Rattle.cert_check.specs.Waiting.{BranchFails, Judges, WaitOrClose, Waits, held_leaf}
+use Rattle.cert_check.proofs.NextNodes.{both_ok}
 use Rattle.cert_check.proofs.going.Going.take.Goals as goal
 
-pub go_on-requires : goal.go_on-requires
-go_on-requires g c =
-    let has = going_has c.args.instance.now c.args.low c.args.self.now c.requires.0 c.requires.1 c.requires.2 c.requires.3 in
-    (has.0, has.1, has.2.0.walk)
-
-pub take_branch-requires-after_bounds : goal.take_branch-requires-after_bounds
-take_branch-requires-after_bounds g c κs within =
-    let there : Going = record { walk = c.go_on.new.self; held = c.args.self.now.held } in
-    let at = at_next c.args.instance.now c.args.low c.args.self.now there c.requires.0 c.requires.1 c.requires.2 c.requires.3 refl c.in-Ok-Branch.ensures in
-    (c.requires.0, at.0, at.1.0)
-
-pub take_leaf-requires-clause-stands : goal.take_leaf-requires-clause-stands
-take_leaf-requires-clause-stands g c κs within =
-    let there : Going = record { walk = c.go_on.new.self; held = c.args.self.now.held } in
-    let at = at_next c.args.instance.now c.args.low c.args.self.now there c.requires.0 c.requires.1 c.requires.2 c.requires.3 refl c.in-Ok-Leaf.ensures in
-    (c.requires.0, at.0, at.1.0, c.requires.4)
-
-pub returns-in-Ok-Branch-clause-going : goal.returns-in-Ok-Branch-clause-going
-returns-in-Ok-Branch-clause-going g c =
+pub returns-in-Ok-OfBranch-clause-takes : goal.returns-in-Ok-OfBranch-clause-takes
+returns-in-Ok-OfBranch-clause-takes g c =
     let i = c.args.instance.now in
-    let low = c.args.low in
-    let branch = c.in-Ok-Branch.branch in
-    let there : Going = record { walk = c.go_on.new.self; held = c.args.self.now.held } in
-    both_ok c.take_branch.result c.take_branch.ensures.on c.take_branch.ensures.count
-    (λ on count seen due next going here takes.
-    let at = at_next i low c.args.self.now there seen due going (one_due due next c.args.node takes) refl c.in-Ok-Branch.ensures in
-    rw c.in-Ok-Branch.is-1
-    (going_on i low c.take_branch.new.self (seen ++ node.Branch branch ∷ []) (node.Branch branch) due next (child_choices i (bare c.go_on.new.self.choice) branch.kind) at.0 (rw c.in-Ok-Branch.is-1 at takes) at.1.1 count (on seen at.0 at.1.0)))
+    let branch = c.in-Ok-OfBranch.branch in
+    both_ok c.take_branch.result c.take_branch.ensures.suits c.take_branch.ensures.below
+    (λ suits below d left walk.
+    let there = c.in-Ok-OfBranch.ensures d left walk in
+    let own = subst (λ (x : Choice). IsBranch i x branch.kind branch.children) there.0 suits in
+    let on = subst (λ (x : Choice). IsWalk i c.take_branch.new.self.walk (child_choices i x branch.kind ++ left)) there.0 (below left there.1) in
+    rw (c.in-Ok-OfBranch.is-1, c.take_branch.ensures.held) (own, (on, refl)))
 
-pub returns-in-Ok-Branch-clause-err : goal.returns-in-Ok-Branch-clause-err
-returns-in-Ok-Branch-clause-err g c =
-    let there : Going = record { walk = c.go_on.new.self; held = c.args.self.now.held } in
+pub returns-in-Ok-OfBranch-clause-err : goal.returns-in-Ok-OfBranch-clause-err
+returns-in-Ok-OfBranch-clause-err g c =
+    let i = c.args.instance.now in
+    let branch = c.in-Ok-OfBranch.branch in
     IfErr-weaker c.take_branch.result _ _
-    (λ fault tells seen due next going here takes.
-    let at = at_next c.args.instance.now c.args.low c.args.self.now there seen due going (one_due due next c.args.node takes) refl c.in-Ok-Branch.ensures in
-    rw c.in-Ok-Branch.is-1 (tells seen at.0 at.1.0 here))
+    (λ fault fails d left walk.
+    let there = c.in-Ok-OfBranch.ensures d left walk in
+    rw c.in-Ok-OfBranch.is-1 (subst (λ (x : Choice). BranchFails i c.args.low c.args.self.now.held.items (TellsBranch i x branch c.args.line) fault) there.0 fails))
     c.take_branch.ensures.err
 
-pub returns-in-Ok-Leaf-clause-going : goal.returns-in-Ok-Leaf-clause-going
-returns-in-Ok-Leaf-clause-going g c =
+pub returns-in-Ok-OfLeaf-clause-takes : goal.returns-in-Ok-OfLeaf-clause-takes
+returns-in-Ok-OfLeaf-clause-takes g c =
     let i = c.args.instance.now in
     let low = c.args.low in
-    let leaf = c.in-Ok-Leaf.leaf in
-    let there : Going = record { walk = c.go_on.new.self; held = c.args.self.now.held } in
-    on_ok_weaker c.take_leaf.result
-    (λ on seen due next going here takes.
-    let at = at_next i low c.args.self.now there seen due going (one_due due next c.args.node takes) refl c.in-Ok-Leaf.ensures in
-    rw c.in-Ok-Leaf.is-1
-    (going_on i low c.take_leaf.new.self (seen ++ node.Leaf leaf ∷ []) (node.Leaf leaf) due next [] at.0 (rw c.in-Ok-Leaf.is-1 at takes) at.1.1 refl (on seen at.0 at.1.0 here)))
-    c.take_leaf.ensures.on
+    let goal = c.in-Ok-OfLeaf.goal in
+    let count = c.in-Ok-OfLeaf.count in
+    let line = c.args.line in
+    let steps = c.args.steps.now in
+    let held = c.args.self.now.held.items in
+    both_ok c.take_leaf.result c.take_leaf.ensures.waits c.take_leaf.ensures.ok
+    (λ waits ok d left walk.
+    let there = c.in-Ok-OfLeaf.ensures d left walk in
+    let own = subst (λ (x : Choice). Waits i (held_leaf x goal count line steps)) there.0 waits in
+    let all = subst (λ (x : Choice). WaitOrClose i low (held ++ held_leaf x goal count line steps ∷ []) c.take_leaf.new.self.held.items) there.0 ok in
+    let on = subst (λ (w : Walk). IsWalk i w left) (sym c.take_leaf.ensures.walk) there.1 in
+    rw c.in-Ok-OfLeaf.is-1 (own, (on, all)))
 
-pub returns-in-Ok-Leaf-clause-err : goal.returns-in-Ok-Leaf-clause-err
-returns-in-Ok-Leaf-clause-err g c =
-    let there : Going = record { walk = c.go_on.new.self; held = c.args.self.now.held } in
+pub returns-in-Ok-OfLeaf-clause-err : goal.returns-in-Ok-OfLeaf-clause-err
+returns-in-Ok-OfLeaf-clause-err g c =
+    let i = c.args.instance.now in
+    let low = c.args.low in
+    let goal = c.in-Ok-OfLeaf.goal in
+    let count = c.in-Ok-OfLeaf.count in
+    let line = c.args.line in
+    let steps = c.args.steps.now in
+    let held = c.args.self.now.held.items in
     IfErr-weaker c.take_leaf.result _ _
-    (λ fault tells seen due next going here takes.
-    let at = at_next c.args.instance.now c.args.low c.args.self.now there seen due going (one_due due next c.args.node takes) refl c.in-Ok-Leaf.ensures in
-    rw c.in-Ok-Leaf.is-1 (tells seen at.0 at.1.0 here))
+    (λ fault fails d left walk.
+    let there = c.in-Ok-OfLeaf.ensures d left walk in
+    rw c.in-Ok-OfLeaf.is-1 (subst (λ (x : Choice). Judges i low (held ++ held_leaf x goal count line steps ∷ []) (Err fault)) there.0 fails))
     c.take_leaf.ensures.err

@@ -1,0 +1,127 @@
+-- Leaves that wait with steps that aren't read yet. Only private contracts ask for it.
+use Rattle.std.specs.Prelude.{◌≡◌, ℕ, ◌+◌, ◌^◌, ◌<◌, List, [], ◌∷◌, ◌++◌, ◌⊎◌, Option, None, Some, Result, Ok, Err}
+use Rattle.std.specs.Global.{Vec}
+use Rattle.ttp_model.specs.declared.step.Step.{Step}
+use Rattle.ttp_model.specs.Instance.{Instance}
+use Rattle.tt_choice.specs.Choice.{Choice, IsChoice}
+use Rattle.tt_choice.specs.Branches.{IsBranch, child_choices}
+use Rattle.certificate.specs.declared.fault.LineFault.{LineFault}
+use Rattle.certificate.specs.declared.fault.CertTextError.{CertTextError}
+use Rattle.certificate.specs.declared.fault.CertTextError.TheVariants as text
+use Rattle.certificate.specs.declared.fault.SourceFault.{SourceFault}
+use Rattle.certificate.specs.declared.fault.SourceFault.TheVariants as source
+use Rattle.certificate.specs.declared.head.Head.{Head}
+use Rattle.certificate.specs.declared.head.Head.TheVariants.{OfBranch, OfLeaf}
+use Rattle.certificate.specs.declared.node.Node.TheVariants as node
+use Rattle.certificate.specs.Reading.{Reading}
+use Rattle.certificate.specs.RawLines.{steps_in}
+use Rattle.cert_check.specs.declared.fault.CertFault.{CertFault}
+use Rattle.cert_check.specs.declared.fault.HeldFault.{HeldFault}
+use Rattle.cert_check.specs.declared.fault.HeldFault.TheVariants.{InText, InCert}
+use Rattle.cert_check.specs.declared.batch.HeldLeaf.{HeldLeaf}
+use Rattle.cert_check.specs.declared.going.Going.{Going}
+use Rattle.cert_check.specs.Turns.{IsWalk}
+use Rattle.cert_check.specs.Seen.{ReadLeaf, TellsNode, TellsBranch, Closes, AllClose, TellsHeld}
+
+-- a leaf waits at a choice of the instance, and its line is far below those that are told as the last
+pub record Waits (i : Instance) (h : HeldLeaf) : Type 0 where
+  pub choice : IsChoice i h.choice
+  pub line : h.line < 2 ^ 63
+  pub few : h.count < 2 ^ 32
+
+-- what reading its steps gives
+abbrev pub steps_of : HeldLeaf → Reading (List Step)
+steps_of h = steps_in h.count (h.line + 1) h.steps.items
+
+-- the leaf with these steps
+abbrev pub leaf_with : HeldLeaf → List Step → ReadLeaf
+leaf_with h steps = record { choice = h.choice; leaf = record { goal = h.goal; steps = steps }; line = h.line }
+
+-- the steps of each are read, and these are the leaves
+abbrev pub AreRead : List HeldLeaf → List ReadLeaf → Type 0
+AreRead [] [] = Unit {0}
+AreRead [] (r ∷ rs) = ⊥
+AreRead (h ∷ hs) [] = ⊥
+AreRead (h ∷ hs) (r ∷ rs) = ((steps : List Step) × ((steps_of h ≡ Ok steps) × (r ≡ leaf_with h steps))) × AreRead hs rs
+
+-- this is the first fault of their text
+abbrev pub IsUnread : List HeldLeaf → CertTextError → Type 0
+IsUnread [] fault = ⊥
+IsUnread (h ∷ hs) fault = (steps_of h ≡ Err fault) ⊎ (((steps : List Step) × (steps_of h ≡ Ok steps)) × IsUnread hs fault)
+
+-- what judging one of them answers
+abbrev pub IsLeafAnswer : Instance → ℕ → HeldLeaf → Result (Unit {0}) HeldFault → Type 0
+IsLeafAnswer i low h (Ok _) = (steps : List Step) × ((steps_of h ≡ Ok steps) × Closes i low (leaf_with h steps))
+IsLeafAnswer i low h (Err (InText text.OutOfMemory)) = Unit {0}
+IsLeafAnswer i low h (Err (InText (text.At line fault))) = steps_of h ≡ Err (text.At line fault)
+IsLeafAnswer i low h (Err (InCert fault)) =
+    (steps : List Step) × ((steps_of h ≡ Ok steps) × TellsNode i low h.choice (node.Leaf (record { goal = h.goal; steps = steps })) h.line fault)
+
+-- the first fault of the text among such answers
+abbrev pub first_text : List (Result (Unit {0}) HeldFault) → Option CertTextError
+first_text [] = None
+first_text (Ok _ ∷ others) = first_text others
+first_text (Err (InText fault) ∷ others) = Some fault
+first_text (Err (InCert fault) ∷ others) = first_text others
+
+-- the first fault of the certificate among them
+abbrev pub first_fault : List (Result (Unit {0}) HeldFault) → Option CertFault
+first_fault [] = None
+first_fault (Ok _ ∷ others) = first_fault others
+first_fault (Err (InText fault) ∷ others) = first_fault others
+first_fault (Err (InCert fault) ∷ others) = Some fault
+
+-- What judging all of them answers: each is read and closes; or the first fault of their text; or where there is none, the first
+-- fault of the leaves.
+abbrev pub Judges : Instance → ℕ → List HeldLeaf → Result (Unit {0}) HeldFault → Type 0
+Judges i low hs (Ok _) = (rs : List ReadLeaf) × (AreRead hs rs × AllClose i low rs)
+Judges i low hs (Err (InText text.OutOfMemory)) = Unit {0}
+Judges i low hs (Err (InText (text.At line fault))) = IsUnread hs (text.At line fault)
+Judges i low hs (Err (InCert fault)) = (rs : List ReadLeaf) × (AreRead hs rs × TellsHeld i low rs fault)
+
+-- what is told behind the last node
+abbrev pub Finishes : Instance → ℕ → List HeldLeaf → Result (Option CertFault) SourceFault → Type 0
+Finishes i low hs (Ok None) = (rs : List ReadLeaf) × (AreRead hs rs × AllClose i low rs)
+Finishes i low hs (Ok (Some fault)) = (rs : List ReadLeaf) × (AreRead hs rs × TellsHeld i low rs fault)
+Finishes i low hs (Err source.Read) = ⊥
+Finishes i low hs (Err source.TooLong) = ⊥
+Finishes i low hs (Err (source.Text text.OutOfMemory)) = Unit {0}
+Finishes i low hs (Err (source.Text (text.At line fault))) = IsUnread hs (text.At line fault)
+
+-- Where this fault was found behind them, that one is told: a fault of the text that is the first of theirs, or where they have none
+-- the one that was found.
+abbrev pub TellsText : List HeldLeaf → SourceFault → SourceFault → Type 0
+TellsText hs found source.Read = found ≡ source.Read
+TellsText hs found source.TooLong = found ≡ source.TooLong
+TellsText hs found (source.Text text.OutOfMemory) = Unit {0}
+TellsText hs found (source.Text (text.At line fault)) =
+    ((at : ℕ) × (other : LineFault) × ((found ≡ source.Text (text.At at other)) × IsUnread hs (text.At line fault)))
+    ⊎ ((found ≡ source.Text (text.At line fault)) × ((rs : List ReadLeaf) × AreRead hs rs))
+
+-- ---- one node more
+
+-- the leaf of a line that waits at a choice
+abbrev pub held_leaf : Choice → (goal count line : ℕ) → Vec ℕ → HeldLeaf
+held_leaf c goal count line steps = record { choice = c; goal = goal; count = count; line = line; steps = steps }
+
+-- all of them wait, or they were judged and close
+abbrev pub WaitOrClose : Instance → ℕ → (all now : List HeldLeaf) → Type 0
+WaitOrClose i low all now = (now ≡ all) ⊎ (((rs : List ReadLeaf) × (AreRead all rs × AllClose i low rs)) × (now ≡ []))
+
+-- a node was taken at a choice, in front of these others
+abbrev pub Takes : Instance → ℕ → (old new : Going) → Head → ℕ → Vec ℕ → Choice → List Choice → Type 0
+Takes i low old new (OfBranch branch) line steps c left =
+    IsBranch i c branch.kind branch.children × (IsWalk i new.walk (child_choices i c branch.kind ++ left) × (new.held.items ≡ old.held.items))
+Takes i low old new (OfLeaf goal count) line steps c left =
+    Waits i (held_leaf c goal count line steps) × (IsWalk i new.walk left × WaitOrClose i low (old.held.items ++ held_leaf c goal count line steps ∷ []) new.held.items)
+
+-- those that wait are at fault, or they close, and the branch behind them is
+abbrev pub BranchFails : Instance → ℕ → List HeldLeaf → (Tells : CertFault → Type 0) → HeldFault → Type 0
+BranchFails i low hs Tells fault =
+    Judges i low hs (Err fault) ⊎ ((own : CertFault) × ((fault ≡ InCert own) × (Tells own × ((rs : List ReadLeaf) × (AreRead hs rs × AllClose i low rs)))))
+
+-- why a node isn't taken
+abbrev pub TakeFails : Instance → ℕ → (old : Going) → Head → ℕ → Vec ℕ → Choice → HeldFault → Type 0
+TakeFails i low old (OfBranch branch) line steps c fault = BranchFails i low old.held.items (TellsBranch i c branch line) fault
+TakeFails i low old (OfLeaf goal count) line steps c fault =
+    Judges i low (old.held.items ++ held_leaf c goal count line steps ∷ []) (Err fault)
