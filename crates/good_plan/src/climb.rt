@@ -93,6 +93,11 @@ impl Climb {
         number >= CLIMBS - RETURNS
     }
 
+    /// Whether a climb may make messages wait: every second one, and those that set out from the best schedule.
+    fn holds(number: u64) -> bool {
+        number % 2 == 1 || Climb::returns(number)
+    }
+
     /// Sets out.
     fn begin(&mut self, network: &Network, number: u64) {
         if Climb::returns(number) {
@@ -115,7 +120,7 @@ impl Climb {
         let most = self.timetable.delay.saturating_mul(heat(number)) / 1000;
         for left in (0..turns).rev() {
             let leeway = (most.saturating_mul(left) / turns.max(1)).saturating_add(1);
-            self.step(network, leeway, Climb::returns(number));
+            self.step(network, leeway, Climb::holds(number));
         }
     }
 
