@@ -3,6 +3,7 @@
 ghost use Rattle.std.specs.Prelude.{◌≡◌, IfOk};
 
 use crate::pass::Staying;
+use crate::standing::Standing;
 use certificate::Node;
 use std::alloc::Global;
 use ttp_model::{Leaf, MemoryFault, Ring, Step, Steps};
@@ -69,19 +70,27 @@ fn copy_of(alloc: Global, node: &Node) -> Result<Node, MemoryFault>
     }
 }
 
-/// Copies of the nodes that stay.
-pub fn copies(alloc: Global, nodes: &[Node], staying: &Staying) -> Result<Vec<Node>, MemoryFault> {
+/// Copies of the nodes that stay; none where a subtree stays that was left.
+pub fn copies(
+    alloc: Global,
+    standing: &[Standing],
+    staying: &Staying,
+) -> Result<Option<Vec<Node>>, MemoryFault> {
     let mut copies = Vec::new(alloc);
+    copies.reserve_exact(staying.count)?;
     let mut k = 0;
-    while k < nodes.len() {
+    while k < standing.len() {
         let next = staying.next(k);
         if next > k {
             k = next;
         } else {
-            let copy = copy_of(alloc, &nodes[k])?;
+            let Some(node) = standing[k].node() else {
+                return Ok(None);
+            };
+            let copy = copy_of(alloc, node)?;
             copies.push(copy)?;
             k += 1;
         }
     }
-    Ok(copies)
+    Ok(Some(copies))
 }

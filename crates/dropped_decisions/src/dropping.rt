@@ -9,24 +9,11 @@ use crate::branches::branches_among;
 use crate::copies::copies;
 use crate::heights::is_tree;
 use crate::pass::what_stays;
+use crate::standing::{Standing, sort_by_name};
 use cert_check::check;
 use certificate::{Cert, Node};
 use std::alloc::Global;
 use ttp_model::{Instance, MemoryFault};
-
-/// Copies of the nodes that stay, where some go.
-fn left_of(
-    alloc: Global,
-    instance: &Instance,
-    nodes: &[Node],
-) -> Result<Option<Vec<Node>>, MemoryFault> {
-    let staying = what_stays(alloc, instance, nodes)?;
-    if staying.count == nodes.len() {
-        return Ok(None);
-    }
-    let copies = copies(alloc, nodes, &staying)?;
-    Ok(Some(copies))
-}
 
 /// A certificate of the same bound with these nodes, where they are a tree that proves it.
 fn accepted(
@@ -49,25 +36,59 @@ fn accepted(
     }
 }
 
-/// A certificate of the same bound with fewer nodes, where the pass finds one that proves it.
+/// A certificate of a bound with at most so many branches, where what is left of a tree in preorder proves it.
+fn left_of(
+    alloc: Global,
+    instance: &Instance,
+    low: u32,
+    standing: &[Standing],
+    most: usize,
+) -> Result<Option<Cert>, MemoryFault>
+    ensures proves { IfOk result (λ found. IfSome found (Proves instance.now)) }
+    ensures low { IfOk result (λ found. IfSome found (λ cert. cert.low ≡ low)) }
+    ensures few { IfOk result (λ found. IfSome found (λ cert. branches cert.tree ≤ most)) }
+{
+    let staying = what_stays(alloc, instance, standing)?;
+    let Some(left) = copies(alloc, standing, &staying)? else {
+        return Ok(None);
+    };
+    if branches_among(left.as_slice()) > most {
+        return Ok(None);
+    }
+    accepted(alloc, instance, low, left)
+}
+
+/// The nodes of a tree in preorder, which tells where they stand: none is named.
+fn unnamed(alloc: Global, nodes: &[Node]) -> Result<Vec<Standing>, MemoryFault> {
+    let mut standing = Vec::with_capacity(alloc, nodes.len())?;
+    for node in nodes {
+        standing.push(Standing {
+            name: &[],
+            node: Some(node),
+        })?;
+    }
+    Ok(standing)
+}
+
+/// A certificate of the same bound with no more branches, where the pass finds one that proves it.
 fn smaller(alloc: Global, instance: &Instance, cert: &Cert) -> Result<Option<Cert>, MemoryFault>
     ensures proves { IfOk result (λ found. IfSome found (Proves instance.now)) }
     ensures low { IfOk result (λ found. IfSome found (λ other. other.low ≡ cert.now.low)) }
     ensures fewer { IfOk result (λ found. IfSome found (λ other. branches other.tree ≤ branches cert.now.tree)) }
 {
     let nodes = cert.nodes();
-    let Some(left) = left_of(alloc, instance, nodes)? else {
-        return Ok(None);
-    };
-    if branches_among(left.as_slice()) > branches_among(nodes) {
-        return Ok(None);
-    }
-    accepted(alloc, instance, cert.low(), left)
+    let standing = unnamed(alloc, nodes)?;
+    left_of(
+        alloc,
+        instance,
+        cert.low(),
+        standing.as_slice(),
+        branches_among(nodes),
+    )
 }
 
 /// A certificate of the same bound, without branches that nothing below one of their children uses: that child stands in the
-/// branch's place. The same certificate where there is none, where memory is refused, or where the check doesn't accept what is
-/// left.
+/// branch's place. The same certificate where memory is refused, or where the check doesn't accept what is left.
 ///
 /// One pass over the nodes, and a check of what is left. Takes memory for a place of each node, for the sets of branches that
 /// those of one path use, for copies of the nodes that stay, and for the check.
@@ -81,4 +102,25 @@ pub fn without_unused(alloc: Global, instance: &Instance, cert: Cert) -> Cert
         Ok(Some(smaller)) => smaller,
         Ok(None) | Err(_) => cert,
     }
+}
+
+/// A certificate of a bound, in ticks, without branches that nothing below one of their children uses, of a tree that a search
+/// made, where the subtrees that it left aren't needed: none where one of them is, where more than `most` branches are left, or
+/// where the check doesn't accept what is left. The nodes may stand in any order.
+///
+/// Sorts them by their names; for the rest the same as `without_unused`.
+pub fn proof_of(
+    alloc: Global,
+    instance: &Instance,
+    low: u32,
+    standing: Vec<Standing>,
+    most: usize,
+) -> Result<Option<Cert>, MemoryFault>
+    ensures proves { IfOk result (λ found. IfSome found (Proves instance.now)) }
+    ensures low { IfOk result (λ found. IfSome found (λ cert. cert.low ≡ low)) }
+    ensures few { IfOk result (λ found. IfSome found (λ cert. branches cert.tree ≤ most)) }
+{
+    let mut standing = standing;
+    sort_by_name(&mut standing)?;
+    left_of(alloc, instance, low, standing.as_slice(), most)
 }

@@ -4,13 +4,10 @@
 mod branches;
 mod copies;
 mod dropping;
-mod given;
 mod heights;
-mod levels;
 mod parts;
 mod pass;
-mod path;
-mod reader;
-mod uses;
+mod standing;
 
-pub use dropping::without_unused;
+pub use dropping::{proof_of, without_unused};
+pub use standing::Standing;

@@ -1,9 +1,8 @@
 //! What stays of a part of the tree?
 
-use crate::levels::Levels;
-use crate::path::Cut;
 use tt_choice::Decision;
 use ttp_model::Kind;
+use used_decisions::{Cut, Levels};
 
 /// A node with what stands below it, once it was gone through.
 #[derive(Drop)]

@@ -2,14 +2,13 @@
 
 ghost use Rattle.std.specs.Prelude.{◌≡◌, ◌+◌, length, IfSome};
 
-use crate::levels::Levels;
 use crate::parts::{OpenBranch, Part};
-use crate::path::Path;
-use crate::reader::Reader;
+use crate::standing::Standing;
 use certificate::{Branch, Node};
 use std::alloc::Global;
 use tt_choice::Decision;
-use ttp_model::{Instance, Kind, Leaf, MemoryFault};
+use ttp_model::{Instance, Leaf, MemoryFault};
+use used_decisions::{Levels, Path, Reader};
 
 /// Which nodes stay.
 #[derive(Drop)]
@@ -41,17 +40,17 @@ struct Pass<'a> {
     staying: Staying,
 }
 
-/// Which nodes stay, of a tree in preorder. One pass.
+/// Which nodes stay, of a tree in preorder. One pass. A subtree that was left stays where nothing beside it can do without it.
 pub fn what_stays(
     alloc: Global,
     instance: &Instance,
-    nodes: &[Node],
+    standing: &[Standing],
 ) -> Result<Staying, MemoryFault> {
-    let mut pass = Pass::new(alloc, instance, nodes.len())?;
-    for k in 0..nodes.len() {
-        match &nodes[k] {
-            Node::Branch(branch) => pass.open(alloc, k, branch)?,
-            Node::Leaf(leaf) => pass.read(alloc, k, leaf)?,
+    let mut pass = Pass::new(alloc, instance, standing.len())?;
+    for k in 0..standing.len() {
+        match standing[k].node() {
+            Some(node) => pass.go_through(alloc, k, node)?,
+            None => pass.leave(alloc, k)?,
         }
     }
     Ok(pass.staying)
@@ -76,6 +75,14 @@ impl<'a> Pass<'a> {
     /// How many branches stand above the next node.
     fn depth(&self) -> u32 {
         self.above.len().min(u32::MAX as usize) as u32
+    }
+
+    /// Takes a node in.
+    fn go_through(&mut self, alloc: Global, k: usize, node: &Node) -> Result<(), MemoryFault> {
+        match node {
+            Node::Branch(branch) => self.open(alloc, k, branch),
+            Node::Leaf(leaf) => self.read(alloc, k, leaf),
+        }
     }
 
     /// Takes a branch in: what comes next stands below it.
@@ -117,10 +124,21 @@ impl<'a> Pass<'a> {
         Some(branch)
     }
 
-    /// Takes a leaf in, and goes up to the branch that has another child.
+    /// Takes a leaf in.
     fn read(&mut self, alloc: Global, k: usize, leaf: &Leaf) -> Result<(), MemoryFault> {
         let depth = self.depth();
         let used = self.reader.used_by(alloc, &self.path, leaf, depth)?;
+        self.take_in(k, used)
+    }
+
+    /// Takes in a subtree that was left: nothing is known of what it uses.
+    fn leave(&mut self, alloc: Global, k: usize) -> Result<(), MemoryFault> {
+        let used = Levels::all_of(alloc, self.depth())?;
+        self.take_in(k, used)
+    }
+
+    /// Takes in a node without children, and goes up to the branch that has another child.
+    fn take_in(&mut self, k: usize, used: Levels) -> Result<(), MemoryFault> {
         let mut part = Part {
             from: k,
             to: k.saturating_add(1),
@@ -174,20 +192,9 @@ impl<'a> Pass<'a> {
                 from,
                 to,
                 stays,
-                used: self.used_with(kind, used),
+                used: self.path.used_with(kind, used),
             },
         }
-    }
-
-    /// What a branch uses with what stands below it: how many children take a place depends on all places above.
-    fn used_with(&self, kind: Kind, below: Levels) -> Levels {
-        let mut used = below;
-        if let Kind::Place = kind {
-            for placed in self.path.order() {
-                used.insert(placed.level);
-            }
-        }
-        used
     }
 
     /// Leaves out the nodes from one place up to another.

@@ -108,15 +108,15 @@ all_goals P first second all same one other =
 
 module _ {J : Type 0} (i : Instance) (word : Incumbent) (count : ℕ) (begun : List (Hand J)) (old new : Crew J) (job : Job J) (report : Report J) (w : IsInstance i) (g : Gathers i word count begun old) (j : IsJob word job)
     (r : IsReportOfJob i job report) (hands : new.hands.items ≡ old.hands.items ++ report.hand ∷ []) (pieces : AreTogether old.pieces.items report.pieces.items new.pieces.items)
-    (tasks : new.tasks.items ≡ old.tasks.items ++ tasks_in report.rest) (better : IsBetter i old.best report.best new.best) (opening : IsOpening word new.watch) (out : out_count new.watch ≡ out_count old.watch - 1)
+    (tasks : new.tasks.items ≡ old.tasks.items ++ tasks_in report.spared.items report.rest) (better : IsBetter i old.best report.best new.best) (opening : IsOpening word new.watch) (out : out_count new.watch ≡ out_count old.watch - 1)
     (sees : seen new.watch ≡ seen old.watch ++ seen report.watch) (offered : offers new.watch ≡ offers old.watch ++ offers report.watch) where
-  takes_more : (turns : List Turn) → AreBoth i g.turns r.account.turns turns → IsPermutation (all_taken new.hands.items) (all_taken (begun ++ job.hand ∷ []) ++ (tasks_of turns ++ (g.in_hand ++ held report.rest)))
+  takes_more : (turns : List Turn) → AreBoth i g.turns r.account.turns turns → IsPermutation (all_taken new.hands.items) (all_taken (begun ++ job.hand ∷ []) ++ (tasks_of turns ++ (g.in_hand ++ held report.spared.items report.rest)))
   takes_more turns of_both =
       let a = r.account in
-      let left_over = g.in_hand ++ held report.rest in
-      let took = IsPermutation-trans _ _ _ a.takes (IsPermutation-append_right (taken job.hand) a.took (tasks_of a.turns ++ held report.rest) a.account.took) in
-      let all = both (all_taken old.hands.items) (taken report.hand) (all_taken begun) (tasks_of g.turns ++ g.in_hand) (taken job.hand) (tasks_of a.turns ++ held report.rest) g.takes took in
-      let inner = IsPermutation-append_right (all_taken begun ++ taken job.hand) _ _ (interleave (tasks_of g.turns) g.in_hand (tasks_of a.turns) (held report.rest)) in
+      let left_over = g.in_hand ++ held report.spared.items report.rest in
+      let took = IsPermutation-trans _ _ _ a.takes (IsPermutation-append_right (taken job.hand) a.took (tasks_of a.turns ++ held report.spared.items report.rest) a.account.took) in
+      let all = both (all_taken old.hands.items) (taken report.hand) (all_taken begun) (tasks_of g.turns ++ g.in_hand) (taken job.hand) (tasks_of a.turns ++ held report.spared.items report.rest) g.takes took in
+      let inner = IsPermutation-append_right (all_taken begun ++ taken job.hand) _ _ (interleave (tasks_of g.turns) g.in_hand (tasks_of a.turns) (held report.spared.items report.rest)) in
       let worked = IsPermutation-append_right (all_taken begun ++ taken job.hand) _ _ (IsPermutation-append_left left_over _ _ of_both.tasks) in
       let left = ap all_taken hands ∙ one_more taken old.hands.items report.hand in
       let right = ap (λ (l : List Task). l ++ (tasks_of turns ++ left_over)) (one_more taken begun job.hand) in
@@ -171,12 +171,12 @@ module _ {J : Type 0} (i : Instance) (word : Incumbent) (count : ℕ) (begun : L
     turns = turns;
     each = of_both.each g.each r.account.each;
     pieces = made;
-    in_hand = g.in_hand ++ held report.rest;
+    in_hand = g.in_hand ++ held report.spared.items report.rest;
     kept_back = g.kept_back ++ unpushed report.rest;
     takes = takes_more turns of_both;
     pushes = pushes_more turns of_both;
-    rest = first_is _ _ _ tasks (both old.tasks.items (tasks_in report.rest) g.in_hand g.kept_back (held report.rest) (unpushed report.rest) g.rest (IsPermutation-refl (tasks_in report.rest)));
-    open_tasks = subst (All (IsTask i)) (sym tasks) (All-append (IsTask i) old.tasks.items (tasks_in report.rest) g.open_tasks (All-append (IsTask i) (held report.rest) (unpushed report.rest) r.account.one_of r.account.others_of));
+    rest = first_is _ _ _ tasks (both old.tasks.items (tasks_in report.spared.items report.rest) g.in_hand g.kept_back (held report.spared.items report.rest) (unpushed report.rest) g.rest (IsPermutation-refl (tasks_in report.spared.items report.rest)));
+    open_tasks = subst (All (IsTask i)) (sym tasks) (All-append (IsTask i) old.tasks.items (tasks_in report.spared.items report.rest) g.open_tasks (All-append (IsTask i) (held report.spared.items report.rest) (unpushed report.rest) r.account.one_of r.account.others_of));
     opening = opening;
     joined = omega (arith, out, g.joined, length-append begun (job.hand ∷ []));
     found = better.found;

@@ -1,10 +1,11 @@
 -- What a search comes to, once what it left is closed.
-use Rattle.std.proofs.Common.{◌≡◌, ℕ, zero, suc, ◌<◌, ◌≤◌, min, List, [], ◌∷◌, ◌++◌, Option, ◌⊎◌, inl, inr, sym, ap, subst, ◌∙◌, arith, length, get_or, All, Contains}
+use Rattle.std.proofs.Common.{◌≡◌, ℕ, zero, suc, ◌<◌, ◌≤◌, min, List, [], ◌∷◌, ◌++◌, Option, ◌⊎◌, inl, inr, ⊎_elim, sym, ap, subst, ◌∙◌, arith, length, get_or, All, Contains}
 use Rattle.std.proofs.lemmas.List.{map-append}
 use Rattle.std.proofs.lemmas.List.Elements.{All-append, All-weaker, All-contains, Contains-append_left, Contains-append_right}
 use Rattle.ttp_model.specs.declared.plan.Plan.{Plan}
 use Rattle.ttp_model.specs.declared.step.Leaf.{Leaf}
 use Rattle.ttp_model.specs.Instance.{Instance}
+use Rattle.ttp_model.specs.Chains.{IsPathBound}
 use Rattle.tt_choice.specs.Choice.{Choice}
 use Rattle.certificate.specs.declared.limits.TheConstants.{MOST_BRANCHES_ABOVE}
 use Rattle.certificate.specs.declared.node.Node.TheVariants as node
@@ -100,6 +101,28 @@ module _ (i : Instance) (made : List Piece) (tasks : List Task) (found : Option 
   }
 
 -- ---- one task more is closed
+
+-- the least goal so far is no lower than that of any leaf has to be
+low_enough : (i : Instance) (done : List Task) (top : ℕ) (closed : List Piece) (low : ℕ) → ReachesGoal low closed → All (ClosesOne i done top) closed → (bound : ℕ) → IsPathBound i bound → min top bound ≤ low
+low_enough i done top closed low r each bound path =
+    let one = All-contains (ClosesOne i done top) closed r.piece each r.there in
+    let same : node.Leaf one.is.leaf ≡ node.Leaf r.leaf = sym one.is.node ∙ r.is in
+    let leaf : one.is.leaf ≡ r.leaf = cc in
+    let goal : one.is.leaf.goal ≡ r.leaf.goal = ap (λ (l : Leaf). l.goal) leaf in
+    omega (arith, one.is.least bound path, goal, r.goal)
+
+-- what is closed at the least goal so far is closed at the top
+pub closed_lower : (i : Instance) (done : List Task) (t : Task) (top : ℕ) (closed : List Piece) (low : ℕ) (p : Piece) → AreClosed i done top closed low → IsLeftClosed i t low p → IsLeftClosed i t top p
+closed_lower i done t top closed low p c is = record {
+  leaf = is.leaf;
+  node = is.node;
+  name = is.name;
+  closes = is.closes;
+  most = ⊎_elim (λ (e : low ≡ top). omega (arith, is.most, e)) (λ (r : (low < top) × ReachesGoal low closed). omega (arith, is.most, r.0)) c.least;
+  least = λ bound path.
+      ⊎_elim (λ (e : low ≡ top). omega (arith, is.least bound path, e))
+      (λ (r : (low < top) × ReachesGoal low closed). omega (arith, is.least bound path, low_enough i done top closed low r.1 c.each bound path)) c.least;
+}
 
 pub closes_more : (i : Instance) (done : List Task) (t : Task) (top : ℕ) (closed : List Piece) (low lower : ℕ) (p : Piece)
     → AreClosed i done top closed low → IsLeftClosed i t top p

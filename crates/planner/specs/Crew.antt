@@ -22,7 +22,7 @@ use Rattle.planner.specs.Searched.{IsFound}
 pub record IsReportOfJob {J : Type 0} (i : Instance) (job : Job J) (report : Report J) : Type 0 where
   pub hand : IsSameHand job.hand report.hand
   pub watch : IsSameWatch job.watch report.watch
-  pub account : HasAccount i job.hand report.hand report.pieces.items report.rest
+  pub account : HasAccount i job.hand report.hand report.pieces.items report.spared.items report.rest
   pub goals : AreGoals job.watch report.watch (goals_of report.pieces.items)
   pub best : OffersBest i job.watch report.watch report.best
   pub within : length report.pieces.items ≤ job.budget
@@ -53,9 +53,9 @@ AreSameHands [] (h ∷ hs) = ⊥
 AreSameHands (g ∷ gs) [] = ⊥
 AreSameHands (g ∷ gs) (h ∷ hs) = IsSameHand g h × AreSameHands gs hs
 
--- what is in hand: the task that wasn't worked, or the children that weren't pushed
-abbrev pub tasks_in : Rest → List Task
-tasks_in rest = held rest ++ unpushed rest
+-- what was not worked: the tasks that were left or are in hand, and the children that weren't pushed
+abbrev pub tasks_in : List Task → Rest → List Task
+tasks_in spared rest = held spared rest ++ unpushed rest
 
 -- two lists one behind the other, in either order
 abbrev pub AreTogether : {X : Type 0} → List X → List X → List X → Type 0

@@ -34,7 +34,8 @@ fn close(alloc: Global, instance: &Instance, task: Task, top: u32) -> Result<Pie
 }
 
 /// Closes tasks at goals of at most `top` ticks, in order: their leaves, and the least of `top` and
-/// the leaves' goals.
+/// the leaves' goals. None is closed higher than one before it, since the least is all that counts: so most of them take one
+/// propagation.
 pub fn close_all(
     alloc: Global,
     instance: &Instance,
@@ -47,7 +48,7 @@ pub fn close_all(
     let mut closed = Vec::with_capacity(alloc, tasks.len())?;
     let mut low = top;
     for task in tasks {
-        let piece = close(alloc, instance, task, top)?;
+        let piece = close(alloc, instance, task, low)?;
         low = lowered(&piece, low);
         closed.push(piece)?;
     }

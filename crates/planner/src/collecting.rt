@@ -135,6 +135,7 @@ fn collected<J: Searched>(word: Incumbent, crew: Crew<J>) -> Result<Search, Memo
         pieces,
         room,
         tasks,
+        spared,
         best,
     } = crew;
     word.close(watch);
@@ -143,6 +144,7 @@ fn collected<J: Searched>(word: Incumbent, crew: Crew<J>) -> Result<Search, Memo
         pieces,
         room,
         tasks,
+        spared,
         best,
     })
 }

@@ -86,13 +86,17 @@ pub struct Crew<J: Searched> {
     pub pieces: Vec<Piece>,
     pub room: Vec<Node>,
     pub tasks: Vec<Task>,
+    /// How many of them needn't be worked, as far as was seen.
+    pub spared: usize,
     pub best: Option<(Plan, u64)>,
 }
 
-/// Adds what a worker that ended had in hand.
-fn hold(tasks: &mut Vec<Task>, rest: Rest) -> Result<(), MemoryFault>
-    ensures { OnOk result (tasks.new.items ≡ tasks.old.items ++ tasks_in rest) }
+/// Adds what a worker that ended didn't work: what it left, and what it had in hand.
+fn hold(tasks: &mut Vec<Task>, spared: Vec<Task>, rest: Rest) -> Result<(), MemoryFault>
+    ensures { OnOk result (tasks.new.items ≡ tasks.old.items ++ tasks_in spared.items rest) }
 {
+    let mut spared = spared;
+    tasks.append(&mut spared)?;
     match rest {
         Rest::Nothing => Ok(()),
         Rest::One(task) => {
@@ -127,6 +131,7 @@ impl<J: Searched> Crew<J> {
             pieces: Vec::new(alloc),
             room: Vec::new(alloc),
             tasks: Vec::new(alloc),
+            spared: 0,
             best,
         })
     }
@@ -146,7 +151,8 @@ impl<J: Searched> Crew<J> {
         hands.push(report.hand)?;
         let pieces = together(self.pieces, report.pieces)?;
         let room = roomier(self.room, report.room);
-        hold(&mut tasks, report.rest)?;
+        let spared = self.spared.saturating_add(report.spared.len());
+        hold(&mut tasks, report.spared, report.rest)?;
         let best = better(self.best, report.best);
         Ok(Crew {
             hands,
@@ -154,6 +160,7 @@ impl<J: Searched> Crew<J> {
             pieces,
             room,
             tasks,
+            spared,
             best,
         })
     }

@@ -1,12 +1,53 @@
 //! Which branches can an answer's certificate do without?
 
+ghost use Rattle.std.specs.Prelude.{◌≡◌, ◌≤◌, IfOk, IfSome, length};
+ghost use Rattle.cert_check.specs.Proofs.{Proves};
+ghost use Rattle.dropped_decisions.specs.Branches.{branches};
 ghost use Rattle.planner.specs.declared.outcome.Options.{Options};
-ghost use Rattle.planner.specs.Answers.{IsOutcome};
+ghost use Rattle.planner.specs.Answers.{IsOutcome, limit_of};
+ghost use Rattle.planner.specs.Searched.{IsFound};
 
 use crate::outcome::Outcome;
-use dropped_decisions::without_unused;
+use crate::search::{Search, limit};
+use certificate::Cert;
+use dropped_decisions::{Standing, proof_of, without_unused};
 use std::alloc::Global;
-use ttp_model::Instance;
+use ttp_model::{Instance, MemoryFault};
+
+/// The pieces of a search, and the tasks that it left.
+fn standing(alloc: Global, search: &Search) -> Result<Vec<Standing>, MemoryFault> {
+    let mut standing = Vec::new(alloc);
+    standing.reserve_exact(search.pieces.len() + search.tasks.len())?;
+    for piece in search.pieces.as_slice() {
+        standing.push(Standing {
+            name: piece.name.as_slice(),
+            node: Some(&piece.node),
+        })?;
+    }
+    for task in search.tasks.as_slice() {
+        standing.push(Standing {
+            name: task.name().as_slice(),
+            node: None,
+        })?;
+    }
+    Ok(standing)
+}
+
+/// A certificate of the delay that had to be beaten, of the pieces of a search that left nothing but tasks that needn't be worked:
+/// none where one of them is needed, or memory is refused.
+pub fn lean_proof(alloc: Global, instance: &Instance, search: &Search) -> Option<Cert>
+    requires { IsFound instance.now search.now.best }
+    ensures proves { IfSome result (Proves instance.now) }
+    ensures low { IfSome result (λ cert. cert.low ≡ limit_of instance.now search.now.best) }
+    ensures few { IfSome result (λ cert. branches cert.tree ≤ length search.now.pieces.items) }
+{
+    if search.tasks.len() > search.spared {
+        return None;
+    }
+    let low = limit(instance, &search.best);
+    let standing = standing(alloc, search).ok()?;
+    proof_of(alloc, instance, low, standing, search.pieces.len()).ok()?
+}
 
 /// The same answer, with a certificate without the branches that nothing below one of their children uses. What is said of a
 /// search that was stopped counts the nodes of its tree, so that one stays as it is.

@@ -19,6 +19,8 @@ pub struct Search {
     pub pieces: Vec<Piece>,
     pub room: Vec<Node>,
     pub tasks: Vec<Task>,
+    /// How many of them needn't be worked, as far as was seen.
+    pub spared: usize,
     pub best: Option<(Plan, u64)>,
 }
 

@@ -3,6 +3,8 @@
 ghost use Rattle.std.specs.Prelude.{◌≡◌, ◌≤◌, ◌+◌, ◌++◌, ℕ, IfOk, IfErr, IfSome, length, []};
 ghost use Rattle.ttp_model.specs.Instance.{Instance};
 ghost use Rattle.branch_tree.specs.Account.{IsWholeTree};
+ghost use Rattle.cert_check.specs.Proofs.{Proves};
+ghost use Rattle.dropped_decisions.specs.Branches.{branches};
 ghost use Rattle.planner.specs.declared.outcome.SolveFault.TheVariants as fault;
 ghost use Rattle.planner.specs.Answers.{IsOutcome, IsRefusal, Shows, limit_of};
 ghost use Rattle.planner.specs.Gathering.{AreShallow, HaveGoals, IsGathered};
@@ -13,7 +15,7 @@ use crate::closing::close_all;
 use crate::collecting::searched;
 use crate::gathering::gather_whole;
 use crate::joining::joined;
-use crate::leaner::leaner;
+use crate::leaner::{lean_proof, leaner};
 use crate::outcome::{Options, Outcome, SolveFault, Why};
 use crate::reserve::Reserve;
 use crate::search::{Search, limit};
@@ -108,12 +110,50 @@ fn concluded(
         room,
         tasks,
         best,
+        ..
     } = search;
     let limit = limit(instance, &best);
     let (closed, low) = close_all(alloc, instance, tasks, limit)?;
     let pieces = all_of(worked, closed)?;
     let cert = certified(room, pieces, low)?;
     Ok(answer(why, best, limit, low, cert))
+}
+
+/// Works what workers left of a tree, and tells what it shows.
+fn worked_out(
+    alloc: Global,
+    instance: &Instance,
+    options: Options,
+    search: Search,
+    reserve: Reserve,
+) -> Result<Outcome, SolveFault>
+    requires searching { IsSearching instance.now search.pieces.items search.tasks.items search.best }
+    requires within { length search.pieces.items ≤ options.budget }
+    ensures answer { IfOk result (IsOutcome instance.now options) }
+    ensures shows { IfOk result (Shows instance.now) }
+    ensures err { IfErr result (λ e. e ≡ fault.Memory) }
+{
+    let _nodes = instance.nodes();
+    let mut search = search;
+    let why = search.go(alloc, instance, options.budget);
+    reserve.give_back();
+    let outcome = concluded(alloc, instance, options, search, why)?;
+    Ok(leaner(alloc, instance, outcome))
+}
+
+/// What a tree shows whose bound is the delay that had to be beaten.
+fn settled(instance: &Instance, options: Options, best: Option<(Plan, u64)>, cert: Cert) -> Outcome
+    requires found { IsFound instance.now best }
+    requires proves { Proves instance.now cert }
+    requires low { cert.low ≡ limit_of instance.now best }
+    requires within { branches cert.tree ≤ options.budget }
+    ensures { IsOutcome instance.now options result }
+{
+    let _nodes = instance.nodes();
+    match best {
+        Some((plan, delay)) => Outcome::Optimal { plan, delay, cert },
+        None => Outcome::Infeasible { cert },
+    }
 }
 
 /// Searches for the shortest plan of an instance, as `solve` does, and calls a gate as workers go on: `start` once for each,
@@ -132,11 +172,11 @@ pub fn solve_with<R: Threads + Wait, G: Gate + Sync>(
     let _nodes = instance.nodes();
     let reserve = Reserve::begin(alloc)?;
     let first = first_plan(alloc, instance, options.budget)?;
-    let mut search = searched::<Brand, G, R>(rt, alloc, instance, options, first, gate)?;
-    let why = search.go(alloc, instance, options.budget);
-    reserve.give_back();
-    let outcome = concluded(alloc, instance, options, search, why)?;
-    Ok(leaner(alloc, instance, outcome))
+    let search = searched::<Brand, G, R>(rt, alloc, instance, options, first, gate)?;
+    match lean_proof(alloc, instance, &search) {
+        Some(cert) => Ok(settled(instance, options, search.best, cert)),
+        None => worked_out(alloc, instance, options, search, reserve),
+    }
 }
 
 /// Searches for the shortest plan of an instance, by workers in threads of their own: works at most `budget` subtrees, what the

@@ -23,7 +23,7 @@ goals_begin : (watch : Watch) → AreGoals watch watch []
 goals_begin watch = record { falls = tt; below = All-nil (IsBelowView watch); reached = All-nil (IsReached watch) }
 
 module _ {J : Type 0} (i : Instance) where
-  account_begins : (hand : Hand J) → HasAccount i hand hand [] Nothing
+  account_begins : (hand : Hand J) → HasAccount i hand hand [] [] Nothing
   account_begins hand = record {
     turns = [];
     each = All-nil (IsTurn i);
@@ -37,11 +37,11 @@ module _ {J : Type 0} (i : Instance) where
     others_of = All-nil (IsTask i);
   }
 
-  pub begins : (run : Run J) → run.pieces.items ≡ [] → run.best ≡ None → IsRun i run.hand run.watch run Nothing
-  begins run none no_best = record {
+  pub begins : (run : Run J) → run.pieces.items ≡ [] → run.spared.items ≡ [] → run.best ≡ None → IsRun i run.hand run.watch run Nothing
+  begins run none all_needed no_best = record {
     same = record { number = refl; own = refl; deques = refl; out = refl };
     follows = record { same = record { table = refl; place = refl; opening = refl; out = refl }; sees = λ x h. h; offered = λ x h. h };
-    account = subst (λ (l : List Piece). HasAccount i run.hand run.hand l Nothing) (sym none) (account_begins run.hand);
+    account = rw none (rw all_needed (account_begins run.hand));
     goals = subst (λ (l : List Piece). AreGoals run.watch run.watch (goals_of l)) (sym none) (goals_begin run.watch);
     best = record {
       made = [];

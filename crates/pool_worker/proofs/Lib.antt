@@ -2,3 +2,4 @@ pub mod Children
 pub mod Watches
 pub mod Turns
 pub mod Begun
+pub mod Pushes

@@ -1,10 +1,10 @@
 -- What a turn adds to a run's account, its goals and its offers.
-use Rattle.std.proofs.Common.{◌≡◌, ℕ, ◌≤◌, List, [], ◌∷◌, ◌++◌, length, get_or, All, Contains, Some, inl, inr, ⊎_elim, refl, sym, ap, ◌∙◌, subst, append_assoc, arith}
+use Rattle.std.proofs.Common.{◌≡◌, ℕ, ◌≤◌, List, [], ◌∷◌, ◌++◌, get_or, All, Contains, Some, inl, inr, ⊎_elim, refl, sym, ap, ◌∙◌, subst, append_assoc, arith}
 use Rattle.std.specs.Prelude.{IsPermutation}
 use Rattle.std.proofs.lemmas.List.{append-nil, map-append}
 use Rattle.std.proofs.lemmas.Grind.{flat_map-append}
 use Rattle.std.proofs.lemmas.List.Elements.{All-nil, All-push, All-append, All-weaker, All-contains, All-head, All-tail, All-contains_itself, Contains-append_right}
-use Rattle.std.proofs.lemmas.List.Sorted.{IsPermutation-trans, IsPermutation-cons, IsPermutation-append_left, IsPermutation-append_comm}
+use Rattle.std.proofs.lemmas.List.Sorted.{IsPermutation-trans, IsPermutation-cons, IsPermutation-append, IsPermutation-append_left, IsPermutation-append_right, IsPermutation-append_comm}
 use Rattle.ttp_model.specs.Instance.{Instance}
 use Rattle.certificate.specs.declared.node.Node.{Node}
 use Rattle.certificate.specs.declared.node.Node.TheVariants as node
@@ -16,26 +16,16 @@ use Rattle.steal_pool.specs.declared.hand.Hand.{Hand}
 use Rattle.steal_pool.specs.Hand.{pushed, taken, IsSameHand}
 use Rattle.steal_pool.proofs.Orders.{then_same, first_same}
 use Rattle.pool_worker.specs.declared.report.Rest.{Rest}
-use Rattle.pool_worker.specs.declared.report.Rest.TheVariants.{Nothing, One}
+use Rattle.pool_worker.specs.declared.report.Rest.TheVariants.{Nothing}
 use Rattle.pool_worker.specs.declared.run.Run.{Run}
 use Rattle.pool_worker.specs.Tasks.{Turn, IsTurn, tasks_of, all_born, born}
 use Rattle.pool_worker.specs.Goals.{goals_at, goals_of, AreGoals, Follows, IsReached, NeverRise}
 use Rattle.pool_worker.specs.Best.{IsFoundDelay, IsBestOf, OffersBest}
 use Rattle.pool_worker.specs.Report.{HasAccount, held, unpushed}
-use Rattle.pool_worker.specs.Run.{KeepsBest, FindsBest}
+use Rattle.pool_worker.specs.Run.{KeepsBest, FindsBest, Pushes}
 
 pub same_hand_still : {J : Type 0} (a b c : Hand J) → IsSameHand a b → IsSameHand b c → IsSameHand a c
 same_hand_still a b c h k = record { number = k.number ∙ h.number; own = k.own ∙ h.own; deques = k.deques ∙ h.deques; out = k.out ∙ h.out }
-
--- what a list has in front of the rest of another
-pub beyond : {X : Type 0} (b a x y : List X) → a ++ x ≡ b ++ y → length b ≤ length a → (g : List X) × (a ≡ b ++ g) × (y ≡ g ++ x)
-beyond [] a x y e le = (a, refl, sym e)
-beyond (c ∷ b) [] x y e le = absurd (omega arith)
-beyond (c ∷ b) (d ∷ a) x y e le =
-    let first : d ≡ c = cc in
-    let others : a ++ x ≡ b ++ y = cc in
-    let r = beyond b a x y others (omega arith) in
-    (r.0, (λ j. first j ∷ r.1 j), r.2)
 
 -- one more at the end
 pub taken_more : {X : Type 0} (t : X) (new old begun took : List X) → IsPermutation new (t ∷ old) → IsPermutation old (begun ++ took) → IsPermutation new (begun ++ (took ++ t ∷ []))
@@ -44,10 +34,10 @@ taken_more t new old begun took h k =
     (then_same _ _ _ (IsPermutation-append_comm (t ∷ []) (begun ++ took)) (append_assoc begun took (t ∷ []))))
 
 module _ {J : Type 0} (i : Instance) (begun : Hand J) where
-  -- a task was taken
-  pub account_takes : (old new : Hand J) (pieces : List Piece) (t : Task) → IsPermutation (taken new) (t ∷ taken old) → pushed new ≡ pushed old → IsTask i t
-      → HasAccount i begun old pieces Nothing → HasAccount i begun new pieces (One t)
-  account_takes old new pieces t more same is a = record {
+  -- a task was taken, and left or kept in hand
+  pub account_leaves : (old new : Hand J) (pieces : List Piece) (t : Task) (spared after : List Task) (rest : Rest) → IsPermutation (taken new) (t ∷ taken old) → pushed new ≡ pushed old → IsTask i t
+      → held after rest ≡ spared ++ t ∷ [] → unpushed rest ≡ [] → HasAccount i begun old pieces spared Nothing → HasAccount i begun new pieces after rest
+  account_leaves old new pieces t spared after rest more same is held_is none a = record {
     turns = a.turns;
     each = a.each;
     pieces = a.pieces;
@@ -56,36 +46,39 @@ module _ {J : Type 0} (i : Instance) (begun : Hand J) where
     gave = a.gave;
     pushes = same ∙ a.pushes;
     account = record {
-      took = IsPermutation-append_left (t ∷ []) a.took (tasks_of a.turns) (then_same _ _ _ a.account.took (append-nil (tasks_of a.turns)));
-      gave = a.account.gave;
+      took = then_same _ _ _ (IsPermutation-append_left (t ∷ []) a.took (tasks_of a.turns ++ spared) a.account.took)
+          (append_assoc (tasks_of a.turns) spared (t ∷ []) ∙ ap (λ (l : List Task). tasks_of a.turns ++ l) (sym held_is));
+      gave = then_same _ _ _ a.account.gave (ap (λ (l : List Task). a.gave ++ l) (sym none));
     };
-    one_of = All-push (IsTask i) [] t (All-nil (IsTask i)) is;
-    others_of = All-nil (IsTask i);
+    one_of = subst (All (IsTask i)) (sym held_is) (All-push (IsTask i) spared t a.one_of is);
+    others_of = subst (All (IsTask i)) (sym none) (All-nil (IsTask i));
   }
 
   -- and worked; what its branch gave was pushed, or is left
-  pub account_works : (old mid new : Hand J) (pieces : List Piece) (turn : Turn) (rest : Rest) → held rest ≡ [] → IsPermutation (taken mid) (turn.task ∷ taken old) → pushed mid ≡ pushed old
-      → taken new ≡ taken mid → pushed new ++ unpushed rest ≡ pushed mid ++ born i turn → length (pushed mid) ≤ length (pushed new) → IsTurn i turn → All (IsTask i) (unpushed rest)
-      → HasAccount i begun old pieces Nothing → HasAccount i begun new (pieces ++ turn.piece ∷ []) rest
-  account_works old mid new pieces turn rest none more same still gives further is left a =
-      let g = beyond (pushed mid) (pushed new) (unpushed rest) (born i turn) gives further in
+  pub account_works : (old mid new : Hand J) (pieces : List Piece) (turn : Turn) (spared : List Task) (rest : Rest) → held spared rest ≡ spared → IsPermutation (taken mid) (turn.task ∷ taken old) → pushed mid ≡ pushed old
+      → taken new ≡ taken mid → Pushes (pushed mid) (pushed new) (born i turn) (unpushed rest) → IsTurn i turn → All (IsTask i) (unpushed rest)
+      → HasAccount i begun old pieces spared Nothing → HasAccount i begun new (pieces ++ turn.piece ∷ []) spared rest
+  account_works old mid new pieces turn spared rest none more same still p is left a =
+      let one = turn.task ∷ [] in
       let tasks = map-append (λ (t : Turn). t.task) a.turns (turn ∷ []) in
       let grown = flat_map-append (born i) a.turns (turn ∷ []) ∙ ap (λ (l : List Task). all_born i a.turns ++ l) (append-nil (born i turn)) in
+      let behind = then_same _ _ _ (IsPermutation-append_left one a.took (tasks_of a.turns ++ spared) a.account.took) (append_assoc (tasks_of a.turns) spared one) in
+      let turned = IsPermutation-append_right (tasks_of a.turns) _ _ (IsPermutation-append_comm spared one) in
+      let gave = then_same _ _ _ a.account.gave (append-nil a.gave) in
       record {
         turns = a.turns ++ turn ∷ [];
         each = All-push (IsTurn i) a.turns turn a.each is;
         pieces = map-append (λ (t : Turn). t.piece) a.turns (turn ∷ []) ∙ ap (λ (l : List Piece). l ++ turn.piece ∷ []) a.pieces;
-        took = a.took ++ turn.task ∷ [];
+        took = a.took ++ one;
         takes = first_same _ _ _ still (taken_more turn.task (taken mid) (taken old) (taken begun) a.took more a.takes);
-        gave = a.gave ++ g.0;
-        pushes = g.1 ∙ (ap (λ (l : List Task). l ++ g.0) (same ∙ a.pushes) ∙ append_assoc (pushed begun) a.gave g.0);
+        gave = a.gave ++ p.gave;
+        pushes = p.pushes ∙ (ap (λ (l : List Task). l ++ p.gave) (same ∙ a.pushes) ∙ append_assoc (pushed begun) a.gave p.gave);
         account = record {
-          took = then_same _ _ _ (IsPermutation-append_left (turn.task ∷ []) a.took (tasks_of a.turns) (then_same _ _ _ a.account.took (append-nil (tasks_of a.turns))))
-              (sym tasks ∙ (sym (append-nil (tasks_of (a.turns ++ turn ∷ []))) ∙ ap (λ (l : List Task). tasks_of (a.turns ++ turn ∷ []) ++ l) (sym none)));
-          gave = first_same _ _ _ grown (then_same _ _ _ (IsPermutation-append_left (born i turn) (all_born i a.turns) a.gave (then_same _ _ _ a.account.gave (append-nil a.gave)))
-              (ap (λ (l : List Task). a.gave ++ l) g.2 ∙ sym (append_assoc a.gave g.0 (unpushed rest))));
+          took = then_same _ _ _ (IsPermutation-trans _ _ _ behind turned)
+              (sym (append_assoc (tasks_of a.turns) one spared) ∙ (ap (λ (l : List Task). l ++ spared) (sym tasks) ∙ ap (λ (l : List Task). tasks_of (a.turns ++ turn ∷ []) ++ l) (sym none)));
+          gave = first_same _ _ _ grown (then_same _ _ _ (IsPermutation-append (all_born i a.turns) a.gave (born i turn) (p.gave ++ unpushed rest) gave p.all) (sym (append_assoc a.gave p.gave (unpushed rest))));
         };
-        one_of = subst (All (IsTask i)) (sym none) (All-nil (IsTask i));
+        one_of = subst (All (IsTask i)) (sym none) a.one_of;
         others_of = left;
       }
 

@@ -1,5 +1,5 @@
 -- A run of a worker between two turns, and what a turn changes. Only private contracts ask for it.
-use Rattle.std.specs.Prelude.{◌≡◌, ℕ, ◌≤◌, ◌⊎◌, List, [], ◌∷◌, ◌++◌, length, All, Some}
+use Rattle.std.specs.Prelude.{◌≡◌, ◌≢◌, ℕ, ◌≤◌, ◌⊎◌, List, [], ◌∷◌, ◌++◌, All, Some, IsPermutation}
 use Rattle.ttp_model.specs.declared.plan.Plan.{Plan}
 use Rattle.ttp_model.specs.Instance.{Instance}
 use Rattle.branch_tree.specs.Task.{Task, IsTask}
@@ -11,17 +11,17 @@ use Rattle.pool_worker.specs.declared.report.Rest.{Rest}
 use Rattle.pool_worker.specs.declared.report.Rest.TheVariants as hold
 use Rattle.pool_worker.specs.declared.run.Run.{Run}
 use Rattle.pool_worker.specs.declared.run.Sweep.{Sweep}
-use Rattle.pool_worker.specs.declared.run.Sweep.TheVariants.{Idle, Worked, Ended}
+use Rattle.pool_worker.specs.declared.run.Sweep.TheVariants.{Idle, Worked, Spared, Ended}
 use Rattle.pool_worker.specs.Tasks.{Turn, IsTurn, born}
 use Rattle.pool_worker.specs.Goals.{goals_at, goals_of, AreGoals, Follows, IsReached}
 use Rattle.pool_worker.specs.Best.{IsPlanFound, OffersBest}
-use Rattle.pool_worker.specs.Report.{HasAccount}
+use Rattle.pool_worker.specs.Report.{HasAccount, held, unpushed}
 
 -- a run that began with this hand and this watch, and has this in hand
 pub record IsRun {J : Type 0} (i : Instance) (hand : Hand J) (watch : Watch) (run : Run J) (rest : Rest) : Type 0 where
   pub same : IsSameHand hand run.hand
   pub follows : Follows watch run.watch
-  pub account : HasAccount i hand run.hand run.pieces.items rest
+  pub account : HasAccount i hand run.hand run.pieces.items run.spared.items rest
   pub goals : AreGoals watch run.watch (goals_of run.pieces.items)
   pub best : OffersBest i watch run.watch run.best
 
@@ -39,13 +39,19 @@ pub record FindsBest {J : Type 0} (i : Instance) (old new : Run J) : Type 0 wher
   pub offered : offers new.watch ≡ offers old.watch ++ ticks ∷ []
   pub least : All (λ value. ticks ≤ value) (offers old.watch)
 
+-- of tasks some were pushed behind those that were before, and the others are left
+pub record Pushes (before after tasks left : List Task) : Type 0 where
+  pub gave : List Task
+  pub pushes : after ≡ before ++ gave
+  pub all : IsPermutation tasks (gave ++ left)
+
 -- a turn worked a task, which became this piece; these children are still to be pushed
 pub record Works {J : Type 0} (i : Instance) (old new : Run J) (turn : Turn) (rest : List Task) : Type 0 where
   pub same : IsSameHand old.hand new.hand
   pub takes : taken new.hand ≡ taken old.hand
-  pub pushes : pushed new.hand ++ rest ≡ pushed old.hand ++ born i turn
-  pub more : length (pushed old.hand) ≤ length (pushed new.hand)
+  pub pushes : Pushes (pushed old.hand) (pushed new.hand) (born i turn) rest
   pub pieces : new.pieces.items ≡ old.pieces.items
+  pub spared : new.spared.items ≡ old.spared.items
   pub right : IsTurn i turn
   pub left : All (IsTask i) rest
   pub follows : Follows old.watch new.watch
@@ -59,6 +65,7 @@ pub record Refuses {J : Type 0} (old new : Run J) : Type 0 where
   pub takes : taken new.hand ≡ taken old.hand
   pub pushes : pushed new.hand ≡ pushed old.hand
   pub pieces : new.pieces.items ≡ old.pieces.items
+  pub spared : new.spared.items ≡ old.spared.items
   pub follows : Follows old.watch new.watch
   pub best : KeepsBest old new
 
@@ -66,7 +73,18 @@ pub record Refuses {J : Type 0} (old new : Run J) : Type 0 where
 abbrev pub rest_after : Sweep → Rest
 rest_after Idle = hold.Nothing
 rest_after Worked = hold.Nothing
+rest_after Spared = hold.Nothing
 rest_after (Ended rest) = rest
+
+-- a task was left, or is still in hand
+pub record Spares {J : Type 0} (task : Task) (old new : Run J) (sweep : Sweep) : Type 0 where
+  pub hand : new.hand ≡ old.hand
+  pub watch : new.watch ≡ old.watch
+  pub pieces : new.pieces.items ≡ old.pieces.items
+  pub best : new.best ≡ old.best
+  pub left : held new.spared.items (rest_after sweep) ≡ old.spared.items ++ task ∷ []
+  pub others : unpushed (rest_after sweep) ≡ []
+  pub unworked : sweep ≢ Worked
 
 -- however the run began, it goes on
 abbrev pub GoesOn : {J : Type 0} → Instance → Run J → Run J → Rest → Type 0

@@ -1,12 +1,12 @@
 //! What does a worker do in one turn?
 
-ghost use Rattle.std.specs.Prelude.{◌≡◌, ◌≢◌, ◌<◌, ◌≤◌, ◌+◌, ◌++◌, All, IfOk, OnOk, IfErr, length, vec_len, vec_capacity};
+ghost use Rattle.std.specs.Prelude.{◌≡◌, ◌≢◌, ◌<◌, ◌≤◌, ◌+◌, ◌++◌, All, IfOk, OnOk, IfErr, IsPermutation, length, vec_len, vec_capacity};
 ghost use Rattle.branch_tree.specs.Task.{IsTask};
 ghost use Rattle.branch_tree.specs.Workbench.{IsWorkbenchOf};
 ghost use Rattle.incumbent.specs.Watch.{IsOther};
 ghost use Rattle.steal_pool.specs.Hand.{pushed, taken, IsSameHand};
 ghost use Rattle.pool_worker.specs.declared.run.Sweep.TheVariants as sweep;
-ghost use Rattle.pool_worker.specs.Run.{GoesOn, Refuses, Works, rest_after};
+ghost use Rattle.pool_worker.specs.Run.{GoesOn, Pushes, Refuses, Spares, Works, rest_after};
 
 use crate::gate::Gate;
 use crate::report::Rest;
@@ -15,18 +15,20 @@ use certificate::{Branch, Node};
 use incumbent::{Incumbent, Watch};
 use std::alloc::Global;
 use steal_pool::{Hand, Searched};
-use ttp_model::{Instance, MemoryFault, Plan};
+use ttp_model::{Instance, Kind, MemoryFault, Plan};
+use used_decisions::Needs;
 
 /// For how many pieces there is room beside those that are made, at least: the leaves that close what is open in the end.
 const AHEAD: usize = 4096;
 
-/// A worker between two turns: its hand and its watch, what became of the tasks that it worked, room for a certificate's
-/// nodes, and the best plan that it found.
+/// A worker between two turns: its hand and its watch, what became of the tasks that it worked, those that it left since they
+/// aren't needed, room for a certificate's nodes, and the best plan that it found.
 #[derive(Drop)]
 pub struct Run<J: Searched> {
     pub hand: Hand<J>,
     pub watch: Watch,
     pub pieces: Vec<Piece>,
+    pub spared: Vec<Task>,
     pub room: Vec<Node>,
     /// How many workers there are.
     pub workers: usize,
@@ -39,28 +41,41 @@ pub enum Sweep {
     /// No task was found.
     Idle,
     Worked,
+    /// A task was taken that needn't be worked.
+    Spared,
     /// Memory was refused.
     Ended(Rest),
 }
 
-/// Pushes tasks, in order. Where memory is refused, those that are left come back.
-fn push_all<J: Searched>(hand: &mut Hand<J>, mut tasks: Vec<Task>) -> Vec<Task>
+/// The children of a branch in the order in which they are pushed, the last first. The child that decides least is worked first, as it is most
+/// likely to do without its decision: the least capacity, the order in which two processes can start sooner, the earlier
+/// rounds. No place is more so than another one, and the last is worked first.
+fn in_turn(kind: Kind, tasks: Vec<Task>) -> Vec<Task>
+    ensures { IsPermutation tasks.items result.items }
+{
+    let mut tasks = tasks;
+    if let Kind::Place = kind {
+        tasks.reverse();
+    }
+    tasks
+}
+
+/// Pushes the children of a branch. Where memory is refused, those that are left come back.
+fn push_all<J: Searched>(hand: &mut Hand<J>, kind: Kind, tasks: Vec<Task>) -> Vec<Task>
     requires { All (IsTask J.instance) tasks.items }
     ensures same { IsSameHand hand.old hand.new }
     ensures taken { taken hand.new ≡ taken hand.old }
-    ensures pushed { pushed hand.new ++ result.items ≡ pushed hand.old ++ tasks.items }
-    ensures more { length (pushed hand.old) ≤ length (pushed hand.new) }
+    ensures pushes { Pushes (pushed hand.old) (pushed hand.new) tasks.items result.items }
     ensures left { All (IsTask J.instance) result.items }
 {
-    tasks.reverse();
-    while let Some(task) = tasks.pop() {
+    let mut left = in_turn(kind, tasks);
+    while let Some(task) = left.pop() {
         if let Err((task, _)) = hand.push(task) {
-            tasks.push_reserved(task);
+            left.push_reserved(task);
             break;
         }
     }
-    tasks.reverse();
-    tasks
+    left
 }
 
 /// Asks for room for so many in a list: where there is less, for an eighth more.
@@ -101,6 +116,7 @@ impl<J: Searched> Run<J> {
         alloc: Global,
         instance: &'a Instance,
         bench: &mut Workbench<'a>,
+        needs: &mut Needs<'a>,
         word: &Incumbent,
         task: Task,
     ) -> Result<(Piece, Vec<Task>), Task>
@@ -121,19 +137,23 @@ impl<J: Searched> Run<J> {
         let Ok(name) = task.name().copy(alloc) else {
             return Err(task);
         };
+        needs.begin(alloc, instance, name.as_slice(), task.decisions());
         match work_on(alloc, instance, bench, task, goal) {
             Ok(Worked::Split(kind, tasks)) => {
                 let node = Node::Branch(Branch::new(kind, tasks.len() as u32));
-                let left = push_all(&mut self.hand, tasks);
+                needs.split(alloc, kind, node.children());
+                let left = push_all(&mut self.hand, kind, tasks);
                 Ok((Piece { name, node }, left))
             }
             Ok(Worked::Closed(leaf)) => {
+                needs.close(alloc, &leaf);
                 let node = Node::Leaf(leaf);
                 Ok((Piece { name, node }, Vec::new(alloc)))
             }
             Ok(Worked::Found(plan, delay, leaf)) => {
                 word.offer(&mut self.watch, delay as u32);
                 self.best = Some((plan, delay));
+                needs.close(alloc, &leaf);
                 let node = Node::Leaf(leaf);
                 Ok((Piece { name, node }, Vec::new(alloc)))
             }
@@ -141,12 +161,26 @@ impl<J: Searched> Run<J> {
         }
     }
 
-    /// Takes a task, where one is found, and works it.
+    /// Leaves a task that needn't be worked; where memory is refused, it is in hand.
+    fn spare(&mut self, task: Task) -> Sweep
+        requires { IsTask J.instance task }
+        ensures { Spares task self.old self.new result }
+    {
+        if self.spared.reserve(1).is_err() {
+            let rest = Rest::One(task);
+            return Sweep::Ended(rest);
+        }
+        self.spared.push_reserved(task);
+        Sweep::Spared
+    }
+
+    /// Takes a task, where one is found, and works it, if that is needed.
     pub fn turn<'a, G: Gate>(
         &mut self,
         alloc: Global,
         instance: &'a Instance,
         bench: &mut Workbench<'a>,
+        needs: &mut Needs<'a>,
         word: &Incumbent,
         gate: &G,
     ) -> Sweep
@@ -156,6 +190,7 @@ impl<J: Searched> Run<J> {
         ensures goes_on { GoesOn instance.now self.old self.new (rest_after result) }
         ensures watch { IsOther word.now self.new.watch }
         ensures idle { result ≡ sweep.Idle → vec_len self.new.pieces ≡ vec_len self.old.pieces }
+        ensures spared { result ≡ sweep.Spared → vec_len self.new.pieces ≡ vec_len self.old.pieces }
         ensures worked { result ≡ sweep.Worked → vec_len self.new.pieces ≡ vec_len self.old.pieces + 1 }
         ensures most { vec_len self.new.pieces ≤ vec_len self.old.pieces + 1 }
         ensures bench { IsWorkbenchOf instance.now bench.new }
@@ -165,7 +200,11 @@ impl<J: Searched> Run<J> {
         };
         let worker = self.hand.number();
         gate.enter(worker, task.name());
-        match self.make(alloc, instance, bench, word, task) {
+        if needs.are_met_without(task.name().as_slice()) {
+            gate.leave(worker, task.name());
+            return self.spare(task);
+        }
+        match self.make(alloc, instance, bench, needs, word, task) {
             Ok((piece, left)) => {
                 gate.leave(worker, &piece.name);
                 self.pieces.push_reserved(piece);

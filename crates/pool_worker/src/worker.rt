@@ -17,9 +17,13 @@ use incumbent::{Incumbent, Watch};
 use std::alloc::Global;
 use steal_pool::{Hand, Searched};
 use ttp_model::Instance;
+use used_decisions::Needs;
 
 /// How many sweeps one after another find no task before a worker ends.
 const SWEEPS: u64 = 1000;
+
+/// How many tasks a worker leaves at most since the last one that it worked: far more than stand side by side above one leaf.
+const MOST_SPARED: u64 = 1_000_000;
 
 /// How often a worker spins between two of them: in all some ten milliseconds, longer than the first subtree takes, so
 /// that no worker ends before there are tasks for all. It doesn't give the processor up, since on a busy machine each
@@ -41,6 +45,7 @@ impl<J: Searched> Run<J> {
         ensures pieces { result.pieces ≡ self.pieces }
         ensures best { result.best ≡ self.best }
         ensures rest { result.rest ≡ rest }
+        ensures spared { result.spared ≡ self.spared }
         ensures worked { result.worked ≡ worked }
         ensures ending { result.ending ≡ ending }
     {
@@ -51,6 +56,7 @@ impl<J: Searched> Run<J> {
             room: self.room,
             best: self.best,
             rest,
+            spared: self.spared,
             worked,
             ending,
         }
@@ -58,7 +64,8 @@ impl<J: Searched> Run<J> {
 }
 
 /// Takes tasks of a pool and works them, each at the best delay that is known by then, until `budget` of them are worked,
-/// memory is refused, or none was found for long. It never waits for another worker. Where memory is refused, the lists that
+/// memory is refused, or none was found for long. A task that stands below a branch which another child was seen to prove is left.
+/// It never waits for another worker. Where memory is refused, the lists that
 /// it reports have room for what so many workers come to that make no more than it did.
 pub fn run_worker<J: Searched, G: Gate>(
     alloc: Global,
@@ -74,7 +81,7 @@ pub fn run_worker<J: Searched, G: Gate>(
     requires watch { IsOther word.now watch }
     ensures hand { IsSameHand hand result.hand }
     ensures watch { IsSameWatch watch result.watch }
-    ensures account { HasAccount instance.now hand result.hand result.pieces.items result.rest }
+    ensures account { HasAccount instance.now hand result.hand result.pieces.items result.spared.items result.rest }
     ensures goals { AreGoals watch result.watch (goals_of result.pieces.items) }
     ensures best { OffersBest instance.now watch result.watch result.best }
     ensures worked { result.worked ≡ vec_len result.pieces }
@@ -86,15 +93,17 @@ pub fn run_worker<J: Searched, G: Gate>(
         hand,
         watch,
         pieces: Vec::new(alloc),
+        spared: Vec::new(alloc),
         room: Vec::new(alloc),
         workers,
         best: None,
     };
     let mut bench = Workbench::new();
-    let (mut worked, mut idle) = (0, 0);
+    let mut needs = Needs::new();
+    let (mut worked, mut idle, mut spared) = (0, 0, 0);
     let backoff = Backoff::new();
-    while worked < budget && idle < SWEEPS {
-        match run.turn(alloc, instance, &mut bench, word, gate) {
+    while worked < budget && idle < SWEEPS && spared < MOST_SPARED {
+        match run.turn(alloc, instance, &mut bench, &mut needs, word, gate) {
             Sweep::Idle => {
                 idle += 1;
                 wait(&backoff);
@@ -102,8 +111,10 @@ pub fn run_worker<J: Searched, G: Gate>(
             Sweep::Worked => {
                 worked += 1;
                 idle = 0;
+                spared = 0;
                 backoff.reset();
             }
+            Sweep::Spared => spared += 1,
             Sweep::Ended(rest) => {
                 let worked = run.pieces.len() as u64;
                 return run.report(rest, worked, Ending::Memory);

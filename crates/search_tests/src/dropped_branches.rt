@@ -2,7 +2,7 @@
 
 use cert_check::check;
 use certificate::{print, read};
-use dropped_decisions::without_unused;
+use dropped_decisions::{Standing, proof_of, without_unused};
 use std::alloc::Global;
 use std::test::Fail;
 use ttp_model::Instance;
@@ -58,6 +58,58 @@ const ROWS: &[(&str, &str)] = &[
 fn branches_that_no_step_uses_go(rt: HostRuntime) -> Result<(), Fail> {
     for (text, other) in ROWS {
         assert!(rt; leaves(rt.alloc(), text, other)?, "{text}");
+    }
+    Ok(())
+}
+
+/// The names of a branch and of its two children.
+const NAMES: [&[u32]; 3] = [&[], &[0], &[1]];
+
+/// What proves the bound of a certificate's text, where the node at this place was left.
+fn proof_without(alloc: Global, text: &str, place: usize) -> Result<Option<Vec<u8>>, Fail> {
+    let i = one_message(alloc, PLAIN)?;
+    let cert = read(alloc, text.as_bytes())?;
+    let nodes = cert.nodes();
+    let mut standing = Vec::new(alloc);
+    for k in 0..nodes.len().min(NAMES.len()) {
+        let node = if k == place { None } else { Some(&nodes[k]) };
+        standing.push(Standing {
+            name: NAMES[k],
+            node,
+        })?;
+    }
+    match proof_of(alloc, &i, cert.low(), standing, 1)? {
+        Some(proof) => Ok(Some(print(alloc, &proof)?)),
+        None => Ok(None),
+    }
+}
+
+/// Whether this proves the bound of a text whose node at a place was left.
+fn proves(alloc: Global, text: &str, place: usize, other: Option<&str>) -> Result<bool, Fail> {
+    Ok(match (proof_without(alloc, text, place)?, other) {
+        (Some(proof), Some(other)) => proof.as_slice() == other.as_bytes(),
+        (None, None) => true,
+        _ => false,
+    })
+}
+
+/// Certificates, which node of theirs was left, and what proves the bound.
+const LEFT: &[(&str, usize, Option<&str>)] = &[
+    (TWO_RANGES, 1, Some(ONE_LEAF)),
+    (TWO_RANGES, 2, Some(ONE_LEAF)),
+    (SENT_EARLY, 1, None),
+    (SENT_EARLY, 2, Some(ONE_LEAF)),
+    (TWO_ORDERS, 1, None),
+    (ONE_LEAF, 0, None),
+];
+
+#[test]
+fn subtrees_that_were_left_are_missed_where_they_are_needed(rt: HostRuntime) -> Result<(), Fail> {
+    for (text, place, other) in LEFT {
+        assert!(rt;
+            proves(rt.alloc(), text, *place, *other)?,
+            "{text} without {place}"
+        );
     }
     Ok(())
 }

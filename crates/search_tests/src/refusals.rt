@@ -73,13 +73,13 @@ fn held(rest: &Rest) -> u64 {
     }
 }
 
-/// Whether what a lone worker did, had in hand and left is the root and all children of its branches, and only want of
+/// Whether what a lone worker did, spared, had in hand and left is the root and all children of its branches, and only want of
 /// memory left any.
 fn accounts_for_all<J: Searched>(report: Report<J>) -> bool {
     let mut hand = report.hand;
     let open = held(&report.rest).saturating_add(left(&mut hand));
     let pieces = report.pieces.as_slice();
-    let all = (pieces.len() as u64).saturating_add(open);
+    let all = ((pieces.len() + report.spared.len()) as u64).saturating_add(open);
     all == children(pieces).saturating_add(1) && (open == 0 || report.ending == Ending::Memory)
 }
 

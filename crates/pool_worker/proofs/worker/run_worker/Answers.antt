@@ -9,9 +9,9 @@ use Rattle.pool_worker.proofs.worker.run_worker.Goals as goal
 
 pub loop-worked-init : goal.loop-worked-init
 loop-worked-init g c =
-    let run : Run g.row.J.Denot = record { hand = c.args.hand; watch = c.args.watch; pieces = c.new.result; room = c.new-2.result; workers = c.args.workers; best = None } in
+    let run : Run g.row.J.Denot = record { hand = c.args.hand; watch = c.args.watch; pieces = c.new.result; spared = c.new-2.result; room = c.new-3.result; workers = c.args.workers; best = None } in
     record {
-      run = begins c.args.instance.now run c.new.ensures.items refl;
+      run = begins c.args.instance.now run c.new.ensures.items c.new-2.ensures.items refl;
       watch = c.requires.watch;
       bench = search rules;
       count = search rules;
@@ -29,6 +29,15 @@ loop-worked-preserved-in-Idle g c = record {
 
 pub loop-worked-preserved : goal.loop-worked-preserved
 loop-worked-preserved g c = record {
+  run = c.in-Spared.ensures.goes_on c.args.hand c.args.watch c.loop-worked.invariant.run;
+  watch = c.in-Spared.ensures.watch;
+  bench = c.in-Spared.ensures.bench;
+  count = c.in-Spared.ensures.spared refl ∙ c.loop-worked.invariant.count;
+  within = c.loop-worked.invariant.within;
+}
+
+pub loop-worked-preserved-in-Worked : goal.loop-worked-preserved-in-Worked
+loop-worked-preserved-in-Worked g c = record {
   run = c.in-Worked.ensures.goes_on c.args.hand c.args.watch c.loop-worked.invariant.run;
   watch = c.in-Worked.ensures.watch;
   bench = c.in-Worked.ensures.bench;
@@ -50,7 +59,7 @@ pub returns-in-Ended-clause-account : goal.returns-in-Ended-clause-account
 returns-in-Ended-clause-account g c =
     let i = c.args.instance.now in
     let run = c.in-Ended.ensures.goes_on c.args.hand c.args.watch c.loop-worked.invariant.run in
-    rw c.report.ensures.hand (rw c.report.ensures.pieces (rw c.report.ensures.rest run.account))
+    rw c.report.ensures.hand (rw c.report.ensures.pieces (rw c.report.ensures.spared (rw c.report.ensures.rest run.account)))
 
 pub returns-in-Ended-clause-goals : goal.returns-in-Ended-clause-goals
 returns-in-Ended-clause-goals g c =

@@ -6,7 +6,7 @@ use Rattle.pool_worker.specs.Run.{IsRun}
 use Rattle.pool_worker.proofs.worker.run_worker.Given as goal
 
 abbrev pub decreases-loop-worked : goal.decreases-loop-worked
-decreases-loop-worked g l = (l.budget - l.worked) * 1001 + (1000 - l.idle)
+decreases-loop-worked g l = (l.budget - l.worked) * 1001001 + (1000 - l.idle) + (1000000 - l.spared)
 
 abbrev pub invariant-loop-worked : goal.invariant-loop-worked
 invariant-loop-worked g l = record {

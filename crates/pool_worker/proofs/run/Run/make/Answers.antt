@@ -9,7 +9,9 @@ use Rattle.incumbent.specs.Watch.{offers, IsBelowView}
 use Rattle.steal_pool.specs.Hand.{pushed}
 use Rattle.ttp_model.specs.Instance.{Instance}
 use Rattle.pool_worker.specs.Goals.{IsReached}
+use Rattle.pool_worker.specs.Run.{Pushes}
 use Rattle.pool_worker.proofs.Children.{kids_born, branch_right}
+use Rattle.pool_worker.proofs.Pushes.{none_pushed}
 use Rattle.pool_worker.proofs.Watches.{last, looked, offered, lower, still_below, one, follows_still}
 use Rattle.pool_worker.proofs.run.Run.make.Goals as goal
 
@@ -28,6 +30,7 @@ returns-then-is_err-clause-back g c = (
     takes = refl;
     pushes = refl;
     pieces = c.make_room.ensures.same;
+    spared = refl;
     follows = looked c.args.self.now.watch c.look-goal.new.watch c.look-goal.result c.look-goal.ensures.same c.look-goal.ensures.seen c.look-goal.ensures.offers;
     best = record { offered = c.look-goal.ensures.offers; best = refl };
   },
@@ -41,6 +44,7 @@ returns-in_default-clause-back g c = (
     takes = refl;
     pushes = refl;
     pieces = c.make_room.ensures.same;
+    spared = refl;
     follows = looked c.args.self.now.watch c.look-goal.new.watch c.look-goal.result c.look-goal.ensures.same c.look-goal.ensures.seen c.look-goal.ensures.offers;
     best = record { offered = c.look-goal.ensures.offers; best = refl };
   },
@@ -58,9 +62,9 @@ returns-in-Ok-Split-clause-made g c =
     record {
       same = c.push_all-left.ensures.same;
       takes = c.push_all-left.ensures.taken;
-      pushes = c.push_all-left.ensures.pushed ∙ ap (λ (l : List Task). pushed c.args.self.now.hand ++ l) all;
-      more = c.push_all-left.ensures.more;
+      pushes = subst (λ (l : List Task). Pushes (pushed c.args.self.now.hand) (pushed c.push_all-left.new.hand) l c.push_all-left.result.items) all c.push_all-left.ensures.pushes;
       pieces = c.make_room.ensures.same;
+      spared = refl;
       right = record { of = c.requires.task; name = search rules; right = branch_right i t c.look-goal.result c.in-Ok-Split.kind kids split c.in-Ok.name c.new.result made };
       left = subst (λ (j : Instance). All (IsTask j) c.push_all-left.result.items) (sym c.requires.of) c.push_all-left.ensures.left;
       follows = looked c.args.self.now.watch c.look-goal.new.watch c.look-goal.result c.look-goal.ensures.same c.look-goal.ensures.seen c.look-goal.ensures.offers;
@@ -80,9 +84,9 @@ returns-in-Ok-Closed-clause-made g c =
     record {
       same = record { number = refl; own = refl; deques = refl; out = refl };
       takes = refl;
-      pushes = ap (λ (l : List Task). pushed c.args.self.now.hand ++ l) c.new-in-Ok-Closed.ensures.items;
-      more = omega arith;
+      pushes = subst (Pushes (pushed c.args.self.now.hand) (pushed c.args.self.now.hand) []) (sym c.new-in-Ok-Closed.ensures.items) (none_pushed (pushed c.args.self.now.hand) []);
       pieces = c.make_room.ensures.same;
+      spared = refl;
       right = record { of = c.requires.task; name = search rules; right = closed.closes };
       left = subst (All (IsTask i)) (sym c.new-in-Ok-Closed.ensures.items) (All-nil (IsTask i));
       follows = looked old new c.look-goal.result c.look-goal.ensures.same c.look-goal.ensures.seen c.look-goal.ensures.offers;
@@ -107,9 +111,9 @@ returns-in-Ok-Found-clause-made g c =
     record {
       same = record { number = refl; own = refl; deques = refl; out = refl };
       takes = refl;
-      pushes = ap (λ (l : List Task). pushed c.args.self.now.hand ++ l) c.new-in-Ok-Found.ensures.items;
-      more = omega arith;
+      pushes = subst (Pushes (pushed c.args.self.now.hand) (pushed c.args.self.now.hand) []) (sym c.new-in-Ok-Found.ensures.items) (none_pushed (pushed c.args.self.now.hand) []);
       pieces = c.make_room.ensures.same;
+      spared = refl;
       right = record { of = c.requires.task; name = search rules; right = find.closes };
       left = subst (All (IsTask i)) (sym c.new-in-Ok-Found.ensures.items) (All-nil (IsTask i));
       follows = follows_still old mid new looks offers_one;

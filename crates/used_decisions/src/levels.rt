@@ -21,19 +21,19 @@ impl Levels {
         })
     }
 
+    /// All of so many levels, and maybe more.
+    pub fn all_of(alloc: Global, count: u32) -> Result<Levels, MemoryFault> {
+        let words = count.div_ceil(WORD_LEVELS) as usize;
+        Ok(Levels {
+            words: vec![in alloc; u64::MAX; words]?,
+        })
+    }
+
     /// Puts a level in, where there is room for it.
     pub fn insert(&mut self, level: u32) {
         let word = (level / WORD_LEVELS) as usize;
         if word < self.words.len() {
             self.words[word] |= 1 << (level % WORD_LEVELS);
-        }
-    }
-
-    /// Takes a level out.
-    pub fn remove(&mut self, level: u32) {
-        let word = (level / WORD_LEVELS) as usize;
-        if word < self.words.len() {
-            self.words[word] &= !(1 << (level % WORD_LEVELS));
         }
     }
 

@@ -1,5 +1,6 @@
 //! Which branch of a path decided what?
 
+use crate::levels::Levels;
 use std::alloc::Global;
 use tt_choice::Decision;
 use ttp_model::{Instance, Kind, MemoryFault};
@@ -148,6 +149,17 @@ impl<'a> Path<'a> {
             Decision::AtMost(m, r) => Some(Decision::AtLeast(m, r.saturating_add(1))),
             Decision::AtLeast(_, _) => None,
         }
+    }
+
+    /// What a branch uses with what stands below it: how many children take a place depends on all places above.
+    pub fn used_with(&self, kind: Kind, below: Levels) -> Levels {
+        let mut used = below;
+        if let Kind::Place = kind {
+            for placed in self.order() {
+                used.insert(placed.level);
+            }
+        }
+        used
     }
 
     /// Goes down by a decision of the branch at this level. The bound on rounds that counted before, if it stands in place of

@@ -1,0 +1,15 @@
+//! The decisions that closed subtrees use, and the subtrees that needn't be worked for it.
+#![tactic(auto)]
+
+mod given;
+mod levels;
+mod needs;
+mod path;
+mod reader;
+mod uses;
+mod way;
+
+pub use levels::Levels;
+pub use needs::Needs;
+pub use path::{Cut, Path};
+pub use reader::Reader;
