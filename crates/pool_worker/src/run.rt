@@ -47,9 +47,9 @@ pub enum Sweep {
     Ended(Rest),
 }
 
-/// The children of a branch in the order in which they are pushed, the last first. The child that decides least is worked first, as it is most
-/// likely to do without its decision: the least capacity, the order in which two processes can start sooner, the earlier
-/// rounds. No place is more so than another one, and the last is worked first.
+/// The children of a branch in the order in which they are pushed, the last first. So the first is worked first, which is most likely
+/// to do without its decision: the least capacity, the order of two processes with less slack, the earlier rounds. No place is more
+/// so than another one, and the last is worked first.
 fn in_turn(kind: Kind, tasks: Vec<Task>) -> Vec<Task>
     ensures { IsPermutation tasks.items result.items }
 {

@@ -15,7 +15,7 @@ const TRIED: u32 = 16;
 
 /// The branch on two processes in one of whose orders no plan is left: the first that is found among the tightest pairs of
 /// each node, of which the order with less slack is tried, where one of them can run at other times than when it was tried
-/// last. The order without plans comes last, since a search goes into the last child first.
+/// last. The order without plans comes last.
 pub fn closing_pair(
     alloc: Global,
     instance: &Instance,

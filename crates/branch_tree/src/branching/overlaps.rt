@@ -91,7 +91,7 @@ fn add_overlaps(
 }
 
 /// The branch on two processes, where they are in neither order and overlap. The order that leaves
-/// more slack comes last, since a search goes into the last child first.
+/// more slack comes last.
 ///
 /// Their freedom is the product of both slacks: the square of the lesser biased slack of Smith and
 /// Cheng (AAAI 1993).

@@ -46,7 +46,7 @@ fn unordered_pair(instance: &Instance, choice: &Choice, facts: &Facts) -> Option
 }
 
 /// Process `p` and the first one before it that it is in neither order with. The order of the plan
-/// at hand comes last, since a search goes into the last child first.
+/// at hand comes last.
 fn unordered_with(instance: &Instance, choice: &Choice, facts: &Facts, p: u32) -> Option<Kind>
     requires of { IsChoice instance.now choice.now }
     requires facts { facts.now.instance ≡ instance.now }
