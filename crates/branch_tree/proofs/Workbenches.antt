@@ -1,14 +1,17 @@
 -- How a propagation comes to the decisions of a task, and what it says of the task's choice then.
 use Rattle.std.proofs.Common.{◌≡◌, ℕ, ◌<◌, ◌≤◌, List, length, slice_index_or, take, IsTrue, IsFalse, arith, sym, ap, subst, ◌∙◌}
 use Rattle.std.proofs.lemmas.List.{length-take, length-take-le, take_all}
+use Rattle.ttp_model.specs.declared.step.Leaf.{Leaf}
 use Rattle.ttp_model.specs.Instance.{Instance}
 use Rattle.tt_choice.specs.declared.decision.Decision.{Decision}
 use Rattle.tt_choice.specs.Choice.{Choice}
 use Rattle.tt_choice.specs.Branches.{root_choice}
 use Rattle.tt_choice.specs.Decisions.{IsOpenDecision, AreOpenDecisions, chosen}
 use Rattle.tt_infer.specs.Facts.{Facts}
+use Rattle.tt_infer.specs.Leaves.{ClosesLeaf}
 use Rattle.path_bounds.specs.Propagator.{Propagator, IsPropagation, IsLog}
 use Rattle.branch_tree.specs.Trials.{IsLeft}
+use Rattle.branch_tree.specs.Work.{ClosesAt}
 use Rattle.branch_tree.specs.Workbench.{ComesTo}
 use Rattle.branch_tree.proofs.Chosen.{open_at}
 
@@ -50,3 +53,10 @@ module _ (i : Instance) (goal : ℕ) (ds : List Decision) (p : Propagator) (come
         finds = λ all. here.finds all left;
       } in
       subst (λ (c : Choice). IsLeft i c goal p.current.facts) (sym (ap (λ (s : Facts). s.choice) here.facts)) leaves
+
+  pub closes_at : (leaf : Leaf) → ClosesLeaf p.instance p.current.facts.choice leaf → leaf.goal ≡ p.goal → ClosesAt i (chosen i ds) goal leaf
+  closes_at leaf closes goal_is = record {
+    at = goal_is ∙ comes.at.goal_is;
+    closes = subst (λ (c : Choice). ClosesLeaf i c leaf) (ap (λ (s : Facts). s.choice) here.facts)
+        (subst (λ (j : Instance). ClosesLeaf j p.current.facts.choice leaf) comes.at.instance closes);
+  }

@@ -14,6 +14,8 @@ mod overlaps;
 mod rest;
 mod rounds;
 
+use crate::failures::Failures;
+use crate::lessons::Lessons;
 use crate::tries::Tries;
 use path_bounds::Propagator;
 use std::alloc::Global;
@@ -28,7 +30,7 @@ pub fn branch_on(
     alloc: Global,
     instance: &Instance,
     reached: &mut Propagator,
-    tried: &mut Tries,
+    lessons: &mut Lessons,
     at_root: bool,
 ) -> Result<Option<Kind>, MemoryFault>
     requires { reached.old.instance ≡ instance.now }
@@ -42,15 +44,15 @@ pub fn branch_on(
     if let Some(kind) = early(instance, choice, facts, at_root) {
         return Ok(Some(kind));
     }
-    if !at_root && are_due(instance, choice, tried) {
-        let found = orders::closing_pair(alloc, instance, reached, tried)?;
-        tried.note(found.is_some());
+    if !at_root && are_due(instance, choice, &mut lessons.tries) {
+        let found = orders::closing_pair(alloc, instance, reached, &mut lessons.tries)?;
+        lessons.tries.note(found.is_some());
         if let Some(kind) = found {
             return Ok(Some(kind));
         }
     }
     let facts = reached.facts();
-    Ok(late(instance, facts.choice(), facts))
+    Ok(late(instance, facts.choice(), facts, &lessons.failures))
 }
 
 /// Whether orders of two processes are tried: something of the layout is open, and little of it is decided or tries helped
@@ -67,7 +69,13 @@ fn are_due(instance: &Instance, choice: &Choice, tried: &mut Tries) -> bool
 /// come rounds that are ruled out for all subtrees at once.
 ///
 /// At the root of a tree the first node is placed, where there are several.
-pub fn branch(instance: &Instance, choice: &Choice, facts: &Facts, at_root: bool) -> Option<Kind>
+pub fn branch(
+    instance: &Instance,
+    choice: &Choice,
+    facts: &Facts,
+    failures: &Failures,
+    at_root: bool,
+) -> Option<Kind>
     requires of { IsChoice instance.now choice.now }
     requires facts { facts.now.instance ≡ instance.now }
     ensures branches { Branches instance.now choice.now result }
@@ -76,7 +84,7 @@ pub fn branch(instance: &Instance, choice: &Choice, facts: &Facts, at_root: bool
 {
     match early(instance, choice, facts, at_root) {
         Some(kind) => Some(kind),
-        None => late(instance, choice, facts),
+        None => late(instance, choice, facts, failures),
     }
 }
 
@@ -98,7 +106,7 @@ fn early(instance: &Instance, choice: &Choice, facts: &Facts, at_root: bool) -> 
 }
 
 /// The layout and what comes after it.
-fn late(instance: &Instance, choice: &Choice, facts: &Facts) -> Option<Kind>
+fn late(instance: &Instance, choice: &Choice, facts: &Facts, failures: &Failures) -> Option<Kind>
     requires of { IsChoice instance.now choice.now }
     requires facts { facts.now.instance ≡ instance.now }
     ensures { Branches instance.now choice.now result }
@@ -109,7 +117,7 @@ fn late(instance: &Instance, choice: &Choice, facts: &Facts) -> Option<Kind>
     if let Some(kind) = overlaps::tightest_pair(instance, choice, facts) {
         return Some(kind);
     }
-    if let Some(kind) = crowds::tightest_round(instance, choice, facts) {
+    if let Some(kind) = crowds::tightest_round(instance, choice, facts, failures) {
         return Some(kind);
     }
     rest::rest(instance, choice, facts)

@@ -4,8 +4,10 @@
 mod branching;
 mod children;
 mod examples;
+mod failures;
 mod finding;
 mod laws;
+mod lessons;
 mod name;
 mod piece;
 mod task;

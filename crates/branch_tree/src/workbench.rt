@@ -5,7 +5,7 @@ ghost use Rattle.tt_choice.specs.Branches.{root_choice};
 ghost use Rattle.tt_choice.specs.Decisions.{AreOpenDecisions};
 ghost use Rattle.branch_tree.specs.Workbench.{IsWorkbenchOf, IsAt, ComesTo};
 
-use crate::tries::Tries;
+use crate::lessons::Lessons;
 use path_bounds::Propagator;
 use std::alloc::Global;
 use std::mem;
@@ -17,8 +17,7 @@ use ttp_model::{Instance, MemoryFault};
 #[derive(Drop)]
 pub struct Workbench<'a> {
     kept: Option<Propagator<'a>>,
-    /// Which orders were tried, and whether that helped.
-    tries: Tries,
+    lessons: Lessons,
 }
 
 /// How many decisions at the beginning are the same.
@@ -70,7 +69,7 @@ impl<'a> Workbench<'a> {
     {
         Workbench {
             kept: None,
-            tries: Tries::none(),
+            lessons: Lessons::none(),
         }
     }
 
@@ -114,18 +113,18 @@ impl<'a> Workbench<'a> {
         Ok(kept)
     }
 
-    /// Which orders were tried, to be kept again.
-    pub(crate) fn take_tries(&mut self) -> Tries
+    /// What was learnt so far, to be kept again.
+    pub(crate) fn take_lessons(&mut self) -> Lessons
         ensures { self.new.kept ≡ self.old.kept }
     {
-        mem::replace(&mut self.tries, Tries::none())
+        mem::replace(&mut self.lessons, Lessons::none())
     }
 
-    /// Keeps a propagation for the next subtree, and which orders were tried.
-    pub(crate) fn keep(&mut self, kept: Propagator<'a>, tries: Tries)
+    /// Keeps a propagation for the next subtree, and what was learnt.
+    pub(crate) fn keep(&mut self, kept: Propagator<'a>, lessons: Lessons)
         ensures { self.new.kept ≡ Some kept.entry }
     {
         self.kept = Some(kept);
-        self.tries = tries;
+        self.lessons = lessons;
     }
 }

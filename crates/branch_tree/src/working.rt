@@ -13,11 +13,12 @@ ghost use Rattle.branch_tree.specs.Workbench.{IsWorkbenchOf, ComesTo};
 
 use crate::branching::{branch, branch_on};
 use crate::children::child_tasks;
+use crate::failures::Failures;
 use crate::finding::found;
+use crate::lessons::Lessons;
 use crate::piece::Piece;
 use crate::task::Task;
 use crate::trial::{Trial, tried};
-use crate::tries::Tries;
 use crate::workbench::Workbench;
 use crate::worked::Worked;
 use certificate::Node;
@@ -80,9 +81,12 @@ fn worked<'a>(
     ensures bench { IsWorkbenchOf instance.now bench.new }
 {
     let mut reached = bench.reach(alloc, instance, task.decisions(), goal)?;
-    let mut tries = bench.take_tries();
-    let worked = worked_from(alloc, instance, &mut reached, &mut tries, task, goal);
-    bench.keep(reached, tries);
+    let mut lessons = bench.take_lessons();
+    let worked = worked_from(alloc, instance, &mut reached, &mut lessons, task, goal);
+    if let Ok(worked) = &worked {
+        lessons.note(instance, worked);
+    }
+    bench.keep(reached, lessons);
     worked
 }
 
@@ -91,7 +95,7 @@ fn worked_from(
     alloc: Global,
     instance: &Instance,
     reached: &mut Propagator,
-    tries: &mut Tries,
+    lessons: &mut Lessons,
     task: &Task,
     goal: u32,
 ) -> Result<Worked, MemoryFault>
@@ -108,7 +112,7 @@ fn worked_from(
         return Ok(Worked::Closed(leaf));
     }
     let at_root = task.name().as_slice().is_empty();
-    let kind = branch_on(alloc, instance, reached, tries, at_root)?;
+    let kind = branch_on(alloc, instance, reached, lessons, at_root)?;
     let facts = reached.facts();
     taken(alloc, instance, facts.choice(), task, goal, kind)
 }
@@ -128,7 +132,7 @@ fn worked_anew(
         Trial::Closed(leaf) => Ok(Worked::Closed(leaf)),
         Trial::At(facts) => {
             let at_root = task.name().as_slice().is_empty();
-            let kind = branch(instance, &choice, &facts, at_root);
+            let kind = branch(instance, &choice, &facts, &Failures::none(), at_root);
             taken(alloc, instance, &choice, task, goal, kind)
         }
     }

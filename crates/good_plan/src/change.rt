@@ -47,8 +47,11 @@ impl Choice<'_> {
     fn urge_message(&self, sender: usize, chance: &mut Chance) -> Change {
         let node = self.network.homes.place_at(sender);
         let position = self.draft.order.find(node as u64);
-        if self.holds && chance.below(10) == 0 {
-            return self.hold(node, chance);
+        if self.holds && chance.below(10) < 3 {
+            return match self.give_way(sender, node, chance) {
+                Some(change) => change,
+                None => self.hold(node, chance),
+            };
         }
         match chance.below(4) {
             0 => self.option(node, chance),
@@ -56,6 +59,53 @@ impl Choice<'_> {
             2 => Change::Slot(position, chance.below(self.draft.order.len())),
             _ => self.advance(sender, chance),
         }
+    }
+
+    /// A message of this process that goes later than it could lets fewer frames pass; where it lets none pass, one that goes
+    /// before it lets one more pass.
+    fn give_way(&self, sender: usize, node: usize, chance: &mut Chance) -> Option<Change> {
+        let Some(message) = self.held_up(sender, chance) else {
+            return None;
+        };
+        let passes = self.draft.holds.at(message);
+        if passes > 0 {
+            return Some(Change::Hold(message, passes - 1));
+        }
+        match self.in_front(message, node, chance) {
+            Some(other) => Some(Change::Hold(other, self.draft.holds.at(other).saturating_add(1))),
+            None => None,
+        }
+    }
+
+    /// One of the messages of a process that go later than they could, by chance.
+    fn held_up(&self, sender: usize, chance: &mut Chance) -> Option<usize> {
+        let mut found = None;
+        let mut count = 0usize;
+        for m in self.network.outgoing.row(sender) {
+            if self.path.is_held_up(*m as usize) {
+                count = count.saturating_add(1);
+                if chance.below(count) == 0 {
+                    found = Some(*m as usize);
+                }
+            }
+        }
+        found
+    }
+
+    /// One of the messages of a node that go in a round in which this one could, by chance.
+    fn in_front(&self, message: usize, node: usize, chance: &mut Chance) -> Option<usize> {
+        let mut found = None;
+        let mut count = 0usize;
+        for m in self.network.sources.row(node) {
+            let other = *m as usize;
+            if other != message && self.path.is_in_front(other, message) {
+                count = count.saturating_add(1);
+                if chance.below(count) == 0 {
+                    found = Some(other);
+                }
+            }
+        }
+        found
     }
 
     /// A message of this node waits for a later frame or, mostly, for none.

@@ -10,7 +10,7 @@ use std::alloc::{AllocError, Global};
 use ttp_model::{Instance, Numbers, Plan};
 
 /// How many climbs there are.
-const CLIMBS: u64 = 12;
+const CLIMBS: u64 = 17;
 
 /// How many of them, at the end, set out from the best schedule so far.
 const RETURNS: u64 = 2;
@@ -23,7 +23,7 @@ pub fn best_plan(alloc: Global, instance: &Instance) -> Result<Plan, AllocError>
         climb.begin(&network, number);
         climb.run(&network, number);
     }
-    climb.timetable.make(&network, &climb.best);
+    climb.timetable.make(&network, &climb.best, u64::MAX);
     plan_of(alloc, &climb.best, &climb.timetable)
 }
 
@@ -32,8 +32,8 @@ fn tries(instance: &Instance) -> u64 {
     let parts = (instance.processes().len() as u64)
         .saturating_add(instance.links().len() as u64)
         .saturating_add(instance.messages().len() as u64);
-    let most = 6_000_000 / parts.saturating_add(10).max(1);
-    parts.saturating_mul(3_000).min(most)
+    let most = 12_000_000 / parts.saturating_add(10).max(1);
+    parts.saturating_mul(6_000).min(most)
 }
 
 /// How much longer a schedule may become at first, in thousandths of the first one's delay: least in
@@ -78,7 +78,7 @@ impl Climb {
         let draft = Draft::new(network);
         Climb {
             draft,
-            path: Path::new(network.homes.len()),
+            path: Path::new(network.homes.len(), network.bytes.len()),
             cost: 0,
             chance: Chance::new(0),
             timetable: Timetable::new(network),
@@ -115,7 +115,7 @@ impl Climb {
     /// Physics 1990).
     fn run(&mut self, network: &Network, number: u64) {
         let turns = tries(network.instance) / CLIMBS;
-        self.make(network);
+        self.make(network, u64::MAX);
         self.stay();
         let most = self.timetable.delay.saturating_mul(heat(number)) / 1000;
         for left in (0..turns).rev() {
@@ -134,17 +134,18 @@ impl Climb {
         };
         let change = choice.next(&mut self.chance);
         let back = self.draft.make(change);
-        if self.make(network) && self.timetable.cost() <= self.cost.saturating_add(leeway) {
+        let most = self.cost.saturating_add(leeway);
+        if self.make(network, most) && self.timetable.cost() <= most {
             self.stay();
         } else {
             let _ = self.draft.make(back);
         }
     }
 
-    /// Makes the schedule of the draft, where there is one, and remembers the draft where less is
+    /// Makes the schedule of the draft, where there is one of at most so many ticks, and remembers the draft where less is
     /// late than ever before, or as much and the schedule is shorter.
-    fn make(&mut self, network: &Network) -> bool {
-        if !self.timetable.make(network, &self.draft) {
+    fn make(&mut self, network: &Network, most: u64) -> bool {
+        if !self.timetable.make(network, &self.draft, most) {
             return false;
         }
         let delay = self.timetable.delay;

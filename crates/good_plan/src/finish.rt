@@ -10,7 +10,7 @@ use tt_settle::settle;
 use ttp_model::{Instance, MemoryFault, Plan, delay};
 
 /// A settled plan with its delay in ticks, if a climb leads to one: often a good one, at times
-/// one of the shortest. Takes tens of milliseconds. That none is found says nothing.
+/// one of the shortest. Takes some tenths of a second at most. That none is found says nothing.
 pub fn good_plan(alloc: Global, instance: &Instance) -> Result<Option<(Plan, u64)>, MemoryFault>
     ensures { IfOk result (λ found. IfSome found (λ f.
         IsSettled instance.now f.0 × (f.1 ≡ delay instance.now f.0))) }

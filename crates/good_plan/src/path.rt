@@ -9,6 +9,9 @@ pub struct Path {
     /// By process, the process that it starts right after or has its last message from; else their
     /// number.
     blockers: Table,
+    /// By message, from which round on it could be sent, and the one in which it is.
+    firsts: Table,
+    rounds: Table,
     /// The process that ends last.
     last: usize,
     /// The process that ends too late by most, and by how much: by 0 where none does.
@@ -17,12 +20,14 @@ pub struct Path {
 }
 
 impl Path {
-    /// Nothing waits, of so many processes.
-    pub fn new(processes: usize) -> Self {
+    /// Nothing waits, of so many processes and messages.
+    pub fn new(processes: usize, messages: usize) -> Self {
         let mut blockers = Table::zeros(processes);
         blockers.fill(processes as u64);
         Path {
             blockers,
+            firsts: Table::zeros(messages),
+            rounds: Table::zeros(messages),
             last: 0,
             latest: 0,
             most: 0,
@@ -31,6 +36,23 @@ impl Path {
 
     pub fn block(&mut self, process: usize, by: usize) {
         self.blockers.set(process, by as u64);
+    }
+
+    /// A message is sent in a round, and could be from another one on.
+    pub fn send(&mut self, message: usize, first: u64, round: u64) {
+        self.firsts.set(message, first);
+        self.rounds.set(message, round);
+    }
+
+    /// Whether a message is sent later than it could be.
+    pub fn is_held_up(&self, message: usize) -> bool {
+        self.firsts.at(message) < self.rounds.at(message)
+    }
+
+    /// Whether another message is sent in a round in which this one could be.
+    pub fn is_in_front(&self, other: usize, message: usize) -> bool {
+        let round = self.rounds.at(other);
+        self.firsts.at(message) <= round && round < self.rounds.at(message)
     }
 
     pub fn ends_last(&mut self, process: usize) {

@@ -33,7 +33,7 @@ impl Timetable {
             lateness: 0,
             waiting: network.waits,
             queue: Table::zeros(0),
-            path: Path::new(network.homes.len()),
+            path: Path::new(network.homes.len(), network.bytes.len()),
             bus: Bus::new(network.roomy.len()),
         }
     }
@@ -45,13 +45,16 @@ impl Timetable {
     }
 
     /// Makes the schedule of a draft. None is made, and the answer is false, where processes of the
-    /// line wait for each other in a ring.
-    pub fn make(&mut self, network: &Network, draft: &Draft) -> bool {
+    /// line wait for each other in a ring, or where it would take longer than so many ticks.
+    pub fn make(&mut self, network: &Network, draft: &Draft, most: u64) -> bool {
         self.bus.lay_out(network, draft);
         self.clear(network, draft);
         for turn in 0..network.homes.len() {
             if turn < self.queue.len() {
                 let p = self.queue.place_at(turn);
+                if self.starts.at(p).saturating_add(network.chains.at(p)) > most {
+                    return false;
+                }
                 self.run(network, draft, p);
             }
         }
@@ -62,7 +65,7 @@ impl Timetable {
     fn clear(&mut self, network: &Network, draft: &Draft) {
         self.delay = 0;
         self.lateness = 0;
-        self.path = Path::new(network.homes.len());
+        self.path = Path::new(network.homes.len(), network.bytes.len());
         self.starts = network.releases;
         self.waiting = network.waits;
         self.queue.clear();
@@ -125,6 +128,7 @@ impl Timetable {
             let m = *m as usize;
             let round = self.bus.load(network, draft, node, m, first);
             self.rounds.set(m, round);
+            self.path.send(m, first, round);
             let sent = self.bus.end_of(node, round);
             let arrival = sent.saturating_add(u64::from(cluster.copy_in));
             self.deliver(network.receivers(m), arrival, p);

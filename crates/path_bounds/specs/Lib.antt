@@ -1,4 +1,3 @@
-pub mod Targets
 pub mod Journal
 pub mod Propagation
 pub mod Propagator
@@ -11,3 +10,4 @@ pub use Rattle.tt_choice.specs.Choice
 pub use Rattle.tt_infer.specs.Known
 pub use Rattle.tt_infer.specs.Facts
 pub use Rattle.tt_infer.specs.Leaves
+pub use Rattle.needed_steps.specs.Targets

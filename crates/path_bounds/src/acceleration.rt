@@ -3,9 +3,9 @@
 ghost use Rattle.path_bounds.specs.Journal.{Advances};
 
 use crate::agenda::Agenda;
-use crate::fact::target;
 use crate::journal::Journal;
-use crate::opening::{opening_steps, slot_steps};
+use crate::opening::{add_slot_steps, opening_steps};
+use needed_steps::target;
 use std::alloc::Global;
 use tt_choice::Decision;
 use tt_infer::Facts;
@@ -39,8 +39,11 @@ pub fn go_on(
     ensures { Advances journal.old journal.new }
 {
     agenda.resume(before, journal.facts(), decision)?;
-    let mut steps = slot_steps(alloc, journal.facts(), decision)?;
-    follow(alloc, journal, agenda, &mut steps)
+    let mut steps = agenda.take_room(alloc);
+    add_slot_steps(journal.facts(), decision, &mut steps)?;
+    follow(alloc, journal, agenda, &mut steps)?;
+    agenda.keep_room(steps);
+    Ok(())
 }
 
 /// The same where process `p` was set to go before `q`, and all was tried that could sharpen what was known before that.
@@ -54,8 +57,10 @@ pub fn suppose(
     ensures { Advances journal.old journal.new }
 {
     agenda.suppose(journal.facts(), p, q)?;
-    let mut steps = Vec::new(alloc);
-    follow(alloc, journal, agenda, &mut steps)
+    let mut steps = agenda.take_room(alloc);
+    follow(alloc, journal, agenda, &mut steps)?;
+    agenda.keep_room(steps);
+    Ok(())
 }
 
 /// Tries these steps and those that come of them.

@@ -1,15 +1,15 @@
 //! Which steps are tried next?
 
 use crate::consequences::add_consequences;
-use crate::fact::{Fact, link_after, value};
-use crate::fact_set::FactSet;
 use crate::flags::{lower, raise};
 use crate::network::Network;
 use crate::parts::{node, receivers, source, wcet};
 use crate::rings::ring_step;
 use load_bounds::{frame_load, node_load};
+use needed_steps::{Fact, FactSet, link_after, value};
 use std::alloc::Global;
 use std::collections::VecDeque;
+use std::mem;
 use tt_choice::Decision;
 use tt_infer::Facts;
 use ttp_model::{Instance, MOST_NODES, MOST_PROCESSES, MemoryFault, Step};
@@ -34,6 +34,10 @@ pub struct Agenda {
     sendings: [bool; MOST_NODES],
     /// How many facts are taken before rings are looked for.
     until_ring: u32,
+    /// Rounds of a node's messages, in room that is used again.
+    rounds: Vec<u32>,
+    /// Room for the steps that are tried next.
+    room: Vec<Step>,
 }
 
 /// Whether two lists have different numbers at a place.
@@ -58,7 +62,20 @@ impl Agenda {
             runs: [false; MOST_NODES],
             sendings: [false; MOST_NODES],
             until_ring: 0,
+            rounds: Vec::new(alloc),
+            room: Vec::new(alloc),
         })
+    }
+
+    /// Room for the steps that are tried next, with none in it.
+    pub fn take_room(&mut self, alloc: Global) -> Vec<Step> {
+        mem::replace(&mut self.room, Vec::new(alloc))
+    }
+
+    /// Keeps room for the next time.
+    pub fn keep_room(&mut self, steps: Vec<Step>) {
+        self.room = steps;
+        self.room.clear();
     }
 
     /// Begins anew with all that is known at first, as if it had just been sharpened, but for the orders: what they say
@@ -246,7 +263,7 @@ impl Agenda {
             None => {
                 self.add_settled(facts, steps)?;
                 if steps.is_empty() {
-                    self.add_loads(alloc, facts, steps)?;
+                    self.add_loads(facts, steps)?;
                 }
                 Ok(!steps.is_empty())
             }
@@ -309,12 +326,7 @@ impl Agenda {
 
     /// Adds the closers of loads, and of messages that could go out earlier, for each node of which
     /// more may be known.
-    fn add_loads(
-        &mut self,
-        alloc: Global,
-        facts: &Facts,
-        steps: &mut Vec<Step>,
-    ) -> Result<(), MemoryFault> {
+    fn add_loads(&mut self, facts: &Facts, steps: &mut Vec<Step>) -> Result<(), MemoryFault> {
         let count = facts.instance().nodes().len() as u32;
         for n in 0..count {
             if lower(&mut self.runs, n) {
@@ -323,10 +335,27 @@ impl Agenda {
                 }
             }
             if lower(&mut self.sendings, n) {
-                add_late(alloc, facts, n, steps)?;
+                self.find_rounds(facts, n)?;
+                add_late(facts, n, self.rounds.as_slice(), steps)?;
                 if let Some(step) = frame_load(facts, n) {
                     steps.push(step)?;
                 }
+            }
+        }
+        Ok(())
+    }
+
+    /// Finds the rounds just before the first ones of the messages of node `n`, each once.
+    fn find_rounds(&mut self, facts: &Facts, n: u32) -> Result<(), MemoryFault> {
+        self.rounds.clear();
+        let count = facts.instance().messages().len() as u32;
+        for m in 0..count {
+            let first = value(facts, Fact::FirstRound(m));
+            if first > 0
+                && source(facts.instance(), m) == n
+                && !self.rounds.contains(&(first - 1))
+            {
+                self.rounds.push(first - 1)?;
             }
         }
         Ok(())
@@ -342,32 +371,18 @@ fn fills(facts: &Facts, x: u32, p: u32) -> bool {
 /// Adds the closers of the messages of node `n` that could go out earlier than they may. A message
 /// has most room just before the first round of one of them, so these rounds are tried alone.
 fn add_late(
-    alloc: Global,
     facts: &Facts,
     n: u32,
+    rounds: &[u32],
     steps: &mut Vec<Step>,
 ) -> Result<(), MemoryFault> {
-    let rounds = last_rounds_before(alloc, facts, n)?;
     let count = facts.instance().messages().len() as u32;
     for m in 0..count {
         if source(facts.instance(), m) == n {
-            add_late_of(facts, m, rounds.as_slice(), steps)?;
+            add_late_of(facts, m, rounds, steps)?;
         }
     }
     Ok(())
-}
-
-/// The rounds just before the first ones of the messages of node `n`, each once.
-fn last_rounds_before(alloc: Global, facts: &Facts, n: u32) -> Result<Vec<u32>, MemoryFault> {
-    let mut rounds = Vec::new(alloc);
-    let count = facts.instance().messages().len() as u32;
-    for m in 0..count {
-        let first = value(facts, Fact::FirstRound(m));
-        if first > 0 && source(facts.instance(), m) == n && !rounds.contains(&(first - 1)) {
-            rounds.push(first - 1)?;
-        }
-    }
-    Ok(rounds)
 }
 
 /// Adds the closers of message `m` in those of the rounds that are before its first one.

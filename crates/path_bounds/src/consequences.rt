@@ -1,8 +1,8 @@
 //! Which steps may sharpen once a fact has been sharpened?
 
-use crate::fact::{Fact, link_after, link_before, value};
 use crate::network::Network;
 use crate::parts::{node, receivers, wcet};
+use needed_steps::{Fact, link_after, link_before, value};
 use tt_infer::Facts;
 use ttp_model::{MemoryFault, Step};
 

@@ -10,7 +10,7 @@ ghost use Rattle.tt_infer.specs.Facts.{after};
 ghost use Rattle.path_bounds.specs.Journal.{Advances, Sharpens, SharpensNothing, slack_of};
 
 use crate::copies::push_copy;
-use crate::fact::{target, value};
+use needed_steps::{target, value};
 use std::alloc::Global;
 use std::marker::Model;
 use tt_choice::{Choice, Decision};

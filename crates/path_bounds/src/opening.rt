@@ -24,25 +24,23 @@ fn add_opening(facts: &Facts, steps: &mut Vec<Step>) -> Result<(), MemoryFault> 
     add_frames(instance, steps)
 }
 
-/// The steps that read what a decision changes beside the facts: where slots stand and how long they are.
-pub fn slot_steps(
-    alloc: Global,
+/// Adds the steps that read what a decision changes beside the facts: where slots stand and how long they are.
+pub fn add_slot_steps(
     facts: &Facts,
     decision: Decision,
-) -> Result<Vec<Step>, MemoryFault> {
-    let mut steps = Vec::new(alloc);
+    steps: &mut Vec<Step>,
+) -> Result<(), MemoryFault> {
     match decision {
         Decision::Place(_) => {
-            add_transfers(facts.instance(), &mut steps)?;
-            add_silent_twins(facts, &mut steps)?;
+            add_transfers(facts.instance(), steps)?;
+            add_silent_twins(facts, steps)
         }
         Decision::Cap(_, _) => {
-            add_transfers(facts.instance(), &mut steps)?;
-            add_frames(facts.instance(), &mut steps)?;
+            add_transfers(facts.instance(), steps)?;
+            add_frames(facts.instance(), steps)
         }
-        Decision::Before(_, _) | Decision::AtMost(_, _) | Decision::AtLeast(_, _) => {}
+        Decision::Before(_, _) | Decision::AtMost(_, _) | Decision::AtLeast(_, _) => Ok(()),
     }
-    Ok(steps)
 }
 
 /// Adds the steps of each message that read its slot.

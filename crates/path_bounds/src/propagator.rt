@@ -14,10 +14,10 @@ ghost use Rattle.path_bounds.specs.Propagator.{Begins, IsPropagation, IsStarted,
 use crate::acceleration::{go_on, suppose};
 use crate::agenda::Agenda;
 use crate::journal::Journal;
-use crate::marks::Marks;
 use crate::propagation::{complete, reach};
 use crate::supposition::Supposition;
 use crate::trim::trimmed_leaf;
+use needed_steps::Marks;
 use std::alloc::Global;
 use std::marker::Model;
 use std::mem;

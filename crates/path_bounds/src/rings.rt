@@ -1,9 +1,9 @@
 //! Do processes wait for each other?
 
-use crate::fact::link_after;
 use crate::flags::{is_up, lower, raise};
 use crate::network::Network;
 use crate::parts::{node, receivers};
+use needed_steps::link_after;
 use std::alloc::Global;
 use tt_infer::Facts;
 use ttp_model::{MOST_PROCESSES, MemoryFault, Ring, Step};

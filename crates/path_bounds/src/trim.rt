@@ -7,7 +7,7 @@ ghost use Rattle.path_bounds.specs.Journal.{Advances};
 
 use crate::copies::all_copied;
 use crate::journal::Journal;
-use crate::marks::Marks;
+use needed_steps::{Marks, target, value};
 use std::alloc::Global;
 use tt_choice::Choice;
 use tt_infer::Facts;
@@ -31,7 +31,7 @@ pub fn closed_leaf(
     let facts = reached(alloc, instance, choice, goal, steps.as_slice())?;
     let mut marks = Marks::none(alloc, instance)?;
     marks.set_to(&facts, steps.as_slice())?;
-    let trimmed = replayed(alloc, instance, choice, goal, steps.as_slice(), &marks)?;
+    let trimmed = replayed(alloc, instance, choice, goal, steps.as_slice(), &mut marks)?;
     match trimmed {
         Some(short) => Ok(leaf_of(goal, short)),
         None => Ok(leaf_of(goal, steps)),
@@ -60,10 +60,41 @@ pub fn trimmed_leaf<'a>(
     try_marked(alloc, &mut journal, steps, marks)?;
     let (known, kept) = journal.into_parts();
     if known.closed() {
-        return Ok((leaf_of(facts.goal(), kept), known));
+        return shorter_leaf(alloc, known, marks, facts, kept);
     }
     let all = all_copied(alloc, steps)?;
     Ok((leaf_of(facts.goal(), all), known))
+}
+
+/// A leaf of steps that close the choice of other facts at their goal, as they were just taken, without those that its closer
+/// can do without where each fact has to be only as sharp as what reads it asks for; worked out in the room of what is known
+/// after them.
+fn shorter_leaf<'a>(
+    alloc: Global,
+    room: Facts<'a>,
+    marks: &mut Marks,
+    facts: &Facts<'a>,
+    steps: Vec<Step>,
+) -> Result<(Leaf, Facts<'a>), MemoryFault>
+    requires none_kept { bare facts.now.choice ≡ facts.now.choice }
+    requires closes { ClosesLeaf facts.now.instance facts.now.choice (record { goal = facts.now.goal; steps = steps.items }) }
+    requires few { length steps.items < 2 ^ 32 }
+    ensures closes { IfOk result (λ trimmed. ClosesLeaf facts.now.instance facts.now.choice trimmed.0) }
+    ensures goal { IfOk result (λ trimmed. trimmed.0.goal ≡ facts.now.goal) }
+{
+    let _choice = facts.choice();
+    let count = marks.set_to_needed(&room, steps.as_slice())?;
+    if count >= steps.len() {
+        return Ok((leaf_of(facts.goal(), steps), room));
+    }
+    let first = room.anew(facts)?;
+    let mut journal = Journal::new(first, Vec::with_capacity(alloc, count)?);
+    try_marked(alloc, &mut journal, steps.as_slice(), marks)?;
+    let (known, kept) = journal.into_parts();
+    if known.closed() {
+        return Ok((leaf_of(facts.goal(), kept), known));
+    }
+    Ok((leaf_of(facts.goal(), steps), known))
 }
 
 /// The leaf of these steps.
@@ -84,7 +115,7 @@ fn replayed(
     choice: &Choice,
     goal: u32,
     steps: &[Step],
-    marks: &Marks,
+    marks: &mut Marks,
 ) -> Result<Option<Vec<Step>>, MemoryFault>
     requires { IsChoice instance.now choice.now }
     ensures closes { IfOk result (λ found. IfSome found (λ steps.
@@ -101,19 +132,37 @@ fn replayed(
     }
 }
 
-/// Tries the steps that are marked, one after another.
+/// Tries the steps that are marked, one after another, and takes note of how far the fact of each was known.
 fn try_marked(
     alloc: Global,
     journal: &mut Journal,
     steps: &[Step],
-    marks: &Marks,
+    marks: &mut Marks,
 ) -> Result<(), MemoryFault>
     ensures { Advances journal.old journal.new }
 {
+    marks.begin_log();
     'tries: for (k, step) in steps.iter().enumerate() {
         if marks.is_marked(k) {
-            journal.try_again(alloc, step)?;
+            try_one(alloc, journal, step, marks)?;
         }
+    }
+    Ok(())
+}
+
+/// Tries a step, and takes note of how far its fact was known where it sharpens that.
+fn try_one(
+    alloc: Global,
+    journal: &mut Journal,
+    step: &Step,
+    marks: &mut Marks,
+) -> Result<(), MemoryFault>
+    ensures { Advances journal.old journal.new }
+{
+    let facts = journal.facts();
+    let before = value(facts, target(facts.instance(), step));
+    if journal.try_again(alloc, step)? {
+        marks.note(before)?;
     }
     Ok(())
 }

@@ -48,7 +48,7 @@ pub enum Sweep {
 }
 
 /// The children of a branch in the order in which they are pushed, the last first. So the first is worked first, which is most likely
-/// to do without its decision: the least capacity, the order of two processes with less slack, the earlier rounds. No place is more
+/// to do without its decision: the least capacity, the order of two processes with more slack, the earlier rounds. No place is more
 /// so than another one, and the last is worked first.
 fn in_turn(kind: Kind, tasks: Vec<Task>) -> Vec<Task>
     ensures { IsPermutation tasks.items result.items }
@@ -89,18 +89,20 @@ fn widen<T: Drop>(list: &mut Vec<T>, all: usize) -> Result<(), MemoryFault>
     Ok(())
 }
 
-/// Asks for room for one more piece, and for what all workers come to where none of them makes more than this one: in its
-/// list of pieces for theirs and the leaves in the end, and beside it for their nodes. So where memory runs out, all of it goes
-/// into the lists of the one that made most.
+/// Asks for room for one more piece, and for what all workers come to where none of them makes and leaves more than this one: in
+/// its list of pieces for theirs and the leaves in the end, of which there is one for each task that is left, and beside it for
+/// their nodes. So where memory runs out, all of it goes into the lists of the one that made most.
 fn make_room(
     pieces: &mut Vec<Piece>,
     room: &mut Vec<Node>,
+    left: usize,
     workers: usize,
 ) -> Result<(), MemoryFault>
     ensures same { pieces.new.items ≡ pieces.old.items }
     ensures one { OnOk result (vec_len pieces.new < vec_capacity pieces.new) }
 {
-    let all = pieces.len().saturating_mul(workers).saturating_add(AHEAD);
+    let ends = pieces.len().saturating_add(left);
+    let all = ends.saturating_mul(workers).saturating_add(AHEAD);
     widen(pieces, all)?;
     widen(room, all)?;
     pieces.reserve(1)?;
@@ -131,7 +133,8 @@ impl<J: Searched> Run<J> {
     {
         let _nodes = instance.nodes();
         let goal = word.look(&mut self.watch);
-        if make_room(&mut self.pieces, &mut self.room, self.workers).is_err() {
+        let left = self.spared.len();
+        if make_room(&mut self.pieces, &mut self.room, left, self.workers).is_err() {
             return Err(task);
         }
         let Ok(name) = task.name().copy(alloc) else {

@@ -1,41 +1,84 @@
 //! Which messages crowd a frame in the plan at hand?
 
-ghost use Rattle.std.specs.Prelude.{◌≡◌, ◌<◌, length};
+ghost use Rattle.std.specs.Prelude.{◌≡◌, ◌⊎◌, ◌<◌, IfSome, Some, length};
 ghost use Rattle.tt_choice.specs.Choice.{IsChoice, least_round, greatest_round};
-ghost use Rattle.branch_tree.specs.Branching.{MayBranch, MayTake};
+ghost use Rattle.branch_tree.specs.Branching.{IsBranching, MayBranch};
 
-use crate::branching::candidate::{Candidate, tighter};
 use crate::branching::rounds::halved;
+use crate::failures::Failures;
 use tt_choice::Choice;
 use tt_infer::Facts;
 use ttp_model::{Instance, Kind};
 
-/// The branch on the message that is in an overfull frame and has the fewest rounds to go to, if
-/// there is one. Two passes over pairs of messages.
-pub fn tightest_round(instance: &Instance, choice: &Choice, facts: &Facts) -> Option<Kind>
+/// The branch on a message of an overfull frame, how much failed on its node lately, and from which round to which it can be
+/// sent.
+#[derive(Clone, Copy, Debug)]
+struct Crowd {
+    kind: Kind,
+    failed: u64,
+    first: u32,
+    last: u32,
+}
+
+impl Crowd {
+    /// Whether this one is taken before another: where more failed lately, then the earlier frame, then the message with fewer
+    /// rounds to go to. So one frame after another is settled of one node, and what is found wrong with them needn't be found
+    /// again for each way in which others are settled.
+    fn precedes(&self, other: &Crowd) -> bool {
+        if self.failed != other.failed {
+            return self.failed > other.failed;
+        }
+        (self.first, self.last) <= (other.first, other.last)
+    }
+}
+
+/// The one that is taken first: the earlier one, where neither is.
+fn worse(known: Option<Crowd>, next: Crowd) -> Crowd
+    ensures { (result ≡ next) ⊎ (known ≡ Some result) }
+{
+    match known {
+        Some(earlier) if earlier.precedes(&next) => earlier,
+        _ => next,
+    }
+}
+
+/// The branch on a message that is in an overfull frame, if there is one: of the node on which most subtrees were closed lately, of the
+/// earliest frame, with the fewest rounds to go to. Two passes over pairs of messages.
+pub fn tightest_round(
+    instance: &Instance,
+    choice: &Choice,
+    facts: &Facts,
+    failures: &Failures,
+) -> Option<Kind>
     requires of { IsChoice instance.now choice.now }
     requires facts { facts.now.instance ≡ instance.now }
     ensures { MayBranch instance.now choice.now result }
 {
     let count = instance.messages().len() as u32;
-    let mut tightest = None;
+    let mut worst = None;
     for m in 0..count {
-        if let Some(candidate) = crowded(instance, choice, facts, m) {
-            tightest = Some(tighter(tightest, candidate));
+        if let Some(crowd) = crowded(instance, choice, facts, failures, m) {
+            worst = Some(worse(worst, crowd));
         }
     }
-    match tightest {
-        Some(candidate) => Some(candidate.kind),
+    match worst {
+        Some(crowd) => Some(crowd.kind),
         None => None,
     }
 }
 
 /// The branch on a message, where its rounds are open and its frame is overfull.
-fn crowded(instance: &Instance, choice: &Choice, facts: &Facts, m: u32) -> Option<Candidate>
+fn crowded(
+    instance: &Instance,
+    choice: &Choice,
+    facts: &Facts,
+    failures: &Failures,
+    m: u32,
+) -> Option<Crowd>
     requires of { IsChoice instance.now choice.now }
     requires facts { facts.now.instance ≡ instance.now }
     requires message { m < length instance.now.messages }
-    ensures { MayTake instance.now choice.now result }
+    ensures { IfSome result (λ crowd. IsBranching instance.now choice.now crowd.kind) }
 {
     let _messages = instance.messages();
     if choice.lo(m) >= choice.hi(m) {
@@ -46,10 +89,11 @@ fn crowded(instance: &Instance, choice: &Choice, facts: &Facts, m: u32) -> Optio
     if load <= choice.cap_most(instance, node) {
         return None;
     }
-    let rounds = facts.top(m).saturating_sub(facts.lo(m));
-    Some(Candidate {
+    Some(Crowd {
         kind: halved(instance, choice, m),
-        freedom: u64::from(rounds),
+        failed: failures.at(node),
+        first: facts.lo(m),
+        last: facts.top(m),
     })
 }
 

@@ -91,7 +91,7 @@ fn add_overlaps(
 }
 
 /// The branch on two processes, where they are in neither order and overlap. The order that leaves
-/// more slack comes last.
+/// more slack comes first: what shows that it has no plan may not need the order, and then the other one needn't be worked.
 ///
 /// Their freedom is the product of both slacks: the square of the lesser biased slack of Smith and
 /// Cheng (AAAI 1993).
@@ -115,9 +115,9 @@ fn overlap(instance: &Instance, choice: &Choice, facts: &Facts, p: u32, q: u32) 
     let backwards = slack(instance, facts, q, p);
     let freedom = forwards.saturating_mul(backwards);
     let kind = if forwards < backwards {
-        Kind::Pair(p, q)
-    } else {
         Kind::Pair(q, p)
+    } else {
+        Kind::Pair(p, q)
     };
     Some(Candidate { kind, freedom })
 }

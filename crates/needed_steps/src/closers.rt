@@ -1,0 +1,233 @@
+//! What does a step read that compares what is known?
+
+use crate::fact::sender;
+use crate::moment::Moment;
+use crate::needs::Needs;
+use crate::slots::{begin_least, copy_out};
+use tt_infer::Facts;
+use ttp_model::Instance;
+
+/// Asks that process `p` has to end before `q` can have started and both have run, or `p` alone where it is `q`.
+pub fn ask_window(needs: &mut Needs, moment: &Moment, p: u32, q: u32, ticks: u64) {
+    let end = u64::from(moment.now.end(p));
+    let start = u64::from(moment.now.start(q));
+    let spare = start
+        .saturating_add(ticks)
+        .saturating_sub(end)
+        .saturating_sub(1);
+    let first_end = u64::from(moment.first.end(p));
+    let first_start = u64::from(moment.first.start(q));
+    if first_end <= end.saturating_add(spare) {
+        needs.start_from(q, first_end.saturating_add(1).saturating_sub(ticks));
+    } else if first_start.saturating_add(spare) >= start {
+        needs.end_until(p, first_start.saturating_add(ticks).saturating_sub(1));
+    } else {
+        needs.start_from(q, start);
+        needs.end_until(p, end.saturating_add(spare));
+    }
+}
+
+/// Asks that message `m` has no round.
+pub fn ask_no_round(needs: &mut Needs, moment: &Moment, m: u32) {
+    let first_late = u64::from(moment.first.late_round(m));
+    let first_round = u64::from(moment.first.first_round(m));
+    let round = u64::from(moment.now.first_round(m));
+    if first_late <= round {
+        needs.sent_from(m, first_late);
+    } else if first_round >= u64::from(moment.now.late_round(m)) {
+        needs.sent_before(m, first_round);
+    } else {
+        needs.sent_from(m, round);
+        needs.sent_before(m, round);
+    }
+}
+
+/// Asks for the orders of a ring: of each process before the next, and of the last before the first.
+pub fn ask_ring(needs: &mut Needs, ring: &[u32]) {
+    let Some(last) = ring.last() else {
+        return;
+    };
+    let mut before = *last;
+    for p in ring {
+        needs.go_first(before, *p);
+        before = *p;
+    }
+}
+
+/// Whether process `p` is of node `n` and runs from `a` to `b`.
+fn runs_within(moment: &Moment, n: u32, a: u32, b: u32, p: u32) -> bool {
+    let instance = moment.instance();
+    (p as usize) < instance.processes().len()
+        && instance.node_of(p as usize) == n
+        && moment.now.start(p) >= a
+        && moment.now.end(p) <= b
+}
+
+/// How long the processes of node `n` run that run from `a` to `b`, in ticks.
+fn ticks_within(moment: &Moment, n: u32, a: u32, b: u32) -> u64 {
+    let count = moment.instance().processes().len() as u32;
+    let mut ticks = 0u64;
+    for p in 0..count {
+        if runs_within(moment, n, a, b, p) {
+            ticks = ticks.saturating_add(moment.wcet(p));
+        }
+    }
+    ticks
+}
+
+/// Asks that the processes of node `n` that run from `a` to `b` are too many: without those that needn't be among them.
+pub fn ask_load(needs: &mut Needs, moment: &Moment, n: u32, a: u32, b: u32) {
+    let room = u64::from(b.saturating_sub(a));
+    let ticks = ticks_within(moment, n, a, b);
+    let mut spare = ticks.saturating_sub(room).saturating_sub(1);
+    let count = moment.instance().processes().len() as u32;
+    for p in 0..count {
+        if runs_within(moment, n, a, b, p) {
+            let free = moment.first.start(p) >= a && moment.first.end(p) <= b;
+            if !free && moment.wcet(p) <= spare {
+                spare = spare.saturating_sub(moment.wcet(p));
+            } else {
+                needs.start_from(p, u64::from(a));
+                needs.end_until(p, u64::from(b));
+            }
+        }
+    }
+}
+
+/// The bytes of a message: 0 where it isn't there.
+fn bytes_of(instance: &Instance, m: u32) -> u64 {
+    if (m as usize) < instance.messages().len() {
+        u64::from(instance.message_at(m as usize).bytes)
+    } else {
+        0
+    }
+}
+
+/// Whether message `m` is of node `n`.
+fn is_of(instance: &Instance, n: u32, m: u32) -> bool {
+    (m as usize) < instance.messages().len() && instance.source_of(m as usize) == n
+}
+
+/// Whether message `m` is of node `n` and is sent from round `a` on and before `b`.
+fn sent_within(moment: &Moment, n: u32, a: u32, b: u32, m: u32) -> bool {
+    is_of(moment.instance(), n, m)
+        && moment.now.first_round(m) >= a
+        && moment.now.late_round(m) <= b
+}
+
+/// The bytes that frames of node `n` carry at most in so many rounds.
+fn most_carried(facts: &Facts, n: u32, rounds: u32) -> u64 {
+    let instance = facts.instance();
+    if (n as usize) < instance.nodes().len() {
+        u64::from(facts.choice().cap_most(instance, n)).saturating_mul(u64::from(rounds))
+    } else {
+        0
+    }
+}
+
+/// The bytes that frames of node `n` carry at least.
+fn least_carried(facts: &Facts, n: u32) -> u64 {
+    let instance = facts.instance();
+    if (n as usize) < instance.nodes().len() {
+        u64::from(facts.choice().cap_least(instance, n))
+    } else {
+        0
+    }
+}
+
+/// How many bytes the messages of node `n` have that are sent from round `a` on and before `b`.
+fn bytes_within(moment: &Moment, n: u32, a: u32, b: u32) -> u64 {
+    let instance = moment.instance();
+    let count = instance.messages().len() as u32;
+    let mut bytes = 0u64;
+    for m in 0..count {
+        if sent_within(moment, n, a, b, m) {
+            bytes = bytes.saturating_add(bytes_of(instance, m));
+        }
+    }
+    bytes
+}
+
+/// Asks that the messages of node `n` that are sent from round `a` on and before `b` are too many: without those that needn't
+/// be among them.
+pub fn ask_frames(needs: &mut Needs, moment: &Moment, n: u32, a: u32, b: u32) {
+    let instance = moment.instance();
+    let count = instance.messages().len() as u32;
+    let bytes = bytes_within(moment, n, a, b);
+    let room = most_carried(moment.facts, n, b.saturating_sub(a));
+    let mut spare = bytes.saturating_sub(room).saturating_sub(1);
+    for m in 0..count {
+        if sent_within(moment, n, a, b, m) {
+            let free = moment.first.first_round(m) >= a && moment.first.late_round(m) <= b;
+            if !free && bytes_of(instance, m) <= spare {
+                spare = spare.saturating_sub(bytes_of(instance, m));
+            } else {
+                needs.sent_from(m, u64::from(a));
+                needs.sent_before(m, u64::from(b));
+            }
+        }
+    }
+}
+
+/// Whether message `k` may be in the frame of round `r` in which another one of node `n` would be.
+fn may_be_beside(moment: &Moment, n: u32, r: u32, k: u32) -> bool {
+    is_of(moment.instance(), n, k) && moment.now.first_round(k) <= r && r < moment.now.late_round(k)
+}
+
+/// How many bytes beside message `m` of node `n` may be in the frame of round `r` in which it would be.
+fn bytes_beside(moment: &Moment, n: u32, m: u32, r: u32) -> u64 {
+    let instance = moment.instance();
+    let count = instance.messages().len() as u32;
+    let mut bytes = 0u64;
+    for k in 0..count {
+        if k != m && may_be_beside(moment, n, r, k) {
+            bytes = bytes.saturating_add(bytes_of(instance, k));
+        }
+    }
+    bytes
+}
+
+/// Asks that message `m` could be sent in round `r`, which is earlier than those in which it is: it is ready, and its frame has
+/// room for it beside those that may be there.
+pub fn ask_earlier(needs: &mut Needs, moment: &Moment, m: u32, r: u32) {
+    let instance = moment.instance();
+    if m as usize >= instance.messages().len() {
+        return;
+    }
+    let n = instance.source_of(m as usize);
+    needs.sent_from(m, u64::from(r).saturating_add(1));
+    let begins = begin_least(moment.facts, m, r);
+    needs.end_until(
+        sender(instance, m),
+        begins.saturating_sub(copy_out(moment.facts)),
+    );
+    let bytes = bytes_of(instance, m).saturating_add(bytes_beside(moment, n, m, r));
+    let mut spare = least_carried(moment.facts, n).saturating_sub(bytes);
+    let count = instance.messages().len() as u32;
+    for k in 0..count {
+        if k != m && went_elsewhere(moment, n, r, k) {
+            if bytes_of(instance, k) <= spare {
+                spare = spare.saturating_sub(bytes_of(instance, k));
+            } else {
+                ask_elsewhere(needs, moment, r, k);
+            }
+        }
+    }
+}
+
+/// Whether message `k` of node `n` could be sent in round `r` at first, and can't be.
+fn went_elsewhere(moment: &Moment, n: u32, r: u32, k: u32) -> bool {
+    is_of(moment.instance(), n, k)
+        && moment.first.first_round(k) <= r
+        && r < moment.first.late_round(k)
+        && !may_be_beside(moment, n, r, k)
+}
+
+/// Asks that message `k` isn't sent in round `r`.
+fn ask_elsewhere(needs: &mut Needs, moment: &Moment, r: u32, k: u32) {
+    if moment.now.first_round(k) > r {
+        needs.sent_from(k, u64::from(r).saturating_add(1));
+    } else {
+        needs.sent_before(k, u64::from(r));
+    }
+}

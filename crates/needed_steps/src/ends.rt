@@ -1,0 +1,107 @@
+//! What does a step read that says when something ends at most?
+
+use crate::fact::link_after;
+use crate::moment::Moment;
+use crate::needs::Needs;
+use crate::slots::{copy_in, copy_out, end_least, least_passage, rounds_arrived, rounds_begun};
+use ttp_model::{Step, has_link};
+
+/// Asks for what a step reads on ends and late rounds, so that it says of its own at most `need`.
+pub fn ask_late(needs: &mut Needs, moment: &Moment, step: &Step, need: u64) {
+    match step {
+        Step::LeLink(l) => ask_start(needs, moment, link_after(moment.instance(), *l), need),
+        Step::LeBefore(p, q) => {
+            ask_start(needs, moment, *q, need);
+            needs.go_first(*p, *q);
+        }
+        Step::LeMessage(m, q) => {
+            let started = need.saturating_add(least_passage(moment.facts, *m));
+            ask_start(needs, moment, *q, started);
+        }
+        Step::LeSend(m) => {
+            let rounds = rounds_begun(
+                moment.facts,
+                *m,
+                need.saturating_add(copy_out(moment.facts)),
+            );
+            ask_rounds(needs, moment, *m, rounds);
+        }
+        Step::HiArrive(m, q) => ask_missed(needs, moment, *m, *q, need),
+        Step::UsSettled(p) => ask_settled(needs, moment, *p, need),
+        _ => {}
+    }
+}
+
+/// Asks that a process has to start by a time.
+fn ask_start(needs: &mut Needs, moment: &Moment, p: u32, time: u64) {
+    needs.end_until(p, time.saturating_add(moment.wcet(p)));
+}
+
+/// Asks that a message is sent in one of so many rounds; where none would do, in one of those that are known.
+fn ask_rounds(needs: &mut Needs, moment: &Moment, m: u32, rounds: u64) {
+    let known = u64::from(moment.now.late_round(m));
+    needs.sent_before(m, rounds.max(known));
+}
+
+/// Asks that process `q` has to start before a message of this round has arrived.
+fn ask_missed(needs: &mut Needs, moment: &Moment, m: u32, q: u32, round: u64) {
+    let round = round.min(u64::from(u32::MAX)) as u32;
+    let arrived = end_least(moment.facts, m, round).saturating_add(copy_in(moment.facts));
+    ask_start(needs, moment, q, arrived.saturating_sub(1));
+}
+
+/// Asks that process `p` has nothing to wait for that would let it end later.
+fn ask_settled(needs: &mut Needs, moment: &Moment, p: u32, end: u64) {
+    let start = end.saturating_sub(moment.wcet(p));
+    let count = moment.instance().processes().len() as u32;
+    for x in 0..count {
+        ask_ended(needs, moment, p, x, start);
+    }
+    ask_arrived(needs, moment, p, start);
+}
+
+/// Asks that the messages to process `p` have arrived by a time.
+fn ask_arrived(needs: &mut Needs, moment: &Moment, p: u32, start: u64) {
+    let count = moment.instance().messages().len() as u32;
+    for m in 0..count {
+        if is_sent_to(moment, m, p) {
+            let rounds = rounds_arrived(moment.facts, m, start);
+            ask_rounds(needs, moment, m, rounds);
+        }
+    }
+}
+
+/// Whether a process receives a message.
+fn is_sent_to(moment: &Moment, m: u32, p: u32) -> bool {
+    let instance = moment.instance();
+    if m as usize >= instance.messages().len() {
+        return false;
+    }
+    let message = instance.message_at(m as usize);
+    message.receivers.as_slice().contains(&p)
+}
+
+/// Asks that process `x` doesn't keep process `p` from starting by a time: it ends by then, or goes after it.
+fn ask_ended(needs: &mut Needs, moment: &Moment, p: u32, x: u32, time: u64) {
+    if !share_a_node(moment, p, x) || u64::from(moment.first.end(x)) <= time {
+        return;
+    }
+    if moment.facts.choice().is_before(p, x) || has_link(moment.instance(), p, x) {
+        return;
+    }
+    if u64::from(moment.now.end(x)) <= time {
+        needs.end_until(x, time);
+    } else {
+        needs.go_first(p, x);
+    }
+}
+
+/// Whether they are two processes of one node.
+fn share_a_node(moment: &Moment, p: u32, x: u32) -> bool {
+    let instance = moment.instance();
+    let count = instance.processes().len();
+    p != x
+        && (p as usize) < count
+        && (x as usize) < count
+        && instance.node_of(p as usize) == instance.node_of(x as usize)
+}

@@ -1,0 +1,19 @@
+//! What steps are about, and which of them a closer needs.
+#![tactic(auto)]
+
+mod asking;
+mod closers;
+mod ends;
+mod fact;
+mod fact_set;
+mod marks;
+mod moment;
+mod needs;
+mod reads;
+mod slots;
+mod starts;
+mod values;
+
+pub use fact::{Fact, link_after, link_before, target, value};
+pub use fact_set::FactSet;
+pub use marks::Marks;

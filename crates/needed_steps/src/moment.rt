@@ -1,0 +1,36 @@
+//! What is known before a step of a log?
+
+use crate::fact::Fact;
+use crate::values::Values;
+use tt_infer::Facts;
+use ttp_model::Instance;
+
+/// What is known before a step of a log, and what at first.
+#[derive(Drop)]
+pub struct Moment<'b, 'a> {
+    /// What is known after the last step.
+    pub facts: &'b Facts<'a>,
+    pub now: Values,
+    pub first: Values,
+}
+
+impl<'b, 'a> Moment<'b, 'a> {
+    pub fn instance(&self) -> &'a Instance {
+        self.facts.instance()
+    }
+
+    /// How long a process runs, in ticks: 0 where it isn't there.
+    pub fn wcet(&self, p: u32) -> u64 {
+        let instance = self.facts.instance();
+        if (p as usize) < instance.processes().len() {
+            u64::from(instance.process_at(p as usize).wcet)
+        } else {
+            0
+        }
+    }
+
+    /// Goes back before a step that sharpened a fact from this value.
+    pub fn go_back(&mut self, fact: Fact, value: u32) {
+        self.now.put(fact, value);
+    }
+}
