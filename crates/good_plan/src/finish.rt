@@ -4,18 +4,25 @@ ghost use Rattle.std.specs.Prelude.{◌≡◌, IfOk, IfSome};
 ghost use Rattle.ttp_model.specs.Delays.{delay};
 ghost use Rattle.ttp_model.specs.Moves.{IsSettled};
 
-use crate::climb::best_plan;
+use crate::climbs::best_plan;
 use std::alloc::Global;
+use std::thread::Threads;
 use tt_settle::settle;
 use ttp_model::{Instance, MemoryFault, Plan, delay};
 
 /// A settled plan with its delay in ticks, if a climb leads to one: often a good one, at times
-/// one of the shortest. Takes some tenths of a second at most. That none is found says nothing.
-pub fn good_plan(alloc: Global, instance: &Instance) -> Result<Option<(Plan, u64)>, MemoryFault>
+/// one of the shortest. Takes some tenths of a second at most. That none is found says nothing. Climbs go side by side where
+/// there are several workers, which changes nothing of what is found.
+pub fn good_plan<R: Threads + Sync>(
+    rt: &R,
+    alloc: Global,
+    instance: &Instance,
+    workers: u32,
+) -> Result<Option<(Plan, u64)>, MemoryFault>
     ensures { IfOk result (λ found. IfSome found (λ f.
         IsSettled instance.now f.0 × (f.1 ≡ delay instance.now f.0))) }
 {
-    let plan = best_plan(alloc, instance)?;
+    let plan = best_plan(rt, alloc, instance, workers)?;
     Ok(settled(alloc, instance, plan))
 }
 

@@ -6,6 +6,7 @@ mod chains;
 mod chance;
 mod change;
 mod climb;
+mod climbs;
 mod draft;
 mod finish;
 mod network;

@@ -35,17 +35,18 @@ use ttp_model::{Instance, MemoryFault, Plan};
 const LITTLE: usize = 32;
 
 /// A plan to begin with; none is looked for with a budget of 0, or where little is to be chosen.
-fn first_plan(
+fn first_plan<R: Threads + Sync>(
+    rt: &R,
     alloc: Global,
     instance: &Instance,
-    budget: u64,
+    options: Options,
 ) -> Result<Option<(Plan, u64)>, MemoryFault>
     ensures { IfOk result (IsFound instance.now) }
 {
-    if budget == 0 || Choice::root(alloc, instance)?.size_left(instance) <= LITTLE {
+    if options.budget == 0 || Choice::root(alloc, instance)?.size_left(instance) <= LITTLE {
         return Ok(None);
     }
-    good_plan(alloc, instance)
+    good_plan(rt, alloc, instance, options.workers)
 }
 
 /// Pieces and others after them, in no more room than they take: what is left of it is free.
@@ -158,7 +159,7 @@ fn settled(instance: &Instance, options: Options, best: Option<(Plan, u64)>, cer
 
 /// Searches for the shortest plan of an instance, as `solve` does, and calls a gate as workers go on: `start` once for each,
 /// and `enter` and `leave` for each task that they take. The caller's thread calls none.
-pub fn solve_with<R: Threads + Wait, G: Gate + Sync>(
+pub fn solve_with<R: Threads + Wait + Sync, G: Gate + Sync>(
     rt: &R,
     alloc: Global,
     instance: &Instance,
@@ -171,7 +172,7 @@ pub fn solve_with<R: Threads + Wait, G: Gate + Sync>(
 {
     let _nodes = instance.nodes();
     let reserve = Reserve::begin(alloc)?;
-    let first = first_plan(alloc, instance, options.budget)?;
+    let first = first_plan(rt, alloc, instance, options)?;
     let search = searched::<Brand, G, R>(rt, alloc, instance, options, first, gate)?;
     match lean_proof(alloc, instance, &search) {
         Some(cert) => Ok(settled(instance, options, search.best, cert)),
@@ -185,7 +186,7 @@ pub fn solve_with<R: Threads + Wait, G: Gate + Sync>(
 /// choose.
 ///
 /// It waits for its workers. Where a thread can't be started, those that run are joined, and nothing is answered.
-pub fn solve<R: Threads + Wait>(
+pub fn solve<R: Threads + Wait + Sync>(
     rt: &R,
     alloc: Global,
     instance: &Instance,

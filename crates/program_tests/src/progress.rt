@@ -72,7 +72,7 @@ impl Eprint for Screen {
 /// How many lines the search of the first example writes by a clock with this step, and how many are this one. None where
 /// its answer isn't the plan.
 fn counts(
-    rt: &(impl Alloc<A = Global> + Threads + Wait),
+    rt: &(impl Alloc<A = Global> + Threads + Wait + Sync),
     workers: u32,
     step: u64,
     line: &'static str,

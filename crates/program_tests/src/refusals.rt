@@ -84,7 +84,11 @@ fn is_found(end: &End, out: &Page, certificate: &Page) -> Result<bool, Fail> {
 }
 
 /// Whether a search with so many workers does so.
-fn search_survives<R: Threads + Wait>(rt: &R, alloc: Global, workers: u32) -> Result<bool, Fail> {
+fn search_survives<R: Threads + Wait + Sync>(
+    rt: &R,
+    alloc: Global,
+    workers: u32,
+) -> Result<bool, Fail> {
     let instance = joined(alloc, FIRST)?;
     let (mut out, mut certificate) = (page(), page());
     let options = Options {

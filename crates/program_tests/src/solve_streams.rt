@@ -33,7 +33,7 @@ const FINDING_NONE: Search = ("horizon = 4\n", 100);
 const STOPPED: Search = ("horizon = 5\n", 0);
 
 fn searched(
-    rt: &(impl Alloc<A = Global> + Threads + Wait),
+    rt: &(impl Alloc<A = Global> + Threads + Wait + Sync),
     (horizon, budget): Search,
 ) -> Result<Case, AllocError> {
     let options = Options { workers: 1, budget };
@@ -51,7 +51,7 @@ impl Case {
     /// What is told where the reader fails after so many calls, and the output is full after so many bytes.
     fn told(
         &self,
-        rt: &(impl Alloc<A = Global> + Threads + Wait),
+        rt: &(impl Alloc<A = Global> + Threads + Wait + Sync),
         calls: usize,
         certificate: Option<&mut FullWriter>,
         room: usize,
@@ -67,7 +67,11 @@ impl Case {
     }
 
     /// Whether a reader that fails after so many calls leaves both writers as they were.
-    fn is_unread_at(&self, rt: &(impl Alloc<A = Global> + Threads + Wait), calls: usize) -> bool {
+    fn is_unread_at(
+        &self,
+        rt: &(impl Alloc<A = Global> + Threads + Wait + Sync),
+        calls: usize,
+    ) -> bool {
         let mut certificate = FullWriter::with_room(rt.alloc(), ROOM);
         let told = self.told(rt, calls, Some(&mut certificate), ROOM);
         let alone = self.told(rt, calls, None, ROOM);
@@ -79,7 +83,7 @@ impl Case {
     /// Whether an output of this room has what fits of the answer, and the certificate is whole.
     fn is_right_with_output(
         &self,
-        rt: &(impl Alloc<A = Global> + Threads + Wait),
+        rt: &(impl Alloc<A = Global> + Threads + Wait + Sync),
         room: usize,
     ) -> bool {
         let mut certificate = FullWriter::with_room(rt.alloc(), ROOM);
@@ -103,7 +107,7 @@ impl Case {
     /// Whether a certificate's writer of this room has what fits of it, and nothing is told where that isn't all.
     fn is_right_with_certificate(
         &self,
-        rt: &(impl Alloc<A = Global> + Threads + Wait),
+        rt: &(impl Alloc<A = Global> + Threads + Wait + Sync),
         room: usize,
     ) -> bool {
         let whole = self.whole.certificate.as_slice();
@@ -117,12 +121,15 @@ impl Case {
     }
 
     /// The first room for the output with which something else is written than fits.
-    fn wrong_output(&self, rt: &(impl Alloc<A = Global> + Threads + Wait)) -> Option<usize> {
+    fn wrong_output(&self, rt: &(impl Alloc<A = Global> + Threads + Wait + Sync)) -> Option<usize> {
         (0..self.whole.told.out.len() + 1).find(|room| !self.is_right_with_output(rt, *room))
     }
 
     /// The same of the room for the certificate.
-    fn wrong_certificate(&self, rt: &(impl Alloc<A = Global> + Threads + Wait)) -> Option<usize> {
+    fn wrong_certificate(
+        &self,
+        rt: &(impl Alloc<A = Global> + Threads + Wait + Sync),
+    ) -> Option<usize> {
         (0..self.whole.certificate.len() + 1).find(|room| !self.is_right_with_certificate(
             rt, *room,
         ))
@@ -131,7 +138,7 @@ impl Case {
 
 /// The first room for the output or for the certificate with which something else is written than fits.
 fn wrong_room(
-    rt: &(impl Alloc<A = Global> + Threads + Wait),
+    rt: &(impl Alloc<A = Global> + Threads + Wait + Sync),
     search: Search,
 ) -> Result<Option<usize>, AllocError> {
     let case = searched(rt, search)?;
@@ -158,7 +165,7 @@ fn full_writers_have_a_prefix_of_bounds_and_their_certificate(rt: HostRuntime) -
 
 /// The first call at which a failed read leaves something written.
 fn wrong_call(
-    rt: &(impl Alloc<A = Global> + Threads + Wait),
+    rt: &(impl Alloc<A = Global> + Threads + Wait + Sync),
     search: Search,
 ) -> Result<Option<usize>, AllocError> {
     let case = searched(rt, search)?;
@@ -178,7 +185,7 @@ fn a_failed_read_leaves_both_writers_as_they_were(rt: HostRuntime) -> Result<(),
 
 /// Whether of two full writers the certificate's is told.
 fn certificate_goes_first(
-    rt: &(impl Alloc<A = Global> + Threads + Wait),
+    rt: &(impl Alloc<A = Global> + Threads + Wait + Sync),
 ) -> Result<bool, AllocError> {
     let case = searched(rt, FINDING_A_PLAN)?;
     let mut certificate = FullWriter::with_room(rt.alloc(), 0);

@@ -66,7 +66,7 @@ pub struct Answered {
 
 /// What `solve` answers of an instance in parts.
 pub fn solved(
-    rt: &(impl Alloc<A = Global> + Threads + Wait),
+    rt: &(impl Alloc<A = Global> + Threads + Wait + Sync),
     instance: &[&str],
     options: Options,
 ) -> Result<Answered, AllocError> {
@@ -323,7 +323,7 @@ fn without_a_budget_the_search_is_stopped(rt: HostRuntime) -> Result<(), Fail> {
 /// Whether one subtree of the tree of one process that is released at 2 isn't enough to end: with a plan of 7 ticks that is
 /// found before, the root would be closed at once.
 fn is_open_behind_its_root(
-    rt: &(impl Alloc<A = Global> + Threads + Wait),
+    rt: &(impl Alloc<A = Global> + Threads + Wait + Sync),
 ) -> Result<bool, AllocError> {
     let one = Options {
         workers: 1,

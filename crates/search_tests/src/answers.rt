@@ -82,7 +82,7 @@ pub fn read(alloc: Global, instance: &Instance, outcome: &Outcome) -> Result<Ans
 }
 
 /// What is answered for an instance by one worker, with this budget.
-pub fn solved<R: Threads + Wait>(
+pub fn solved<R: Threads + Wait + Sync>(
     rt: &R,
     alloc: Global,
     instance: &Instance,
@@ -92,7 +92,7 @@ pub fn solved<R: Threads + Wait>(
 }
 
 /// What is answered for an instance.
-pub fn solved_by<R: Threads + Wait>(
+pub fn solved_by<R: Threads + Wait + Sync>(
     rt: &R,
     alloc: Global,
     instance: &Instance,

@@ -221,7 +221,7 @@ fn instance(alloc: Global, sizes: Sizes, number: u32) -> Result<Instance, Fail> 
 }
 
 /// Whether an instance has a plan. Solved, it has to have the answer that trying every plan gives.
-fn compared<R: Abort + Threads + Wait>(
+fn compared<R: Abort + Threads + Wait + Sync>(
     rt: &R,
     alloc: Global,
     sizes: Sizes,
@@ -240,7 +240,7 @@ fn compared<R: Abort + Threads + Wait>(
 }
 
 /// Compares this many instances, some of which have a plan and some have none.
-fn compare<R: Abort + Threads + Wait>(
+fn compare<R: Abort + Threads + Wait + Sync>(
     rt: &R,
     alloc: Global,
     sizes: Sizes,

@@ -4,25 +4,42 @@ use crate::instances::{LEAST_DELAYS, Sample};
 use good_plan::good_plan;
 use std::alloc::Global;
 use std::test::Fail;
+use std::thread::Threads;
 use ttp_model::Plan;
 
-/// The good plan of an instance, with its delay.
-fn found(alloc: Global, sample: Sample) -> Result<Option<(Plan, u64)>, Fail> {
+/// The good plan of an instance that so many workers find, with its delay.
+fn found(
+    rt: &(impl Threads + Sync),
+    alloc: Global,
+    sample: Sample,
+    workers: u32,
+) -> Result<Option<(Plan, u64)>, Fail> {
     let instance = sample.build(alloc)?;
-    Ok(good_plan(alloc, &instance)?)
+    Ok(good_plan(rt, alloc, &instance, workers)?)
 }
 
 /// The delay of the good plan.
-fn good_delay(alloc: Global, sample: Sample) -> Result<Option<u64>, Fail> {
-    match found(alloc, sample)? {
+fn good_delay(
+    rt: &(impl Threads + Sync),
+    alloc: Global,
+    sample: Sample,
+) -> Result<Option<u64>, Fail> {
+    match found(rt, alloc, sample, 1)? {
         Some((_plan, delay)) => Ok(Some(delay)),
         None => Ok(None),
     }
 }
 
-/// Whether these are the starts and rounds of the good plan.
-fn is_good(alloc: Global, sample: Sample, starts: &[u32], rounds: &[u32]) -> Result<bool, Fail> {
-    match found(alloc, sample)? {
+/// Whether these are the starts and rounds of the good plan that so many workers find.
+fn is_good(
+    rt: &(impl Threads + Sync),
+    alloc: Global,
+    sample: Sample,
+    workers: u32,
+    starts: &[u32],
+    rounds: &[u32],
+) -> Result<bool, Fail> {
+    match found(rt, alloc, sample, workers)? {
         Some((plan, _delay)) => {
             Ok(plan.starts.as_slice() == starts && plan.rounds.as_slice() == rounds)
         }
@@ -33,7 +50,7 @@ fn is_good(alloc: Global, sample: Sample, starts: &[u32], rounds: &[u32]) -> Res
 #[test]
 fn shortest_plans_are_found(rt: HostRuntime) -> Result<(), Fail> {
     for (sample, least) in LEAST_DELAYS {
-        assert_eq!(rt; good_delay(rt.alloc(), sample)?, least, "{sample:?}");
+        assert_eq!(rt; good_delay(&rt, rt.alloc(), sample)?, least, "{sample:?}");
     }
     Ok(())
 }
@@ -48,7 +65,17 @@ const GOOD_PLANS: [(Sample, &[u32], &[u32]); 3] = [
 #[test]
 fn processes_and_messages_wait_for_others(rt: HostRuntime) -> Result<(), Fail> {
     for (sample, starts, rounds) in GOOD_PLANS {
-        assert!(rt; is_good(rt.alloc(), sample, starts, rounds)?, "{sample:?}");
+        let is_good = is_good(&rt, rt.alloc(), sample, 1, starts, rounds)?;
+        assert!(rt; is_good, "{sample:?}");
+    }
+    Ok(())
+}
+
+#[test]
+fn several_workers_find_the_same(rt: HostRuntime) -> Result<(), Fail> {
+    for (sample, starts, rounds) in GOOD_PLANS {
+        let is_good = is_good(&rt, rt.alloc(), sample, 4, starts, rounds)?;
+        assert!(rt; is_good, "{sample:?}");
     }
     Ok(())
 }

@@ -9,7 +9,7 @@ use std::test::Fail;
 use std::thread::Threads;
 
 /// The answer for an instance that is named, by so many workers with this budget.
-fn solved_sample<R: Threads + Wait>(
+fn solved_sample<R: Threads + Wait + Sync>(
     rt: &R,
     alloc: Global,
     sample: Sample,

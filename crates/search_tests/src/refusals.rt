@@ -18,7 +18,7 @@ use steal_pool::{Hand, Searched};
 use ttp_model::Instance;
 
 /// Whether so many workers say that 8 ticks are least, or memory was refused; then what is told has to hold.
-fn survives_refusals<R: Threads + Wait>(
+fn survives_refusals<R: Threads + Wait + Sync>(
     rt: &R,
     alloc: Global,
     instance: &Instance,

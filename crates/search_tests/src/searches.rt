@@ -10,7 +10,7 @@ use std::thread::Threads;
 use ttp_model::Instance;
 
 /// The answer for an instance that is named, with this budget.
-fn solved_sample<R: Threads + Wait>(
+fn solved_sample<R: Threads + Wait + Sync>(
     rt: &R,
     alloc: Global,
     sample: Sample,
@@ -40,7 +40,7 @@ fn without_a_budget_the_path_bound_is_answered(rt: HostRuntime) -> Result<(), Fa
 
 /// The first budget with which so many workers say that 8 ticks are least; None where what is told with a smaller one is
 /// wrong.
-fn budget_for_eight<R: Threads + Wait>(
+fn budget_for_eight<R: Threads + Wait + Sync>(
     rt: &R,
     alloc: Global,
     instance: &Instance,

@@ -28,7 +28,7 @@ struct Met {
     limits_met: u64,
 }
 
-fn two_who_meet<R: Threads + Wait>(rt: &R, alloc: Global) -> Result<Met, Fail> {
+fn two_who_meet<R: Threads + Wait + Sync>(rt: &R, alloc: Global) -> Result<Met, Fail> {
     let instance = Sample::OneMessage(100).build(alloc)?;
     let gate = Meeting::new();
     let outcome = solve_with(rt, alloc, &instance, TWO, &gate)?;
@@ -82,7 +82,7 @@ fn greatest_goal_below_first(cert: &Cert) -> u32 {
 }
 
 /// How many names one worker leaves below the root's first child and below its second.
-fn names_below<R: Threads + Wait>(
+fn names_below<R: Threads + Wait + Sync>(
     rt: &R,
     alloc: Global,
     sample: Sample,
@@ -104,7 +104,11 @@ struct InTurnWorked {
     names_left: u64,
 }
 
-fn in_turn<R: Threads + Wait>(rt: &R, alloc: Global, sample: Sample) -> Result<InTurnWorked, Fail> {
+fn in_turn<R: Threads + Wait + Sync>(
+    rt: &R,
+    alloc: Global,
+    sample: Sample,
+) -> Result<InTurnWorked, Fail> {
     let instance = sample.build(alloc)?;
     let gate = InTurn::new(names_below(rt, alloc, sample)?);
     let outcome = solve_with(rt, alloc, &instance, TWO, &gate)?;

@@ -148,7 +148,7 @@ fn fault_of(fault: SolveFault) -> SearchFault
 }
 
 /// Searches the instance that a reader's bytes state, and makes the answer's text.
-fn solved_of_reader<R: Threads + Wait, G: Follower + Sync, I: Read>(
+fn solved_of_reader<R: Threads + Wait + Sync, G: Follower + Sync, I: Read>(
     rt: &R,
     alloc: Global,
     instance: &mut I,
@@ -202,7 +202,7 @@ fn write_answer<W: Write>(solved: &Solved, out: &mut W) -> End
 
 /// `solve_run` where no certificate is asked for.
 #[tactic(auto, unfolding(crate::specs::Solved::IsSolveAnswer))]
-fn solve_alone<R: Threads + Wait, G: Follower + Sync, I: Read, W: Write>(
+fn solve_alone<R: Threads + Wait + Sync, G: Follower + Sync, I: Read, W: Write>(
     rt: &R,
     alloc: Global,
     instance: &mut I,
@@ -222,7 +222,7 @@ fn solve_alone<R: Threads + Wait, G: Follower + Sync, I: Read, W: Write>(
 
 /// `solve_run` with a writer for the certificate.
 #[tactic(auto, unfolding(crate::specs::Solved::IsSolveAnswer))]
-fn solve_certified<R: Threads + Wait, G: Follower + Sync, I: Read, C: Write, W: Write>(
+fn solve_certified<R: Threads + Wait + Sync, G: Follower + Sync, I: Read, C: Write, W: Write>(
     rt: &R,
     alloc: Global,
     instance: &mut I,
@@ -247,7 +247,7 @@ fn solve_certified<R: Threads + Wait, G: Follower + Sync, I: Read, C: Write, W: 
 }
 
 /// Searches and writes as `solve_run` does, and tells a follower how the search goes on.
-pub fn solve_run_with<R: Threads + Wait, G: Follower + Sync, I: Read, C: Write, W: Write>(
+pub fn solve_run_with<R: Threads + Wait + Sync, G: Follower + Sync, I: Read, C: Write, W: Write>(
     rt: &R,
     alloc: Global,
     instance: &mut I,
@@ -274,7 +274,7 @@ pub fn solve_run_with<R: Threads + Wait, G: Follower + Sync, I: Read, C: Write, 
 /// word `none`, followed by that plan's text, and then the end is `Stopped`. The certificate is written first,
 /// whatever was found. Both texts are made before one is written: where memory is refused nothing is written, and
 /// where the certificate's writer fails nothing but a prefix of it is.
-pub fn solve_run<R: Threads + Wait, I: Read, C: Write, W: Write>(
+pub fn solve_run<R: Threads + Wait + Sync, I: Read, C: Write, W: Write>(
     rt: &R,
     alloc: Global,
     instance: &mut I,

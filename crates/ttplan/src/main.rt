@@ -84,7 +84,7 @@ fn create_certificate(rt: &HostRuntime, name: Option<&str>) -> Result<Option<Fil
 /// Searches an instance: its file is opened first, then that of the certificate, and then the first is read.
 fn run_solve(
     rt: &HostRuntime,
-    threads: &(impl Threads + Wait),
+    threads: &(impl Threads + Wait + Sync),
     instance: &str,
     certificate: Option<&str>,
     options: Options,
@@ -113,7 +113,7 @@ fn run_solve(
 /// Searches an instance, and says on standard error how far the search is.
 fn run_solve_in_sight(
     rt: &HostRuntime,
-    threads: &(impl Threads + Wait),
+    threads: &(impl Threads + Wait + Sync),
     instance: &mut File,
     certificate: Option<&mut File>,
     options: Options,

@@ -1,0 +1,149 @@
+//! Many climbs, and the best of what they come to.
+
+use crate::chance::Chance;
+use crate::climb::{Climb, Pace, Summit};
+use crate::draft::Draft;
+use crate::network::Network;
+use crate::timetable::Timetable;
+use rayon::prelude::*;
+use std::alloc::{AllocError, Global};
+use std::ops::Range;
+use std::thread::Threads;
+use ttp_model::{Instance, Numbers, Plan};
+
+/// How many climbs set out at first, from slot orders by chance.
+const FIRST: u64 = 8;
+
+/// How many parties set out after them, each from the best schedule so far.
+const PARTIES: u64 = 3;
+
+/// How many climbs such a party has.
+const PARTY: u64 = 4;
+
+/// Where the sequences of numbers begin.
+const SEED: u64 = 11_000;
+
+/// The plan of the best schedule of all climbs, which isn't valid where something is late.
+pub fn best_plan<R: Threads + Sync>(
+    rt: &R,
+    alloc: Global,
+    instance: &Instance,
+    workers: u32,
+) -> Result<Plan, AllocError> {
+    let network = Network::new(instance);
+    let mut best = Draft::new(&network);
+    best = summit(rt, workers, &network, &best, 0..FIRST);
+    for party in 0..PARTIES {
+        let first = FIRST + party * PARTY;
+        best = summit(rt, workers, &network, &best, first..first + PARTY);
+    }
+    plan_of(alloc, &network, &best)
+}
+
+/// The draft of the best summit that climbs come to, of equal ones that of the first. Workers change nothing of it, since a
+/// climb rests on its number and on where it sets out.
+fn summit<R: Threads + Sync>(
+    rt: &R,
+    workers: u32,
+    network: &Network,
+    best: &Draft,
+    numbers: Range<u64>,
+) -> Draft {
+    let summit = if workers > 1 {
+        side_by_side(rt, network, best, numbers)
+    } else {
+        in_turn(network, best, numbers)
+    };
+    match summit {
+        Some(summit) => summit.draft,
+        None => *best,
+    }
+}
+
+/// The best summit of climbs in threads of their own.
+fn side_by_side<R: Threads + Sync>(
+    rt: &R,
+    network: &Network,
+    best: &Draft,
+    numbers: Range<u64>,
+) -> Option<Summit> {
+    numbers
+        .into_par_iter()
+        .with_min_len(1)
+        .map(|number: u64| -> Summit { climbed(network, best, number) })
+        .min_by_key(rt, |summit: &Summit| -> (u64, u64) { summit.rank() })
+}
+
+/// The best summit of climbs on the caller's thread.
+fn in_turn(network: &Network, best: &Draft, numbers: Range<u64>) -> Option<Summit> {
+    let mut highest: Option<Summit> = None;
+    for number in numbers {
+        let summit = climbed(network, best, number);
+        highest = match highest {
+            Some(other) if other.rank() <= summit.rank() => Some(other),
+            _ => Some(summit),
+        };
+    }
+    highest
+}
+
+/// The summit of the climb with this number.
+fn climbed(network: &Network, best: &Draft, number: u64) -> Summit {
+    let mut chance = Chance::new(SEED.saturating_add(number));
+    let draft = beginning(network, best, number, &mut chance);
+    Climb::new(network, draft, chance).run(network, pace(network.instance, number))
+}
+
+/// Where a climb sets out.
+fn beginning(network: &Network, best: &Draft, number: u64, chance: &mut Chance) -> Draft {
+    if number >= FIRST {
+        return *best;
+    }
+    let mut draft = Draft::new(network);
+    if number > 0 {
+        draft.shuffle(chance);
+    }
+    draft
+}
+
+/// How a climb goes. Messages may wait in every second one, and in those that set out from the best schedule.
+fn pace(instance: &Instance, number: u64) -> Pace {
+    Pace {
+        turns: turns(instance),
+        heat: heat(number),
+        holds: number % 2 == 1 || number >= FIRST,
+    }
+}
+
+/// How many schedules a climb tries: more where more can be changed, but fewer where each takes long.
+fn turns(instance: &Instance) -> u64 {
+    let parts = (instance.processes().len() as u64)
+        .saturating_add(instance.links().len() as u64)
+        .saturating_add(instance.messages().len() as u64);
+    let most = 1_000_000 / parts.saturating_add(10).max(1);
+    parts.saturating_mul(500).min(most)
+}
+
+/// How much longer a schedule may become at first, in thousandths of the first one's delay: less in each later party.
+fn heat(number: u64) -> u64 {
+    if number < FIRST {
+        return if number % 2 == 0 { 50 } else { 25 };
+    }
+    match (number - FIRST) / PARTY {
+        0 => 35,
+        1 => 25,
+        _ => 12,
+    }
+}
+
+/// The plan of a draft's schedule.
+fn plan_of(alloc: Global, network: &Network, draft: &Draft) -> Result<Plan, AllocError> {
+    let mut timetable = Timetable::new(network);
+    timetable.make(network, draft, u64::MAX);
+    Ok(Plan {
+        order: Numbers::new(draft.order.narrow(alloc)?),
+        caps: Numbers::new(timetable.bus.capacities.narrow(alloc)?),
+        starts: Numbers::new(timetable.starts.narrow(alloc)?),
+        rounds: Numbers::new(timetable.rounds.narrow(alloc)?),
+    })
+}
