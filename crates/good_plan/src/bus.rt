@@ -21,34 +21,29 @@ pub struct Bus {
 }
 
 impl Bus {
-    /// No slots.
-    pub fn new(nodes: usize) -> Self {
-        let nothing = Table::zeros(nodes);
+    /// No slots, for so many nodes and messages.
+    pub fn new(nodes: usize, messages: usize) -> Self {
+        let slots = Table::zeros(nodes);
+        let frames = Table::zeros(messages.saturating_mul(2));
         Bus {
-            begins: nothing,
-            ends: nothing,
-            capacities: nothing,
+            begins: slots,
+            ends: slots,
+            capacities: slots,
             round_length: 1,
-            rounds: nothing,
-            loads: nothing,
+            rounds: frames,
+            loads: frames,
         }
     }
 
     /// Takes the slots of a draft, with frames that carry nothing.
     pub fn lay_out(&mut self, network: &Network, draft: &Draft) {
-        let cluster = network.instance.cluster();
         let mut time = 0u64;
         for position in 0..draft.order.len() {
             let node = draft.order.place_at(position);
             let capacity = draft.capacity(network, node);
             self.begins.set(node, time);
             self.capacities.set(node, capacity);
-            time = capacity
-                .saturating_mul(u64::from(cluster.per_byte))
-                .saturating_add(u64::from(cluster.lead))
-                .saturating_add(u64::from(cluster.head))
-                .saturating_add(u64::from(cluster.trail))
-                .saturating_add(time);
+            time = time.saturating_add(network.slot_length(capacity));
             self.ends.set(node, time);
         }
         self.round_length = time.max(1);

@@ -3,7 +3,7 @@
 use crate::network::Network;
 use crate::table::Table;
 
-/// For each process the time that the longest chain of links and messages takes that begins with it.
+/// For each process the time that the longest chain of links and messages takes at least that begins with it.
 pub fn chain_times(network: &Network) -> Table {
     let mut times = network.wcets;
     for _ in 0..times.len() {
@@ -42,10 +42,9 @@ fn lengthen_by_links(network: &Network, times: &mut Table) {
 
 /// The same for the chains over messages.
 fn lengthen_by_messages(network: &Network, times: &mut Table) {
-    let cluster = network.instance.cluster();
-    let transfer = u64::from(cluster.copy_out) + u64::from(cluster.copy_in);
     for message in network.instance.messages() {
         let sender = message.sender as usize;
+        let transfer = network.transfer(sender);
         let chain = longest_of(message.receivers.as_slice(), times).saturating_add(transfer);
         times.raise(sender, chain.saturating_add(network.wcets.at(sender)));
     }

@@ -76,7 +76,7 @@ impl Climb {
         self.best
     }
 
-    /// Tries one change.
+    /// Tries one change. One that changes nothing costs no schedule.
     fn step(&mut self, network: &Network, leeway: u64, holds: bool) {
         let choice = Choice {
             network: &*network,
@@ -85,6 +85,9 @@ impl Climb {
             holds,
         };
         let change = choice.next(&mut self.chance);
+        if self.draft.has(change) {
+            return;
+        }
         let back = self.draft.make(change);
         let most = self.cost.saturating_add(leeway);
         if self.make(network, most) && self.timetable.cost() <= most {

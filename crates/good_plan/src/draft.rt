@@ -80,6 +80,15 @@ impl Draft {
         }
     }
 
+    /// Whether a change changes nothing.
+    pub fn has(&self, change: Change) -> bool {
+        match change {
+            Change::Slots(a, b) | Change::Slot(a, b) | Change::Line(a, b) => a == b,
+            Change::Option(node, option) => self.options.at(node) == option,
+            Change::Hold(message, frames) => self.holds.at(message) == frames,
+        }
+    }
+
     /// Makes a change, and gives the one that takes it back.
     pub fn make(&mut self, change: Change) -> Change {
         match change {

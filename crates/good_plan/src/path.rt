@@ -22,16 +22,24 @@ pub struct Path {
 impl Path {
     /// Nothing waits, of so many processes and messages.
     pub fn new(processes: usize, messages: usize) -> Self {
-        let mut blockers = Table::zeros(processes);
-        blockers.fill(processes as u64);
-        Path {
-            blockers,
+        let mut path = Path {
+            blockers: Table::zeros(processes),
             firsts: Table::zeros(messages),
             rounds: Table::zeros(messages),
             last: 0,
             latest: 0,
             most: 0,
-        }
+        };
+        path.begin();
+        path
+    }
+
+    /// Nothing waits again. What was noted of messages stays until they are sent.
+    pub fn begin(&mut self) {
+        self.blockers.fill(self.blockers.len() as u64);
+        self.last = 0;
+        self.latest = 0;
+        self.most = 0;
     }
 
     pub fn block(&mut self, process: usize, by: usize) {

@@ -13,6 +13,8 @@ pub struct Timetable {
     pub starts: Table,
     pub rounds: Table,
     pub delay: u64,
+    /// What the delay comes to at least, by the processes that something has arrived at.
+    least: u64,
     /// By how much processes end too late, together.
     pub lateness: u64,
     /// By process, for how many processes and messages it still waits.
@@ -30,11 +32,12 @@ impl Timetable {
             starts: network.releases,
             rounds: Table::zeros(network.bytes.len()),
             delay: 0,
+            least: 0,
             lateness: 0,
             waiting: network.waits,
             queue: Table::zeros(0),
             path: Path::new(network.homes.len(), network.bytes.len()),
-            bus: Bus::new(network.roomy.len()),
+            bus: Bus::new(network.roomy.len(), network.bytes.len()),
         }
     }
 
@@ -50,22 +53,21 @@ impl Timetable {
         self.bus.lay_out(network, draft);
         self.clear(network, draft);
         for turn in 0..network.homes.len() {
-            if turn < self.queue.len() {
-                let p = self.queue.place_at(turn);
-                if self.starts.at(p).saturating_add(network.chains.at(p)) > most {
-                    return false;
-                }
-                self.run(network, draft, p);
+            if turn >= self.queue.len() || self.least > most {
+                return false;
             }
+            let p = self.queue.place_at(turn);
+            self.run(network, draft, p);
         }
-        self.queue.len() >= network.homes.len()
+        true
     }
 
     /// Nothing runs or is sent yet.
     fn clear(&mut self, network: &Network, draft: &Draft) {
         self.delay = 0;
+        self.least = 0;
         self.lateness = 0;
-        self.path = Path::new(network.homes.len(), network.bytes.len());
+        self.path.begin();
         self.starts = network.releases;
         self.waiting = network.waits;
         self.queue.clear();
@@ -89,10 +91,10 @@ impl Timetable {
         let end = self.starts.at(p).saturating_add(network.wcets.at(p));
         self.judge(network, p, end);
         if let Some(q) = draft.neighbour_after(network, p) {
-            self.arrive(q, end, p);
+            self.arrive(network, q, end, p);
         }
         for q in network.followers.row(p) {
-            self.arrive(*q as usize, end, p);
+            self.arrive(network, *q as usize, end, p);
         }
         self.send(network, draft, p, end);
     }
@@ -109,9 +111,10 @@ impl Timetable {
     }
 
     /// Something that a process waits for is there at this time, and came from another process.
-    fn arrive(&mut self, q: usize, time: u64, from: usize) {
+    fn arrive(&mut self, network: &Network, q: usize, time: u64, from: usize) {
         if time > self.starts.at(q) {
             self.starts.set(q, time);
+            self.least = self.least.max(time.saturating_add(network.chains.at(q)));
             self.path.block(q, from);
         }
         self.waiting.set(q, self.waiting.at(q).saturating_sub(1));
@@ -131,14 +134,14 @@ impl Timetable {
             self.path.send(m, first, round);
             let sent = self.bus.end_of(node, round);
             let arrival = sent.saturating_add(u64::from(cluster.copy_in));
-            self.deliver(network.receivers(m), arrival, p);
+            self.deliver(network, m, arrival, p);
         }
     }
 
     /// A message arrives at its receivers.
-    fn deliver(&mut self, receivers: &[u32], time: u64, from: usize) {
-        for q in receivers {
-            self.arrive(*q as usize, time, from);
+    fn deliver(&mut self, network: &Network, m: usize, time: u64, from: usize) {
+        for q in network.receivers(m) {
+            self.arrive(network, *q as usize, time, from);
         }
     }
 }
