@@ -3,6 +3,7 @@
 
 mod asking;
 mod closers;
+mod closings;
 mod ends;
 mod fact;
 mod fact_set;
@@ -11,8 +12,10 @@ mod moment;
 mod needs;
 mod reads;
 mod slots;
+mod spans;
 mod starts;
 mod values;
+mod weights;
 
 pub use fact::{Fact, link_after, link_before, target, value};
 pub use fact_set::FactSet;

@@ -1,12 +1,14 @@
 //! Which steps does a closer need?
 
 use crate::asking::ask;
+use crate::closings::Closings;
 use crate::fact::{Fact, target};
 use crate::fact_set::FactSet;
 use crate::moment::Moment;
 use crate::needs::Needs;
 use crate::reads::add_reads;
 use crate::values::Values;
+use crate::weights::Weights;
 use std::alloc::Global;
 use tt_infer::Facts;
 use ttp_model::{Instance, MemoryFault, Step};
@@ -19,6 +21,8 @@ pub struct Marks {
     needs: Needs,
     /// How far the fact of each step was known before it, where the steps were taken again.
     before: Vec<u32>,
+    closings: Closings,
+    weights: Weights,
 }
 
 impl Marks {
@@ -29,17 +33,59 @@ impl Marks {
             wanted: FactSet::none(alloc, instance)?,
             needs: Needs::none(alloc, instance)?,
             before: Vec::new(alloc),
+            closings: Closings::none(alloc),
+            weights: Weights::none(alloc, instance)?,
         })
     }
 
     /// Marks the steps that the close needs, where this is known after them: the step that closes, and each that was the last
     /// to sharpen a fact before a marked step read it. How many are marked.
     pub fn set_to(&mut self, facts: &Facts, steps: &[Step]) -> Result<usize, MemoryFault> {
-        self.marked.clear();
-        self.marked.resize(steps.len(), false)?;
-        self.wanted.clear();
+        self.begin(steps.len())?;
         self.wanted.insert(Fact::Closed);
         Ok(self.mark(facts, steps))
+    }
+
+    /// Begins with no mark at so many steps, and wants nothing.
+    fn begin(&mut self, steps: usize) -> Result<(), MemoryFault> {
+        self.marked.clear();
+        self.marked.resize(steps, false)?;
+        self.wanted.clear();
+        Ok(())
+    }
+
+    /// Marks the steps that a closer needs which rests on few of a log that closes, where this is known after them. How many are
+    /// marked, and that closer: none where it is the last step of the log, which is marked too.
+    pub fn set_to_few(
+        &mut self,
+        facts: &Facts,
+        steps: &[Step],
+    ) -> Result<(usize, Option<Step>), MemoryFault> {
+        let Some(closer) = self.lightest(facts, steps)? else {
+            return Ok((self.set_to(facts, steps)?, None));
+        };
+        self.begin(steps.len())?;
+        add_reads(&mut self.wanted, facts, &closer);
+        Ok((self.mark(facts, steps), Some(closer)))
+    }
+
+    /// The closer of these facts that weighs least, if it weighs less than the last step of the log.
+    fn lightest(&mut self, facts: &Facts, steps: &[Step]) -> Result<Option<Step>, MemoryFault> {
+        let Some((last, before)) = steps.split_last() else {
+            return Ok(None);
+        };
+        self.weights.look_at(facts, before);
+        self.closings.find(facts)?;
+        let mut least = self.weights.of_step(facts, last);
+        let mut lightest = None;
+        for (place, closer) in self.closings.as_slice().iter().enumerate() {
+            let weight = self.weights.of_step(facts, closer);
+            if weight < least {
+                least = weight;
+                lightest = Some(place);
+            }
+        }
+        Ok(self.closings.take(lightest))
     }
 
     /// Marks the steps that are needed for the facts that are wanted, the last first. How many are marked.

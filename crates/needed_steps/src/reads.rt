@@ -5,8 +5,21 @@ use crate::fact_set::FactSet;
 use tt_infer::Facts;
 use ttp_model::{Instance, Step};
 
+/// Something that is told which facts are read.
+pub trait Reader {
+    /// A fact is read.
+    fn read(&mut self, fact: Fact);
+}
+
+impl Reader for FactSet {
+    /// Puts the fact into the set.
+    fn read(&mut self, fact: Fact) {
+        let _known = self.insert(fact);
+    }
+}
+
 /// Adds the facts that a step reads, where these facts are known when the last step is taken.
-pub fn add_reads(wanted: &mut FactSet, facts: &Facts, step: &Step) {
+pub fn add_reads<R: Reader>(wanted: &mut R, facts: &Facts, step: &Step) {
     let instance = facts.instance();
     match step {
         Step::XCycle(ring) => add_ring(wanted, ring.as_slice()),
@@ -23,9 +36,9 @@ pub fn add_reads(wanted: &mut FactSet, facts: &Facts, step: &Step) {
 }
 
 /// Adds a fact, where there is one.
-fn add(wanted: &mut FactSet, fact: Option<Fact>) {
+fn add<R: Reader>(wanted: &mut R, fact: Option<Fact>) {
     if let Some(fact) = fact {
-        wanted.insert(fact);
+        wanted.read(fact);
     }
 }
 
@@ -48,46 +61,46 @@ fn plain_reads(instance: &Instance, step: &Step) -> (Option<Fact>, Option<Fact>)
 }
 
 /// Adds the orders of a ring: of each process before the next, and of the last before the first.
-fn add_ring(wanted: &mut FactSet, ring: &[u32]) {
+fn add_ring<R: Reader>(wanted: &mut R, ring: &[u32]) {
     let Some(last) = ring.last() else {
         return;
     };
     let mut before = *last;
     for p in ring {
-        wanted.insert(Fact::Order(before, *p));
+        wanted.read(Fact::Order(before, *p));
         before = *p;
     }
 }
 
 /// Adds the bounds of the processes of node `n` that run from `a` to `b`. Those from 0 have no other.
-fn add_load(wanted: &mut FactSet, facts: &Facts, n: u32, a: u32, b: u32) {
+fn add_load<R: Reader>(wanted: &mut R, facts: &Facts, n: u32, a: u32, b: u32) {
     let count = facts.instance().processes().len() as u32;
     for p in 0..count {
         let here = facts.instance().node_of(p as usize) == n;
         if here && facts.es(p) >= a && facts.le(p) <= b {
-            wanted.insert(Fact::End(p));
+            wanted.read(Fact::End(p));
             if a > 0 {
-                wanted.insert(Fact::Start(p));
+                wanted.read(Fact::Start(p));
             }
         }
     }
 }
 
 /// Adds the bounds of the messages of node `n` that are sent from round `a` on and before `b`.
-fn add_frames(wanted: &mut FactSet, facts: &Facts, n: u32, a: u32, b: u32) {
+fn add_frames<R: Reader>(wanted: &mut R, facts: &Facts, n: u32, a: u32, b: u32) {
     let count = facts.instance().messages().len() as u32;
     for m in 0..count {
         let here = facts.instance().source_of(m as usize) == n;
         if here && facts.lo(m) >= a && facts.top(m) <= b {
-            wanted.insert(Fact::FirstRound(m));
-            wanted.insert(Fact::LateRound(m));
+            wanted.read(Fact::FirstRound(m));
+            wanted.read(Fact::LateRound(m));
         }
     }
 }
 
 /// Adds when the sender of message `m` ends at most, and the rounds of all messages of its node.
-fn add_late(wanted: &mut FactSet, instance: &Instance, m: u32) {
-    wanted.insert(Fact::End(sender(instance, m)));
+fn add_late<R: Reader>(wanted: &mut R, instance: &Instance, m: u32) {
+    wanted.read(Fact::End(sender(instance, m)));
     if m as usize >= instance.messages().len() {
         return;
     }
@@ -95,15 +108,15 @@ fn add_late(wanted: &mut FactSet, instance: &Instance, m: u32) {
     let count = instance.messages().len() as u32;
     for other in 0..count {
         if instance.source_of(other as usize) == node {
-            wanted.insert(Fact::FirstRound(other));
-            wanted.insert(Fact::LateRound(other));
+            wanted.read(Fact::FirstRound(other));
+            wanted.read(Fact::LateRound(other));
         }
     }
 }
 
 /// Adds what keeps process `p` from running later: the ends of the other processes of its node, or
 /// that it goes before them, and the rounds of its messages.
-fn add_settled(wanted: &mut FactSet, facts: &Facts, p: u32) {
+fn add_settled<R: Reader>(wanted: &mut R, facts: &Facts, p: u32) {
     let instance = facts.instance();
     if p as usize >= instance.processes().len() {
         return;
@@ -113,9 +126,9 @@ fn add_settled(wanted: &mut FactSet, facts: &Facts, p: u32) {
     for x in 0..count {
         if x != p && instance.node_of(x as usize) == node {
             if facts.bef(p, x) {
-                wanted.insert(Fact::Order(p, x));
+                wanted.read(Fact::Order(p, x));
             } else {
-                wanted.insert(Fact::End(x));
+                wanted.read(Fact::End(x));
             }
         }
     }
@@ -123,12 +136,12 @@ fn add_settled(wanted: &mut FactSet, facts: &Facts, p: u32) {
 }
 
 /// Adds the first rounds that are too late for the messages to process `p`.
-fn add_received(wanted: &mut FactSet, instance: &Instance, p: u32) {
+fn add_received<R: Reader>(wanted: &mut R, instance: &Instance, p: u32) {
     let count = instance.messages().len() as u32;
     for m in 0..count {
         let message = instance.message_at(m as usize);
         if message.receivers.as_slice().contains(&p) {
-            wanted.insert(Fact::LateRound(m));
+            wanted.read(Fact::LateRound(m));
         }
     }
 }

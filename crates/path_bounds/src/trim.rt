@@ -54,10 +54,13 @@ pub fn trimmed_leaf<'a>(
     ensures goal { IfOk result (λ trimmed. trimmed.0.goal ≡ facts.now.goal) }
 {
     let _choice = facts.choice();
-    let count = marks.set_to(facts, steps)?;
+    let (count, closer) = marks.set_to_few(facts, steps)?;
     let first = room.anew(facts)?;
     let mut journal = Journal::new(first, Vec::with_capacity(alloc, count)?);
     try_marked(alloc, &mut journal, steps, marks)?;
+    if let Some(closer) = closer {
+        try_one(alloc, &mut journal, &closer, marks)?;
+    }
     let (known, kept) = journal.into_parts();
     if known.closed() {
         return shorter_leaf(alloc, known, marks, facts, kept);

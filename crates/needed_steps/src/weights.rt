@@ -1,0 +1,120 @@
+//! How many steps does each fact rest on?
+
+use crate::fact::{Fact, target};
+use crate::reads::{Reader, add_reads};
+use std::alloc::Global;
+use tt_infer::Facts;
+use ttp_model::{Instance, MOST_MESSAGES, MOST_PROCESSES, MemoryFault, Step};
+
+/// By fact, how many steps of a log it rests on: a step that several others read counts once for each. Of what no step has sharpened
+/// it is 0.
+#[derive(Drop)]
+pub struct Weights {
+    starts: [u32; MOST_PROCESSES],
+    ends: [u32; MOST_PROCESSES],
+    first_rounds: [u32; MOST_MESSAGES],
+    late_rounds: [u32; MOST_MESSAGES],
+    /// How many processes there are.
+    processes: u32,
+    /// A row for each process, one after another.
+    orders: Vec<u32>,
+    /// The weight of what was read so far.
+    sum: u32,
+}
+
+/// Writes a weight, where there is a place for it.
+fn put(weights: &mut [u32], at: usize, weight: u32) {
+    if at < weights.len() {
+        weights[at] = weight;
+    }
+}
+
+/// The weight at a place: 0 where there is none.
+fn at(weights: &[u32], at: usize) -> u32 {
+    if at < weights.len() { weights[at] } else { 0 }
+}
+
+impl Reader for Weights {
+    /// Adds the weight of a fact.
+    fn read(&mut self, fact: Fact) {
+        self.sum = self.sum.saturating_add(self.of(fact));
+    }
+}
+
+impl Weights {
+    /// Nothing rests on any step.
+    pub fn none(alloc: Global, instance: &Instance) -> Result<Self, MemoryFault> {
+        let processes = instance.processes().len() as u32;
+        let count = processes as usize * processes as usize;
+        Ok(Weights {
+            starts: [0; MOST_PROCESSES],
+            ends: [0; MOST_PROCESSES],
+            first_rounds: [0; MOST_MESSAGES],
+            late_rounds: [0; MOST_MESSAGES],
+            processes,
+            orders: vec![in alloc; 0u32; count]?,
+            sum: 0,
+        })
+    }
+
+    /// Looks at the steps of a log after which this is known.
+    pub fn look_at(&mut self, facts: &Facts, steps: &[Step]) {
+        self.clear();
+        for step in steps {
+            let weight = self.of_step(facts, step).saturating_add(1);
+            self.set(target(facts.instance(), step), weight);
+        }
+    }
+
+    /// The weight of what a step reads.
+    pub fn of_step(&mut self, facts: &Facts, step: &Step) -> u32 {
+        self.sum = 0;
+        add_reads(self, facts, step);
+        self.sum
+    }
+
+    /// Forgets all weights.
+    fn clear(&mut self) {
+        self.starts = [0; MOST_PROCESSES];
+        self.ends = [0; MOST_PROCESSES];
+        self.first_rounds = [0; MOST_MESSAGES];
+        self.late_rounds = [0; MOST_MESSAGES];
+        self.orders.as_mut_slice().fill(0);
+    }
+
+    /// Where an order stands: past all where a process isn't there.
+    fn place(&self, p: u32, q: u32) -> usize {
+        if p < self.processes && q < self.processes {
+            p as usize * self.processes as usize + q as usize
+        } else {
+            usize::MAX
+        }
+    }
+
+    /// A fact has this weight from now on.
+    fn set(&mut self, fact: Fact, weight: u32) {
+        match fact {
+            Fact::Start(p) => put(&mut self.starts, p as usize, weight),
+            Fact::End(p) => put(&mut self.ends, p as usize, weight),
+            Fact::FirstRound(m) => put(&mut self.first_rounds, m as usize, weight),
+            Fact::LateRound(m) => put(&mut self.late_rounds, m as usize, weight),
+            Fact::Order(p, q) => {
+                let place = self.place(p, q);
+                put(self.orders.as_mut_slice(), place, weight);
+            }
+            Fact::Closed => {}
+        }
+    }
+
+    /// The weight of a fact.
+    fn of(&self, fact: Fact) -> u32 {
+        match fact {
+            Fact::Start(p) => at(&self.starts, p as usize),
+            Fact::End(p) => at(&self.ends, p as usize),
+            Fact::FirstRound(m) => at(&self.first_rounds, m as usize),
+            Fact::LateRound(m) => at(&self.late_rounds, m as usize),
+            Fact::Order(p, q) => at(self.orders.as_slice(), self.place(p, q)),
+            Fact::Closed => 0,
+        }
+    }
+}
