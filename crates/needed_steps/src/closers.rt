@@ -116,7 +116,7 @@ fn sent_within(moment: &Moment, n: u32, a: u32, b: u32, m: u32) -> bool {
 }
 
 /// The bytes that frames of node `n` carry at most in so many rounds.
-fn most_carried(facts: &Facts, n: u32, rounds: u32) -> u64 {
+pub fn most_carried(facts: &Facts, n: u32, rounds: u32) -> u64 {
     let instance = facts.instance();
     if (n as usize) < instance.nodes().len() {
         u64::from(facts.choice().cap_most(instance, n)).saturating_mul(u64::from(rounds))

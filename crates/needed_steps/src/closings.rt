@@ -1,5 +1,6 @@
 //! Which closers can be taken of what is known?
 
+use crate::closers::most_carried;
 use crate::fact::{Fact, value};
 use crate::spans::Spans;
 use std::alloc::Global;
@@ -95,9 +96,8 @@ fn add_frames(
     n: u32,
     found: &mut Vec<Step>,
 ) -> Result<(), MemoryFault> {
-    let most = facts.choice().cap_most(facts.instance(), n);
     set_to_messages(spans, facts, n);
-    for interval in spans.overfull(u64::from(most))? {
+    for interval in spans.overfull(most_carried(facts, n, 1))? {
         add(found, Step::XFrames(n, interval.from, interval.until))?;
     }
     Ok(())
