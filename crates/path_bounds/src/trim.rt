@@ -57,10 +57,7 @@ pub fn trimmed_leaf<'a>(
     let (count, closer) = marks.set_to_few(facts, steps)?;
     let first = room.anew(facts)?;
     let mut journal = Journal::new(first, Vec::with_capacity(alloc, count)?);
-    try_marked(alloc, &mut journal, steps, marks)?;
-    if let Some(closer) = closer {
-        try_one(alloc, &mut journal, &closer, marks)?;
-    }
+    try_closing(alloc, &mut journal, steps, closer, marks)?;
     let (known, kept) = journal.into_parts();
     if known.closed() {
         return shorter_leaf(alloc, known, marks, facts, kept);
@@ -149,6 +146,23 @@ fn try_marked(
         if marks.is_marked(k) {
             try_one(alloc, journal, step, marks)?;
         }
+    }
+    Ok(())
+}
+
+/// The same, and then tries a closer, where one is given.
+fn try_closing(
+    alloc: Global,
+    journal: &mut Journal,
+    steps: &[Step],
+    closer: Option<Step>,
+    marks: &mut Marks,
+) -> Result<(), MemoryFault>
+    ensures { Advances journal.old journal.new }
+{
+    try_marked(alloc, journal, steps, marks)?;
+    if let Some(closer) = closer {
+        try_one(alloc, journal, &closer, marks)?;
     }
     Ok(())
 }
