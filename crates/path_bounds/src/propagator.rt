@@ -242,7 +242,8 @@ impl<'a> Propagator<'a> {
         self.current.steps()
     }
 
-    /// A leaf of that choice at the goal, where no plan is left. Takes memory for its steps alone, once a decision was taken back.
+    /// A leaf of that choice at the goal, where no plan is left. Once a decision was taken back it takes memory for its steps, and for
+    /// lists that are used again where they grow.
     pub fn leaf(&mut self, alloc: Global) -> Result<Leaf, MemoryFault>
         requires { IsTrue self.old.current.facts.known.closed }
         ensures same { self.new ≡ self.old }
