@@ -62,6 +62,22 @@ impl<'a> Facts<'a> {
         Ok(Facts { setting, known })
     }
 
+    /// What is known at first of the plans of another choice of the instance with a delay below `goal` ticks, in the room of these
+    /// facts. No decision is kept. Takes a few passes along the prefix and one over the nodes for each of them.
+    pub fn turned(self, choice: &Choice, goal: u32) -> Result<Facts<'a>, MemoryFault>
+        requires { IsChoice self.instance choice.now }
+        ensures { IfOk result (λ f. f ≡ record {
+          instance = self.entry.instance;
+          choice = bare choice.now;
+          goal = goal;
+          known = first_facts self.entry.instance (bare choice.now);
+        }) }
+    {
+        let setting = self.setting.turned(choice, goal)?;
+        let known = self.known.restarted(setting.instance(), setting.choice())?;
+        Ok(Facts { setting, known })
+    }
+
     /// What is known at first of the plans of other facts that are as decided, in the room of these facts.
     pub fn after(
         self,

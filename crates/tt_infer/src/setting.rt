@@ -130,6 +130,27 @@ impl<'a> Setting<'a> {
         })
     }
 
+    /// The plans of another choice of the instance with a delay below another goal, in the room of this one. No decision is kept.
+    pub fn turned(self, choice: &Choice, goal: u32) -> Result<Setting<'a>, MemoryFault>
+        requires of { IsChoice self.instance choice.now }
+        ensures { IfOk result (λ s. s ≡ record {
+          instance = self.entry.instance;
+          choice = bare choice.now;
+          goal = goal;
+        }) }
+    {
+        let instance = self.instance;
+        let mut own = self.choice;
+        own.set_to(choice)?;
+        let slots = slots_of(self.slots, instance, &own)?;
+        Ok(Setting {
+            instance,
+            choice: own,
+            goal,
+            slots,
+        })
+    }
+
     pub fn instance(&self) -> &'a Instance
         ensures { result.now ≡ self.now.instance }
     {

@@ -2,6 +2,8 @@
 
 ghost use Rattle.std.specs.Prelude.{◌≡◌, ◌<◌, IfOk, length};
 ghost use Rattle.tt_choice.specs.Choice.{IsChoice};
+ghost use Rattle.ttp_model.specs.Totals.{total};
+ghost use Rattle.tt_choice.specs.Extremes.{dur_least, dur_most};
 ghost use Rattle.tt_infer.specs.Setting.{AreSlotTimes, AreShort, AreSlots};
 
 use tt_choice::Choice;
@@ -29,22 +31,28 @@ pub struct SlotTimes {
     pub cap_most: u32,
 }
 
-/// The slot of node `n`. A few passes over the nodes.
-fn times_of(instance: &Instance, choice: &Choice, n: u32) -> SlotTimes
+/// The slot of node `n`, where a round takes so long at least and at most. A few passes along the prefix.
+fn times_of(
+    instance: &Instance,
+    choice: &Choice,
+    n: u32,
+    round_least: u64,
+    round_most: u64,
+) -> SlotTimes
     requires of { IsChoice instance.now choice.now }
     requires node { n < length instance.now.nodes }
+    requires least { round_least ≡ total (dur_least instance.now choice.now) (length instance.now.nodes) }
+    requires most { round_most ≡ total (dur_most instance.now choice.now) (length instance.now.nodes) }
     ensures times { AreSlotTimes instance.now choice.now n result }
     ensures short { AreShort result }
 {
     let _nodes = instance.nodes();
-    let offset_least = choice.start_least(instance, n, 0);
-    let offset_most = choice.start_most(instance, n, 0);
     let cap_most = choice.cap_most(instance, n);
     SlotTimes {
-        round_least: choice.start_least(instance, n, 1) - offset_least,
-        round_most: choice.start_most(instance, n, 1) - offset_most,
-        offset_least,
-        offset_most,
+        round_least,
+        round_most,
+        offset_least: choice.offset_least(instance, n),
+        offset_most: choice.offset_most(instance, n),
         dur_least: choice.dur_least(instance, n),
         dur_most: slot_duration(instance.cluster(), cap_most),
         cap_least: choice.cap_least(instance, n),
@@ -62,11 +70,13 @@ pub fn slots_of(
     ensures { IfOk result (λ slots. AreSlots instance.now choice.now slots.items) }
 {
     let count = instance.nodes().len() as u32;
+    let least = choice.round_least(instance);
+    let most = choice.round_most(instance);
     let mut slots = room;
     slots.clear();
     slots.reserve(count as usize)?;
     for n in 0..count {
-        slots.push(times_of(instance, choice, n))?;
+        slots.push(times_of(instance, choice, n, least, most))?;
     }
     Ok(slots)
 }

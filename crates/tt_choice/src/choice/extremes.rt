@@ -105,8 +105,8 @@ impl Choice {
         slot_duration(instance.cluster(), self.cap_most(instance, n))
     }
 
-    /// The least duration of a round, in ticks.
-    fn round_least(&self, instance: &Instance) -> u64
+    /// The least duration of a round, in ticks. One pass over the nodes.
+    pub fn round_least(&self, instance: &Instance) -> u64
         requires of { IsChoice instance.now self.now }
         ensures value { result
             ≡ total (dur_least instance.now self.now) (length instance.now.nodes) }
@@ -120,8 +120,8 @@ impl Choice {
         sum
     }
 
-    /// The greatest duration of a round, in ticks.
-    fn round_most(&self, instance: &Instance) -> u64
+    /// The greatest duration of a round, in ticks. One pass over the nodes.
+    pub fn round_most(&self, instance: &Instance) -> u64
         requires of { IsChoice instance.now self.now }
         ensures value { result
             ≡ total (dur_most instance.now self.now) (length instance.now.nodes) }
@@ -136,8 +136,8 @@ impl Choice {
         sum
     }
 
-    /// How far into a round the slot of node `n` begins at least, in ticks.
-    fn offset_least(&self, instance: &Instance, n: u32) -> u64
+    /// How far into a round the slot of node `n` begins at least, in ticks. One pass along the prefix.
+    pub fn offset_least(&self, instance: &Instance, n: u32) -> u64
         requires of { IsChoice instance.now self.now }
         ensures value { result ≡ offset_least instance.now self.now n }
         ensures bound { result ≤ MOST_ROUND }
@@ -154,15 +154,13 @@ impl Choice {
     }
 
     /// How far into a round the slot of node `n` begins at most, in ticks: after all others where
-    /// it isn't placed.
-    fn offset_most(&self, instance: &Instance, n: u32) -> u64
+    /// it isn't placed. One pass along the prefix, and then one over the nodes.
+    pub fn offset_most(&self, instance: &Instance, n: u32) -> u64
         requires of { IsChoice instance.now self.now }
         requires node { n < length instance.now.nodes }
         ensures value { result ≡ offset_most instance.now self.now n }
         ensures bound { result ≤ MOST_ROUND }
     {
-        let round = self.round_most(instance);
-        let own = self.dur_most(instance, n);
         let _nodes = instance.nodes();
         let mut sum = 0;
         for m in self.prefix() {
@@ -171,6 +169,8 @@ impl Choice {
             }
             sum += self.dur_most(instance, *m);
         }
+        let round = self.round_most(instance);
+        let own = self.dur_most(instance, n);
         round - own
     }
 }
