@@ -1,7 +1,7 @@
 //! How a search says how far it is, and that its answer is the same.
 
 use crate::told::{FIRST, FIRST_PLAN, Told, joined};
-use solve_command::{Options, Progress, Reading, solve_run_with};
+use solve_command::{Options, Progress, Reading, Summary, solve_run_with};
 use std::alloc::{Alloc, AllocError, Global};
 use std::fmt::Display;
 use std::io;
@@ -12,31 +12,31 @@ use std::test::Fail;
 use std::thread::Threads;
 use std::time::Duration;
 
-/// A clock that goes on by some seconds each time it is read, and a screen that counts its lines, and those that are one
-/// line.
+/// A clock that goes on by some seconds each time it is read, and a screen that counts its lines, and those that begin in one
+/// way.
 #[derive(Drop)]
 struct Screen {
     alloc: Global,
     step: u64,
     time: AtomicU64,
-    line: &'static str,
+    front: &'static str,
     lines: AtomicU64,
     found: AtomicU64,
 }
 
 impl Screen {
-    fn new(alloc: Global, step: u64, line: &'static str) -> Screen {
+    fn new(alloc: Global, step: u64, front: &'static str) -> Screen {
         Screen {
             alloc,
             step,
             time: AtomicU64::new(0),
-            line,
+            front,
             lines: AtomicU64::new(0),
             found: AtomicU64::new(0),
         }
     }
 
-    /// How many lines there are, and how many are the one that is looked for.
+    /// How many lines there are, and how many begin as is looked for.
     fn counts(&self) -> (u64, u64) {
         let lines = self.lines.load(Ordering::SeqCst);
         (lines, self.found.load(Ordering::SeqCst))
@@ -62,20 +62,20 @@ impl Eprint for Screen {
     fn eprintln<D: Display + Drop>(&self, value: D) -> io::Result<()> {
         let line = format!(in self.alloc; "{value}")?;
         self.lines.fetch_add(1, Ordering::SeqCst);
-        if line.as_str() == self.line {
+        if line.as_str().starts_with(self.front) {
             self.found.fetch_add(1, Ordering::SeqCst);
         }
         Ok(())
     }
 }
 
-/// How many lines the search of the first example writes by a clock with this step, and how many are this one. None where
-/// its answer isn't the plan.
+/// How many lines the search of the first example writes by a clock with this step, and how many begin so. None where its
+/// answer isn't the plan.
 fn counts(
     rt: &(impl Alloc<A = Global> + Threads + Wait + Sync),
     workers: u32,
     step: u64,
-    line: &'static str,
+    front: &'static str,
 ) -> Result<Option<(u64, u64)>, AllocError> {
     let alloc = rt.alloc();
     let instance = joined(alloc, FIRST)?;
@@ -83,7 +83,7 @@ fn counts(
         workers,
         budget: 1000,
     };
-    let screen = Screen::new(alloc, step, line);
+    let screen = Screen::new(alloc, step, front);
     let follower = Progress::on(alloc, &screen, workers)?;
     let mut out = Vec::new(alloc);
     let end = solve_run_with(
@@ -107,9 +107,15 @@ const BEFORE: &str =
 const SECOND: &str =
     "3 s: 1 subtrees worked, 1 or more by each worker, 1 a second, 1 in work, no plan below 9";
 
+/// How the line at the end begins, by a clock that stands still.
+const AFTER: &str = "searched for 0 ms: ";
+
 #[test]
-fn a_line_is_written_before_the_search_and_then_one_a_second(rt: HostRuntime) -> Result<(), Fail> {
-    assert_eq!(rt; counts(&rt, 1, 0, BEFORE)?, Some((1, 1)));
+fn a_line_is_written_before_the_search_then_one_a_second_and_one_at_the_end(
+    rt: HostRuntime,
+) -> Result<(), Fail> {
+    assert_eq!(rt; counts(&rt, 1, 0, BEFORE)?, Some((2, 1)));
+    assert_eq!(rt; counts(&rt, 1, 0, AFTER)?, Some((2, 1)));
     let (_, found) = counts(&rt, 1, 1, SECOND)?.unwrap_or((0, 0));
     assert_eq!(rt; found, 1);
     Ok(())
@@ -136,6 +142,22 @@ fn a_reading_says_what_its_numbers_are(rt: HostRuntime) -> Result<(), Fail> {
     assert_eq!(rt;
         line.as_str(),
         "12 s: 2400 subtrees worked, 590 or more by each worker, 210 a second, 4 in work, no plan below 120"
+    );
+    Ok(())
+}
+
+const SUMMARY: Summary = Summary {
+    millis: 1500,
+    worked: 2400,
+    fewest: 590,
+};
+
+#[test]
+fn a_summary_says_what_its_numbers_are(rt: HostRuntime) -> Result<(), Fail> {
+    let line = format!(in rt.alloc(); "{SUMMARY}")?;
+    assert_eq!(rt;
+        line.as_str(),
+        "searched for 1500 ms: 2400 subtrees worked, 590 or more by each worker, 1600 a second"
     );
     Ok(())
 }

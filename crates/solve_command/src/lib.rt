@@ -5,5 +5,5 @@ mod progress;
 mod solve;
 
 pub use planner::Options;
-pub use progress::{Follower, Progress, Reading};
+pub use progress::{Follower, Progress, Reading, Summary};
 pub use solve::{solve_run, solve_run_with};

@@ -10,14 +10,19 @@ use std::sync::atomic::{AtomicU64, Ordering};
 use std::time::Instant;
 use ttp_model::Instance;
 
-/// Who follows a search: a gate of its workers, which hears of the instance before they begin.
+/// Who follows a search: a gate of its workers, which hears of the instance before they begin, and that the search has ended.
 pub trait Follower: Gate {
     /// The instance is read, and will be searched.
     fn begin(&self, alloc: Global, instance: &Instance);
+
+    /// The search has ended, whatever came of it.
+    fn end(&self);
 }
 
 impl Follower for FreeGate {
     fn begin(&self, _alloc: Global, _instance: &Instance) {}
+
+    fn end(&self) {}
 }
 
 /// How far a search is.
@@ -54,8 +59,42 @@ impl fmt::Display for Reading {
     }
 }
 
-/// Says how far a search is: a line before it begins, and then one a second. A worker that is done with a subtree writes it,
-/// and no other waits for that.
+/// What the workers of a search have done, once it has ended.
+#[derive(Clone, Copy, Debug, PartialEq, Eq)]
+pub struct Summary {
+    /// How many milliseconds passed from the first subtree that was taken to the last that a worker was done with.
+    pub millis: u64,
+    /// How many subtrees the workers are done with.
+    pub worked: u64,
+    /// How many of these the worker with the fewest has worked.
+    pub fewest: u64,
+}
+
+impl Summary {
+    /// How many subtrees a second; 0 where no millisecond passed.
+    pub fn rate(self) -> u64 {
+        let thousandfold = self.worked.saturating_mul(1000);
+        thousandfold.checked_div(self.millis).unwrap_or(0)
+    }
+}
+
+impl fmt::Display for Summary {
+    fn fmt<W: fmt::Write>(&self, f: &mut fmt::Formatter<W>) -> fmt::Result {
+        let Summary {
+            millis,
+            worked,
+            fewest,
+        } = self;
+        let rate = self.rate();
+        write!(
+            f,
+            "searched for {millis} ms: {worked} subtrees worked, {fewest} or more by each worker, {rate} a second"
+        )
+    }
+}
+
+/// Says how far a search is: a line before it begins, then one a second, and one when it has ended. A worker that is done with a
+/// subtree writes those of seconds, and no other waits for that.
 #[derive(Drop)]
 pub struct Progress<'a, S: Clock + Eprint> {
     screen: &'a S,
@@ -67,6 +106,9 @@ pub struct Progress<'a, S: Clock + Eprint> {
     /// The second of the last line, and what was worked by then.
     told: AtomicU64,
     told_worked: AtomicU64,
+    /// The milliseconds at which the first subtree was taken, and at which a worker was done with the last.
+    first: AtomicU64,
+    last: AtomicU64,
 }
 
 /// A delay in ticks that no plan of the instance is below; 0 where memory was refused.
@@ -103,6 +145,8 @@ impl<'a, S: Clock + Eprint> Progress<'a, S> {
             shares: no_shares(alloc, workers)?,
             told: AtomicU64::new(0),
             told_worked: AtomicU64::new(0),
+            first: AtomicU64::new(u64::MAX),
+            last: AtomicU64::new(0),
         })
     }
 
@@ -117,14 +161,25 @@ impl<'a, S: Clock + Eprint> Progress<'a, S> {
         (all, fewest.min(all))
     }
 
-    /// The seconds that have passed; 0 where the clock can't be read.
-    fn seconds(&self) -> u64 {
+    /// The milliseconds that have passed; 0 where the clock can't be read.
+    fn millis(&self) -> u64 {
         match &self.started {
             Some(started) => match started.elapsed(self.screen) {
-                Ok(time) => time.as_secs(),
+                Ok(time) => time.as_millis().min(u128::from(u64::MAX)) as u64,
                 Err(_) => 0,
             },
             None => 0,
+        }
+    }
+
+    /// What the workers have done so far.
+    fn summary(&self) -> Summary {
+        let (worked, fewest) = self.worked();
+        let first = self.first.load(Ordering::SeqCst);
+        Summary {
+            millis: self.last.load(Ordering::SeqCst).saturating_sub(first),
+            worked,
+            fewest,
         }
     }
 
@@ -149,12 +204,16 @@ impl<'a, S: Clock + Eprint> Gate for Progress<'a, S> {
     fn start(&self, _worker: usize) {}
 
     fn enter(&self, _worker: usize, _name: &Name) {
-        self.taken.fetch_add(1, Ordering::SeqCst);
+        if self.taken.fetch_add(1, Ordering::SeqCst) == 0 {
+            self.first.store(self.millis(), Ordering::SeqCst);
+        }
     }
 
     fn leave(&self, worker: usize, _name: &Name) {
         let order = Ordering::SeqCst;
-        let (seconds, last) = (self.seconds(), self.told.load(order));
+        let millis = self.millis();
+        self.last.fetch_max(millis, order);
+        let (seconds, last) = (millis / 1000, self.told.load(order));
         if seconds > last
             && self
                 .told
@@ -173,8 +232,12 @@ impl<'a, S: Clock + Eprint> Follower for Progress<'a, S> {
     fn begin(&self, alloc: Global, instance: &Instance) {
         let low = bound(alloc, instance);
         self.low.store(u64::from(low), Ordering::SeqCst);
-        let seconds = self.seconds();
+        let seconds = self.millis() / 1000;
         self.told.store(seconds, Ordering::SeqCst);
         self.tell(seconds, 0);
+    }
+
+    fn end(&self) {
+        let _ = self.screen.eprintln(self.summary());
     }
 }

@@ -162,7 +162,9 @@ fn solved_of_reader<R: Threads + Wait + Sync, G: Follower + Sync, I: Read>(
 {
     let instance = read_instance(alloc, instance)?;
     follower.begin(alloc, &instance);
-    let outcome = match solve_with(rt, alloc, &instance, options, follower) {
+    let searched = solve_with(rt, alloc, &instance, options, follower);
+    follower.end();
+    let outcome = match searched {
         Ok(outcome) => outcome,
         Err(fault) => return Err(Fault::Search(fault_of(fault))),
     };
