@@ -5,8 +5,10 @@ pub mod Trees
 pub mod Seen
 pub mod Nodes
 pub mod NextNodes
+pub mod Runs
 pub mod Waiting
 pub mod LeafSteps
 pub mod NoFaults
 pub mod Streams
+pub mod Failing
 pub mod Pieces

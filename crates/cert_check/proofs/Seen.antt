@@ -113,12 +113,20 @@ seen_leaf i low seen held h left s here =
       ]);
     }
 
--- Those that wait close, and wait no more.
-pub seen_judged : (i : Instance) (low : ℕ) (seen : List Node) (held : List ReadLeaf) (left : List Choice) → AllClose i low held → IsSeen i low seen held left → IsSeen i low seen [] left
-seen_judged i low seen held left closed s = record {
-  proofs = λ all rest are. s.proofs closed rest are;
-  follows = λ all rest at fault is. s.follows closed rest at fault is;
-  waits = λ rest at fault is. absurd is;
+pub close_behind : (i : Instance) (low : ℕ) (front held : List ReadLeaf) → AllClose i low front → AllClose i low held → AllClose i low (front ++ held)
+close_behind i low [] held closed all = all
+close_behind i low (h ∷ front) held closed all = (closed.0, close_behind i low front held closed.1 all)
+
+pub first_behind : (i : Instance) (low : ℕ) (front held : List ReadLeaf) (at : ℕ) (fault : NodeFault) → AllClose i low front → IsFirstHeldFault i low held at fault → IsFirstHeldFault i low (front ++ held) at fault
+first_behind i low [] held at fault closed is = is
+first_behind i low (h ∷ front) held at fault closed is = inr (closed.0, first_behind i low front held at fault closed.1 is)
+
+-- Those in front close, and wait no more.
+pub seen_judged : (i : Instance) (low : ℕ) (seen : List Node) (front held : List ReadLeaf) (left : List Choice) → AllClose i low front → IsSeen i low seen (front ++ held) left → IsSeen i low seen held left
+seen_judged i low seen front held left closed s = record {
+  proofs = λ all rest are. s.proofs (close_behind i low front held closed all) rest are;
+  follows = λ all rest at fault is. s.follows (close_behind i low front held closed all) rest at fault is;
+  waits = λ rest at fault is. s.waits rest at fault (first_behind i low front held at fault closed is);
 }
 
 -- ---- faults

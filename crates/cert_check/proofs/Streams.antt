@@ -1,14 +1,14 @@
 -- What the check of a stream has passed, and what it answers from what it found in the nodes.
-use Rattle.std.proofs.Common.{◌≡◌, ℕ, suc, ◌+◌, ◌≤◌, List, [], ◌∷◌, ◌++◌, All, length, reverse, Option, None, Some, IfNone, IfOk, IfErr, Result, Ok, Err, arith, inl, inr, refl, sym, ap, subst, ◌∙◌}
+use Rattle.std.proofs.Common.{◌≡◌, ℕ, suc, ◌+◌, ◌≤◌, List, [], ◌∷◌, ◌++◌, All, length, reverse, Option, None, Some, IfNone, Result, Ok, Err, arith, inl, inr, refl, sym, ap, subst, ◌∙◌}
 use Rattle.std.specs.Global.{Vec}
 use Rattle.std.proofs.lemmas.List.{length-append}
-use Rattle.std.proofs.lemmas.List.Elements.{All-nil, All-push}
+use Rattle.std.proofs.lemmas.List.Elements.{All-nil, All-cons, All-head, All-push, All-tail}
 use Rattle.ttp_model.specs.Instance.{Instance}
 use Rattle.ttp_model.specs.Rules.{IsInstance}
 use Rattle.ttp_model.specs.Delays.{IsLowerBound, HasNoPlan}
 use Rattle.tt_choice.specs.Choice.{Choice}
 use Rattle.tt_choice.specs.Branches.{IsBranch, child_choices, root_choice}
-use Rattle.certificate.specs.declared.branch.Branch.{Branch}
+use Rattle.certificate.specs.declared.branch.Branch.{Branch as TreeBranch}
 use Rattle.certificate.specs.declared.fault.CertTextError.{CertTextError}
 use Rattle.certificate.specs.declared.head.Head.TheVariants.{OfLeaf}
 use Rattle.certificate.specs.declared.node.Node.TheVariants as node
@@ -23,29 +23,26 @@ use Rattle.certificate.specs.Reading.{Reading}
 use Rattle.certificate.specs.Sources.{Origin}
 use Rattle.certificate.specs.Opened.{in_front, still_due, TakesChild, certificate_with}
 use Rattle.certificate.specs.Streams.{next_line, still_to_come, bytes_taken, StreamLeaves, LeavesNodes, LeavesCert, LeavesNext, LeavesPiece, said_in_front, StreamIsFrom, IsCertFault, IsNodeFault}
-use Rattle.certificate.proofs.Opened.{IsGivenSoFar, given_first, given_more, given_all}
+use Rattle.certificate.proofs.Opened.{given_first, given_more, given_all}
 use Rattle.cert_check.specs.declared.fault.CertFault.{CertFault}
 use Rattle.cert_check.specs.declared.fault.CertFault.TheVariants.{LowTooGreat, At, OutOfMemory}
 use Rattle.cert_check.specs.declared.fault.StreamFault.{StreamFault}
-use Rattle.cert_check.specs.declared.going.Going.{Going}
+use Rattle.cert_check.specs.declared.walk.Walk.{Walk}
 use Rattle.certificate.proofs.RawNodes.{steps_count}
 use Rattle.cert_check.specs.declared.batch.HeldLeaf.{HeldLeaf}
 use Rattle.cert_check.specs.Turns.{IsWalk}
 use Rattle.cert_check.specs.Streams.{IsFound, IsToldBehind, TakesAll, IsTakenFrom}
-use Rattle.cert_check.specs.Waiting.{Waits, leaf_with, held_leaf, AreRead, IsUnread, Finishes, TellsText}
-use Rattle.cert_check.specs.Seen.{ReadLeaf, AllClose, IsSeen, line_behind}
+use Rattle.cert_check.specs.Waiting.{Waits, leaf_with, held_leaf, AreRead, IsUnread, Judges, Finishes, TellsText}
+use Rattle.cert_check.specs.Seen.{ReadLeaf, IsSeen}
+use Rattle.cert_check.specs.UnderWay.{AnswersAll, AreBehind, IsReadSoFar, IsUnderWay}
 use Rattle.cert_check.specs.Going.{total_due, IsFoundIn}
 use Rattle.cert_check.proofs.Bounds.{proved_bound, proved_none}
 use Rattle.cert_check.proofs.Seen.{line_more, seen_none, seen_node, seen_leaf, seen_judged}
+use Rattle.cert_check.proofs.Runs.{read_behind, unread_behind}
 use Rattle.cert_check.proofs.Waiting.{read_last, unread_last}
 use Rattle.cert_check.proofs.NextNodes.{takes_one, leaves_more, none_due, branch_count, nothing_left, all_proved, held_tells, found_at_end}
 
 -- ---- one node after another
-
--- whatever nodes are left now, behind these ones they are what was left at first
-abbrev pub AreBehind : {R : Type 0} → (R → Option (List ℕ)) → (first now : CertStream R) → List Node → Type 0
-AreBehind remaining first now seen =
-    IsGivenSoFar (StreamLeaves remaining first) (StreamLeaves remaining now) (still_to_come first) (still_to_come now) (next_line first) (next_line now) seen
 
 -- Nodes were passed, and the bytes come from where they came from.
 pub record IsPassed {R : Type 0} (remaining : R → Option (List ℕ)) (first now : CertStream R) : Type 0 where
@@ -101,58 +98,62 @@ told_behind remaining s taken (text.At line fault) read left = (refl, (read, lef
 
 -- ---- and what is found in them
 
--- Nodes were passed, of which these leaves wait, and trees for these choices are to follow.
-pub record IsReadSoFar {R : Type 0} (i : Instance) (low : ℕ) (remaining : R → Option (List ℕ)) (first now : CertStream R) (left : List Choice) (rs : List ReadLeaf) : Type 0 where
-  pub seen : List Node
-  pub behind_them : AreBehind remaining first now seen
-  pub so_far : IsSeen i low seen rs left
-  pub line : next_line now ≡ line_behind seen
-
--- The same whatever the steps of those that wait say; where they aren't spelled, that is the fault of the text.
-pub record IsUnderWay {R : Type 0} (i : Instance) (low : ℕ) (remaining : R → Option (List ℕ)) (first now : CertStream R) (g : Going) : Type 0 where
-  pub left : List Choice
-  pub walk : IsWalk i g.walk left
-  pub count : length left ≡ total_due (reverse (still_to_come now))
-  pub waits : All (Waits i) g.held.items
-  pub from : (origin : Origin) → StreamIsFrom remaining first origin → StreamIsFrom remaining now origin
-  pub unread : (fault : CertTextError) → IsUnread g.held.items fault → (read : Reading (List Node)) → LeavesNodes remaining now read → LeavesNodes remaining first (Err fault)
-  pub so_far : (rs : List ReadLeaf) → AreRead g.held.items rs → IsReadSoFar i low remaining first now left rs
-
 none_read : (rs : List ReadLeaf) → AreRead [] rs → [] ≡ rs
 none_read [] are = refl
 none_read (r ∷ rs) are = absurd are
 
-abbrev ReadAs : List ReadLeaf → List HeldLeaf → Type 0
-ReadAs rs hs = AreRead hs rs
+pub waits_in_front : (P : HeldLeaf → Type 0) (front hs : List HeldLeaf) → All P (front ++ hs) → All P front
+waits_in_front P [] hs all = All-nil P
+waits_in_front P (h ∷ front) hs all = All-cons P h front (All-head P h (front ++ hs) all) (waits_in_front P front hs (All-tail P h (front ++ hs) all))
 
-abbrev UnreadAs : CertTextError → List HeldLeaf → Type 0
-UnreadAs fault hs = IsUnread hs fault
+pub waits_behind : (P : HeldLeaf → Type 0) (front hs : List HeldLeaf) → All P (front ++ hs) → All P hs
+waits_behind P [] hs all = all
+waits_behind P (h ∷ front) hs all = waits_behind P front hs (All-tail P h (front ++ hs) all)
 
 module _ {R : Type 0} (i : Instance) (low : ℕ) (remaining : R → Option (List ℕ)) (first now : CertStream R) where
-  pub begins_under_way : (g : Going) → still_to_come first ≡ 1 ∷ [] → next_line first ≡ 3 → IsWalk i g.walk (root_choice i ∷ []) → g.held.items ≡ [] → IsUnderWay i low remaining first first g
-  begins_under_way g due line walk none = record {
+  pub begins_under_way : (w : Walk) → still_to_come first ≡ 1 ∷ [] → next_line first ≡ 3 → IsWalk i w (root_choice i ∷ []) → IsUnderWay i low remaining first first w []
+  begins_under_way w due line walk = record {
     left = root_choice i ∷ [];
     walk = walk;
     count = sym (ap (λ (ks : List ℕ). total_due (reverse ks)) due);
-    waits = subst (All (Waits i)) (sym none) (All-nil (Waits i));
+    waits = All-nil (Waits i);
     from = λ origin is. is;
-    unread = λ fault is read left. absurd (subst (UnreadAs fault) none is);
+    unread = λ fault is read left. absurd is;
     so_far = λ rs are. record {
       seen = [];
       behind_them = behind_first remaining first first;
-      so_far = subst (λ (xs : List ReadLeaf). IsSeen i low [] xs (root_choice i ∷ [])) (none_read rs (subst (ReadAs rs) none are)) (seen_none i low);
+      so_far = subst (λ (xs : List ReadLeaf). IsSeen i low [] xs (root_choice i ∷ [])) (none_read rs are) (seen_none i low);
       line = line;
     };
+  }
+
+  -- those in front close, and wait no more
+  pub front_judged : (w : Walk) (front hs : List HeldLeaf) → IsUnderWay i low remaining first now w (front ++ hs) → Judges i low front (Ok tt) → IsUnderWay i low remaining first now w hs
+  front_judged w front hs u judged = record {
+    left = u.left;
+    walk = u.walk;
+    count = u.count;
+    waits = waits_behind (Waits i) front hs u.waits;
+    from = u.from;
+    unread = λ fault is read l. u.unread fault (unread_behind front hs judged.0 fault judged.1.0 is) read l;
+    so_far = λ rs are.
+        let s = u.so_far (judged.0 ++ rs) (read_behind front hs judged.0 rs judged.1.0 are) in
+        record {
+          seen = s.seen;
+          behind_them = s.behind_them;
+          so_far = seen_judged i low s.seen judged.0 rs u.left judged.1.1 s.so_far;
+          line = s.line;
+        };
   }
 
   -- ---- a fault of the text
 
   -- where the lines that follow are at fault, that is told, unless the text of those that wait is
-  pub under_way_fault : (g : Going) (taken : ℕ) (found told : SourceFault) → IsUnderWay i low remaining first now g → TellsText g.held.items found told → IsNodeFault (LeavesNodes remaining now) taken found → IsNodeFault (LeavesNodes remaining first) taken told
-  under_way_fault g taken found source.Read u tells is = tt
-  under_way_fault g taken found source.TooLong u tells is = subst (IsNodeFault (LeavesNodes remaining now) taken) tells is
-  under_way_fault g taken found (source.Text text.OutOfMemory) u tells is = tt
-  under_way_fault g taken found (source.Text (text.At line fault)) u tells is = elim tells [
+  pub under_way_fault : (w : Walk) (hs : List HeldLeaf) (taken : ℕ) (found told : SourceFault) → IsUnderWay i low remaining first now w hs → TellsText hs found told → IsNodeFault (LeavesNodes remaining now) taken found → IsNodeFault (LeavesNodes remaining first) taken told
+  under_way_fault w hs taken found source.Read u tells is = tt
+  under_way_fault w hs taken found source.TooLong u tells is = subst (IsNodeFault (LeavesNodes remaining now) taken) tells is
+  under_way_fault w hs taken found (source.Text text.OutOfMemory) u tells is = tt
+  under_way_fault w hs taken found (source.Text (text.At line fault)) u tells is = elim tells [
     | inl earlier ↦
         let left = subst (IsNodeFault (LeavesNodes remaining now) taken) earlier.2.0 is in
         u.unread (text.At line fault) earlier.2.1 (Err (text.At earlier.0 earlier.1)) left
@@ -165,41 +166,40 @@ module _ {R : Type 0} (i : Instance) (low : ℕ) (remaining : R → Option (List
   -- ---- behind the last node
 
   -- what is told behind the last node
-  pub finishes : (g : Going) (taken : ℕ) (result : Result (Option CertFault) SourceFault) → IsUnderWay i low remaining first now g → LeavesNodes remaining now (Ok []) → still_due (reverse (still_to_come now)) ≡ [] → Finishes i low g.held.items result
-      → IfOk result (λ found. (nodes : List Node) × LeavesNodes remaining first (Ok nodes) × IsFoundIn i low nodes found) × IfErr result (IsNodeFault (LeavesNodes remaining first) taken)
-  finishes g taken (Ok None) u ends closed is =
+  pub finishes : (w : Walk) (hs : List HeldLeaf) (taken : ℕ) (result : Result (Option CertFault) SourceFault) → IsUnderWay i low remaining first now w hs → LeavesNodes remaining now (Ok []) → still_due (reverse (still_to_come now)) ≡ [] → Finishes i low hs result → AnswersAll i low remaining first taken result
+  finishes w hs taken (Ok None) u ends closed is =
       let s = u.so_far is.0 is.1.0 in
       let last = subst (IsSeen i low s.seen is.0) (nothing_left u.left (u.count ∙ none_due (still_to_come now) closed)) s.so_far in
-      ((s.seen, behind_all remaining first now s.seen s.behind_them ends, all_proved i low s.seen is.0 last is.1.1), tt)
-  finishes g taken (Ok (Some fault)) u ends closed is =
+      record { found = (s.seen, behind_all remaining first now s.seen s.behind_them ends, all_proved i low s.seen is.0 last is.1.1); err = tt }
+  finishes w hs taken (Ok (Some fault)) u ends closed is =
       let s = u.so_far is.0 is.1.0 in
-      ((s.seen, behind_all remaining first now s.seen s.behind_them ends, found_at_end i low s.seen fault (held_tells i low s.seen is.0 u.left fault s.so_far is.1.1)), tt)
-  finishes g taken (Err source.Read) u ends closed is = absurd is
-  finishes g taken (Err source.TooLong) u ends closed is = absurd is
-  finishes g taken (Err (source.Text text.OutOfMemory)) u ends closed is = (tt, tt)
-  finishes g taken (Err (source.Text (text.At line fault))) u ends closed is = (tt, u.unread (text.At line fault) is (Ok []) ends)
+      record { found = (s.seen, behind_all remaining first now s.seen s.behind_them ends, found_at_end i low s.seen fault (held_tells i low s.seen is.0 u.left fault s.so_far is.1.1)); err = tt }
+  finishes w hs taken (Err source.Read) u ends closed is = absurd is
+  finishes w hs taken (Err source.TooLong) u ends closed is = absurd is
+  finishes w hs taken (Err (source.Text text.OutOfMemory)) u ends closed is = record { found = tt; err = tt }
+  finishes w hs taken (Err (source.Text (text.At line fault))) u ends closed is = record { found = tt; err = u.unread (text.At line fault) is (Ok []) ends }
 
   -- ---- one node more
 
-  module _ (next : CertStream R) (g : Going) (u : IsUnderWay i low remaining first now g) (from : (origin : Origin) → StreamIsFrom remaining now origin → StreamIsFrom remaining next origin)
+  module _ (next : CertStream R) (w : Walk) (hs : List HeldLeaf) (u : IsUnderWay i low remaining first now w hs) (from : (origin : Origin) → StreamIsFrom remaining now origin → StreamIsFrom remaining next origin)
       (c : Choice) (left : List Choice) (there : u.left ≡ c ∷ left) where
     more_left : suc (length left) ≡ total_due (reverse (still_to_come now))
     more_left = sym (ap length there) ∙ u.count
 
-    pub branch_taken : (taken : Going) (branch : Branch) → LeavesNext remaining now next (Some (node.Branch branch, next_line now)) → TakesChild (still_to_come now) (still_to_come next) (node.Branch branch) → next_line next ≡ next_line now + 1
-        → IsBranch i c branch.kind branch.children → IsWalk i taken.walk (child_choices i c branch.kind ++ left) → taken.held.items ≡ g.held.items → IsUnderWay i low remaining first next taken
-    branch_taken taken branch leaves t passed suits walk same =
+    pub branch_taken : (taken : Walk) (branch : TreeBranch) → LeavesNext remaining now next (Some (node.Branch branch, next_line now)) → TakesChild (still_to_come now) (still_to_come next) (node.Branch branch) → next_line next ≡ next_line now + 1
+        → IsBranch i c branch.kind branch.children → IsWalk i taken (child_choices i c branch.kind ++ left) → IsUnderWay i low remaining first next taken hs
+    branch_taken taken branch leaves t passed suits walk =
         let below = child_choices i c branch.kind in
         let counted = branch_count i c branch suits in
         record {
           left = child_choices i c branch.kind ++ left;
           walk = walk;
           count = omega (arith, length-append (child_choices i c branch.kind) left, counted, more_left, takes_one (still_to_come now) (still_to_come next) (node.Branch branch) t, leaves_more (still_to_come now) (still_to_come next) (node.Branch branch) t);
-          waits = subst (All (Waits i)) (sym same) u.waits;
+          waits = u.waits;
           from = λ origin is. from origin (u.from origin is);
-          unread = λ fault is read left. u.unread fault (subst (UnreadAs fault) same is) (in_front (node.Branch branch) read) (leaves read left);
+          unread = λ fault is read left. u.unread fault is (in_front (node.Branch branch) read) (leaves read left);
           so_far = λ rs are.
-              let s = u.so_far rs (subst (ReadAs rs) same are) in
+              let s = u.so_far rs are in
               record {
                 seen = s.seen ++ node.Branch branch ∷ [];
                 behind_them = behind_more remaining first now next (node.Branch branch, next_line now) leaves s.seen s.behind_them;
@@ -209,9 +209,9 @@ module _ {R : Type 0} (i : Instance) (low : ℕ) (remaining : R → Option (List
         }
 
     module _ (goal count line : ℕ) (steps : Vec ℕ) (leaves : LeavesPiece remaining now next steps.items (Some (OfLeaf goal count, line))) (here : line ≡ next_line now) (passed : next_line next ≡ next_line now + 1 + count) where
-      pub leaf_read : (rs : List ReadLeaf) → AreRead (g.held.items ++ held_leaf c goal count line steps ∷ []) rs → IsReadSoFar i low remaining first next left rs
+      pub leaf_read : (rs : List ReadLeaf) → AreRead (hs ++ held_leaf c goal count line steps ∷ []) rs → IsReadSoFar i low remaining first next left rs
       leaf_read rs are =
-          let last = read_last g.held.items (held_leaf c goal count line steps) rs are in
+          let last = read_last hs (held_leaf c goal count line steps) rs are in
           let s = u.so_far last.0 last.2.1.0 in
           let said : node_said (OfLeaf goal count) line steps.items ≡ Ok (node.Leaf (record { goal = goal; steps = last.1 })) = rw last.2.1.1 refl in
           let next_is : LeavesNext remaining now next (Some (node.Leaf (record { goal = goal; steps = last.1 }), line)) = λ read l. subst (λ (x : Reading Node). LeavesNodes remaining now (said_in_front x read)) said (leaves read l) in
@@ -224,8 +224,8 @@ module _ {R : Type 0} (i : Instance) (low : ℕ) (remaining : R → Option (List
             line = omega (arith, passed, s.line, long, line_more s.seen (node.Leaf (record { goal = goal; steps = last.1 })));
           }
 
-      pub leaf_unread : (fault : CertTextError) → IsUnread (g.held.items ++ held_leaf c goal count line steps ∷ []) fault → (read : Reading (List Node)) → LeavesNodes remaining next read → LeavesNodes remaining first (Err fault)
-      leaf_unread fault is read l = elim (unread_last g.held.items (held_leaf c goal count line steps) fault is) [
+      pub leaf_unread : (fault : CertTextError) → IsUnread (hs ++ held_leaf c goal count line steps ∷ []) fault → (read : Reading (List Node)) → LeavesNodes remaining next read → LeavesNodes remaining first (Err fault)
+      leaf_unread fault is read l = elim (unread_last hs (held_leaf c goal count line steps) fault is) [
         | inl before ↦ u.unread fault before (said_in_front (node_said (OfLeaf goal count) line steps.items) read) (leaves read l)
         | inr own ↦
             let said : node_said (OfLeaf goal count) line steps.items ≡ Err fault = rw own.1 refl in
@@ -234,35 +234,15 @@ module _ {R : Type 0} (i : Instance) (low : ℕ) (remaining : R → Option (List
       ]
 
       -- it waits with the others
-      pub leaf_waits : (taken : Going) → Waits i (held_leaf c goal count line steps) → TakesChild (still_to_come now) (still_to_come next) (node.Leaf (record { goal = goal; steps = [] })) → IsWalk i taken.walk left → taken.held.items ≡ g.held.items ++ held_leaf c goal count line steps ∷ [] → IsUnderWay i low remaining first next taken
-      leaf_waits taken waits t walk same = record {
+      pub leaf_waits : (taken : Walk) → Waits i (held_leaf c goal count line steps) → TakesChild (still_to_come now) (still_to_come next) (node.Leaf (record { goal = goal; steps = [] })) → IsWalk i taken left → IsUnderWay i low remaining first next taken (hs ++ held_leaf c goal count line steps ∷ [])
+      leaf_waits taken waits t walk = record {
         left = left;
         walk = walk;
         count = omega (arith, more_left, takes_one (still_to_come now) (still_to_come next) (node.Leaf (record { goal = goal; steps = [] })) t, leaves_more (still_to_come now) (still_to_come next) (node.Leaf (record { goal = goal; steps = [] })) t);
-        waits = subst (All (Waits i)) (sym same) (All-push (Waits i) g.held.items (held_leaf c goal count line steps) u.waits waits);
+        waits = All-push (Waits i) hs (held_leaf c goal count line steps) u.waits waits;
         from = λ origin is. from origin (u.from origin is);
-        unread = λ fault is read l. leaf_unread fault (subst (UnreadAs fault) same is) read l;
-        so_far = λ rs are. leaf_read rs (subst (ReadAs rs) same are);
-      }
-
-      -- all of them were judged
-      pub leaf_judged : (taken : Going) → TakesChild (still_to_come now) (still_to_come next) (node.Leaf (record { goal = goal; steps = [] })) → IsWalk i taken.walk left → (rs : List ReadLeaf) → AreRead (g.held.items ++ held_leaf c goal count line steps ∷ []) rs → AllClose i low rs → taken.held.items ≡ []
-          → IsUnderWay i low remaining first next taken
-      leaf_judged taken t walk rs are closed none = record {
-        left = left;
-        walk = walk;
-        count = omega (arith, more_left, takes_one (still_to_come now) (still_to_come next) (node.Leaf (record { goal = goal; steps = [] })) t, leaves_more (still_to_come now) (still_to_come next) (node.Leaf (record { goal = goal; steps = [] })) t);
-        waits = subst (All (Waits i)) (sym none) (All-nil (Waits i));
-        from = λ origin is. from origin (u.from origin is);
-        unread = λ fault is read l. absurd (subst (UnreadAs fault) none is);
-        so_far = λ others others_are.
-            let s = leaf_read rs are in
-            record {
-              seen = s.seen;
-              behind_them = s.behind_them;
-              so_far = subst (λ (xs : List ReadLeaf). IsSeen i low s.seen xs left) (none_read others (subst (ReadAs others) none others_are)) (seen_judged i low s.seen rs left closed s.so_far);
-              line = s.line;
-            };
+        unread = λ fault is read l. leaf_unread fault is read l;
+        so_far = λ rs are. leaf_read rs are;
       }
 
 -- ---- what is found of the certificate

@@ -5,6 +5,7 @@ pub mod Turns
 pub mod Seen
 pub mod Waiting
 pub mod Going
+pub mod UnderWay
 pub use Rattle.ttp_model.specs.Delays
 pub use Rattle.tt_infer.specs.Leaves
 pub use Rattle.certificate.specs.Cert

@@ -1,9 +1,10 @@
 -- Leaves that wait with steps that aren't read yet. Only private contracts ask for it.
-use Rattle.std.specs.Prelude.{◌≡◌, ℕ, ◌+◌, ◌^◌, ◌<◌, List, [], ◌∷◌, ◌++◌, ◌⊎◌, Option, None, Some, Result, Ok, Err}
+use Rattle.std.specs.Prelude.{◌≡◌, ℕ, ◌+◌, ◌^◌, ◌<◌, List, [], ◌∷◌, ◌++◌, flat_map, ◌⊎◌, Option, None, Some, Result, Ok, Err}
 use Rattle.std.specs.Global.{Vec}
+use Rattle.std.specs.List.{AllZip}
 use Rattle.ttp_model.specs.declared.step.Step.{Step}
 use Rattle.ttp_model.specs.Instance.{Instance}
-use Rattle.tt_choice.specs.Choice.{Choice, IsChoice}
+use Rattle.tt_choice.specs.Choice.{Choice, IsChoice, bare}
 use Rattle.tt_choice.specs.Branches.{IsBranch, child_choices}
 use Rattle.certificate.specs.declared.fault.LineFault.{LineFault}
 use Rattle.certificate.specs.declared.fault.CertTextError.{CertTextError}
@@ -20,12 +21,15 @@ use Rattle.cert_check.specs.declared.fault.HeldFault.{HeldFault}
 use Rattle.cert_check.specs.declared.fault.HeldFault.TheVariants.{InText, InCert}
 use Rattle.cert_check.specs.declared.batch.HeldLeaf.{HeldLeaf}
 use Rattle.cert_check.specs.declared.going.Going.{Going}
+use Rattle.cert_check.specs.declared.going.Stop.{Stop}
+use Rattle.cert_check.specs.declared.going.Stop.TheVariants.{End, Lines, Branch}
 use Rattle.cert_check.specs.Turns.{IsWalk}
 use Rattle.cert_check.specs.Seen.{ReadLeaf, TellsNode, TellsBranch, Closes, AllClose, TellsHeld}
 
--- a leaf waits at a choice of the instance, and its line is far below those that are told as the last
+-- a leaf waits at a choice of the instance that keeps no decision, and its line is far below those that are told as the last
 pub record Waits (i : Instance) (h : HeldLeaf) : Type 0 where
   pub choice : IsChoice i h.choice
+  pub none_kept : bare h.choice ≡ h.choice
   pub line : h.line < 2 ^ 63
   pub few : h.count < 2 ^ 32
 
@@ -57,6 +61,12 @@ IsLeafAnswer i low h (Err (InText (text.At line fault))) = steps_of h ≡ Err (t
 IsLeafAnswer i low h (Err (InCert fault)) =
     (steps : List Step) × ((steps_of h ≡ Ok steps) × TellsNode i low h.choice (node.Leaf (record { goal = h.goal; steps = steps })) h.line fault)
 
+-- What is told where a leaf is at fault and these wait behind it: the first fault of their text goes before that.
+abbrev pub TellsBefore : List HeldLeaf → CertFault → HeldFault → Type 0
+TellsBefore hs own (InText text.OutOfMemory) = Unit {0}
+TellsBefore hs own (InText (text.At line fault)) = IsUnread hs (text.At line fault)
+TellsBefore hs own (InCert fault) = (fault ≡ own) × ((rs : List ReadLeaf) × AreRead hs rs)
+
 -- the first fault of the text among such answers
 abbrev pub first_text : List (Result (Unit {0}) HeldFault) → Option CertTextError
 first_text [] = None
@@ -78,6 +88,11 @@ Judges i low hs (Ok _) = (rs : List ReadLeaf) × (AreRead hs rs × AllClose i lo
 Judges i low hs (Err (InText text.OutOfMemory)) = Unit {0}
 Judges i low hs (Err (InText (text.At line fault))) = IsUnread hs (text.At line fault)
 Judges i low hs (Err (InCert fault)) = (rs : List ReadLeaf) × (AreRead hs rs × TellsHeld i low rs fault)
+
+-- each of these answers is one to a run of them, in order
+abbrev pub AnswerRuns : Instance → ℕ → List HeldLeaf → List (Result (Unit {0}) HeldFault) → Type 0
+AnswerRuns i low hs answers =
+    (runs : List (List HeldLeaf)) × ((flat_map (λ (run : List HeldLeaf). run) runs ≡ hs) × AllZip (Judges i low) runs answers)
 
 -- what is told behind the last node
 abbrev pub Finishes : Instance → ℕ → List HeldLeaf → Result (Option CertFault) SourceFault → Type 0
@@ -104,24 +119,16 @@ TellsText hs found (source.Text (text.At line fault)) =
 abbrev pub held_leaf : Choice → (goal count line : ℕ) → Vec ℕ → HeldLeaf
 held_leaf c goal count line steps = record { choice = c; goal = goal; count = count; line = line; steps = steps }
 
--- all of them wait, or they were judged and close
-abbrev pub WaitOrClose : Instance → ℕ → (all now : List HeldLeaf) → Type 0
-WaitOrClose i low all now = (now ≡ all) ⊎ (((rs : List ReadLeaf) × (AreRead all rs × AllClose i low rs)) × (now ≡ []))
-
 -- a node was taken at a choice, in front of these others
-abbrev pub Takes : Instance → ℕ → (old new : Going) → Head → ℕ → Vec ℕ → Choice → List Choice → Type 0
-Takes i low old new (OfBranch branch) line steps c left =
+abbrev pub Takes : Instance → (old new : Going) → Head → ℕ → Vec ℕ → Choice → List Choice → Type 0
+Takes i old new (OfBranch branch) line steps c left =
     IsBranch i c branch.kind branch.children × (IsWalk i new.walk (child_choices i c branch.kind ++ left) × (new.held.items ≡ old.held.items))
-Takes i low old new (OfLeaf goal count) line steps c left =
-    Waits i (held_leaf c goal count line steps) × (IsWalk i new.walk left × WaitOrClose i low (old.held.items ++ held_leaf c goal count line steps ∷ []) new.held.items)
-
--- those that wait are at fault, or they close, and the branch behind them is
-abbrev pub BranchFails : Instance → ℕ → List HeldLeaf → (Tells : CertFault → Type 0) → HeldFault → Type 0
-BranchFails i low hs Tells fault =
-    Judges i low hs (Err fault) ⊎ ((own : CertFault) × ((fault ≡ InCert own) × (Tells own × ((rs : List ReadLeaf) × (AreRead hs rs × AllClose i low rs)))))
+Takes i old new (OfLeaf goal count) line steps c left =
+    Waits i (held_leaf c goal count line steps) × (IsWalk i new.walk left × (new.held.items ≡ old.held.items ++ held_leaf c goal count line steps ∷ []))
 
 -- why a node isn't taken
-abbrev pub TakeFails : Instance → ℕ → (old : Going) → Head → ℕ → Vec ℕ → Choice → HeldFault → Type 0
-TakeFails i low old (OfBranch branch) line steps c fault = BranchFails i low old.held.items (TellsBranch i c branch line) fault
-TakeFails i low old (OfLeaf goal count) line steps c fault =
-    Judges i low (old.held.items ++ held_leaf c goal count line steps ∷ []) (Err fault)
+abbrev pub TakeFails : Instance → Head → ℕ → Choice → Stop → Type 0
+TakeFails i head line c End = ⊥
+TakeFails i head line c (Lines found) = found ≡ source.Text text.OutOfMemory
+TakeFails i (OfBranch branch) line c (Branch own) = TellsBranch i c branch line own
+TakeFails i (OfLeaf goal count) line c (Branch own) = ⊥

@@ -1,20 +1,22 @@
 //! Which of the leaves that wait is the first that can't be read or doesn't close?
 
-ghost use Rattle.std.specs.Prelude.{◌≡◌, ◌≤◌, All, IfErr, IfOk, OnErr, OnOk};
-ghost use Rattle.std.specs.List.{AllZip};
-ghost use Rattle.cert_check.specs.Waiting.{IsLeafAnswer, Judges, Waits, first_fault, first_text};
+ghost use Rattle.std.specs.Prelude.{◌≡◌, ◌++◌, ◌<◌, ◌≤◌, ℕ, All, Err, IfErr, IfOk, List, Ok, OnErr, OnOk};
+ghost use Rattle.ttp_model.specs.Instance.{Instance};
+ghost use Rattle.cert_check.specs.Waiting.{AnswerRuns, Finishes, IsLeafAnswer, Judges, TellsBefore, TellsText, Waits, first_fault, first_text};
+ghost use Rattle.cert_check.specs.declared.batch.HeldLeaf.{HeldLeaf};
 
 use crate::fault::{CertFault, HeldFault};
 use crate::leaf::judge_leaf;
-use certificate::{CertTextError, read_steps};
+use certificate::{CertTextError, SourceFault, read_steps};
 use rayon::prelude::*;
 use std::alloc::Global;
 use std::thread::Threads;
 use tt_choice::Choice;
+use tt_infer::Facts;
 use ttp_model::{Instance, Leaf, MemoryFault, Steps};
 
-/// How few leaves are worth a thread of their own.
-const LEAST_PIECE: usize = 16;
+/// How many leaves are judged in one room. So few are worth no thread of their own.
+const RUN: usize = 16;
 
 /// How many bytes of steps are worth threads, however few leaves have them.
 const MANY_BYTES: usize = 65_536;
@@ -32,18 +34,25 @@ pub struct HeldLeaf {
     pub steps: Vec<u8>,
 }
 
-/// Reads the steps of a leaf, and judges it.
-fn judge_one(alloc: Global, instance: &Instance, low: u32, held: &HeldLeaf) -> Result<(), HeldFault>
-    requires { Waits instance.now held.now }
-    ensures { IsLeafAnswer instance.now low held.now result }
+/// Reads the steps of a leaf, and judges it in the room of facts, which comes back where it closes.
+fn judge_one<'a>(
+    alloc: Global,
+    room: Facts<'a>,
+    low: u32,
+    held: &HeldLeaf,
+) -> Result<Facts<'a>, HeldFault>
+    requires { Waits room.instance held.now }
+    ensures room { IfOk result (λ facts. facts.instance ≡ room.entry.instance) }
+    ensures ok { OnOk result (IsLeafAnswer room.entry.instance low held.now (Ok tt)) }
+    ensures err { IfErr result (λ fault. IsLeafAnswer room.entry.instance low held.now (Err fault)) }
 {
     match read_steps(alloc, held.line, held.count, held.steps.as_slice()) {
         Ok(steps) => {
             let goal = held.goal;
             let steps = Steps::new(steps);
             let leaf = Leaf { goal, steps };
-            match judge_leaf(alloc, instance, low, &held.choice, &leaf, held.line) {
-                Ok(()) => Ok(()),
+            match judge_leaf(room, low, &held.choice, &leaf, held.line) {
+                Ok(facts) => Ok(facts),
                 Err(fault) => Err(HeldFault::InCert(fault)),
             }
         }
@@ -51,19 +60,75 @@ fn judge_one(alloc: Global, instance: &Instance, low: u32, held: &HeldLeaf) -> R
     }
 }
 
-/// How few of these leaves are worth a thread of their own: a single one may have megabytes of steps.
-fn least_piece(held: &[HeldLeaf]) -> usize {
-    if held.len() / LEAST_PIECE >= MANY_PIECES {
-        return LEAST_PIECE;
+/// What is told where a leaf is at fault and these stand behind it: the first fault of their text goes before that.
+fn told_before(alloc: Global, behind: &[HeldLeaf], fault: CertFault) -> HeldFault
+    requires { (i : Instance) × All (Waits i) behind.now }
+    ensures { TellsBefore behind.now fault result }
+{
+    for k in 0..behind.len() {
+        let held = &behind[k];
+        if let Err(text) = read_steps(alloc, held.line, held.count, held.steps.as_slice()) {
+            return HeldFault::InText(text);
+        }
     }
+    HeldFault::InCert(fault)
+}
+
+/// Reads and judges leaves one after another, in the room of one. Tells the first fault of their text, else the first of a leaf.
+fn judge_run(
+    alloc: Global,
+    instance: &Instance,
+    low: u32,
+    run: &[HeldLeaf],
+) -> Result<(), HeldFault>
+    requires { All (Waits instance.now) run.now }
+    ensures { Judges instance.now low run.now result }
+{
+    let Some(first) = run.first() else {
+        return Ok(());
+    };
+    let Ok(facts) = Facts::new(alloc, instance, &first.choice, low) else {
+        return Err(HeldFault::InText(CertTextError::OutOfMemory));
+    };
+    let mut room = facts;
+    for k in 0..run.len() {
+        match judge_one(alloc, room, low, &run[k]) {
+            Ok(facts) => room = facts,
+            Err(HeldFault::InText(fault)) => return Err(HeldFault::InText(fault)),
+            Err(HeldFault::InCert(fault)) => {
+                let (_, behind) = run.split_at(k + 1);
+                return Err(told_before(alloc, behind, fault));
+            }
+        }
+    }
+    Ok(())
+}
+
+/// Whether these leaves have many bytes of steps, however few they are.
+fn have_many_bytes(held: &[HeldLeaf]) -> bool {
     let mut bytes = 0usize;
     for k in 0..held.len() {
         bytes = bytes.saturating_add(held[k].steps.as_slice().len());
     }
-    if bytes < MANY_BYTES { LEAST_PIECE } else { 1 }
+    bytes >= MANY_BYTES
 }
 
-/// Judges each leaf, on all processors.
+/// Whether these leaves are worth a thread of their own.
+pub fn are_many(held: &[HeldLeaf]) -> bool {
+    held.len() > RUN || have_many_bytes(held)
+}
+
+/// How many of these leaves are judged in one room: a single one may have megabytes of steps.
+fn run_length(held: &[HeldLeaf]) -> usize
+    ensures { 0 < result }
+{
+    if held.len() / RUN >= MANY_PIECES || !have_many_bytes(held) {
+        return RUN;
+    }
+    1
+}
+
+/// Judges runs of leaves, on all processors.
 fn answers(
     rt: &(impl Threads + Sync),
     alloc: Global,
@@ -72,16 +137,16 @@ fn answers(
     held: &[HeldLeaf],
 ) -> Result<Vec<Result<(), HeldFault>>, MemoryFault>
     requires { All (Waits instance.now) held.now }
-    ensures { IfOk result (λ answers. AllZip (IsLeafAnswer instance.now low) held.now answers.items) }
+    ensures { IfOk result (λ answers. AnswerRuns instance.now low held.now answers.items) }
 {
     let answers = held
-        .par_iter()
-        .with_min_len(least_piece(held))
+        .par_chunks(run_length(held))
+        .with_min_len(1)
         .map(
-            |leaf: &HeldLeaf| -> Result<(), HeldFault>
-                requires { Waits instance.now leaf.now }
-                ensures { IsLeafAnswer instance.entry.now low leaf.now result }
-            { judge_one(alloc, instance, low, leaf) },
+            |run: &[HeldLeaf]| -> Result<(), HeldFault>
+                requires { All (Waits instance.now) run.now }
+                ensures { Judges instance.entry.now low run.now result }
+            { judge_run(alloc, instance, low, run) },
         )
         .collect::<Vec<Result<(), HeldFault>>>(rt, alloc)?;
     Ok(answers)
@@ -131,5 +196,57 @@ pub fn judge_held(
             },
         },
         Err(_) => Err(HeldFault::InText(CertTextError::OutOfMemory)),
+    }
+}
+
+/// What is told of leaves where this is wrong with those in front, and these wait behind them.
+pub fn told_behind(alloc: Global, found: HeldFault, behind: &[HeldLeaf]) -> HeldFault
+    requires { (i : Instance) × All (Waits i) behind.now }
+    ensures { (i : Instance) (low : ℕ) (front : List HeldLeaf) → Judges i low front (Err found) → Judges i low (front ++ behind.now) (Err result) }
+{
+    match found {
+        HeldFault::InText(fault) => HeldFault::InText(fault),
+        HeldFault::InCert(fault) => told_before(alloc, behind, fault),
+    }
+}
+
+/// Judges the leaves behind others, which were judged so.
+pub fn judge_behind(
+    rt: &(impl Threads + Sync),
+    alloc: Global,
+    instance: &Instance,
+    low: u32,
+    judged: Result<(), HeldFault>,
+    behind: &[HeldLeaf],
+) -> Result<(), HeldFault>
+    requires { All (Waits instance.now) behind.now }
+    ensures { (front : List HeldLeaf) → Judges instance.now low front judged → Judges instance.now low (front ++ behind.now) result }
+{
+    match judged {
+        Ok(()) => judge_held(rt, alloc, instance, low, behind),
+        Err(found) => Err(told_behind(alloc, found, behind)),
+    }
+}
+
+/// What is told behind the last node.
+pub fn told_at_end(judged: Result<(), HeldFault>) -> Result<Option<CertFault>, SourceFault>
+    ensures { (i : Instance) (low : ℕ) (hs : List HeldLeaf) → Judges i low hs judged → Finishes i low hs result }
+{
+    match judged {
+        Ok(()) => Ok(None),
+        Err(HeldFault::InCert(fault)) => Ok(Some(fault)),
+        Err(HeldFault::InText(fault)) => Err(SourceFault::Text(fault)),
+    }
+}
+
+/// What is told where the lines behind leaves are at fault: a fault of their own text goes before it.
+pub fn told_of_lines(judged: Result<(), HeldFault>, found: SourceFault) -> SourceFault
+    ensures { (i : Instance) (low : ℕ) (hs : List HeldLeaf) → Judges i low hs judged → TellsText hs found result }
+{
+    match (judged, found) {
+        (Err(HeldFault::InText(earlier)), SourceFault::Text(CertTextError::At { .. })) => {
+            SourceFault::Text(earlier)
+        }
+        (_, found) => found,
     }
 }

@@ -1,27 +1,39 @@
-//! Which fault of a certificate is the first, where its nodes come one after another and its leaves wait?
+//! Which leaves wait, where the nodes of a certificate come one after another?
 
-ghost use Rattle.std.specs.Prelude.{◌≡◌, ◌∷◌, [], ◌<◌, ◌^◌, ◌++◌, ℕ, List, All, IfErr, IfOk, OnErr, OnOk};
+ghost use Rattle.std.specs.Prelude.{◌≡◌, ◌∷◌, [], ◌<◌, ◌^◌, ◌++◌, ℕ, List, IfErr, IfNone, IfOk, IfSome, OnErr, OnOk};
 ghost use Rattle.tt_choice.specs.Choice.{Choice, bare};
-ghost use Rattle.tt_choice.specs.Branches.{IsBranch, child_choices, root_choice};
-ghost use Rattle.cert_check.specs.Seen.{ReadLeaf, AllClose, TellsBranch};
+ghost use Rattle.tt_choice.specs.Branches.{root_choice};
+ghost use Rattle.certificate.specs.Streams.{next_line};
 ghost use Rattle.cert_check.specs.Turns.{IsWalk};
-ghost use Rattle.cert_check.specs.Waiting.{AreRead, BranchFails, Finishes, Judges, TakeFails, Takes, TellsText, WaitOrClose, Waits};
+ghost use Rattle.cert_check.specs.Waiting.{TakeFails, Takes};
+ghost use Rattle.cert_check.specs.UnderWay.{ComesFrom, GoesOn, Halts, IsSomewhere};
 
-use crate::batch::{HeldLeaf, judge_held};
-use crate::fault::{CertFault, HeldFault};
+use crate::batch::HeldLeaf;
+use crate::fault::CertFault;
 use crate::walk::Walk;
-use certificate::{Branch, CertTextError, Head, SourceFault};
+use certificate::{CertStream, CertTextError, Head, SourceFault};
 use std::alloc::Global;
+use std::io::Read;
 use std::mem;
-use std::thread::Threads;
 use tt_choice::Choice;
 use ttp_model::{Instance, MemoryFault};
 
-/// How many bytes of steps wait, beside those of the last leaf.
-const MOST_BYTES_HELD: usize = 16_777_216;
+/// How many bytes of steps wait in a batch, beside those of its last leaf. Two batches are there at once.
+const MOST_BYTES_HELD: usize = 8_388_608;
 
 /// How large the memory of a text may be that is kept for others.
 const MOST_KEPT: usize = 4_096;
+
+/// Why no further node is taken.
+#[derive(Clone, Copy, Debug, PartialEq, Eq)]
+pub enum Stop {
+    /// There is none.
+    End,
+    /// The next lines say none, or memory was refused.
+    Lines(SourceFault),
+    /// It is a branch with this fault.
+    Branch(CertFault),
+}
 
 /// The walk through a tree whose nodes come one after another, and the leaves that wait, with how many bytes their steps have.
 #[derive(Drop)]
@@ -62,113 +74,25 @@ impl Going {
         Ok(())
     }
 
-    /// Lets no leaf wait.
-    fn let_go(&mut self) -> Result<(), MemoryFault>
+    /// Hands the leaves that wait over, and lets none wait. The memory of those that were handed over before is kept.
+    pub fn hand_over(&mut self, front: &mut Vec<HeldLeaf>) -> Result<(), MemoryFault>
         ensures walk { self.new.walk ≡ self.old.walk }
         ensures empty { OnOk result (self.new.held.items ≡ []) }
+        ensures front { OnOk result (front.new.items ≡ self.old.held.items) }
     {
         self.bytes = 0;
+        mem::swap(&mut self.held, front);
         'leaves: while let Some(leaf) = self.held.pop() {
             self.keep(leaf)?;
         }
         Ok(())
     }
 
-    /// Judges the leaves that wait, in a batch.
-    fn judge_all(
-        &mut self,
-        rt: &(impl Threads + Sync),
-        alloc: Global,
-        instance: &Instance,
-        low: u32,
-    ) -> Result<(), HeldFault>
-        requires { All (Waits instance.now) self.old.held.items }
-        ensures judges { Judges instance.now low self.old.held.items result }
-        ensures walk { self.new.walk ≡ self.old.walk }
-        ensures empty { OnOk result (self.new.held.items ≡ []) }
+    /// The leaves that wait.
+    pub fn held(&self) -> &[HeldLeaf]
+        ensures { result.now ≡ self.now.held.items }
     {
-        match judge_held(rt, alloc, instance, low, self.held.as_slice()) {
-            Ok(()) => match self.let_go() {
-                Ok(()) => Ok(()),
-                Err(_) => Err(HeldFault::InText(CertTextError::OutOfMemory)),
-            },
-            Err(fault) => Err(fault),
-        }
-    }
-
-    /// What is told behind the last node.
-    pub fn finish(
-        &self,
-        rt: &(impl Threads + Sync),
-        alloc: Global,
-        instance: &Instance,
-        low: u32,
-    ) -> Result<Option<CertFault>, SourceFault>
-        requires { All (Waits instance.now) self.now.held.items }
-        ensures { Finishes instance.now low self.now.held.items result }
-    {
-        match judge_held(rt, alloc, instance, low, self.held.as_slice()) {
-            Ok(()) => Ok(None),
-            Err(HeldFault::InCert(fault)) => Ok(Some(fault)),
-            Err(HeldFault::InText(fault)) => Err(SourceFault::Text(fault)),
-        }
-    }
-
-    /// What is told where the lines behind those that wait are at fault.
-    pub fn first_text(
-        &self,
-        rt: &(impl Threads + Sync),
-        alloc: Global,
-        instance: &Instance,
-        low: u32,
-        found: SourceFault,
-    ) -> SourceFault
-        requires { All (Waits instance.now) self.now.held.items }
-        ensures { TellsText self.now.held.items found result }
-    {
-        match found {
-            SourceFault::Read => SourceFault::Read,
-            SourceFault::TooLong => SourceFault::TooLong,
-            SourceFault::Text(CertTextError::OutOfMemory) => {
-                SourceFault::Text(CertTextError::OutOfMemory)
-            }
-            SourceFault::Text(CertTextError::At { line, fault }) => {
-                match judge_held(rt, alloc, instance, low, self.held.as_slice()) {
-                    Err(HeldFault::InText(earlier)) => SourceFault::Text(earlier),
-                    Err(HeldFault::InCert(_)) => {
-                        SourceFault::Text(CertTextError::At { line, fault })
-                    }
-                    Ok(()) => SourceFault::Text(CertTextError::At { line, fault }),
-                }
-            }
-        }
-    }
-
-    /// Judges a branch that stands on this line. A leaf in front of it may be at fault too, and is first then.
-    fn take_branch(
-        &mut self,
-        rt: &(impl Threads + Sync),
-        alloc: Global,
-        instance: &Instance,
-        low: u32,
-        branch: Branch,
-        line: u64,
-    ) -> Result<(), HeldFault>
-        requires walk { (left : List Choice) × IsWalk instance.now self.old.walk left }
-        requires waits { All (Waits instance.now) self.old.held.items }
-        ensures suits { OnOk result (IsBranch instance.now (bare self.old.walk.choice) branch.kind branch.children) }
-        ensures below { OnOk result ((left : List Choice) → IsWalk instance.now self.old.walk left
-            → IsWalk instance.now self.new.walk (child_choices instance.now (bare self.old.walk.choice) branch.kind ++ left)) }
-        ensures held { self.new.held ≡ self.old.held }
-        ensures err { IfErr result (BranchFails instance.now low self.old.held.items (TellsBranch instance.now (bare self.old.walk.choice) branch line)) }
-    {
-        match self.walk.branch(alloc, instance, &branch, line) {
-            Ok(()) => Ok(()),
-            Err(fault) => match judge_held(rt, alloc, instance, low, self.held.as_slice()) {
-                Ok(()) => Err(HeldFault::InCert(fault)),
-                Err(earlier) => Err(earlier),
-            },
-        }
+        self.held.as_slice()
     }
 
     /// The choice that the walk stands at, in memory of its own.
@@ -208,6 +132,8 @@ impl Going {
         steps: &mut Vec<u8>,
     ) -> Result<(), MemoryFault>
         ensures walk { self.new.walk ≡ self.old.walk }
+        ensures few { count < 2 ^ 32 }
+        ensures kept { OnErr result (self.new.held.items ≡ self.old.held.items) }
         ensures held { OnOk result (self.new.held.items
             ≡ self.old.held.items ++ (record { choice = bare self.old.walk.choice; goal = goal; count = count; line = line; steps = steps.old }) ∷ []) }
     {
@@ -224,62 +150,76 @@ impl Going {
         Ok(())
     }
 
-    /// Lets a leaf that stands on this line wait with the others, and judges them all where they are a batch.
-    fn take_leaf(
+    /// Takes a node whose line says this: judges a branch, and lets a leaf wait.
+    fn take(
         &mut self,
-        rt: &(impl Threads + Sync),
         alloc: Global,
         instance: &Instance,
-        low: u32,
-        batch: usize,
-        goal: u32,
-        count: u32,
-        line: u64,
-        steps: &mut Vec<u8>,
-    ) -> Result<(), HeldFault>
-        requires walk { (left : List Choice) × IsWalk instance.now self.old.walk left }
-        requires waits { All (Waits instance.now) self.old.held.items }
-        requires line { line < 2 ^ 63 }
-        ensures walk { self.new.walk ≡ self.old.walk }
-        ensures waits { OnOk result (Waits instance.now (record { choice = bare self.old.walk.choice; goal = goal; count = count; line = line; steps = steps.old })) }
-        ensures ok { OnOk result (WaitOrClose instance.now low (self.old.held.items ++ (record { choice = bare self.old.walk.choice; goal = goal; count = count; line = line; steps = steps.old }) ∷ []) self.new.held.items) }
-        ensures err { IfErr result (λ fault. Judges instance.now low (self.old.held.items ++ (record { choice = bare self.old.walk.choice; goal = goal; count = count; line = line; steps = steps.old }) ∷ []) (Err fault)) }
-    {
-        match self.hold(alloc, goal, count, line, steps) {
-            Ok(()) if self.held.len() < batch && self.bytes < MOST_BYTES_HELD => Ok(()),
-            Ok(()) => self.judge_all(rt, alloc, instance, low),
-            Err(_) => Err(HeldFault::InText(CertTextError::OutOfMemory)),
-        }
-    }
-
-    /// Judges a node whose line says this, as far as it isn't a leaf that waits.
-    pub fn take(
-        &mut self,
-        rt: &(impl Threads + Sync),
-        alloc: Global,
-        instance: &Instance,
-        low: u32,
-        batch: usize,
         head: Head,
         line: u64,
         steps: &mut Vec<u8>,
-    ) -> Result<(), HeldFault>
+    ) -> Result<(), Stop>
         requires walk { (c : Choice) × (left : List Choice) × IsWalk instance.now self.old.walk (c ∷ left) }
-        requires waits { All (Waits instance.now) self.old.held.items }
         requires line { line < 2 ^ 63 }
         ensures takes { OnOk result ((c : Choice) (left : List Choice) → IsWalk instance.now self.old.walk (c ∷ left)
-            → Takes instance.now low self.old self.new head line steps.old c left) }
-        ensures err { IfErr result (λ fault. (c : Choice) (left : List Choice) → IsWalk instance.now self.old.walk (c ∷ left)
-            → TakeFails instance.now low self.old head line steps.old c fault) }
+            → Takes instance.now self.old self.new head line steps.old c left) }
+        ensures kept { OnErr result (self.new.held.items ≡ self.old.held.items) }
+        ensures err { IfErr result (λ stop. (c : Choice) (left : List Choice) → IsWalk instance.now self.old.walk (c ∷ left)
+            → TakeFails instance.now head line c stop) }
     {
         match (self.walk.go_on(alloc, instance), head) {
             (Ok(()), Head::OfBranch(branch)) => {
-                self.take_branch(rt, alloc, instance, low, branch, line)
+                match self.walk.branch(alloc, instance, &branch, line) {
+                    Ok(()) => Ok(()),
+                    Err(fault) => Err(Stop::Branch(fault)),
+                }
             }
             (Ok(()), Head::OfLeaf(goal, count)) => {
-                self.take_leaf(rt, alloc, instance, low, batch, goal, count, line, steps)
+                match self.hold(alloc, goal, count, line, steps) {
+                    Ok(()) => Ok(()),
+                    Err(_) => Err(Stop::Lines(SourceFault::Text(CertTextError::OutOfMemory))),
+                }
             }
-            (Err(_), _) => Err(HeldFault::InText(CertTextError::OutOfMemory)),
+            (Err(_), _) => Err(Stop::Lines(SourceFault::Text(CertTextError::OutOfMemory))),
+        }
+    }
+
+    /// Whether as many leaves wait as are judged together.
+    fn is_full(&self, batch: usize) -> bool {
+        self.held.len() >= batch || self.bytes >= MOST_BYTES_HELD
+    }
+
+    /// Reads on until as many leaves wait as are judged together, or no further node is taken.
+    pub fn fill<R: Read>(
+        &mut self,
+        alloc: Global,
+        instance: &Instance,
+        batch: usize,
+        stream: &mut CertStream<R>,
+        steps: &mut Vec<u8>,
+    ) -> Option<Stop>
+        requires { IsSomewhere instance.now R.remaining stream.old self.old.walk self.old.held.items }
+        ensures full { IfNone result (GoesOn instance.now R.remaining stream.old stream.new self.old.walk self.new.walk self.old.held.items self.new.held.items) }
+        ensures on { IfNone result (next_line stream.old < next_line stream.new) }
+        ensures stopped { IfSome result (Halts instance.now R.remaining stream.old stream.new self.old.walk self.old.held.items self.new.held.items) }
+        ensures from { ComesFrom R.remaining stream.old stream.new }
+    {
+        'nodes: loop {
+            match stream.next_piece(alloc, steps) {
+                Err(fault) => return Some(Stop::Lines(fault)),
+                Ok(next) => {
+                    let Some(said) = next else {
+                        return Some(Stop::End);
+                    };
+                    match self.take(alloc, instance, said.0, said.1, steps) {
+                        Ok(()) => {}
+                        Err(stop) => return Some(stop),
+                    }
+                    if self.is_full(batch) {
+                        return None;
+                    }
+                }
+            }
         }
     }
 }

@@ -1,38 +1,37 @@
 //! Does a leaf close the choice that it stands at?
 
-ghost use Rattle.std.specs.Prelude.{◌≤◌, IfErr, OnOk};
+ghost use Rattle.std.specs.Prelude.{◌≡◌, ◌≤◌, IfErr, IfOk, OnOk};
 ghost use Rattle.certificate.specs.declared.node.Node.TheVariants as node;
-ghost use Rattle.tt_choice.specs.Choice.{IsChoice};
+ghost use Rattle.tt_choice.specs.Choice.{IsChoice, bare};
 ghost use Rattle.tt_infer.specs.Leaves.{ClosesLeaf};
 ghost use Rattle.cert_check.specs.Seen.{TellsNode};
 
 use crate::fault::{CertFault, NodeFault};
-use std::alloc::Global;
 use tt_choice::Choice;
 use tt_infer::Facts;
-use ttp_model::{Instance, Leaf};
+use ttp_model::Leaf;
 
-/// Judges a leaf that stands on this line: its goal, then its steps one after another, then whether
-/// the last of them leaves no plan.
-pub fn judge_leaf(
-    alloc: Global,
-    instance: &Instance,
+/// Judges a leaf that stands on this line, in the room of facts: its goal, then its steps one after another, then whether
+/// the last of them leaves no plan. The room comes back where it closes.
+pub fn judge_leaf<'a>(
+    room: Facts<'a>,
     low: u32,
     choice: &Choice,
     leaf: &Leaf,
     line: u64,
-) -> Result<(), CertFault>
-    requires { IsChoice instance.now choice.now }
+) -> Result<Facts<'a>, CertFault>
+    requires { IsChoice room.instance choice.now }
+    ensures room { IfOk result (λ facts. facts.instance ≡ room.entry.instance) }
     ensures goal { OnOk result (low ≤ leaf.now.goal) }
-    ensures closes { OnOk result (ClosesLeaf instance.now choice.now leaf.now) }
+    ensures closes { OnOk result (ClosesLeaf room.entry.instance (bare choice.now) leaf.now) }
     ensures err { IfErr result
-        (TellsNode instance.now low choice.now (node.Leaf leaf.now) line) }
+        (TellsNode room.entry.instance low (bare choice.now) (node.Leaf leaf.now) line) }
 {
     if leaf.goal < low {
         let fault = NodeFault::LowGoal;
         return Err(CertFault::At { line, fault });
     }
-    let mut facts = Facts::new(alloc, instance, choice, leaf.goal)?;
+    let mut facts = room.turned(choice, leaf.goal)?;
     let steps = leaf.steps.as_slice();
     for place in 0..steps.len() {
         match facts.apply(&steps[place]) {
@@ -45,7 +44,7 @@ pub fn judge_leaf(
         }
     }
     if facts.closed() {
-        Ok(())
+        Ok(facts)
     } else {
         let fault = NodeFault::NotClosed;
         Err(CertFault::At { line, fault })

@@ -2,6 +2,7 @@
 #![tactic(auto)]
 
 mod batch;
+mod beside;
 mod fault;
 mod going;
 mod laws;

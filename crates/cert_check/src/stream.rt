@@ -7,17 +7,23 @@ ghost use Rattle.certificate.specs.Cert.{Cert};
 ghost use Rattle.certificate.specs.Sources.{Origin};
 ghost use Rattle.certificate.specs.Streams.{IsFresh, LeavesNodes, LeavesCert, StreamIsFrom, IsCertFault, IsNodeFault, next_line, still_to_come, bytes_taken, stream_reader};
 ghost use Rattle.cert_check.specs.Streams.{IsAnswerOf, IsFound, IsStreamJudged, IsTakenFrom, IsToldBehind, TakesAll};
-ghost use Rattle.cert_check.specs.Going.{IsFoundIn};
+ghost use Rattle.ttp_model.specs.Instance.{Instance};
+ghost use Rattle.certificate.specs.declared.stream.CertStream.{CertStream};
+ghost use Rattle.cert_check.specs.declared.batch.HeldLeaf.{HeldLeaf};
+ghost use Rattle.cert_check.specs.Waiting.{Judges};
+ghost use Rattle.cert_check.specs.UnderWay.{AnswersAll, IsFailed, IsStopped};
 
+use crate::batch::{judge_behind, told_at_end, told_behind, told_of_lines};
+use crate::beside::judge_beside;
 use crate::fault::{CertFault, HeldFault, StreamFault};
-use crate::going::Going;
+use crate::going::{Going, Stop};
 use certificate::{CertStream, CertTextError, SourceFault};
 use std::alloc::Global;
 use std::io::Read;
 use std::thread::Threads;
 use ttp_model::Instance;
 
-/// How many leaves wait for their judgement at most.
+/// How many leaves are judged together at most.
 pub const MOST_LEAVES_HELD: usize = 4_096;
 
 /// Reads the nodes that are left, and judges none.
@@ -50,6 +56,45 @@ fn pass_fault<R: Read>(
     }
 }
 
+/// What is told where the nodes in front of a stream are at fault, once those that are left were read.
+fn fail<R: Read>(
+    alloc: Global,
+    fault: HeldFault,
+    stream: &mut CertStream<R>,
+) -> Result<Option<CertFault>, SourceFault>
+    ensures answers { (i : Instance) (low : ℕ) (first : CertStream R) → IsFailed i low R.remaining first stream.old fault
+        → AnswersAll i low R.remaining first (bytes_taken stream.new) result }
+    ensures from { (origin : Origin) → StreamIsFrom R.remaining stream.old origin → StreamIsFrom R.remaining stream.new origin }
+{
+    match fault {
+        HeldFault::InText(fault) => Err(pass_fault(alloc, stream, fault)),
+        HeldFault::InCert(fault) => {
+            pass_nodes(alloc, stream)?;
+            Ok(Some(fault))
+        }
+    }
+}
+
+/// What is told where no further node is taken, and the leaves that wait were judged.
+fn end<R: Read>(
+    alloc: Global,
+    judged: Result<(), HeldFault>,
+    stop: Stop,
+    stream: &mut CertStream<R>,
+) -> Result<Option<CertFault>, SourceFault>
+    ensures answers { (i : Instance) (low : ℕ) (first : CertStream R) (hs : List HeldLeaf) → Judges i low hs judged
+        → IsStopped i low R.remaining first stream.old (bytes_taken stream.old) hs stop
+        → AnswersAll i low R.remaining first (bytes_taken stream.new) result }
+    ensures from { (origin : Origin) → StreamIsFrom R.remaining stream.old origin → StreamIsFrom R.remaining stream.new origin }
+{
+    match (stop, judged) {
+        (Stop::End, judged) => told_at_end(judged),
+        (Stop::Lines(found), judged) => Err(told_of_lines(judged, found)),
+        (Stop::Branch(_), Err(fault)) => fail(alloc, fault, stream),
+        (Stop::Branch(own), Ok(())) => fail(alloc, HeldFault::InCert(own), stream),
+    }
+}
+
 /// Goes through all nodes. The first fault of their tree, if there is one.
 fn go_through<R: Read>(
     rt: &(impl Threads + Sync),
@@ -61,9 +106,7 @@ fn go_through<R: Read>(
 ) -> Result<Option<CertFault>, SourceFault>
     requires due { still_to_come stream.old ≡ 1 ∷ [] }
     requires line { next_line stream.old ≡ 3 }
-    ensures found { IfOk result (λ found. (nodes : List Node) × LeavesNodes R.remaining stream.old (Ok nodes)
-        × IsFoundIn instance.now low nodes found) }
-    ensures err { IfErr result (IsNodeFault (LeavesNodes R.remaining stream.old) (bytes_taken stream.new)) }
+    ensures answers { AnswersAll instance.now low R.remaining stream.old (bytes_taken stream.new) result }
     ensures from { (origin : Origin) → StreamIsFrom R.remaining stream.old origin → StreamIsFrom R.remaining stream.new origin }
 {
     let mut going = match Going::new(alloc, instance) {
@@ -74,22 +117,34 @@ fn go_through<R: Read>(
         }
     };
     let mut steps = Vec::new(alloc);
-    'nodes: loop {
-        match stream.next_piece(alloc, &mut steps) {
-            Err(fault) => return Err(going.first_text(rt, alloc, instance, low, fault)),
-            Ok(next) => {
-                let Some(said) = next else {
-                    return going.finish(rt, alloc, instance, low);
-                };
-                match going.take(rt, alloc, instance, low, batch, said.0, said.1, &mut steps) {
-                    Ok(()) => {}
-                    Err(HeldFault::InText(fault)) => return Err(pass_fault(alloc, stream, fault)),
-                    Err(HeldFault::InCert(fault)) => {
-                        pass_nodes(alloc, stream)?;
-                        return Ok(Some(fault));
-                    }
-                }
+    let mut front = Vec::new(alloc);
+    'batches: loop {
+        let (judged, stop) = judge_beside(
+            rt,
+            alloc,
+            instance,
+            low,
+            batch,
+            front.as_slice(),
+            &mut going,
+            stream,
+            &mut steps,
+        );
+        match stop {
+            Some(stop) => {
+                let judged = judge_behind(rt, alloc, instance, low, judged, going.held());
+                return end(alloc, judged, stop, stream);
             }
+            None => match judged {
+                Ok(()) => match going.hand_over(&mut front) {
+                    Ok(()) => {}
+                    Err(_) => return Err(SourceFault::Text(CertTextError::OutOfMemory)),
+                },
+                Err(fault) => {
+                    let fault = told_behind(alloc, fault, going.held());
+                    return fail(alloc, fault, stream);
+                }
+            },
         }
     }
 }
@@ -156,8 +211,9 @@ fn judge_all<R: Read>(
 /// first fault: of the reader, of a text that is too long, of the text, of the certificate. After a fault of the text or of the
 /// certificate the rest is still read; of no reader more than `certificate::MOST_TEXT_BYTES` and one byte are taken.
 ///
-/// Up to `batch` leaves wait, and their steps are read and judged together on all processors: 1 at least, and
-/// `MOST_LEAVES_HELD` at most. Takes memory for one path of the tree, and for those leaves with their lines and choices.
+/// The steps of up to `batch` leaves are read and judged together on all processors, 1 at least and `MOST_LEAVES_HELD` at most,
+/// while this thread reads on until as many others wait. Takes memory for one path of the tree, and for all those leaves with
+/// their lines and choices.
 pub fn check_stream<R: Read>(
     rt: &(impl Threads + Sync),
     alloc: Global,

@@ -15,6 +15,7 @@ use crate::leaf::judge_leaf;
 use crate::walk::Walk;
 use certificate::{Cert, Node};
 use std::alloc::Global;
+use tt_infer::Facts;
 use ttp_model::Instance;
 
 /// The bound of a certificate that proves it, in ticks: no plan of the instance has a smaller delay,
@@ -40,27 +41,31 @@ pub fn check(alloc: Global, instance: &Instance, cert: &Cert) -> Result<u32, Cer
     }
 }
 
-/// Judges a node that stands on this line, at the walk's choice. The choices that it leads to are next: none below a leaf.
-fn judge(
+/// Judges a node that stands on this line, at the walk's choice, a leaf in the room of facts. The choices that it leads to are
+/// next: none below a leaf.
+fn judge<'a>(
     alloc: Global,
-    instance: &Instance,
+    instance: &'a Instance,
     low: u32,
     walk: &mut Walk,
+    room: Facts<'a>,
     node: &Node,
     line: u64,
-) -> Result<(), CertFault>
-    requires { (left : List Choice) × IsWalk instance.now walk.old left }
+) -> Result<Facts<'a>, CertFault>
+    requires walk { (left : List Choice) × IsWalk instance.now walk.old left }
+    requires room { room.instance ≡ instance.now }
+    ensures room { IfOk result (λ facts. facts.instance ≡ instance.now) }
     ensures suits { OnOk result (Suits instance.now low (bare walk.old.choice) node.now) }
     ensures below { OnOk result ((left : List Choice) → IsWalk instance.now walk.old left
         → IsWalk instance.now walk.new (choices_below instance.now (bare walk.old.choice) node.now ++ left)) }
     ensures err { IfErr result (TellsNode instance.now low (bare walk.old.choice) node.now line) }
 {
     match node {
-        Node::Branch(branch) => walk.branch(alloc, instance, branch, line),
-        Node::Leaf(leaf) => {
-            let choice = walk.choice().copy(alloc)?;
-            judge_leaf(alloc, instance, low, &choice, leaf, line)
+        Node::Branch(branch) => {
+            walk.branch(alloc, instance, branch, line)?;
+            Ok(room)
         }
+        Node::Leaf(leaf) => judge_leaf(room, low, walk.choice(), leaf, line),
     }
 }
 
@@ -73,11 +78,12 @@ fn go_through(alloc: Global, instance: &Instance, cert: &Cert) -> Result<(), Cer
     let nodes = cert.nodes();
     let low = cert.low();
     let mut walk = Walk::new(alloc, instance)?;
+    let mut room = Facts::new(alloc, instance, walk.choice(), low)?;
     let mut line = 3u64;
     for k in 0..nodes.len() {
         let node = &nodes[k];
         walk.go_on(alloc, instance)?;
-        judge(alloc, instance, low, &mut walk, node, line)?;
+        room = judge(alloc, instance, low, &mut walk, room, node, line)?;
         line = line.saturating_add(node.lines());
     }
     Ok(())

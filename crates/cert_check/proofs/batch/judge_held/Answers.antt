@@ -12,10 +12,10 @@ pub returns-in-Some-first_fault : goal.returns-in-Some-first_fault
 returns-in-Some-first_fault g c =
     let none = sym (ap first_text c.as_slice.ensures.value) ∙ (sym c.first_text.ensures ∙ c.in-None.is) in
     let found = sym (ap first_fault c.as_slice-in-None.ensures.value) ∙ (sym c.first_fault.ensures ∙ c.in-Some-first_fault.is) in
-    leaf_at_fault c.args.instance.now c.args.low c.args.held.now c.in-Ok.answers.items c.in-Some-first_fault.fault c.requires c.in-Ok.ensures none found
+    leaf_at_fault c.args.instance.now c.args.low c.args.held.now c.in-Ok.answers.items c.in-Ok.ensures c.in-Some-first_fault.fault none found
 
 pub returns-in-Ok : goal.returns-in-Ok
 returns-in-Ok g c =
     let none = sym (ap first_text c.as_slice.ensures.value) ∙ (sym c.first_text.ensures ∙ c.in-None.is) in
     let closed = sym (ap first_fault c.as_slice-in-None.ensures.value) ∙ (sym c.first_fault.ensures ∙ c.in-None-first_fault.is) in
-    none_at_fault c.args.instance.now c.args.low c.args.held.now c.in-Ok.answers.items c.requires c.in-Ok.ensures none closed
+    none_at_fault c.args.instance.now c.args.low c.args.held.now c.in-Ok.answers.items c.in-Ok.ensures none closed

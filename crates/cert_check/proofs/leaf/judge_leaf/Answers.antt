@@ -1,4 +1,5 @@
 use Rattle.std.proofs.Common.{◌+◌, ◌≤◌, arith, ap, ◌∙◌}
+use Rattle.tt_choice.specs.Choice.{bare}
 use Rattle.tt_infer.specs.Facts.{Facts, after}
 use Rattle.cert_check.proofs.LeafSteps.{Lead-more, refused_at, told_on}
 use Rattle.cert_check.proofs.leaf.judge_leaf.Goals as goal
@@ -11,7 +12,7 @@ loop-place-preserved c =
     let here = rw c.as_slice-steps.ensures.value at c.index-steps-place.is in
     record {
       about = c.in-Ok.ensures.others ∙ ap (λ (s : Facts). after s known) c.loop-place.invariant.about;
-      lead = Lead-more c.args.instance.now c.args.choice.now c.args.leaf.now.goal steps c.loop-place.place c.index-steps-place.result c.loop-place.facts.known known (rw c.as_slice-steps.ensures.value at c.loop-place-test.true) here c.loop-place.invariant.lead taken.0 taken.1;
+      lead = Lead-more c.args.room.instance (bare c.args.choice.now) c.args.leaf.now.goal steps c.loop-place.place c.index-steps-place.result c.loop-place.facts.known known (rw c.as_slice-steps.ensures.value at c.loop-place-test.true) here c.loop-place.invariant.lead taken.0 taken.1;
     }
 
 pub returns-in-Err-clause-err : goal.returns-in-Err-clause-err
@@ -21,4 +22,4 @@ returns-in-Err-clause-err c = λ first is.
     let here = rw c.as_slice-steps.ensures.value at c.index-steps-place.is in
     let inside = rw c.as_slice-steps.ensures.value at c.loop-place-test.true in
     let low : c.args.low ≤ c.args.leaf.now.goal = omega (arith, c.if-leaf-low.false) in
-    (first + (1 + c.loop-place.place), c.saturating_add-line.ensures ∙ told_on c.args.line first (1 + c.loop-place.place) is, (low, (c.loop-place.place, omega arith, refused_at c.args.instance.now c.args.choice.now c.args.leaf.now.goal steps c.loop-place.place c.index-steps-place.result c.loop-place.facts.known c.in-Err.field-0 inside here c.loop-place.invariant.lead refused.0)))
+    (first + (1 + c.loop-place.place), c.saturating_add-line.ensures ∙ told_on c.args.line first (1 + c.loop-place.place) is, (low, (c.loop-place.place, omega arith, refused_at c.args.room.instance (bare c.args.choice.now) c.args.leaf.now.goal steps c.loop-place.place c.index-steps-place.result c.loop-place.facts.known c.in-Err.field-0 inside here c.loop-place.invariant.lead refused.0)))

@@ -1,123 +1,112 @@
-use Rattle.std.proofs.lemmas.Result.{err_from_is_err_and}
+use Rattle.std.proofs.Common.{◌≡◌, ◌++◌, List, Err, ap, subst, sym, ◌∙◌}
+use Rattle.std.proofs.lemmas.List.{append-nil}
 use Rattle.certificate.specs.Streams.{bytes_taken}
-use Rattle.cert_check.proofs.Streams.{begins_under_way, under_way_fault, finishes}
-use Rattle.cert_check.proofs.Pieces.{is_piece, next_there, taken_on, text_told, fault_seen, fault_found, text_behind}
+use Rattle.cert_check.specs.declared.batch.HeldLeaf.{HeldLeaf}
+use Rattle.cert_check.specs.declared.walk.Walk.{Walk}
+use Rattle.cert_check.specs.UnderWay.{IsUnderWay}
+use Rattle.cert_check.specs.Waiting.{Judges, Waits}
+use Rattle.cert_check.proofs.Streams.{begins_under_way, front_judged, waits_behind, waits_in_front}
+use Rattle.cert_check.proofs.Failing.{stopped_waits, under_way_fails}
 use Rattle.cert_check.proofs.stream.go_through.Goals as goal
 
-pub nodes-init : goal.nodes-init
-nodes-init g c = begins_under_way c.args.instance.now c.args.low g.R.Read.remaining c.args.stream.now c.args.stream.now c.in-Ok.going c.requires.due c.requires.line c.in-Ok.ensures.walk c.in-Ok.ensures.none
+pub batches-init : goal.batches-init
+batches-init g c =
+    let first = c.args.stream.now in
+    rw (c.new-front.ensures.items, c.in-Ok.ensures.none)
+    (begins_under_way c.args.instance.now c.args.low g.R.Read.remaining first first c.in-Ok.going.walk c.requires.due c.requires.line c.in-Ok.ensures.walk)
 
-pub returns-in-Err-next_piece-clause-err : goal.returns-in-Err-next_piece-clause-err
-returns-in-Err-next_piece-clause-err g c =
-    under_way_fault c.args.instance.now c.args.low g.R.Read.remaining c.args.stream.now c.nodes.stream c.nodes.going (bytes_taken c.next_piece.new.self) c.in-Err-next_piece.fault c.first_text.result c.nodes.invariant c.first_text.ensures c.in-Err-next_piece.ensures.err
+pub judge_beside-judged-requires-clause-waits : goal.judge_beside-judged-requires-clause-waits
+judge_beside-judged-requires-clause-waits g c κs within =
+    rw c.as_slice.ensures.value (waits_in_front (Waits c.args.instance.now) c.batches.front.items c.batches.going.held.items c.batches.invariant.waits)
 
-pub returns-in-Err-next_piece-clause-from : goal.returns-in-Err-next_piece-clause-from
-returns-in-Err-next_piece-clause-from g c = λ origin is. c.in-Err-next_piece.ensures.from origin (c.nodes.invariant.from origin is)
+pub judge_beside-judged-requires-clause-under_way :
+    goal.judge_beside-judged-requires-clause-under_way
+judge_beside-judged-requires-clause-under_way g c κs within = (c.args.low, c.args.stream.now, c.batches.front.items, c.batches.invariant)
 
-pub returns-in_default-clause-found : goal.returns-in_default-clause-found
-returns-in_default-clause-found g c =
-    let ends = rw c.in_default.is at c.in-Ok-next_piece.ensures.next in
-    let closed = rw c.in_default.is at c.in-Ok-next_piece.ensures.closed in
-    let told = finishes c.args.instance.now c.args.low g.R.Read.remaining c.args.stream.now c.nodes.stream c.nodes.going (bytes_taken c.next_piece.new.self) c.finish.result c.nodes.invariant ends closed c.finish.ensures in
-    told.0
-
-pub returns-in_default-clause-err : goal.returns-in_default-clause-err
-returns-in_default-clause-err g c =
-    let ends = rw c.in_default.is at c.in-Ok-next_piece.ensures.next in
-    let closed = rw c.in_default.is at c.in-Ok-next_piece.ensures.closed in
-    let told = finishes c.args.instance.now c.args.low g.R.Read.remaining c.args.stream.now c.nodes.stream c.nodes.going (bytes_taken c.next_piece.new.self) c.finish.result c.nodes.invariant ends closed c.finish.ensures in
-    told.1
-
-pub returns-in_default-clause-from : goal.returns-in_default-clause-from
-returns-in_default-clause-from g c = λ origin is. c.in-Ok-next_piece.ensures.from origin (c.nodes.invariant.from origin is)
-
-pub take-requires-clause-walk : goal.take-requires-clause-walk
-take-requires-clause-walk g c κs within =
+pub judge_behind-judged-requires-after_bounds : goal.judge_behind-judged-requires-after_bounds
+judge_behind-judged-requires-after_bounds g c κs within =
     let i = c.args.instance.now in
     let low = c.args.low in
     let remaining = g.R.Read.remaining in
     let first = c.args.stream.now in
-    let now = c.nodes.stream in
-    let next = c.next_piece.new.self in
-    let steps = c.next_piece.new.steps in
-    let said = c.in-Some.said in
-    let e = c.in-Ok-next_piece.ensures in
-    let piece = is_piece remaining now next steps.items c.in-Ok-next_piece.next said c.in-Some.is e.next e.line e.low e.due e.passed e.from in
-    next_there i low remaining first now next c.nodes.going c.nodes.invariant said.0 said.1 steps.items piece
+    let next = c.judge_beside-judged.new.stream in
+    let going = c.judge_beside-judged.new.going in
+    let front = c.batches.front.items in
+    let halts = rw c.in-Some.is at c.judge_beside-judged.ensures.stopped in
+    let stopped = halts c.args.low c.args.stream.now c.batches.front.items c.batches.invariant in
+    let waits = stopped_waits i low remaining first next (bytes_taken next) (front ++ going.held.items) c.in-Some.stop stopped in
+    rw c.held.ensures (waits_behind (Waits i) front going.held.items waits)
 
-pub nodes-preserved : goal.nodes-preserved
-nodes-preserved g c =
+pub returns-in-Some-clause-answers : goal.returns-in-Some-clause-answers
+returns-in-Some-clause-answers g c =
     let i = c.args.instance.now in
     let low = c.args.low in
     let remaining = g.R.Read.remaining in
     let first = c.args.stream.now in
-    let now = c.nodes.stream in
-    let next = c.next_piece.new.self in
-    let steps = c.next_piece.new.steps in
-    let said = c.in-Some.said in
-    let e = c.in-Ok-next_piece.ensures in
-    let piece = is_piece remaining now next steps.items c.in-Ok-next_piece.next said c.in-Some.is e.next e.line e.low e.due e.passed e.from in
-    taken_on i low remaining first now next c.nodes.going c.nodes.invariant c.take.new.self said.0 said.1 steps piece c.in-Ok-take.ensures.takes
+    let next = c.judge_beside-judged.new.stream in
+    let going = c.judge_beside-judged.new.going in
+    let front = c.batches.front.items in
+    let halts = rw c.in-Some.is at c.judge_beside-judged.ensures.stopped in
+    let stopped = halts c.args.low c.args.stream.now c.batches.front.items c.batches.invariant in
+    let judges = rw c.as_slice.ensures.value at c.judge_beside-judged.ensures.judges in
+    let all = subst (λ (hs : List HeldLeaf). Judges i low (front ++ hs) c.judge_behind-judged.result) c.held.ensures (c.judge_behind-judged.ensures front judges) in
+    c.end.ensures.answers i low first (front ++ going.held.items) all stopped
 
-pub returns-in-Err-InText-clause-err : goal.returns-in-Err-InText-clause-err
-returns-in-Err-InText-clause-err g c =
+pub returns-in-Some-clause-from : goal.returns-in-Some-clause-from
+returns-in-Some-clause-from g c = λ origin is. c.end.ensures.from origin (c.judge_beside-judged.ensures.from.from origin (c.batches.invariant.from origin is))
+
+pub returns-in-Err-hand_over-clause-from : goal.returns-in-Err-hand_over-clause-from
+returns-in-Err-hand_over-clause-from g c = λ origin is. c.judge_beside-judged.ensures.from.from origin (c.batches.invariant.from origin is)
+
+pub batches-preserved : goal.batches-preserved
+batches-preserved g c =
     let i = c.args.instance.now in
     let low = c.args.low in
     let remaining = g.R.Read.remaining in
     let first = c.args.stream.now in
-    let now = c.nodes.stream in
-    let next = c.next_piece.new.self in
-    let steps = c.next_piece.new.steps in
-    let said = c.in-Some.said in
-    let e = c.in-Ok-next_piece.ensures in
-    let piece = is_piece remaining now next steps.items c.in-Ok-next_piece.next said c.in-Some.is e.next e.line e.low e.due e.passed e.from in
-    let fails = rw c.in-Err-InText.field-0-is at c.in-Err-InText.ensures.err in
-    text_told i low remaining first now next c.nodes.going c.nodes.invariant said.0 said.1 steps c.in-Err-InText.fault (bytes_taken c.pass_fault.new.stream) c.pass_fault.result piece fails c.pass_fault.ensures.told
+    let next = c.judge_beside-judged.new.stream in
+    let going = c.judge_beside-judged.new.going in
+    let front = c.batches.front.items in
+    let goes_on = rw c.in-None.is at c.judge_beside-judged.ensures.full in
+    let on = goes_on c.args.low c.args.stream.now c.batches.front.items c.batches.invariant in
+    let judges = rw c.as_slice.ensures.value at c.judge_beside-judged.ensures.judges in
+    let closed = rw c.in-Ok-judged.is at judges in
+    let dropped = front_judged i low remaining first next going.walk front going.held.items on closed in
+    let e = c.in-Ok-hand_over.ensures in
+    let whole : c.hand_over.new.front.items ++ c.hand_over.new.self.held.items ≡ c.judge_beside-judged.new.going.held.items =
+    ap (λ (hs : List HeldLeaf). c.hand_over.new.front.items ++ hs) e.empty ∙ (append-nil c.hand_over.new.front.items ∙ e.front) in
+    let handed = subst (λ (w : Walk). IsUnderWay i low remaining first next w going.held.items) (sym e.walk) dropped in
+    subst (IsUnderWay i low remaining first next c.hand_over.new.self.walk) (sym whole) handed
 
-pub returns-in-Err-InText-clause-from : goal.returns-in-Err-InText-clause-from
-returns-in-Err-InText-clause-from g c = λ origin is. c.pass_fault.ensures.from origin (c.in-Ok-next_piece.ensures.from origin (c.nodes.invariant.from origin is))
-
-pub returns-in_err-pass_nodes-in-Err-InCert-clause-err :
-    goal.returns-in_err-pass_nodes-in-Err-InCert-clause-err
-returns-in_err-pass_nodes-in-Err-InCert-clause-err g c =
+pub told_behind-fault-requires : goal.told_behind-fault-requires
+told_behind-fault-requires g c =
     let i = c.args.instance.now in
     let low = c.args.low in
     let remaining = g.R.Read.remaining in
     let first = c.args.stream.now in
-    let now = c.nodes.stream in
-    let next = c.next_piece.new.self in
-    let steps = c.next_piece.new.steps in
-    let said = c.in-Some.said in
-    let e = c.in-Ok-next_piece.ensures in
-    let piece = is_piece remaining now next steps.items c.in-Ok-next_piece.next said c.in-Some.is e.next e.line e.low e.due e.passed e.from in
-    let fails = rw c.in-Err-InCert.field-0-is at c.in-Err-InCert.ensures.err in
-    let behind = fault_seen i low remaining first now next c.nodes.going c.nodes.invariant said.0 said.1 steps c.in-Err-InCert.fault piece fails in
-    let p = err_from_is_err_and c.from_residual-in_err-pass_nodes-in-Err-InCert.result c.from_residual-in_err-pass_nodes-in-Err-InCert.ensures.1 in
-    rw (p.1, p.2)
-    (text_behind i low remaining first next c.in-Err-InCert.fault (bytes_taken c.pass_nodes-in-Err-InCert.new.stream) c.in_err-pass_nodes-in-Err-InCert.field-0.0 behind c.in_err-pass_nodes-in-Err-InCert.ensures.err)
+    let next = c.judge_beside-judged.new.stream in
+    let going = c.judge_beside-judged.new.going in
+    let front = c.batches.front.items in
+    let goes_on = rw c.in-None.is at c.judge_beside-judged.ensures.full in
+    let on = goes_on c.args.low c.args.stream.now c.batches.front.items c.batches.invariant in
+    (c.args.instance.now, rw c.held-in-Err-judged.ensures (waits_behind (Waits i) front going.held.items on.waits))
 
-pub returns-in_err-pass_nodes-in-Err-InCert-clause-from :
-    goal.returns-in_err-pass_nodes-in-Err-InCert-clause-from
-returns-in_err-pass_nodes-in-Err-InCert-clause-from g c = λ origin is.
-    c.in_err-pass_nodes-in-Err-InCert.ensures.from origin (c.in-Ok-next_piece.ensures.from origin (c.nodes.invariant.from origin is))
-
-pub returns-in-Err-InCert-clause-found : goal.returns-in-Err-InCert-clause-found
-returns-in-Err-InCert-clause-found g c =
+pub returns-in-Err-judged-clause-answers : goal.returns-in-Err-judged-clause-answers
+returns-in-Err-judged-clause-answers g c =
     let i = c.args.instance.now in
     let low = c.args.low in
     let remaining = g.R.Read.remaining in
     let first = c.args.stream.now in
-    let now = c.nodes.stream in
-    let next = c.next_piece.new.self in
-    let steps = c.next_piece.new.steps in
-    let said = c.in-Some.said in
-    let e = c.in-Ok-next_piece.ensures in
-    let piece = is_piece remaining now next steps.items c.in-Ok-next_piece.next said c.in-Some.is e.next e.line e.low e.due e.passed e.from in
-    let fails = rw c.in-Err-InCert.field-0-is at c.in-Err-InCert.ensures.err in
-    let behind = fault_seen i low remaining first now next c.nodes.going c.nodes.invariant said.0 said.1 steps c.in-Err-InCert.fault piece fails in
-    let rest = c.in_ok-pass_nodes-in-Err-InCert.ensures.rest in
-    fault_found i low remaining first next c.in-Err-InCert.fault rest.0 behind rest.1
+    let next = c.judge_beside-judged.new.stream in
+    let going = c.judge_beside-judged.new.going in
+    let front = c.batches.front.items in
+    let goes_on = rw c.in-None.is at c.judge_beside-judged.ensures.full in
+    let on = goes_on c.args.low c.args.stream.now c.batches.front.items c.batches.invariant in
+    let judges = rw c.as_slice.ensures.value at c.judge_beside-judged.ensures.judges in
+    let fails = rw c.in-Err-judged.is at judges in
+    let told = c.told_behind-fault.result in
+    let all = subst (λ (hs : List HeldLeaf). Judges i low (front ++ hs) (Err told)) c.held-in-Err-judged.ensures (c.told_behind-fault.ensures i low front fails) in
+    c.fail.ensures.answers i low first (under_way_fails i low remaining first next going.walk (front ++ going.held.items) told on all)
 
-pub returns-in-Err-InCert-clause-from : goal.returns-in-Err-InCert-clause-from
-returns-in-Err-InCert-clause-from g c = λ origin is.
-    c.in_ok-pass_nodes-in-Err-InCert.ensures.from origin (c.in-Ok-next_piece.ensures.from origin (c.nodes.invariant.from origin is))
+pub returns-in-Err-judged-clause-from : goal.returns-in-Err-judged-clause-from
+returns-in-Err-judged-clause-from g c = λ origin is. c.fail.ensures.from origin (c.judge_beside-judged.ensures.from.from origin (c.batches.invariant.from origin is))

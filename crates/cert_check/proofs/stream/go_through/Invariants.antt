@@ -1,9 +1,9 @@
-use Rattle.std.proofs.Common.{◌-◌, ◌^◌}
-use Rattle.cert_check.proofs.Streams.{IsUnderWay}
+use Rattle.std.proofs.Common.{◌++◌, ◌-◌, ◌^◌}
+use Rattle.cert_check.specs.UnderWay.{IsUnderWay}
 use Rattle.cert_check.proofs.stream.go_through.Given as goal
 
-abbrev pub invariant-nodes : goal.invariant-nodes
-invariant-nodes g l = IsUnderWay l.instance l.low g.R.Read.remaining l.fn.stream l.stream l.going
+abbrev pub invariant-batches : goal.invariant-batches
+invariant-batches g l = IsUnderWay l.instance l.low g.R.Read.remaining l.fn.stream l.stream l.going.walk (l.front.items ++ l.going.held.items)
 
-abbrev pub decreases-nodes : goal.decreases-nodes
-decreases-nodes g l = 2 ^ 64 - l.stream.lines.block.passed
+abbrev pub decreases-batches : goal.decreases-batches
+decreases-batches g l = 2 ^ 64 - l.stream.lines.block.passed

@@ -8,5 +8,6 @@ use Rattle.cert_check.proofs.tree.go_through.Given as goal
 abbrev pub invariant-loop-k : goal.invariant-loop-k
 invariant-loop-k l = record {
   gone : IsGone l.instance l.cert.low (preorder l.cert.tree) l.k l.walk;
+  room : l.room.instance ≡ l.instance;
   line : l.line ≡ told_line (line_of (preorder l.cert.tree) l.k);
 }

@@ -1,5 +1,5 @@
 use Rattle.std.proofs.Common.{◌≡◌, length}
-use Rattle.cert_check.proofs.going.Going.let_go.Given as goal
+use Rattle.cert_check.proofs.going.Going.hand_over.Given as goal
 
 abbrev pub invariant-leaves : goal.invariant-leaves
 invariant-leaves l = l.self.walk ≡ l.fn.self.walk
