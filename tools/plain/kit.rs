@@ -105,6 +105,15 @@ pub mod std {
             f(Box::leak(Box::new(Scope(PhantomData))))
         }
 
+        /// What both give, where the kit runs the first one in another thread.
+        pub fn join_mut<T, A, B>(
+            _: &T,
+            first: &mut impl FnMut() -> A,
+            second: &mut impl FnMut() -> B,
+        ) -> (A, B) {
+            (first(), second())
+        }
+
         impl<'s, E> Scope<'s, E> {
             pub fn spawn_with<P, R>(
                 &self,
@@ -536,11 +545,16 @@ pub mod rayon {
 
         pub trait ParallelSlice<T> {
             fn par_iter(&self) -> InTurn<::std::slice::Iter<'_, T>>;
+            fn par_chunks(&self, length: usize) -> InTurn<::std::slice::Chunks<'_, T>>;
         }
 
         impl<T> ParallelSlice<T> for [T] {
             fn par_iter(&self) -> InTurn<::std::slice::Iter<'_, T>> {
                 InTurn(self.iter())
+            }
+
+            fn par_chunks(&self, length: usize) -> InTurn<::std::slice::Chunks<'_, T>> {
+                InTurn(self.chunks(length))
             }
         }
 
