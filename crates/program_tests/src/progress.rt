@@ -103,9 +103,9 @@ fn counts(
 const BEFORE: &str =
     "0 s: 0 subtrees worked, 0 or more by each worker, 0 a second, 0 in work, no plan below 9";
 
-/// The line of the second subtree, where each look at the clock is a second later.
+/// The line of the second subtree, where each look at the clock is a second later: as the first is taken, and as one is left.
 const SECOND: &str =
-    "3 s: 1 subtrees worked, 1 or more by each worker, 1 a second, 1 in work, no plan below 9";
+    "4 s: 1 subtrees worked, 1 or more by each worker, 1 a second, 1 in work, no plan below 9";
 
 /// How the line at the end begins, by a clock that stands still.
 const AFTER: &str = "searched for 0 ms: ";
