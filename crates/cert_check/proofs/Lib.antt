@@ -6,6 +6,7 @@ pub mod Seen
 pub mod Nodes
 pub mod NextNodes
 pub mod Runs
+pub mod ClosedRuns
 pub mod Waiting
 pub mod LeafSteps
 pub mod NoFaults

@@ -1,8 +1,9 @@
 -- Leaves that wait, judged one after another.
-use Rattle.std.proofs.Common.{◌≡◌, ℕ, zero, suc, ◌+◌, ◌<◌, List, [], ◌∷◌, ◌++◌, All, length, slice_index_or, take, drop, Result, Ok, Err, arith, inl, inr, refl, sym, ap, subst, ◌∙◌}
-use Rattle.std.proofs.lemmas.List.{take_more, drop_more, take-append-drop}
-use Rattle.std.proofs.lemmas.List.Elements.{All-nil, All-cons, All-take, All-drop}
-use Rattle.rayon.specs.Lists.{chunks_of, chunks_from}
+use Rattle.std.proofs.Common.{◌≡◌, ℕ, ◌+◌, ◌*◌, ◌<◌, List, [], ◌∷◌, ◌++◌, All, length, slice_index_or, take, drop, min, Result, Ok, Err, arith, inl, inr, refl, sym, ap, subst, ◌∙◌}
+use Rattle.std.proofs.lemmas.List.{take_more, drop_more, drop_all, take-append-drop}
+use Rattle.std.proofs.lemmas.List.Elements.{All-take, All-drop}
+use Rattle.std.proofs.Math.Seq.{take-add}
+use Rattle.std.proofs.lemmas.Bool.{cases_lt}
 use Rattle.ttp_model.specs.declared.step.Step.{Step}
 use Rattle.ttp_model.specs.Instance.{Instance}
 use Rattle.certificate.specs.declared.fault.CertTextError.{CertTextError}
@@ -15,7 +16,8 @@ use Rattle.cert_check.specs.declared.fault.HeldFault.{HeldFault}
 use Rattle.cert_check.specs.declared.fault.HeldFault.TheVariants.{InText, InCert}
 use Rattle.cert_check.specs.declared.batch.HeldLeaf.{HeldLeaf}
 use Rattle.cert_check.specs.Seen.{ReadLeaf, IsHeld, AllClose, IsFirstHeldFault, TellsHeld}
-use Rattle.cert_check.specs.Waiting.{Waits, steps_of, leaf_with, AreRead, IsUnread, IsLeafAnswer, TellsBefore, Judges}
+use Rattle.cert_check.specs.Waiting.{Waits, steps_of, leaf_with, AreRead, IsUnread, IsLeafAnswer, TellsBefore, Judges, RunCloses, run_at}
+use Rattle.cert_check.specs.declared.shares.TheConstants.{RUN}
 use Rattle.cert_check.proofs.Seen.{close_behind, later_held, first_held}
 
 -- ---- leaves behind others
@@ -132,12 +134,30 @@ module _ (hs : List HeldLeaf) (k : ℕ) (h : HeldLeaf) (inside : k < length hs) 
 
 -- ---- runs
 
-each_run : (P : HeldLeaf → Type 0) (fuel size : ℕ) (hs : List HeldLeaf) → All P hs → All (All P) (chunks_from fuel size hs)
-each_run P zero size hs all = All-nil (All P)
-each_run P (suc n) size [] all = All-nil (All P)
-each_run P (suc n) size (h ∷ hs) all =
-    All-cons (All P) (take size (h ∷ hs)) (chunks_from n size (drop size (h ∷ hs))) (All-take P size (h ∷ hs) all) (each_run P n size (drop size (h ∷ hs)) (All-drop P size (h ∷ hs) all))
-
 -- what holds of each leaf holds of the leaves of each run
-pub run_of : (P : HeldLeaf → Type 0) (size : ℕ) (hs : List HeldLeaf) → All P hs → All (All P) (chunks_of size hs)
-run_of P size hs all = each_run P (length hs) size hs all
+pub run_of : (P : HeldLeaf → Type 0) (place : ℕ) (hs : List HeldLeaf) → All P hs → All P (run_at place hs)
+run_of P place hs all = All-take P RUN (drop (place * RUN) hs) (All-drop P (place * RUN) hs all)
+
+-- the leaves in front of a run, and the run
+pub with_run : (place : ℕ) (hs : List HeldLeaf) → take ((place + 1) * RUN) hs ≡ take (place * RUN) hs ++ run_at place hs
+with_run place hs =
+    let more : (place + 1) * RUN ≡ place * RUN + RUN = omega arith in
+    ap (λ (n : ℕ). take n hs) more ∙ take-add (place * RUN) RUN hs
+
+-- one run more closes
+pub closed_on : (i : Instance) (low place : ℕ) (hs : List HeldLeaf) → Judges i low (take (place * RUN) hs) (Ok tt) → RunCloses i low hs place → Judges i low (take ((place + 1) * RUN) hs) (Ok tt)
+closed_on i low place hs before own = rw (with_run place hs) (judged_behind i low (take (place * RUN) hs) (run_at place hs) (Ok tt) before own)
+
+-- what is left behind so many leaves, or behind all
+pub drop_capped : (n : ℕ) (hs : List HeldLeaf) → drop (min (length hs) n) hs ≡ drop n hs
+drop_capped n hs = elim (cases_lt n (length hs)) [
+  | inl below ↦ ap (λ (k : ℕ). drop k hs) (omega (arith, below))
+  | inr above ↦ drop_all (min (length hs) n) hs (omega (arith, above)) ∙ sym (drop_all n hs above)
+]
+
+-- a run is at fault, and what is told of it and those behind it is told of all
+pub told_of_all : (i : Instance) (low place : ℕ) (hs : List HeldLeaf) (found told : HeldFault) → Judges i low (take (place * RUN) hs) (Ok tt) → Judges i low (run_at place hs) (Err found)
+    → ((front : List HeldLeaf) → Judges i low front (Err found) → Judges i low (front ++ drop ((place + 1) * RUN) hs) (Err told)) → Judges i low hs (Err told)
+told_of_all i low place hs found told before own behind =
+    let so_far : Judges i low (take ((place + 1) * RUN) hs) (Err found) = subst (λ (xs : List HeldLeaf). Judges i low xs (Err found)) (sym (with_run place hs)) (judged_behind i low (take (place * RUN) hs) (run_at place hs) (Err found) before own) in
+    subst (λ (xs : List HeldLeaf). Judges i low xs (Err told)) (take-append-drop ((place + 1) * RUN) hs) (behind (take ((place + 1) * RUN) hs) so_far)

@@ -1,7 +1,6 @@
 -- Leaves that wait with steps that aren't read yet. Only private contracts ask for it.
-use Rattle.std.specs.Prelude.{◌≡◌, ℕ, ◌+◌, ◌^◌, ◌<◌, List, [], ◌∷◌, ◌++◌, flat_map, ◌⊎◌, Option, None, Some, Result, Ok, Err}
+use Rattle.std.specs.Prelude.{◌≡◌, ℕ, ◌+◌, ◌^◌, ◌<◌, List, [], ◌∷◌, ◌++◌, ◌*◌, take, drop, slice_index_or, Bool, false, IsTrue, Contains, ◌⊎◌, Option, None, Some, Result, Ok, Err}
 use Rattle.std.specs.Global.{Vec}
-use Rattle.std.specs.List.{AllZip}
 use Rattle.ttp_model.specs.declared.step.Step.{Step}
 use Rattle.ttp_model.specs.Instance.{Instance}
 use Rattle.tt_choice.specs.Choice.{Choice, IsChoice, bare}
@@ -21,6 +20,7 @@ use Rattle.cert_check.specs.declared.fault.HeldFault.{HeldFault}
 use Rattle.cert_check.specs.declared.fault.HeldFault.TheVariants.{InText, InCert}
 use Rattle.cert_check.specs.declared.batch.HeldLeaf.{HeldLeaf}
 use Rattle.cert_check.specs.declared.going.Going.{Going}
+use Rattle.cert_check.specs.declared.shares.TheConstants.{RUN}
 use Rattle.cert_check.specs.declared.going.Stop.{Stop}
 use Rattle.cert_check.specs.declared.going.Stop.TheVariants.{End, Lines, Branch}
 use Rattle.cert_check.specs.Turns.{IsWalk}
@@ -67,20 +67,6 @@ TellsBefore hs own (InText text.OutOfMemory) = Unit {0}
 TellsBefore hs own (InText (text.At line fault)) = IsUnread hs (text.At line fault)
 TellsBefore hs own (InCert fault) = (fault ≡ own) × ((rs : List ReadLeaf) × AreRead hs rs)
 
--- the first fault of the text among such answers
-abbrev pub first_text : List (Result (Unit {0}) HeldFault) → Option CertTextError
-first_text [] = None
-first_text (Ok _ ∷ others) = first_text others
-first_text (Err (InText fault) ∷ others) = Some fault
-first_text (Err (InCert fault) ∷ others) = first_text others
-
--- the first fault of the certificate among them
-abbrev pub first_fault : List (Result (Unit {0}) HeldFault) → Option CertFault
-first_fault [] = None
-first_fault (Ok _ ∷ others) = first_fault others
-first_fault (Err (InText fault) ∷ others) = first_fault others
-first_fault (Err (InCert fault) ∷ others) = Some fault
-
 -- What judging all of them answers: each is read and closes; or the first fault of their text; or where there is none, the first
 -- fault of the leaves.
 abbrev pub Judges : Instance → ℕ → List HeldLeaf → Result (Unit {0}) HeldFault → Type 0
@@ -89,10 +75,17 @@ Judges i low hs (Err (InText text.OutOfMemory)) = Unit {0}
 Judges i low hs (Err (InText (text.At line fault))) = IsUnread hs (text.At line fault)
 Judges i low hs (Err (InCert fault)) = (rs : List ReadLeaf) × (AreRead hs rs × TellsHeld i low rs fault)
 
--- each of these answers is one to a run of them, in order
-abbrev pub AnswerRuns : Instance → ℕ → List HeldLeaf → List (Result (Unit {0}) HeldFault) → Type 0
-AnswerRuns i low hs answers =
-    (runs : List (List HeldLeaf)) × ((flat_map (λ (run : List HeldLeaf). run) runs ≡ hs) × AllZip (Judges i low) runs answers)
+-- the leaves of the run at a place, or of the last one those that there are
+abbrev pub run_at : ℕ → List HeldLeaf → List HeldLeaf
+run_at place hs = take RUN (drop (place * RUN) hs)
+
+-- each leaf of the run at a place is read and closes
+abbrev pub RunCloses : Instance → ℕ → List HeldLeaf → ℕ → Type 0
+RunCloses i low hs place = Judges i low (run_at place hs) (Ok tt)
+
+-- whatever is marked is one of these places
+abbrev pub MarksOnly : List ℕ → ℕ → List Bool → Type 0
+MarksOnly places count marks = (place : ℕ) → place < count → IsTrue (slice_index_or marks place false) → Contains places place
 
 -- what is told behind the last node
 abbrev pub Finishes : Instance → ℕ → List HeldLeaf → Result (Option CertFault) SourceFault → Type 0

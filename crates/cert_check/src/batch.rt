@@ -2,27 +2,16 @@
 
 ghost use Rattle.std.specs.Prelude.{◌≡◌, ◌++◌, ◌<◌, ◌≤◌, ℕ, All, Err, IfErr, IfOk, List, Ok, OnErr, OnOk};
 ghost use Rattle.ttp_model.specs.Instance.{Instance};
-ghost use Rattle.cert_check.specs.Waiting.{AnswerRuns, Finishes, IsLeafAnswer, Judges, TellsBefore, TellsText, Waits, first_fault, first_text};
+ghost use Rattle.cert_check.specs.Waiting.{Finishes, IsLeafAnswer, Judges, TellsBefore, TellsText, Waits};
 ghost use Rattle.cert_check.specs.declared.batch.HeldLeaf.{HeldLeaf};
 
 use crate::fault::{CertFault, HeldFault};
 use crate::leaf::judge_leaf;
 use certificate::{CertTextError, SourceFault, read_steps};
-use rayon::prelude::*;
 use std::alloc::Global;
-use std::thread::Threads;
 use tt_choice::Choice;
 use tt_infer::Facts;
-use ttp_model::{Instance, Leaf, MemoryFault, Steps};
-
-/// How many leaves are judged in one room. So few are worth no thread of their own.
-const RUN: usize = 16;
-
-/// How many bytes of steps are worth threads, however few leaves have them.
-const MANY_BYTES: usize = 65_536;
-
-/// How many pieces of such leaves are enough for many processors.
-const MANY_PIECES: usize = 64;
+use ttp_model::{Instance, Step};
 
 /// A leaf that waits, with the choice that it stands at and its line. Its steps aren't read yet: their lines are there.
 #[derive(Drop)]
@@ -34,25 +23,37 @@ pub struct HeldLeaf {
     pub steps: Vec<u8>,
 }
 
-/// Reads the steps of a leaf, and judges it in the room of facts, which comes back where it closes.
+/// Room for one leaf after another: what is known, and its steps.
+#[derive(Drop)]
+pub struct LeafRoom<'a> {
+    pub facts: Facts<'a>,
+    pub steps: Vec<Step>,
+}
+
+/// Reads the steps of a leaf, and judges it in this room, which comes back where it closes.
 fn judge_one<'a>(
     alloc: Global,
-    room: Facts<'a>,
+    room: LeafRoom<'a>,
     low: u32,
     held: &HeldLeaf,
-) -> Result<Facts<'a>, HeldFault>
-    requires { Waits room.instance held.now }
-    ensures room { IfOk result (λ facts. facts.instance ≡ room.entry.instance) }
-    ensures ok { OnOk result (IsLeafAnswer room.entry.instance low held.now (Ok tt)) }
-    ensures err { IfErr result (λ fault. IsLeafAnswer room.entry.instance low held.now (Err fault)) }
+) -> Result<LeafRoom<'a>, HeldFault>
+    requires { Waits room.facts.instance held.now }
+    ensures room { IfOk result (λ same. same.facts.instance ≡ room.entry.facts.instance) }
+    ensures ok { OnOk result (IsLeafAnswer room.entry.facts.instance low held.now (Ok tt)) }
+    ensures err { IfErr result (λ fault. IsLeafAnswer room.entry.facts.instance low held.now (Err fault)) }
 {
-    match read_steps(alloc, held.line, held.count, held.steps.as_slice()) {
+    let LeafRoom { facts, steps } = room;
+    match read_steps(alloc, steps, held.line, held.count, held.steps.as_slice()) {
         Ok(steps) => {
-            let goal = held.goal;
-            let steps = Steps::new(steps);
-            let leaf = Leaf { goal, steps };
-            match judge_leaf(room, low, &held.choice, &leaf, held.line) {
-                Ok(facts) => Ok(facts),
+            match judge_leaf(
+                facts,
+                low,
+                &held.choice,
+                held.goal,
+                steps.as_slice(),
+                held.line,
+            ) {
+                Ok(facts) => Ok(LeafRoom { facts, steps }),
                 Err(fault) => Err(HeldFault::InCert(fault)),
             }
         }
@@ -67,15 +68,45 @@ fn told_before(alloc: Global, behind: &[HeldLeaf], fault: CertFault) -> HeldFaul
 {
     for k in 0..behind.len() {
         let held = &behind[k];
-        if let Err(text) = read_steps(alloc, held.line, held.count, held.steps.as_slice()) {
+        let room = Vec::new(alloc);
+        if let Err(text) = read_steps(alloc, room, held.line, held.count, held.steps.as_slice()) {
             return HeldFault::InText(text);
         }
     }
     HeldFault::InCert(fault)
 }
 
-/// Reads and judges leaves one after another, in the room of one. Tells the first fault of their text, else the first of a leaf.
-fn judge_run(
+/// Reads and judges leaves one after another in this room, which comes back where they all close. Else tells the first fault of
+/// their text, or where there is none, the first of a leaf.
+pub fn judge_run<'a>(
+    alloc: Global,
+    instance: &Instance,
+    room: LeafRoom<'a>,
+    low: u32,
+    run: &[HeldLeaf],
+) -> Result<LeafRoom<'a>, HeldFault>
+    requires room { room.facts.instance ≡ instance.now }
+    requires waits { All (Waits instance.now) run.now }
+    ensures room { IfOk result (λ same. same.facts.instance ≡ instance.now) }
+    ensures ok { OnOk result (Judges instance.now low run.now (Ok tt)) }
+    ensures err { IfErr result (λ fault. Judges instance.now low run.now (Err fault)) }
+{
+    let mut room = room;
+    for k in 0..run.len() {
+        match judge_one(alloc, room, low, &run[k]) {
+            Ok(same) => room = same,
+            Err(HeldFault::InText(fault)) => return Err(HeldFault::InText(fault)),
+            Err(HeldFault::InCert(fault)) => {
+                let (_, behind) = run.split_at(k + 1);
+                return Err(told_before(alloc, behind, fault));
+            }
+        }
+    }
+    Ok(room)
+}
+
+/// The same in room of its own.
+pub fn judge_alone(
     alloc: Global,
     instance: &Instance,
     low: u32,
@@ -90,112 +121,10 @@ fn judge_run(
     let Ok(facts) = Facts::new(alloc, instance, &first.choice, low) else {
         return Err(HeldFault::InText(CertTextError::OutOfMemory));
     };
-    let mut room = facts;
-    for k in 0..run.len() {
-        match judge_one(alloc, room, low, &run[k]) {
-            Ok(facts) => room = facts,
-            Err(HeldFault::InText(fault)) => return Err(HeldFault::InText(fault)),
-            Err(HeldFault::InCert(fault)) => {
-                let (_, behind) = run.split_at(k + 1);
-                return Err(told_before(alloc, behind, fault));
-            }
-        }
-    }
-    Ok(())
-}
-
-/// Whether these leaves have many bytes of steps, however few they are.
-fn have_many_bytes(held: &[HeldLeaf]) -> bool {
-    let mut bytes = 0usize;
-    for k in 0..held.len() {
-        bytes = bytes.saturating_add(held[k].steps.as_slice().len());
-    }
-    bytes >= MANY_BYTES
-}
-
-/// Whether these leaves are worth a thread of their own.
-pub fn are_many(held: &[HeldLeaf]) -> bool {
-    held.len() > RUN || have_many_bytes(held)
-}
-
-/// How many of these leaves are judged in one room: a single one may have megabytes of steps.
-fn run_length(held: &[HeldLeaf]) -> usize
-    ensures { 0 < result }
-{
-    if held.len() / RUN >= MANY_PIECES || !have_many_bytes(held) {
-        return RUN;
-    }
-    1
-}
-
-/// Judges runs of leaves, on all processors.
-fn answers(
-    rt: &(impl Threads + Sync),
-    alloc: Global,
-    instance: &Instance,
-    low: u32,
-    held: &[HeldLeaf],
-) -> Result<Vec<Result<(), HeldFault>>, MemoryFault>
-    requires { All (Waits instance.now) held.now }
-    ensures { IfOk result (λ answers. AnswerRuns instance.now low held.now answers.items) }
-{
-    let answers = held
-        .par_chunks(run_length(held))
-        .with_min_len(1)
-        .map(
-            |run: &[HeldLeaf]| -> Result<(), HeldFault>
-                requires { All (Waits instance.now) run.now }
-                ensures { Judges instance.entry.now low run.now result }
-            { judge_run(alloc, instance, low, run) },
-        )
-        .collect::<Vec<Result<(), HeldFault>>>(rt, alloc)?;
-    Ok(answers)
-}
-
-/// The first fault of the text, if there is one.
-fn first_text(answers: &[Result<(), HeldFault>]) -> Option<CertTextError>
-    ensures { result ≡ first_text answers.now }
-{
-    for k in 0..answers.len() {
-        if let Err(HeldFault::InText(fault)) = answers[k] {
-            return Some(fault);
-        }
-    }
-    None
-}
-
-/// The first fault of a leaf, if there is one.
-fn first_fault(answers: &[Result<(), HeldFault>]) -> Option<CertFault>
-    ensures { result ≡ first_fault answers.now }
-{
-    for k in 0..answers.len() {
-        if let Err(HeldFault::InCert(fault)) = answers[k] {
-            return Some(fault);
-        }
-    }
-    None
-}
-
-/// Reads and judges leaves, each by itself. Tells the first fault of their text, else the first of a leaf.
-pub fn judge_held(
-    rt: &(impl Threads + Sync),
-    alloc: Global,
-    instance: &Instance,
-    low: u32,
-    held: &[HeldLeaf],
-) -> Result<(), HeldFault>
-    requires { All (Waits instance.now) held.now }
-    ensures { Judges instance.now low held.now result }
-{
-    match answers(rt, alloc, instance, low, held) {
-        Ok(answers) => match first_text(answers.as_slice()) {
-            Some(fault) => Err(HeldFault::InText(fault)),
-            None => match first_fault(answers.as_slice()) {
-                Some(fault) => Err(HeldFault::InCert(fault)),
-                None => Ok(()),
-            },
-        },
-        Err(_) => Err(HeldFault::InText(CertTextError::OutOfMemory)),
+    let steps = Vec::new(alloc);
+    match judge_run(alloc, instance, LeafRoom { facts, steps }, low, run) {
+        Ok(_) => Ok(()),
+        Err(fault) => Err(fault),
     }
 }
 
@@ -207,24 +136,6 @@ pub fn told_behind(alloc: Global, found: HeldFault, behind: &[HeldLeaf]) -> Held
     match found {
         HeldFault::InText(fault) => HeldFault::InText(fault),
         HeldFault::InCert(fault) => told_before(alloc, behind, fault),
-    }
-}
-
-/// Judges the leaves behind others, which were judged so.
-pub fn judge_behind(
-    rt: &(impl Threads + Sync),
-    alloc: Global,
-    instance: &Instance,
-    low: u32,
-    judged: Result<(), HeldFault>,
-    behind: &[HeldLeaf],
-) -> Result<(), HeldFault>
-    requires { All (Waits instance.now) behind.now }
-    ensures { (front : List HeldLeaf) → Judges instance.now low front judged → Judges instance.now low (front ++ behind.now) result }
-{
-    match judged {
-        Ok(()) => judge_held(rt, alloc, instance, low, behind),
-        Err(found) => Err(told_behind(alloc, found, behind)),
     }
 }
 

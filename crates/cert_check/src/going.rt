@@ -21,6 +21,12 @@ use ttp_model::{Instance, MemoryFault};
 /// How many bytes of steps wait in a batch, beside those of its last leaf. Two batches are there at once.
 const MOST_BYTES_HELD: usize = 8_388_608;
 
+/// How many leaves wait at first until they are judged together: soon, so that other threads needn't wait for long.
+const FIRST_TOGETHER: usize = 64;
+
+/// How many leaves are judged together at most. More of them would leave a processor's own memory before they are judged.
+const MOST_TOGETHER: usize = 256;
+
 /// How large the memory of a text may be that is kept for others.
 const MOST_KEPT: usize = 4_096;
 
@@ -41,6 +47,8 @@ pub struct Going {
     walk: Walk,
     held: Vec<HeldLeaf>,
     bytes: usize,
+    /// How many leaves are judged together, twice as many each time.
+    together: usize,
     /// What is of no use but for its memory, since to take that anew for each leaf would be much of the time: choices, and texts.
     spares: Vec<Choice>,
     texts: Vec<Vec<u8>>,
@@ -57,6 +65,7 @@ impl Going {
             walk,
             held: Vec::new(alloc),
             bytes: 0,
+            together: FIRST_TOGETHER,
             spares: Vec::new(alloc),
             texts: Vec::new(alloc),
         })
@@ -81,6 +90,7 @@ impl Going {
         ensures front { OnOk result (front.new.items ≡ self.old.held.items) }
     {
         self.bytes = 0;
+        self.together = self.together.saturating_mul(2).min(MOST_TOGETHER);
         mem::swap(&mut self.held, front);
         'leaves: while let Some(leaf) = self.held.pop() {
             self.keep(leaf)?;
@@ -186,7 +196,7 @@ impl Going {
 
     /// Whether as many leaves wait as are judged together.
     fn is_full(&self, batch: usize) -> bool {
-        self.held.len() >= batch || self.bytes >= MOST_BYTES_HELD
+        self.held.len() >= batch.min(self.together) || self.bytes >= MOST_BYTES_HELD
     }
 
     /// Reads on until as many leaves wait as are judged together, or no further node is taken.

@@ -9,7 +9,7 @@ ghost use Rattle.cert_check.specs.Seen.{TellsNode};
 use crate::fault::{CertFault, NodeFault};
 use tt_choice::Choice;
 use tt_infer::Facts;
-use ttp_model::Leaf;
+use ttp_model::Step;
 
 /// Judges a leaf that stands on this line, in the room of facts: its goal, then its steps one after another, then whether
 /// the last of them leaves no plan. The room comes back where it closes.
@@ -17,22 +17,22 @@ pub fn judge_leaf<'a>(
     room: Facts<'a>,
     low: u32,
     choice: &Choice,
-    leaf: &Leaf,
+    goal: u32,
+    steps: &[Step],
     line: u64,
 ) -> Result<Facts<'a>, CertFault>
     requires { IsChoice room.instance choice.now }
     ensures room { IfOk result (λ facts. facts.instance ≡ room.entry.instance) }
-    ensures goal { OnOk result (low ≤ leaf.now.goal) }
-    ensures closes { OnOk result (ClosesLeaf room.entry.instance (bare choice.now) leaf.now) }
+    ensures goal { OnOk result (low ≤ goal) }
+    ensures closes { OnOk result (ClosesLeaf room.entry.instance (bare choice.now) (record { goal = goal; steps = steps.now })) }
     ensures err { IfErr result
-        (TellsNode room.entry.instance low (bare choice.now) (node.Leaf leaf.now) line) }
+        (TellsNode room.entry.instance low (bare choice.now) (node.Leaf (record { goal = goal; steps = steps.now })) line) }
 {
-    if leaf.goal < low {
+    if goal < low {
         let fault = NodeFault::LowGoal;
         return Err(CertFault::At { line, fault });
     }
-    let mut facts = room.turned(choice, leaf.goal)?;
-    let steps = leaf.steps.as_slice();
+    let mut facts = room.turned(choice, goal)?;
     for place in 0..steps.len() {
         match facts.apply(&steps[place]) {
             Ok(()) => {}

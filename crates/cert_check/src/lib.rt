@@ -7,6 +7,7 @@ mod fault;
 mod going;
 mod laws;
 mod leaf;
+mod shares;
 mod stream;
 mod tree;
 mod walk;

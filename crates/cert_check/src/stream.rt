@@ -13,10 +13,11 @@ ghost use Rattle.cert_check.specs.declared.batch.HeldLeaf.{HeldLeaf};
 ghost use Rattle.cert_check.specs.Waiting.{Judges};
 ghost use Rattle.cert_check.specs.UnderWay.{AnswersAll, IsFailed, IsStopped};
 
-use crate::batch::{judge_behind, told_at_end, told_behind, told_of_lines};
+use crate::batch::{told_at_end, told_behind, told_of_lines};
 use crate::beside::judge_beside;
 use crate::fault::{CertFault, HeldFault, StreamFault};
 use crate::going::{Going, Stop};
+use crate::shares::{judge_behind, other_threads};
 use certificate::{CertStream, CertTextError, SourceFault};
 use std::alloc::Global;
 use std::io::Read;
@@ -118,12 +119,14 @@ fn go_through<R: Read>(
     };
     let mut steps = Vec::new(alloc);
     let mut front = Vec::new(alloc);
+    let others = other_threads(rt);
     'batches: loop {
         let (judged, stop) = judge_beside(
             rt,
             alloc,
             instance,
             low,
+            others,
             batch,
             front.as_slice(),
             &mut going,
@@ -132,7 +135,7 @@ fn go_through<R: Read>(
         );
         match stop {
             Some(stop) => {
-                let judged = judge_behind(rt, alloc, instance, low, judged, going.held());
+                let judged = judge_behind(rt, alloc, instance, low, others, judged, going.held());
                 return end(alloc, judged, stop, stream);
             }
             None => match judged {
@@ -211,9 +214,9 @@ fn judge_all<R: Read>(
 /// first fault: of the reader, of a text that is too long, of the text, of the certificate. After a fault of the text or of the
 /// certificate the rest is still read; of no reader more than `certificate::MOST_TEXT_BYTES` and one byte are taken.
 ///
-/// The steps of up to `batch` leaves are read and judged together on all processors, 1 at least and `MOST_LEAVES_HELD` at most,
-/// while this thread reads on until as many others wait. Takes memory for one path of the tree, and for all those leaves with
-/// their lines and choices.
+/// Leaves are read and judged together on all processors, up to `batch` of them, 1 at least and `MOST_LEAVES_HELD` at most, and no
+/// more than stay in a processor's own memory, while this thread reads on until as many others wait. Takes memory for one path of the
+/// tree, and for all those leaves with their lines and choices.
 pub fn check_stream<R: Read>(
     rt: &(impl Threads + Sync),
     alloc: Global,

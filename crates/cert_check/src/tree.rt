@@ -65,7 +65,10 @@ fn judge<'a>(
             walk.branch(alloc, instance, branch, line)?;
             Ok(room)
         }
-        Node::Leaf(leaf) => judge_leaf(room, low, walk.choice(), leaf, line),
+        Node::Leaf(leaf) => {
+            let steps = leaf.steps.as_slice();
+            judge_leaf(room, low, walk.choice(), leaf.goal, steps, line)
+        }
     }
 }
 

@@ -30,9 +30,10 @@ fn step_of<L: LineSource>(alloc: Global, source: &mut L) -> Result<Step, SourceF
     Ok(step)
 }
 
-/// So many steps, one in each of the next lines.
+/// So many steps, one in each of the next lines, in this room.
 pub fn steps_of<L: LineSource>(
     alloc: Global,
+    room: Vec<Step>,
     count: u32,
     source: &mut L,
 ) -> Result<Vec<Step>, SourceFault>
@@ -42,7 +43,8 @@ pub fn steps_of<L: LineSource>(
     ensures err { IfErr result (IsFaultOn (OrMemory (L.may_stop source.new)) (L.may_leave source.old) (steps_at count (L.passed source.old + 1))) }
     ensures from { (origin : Origin) → L.may_be_from source.old origin → L.may_be_from source.new origin }
 {
-    let mut steps = Vec::new(alloc);
+    let mut steps = room;
+    steps.clear();
     for k in 0..count {
         let step = step_of(alloc, source)?;
         steps.push(step)?;
@@ -87,7 +89,8 @@ fn node_of<L: LineSource>(alloc: Global, above: usize, source: &mut L) -> Result
     if above > MOST_BRANCHES_ABOVE {
         return Err(SourceFault::Text(LineFault::Depth.at(number)));
     }
-    let steps = steps_of(alloc, count_of(head), source)?;
+    let room = Vec::new(alloc);
+    let steps = steps_of(alloc, room, count_of(head), source)?;
     Ok(node_with(head, steps))
 }
 

@@ -19,9 +19,10 @@ use std::alloc::Global;
 use std::io::Read;
 use ttp_model::Step;
 
-/// So many steps that stand in a text of their own, behind a line with this number.
+/// So many steps that stand in a text of their own, behind a line with this number, in this room.
 pub fn read_steps(
     alloc: Global,
+    room: Vec<Step>,
     line: u64,
     count: u32,
     text: &[u8],
@@ -30,7 +31,7 @@ pub fn read_steps(
     ensures { IsAnswer (Unit {0}) (λ steps. steps.items) result (steps_in count (line + 1) text.now) }
 {
     let mut lines = SliceLines::behind(line, text);
-    match steps_of(alloc, count, &mut lines) {
+    match steps_of(alloc, room, count, &mut lines) {
         Ok(steps) => Ok(steps),
         Err(SourceFault::Text(fault)) => Err(fault),
         Err(SourceFault::Read) => unreachable!(),
@@ -65,7 +66,8 @@ pub fn piece_of<R: Read>(
         return Ok(head);
     }
     // The text ends in these lines, so reading them is at fault.
-    match read_steps(alloc, number, count, text.as_slice()) {
+    let room = Vec::new(alloc);
+    match read_steps(alloc, room, number, count, text.as_slice()) {
         Ok(_) => unreachable!(),
         Err(fault) => Err(SourceFault::Text(fault)),
     }

@@ -6,6 +6,6 @@ use Rattle.cert_check.proofs.leaf.judge_leaf.Given as goal
 
 abbrev pub invariant-loop-place : goal.invariant-loop-place
 invariant-loop-place l = record {
-  about : l.facts ≡ record { instance = l.fn.room.instance; choice = bare l.choice; goal = l.leaf.goal; known = l.facts.known };
-  lead : Lead l.fn.room.instance (bare l.choice) l.leaf.goal (first_facts l.fn.room.instance (bare l.choice)) (take l.place l.leaf.steps) l.facts.known;
+  about : l.facts ≡ record { instance = l.fn.room.instance; choice = bare l.choice; goal = l.goal; known = l.facts.known };
+  lead : Lead l.fn.room.instance (bare l.choice) l.goal (first_facts l.fn.room.instance (bare l.choice)) (take l.place l.steps) l.facts.known;
 }

@@ -2,7 +2,7 @@ use Rattle.std.proofs.Common.{Result, subst}
 use Rattle.cert_check.specs.declared.fault.HeldFault.{HeldFault}
 use Rattle.cert_check.specs.Waiting.{Judges}
 use Rattle.cert_check.proofs.Runs.{judged_behind}
-use Rattle.cert_check.proofs.batch.judge_behind.Goals as goal
+use Rattle.cert_check.proofs.shares.judge_behind.Goals as goal
 
 pub returns-in-Ok : goal.returns-in-Ok
 returns-in-Ok g c = λ front judges.
