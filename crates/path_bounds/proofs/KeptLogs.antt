@@ -18,7 +18,7 @@ use Rattle.tt_infer.specs.Facts.{Facts, AreFacts, after}
 use Rattle.tt_infer.specs.Leaves.{ClosesLeaf}
 use Rattle.path_bounds.specs.Journal.{Journal, Advances}
 use Rattle.path_bounds.specs.Propagation.{LeadSharply, IsPlanBelow}
-use Rattle.path_bounds.specs.Propagator.{IsLog, Propagator, IsPropagation, Undoes}
+use Rattle.path_bounds.specs.Propagator.{IsLog, FollowsFrom, Propagator, IsPropagation, Undoes}
 use Rattle.path_bounds.proofs.Counts.{closes_log, closes_of}
 
 -- where a log that began without steps leads
@@ -140,6 +140,12 @@ started_of i goal c first room start end ds logs w c_is start_is first_is room_i
     subst (λ (xs : List Decision). IsPropagation (record { instance = i; goal = goal; decisions = xs; earlier = logs; current = end })) (sym ds_is)
     (subst (λ (ls : List Journal). IsPropagation (record { instance = i; goal = goal; decisions = []; earlier = ls; current = end })) (sym logs_is)
     (started i goal end w (subst (λ (x : Choice). IsLog i x goal end) c_is here)))
+
+-- a log that is kept follows from the first facts
+pub follows_at : (p : Propagator) → IsPropagation p → FollowsFrom p.current.facts.instance p.current.facts.choice p.current.facts.goal p.current
+follows_at p is =
+    let about : p.current.facts ≡ record { instance = p.instance; choice = chosen p.instance p.decisions; goal = p.goal; known = p.current.facts.known } = is.current.facts in
+    rw about (record { more = p.current.steps; facts = about; steps = refl; lead = is.current.lead })
 
 -- What is known after decisions is of a choice that keeps none.
 pub bare_at : (p : Propagator) (s : Facts) → IsPropagation p → s ≡ p.current.facts → bare s.choice ≡ s.choice

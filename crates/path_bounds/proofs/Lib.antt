@@ -5,4 +5,5 @@ pub mod Lists
 pub mod Counts
 pub mod Walks
 pub mod Complete
+pub mod one_order
 pub mod KeptLogs

@@ -10,7 +10,7 @@ use Rattle.tt_choice.specs.Branches.{root_choice, order_pair}
 use Rattle.tt_choice.specs.Decisions.{AreOpenDecisions, chosen}
 use Rattle.tt_infer.specs.Known.{first_facts}
 use Rattle.tt_infer.specs.Facts.{Facts}
-use Rattle.path_bounds.specs.Journal.{Journal}
+use Rattle.path_bounds.specs.Journal.{Journal, Advances}
 use Rattle.path_bounds.specs.Propagation.{LeadSharply, IsPlanBelow}
 
 -- Of a choice and a goal the log leads from the first facts to what is known. Where that leaves plans, the goal is above the path
@@ -25,6 +25,14 @@ pub record IsLog (i : Instance) (c : Choice) (goal : ℕ) (log : Journal) : Type
 -- a log that is still to begin: the first facts
 pub record Begins (i : Instance) (c : Choice) (goal : ℕ) (log : Journal) : Type 0 where
   pub facts : log.facts ≡ record { instance = i; choice = c; goal = goal; known = first_facts i c }
+
+-- the log without steps: what is known at first of the plans of a choice below a goal
+abbrev pub first_log : Instance → Choice → ℕ → Journal
+first_log i c goal = record { facts = record { instance = i; choice = c; goal = goal; known = first_facts i c }; steps = [] }
+
+-- a log that began so: its steps lead to what is known
+abbrev pub FollowsFrom : Instance → Choice → ℕ → Journal → Type 0
+FollowsFrom i c goal log = Advances (first_log i c goal) log
 
 -- an instance, a goal in ticks, and the decisions so far; what was known before each of them, and what is known now
 pub record Propagator : Type 0 where

@@ -48,8 +48,16 @@ pub fn all_copied(alloc: Global, steps: &[Step]) -> Result<Vec<Step>, MemoryFaul
     ensures { IfOk result (λ copies. copies.items ≡ steps.now) }
 {
     let mut copies = Vec::with_capacity(alloc, steps.len())?;
-    for step in steps {
-        push_copy(alloc, &mut copies, step)?;
-    }
+    push_copies(alloc, &mut copies, steps)?;
     Ok(copies)
+}
+
+/// Appends the same steps in memory of their own. After a refusal some are appended.
+pub fn push_copies(alloc: Global, copies: &mut Vec<Step>, steps: &[Step]) -> Result<(), MemoryFault>
+    ensures { OnOk result (copies.new.items ≡ copies.old.items ++ steps.now) }
+{
+    for step in steps {
+        push_copy(alloc, copies, step)?;
+    }
+    Ok(())
 }

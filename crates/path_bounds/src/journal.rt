@@ -9,7 +9,7 @@ ghost use Rattle.tt_infer.specs.Conclusions.{GoesFirst, sharpened};
 ghost use Rattle.tt_infer.specs.Facts.{after};
 ghost use Rattle.path_bounds.specs.Journal.{Advances, Sharpens, SharpensNothing, slack_of};
 
-use crate::copies::push_copy;
+use crate::copies::{push_copies, push_copy};
 use needed_steps::{target, value};
 use std::alloc::Global;
 use std::marker::Model;
@@ -99,6 +99,33 @@ impl<'a> Journal<'a> {
         let facts = self.facts.supposing(alloc, level.facts(), p, q)?;
         let mut steps = self.steps;
         steps.clear();
+        Ok(Journal { facts, steps })
+    }
+
+    /// The same with the steps of that other log.
+    pub fn ordering(
+        self,
+        alloc: Global,
+        level: &Journal<'a>,
+        p: u32,
+        q: u32,
+    ) -> Result<Journal<'a>, MemoryFault>
+        requires { IsUnorderedPair level.now.facts.instance level.now.facts.choice p q }
+        ensures { IfOk result (λ log. log ≡ record {
+          facts = record {
+            instance = level.now.facts.instance;
+            choice = order_pair level.now.facts.choice p q;
+            goal = level.now.facts.goal;
+            known = sharpened level.now.facts.instance level.now.facts.known (GoesFirst p q);
+          };
+          steps = level.now.steps;
+        }) }
+    {
+        let facts = self.facts.supposing(alloc, level.facts(), p, q)?;
+        let mut steps = self.steps;
+        steps.clear();
+        steps.reserve(level.steps.len())?;
+        push_copies(alloc, &mut steps, level.steps())?;
         Ok(Journal { facts, steps })
     }
 

@@ -1,7 +1,8 @@
 //! How does propagation go on after a decision?
 
-ghost use Rattle.std.specs.Prelude.{◌≡◌, ◌<◌, ◌≤◌, ℕ, [], IfOk, OnOk, OnErr, IsTrue, IsFalse, length};
+ghost use Rattle.std.specs.Prelude.{◌≡◌, ◌<◌, ◌≤◌, ℕ, [], IfOk, OnOk, OnErr, IsTrue, IsFalse, length, Contains};
 ghost use Rattle.ttp_model.specs.declared.plan.Plan.{Plan};
+ghost use Rattle.ttp_model.specs.declared.step.Step.TheVariants.{UsSettled};
 ghost use Rattle.ttp_model.specs.Chains.{IsPathBound};
 ghost use Rattle.tt_choice.specs.Choice.{IsComplete};
 ghost use Rattle.tt_choice.specs.Branches.{IsUnorderedPair};
@@ -9,7 +10,7 @@ ghost use Rattle.tt_choice.specs.Decisions.{choice_after, IsOpenDecision};
 ghost use Rattle.tt_infer.specs.Leaves.{ClosesLeaf};
 ghost use Rattle.path_bounds.specs.Journal.{Journal, Advances};
 ghost use Rattle.path_bounds.specs.Propagation.{IsPlanBelow};
-ghost use Rattle.path_bounds.specs.Propagator.{Begins, IsPropagation, IsStarted, Decides, Undoes, IsLog, IsSupposition};
+ghost use Rattle.path_bounds.specs.Propagator.{Begins, FollowsFrom, IsPropagation, IsStarted, Decides, Undoes, IsLog, IsSupposition};
 
 use crate::acceleration::{go_on, suppose};
 use crate::agenda::Agenda;
@@ -103,6 +104,38 @@ fn finish(alloc: Global, journal: &mut Journal) -> Result<(), MemoryFault>
     complete(alloc, instance, &choice, journal)
 }
 
+/// Whether one of the steps asks how long process `p` may have to wait.
+fn name_settled(steps: &[Step], p: u32) -> bool
+    ensures { IsFalse result → ¬ Contains steps.now (UsSettled p) }
+{
+    steps.iter().any(|step| matches!(step, Step::UsSettled(x) if *x == p))
+}
+
+/// What the steps so far say after a decision. Where it is an order that isn't known, and none of them asks for orders of its
+/// first process, that is what is known so far, with that order: they needn't be tried once more.
+fn begun<'a>(
+    alloc: Global,
+    room: Journal<'a>,
+    level: &Journal<'a>,
+    decision: Decision,
+) -> Result<Journal<'a>, MemoryFault>
+    requires is_open { IsOpenDecision level.now.facts.instance level.now.facts.choice decision }
+    requires follows { FollowsFrom level.now.facts.instance level.now.facts.choice level.now.facts.goal level.now }
+    ensures { IfOk result (FollowsFrom level.now.facts.instance
+        (choice_after level.now.facts.instance level.now.facts.choice decision) level.now.facts.goal) }
+{
+    if let Decision::Before(p, q) = decision {
+        let facts = level.facts();
+        let _instance = facts.instance();
+        if !facts.bef(p, q) && !name_settled(level.steps(), p) {
+            return room.ordering(alloc, level, p, q);
+        }
+    }
+    let mut next = room.after(alloc, level, decision)?;
+    next.sweep(alloc, level.steps())?;
+    Ok(next)
+}
+
 /// What is known after a decision: first what the steps so far say of the choice that it makes, then what comes of that.
 fn next_level<'a>(
     alloc: Global,
@@ -112,13 +145,13 @@ fn next_level<'a>(
     decision: Decision,
 ) -> Result<Journal<'a>, MemoryFault>
     requires is_open { IsOpenDecision level.now.facts.instance level.now.facts.choice decision }
+    requires follows { FollowsFrom level.now.facts.instance level.now.facts.choice level.now.facts.goal level.now }
     requires above { (bound : ℕ) → IsPathBound level.now.facts.instance bound → bound < level.now.facts.goal }
     ensures { IfOk result (IsLog level.now.facts.instance
         (choice_after level.now.facts.instance level.now.facts.choice decision) level.now.facts.goal) }
 {
-    let mut next = room.after(alloc, level, decision)?;
+    let mut next = begun(alloc, room, level, decision)?;
     let _choice = next.facts().choice();
-    next.sweep(alloc, level.steps())?;
     go_on(alloc, agenda, level.facts(), decision, &mut next)?;
     finish(alloc, &mut next)?;
     Ok(next)

@@ -1,12 +1,10 @@
-use Rattle.std.proofs.Common.{◌≡◌, [], refl, sym, ap, subst, ◌∙◌}
+use Rattle.std.proofs.Common.{◌≡◌, [], refl, sym, ap, subst}
 use Rattle.ttp_model.specs.declared.plan.Plan.{Plan}
 use Rattle.tt_choice.specs.Choice.{IsComplete}
 use Rattle.tt_choice.specs.Decisions.{choice_after}
-use Rattle.tt_infer.specs.Known.{first_facts}
 use Rattle.tt_infer.specs.Facts.{Facts, after}
-use Rattle.path_bounds.specs.Journal.{Journal}
 use Rattle.path_bounds.specs.Propagation.{IsPlanBelow}
-use Rattle.path_bounds.specs.Propagator.{Begins}
+use Rattle.path_bounds.specs.Propagator.{Begins, first_log}
 use Rattle.path_bounds.proofs.KeptLogs.{level_of}
 use Rattle.path_bounds.proofs.Logs.{advances_trans}
 use Rattle.path_bounds.proofs.propagator.next_level.Goals as goal
@@ -15,16 +13,16 @@ pub returns : goal.returns
 returns c =
     let s = c.args.level.now.facts in
     let made = choice_after s.instance s.choice c.args.decision in
-    let first : Facts = record { instance = s.instance; choice = made; goal = s.goal; known = first_facts s.instance made } in
-    let start = c.in_ok-next.next in
+    let start = first_log s.instance made s.goal in
+    let first = start.facts in
     let reached = c.go_on.new.journal.facts in
-    let begun = advances_trans _ _ _ c.sweep.ensures.advances c.go_on.ensures in
-    let about : reached ≡ after first reached.known = begun.facts ∙ ap (λ (log : Journal). after log.facts reached.known) c.in_ok-next.ensures in
-    let begins : Begins s.instance made s.goal start = record { facts = ap (λ (log : Journal). log.facts) c.in_ok-next.ensures } in
-    let facts = rw (c.facts.ensures, c.in_ok-next.ensures) at c.choice-choice.ensures.inference in
-    level_of s c.args.decision s.instance s.choice made s.goal first [] start c.finish.new.journal refl refl refl refl c.in_ok-next.ensures refl refl
-    (advances_trans _ _ _ begun c.finish.ensures.advances)
+    let far = advances_trans _ _ _ c.in_ok-next.ensures c.go_on.ensures in
+    let about : reached ≡ after first reached.known = far.facts in
+    let begins : Begins s.instance made s.goal start = record { facts = refl } in
+    let facts = rw (c.facts.ensures, c.in_ok-next.ensures.facts) at c.choice-choice.ensures.inference in
+    level_of s c.args.decision s.instance s.choice made s.goal first [] start c.finish.new.journal refl refl refl refl refl refl refl
+    (advances_trans _ _ _ far c.finish.ensures.advances)
     facts.choice
     c.requires.above
     (λ done left. subst (λ (f : Facts). IsComplete f.instance f.choice → (plan : Plan) × IsPlanBelow f.instance f.choice s.goal plan) about
-    (λ complete. c.in_ok-finish.ensures.found s.goal start (subst (λ (f : Facts). Begins f.instance f.choice s.goal start) (sym about) begins) begun complete left) done)
+    (λ complete. c.in_ok-finish.ensures.found s.goal start (subst (λ (f : Facts). Begins f.instance f.choice s.goal start) (sym about) begins) far complete left) done)

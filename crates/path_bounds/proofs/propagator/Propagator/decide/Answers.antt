@@ -1,13 +1,16 @@
 use Rattle.std.proofs.Common.{List, ◌∷◌, ◌++◌, [], ap, ◌∙◌}
 use Rattle.tt_choice.specs.declared.decision.Decision.{Decision}
 use Rattle.path_bounds.specs.Journal.{Journal}
-use Rattle.path_bounds.proofs.KeptLogs.{above_at, decides_of}
+use Rattle.path_bounds.proofs.KeptLogs.{above_at, decides_of, follows_at}
 use Rattle.path_bounds.proofs.propagator.Propagator.decide.Goals as goal
 
 pub next_level-requires-clause-above : goal.next_level-requires-clause-above
 next_level-requires-clause-above c =
     let left = rw (← c.self.view_is) at c.requires.left in
     above_at _ c.self.invariant left
+
+pub next_level-requires-clause-follows : goal.next_level-requires-clause-follows
+next_level-requires-clause-follows c = follows_at _ c.self.invariant
 
 pub invariant_of-self-2 : goal.invariant_of-self-2
 invariant_of-self-2 c =
