@@ -145,7 +145,7 @@ started_of i goal c first room start end ds logs w c_is start_is first_is room_i
 pub follows_at : (p : Propagator) → IsPropagation p → FollowsFrom p.current.facts.instance p.current.facts.choice p.current.facts.goal p.current
 follows_at p is =
     let about : p.current.facts ≡ record { instance = p.instance; choice = chosen p.instance p.decisions; goal = p.goal; known = p.current.facts.known } = is.current.facts in
-    rw about (record { more = p.current.steps; facts = about; steps = refl; lead = is.current.lead })
+    rw about (record { more = p.current.steps; facts = refl; steps = refl; lead = is.current.lead })
 
 -- What is known after decisions is of a choice that keeps none.
 pub bare_at : (p : Propagator) (s : Facts) → IsPropagation p → s ≡ p.current.facts → bare s.choice ≡ s.choice

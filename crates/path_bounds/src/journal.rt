@@ -102,7 +102,7 @@ impl<'a> Journal<'a> {
         Ok(Journal { facts, steps })
     }
 
-    /// The same with the steps of that other log.
+    /// The same with the steps of that log, whether they lead there or not.
     pub fn ordering(
         self,
         alloc: Global,

@@ -105,15 +105,17 @@ fn finish(alloc: Global, journal: &mut Journal) -> Result<(), MemoryFault>
 }
 
 /// Whether one of the steps asks how long process `p` may have to wait.
-fn name_settled(steps: &[Step], p: u32) -> bool
+fn ask_for_wait(steps: &[Step], p: u32) -> bool
     ensures { IsFalse result → ¬ Contains steps.now (UsSettled p) }
 {
-    steps.iter().any(|step| matches!(step, Step::UsSettled(x) if *x == p))
+    steps
+        .iter()
+        .any(|step| matches!(step, Step::UsSettled(x) if *x == p))
 }
 
-/// What the steps so far say after a decision. Where it is an order that isn't known, and none of them asks for orders of its
-/// first process, that is what is known so far, with that order: they needn't be tried once more.
-fn begun<'a>(
+/// What the steps so far say after a decision. They are tried once more, but for an order that isn't known, where none of them
+/// asks how long its first process may have to wait: with that order they say what they say without it.
+fn carried_over<'a>(
     alloc: Global,
     room: Journal<'a>,
     level: &Journal<'a>,
@@ -127,7 +129,7 @@ fn begun<'a>(
     if let Decision::Before(p, q) = decision {
         let facts = level.facts();
         let _instance = facts.instance();
-        if !facts.bef(p, q) && !name_settled(level.steps(), p) {
+        if !facts.bef(p, q) && !ask_for_wait(level.steps(), p) {
             return room.ordering(alloc, level, p, q);
         }
     }
@@ -150,7 +152,7 @@ fn next_level<'a>(
     ensures { IfOk result (IsLog level.now.facts.instance
         (choice_after level.now.facts.instance level.now.facts.choice decision) level.now.facts.goal) }
 {
-    let mut next = begun(alloc, room, level, decision)?;
+    let mut next = carried_over(alloc, room, level, decision)?;
     let _choice = next.facts().choice();
     go_on(alloc, agenda, level.facts(), decision, &mut next)?;
     finish(alloc, &mut next)?;

@@ -1,5 +1,5 @@
 -- What is known, with one order more.
-use Rattle.std.proofs.Common.{◌≡◌, ℕ, ◌<◌, length, IsFalse, arith, refl, ap, sym, ◌∙◌}
+use Rattle.std.proofs.Common.{◌≡◌, ℕ, IsFalse, arith, refl, ap, sym, ◌∙◌}
 use Rattle.ttp_model.specs.Instance.{Instance}
 use Rattle.tt_choice.specs.Precedence.{put_before}
 use Rattle.tt_choice.specs.Choice.{ArePair}

@@ -1,5 +1,5 @@
 -- The premises that read more than numbers hold with one order more.
-use Rattle.std.proofs.Common.{ℕ, ◌+◌, ◌-◌, ◌<◌, List, length, slice_index, IsTrue, arith, inl, inr}
+use Rattle.std.proofs.Common.{ℕ, ◌+◌, ◌-◌, List, length, slice_index, IsTrue, arith, inl, inr}
 use Rattle.ttp_model.specs.Instance.{Instance}
 use Rattle.tt_choice.specs.Choice.{Choice, ArePair}
 use Rattle.tt_choice.specs.Branches.{order_pair}

@@ -1,6 +1,6 @@
 -- A lawful step is lawful with one order more, and gives the same with that order; but where it asks how long the first process of the
 -- order may have to wait.
-use Rattle.std.proofs.Common.{◌≡◌, ◌≢◌, ℕ, ap, ◌∙◌}
+use Rattle.std.proofs.Common.{◌≢◌, ℕ, ap, ◌∙◌}
 use Rattle.ttp_model.specs.declared.step.Step.{Step}
 use Rattle.ttp_model.specs.declared.step.Step.TheVariants.{EsRelease, EsLink, EsBefore, EsArrive, EsMessage, LoSend, LeOwn, LeLink, LeBefore, LeMessage, LeSend, HiArrive, OrdWindow, OrdTwin, UsSettled, XWindow, XRound, XCycle, XLoad, XFrame, XFrames, XLate, XSilent}
 use Rattle.ttp_model.specs.Instance.{Instance}

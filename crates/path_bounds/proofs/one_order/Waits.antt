@@ -1,5 +1,5 @@
 -- How long a process may have to wait, where another one goes before a third.
-use Rattle.std.proofs.Common.{◌≡◌, ◌≢◌, ℕ, ◌<◌, arith, inl, sym, ◌∙◌}
+use Rattle.std.proofs.Common.{◌≡◌, ◌≢◌, ℕ, arith, inl, sym, ◌∙◌}
 use Rattle.ttp_model.specs.Instance.{Instance}
 use Rattle.tt_choice.specs.Choice.{Choice, ArePair}
 use Rattle.tt_choice.specs.Branches.{order_pair}

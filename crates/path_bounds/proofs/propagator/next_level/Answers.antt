@@ -1,4 +1,4 @@
-use Rattle.std.proofs.Common.{◌≡◌, [], refl, sym, ap, subst}
+use Rattle.std.proofs.Common.{◌≡◌, [], refl, sym, subst}
 use Rattle.ttp_model.specs.declared.plan.Plan.{Plan}
 use Rattle.tt_choice.specs.Choice.{IsComplete}
 use Rattle.tt_choice.specs.Decisions.{choice_after}
