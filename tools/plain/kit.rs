@@ -451,6 +451,14 @@ pub mod itoa {
 }
 
 pub mod rayon {
+    use super::std::thread::Threads;
+
+    pub use super::std::thread::join_mut;
+
+    pub fn current_num_threads(_: &impl Threads) -> usize {
+        1
+    }
+
     pub mod prelude {
         use super::super::std::alloc::{AllocError, Global};
         use super::super::std::thread::Threads;
