@@ -24,8 +24,11 @@ const MOST_BYTES_HELD: usize = 8_388_608;
 /// How many leaves wait at first until they are judged together: soon, so that other threads needn't wait for long.
 const FIRST_TOGETHER: usize = 64;
 
-/// How many leaves are judged together at most. More of them would leave a processor's own memory before they are judged.
-const MOST_TOGETHER: usize = 256;
+/// How many leaves one thread judges together at most.
+const MOST_ALONE: usize = 256;
+
+/// How many leaves several threads judge together at most.
+const MOST_SHARED: usize = 1_024;
 
 /// How large the memory of a text may be that is kept for others.
 const MOST_KEPT: usize = 4_096;
@@ -41,22 +44,33 @@ pub enum Stop {
     Branch(CertFault),
 }
 
+/// How many leaves are judged together at most, where so many other threads judge them too. Where there is none, more of them would leave
+/// the processor's own memory before they are judged. Where there are some, most leaves go to another processor anyhow, and each batch
+/// costs a meeting of all threads.
+fn most_together(others: usize) -> usize {
+    if others == 0 {
+        return MOST_ALONE;
+    }
+    MOST_SHARED
+}
+
 /// The walk through a tree whose nodes come one after another, and the leaves that wait, with how many bytes their steps have.
 #[derive(Drop)]
 pub struct Going {
     walk: Walk,
     held: Vec<HeldLeaf>,
     bytes: usize,
-    /// How many leaves are judged together, twice as many each time.
+    /// How many leaves are judged together, twice as many each time, up to the most.
     together: usize,
+    most_together: usize,
     /// What is of no use but for its memory, since to take that anew for each leaf would be much of the time: choices, and texts.
     spares: Vec<Choice>,
     texts: Vec<Vec<u8>>,
 }
 
 impl Going {
-    /// In front of the first node.
-    pub fn new(alloc: Global, instance: &Instance) -> Result<Going, MemoryFault>
+    /// In front of the first node, where so many other threads judge leaves too.
+    pub fn new(alloc: Global, instance: &Instance, others: usize) -> Result<Going, MemoryFault>
         ensures walk { IfOk result (λ going. IsWalk instance.now going.walk (root_choice instance.now ∷ [])) }
         ensures none { IfOk result (λ going. going.held.items ≡ []) }
     {
@@ -66,6 +80,7 @@ impl Going {
             held: Vec::new(alloc),
             bytes: 0,
             together: FIRST_TOGETHER,
+            most_together: most_together(others),
             spares: Vec::new(alloc),
             texts: Vec::new(alloc),
         })
@@ -90,7 +105,7 @@ impl Going {
         ensures front { OnOk result (front.new.items ≡ self.old.held.items) }
     {
         self.bytes = 0;
-        self.together = self.together.saturating_mul(2).min(MOST_TOGETHER);
+        self.together = self.together.saturating_mul(2).min(self.most_together);
         mem::swap(&mut self.held, front);
         'leaves: while let Some(leaf) = self.held.pop() {
             self.keep(leaf)?;

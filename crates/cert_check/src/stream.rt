@@ -110,7 +110,8 @@ fn go_through<R: Read>(
     ensures answers { AnswersAll instance.now low R.remaining stream.old (bytes_taken stream.new) result }
     ensures from { (origin : Origin) → StreamIsFrom R.remaining stream.old origin → StreamIsFrom R.remaining stream.new origin }
 {
-    let mut going = match Going::new(alloc, instance) {
+    let others = other_threads(rt);
+    let mut going = match Going::new(alloc, instance, others) {
         Ok(going) => going,
         Err(_) => {
             pass_nodes(alloc, stream)?;
@@ -119,7 +120,6 @@ fn go_through<R: Read>(
     };
     let mut steps = Vec::new(alloc);
     let mut front = Vec::new(alloc);
-    let others = other_threads(rt);
     'batches: loop {
         let (judged, stop) = judge_beside(
             rt,
@@ -215,7 +215,7 @@ fn judge_all<R: Read>(
 /// certificate the rest is still read; of no reader more than `certificate::MOST_TEXT_BYTES` and one byte are taken.
 ///
 /// Leaves are read and judged together on all processors, up to `batch` of them, 1 at least and `MOST_LEAVES_HELD` at most, and no
-/// more than stay in a processor's own memory, while this thread reads on until as many others wait. Takes memory for one path of the
+/// more than are judged fast together, while this thread reads on until as many others wait. Takes memory for one path of the
 /// tree, and for all those leaves with their lines and choices.
 pub fn check_stream<R: Read>(
     rt: &(impl Threads + Sync),
