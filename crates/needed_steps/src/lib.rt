@@ -7,6 +7,7 @@ mod closings;
 mod ends;
 mod fact;
 mod fact_set;
+mod fewest;
 mod marks;
 mod moment;
 mod needs;
@@ -19,4 +20,6 @@ mod weights;
 
 pub use fact::{Fact, link_after, link_before, target, value};
 pub use fact_set::FactSet;
+pub use fewest::{Fewest, Found, Log};
 pub use marks::Marks;
+pub use reads::{Reader, add_reads};

@@ -6,7 +6,7 @@ use tt_infer::Facts;
 use ttp_model::Instance;
 
 /// What is known before a step of a log, and what at first.
-#[derive(Drop)]
+#[derive(Clone, Copy)]
 pub struct Moment<'b, 'a> {
     /// What is known after the last step.
     pub facts: &'b Facts<'a>,

@@ -22,6 +22,8 @@ use ttp_model::{Instance, MemoryFault, Step};
 pub struct Journal<'a> {
     facts: Facts<'a>,
     steps: Vec<Step>,
+    /// How far the fact of each step was known before it.
+    before: Vec<u32>,
 }
 
 impl<'a> Model for Journal<'a> {
@@ -48,11 +50,15 @@ fn sharpens(facts: &mut Facts, step: &Step) -> bool
 }
 
 impl<'a> Journal<'a> {
-    /// Follows these steps, which may be of anything, with a log of its own.
-    pub fn new(facts: Facts<'a>, steps: Vec<Step>) -> Self
+    /// Follows these steps, which may be of anything, with a log of its own: the last list is memory for how far facts were known.
+    pub fn new(facts: Facts<'a>, steps: Vec<Step>, before: Vec<u32>) -> Self
         ensures { result ≡ record { facts = facts.entry; steps = steps.items } }
     {
-        Journal { facts, steps }
+        Journal {
+            facts,
+            steps,
+            before,
+        }
     }
 
     /// The log without steps of what is known at first after a decision on what another log is about, in the room of this one.
@@ -77,7 +83,13 @@ impl<'a> Journal<'a> {
         let mut steps = self.steps;
         steps.clear();
         steps.reserve(level.steps.len())?;
-        Ok(Journal { facts, steps })
+        let mut before = self.before;
+        before.clear();
+        Ok(Journal {
+            facts,
+            steps,
+            before,
+        })
     }
 
     /// The log without steps of what another log is about, where besides process `p` goes before `q`, in the room of this one.
@@ -99,7 +111,13 @@ impl<'a> Journal<'a> {
         let facts = self.facts.supposing(alloc, level.facts(), p, q)?;
         let mut steps = self.steps;
         steps.clear();
-        Ok(Journal { facts, steps })
+        let mut before = self.before;
+        before.clear();
+        Ok(Journal {
+            facts,
+            steps,
+            before,
+        })
     }
 
     /// The same with the steps of that log, whether they lead there or not.
@@ -126,7 +144,14 @@ impl<'a> Journal<'a> {
         steps.clear();
         steps.reserve(level.steps.len())?;
         push_copies(alloc, &mut steps, level.steps())?;
-        Ok(Journal { facts, steps })
+        let mut before = self.before;
+        before.clear();
+        before.extend_from_slice(level.before.as_slice())?;
+        Ok(Journal {
+            facts,
+            steps,
+            before,
+        })
     }
 
     /// What is known, and the steps.
@@ -134,8 +159,18 @@ impl<'a> Journal<'a> {
         ensures facts { result.0 ≡ self.entry.facts }
         ensures steps { result.1.items ≡ self.entry.steps }
     {
-        let Journal { facts, steps } = self;
+        let Journal { facts, steps, .. } = self;
         (facts, steps)
+    }
+
+    /// What it has memory for: what is known, the steps, and how far facts were known.
+    pub fn into_memory(self) -> (Facts<'a>, Vec<Step>, Vec<u32>) {
+        let Journal {
+            facts,
+            steps,
+            before,
+        } = self;
+        (facts, steps, before)
     }
 
     /// The steps, where no plan is left after them.
@@ -143,7 +178,7 @@ impl<'a> Journal<'a> {
         ensures { IfSome result (λ steps. IsTrue self.entry.facts.known.closed
             × (steps.items ≡ self.entry.steps)) }
     {
-        let Journal { facts, steps } = self;
+        let Journal { facts, steps, .. } = self;
         if facts.closed() { Some(steps) } else { None }
     }
 
@@ -161,10 +196,47 @@ impl<'a> Journal<'a> {
         self.steps.as_slice()
     }
 
+    /// How far the fact of each step was known before it.
+    pub fn before(&self) -> &[u32] {
+        self.before.as_slice()
+    }
+
     /// Tries a step, and appends it where it sharpens what is known. Whether it does. Reserves room
     /// for it first.
-    #[tactic(auto, using(crate::proofs::Logs::advances_refl, crate::proofs::Logs::advances_step))]
     pub fn try_step(&mut self, step: Step) -> Result<bool, MemoryFault>
+        ensures advances { Advances self.old self.new }
+        ensures sharper { IfOk result (λ sharper.
+            IsTrue sharper → slack_of self.new.facts < slack_of self.old.facts) }
+        ensures same { IfOk result (λ sharper. IsFalse sharper → self.new ≡ self.old) }
+        ensures idle { IfOk result (λ sharper. IsFalse sharper → SharpensNothing self.old.facts step) }
+    {
+        let known = value(&self.facts, target(self.facts.instance(), &step));
+        let sharper = self.append(step)?;
+        if sharper {
+            self.before.push(known)?;
+        }
+        Ok(sharper)
+    }
+
+    /// The same with a step of another log, of which a copy is appended.
+    pub fn try_again(&mut self, alloc: Global, step: &Step) -> Result<bool, MemoryFault>
+        ensures advances { Advances self.old self.new }
+        ensures sharper { IfOk result (λ sharper.
+            IsTrue sharper → slack_of self.new.facts < slack_of self.old.facts) }
+        ensures same { IfOk result (λ sharper. IsFalse sharper → self.new ≡ self.old) }
+        ensures idle { IfOk result (λ sharper. IsFalse sharper → SharpensNothing self.old.facts step.now) }
+    {
+        let known = value(&self.facts, target(self.facts.instance(), step));
+        let sharper = self.append_copy(alloc, step)?;
+        if sharper {
+            self.before.push(known)?;
+        }
+        Ok(sharper)
+    }
+
+    /// Appends a step where it sharpens what is known, but not how far that was known before.
+    #[tactic(auto, using(crate::proofs::Logs::advances_refl, crate::proofs::Logs::advances_step))]
+    fn append(&mut self, step: Step) -> Result<bool, MemoryFault>
         ensures advances { Advances self.old self.new }
         ensures sharper { IfOk result (λ sharper.
             IsTrue sharper → slack_of self.new.facts < slack_of self.old.facts) }
@@ -179,9 +251,9 @@ impl<'a> Journal<'a> {
         Ok(false)
     }
 
-    /// The same with a step of another log, of which a copy is appended.
+    /// The same with a copy of a step.
     #[tactic(auto, using(crate::proofs::Logs::advances_refl, crate::proofs::Logs::advances_step))]
-    pub fn try_again(&mut self, alloc: Global, step: &Step) -> Result<bool, MemoryFault>
+    pub fn append_copy(&mut self, alloc: Global, step: &Step) -> Result<bool, MemoryFault>
         ensures advances { Advances self.old self.new }
         ensures sharper { IfOk result (λ sharper.
             IsTrue sharper → slack_of self.new.facts < slack_of self.old.facts) }

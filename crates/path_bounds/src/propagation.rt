@@ -99,7 +99,7 @@ pub fn propagate<'a>(
     let _processes = instance.processes();
     let first = Facts::new(alloc, instance, choice, goal)?;
     let before = mem::replace(steps, Vec::new(alloc));
-    let mut journal = Journal::new(first, before);
+    let mut journal = Journal::new(first, before, Vec::new(alloc));
     let done = reach(alloc, instance, choice, &mut journal);
     let (facts, all) = journal.into_parts();
     *steps = all;

@@ -18,7 +18,7 @@ use crate::journal::Journal;
 use crate::propagation::{complete, reach};
 use crate::supposition::Supposition;
 use crate::trim::trimmed_leaf;
-use needed_steps::Marks;
+use needed_steps::Fewest;
 use std::alloc::Global;
 use std::marker::Model;
 use std::mem;
@@ -40,7 +40,7 @@ pub struct Propagator<'a> {
     /// What was known after decisions that were taken back, for its memory.
     spare: Vec<Journal<'a>>,
     agenda: Agenda,
-    marks: Marks,
+    fewest: Fewest,
 }
 
 impl<'a> Model for Propagator<'a> {
@@ -76,7 +76,7 @@ fn room<'a>(
     }
     let facts = level.facts();
     let first = Facts::new(alloc, facts.instance(), facts.choice(), facts.goal())?;
-    Ok(Journal::new(first, Vec::new(alloc)))
+    Ok(Journal::new(first, Vec::new(alloc), Vec::new(alloc)))
 }
 
 /// Keeps memory to be used again, where there is a place for it.
@@ -171,8 +171,8 @@ impl<'a> Propagator<'a> {
         let _nodes = instance.nodes();
         let root = Choice::root(alloc, instance)?;
         let first = Facts::new(alloc, instance, &root, goal)?;
-        let marks = Marks::none(alloc, instance)?;
-        let mut current = Journal::new(first, Vec::new(alloc));
+        let fewest = Fewest::none(alloc, instance)?;
+        let mut current = Journal::new(first, Vec::new(alloc), Vec::new(alloc));
         let agenda = reach(alloc, instance, &root, &mut current)?;
         Ok(Propagator {
             instance,
@@ -182,7 +182,7 @@ impl<'a> Propagator<'a> {
             current,
             spare: Vec::new(alloc),
             agenda,
-            marks,
+            fewest,
         })
     }
 
@@ -287,16 +287,17 @@ impl<'a> Propagator<'a> {
     {
         self.spare.reserve(1)?;
         let room = room(alloc, &mut self.spare, &self.current)?;
-        let (facts, steps) = room.into_parts();
+        let (facts, steps, before) = room.into_memory();
         let level = &self.current;
         let (leaf, facts) = trimmed_leaf(
             alloc,
             facts,
-            &mut self.marks,
+            &mut self.fewest,
             level.facts(),
             level.steps(),
+            level.before(),
         )?;
-        keep(&mut self.spare, Journal::new(facts, steps));
+        keep(&mut self.spare, Journal::new(facts, steps, before));
         Ok(leaf)
     }
 }

@@ -7,11 +7,14 @@ ghost use Rattle.path_bounds.specs.Journal.{Advances};
 
 use crate::copies::all_copied;
 use crate::journal::Journal;
-use needed_steps::{Marks, target, value};
+use needed_steps::{Fewest, Log, Marks};
 use std::alloc::Global;
 use tt_choice::Choice;
 use tt_infer::Facts;
 use ttp_model::{Instance, Leaf, MemoryFault, Step, Steps};
+
+/// How many of the closers that rest on the fewest steps are looked at.
+const CLOSERS: usize = 1;
 
 /// A leaf of these steps, which close the choice at a goal in ticks, without those that its closer
 /// doesn't need.
@@ -31,21 +34,22 @@ pub fn closed_leaf(
     let facts = reached(alloc, instance, choice, goal, steps.as_slice())?;
     let mut marks = Marks::none(alloc, instance)?;
     marks.set_to(&facts, steps.as_slice())?;
-    let trimmed = replayed(alloc, instance, choice, goal, steps.as_slice(), &mut marks)?;
+    let trimmed = replayed(alloc, instance, choice, goal, steps.as_slice(), &marks)?;
     match trimmed {
         Some(short) => Ok(leaf_of(goal, short)),
         None => Ok(leaf_of(goal, steps)),
     }
 }
 
-/// A leaf of the steps that lead to what is known, where no plan is left, without those that its closer doesn't need; worked out
-/// in the room of other facts, which comes back.
+/// A leaf of the steps that lead to what is known, where no plan is left, without those that the closer doesn't need that needs the
+/// fewest; worked out in the room of other facts, which comes back.
 pub fn trimmed_leaf<'a>(
     alloc: Global,
     room: Facts<'a>,
-    marks: &mut Marks,
+    fewest: &mut Fewest,
     facts: &Facts<'a>,
     steps: &[Step],
+    before: &[u32],
 ) -> Result<(Leaf, Facts<'a>), MemoryFault>
     requires none_kept { bare facts.now.choice ≡ facts.now.choice }
     requires closes { ClosesLeaf facts.now.instance facts.now.choice (record { goal = facts.now.goal; steps = steps.now }) }
@@ -54,47 +58,74 @@ pub fn trimmed_leaf<'a>(
     ensures goal { IfOk result (λ trimmed. trimmed.0.goal ≡ facts.now.goal) }
 {
     let _choice = facts.choice();
-    let (count, closer) = marks.set_to_few(facts, steps)?;
+    let (count, closer) = fewest_needed(fewest, facts, steps, before)?;
     let first = room.anew(facts)?;
-    let mut journal = Journal::new(first, Vec::with_capacity(alloc, count)?);
-    try_closing(alloc, &mut journal, steps, closer, marks)?;
+    let kept = Vec::with_capacity(alloc, count)?;
+    let mut journal = Journal::new(first, kept, Vec::new(alloc));
+    try_closing(alloc, &mut journal, steps, closer, fewest)?;
     let (known, kept) = journal.into_parts();
     if known.closed() {
-        return shorter_leaf(alloc, known, marks, facts, kept);
+        return Ok((leaf_of(facts.goal(), kept), known));
     }
     let all = all_copied(alloc, steps)?;
     Ok((leaf_of(facts.goal(), all), known))
 }
 
-/// A leaf of steps that close the choice of other facts at their goal, as they were just taken, without those that its closer
-/// can do without where each fact has to be only as sharp as what reads it asks for; worked out in the room of what is known
-/// after them.
-fn shorter_leaf<'a>(
+/// Marks the steps that are needed by the closer that needs the fewest: the last one of these steps, or another. How many they are
+/// with the closer, and that one where it is another.
+fn fewest_needed(
+    fewest: &mut Fewest,
+    facts: &Facts,
+    steps: &[Step],
+    before: &[u32],
+) -> Result<(usize, Option<Step>), MemoryFault> {
+    let Some((last, logged)) = steps.split_last() else {
+        return Ok((0, None));
+    };
+    let log = Log {
+        facts,
+        steps: logged,
+        before,
+    };
+    match fewest.mark(log, Some(last), CLOSERS)? {
+        Some(found) => Ok((found.count.saturating_add(1), found.closer)),
+        None => Ok((steps.len(), None)),
+    }
+}
+
+/// Tries the steps that are marked, one after another, and then a closer: the last of the steps, where none is given.
+#[tactic(auto, using(crate::proofs::Logs::advances_trans))]
+fn try_closing(
     alloc: Global,
-    room: Facts<'a>,
-    marks: &mut Marks,
-    facts: &Facts<'a>,
-    steps: Vec<Step>,
-) -> Result<(Leaf, Facts<'a>), MemoryFault>
-    requires none_kept { bare facts.now.choice ≡ facts.now.choice }
-    requires closes { ClosesLeaf facts.now.instance facts.now.choice (record { goal = facts.now.goal; steps = steps.items }) }
-    requires few { length steps.items < 2 ^ 32 }
-    ensures closes { IfOk result (λ trimmed. ClosesLeaf facts.now.instance facts.now.choice trimmed.0) }
-    ensures goal { IfOk result (λ trimmed. trimmed.0.goal ≡ facts.now.goal) }
+    journal: &mut Journal,
+    steps: &[Step],
+    closer: Option<Step>,
+    fewest: &Fewest,
+) -> Result<(), MemoryFault>
+    ensures { Advances journal.old journal.new }
 {
-    let _choice = facts.choice();
-    let count = marks.set_to_needed(&room, steps.as_slice())?;
-    if count >= steps.len() {
-        return Ok((leaf_of(facts.goal(), steps), room));
+    try_needed(alloc, journal, steps, fewest)?;
+    if let Some(step) = closer.as_ref().or(steps.last()) {
+        journal.append_copy(alloc, step)?;
     }
-    let first = room.anew(facts)?;
-    let mut journal = Journal::new(first, Vec::with_capacity(alloc, count)?);
-    try_marked(alloc, &mut journal, steps.as_slice(), marks)?;
-    let (known, kept) = journal.into_parts();
-    if known.closed() {
-        return Ok((leaf_of(facts.goal(), kept), known));
+    Ok(())
+}
+
+/// Tries the steps that are marked, one after another.
+fn try_needed(
+    alloc: Global,
+    journal: &mut Journal,
+    steps: &[Step],
+    fewest: &Fewest,
+) -> Result<(), MemoryFault>
+    ensures { Advances journal.old journal.new }
+{
+    'tries: for (k, step) in steps.iter().enumerate() {
+        if fewest.is_marked(k) {
+            journal.append_copy(alloc, step)?;
+        }
     }
-    Ok((leaf_of(facts.goal(), steps), known))
+    Ok(())
 }
 
 /// The leaf of these steps.
@@ -115,7 +146,7 @@ fn replayed(
     choice: &Choice,
     goal: u32,
     steps: &[Step],
-    marks: &mut Marks,
+    marks: &Marks,
 ) -> Result<Option<Vec<Step>>, MemoryFault>
     requires { IsChoice instance.now choice.now }
     ensures closes { IfOk result (λ found. IfSome found (λ steps.
@@ -124,7 +155,7 @@ fn replayed(
 {
     let _processes = instance.processes();
     let first = Facts::new(alloc, instance, choice, goal)?;
-    let mut journal = Journal::new(first, Vec::new(alloc));
+    let mut journal = Journal::new(first, Vec::new(alloc), Vec::new(alloc));
     try_marked(alloc, &mut journal, steps, marks)?;
     match journal.closing_steps() {
         Some(kept) => Ok(Some(kept)),
@@ -132,54 +163,19 @@ fn replayed(
     }
 }
 
-/// Tries the steps that are marked, one after another, and takes note of how far the fact of each was known.
+/// Tries the steps that are marked, one after another.
 fn try_marked(
     alloc: Global,
     journal: &mut Journal,
     steps: &[Step],
-    marks: &mut Marks,
+    marks: &Marks,
 ) -> Result<(), MemoryFault>
     ensures { Advances journal.old journal.new }
 {
-    marks.begin_log();
     'tries: for (k, step) in steps.iter().enumerate() {
         if marks.is_marked(k) {
-            try_one(alloc, journal, step, marks)?;
+            journal.append_copy(alloc, step)?;
         }
-    }
-    Ok(())
-}
-
-/// The same, and then tries a closer, where one is given.
-fn try_closing(
-    alloc: Global,
-    journal: &mut Journal,
-    steps: &[Step],
-    closer: Option<Step>,
-    marks: &mut Marks,
-) -> Result<(), MemoryFault>
-    ensures { Advances journal.old journal.new }
-{
-    try_marked(alloc, journal, steps, marks)?;
-    if let Some(closer) = closer {
-        try_one(alloc, journal, &closer, marks)?;
-    }
-    Ok(())
-}
-
-/// Tries a step, and takes note of how far its fact was known where it sharpens that.
-fn try_one(
-    alloc: Global,
-    journal: &mut Journal,
-    step: &Step,
-    marks: &mut Marks,
-) -> Result<(), MemoryFault>
-    ensures { Advances journal.old journal.new }
-{
-    let facts = journal.facts();
-    let before = value(facts, target(facts.instance(), step));
-    if journal.try_again(alloc, step)? {
-        marks.note(before)?;
     }
     Ok(())
 }

@@ -1,5 +1,5 @@
 use Rattle.path_bounds.proofs.Logs.{advances_pushed}
-use Rattle.path_bounds.proofs.journal.Journal.try_step.Goals as goal
+use Rattle.path_bounds.proofs.journal.Journal.append.Goals as goal
 
 pub returns-then-sharpens-clause-advances : goal.returns-then-sharpens-clause-advances
 returns-then-sharpens-clause-advances c =

@@ -1,0 +1,220 @@
+//! Which closer needs the fewest steps?
+
+use crate::asking::ask;
+use crate::closings::Closings;
+use crate::fact::{Fact, target};
+use crate::moment::Moment;
+use crate::needs::Needs;
+use crate::values::Values;
+use crate::weights::Weights;
+use std::alloc::Global;
+use tt_infer::Facts;
+use ttp_model::{Instance, MemoryFault, Step};
+
+/// Steps each of which sharpened its fact, how far that was known before it, and what is known after them.
+#[derive(Clone, Copy)]
+pub struct Log<'b, 'a> {
+    pub facts: &'b Facts<'a>,
+    pub steps: &'b [Step],
+    pub before: &'b [u32],
+}
+
+impl<'b, 'a> Log<'b, 'a> {
+    /// How far the fact of the step at a place was known before it.
+    fn before(&self, place: usize) -> u32 {
+        match self.before.get(place) {
+            Some(value) => *value,
+            None => 0,
+        }
+    }
+}
+
+/// Marks at the steps of a log that a closer needs, where each fact has to be only as sharp as what reads it asks for, in memory that
+/// is used again.
+#[derive(Drop)]
+pub struct Fewest {
+    /// The facts of the steps.
+    targets: Vec<Fact>,
+    marked: Vec<bool>,
+    needs: Needs,
+    closings: Closings,
+    /// The weights of closers with their places, those that are looked at first; of a given one none.
+    light: Vec<(u32, Option<usize>)>,
+    weights: Weights,
+}
+
+/// What a closer needs.
+#[derive(Drop)]
+pub struct Found {
+    /// How many steps of the log.
+    pub count: usize,
+    /// The closer: none where it is the given one.
+    pub closer: Option<Step>,
+}
+
+impl Fewest {
+    /// No marks.
+    pub fn none(alloc: Global, instance: &Instance) -> Result<Self, MemoryFault> {
+        Ok(Fewest {
+            targets: Vec::new(alloc),
+            marked: Vec::new(alloc),
+            needs: Needs::none(alloc, instance)?,
+            closings: Closings::none(alloc),
+            light: Vec::new(alloc),
+            weights: Weights::none(alloc, instance)?,
+        })
+    }
+
+    /// Whether a closer can be taken of what is known.
+    pub fn closes(&mut self, facts: &Facts) -> Result<bool, MemoryFault> {
+        self.closings.find(facts)?;
+        Ok(!self.closings.as_slice().is_empty())
+    }
+
+    /// Marks the steps of a log that a closer needs which needs the fewest of them, of so many of those that rest on the fewest, and of a
+    /// given one. None where there is no closer.
+    pub fn mark(
+        &mut self,
+        log: Log,
+        given: Option<&Step>,
+        most: usize,
+    ) -> Result<Option<Found>, MemoryFault> {
+        self.closings.find(log.facts)?;
+        self.weigh(log, given, most)?;
+        self.set_targets(log)?;
+        let last = self.last_moment(log);
+        let Some(place) = self.place_of_fewest(log, last, given) else {
+            return Ok(None);
+        };
+        let count = self.mark_at(log, last, place, given, usize::MAX);
+        let closer = self.closings.take(place);
+        Ok(Some(Found { count, closer }))
+    }
+
+    /// Finds which closers weigh least, where there are more than so many.
+    fn weigh(&mut self, log: Log, given: Option<&Step>, most: usize) -> Result<(), MemoryFault> {
+        let are_many = self.closings.as_slice().len() >= most;
+        if are_many {
+            self.weights.look_at(log.facts, log.steps);
+        }
+        self.light.clear();
+        if let Some(closer) = given {
+            self.light
+                .push((self.weights.of_step(log.facts, closer), None))?;
+        }
+        for (place, closer) in self.closings.as_slice().iter().enumerate() {
+            self.light
+                .push((self.weights.of_step(log.facts, closer), Some(place)))?;
+        }
+        if are_many {
+            self.light
+                .as_mut_slice()
+                .sort_unstable_by_key(|entry| entry.0);
+            self.light.truncate(most);
+        }
+        Ok(())
+    }
+
+    /// Whether the step at a place is marked.
+    pub fn is_marked(&self, place: usize) -> bool {
+        self.marked.get(place) == Some(&true)
+    }
+
+    /// Takes note of the facts of the steps of a log.
+    fn set_targets(&mut self, log: Log) -> Result<(), MemoryFault> {
+        self.marked.clear();
+        self.marked.resize(log.steps.len(), false)?;
+        self.targets.clear();
+        for step in log.steps {
+            self.targets.push(target(log.facts.instance(), step))?;
+        }
+        Ok(())
+    }
+
+    /// What is known after the last step of a log.
+    fn last_moment<'b, 'a>(&self, log: Log<'b, 'a>) -> Moment<'b, 'a> {
+        let now = Values::of(log.facts);
+        let mut first = now;
+        for k in (0..self.targets.len()).rev() {
+            first.put(self.targets[k], log.before(k));
+        }
+        Moment {
+            facts: log.facts,
+            now,
+            first,
+        }
+    }
+
+    /// The place of the closer that needs the fewest steps, if there is one: none of the given one.
+    fn place_of_fewest(
+        &mut self,
+        log: Log,
+        last: Moment,
+        given: Option<&Step>,
+    ) -> Option<Option<usize>> {
+        let mut fewest = usize::MAX;
+        let mut found = None;
+        for k in 0..self.light.len() {
+            let place = match self.light.get(k) {
+                Some(entry) => entry.1,
+                None => return found,
+            };
+            let count = self.mark_at(log, last, place, given, fewest);
+            if count < fewest {
+                fewest = count;
+                found = Some(place);
+            }
+        }
+        found
+    }
+
+    /// Marks the steps of a log that the closer at a place needs, or the given one where there is none. How many are marked: no more
+    /// than so many, as then the others aren't looked at.
+    fn mark_at(
+        &mut self,
+        log: Log,
+        last: Moment,
+        place: Option<usize>,
+        given: Option<&Step>,
+        most: usize,
+    ) -> usize {
+        self.marked.as_mut_slice().fill(false);
+        self.needs.clear();
+        match closer_at(&self.closings, place, given) {
+            Some(closer) => ask(&mut self.needs, &last, closer, 0),
+            None => return most,
+        }
+        self.mark_needed(log, last, most)
+    }
+
+    /// Marks the steps that are needed, the last first, until so many are. How many are marked.
+    fn mark_needed(&mut self, log: Log, last: Moment, most: usize) -> usize {
+        let mut moment = last;
+        let mut count = 0usize;
+        for k in (0..log.steps.len()).rev() {
+            if count >= most || k >= self.targets.len() || k >= self.marked.len() {
+                return count;
+            }
+            let known = log.before(k);
+            moment.go_back(self.targets[k], known);
+            if let Some(need) = self.needs.take(self.targets[k], known) {
+                self.marked[k] = true;
+                count += 1;
+                ask(&mut self.needs, &moment, &log.steps[k], need);
+            }
+        }
+        count
+    }
+}
+
+/// The closer at a place: the given one where there is none.
+fn closer_at<'s>(
+    closings: &'s Closings,
+    place: Option<usize>,
+    given: Option<&'s Step>,
+) -> Option<&'s Step> {
+    match place {
+        Some(place) => closings.as_slice().get(place),
+        None => given,
+    }
+}
