@@ -15,7 +15,8 @@ fn copy_of_ring(alloc: Global, ring: &Ring) -> Result<Ring, MemoryFault>
     Ok(Ring::new(processes))
 }
 
-fn copy_of_step(alloc: Global, step: &Step) -> Result<Step, MemoryFault>
+/// The same step in memory of its own.
+pub fn copy_of_step(alloc: Global, step: &Step) -> Result<Step, MemoryFault>
     ensures { IfOk result (λ copy. copy ≡ step.now) }
 {
     Ok(match step {
@@ -45,7 +46,8 @@ fn copy_of_step(alloc: Global, step: &Step) -> Result<Step, MemoryFault>
     })
 }
 
-fn copy_of_leaf(alloc: Global, leaf: &Leaf) -> Result<Leaf, MemoryFault>
+/// The same leaf in memory of its own.
+pub fn copy_of_leaf(alloc: Global, leaf: &Leaf) -> Result<Leaf, MemoryFault>
     ensures { IfOk result (λ copy. copy ≡ leaf.now) }
 {
     let steps = leaf.steps.as_slice();

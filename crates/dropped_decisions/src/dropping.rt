@@ -15,8 +15,8 @@ use certificate::{Cert, Node};
 use std::alloc::Global;
 use ttp_model::{Instance, MemoryFault};
 
-/// A certificate of the same bound with these nodes, where they are a tree that proves it.
-fn accepted(
+/// A certificate of a bound, in ticks, with these nodes in preorder, where they are a tree that proves it.
+pub fn accepted(
     alloc: Global,
     instance: &Instance,
     low: u32,

@@ -9,5 +9,7 @@ mod parts;
 mod pass;
 mod standing;
 
-pub use dropping::{proof_of, without_unused};
+pub use branches::branches_among;
+pub use copies::{copy_of_leaf, copy_of_step};
+pub use dropping::{accepted, proof_of, without_unused};
 pub use standing::Standing;

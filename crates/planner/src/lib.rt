@@ -13,6 +13,7 @@ mod names;
 mod outcome;
 mod reserve;
 mod search;
+mod shorter;
 mod solving;
 
 pub use fault::GatherFault;
@@ -22,4 +23,5 @@ pub use laws::{
 };
 pub use outcome::{Options, Outcome, SolveFault, Why};
 pub use pool_worker::{FreeGate, Gate};
+pub use shorter::with_short_certificate;
 pub use solving::{solve, solve_with};

@@ -30,6 +30,8 @@ mod refusals;
 #[cfg(test)]
 mod searches;
 #[cfg(test)]
+mod steps_that_go;
+#[cfg(test)]
 mod subtrees;
 #[cfg(test)]
 mod two_workers;

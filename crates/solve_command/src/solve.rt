@@ -1,15 +1,17 @@
 //! What `solve` says of an instance, and the certificate that shows it.
 
-ghost use Rattle.std.specs.Prelude.{◌≡◌, ◌+◌, None, true, false, is_some, string_bytes, IfOk, IfSome, MatchResult};
+ghost use Rattle.std.specs.Prelude.{◌≡◌, ◌+◌, None, true, false, is_some, string_bytes, IfErr, IfOk, IfSome, MatchResult};
 ghost use Rattle.command_streams.specs.Limits.{instance_limit};
 ghost use Rattle.command_streams.specs.Streams.{TakesAtMost};
-ghost use Rattle.planner.specs.Answers.{cert_of, IsBestPlan, Shows};
+ghost use Rattle.planner.specs.Answers.{cert_of, IsBestPlan, IsOutcome, IsRefusal, Shows};
 ghost use Rattle.solve_command.specs.Solved.{best_word, end_told, fault_of, held, left, stopped_line, why_word, IsAnswerText, IsCertifying, IsSolveAnswer, IsSolved, IsStoppedText, IsUnsolved, IsWritingTo};
 
 use crate::progress::Follower;
 use certificate::Cert;
 use command_streams::{End, Fault, SearchFault, Sink, read_instance, write_text};
-use planner::{FreeGate, GatherFault, Options, Outcome, SolveFault, Why, solve_with};
+use planner::{
+    FreeGate, GatherFault, Options, Outcome, SolveFault, Why, solve_with, with_short_certificate,
+};
 use std::alloc::{AllocError, Global};
 use std::fmt;
 use std::io::{Read, Write};
@@ -147,13 +149,39 @@ fn fault_of(fault: SolveFault) -> SearchFault
     }
 }
 
-/// Searches the instance that a reader's bytes state, and makes the answer's text.
+/// Searches an instance, and tells a follower of it. A certificate that is asked for is made short.
+fn searched<R: Threads + Wait + Sync, G: Follower + Sync>(
+    rt: &R,
+    alloc: Global,
+    instance: &Instance,
+    options: Options,
+    follower: &G,
+    is_certified: bool,
+) -> Result<Outcome, SolveFault>
+    ensures answer { IfOk result (IsOutcome instance.now options) }
+    ensures shows { IfOk result (Shows instance.now) }
+    ensures err { IfErr result IsRefusal }
+{
+    follower.begin(alloc, instance);
+    let searched = solve_with(rt, alloc, instance, options, follower);
+    follower.end();
+    match searched {
+        Ok(outcome) if is_certified => {
+            Ok(with_short_certificate(rt, alloc, instance, options, outcome))
+        }
+        Ok(outcome) => Ok(outcome),
+        Err(fault) => Err(fault),
+    }
+}
+
+/// Searches the instance that a reader's bytes state, and makes the answer's text. A certificate that is asked for is made short.
 fn solved_of_reader<R: Threads + Wait + Sync, G: Follower + Sync, I: Read>(
     rt: &R,
     alloc: Global,
     instance: &mut I,
     options: Options,
     follower: &G,
+    is_certified: bool,
 ) -> Result<Solved, Fault>
     ensures judged { IfSome (I.remaining instance.old) (λ bytes. MatchResult result
         (IsSolved bytes options)
@@ -161,10 +189,7 @@ fn solved_of_reader<R: Threads + Wait + Sync, G: Follower + Sync, I: Read>(
     ensures most { TakesAtMost (instance_limit + 1) (I.remaining instance.old) (I.remaining instance.new) }
 {
     let instance = read_instance(alloc, instance)?;
-    follower.begin(alloc, &instance);
-    let searched = solve_with(rt, alloc, &instance, options, follower);
-    follower.end();
-    let outcome = match searched {
+    let outcome = match searched(rt, alloc, &instance, options, follower, is_certified) {
         Ok(outcome) => outcome,
         Err(fault) => return Err(Fault::Search(fault_of(fault))),
     };
@@ -216,7 +241,7 @@ fn solve_alone<R: Threads + Wait + Sync, G: Follower + Sync, I: Read, W: Write>(
         IsSolveAnswer bytes options false None None (W.contents out.old) (W.contents out.new) result) }
     ensures most { TakesAtMost (instance_limit + 1) (I.remaining instance.old) (I.remaining instance.new) }
 {
-    match solved_of_reader(rt, alloc, instance, options, follower) {
+    match solved_of_reader(rt, alloc, instance, options, follower, false) {
         Ok(solved) => write_answer(&solved, out),
         Err(fault) => End::Refused(fault),
     }
@@ -238,7 +263,7 @@ fn solve_certified<R: Threads + Wait + Sync, G: Follower + Sync, I: Read, C: Wri
         (W.contents out.old) (W.contents out.new) result) }
     ensures most { TakesAtMost (instance_limit + 1) (I.remaining instance.old) (I.remaining instance.new) }
 {
-    let solved = match solved_of_reader(rt, alloc, instance, options, follower) {
+    let solved = match solved_of_reader(rt, alloc, instance, options, follower, true) {
         Ok(solved) => solved,
         Err(fault) => return End::Refused(fault),
     };
