@@ -77,3 +77,13 @@ fn workers_change_nothing_of_it(rt: HostRuntime) -> Result<(), Fail> {
     }
     Ok(())
 }
+
+#[test]
+fn a_refusal_of_memory_leaves_a_proof(rt: HostRuntime) -> Result<(), Fail> {
+    let i = one_message(rt.alloc(), PLAIN)?;
+    for (text, _) in ROWS {
+        let proof = shortened(&rt, rt.alloc(), &i, 1, text)?;
+        assert!(rt; proof.starts_with(b"ttcert 1\nlow 9\n"), "{text}");
+    }
+    Ok(())
+}
