@@ -1,4 +1,5 @@
 pub mod Digits
+pub mod Packed
 pub mod Before
 pub mod Pairs
 pub mod Changes

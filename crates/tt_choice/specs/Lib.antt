@@ -1,4 +1,5 @@
 pub mod Precedence
+pub mod Packed
 pub mod Choice
 pub mod Extremes
 pub mod Branches

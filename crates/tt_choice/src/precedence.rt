@@ -8,24 +8,25 @@ use std::marker::Model;
 use ttp_model::MemoryFault;
 
 /// A square table with a test for each two processes: whether the first goes before the second.
-/// It takes a byte for each test, and a question one look.
+/// It takes a bit for each test, and a question one look.
 #[derive(Debug, Drop)]
 pub struct Precedence {
     /// How many processes there are.
     processes: u32,
-    /// A row of tests for each process, one row after another.
-    tests: Vec<bool>,
+    /// A row of tests for each process, one row after another, 64 tests in a word, the first in its lowest bit.
+    words: Vec<u64>,
 }
 
 impl Model for Precedence {
-    ghost use Rattle.std.specs.Prelude.{◌≡◌, ◌*◌, length};
+    ghost use Rattle.std.specs.Prelude.{◌*◌, ◌≤◌, length};
+    ghost use Rattle.tt_choice.specs.Packed.{packed};
     ghost use Rattle.tt_choice.specs.Precedence.{Precedence};
 
     ghost Value = { Precedence };
 
-    ghost view = { λ s. record { processes = s.processes; tests = s.tests.items } };
+    ghost view = { λ s. packed s.processes s.words.items };
 
-    ghost invariant = { λ s. length s.tests.items ≡ s.processes * s.processes };
+    ghost invariant = { λ s. s.processes * s.processes ≤ length s.words.items * 64 };
 }
 
 impl Precedence {
@@ -33,18 +34,19 @@ impl Precedence {
     pub fn none(alloc: Global, processes: u32) -> Result<Self, MemoryFault>
         ensures { IfOk result (λ b. b ≡ nothing_before processes) }
     {
-        let tests = vec![in alloc; false; processes as usize * processes as usize]?;
-        Ok(Precedence { processes, tests })
+        let tests = processes as usize * processes as usize;
+        let words = vec![in alloc; 0u64; tests / 64 + 1]?;
+        Ok(Precedence { processes, words })
     }
 
     /// The same table in memory of its own.
     pub fn copy(&self, alloc: Global) -> Result<Self, MemoryFault>
         ensures { IfOk result (λ b. b ≡ self.now) }
     {
-        let tests = Vec::from_slice(alloc, self.tests.as_slice())?;
+        let words = Vec::from_slice(alloc, self.words.as_slice())?;
         Ok(Precedence {
             processes: self.processes,
-            tests,
+            words,
         })
     }
 
@@ -54,8 +56,8 @@ impl Precedence {
         ensures { OnOk result (self.new ≡ other.now) }
     {
         self.processes = 0;
-        self.tests.clear();
-        self.tests.extend_from_slice(other.tests.as_slice())?;
+        self.words.clear();
+        self.words.extend_from_slice(other.words.as_slice())?;
         self.processes = other.processes;
         Ok(())
     }
@@ -72,7 +74,8 @@ impl Precedence {
         ensures { result ≡ goes_before self.now p q }
     {
         if p < self.processes && q < self.processes {
-            self.tests[p as usize * self.processes as usize + q as usize]
+            let place = p as usize * self.processes as usize + q as usize;
+            (self.words[place / 64] >> (place % 64)) % 2 == 1
         } else {
             false
         }
@@ -90,7 +93,7 @@ impl Precedence {
             → IsTrue (goes_before self.old j k) ⊎ ((j ≡ p) × (k ≡ q)) }
     {
         let place = p as usize * self.processes as usize + q as usize;
-        self.tests[place] = true;
+        self.words[place / 64] |= 1u64 << (place % 64);
     }
 
     /// Lets `p` go before `q` no more, of processes that are there.
@@ -98,8 +101,8 @@ impl Precedence {
         ensures { self.new ≡ take_back self.old p q }
     {
         let place = p as usize * self.processes as usize + q as usize;
-        if place < self.tests.len() {
-            self.tests[place] = false;
+        if place < self.processes as usize * self.processes as usize {
+            self.words[place / 64] &= !(1u64 << (place % 64));
         }
     }
 }
