@@ -1,7 +1,7 @@
 //! What is read by a step that may be taken?
 
 use crate::places::Places;
-use needed_steps::{Fact, Reader};
+use step_facts::{Fact, Reader};
 
 /// How many of the facts that a step reads are looked at.
 const MOST_READS: usize = 8;

@@ -5,8 +5,9 @@ use crate::places::Places;
 use crate::sets_by_fact::SetsByFact;
 use crate::sharpening::Sharpening;
 use crate::step_set::{MOST_PLACES, StepSet};
-use needed_steps::{Fewest, Log, add_reads, target, value};
+use needed_steps::{Fewest, Log};
 use std::alloc::Global;
+use step_facts::{add_reads, target, value};
 use tt_infer::Facts;
 use ttp_model::{Instance, MemoryFault, Step};
 

@@ -1,6 +1,6 @@
 //! Where does each fact stand?
 
-use needed_steps::Fact;
+use step_facts::Fact;
 use ttp_model::Instance;
 
 /// How facts stand one after another: starts, ends, first rounds and late rounds, and then a row of orders for each process.

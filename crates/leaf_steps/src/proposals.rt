@@ -6,6 +6,7 @@ use crate::sharpening::Sharpening;
 use crate::step_set::StepSet;
 use needed_steps::{Fewest, Log};
 use std::alloc::Global;
+use step_facts::Marked;
 use tt_infer::Facts;
 use ttp_model::{Instance, MemoryFault, Step};
 

@@ -1,9 +1,9 @@
 //! What does a step read that compares what is known?
 
-use crate::fact::sender;
 use crate::moment::Moment;
 use crate::needs::Needs;
 use crate::slots::{begin_least, copy_out};
+use step_facts::sender;
 use tt_infer::Facts;
 use ttp_model::Instance;
 

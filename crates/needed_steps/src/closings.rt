@@ -1,9 +1,9 @@
 //! Which closers can be taken of what is known?
 
 use crate::closers::most_carried;
-use crate::fact::{Fact, value};
 use crate::spans::Spans;
 use std::alloc::Global;
+use step_facts::{Fact, value};
 use tt_infer::Facts;
 use ttp_model::{MemoryFault, Step};
 

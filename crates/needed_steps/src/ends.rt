@@ -1,9 +1,9 @@
 //! What does a step read that says when something ends at most?
 
-use crate::fact::link_after;
 use crate::moment::Moment;
 use crate::needs::Needs;
 use crate::slots::{copy_in, copy_out, end_least, least_passage, rounds_arrived, rounds_begun};
+use step_facts::link_after;
 use ttp_model::{Step, has_link};
 
 /// Asks for what a step reads on ends and late rounds, so that it says of its own at most `need`.

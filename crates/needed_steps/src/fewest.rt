@@ -2,12 +2,11 @@
 
 use crate::asking::ask;
 use crate::closings::Closings;
-use crate::fact::{Fact, target};
 use crate::moment::Moment;
 use crate::needs::Needs;
-use crate::values::Values;
 use crate::weights::Weights;
 use std::alloc::Global;
+use step_facts::{Fact, Marked, Values, target};
 use tt_infer::Facts;
 use ttp_model::{Instance, MemoryFault, Step};
 
@@ -50,6 +49,13 @@ pub struct Found {
     pub count: usize,
     /// The closer: none where it is the given one.
     pub closer: Option<Step>,
+}
+
+impl Marked for Fewest {
+    /// Whether the closer needs the step of the log at a place.
+    fn is_marked(&self, place: usize) -> bool {
+        self.marked.get(place) == Some(&true)
+    }
 }
 
 impl Fewest {
@@ -113,11 +119,6 @@ impl Fewest {
             self.light.truncate(most);
         }
         Ok(())
-    }
-
-    /// Whether the step at a place is marked.
-    pub fn is_marked(&self, place: usize) -> bool {
-        self.marked.get(place) == Some(&true)
     }
 
     /// Takes note of the facts of the steps of a log.

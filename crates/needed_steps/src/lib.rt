@@ -1,25 +1,16 @@
-//! What steps are about, and which of them a closer needs.
+//! Which closer needs the fewest steps, where each fact has to be only as sharp as what reads it asks for?
 #![tactic(auto)]
 
 mod asking;
 mod closers;
 mod closings;
 mod ends;
-mod fact;
-mod fact_set;
 mod fewest;
-mod marks;
 mod moment;
 mod needs;
-mod reads;
 mod slots;
 mod spans;
 mod starts;
-mod values;
 mod weights;
 
-pub use fact::{Fact, link_after, link_before, target, value};
-pub use fact_set::FactSet;
 pub use fewest::{Fewest, Found, Log};
-pub use marks::Marks;
-pub use reads::{Reader, add_reads};

@@ -1,7 +1,6 @@
 //! What is known before a step of a log?
 
-use crate::fact::Fact;
-use crate::values::Values;
+use step_facts::{Fact, Values};
 use tt_infer::Facts;
 use ttp_model::Instance;
 

@@ -1,9 +1,7 @@
 //! How sharp has each fact to be?
 
-use crate::fact::Fact;
-use crate::fact_set::FactSet;
-use crate::values::Values;
 use std::alloc::Global;
+use step_facts::{Fact, FactSet, Values};
 use ttp_model::{Instance, MemoryFault};
 
 /// How sharp facts have to be, so that steps say enough which were looked at.

@@ -1,9 +1,9 @@
 //! What does a step read that says when something begins at least?
 
-use crate::fact::{link_before, sender};
 use crate::moment::Moment;
 use crate::needs::Needs;
 use crate::slots::{begin_most, copy_out, least_passage, round_arriving};
+use step_facts::{link_before, sender};
 use ttp_model::Step;
 
 /// Asks for what a step reads on starts and first rounds, so that it says of its own at least `need`.

@@ -1,8 +1,7 @@
 //! How many steps does each fact rest on?
 
-use crate::fact::{Fact, target};
-use crate::reads::{Reader, add_reads};
 use std::alloc::Global;
+use step_facts::{Fact, Reader, add_reads, target};
 use tt_infer::Facts;
 use ttp_model::{Instance, MOST_MESSAGES, MOST_PROCESSES, MemoryFault, Step};
 

@@ -13,7 +13,7 @@ use Rattle.tt_infer.specs.declared.fault.StepFault.{StepFault}
 use Rattle.tt_infer.specs.Answers.{IsStepFault}
 use Rattle.tt_infer.proofs.Sound.{step_is_about}
 use Rattle.tt_infer.proofs.Determined.{fault-not_lawful, IsLawful-determined}
-use Rattle.needed_steps.specs.Targets.{target, known_value}
+use Rattle.step_facts.specs.Targets.{target, known_value}
 use Rattle.path_bounds.specs.Propagation.{LeadSharply}
 use Rattle.path_bounds.specs.Journal.{Journal, Advances, Sharpens, SharpensNothing, slack, slack_of}
 use Rattle.path_bounds.proofs.Targets.{target_is, stays, lowers}

@@ -11,7 +11,7 @@ use Rattle.tt_choice.proofs.Before.{put_same, place_inside, test_of}
 use Rattle.tt_infer.specs.Known.{Known, Fits, bef_of}
 use Rattle.tt_infer.specs.Conclusions.{Conclusion, StartsFrom, EndsUntil, SentFrom, SentBefore, GoesFirst, NothingLeft, IsAbout, sharpened}
 use Rattle.tt_infer.specs.Table.{rule}
-use Rattle.needed_steps.specs.Targets.{fact_of, target, known_value}
+use Rattle.step_facts.specs.Targets.{fact_of, target, known_value}
 use Rattle.path_bounds.specs.Journal.{slack}
 
 -- what a step concludes is about its target

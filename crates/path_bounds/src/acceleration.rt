@@ -2,11 +2,11 @@
 
 ghost use Rattle.path_bounds.specs.Journal.{Advances};
 
-use crate::agenda::Agenda;
 use crate::journal::Journal;
 use crate::opening::{add_slot_steps, opening_steps};
-use needed_steps::target;
 use std::alloc::Global;
+use step_agenda::Agenda;
+use step_facts::target;
 use tt_choice::Decision;
 use tt_infer::Facts;
 use ttp_model::{MemoryFault, Step};

@@ -10,9 +10,9 @@ ghost use Rattle.tt_infer.specs.Facts.{after};
 ghost use Rattle.path_bounds.specs.Journal.{Advances, Sharpens, SharpensNothing, slack_of};
 
 use crate::copies::{push_copies, push_copy};
-use needed_steps::{target, value};
 use std::alloc::Global;
 use std::marker::Model;
+use step_facts::{target, value};
 use tt_choice::{Choice, Decision};
 use tt_infer::Facts;
 use ttp_model::{Instance, MemoryFault, Step};

@@ -2,22 +2,15 @@
 #![tactic(auto)]
 
 mod acceleration;
-mod agenda;
 mod chains;
-mod consequences;
 mod copies;
-mod flags;
 mod goals;
-mod groups;
 mod journal;
-mod network;
 mod opening;
-mod parts;
 mod propagation;
 mod propagator;
 mod reached;
 mod required;
-mod rings;
 mod supposition;
 mod trim;
 

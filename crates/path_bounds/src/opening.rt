@@ -1,8 +1,7 @@
 //! Which steps are tried first?
 
-use crate::flags::{is_up, raise};
-use crate::parts::{receivers, source};
 use std::alloc::Global;
+use step_agenda::{is_up, raise, receivers, source};
 use tt_choice::Decision;
 use tt_infer::Facts;
 use ttp_model::{Instance, MOST_NODES, MOST_PROCESSES, MemoryFault, Step};

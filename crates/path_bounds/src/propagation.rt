@@ -10,12 +10,12 @@ ghost use Rattle.path_bounds.specs.Propagator.{Begins};
 ghost use Rattle.path_bounds.specs.Propagation.{Propagates, IsClosed, IsPlanBelow, FindsPlan};
 
 use crate::acceleration::accelerate;
-use crate::agenda::Agenda;
 use crate::journal::Journal;
 use crate::reached::Reached;
 use crate::required::required_steps;
 use std::alloc::Global;
 use std::mem;
+use step_agenda::Agenda;
 use tt_choice::Choice;
 use tt_infer::Facts;
 use ttp_model::{Instance, MemoryFault, Step};

@@ -13,7 +13,6 @@ ghost use Rattle.path_bounds.specs.Propagation.{IsPlanBelow};
 ghost use Rattle.path_bounds.specs.Propagator.{Begins, FollowsFrom, IsPropagation, IsStarted, Decides, Undoes, IsLog, IsSupposition};
 
 use crate::acceleration::{go_on, suppose};
-use crate::agenda::Agenda;
 use crate::journal::Journal;
 use crate::propagation::{complete, reach};
 use crate::supposition::Supposition;
@@ -22,6 +21,7 @@ use needed_steps::Fewest;
 use std::alloc::Global;
 use std::marker::Model;
 use std::mem;
+use step_agenda::Agenda;
 use tt_choice::{Choice, Decision};
 use tt_infer::Facts;
 use ttp_model::{Instance, Leaf, MemoryFault, Step};

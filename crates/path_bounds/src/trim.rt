@@ -7,8 +7,9 @@ ghost use Rattle.path_bounds.specs.Journal.{Advances};
 
 use crate::copies::all_copied;
 use crate::journal::Journal;
-use needed_steps::{Fewest, Log, Marks};
+use needed_steps::{Fewest, Log};
 use std::alloc::Global;
+use step_facts::{Marked, Marks};
 use tt_choice::Choice;
 use tt_infer::Facts;
 use ttp_model::{Instance, Leaf, MemoryFault, Step, Steps};
@@ -104,26 +105,9 @@ fn try_closing(
 ) -> Result<(), MemoryFault>
     ensures { Advances journal.old journal.new }
 {
-    try_needed(alloc, journal, steps, fewest)?;
+    try_marked(alloc, journal, steps, fewest)?;
     if let Some(step) = closer.as_ref().or(steps.last()) {
         journal.append_copy(alloc, step)?;
-    }
-    Ok(())
-}
-
-/// Tries the steps that are marked, one after another.
-fn try_needed(
-    alloc: Global,
-    journal: &mut Journal,
-    steps: &[Step],
-    fewest: &Fewest,
-) -> Result<(), MemoryFault>
-    ensures { Advances journal.old journal.new }
-{
-    'tries: for (k, step) in steps.iter().enumerate() {
-        if fewest.is_marked(k) {
-            journal.append_copy(alloc, step)?;
-        }
     }
     Ok(())
 }
@@ -164,11 +148,11 @@ fn replayed(
 }
 
 /// Tries the steps that are marked, one after another.
-fn try_marked(
+fn try_marked<M: Marked>(
     alloc: Global,
     journal: &mut Journal,
     steps: &[Step],
-    marks: &Marks,
+    marks: &M,
 ) -> Result<(), MemoryFault>
     ensures { Advances journal.old journal.new }
 {

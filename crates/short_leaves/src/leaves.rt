@@ -5,8 +5,9 @@ ghost use Rattle.tt_choice.specs.Choice.{IsChoice};
 
 use dropped_decisions::{copy_of_leaf, copy_of_step};
 use leaf_steps::{Proposal, Proposals};
-use needed_steps::{Log, target, value};
+use needed_steps::Log;
 use std::alloc::Global;
+use step_facts::{target, value};
 use tt_choice::Choice;
 use tt_infer::Facts;
 use ttp_model::{Instance, Leaf, MemoryFault, Step, Steps};

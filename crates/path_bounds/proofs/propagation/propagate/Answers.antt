@@ -1,4 +1,5 @@
-use Rattle.std.proofs.Common.{rules, arith, refl, ap, sym, ◌∙◌, Ok, IsFalse}
+use Rattle.std.proofs.Common.{arith, refl, ap, sym, ◌∙◌, Ok, IsFalse}
+use Rattle.std.proofs.lemmas.Result.{err_from_is_err_and}
 use Rattle.tt_infer.specs.Facts.{Facts}
 use Rattle.path_bounds.specs.declared.reached.Reached.TheVariants.{Closed, At}
 use Rattle.path_bounds.specs.Journal.{Journal}
@@ -11,7 +12,9 @@ reach-done-requires-clause-begins c =
     rw first refl
 
 pub returns-in_err-done-clause-appended : goal.returns-in_err-done-clause-appended
-returns-in_err-done-clause-appended c = appended_of c.args.instance.now c.args.choice.now c.processes-processes.ensures.instance c.requires c.args.goal c.args.steps.now.items c.into_parts-facts.result.1.items c.new-journal.result c.reach-done.new.journal c.into_parts-facts.result.0 c.from_residual-in_err-done.result (c.new-journal.ensures ∙ rw (c.in_ok-first.ensures, c.replace-before.ensures.value) refl) c.reach-done.ensures.advances c.into_parts-facts.ensures.facts c.into_parts-facts.ensures.steps (search rules)
+returns-in_err-done-clause-appended c =
+    let failed = err_from_is_err_and c.from_residual-in_err-done.result c.from_residual-in_err-done.ensures.1 in
+    appended_of c.args.instance.now c.args.choice.now c.processes-processes.ensures.instance c.requires c.args.goal c.args.steps.now.items c.into_parts-facts.result.1.items c.new-journal.result c.reach-done.new.journal c.into_parts-facts.result.0 c.from_residual-in_err-done.result (c.new-journal.ensures ∙ rw (c.in_ok-first.ensures, c.replace-before.ensures.value) refl) c.reach-done.ensures.advances c.into_parts-facts.ensures.facts c.into_parts-facts.ensures.steps (rw failed.1 tt)
 
 pub returns-then-closed-clause-appended : goal.returns-then-closed-clause-appended
 returns-then-closed-clause-appended c = appended_of c.args.instance.now c.args.choice.now c.processes-processes.ensures.instance c.requires c.args.goal c.args.steps.now.items c.into_parts-facts.result.1.items c.new-journal.result c.reach-done.new.journal c.into_parts-facts.result.0 (Ok Closed) (c.new-journal.ensures ∙ rw (c.in_ok-first.ensures, c.replace-before.ensures.value) refl) c.reach-done.ensures.advances c.into_parts-facts.ensures.facts c.into_parts-facts.ensures.steps (sym c.closed.ensures.value ∙ c.if-closed.true)

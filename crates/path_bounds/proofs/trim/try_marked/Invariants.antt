@@ -2,4 +2,4 @@ use Rattle.path_bounds.specs.Journal.{Advances}
 use Rattle.path_bounds.proofs.trim.try_marked.Given as goal
 
 abbrev pub invariant-tries : goal.invariant-tries
-invariant-tries l = Advances l.initial.journal l.journal
+invariant-tries g l = Advances l.initial.journal l.journal

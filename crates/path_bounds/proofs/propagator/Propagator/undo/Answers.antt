@@ -1,4 +1,4 @@
-use Rattle.std.proofs.Common.{List, ◌∷◌, ◌++◌, [], arith, refl, sym, ap, ◌∙◌}
+use Rattle.std.proofs.Common.{◌∷◌, ◌++◌, [], arith, refl, sym, ap, ◌∙◌}
 use Rattle.path_bounds.specs.Journal.{Journal}
 use Rattle.path_bounds.proofs.KeptLogs.{undone_of, undoes_of}
 use Rattle.path_bounds.proofs.propagator.Propagator.undo.Goals as goal

@@ -7,6 +7,12 @@ use std::alloc::Global;
 use tt_infer::Facts;
 use ttp_model::{Instance, MemoryFault, Step};
 
+/// Steps one after another, of which some are marked.
+pub trait Marked {
+    /// Whether the step at a place is marked.
+    fn is_marked(&self, place: usize) -> bool;
+}
+
 /// Marks at steps, and the facts that the marked ones read, in memory that is used again.
 #[derive(Drop)]
 pub struct Marks {
@@ -52,9 +58,11 @@ impl Marks {
         }
         count
     }
+}
 
-    /// Whether the step at a place is marked.
-    pub fn is_marked(&self, place: usize) -> bool {
+impl Marked for Marks {
+    /// Whether the closer needs the step at a place.
+    fn is_marked(&self, place: usize) -> bool {
         self.marked.get(place) == Some(&true)
     }
 }

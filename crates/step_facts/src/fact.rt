@@ -2,7 +2,7 @@
 
 ghost use Rattle.std.specs.Prelude.{◌≡◌};
 ghost use Rattle.tt_infer.specs.Known.{es_of, le_of, lo_of, top_of};
-ghost use Rattle.needed_steps.specs.Targets.{target, known_value};
+ghost use Rattle.step_facts.specs.Targets.{target, known_value};
 
 use tt_infer::Facts;
 use ttp_model::{Instance, Step};

@@ -3,8 +3,8 @@
 use crate::flags::{is_up, lower, raise};
 use crate::network::Network;
 use crate::parts::{node, receivers};
-use needed_steps::link_after;
 use std::alloc::Global;
+use step_facts::link_after;
 use tt_infer::Facts;
 use ttp_model::{MOST_PROCESSES, MemoryFault, Ring, Step};
 

@@ -2,7 +2,7 @@
 
 use crate::network::Network;
 use crate::parts::{node, receivers, wcet};
-use needed_steps::{Fact, link_after, link_before, value};
+use step_facts::{Fact, link_after, link_before, value};
 use tt_infer::Facts;
 use ttp_model::{MemoryFault, Step};
 
