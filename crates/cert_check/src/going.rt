@@ -28,7 +28,7 @@ const FIRST_TOGETHER: usize = 64;
 const MOST_ALONE: usize = 256;
 
 /// How many leaves several threads judge together at most.
-const MOST_SHARED: usize = 1_024;
+const MOST_SHARED: usize = 512;
 
 /// How large the memory of a text may be that is kept for others.
 const MOST_KEPT: usize = 4_096;
@@ -46,7 +46,7 @@ pub enum Stop {
 
 /// How many leaves are judged together at most, where so many other threads judge them too. Where there is none, more of them would leave
 /// the processor's own memory before they are judged. Where there are some, most leaves go to another processor anyhow, and each batch
-/// costs a meeting of all threads.
+/// costs a meeting of all threads; but a small certificate would spend its time on memory that is touched for the first time.
 fn most_together(others: usize) -> usize {
     if others == 0 {
         return MOST_ALONE;
