@@ -12,6 +12,7 @@ pub mod Whole
 pub mod Proving
 pub mod Sound
 pub mod Shown
+pub mod OwnCertificates
 pub mod Searched
 pub mod Standing
 pub mod Searching

@@ -74,6 +74,12 @@ cert_of (Optimal plan ticks cert) = cert
 cert_of (Infeasible cert) = cert
 cert_of (Stopped why low best cert) = cert
 
+-- the answer with this certificate in place of its own; that of a search that was stopped keeps its own
+abbrev pub certified_by : Cert → Outcome → Outcome
+certified_by cert (Optimal plan ticks own) = Optimal plan ticks cert
+certified_by cert (Infeasible own) = Infeasible cert
+certified_by cert (Stopped why low best own) = Stopped why low best own
+
 -- An answer: its certificate proves its bound by a tree of at most as many branches as the budget, and
 -- the answer says what that bound shows.
 pub record IsOutcome (i : Instance) (options : Options) (outcome : Outcome) : Type 0 where

@@ -1,10 +1,11 @@
 //! Which branches can an answer's certificate do without?
 
 ghost use Rattle.std.specs.Prelude.{◌≡◌, ◌≤◌, IfOk, IfSome, length};
+ghost use Rattle.certificate.specs.Cert.{Cert};
 ghost use Rattle.cert_check.specs.Proofs.{Proves};
 ghost use Rattle.dropped_decisions.specs.Branches.{branches};
 ghost use Rattle.planner.specs.declared.outcome.Options.{Options};
-ghost use Rattle.planner.specs.Answers.{IsOutcome, limit_of};
+ghost use Rattle.planner.specs.Answers.{certified_by, IsOutcome, limit_of};
 ghost use Rattle.planner.specs.Searched.{IsFound};
 
 use crate::outcome::Outcome;
@@ -53,7 +54,8 @@ pub fn lean_proof(alloc: Global, instance: &Instance, search: &Search) -> Option
 /// search that was stopped counts the nodes of its tree, so that one stays as it is.
 pub fn leaner(alloc: Global, instance: &Instance, outcome: Outcome) -> Outcome
     requires { (options : Options) × IsOutcome instance.now options outcome }
-    ensures { (options : Options) → IsOutcome instance.now options outcome → IsOutcome instance.now options result }
+    ensures answer { (options : Options) → IsOutcome instance.now options outcome → IsOutcome instance.now options result }
+    ensures same { (cert : Cert) × (result ≡ certified_by cert outcome) }
 {
     match outcome {
         Outcome::Optimal { plan, delay, cert } => Outcome::Optimal {

@@ -1,10 +1,11 @@
 //! When is an answer's certificate worth to be made shorter?
 
 ghost use Rattle.std.specs.Prelude.{◌≡◌, ◌≤◌};
+ghost use Rattle.certificate.specs.Cert.{Cert};
 ghost use Rattle.cert_check.specs.Proofs.{Proves};
 ghost use Rattle.dropped_decisions.specs.Branches.{branches};
 ghost use Rattle.planner.specs.declared.outcome.Options.{Options};
-ghost use Rattle.planner.specs.Answers.{IsOutcome, Shows};
+ghost use Rattle.planner.specs.Answers.{certified_by, IsOutcome, Shows};
 
 use crate::outcome::{Options, Outcome};
 use certificate::{Cert, Node};
@@ -60,7 +61,8 @@ fn shorter_answer<R: Threads + Sync>(
     outcome: Outcome,
 ) -> Outcome
     requires { (options : Options) × IsOutcome instance.now options outcome }
-    ensures { (options : Options) → IsOutcome instance.now options outcome → IsOutcome instance.now options result }
+    ensures answer { (options : Options) → IsOutcome instance.now options outcome → IsOutcome instance.now options result }
+    ensures same { (cert : Cert) × (result ≡ certified_by cert outcome) }
 {
     match outcome {
         Outcome::Optimal { plan, delay, cert } => Outcome::Optimal {
@@ -87,6 +89,7 @@ pub fn with_short_certificate<R: Threads + Sync>(
     requires { IsOutcome instance.now options outcome }
     ensures answer { IsOutcome instance.now options result }
     ensures shows { Shows instance.now result }
+    ensures same { (cert : Cert) × (result ≡ certified_by cert outcome) }
 {
     let _nodes = instance.nodes();
     shorter_answer(rt, alloc, instance, options.workers, outcome)
