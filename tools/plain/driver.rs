@@ -190,8 +190,6 @@ fn tell_solved(instance: &Instance, budget: u64, file: &str) {
     let options = Options { workers: 1, budget };
     let outcome = planner::solve_with(&Runtime, Global, instance, options, &gate).unwrap();
     let solved = Instant::now();
-    let outcome = planner::with_short_certificate(&Runtime, Global, instance, options, outcome);
-    let shortened = Instant::now();
     let (delay, cert) = said(&outcome);
     let text = certificate::print(Global, cert).unwrap();
     let written = Instant::now();
@@ -203,10 +201,10 @@ fn tell_solved(instance: &Instance, budget: u64, file: &str) {
         seconds(began, left),
         seconds(left, solved),
     );
-    let (short, writing) = (seconds(solved, shortened), seconds(shortened, written));
+    let writing = seconds(solved, written);
     let all = seconds(from, written);
     println!(
-        "delay={delay} worked={worked} nodes={nodes} steps={steps} bytes={bytes} seconds={all:.2} good={good:.2} search={search:.2} lean={lean:.2} short={short:.2} write={writing:.2}"
+        "delay={delay} worked={worked} nodes={nodes} steps={steps} bytes={bytes} seconds={all:.2} good={good:.2} search={search:.2} lean={lean:.2} write={writing:.2}"
     );
     if file != "-" {
         std::fs::write(file, text.as_slice()).expect("the certificate was not written");

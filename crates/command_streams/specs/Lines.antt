@@ -162,10 +162,6 @@ certificate_line certificate.OutOfMemory = codes "memory"
 abbrev pub search_line : SearchFault → List ℕ
 search_line search.Memory = codes "memory"
 search_line search.Thread = codes "solve thread"
-search_line search.DoubledName = codes "solve P1"
-search_line search.MissingName = codes "solve P2"
-search_line search.StrayName = codes "solve P3"
-search_line search.LowGoal = codes "solve P4"
 
 -- the word for what could not be read
 abbrev pub source_word : Source → List ℕ

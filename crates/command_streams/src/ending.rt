@@ -33,14 +33,6 @@ pub enum SearchFault {
     Memory,
     /// When a thread could not be started.
     Thread,
-    /// When a name stands at two pieces of the search.
-    DoubledName,
-    /// When the root or a child of a branch is missing among them.
-    MissingName,
-    /// When a name is not the root's, and no branch has it as a child.
-    StrayName,
-    /// When a leaf's goal is below the bound.
-    LowGoal,
 }
 
 /// Why a command was refused.

@@ -275,10 +275,6 @@ impl fmt::Display for SearchLine {
         match self.0 {
             SearchFault::Memory => write!(f, "memory"),
             SearchFault::Thread => write!(f, "solve thread"),
-            SearchFault::DoubledName => write!(f, "solve P1"),
-            SearchFault::MissingName => write!(f, "solve P2"),
-            SearchFault::StrayName => write!(f, "solve P3"),
-            SearchFault::LowGoal => write!(f, "solve P4"),
         }
     }
 }

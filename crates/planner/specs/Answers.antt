@@ -16,8 +16,6 @@ use Rattle.pool_worker.specs.Best.{IsPlanFound}
 use Rattle.planner.specs.declared.outcome.Options.{Options}
 use Rattle.planner.specs.declared.outcome.Outcome.{Outcome}
 use Rattle.planner.specs.declared.outcome.Outcome.TheVariants.{Optimal, Infeasible, Stopped}
-use Rattle.planner.specs.declared.outcome.SolveFault.{SolveFault}
-use Rattle.planner.specs.declared.outcome.SolveFault.TheVariants as refused
 use Rattle.planner.specs.declared.outcome.Why.{Why}
 use Rattle.planner.specs.declared.outcome.Why.TheVariants.{Budget, Memory}
 use Rattle.planner.specs.Gathering.{HasGoal}
@@ -86,10 +84,6 @@ pub record IsOutcome (i : Instance) (options : Options) (outcome : Outcome) : Ty
   pub proves : Proves i (cert_of outcome)
   pub within : branches (cert_of outcome).tree ≤ options.budget
   pub says : Says i options.budget outcome
-
--- memory was refused, or a thread
-abbrev pub IsRefusal : SolveFault → Type 0
-IsRefusal fault = (fault ≡ refused.Memory) ⊎ (fault ≡ refused.Thread)
 
 -- what a caller learns: a least plan, no plan, or bounds on both sides
 abbrev pub IsBestPlan : Instance → Option (Plan × ℕ) → Type 0

@@ -5,7 +5,7 @@ ghost use Rattle.ttp_model.specs.Rules.{IsInstance};
 ghost use Rattle.branch_tree.specs.Task.{root_task, IsTask};
 ghost use Rattle.incumbent.specs.Watch.{first_value, offers, out_count, IsOpening, IsWatchOf};
 ghost use Rattle.steal_pool.specs.Hand.{all_pushed, all_taken, IsPool};
-ghost use Rattle.planner.specs.Answers.{IsRefusal, limit_of};
+ghost use Rattle.planner.specs.Answers.{limit_of};
 ghost use Rattle.planner.specs.Searched.{IsFound};
 ghost use Rattle.planner.specs.Searching.{IsSearching};
 ghost use Rattle.planner.specs.Crew.{budget_of, hands_of, told, Gathers, HasLeft, HaveEnded, IsJob};
@@ -162,7 +162,6 @@ pub fn searched<J: Searched + Send + Sync, G: Gate + Sync, R: Threads + Wait>(
     requires found { IsFound instance.now first }
     ensures searching { IfOk result (λ s. IsSearching instance.now s.pieces.items s.tasks.items s.best) }
     ensures within { IfOk result (λ s. length s.pieces.items ≤ options.budget) }
-    ensures err { IfErr result IsRefusal }
 {
     let _nodes = instance.nodes();
     let hands = planted::<J>(alloc, instance, options.workers.max(1) as usize)?;

@@ -7,7 +7,6 @@ ghost use Rattle.incumbent.specs.Watch.{IsOpening, IsWatchOf};
 ghost use Rattle.steal_pool.specs.declared.hand.Hand.{Hand};
 ghost use Rattle.planner.specs.declared.crew.Job.{Job};
 ghost use Rattle.planner.specs.declared.outcome.SolveFault.TheVariants as fault;
-ghost use Rattle.planner.specs.Answers.{IsRefusal};
 ghost use Rattle.planner.specs.Searched.{IsFound};
 ghost use Rattle.planner.specs.Crew.{IsBetter, IsReportOfJob, AreReportsOf, IsJob, hands_of, budget_of, tasks_in, Gathers};
 
@@ -237,7 +236,6 @@ pub fn run_all<J: Searched + Send + Sync, G: Gate + Sync, R: Threads + Wait>(
     requires of { instance.now ≡ J.instance }
     requires jobs { All (IsJob word.now) jobs.items }
     ensures reports { IfOk result (λ all. AreReportsOf J.instance jobs.items all.items) }
-    ensures err { IfErr result IsRefusal }
 {
     let Ok(reports) = Vec::with_capacity(alloc, jobs.len()) else {
         return Err(SolveFault::Memory);
@@ -248,7 +246,6 @@ pub fn run_all<J: Searched + Send + Sync, G: Gate + Sync, R: Threads + Wait>(
         move |scope| -> Result<Vec<Report<J>>, SolveFault>
             requires { (instance.now ≡ J.instance) × All (IsJob word.now) jobs.items × (reports.items ≡ []) × (vec_len jobs ≤ vec_capacity reports) }
             ensures reports { IfOk result (λ all. AreReportsOf J.instance jobs.items all.items) }
-            ensures err { IfErr result IsRefusal }
         { start_all(rt, scope, alloc, instance, word, gate, jobs, reports) },
     )
 }

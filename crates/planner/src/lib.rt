@@ -13,7 +13,6 @@ mod names;
 mod outcome;
 mod reserve;
 mod search;
-mod shorter;
 mod solving;
 
 pub use fault::GatherFault;
@@ -23,5 +22,4 @@ pub use laws::{
 };
 pub use outcome::{Options, Outcome, SolveFault, Why};
 pub use pool_worker::{FreeGate, Gate};
-pub use shorter::with_short_certificate;
 pub use solving::{solve, solve_with};

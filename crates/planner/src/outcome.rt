@@ -3,7 +3,6 @@
 ghost use Rattle.std.specs.Prelude.{◌≡◌};
 ghost use Rattle.planner.specs.declared.outcome.SolveFault.TheVariants as fault;
 
-use crate::fault::GatherFault;
 use certificate::Cert;
 use thiserror::Error;
 use ttp_model::{MemoryFault, Plan};
@@ -57,9 +56,6 @@ pub enum SolveFault {
     /// A thread could not be started.
     #[error("a thread could not be started")]
     Thread,
-    /// The pieces of the search are no tree.
-    #[error("{0}")]
-    Gather(GatherFault),
 }
 
 impl From<MemoryFault> for SolveFault {

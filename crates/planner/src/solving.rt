@@ -6,7 +6,7 @@ ghost use Rattle.branch_tree.specs.Account.{IsWholeTree};
 ghost use Rattle.cert_check.specs.Proofs.{Proves};
 ghost use Rattle.dropped_decisions.specs.Branches.{branches};
 ghost use Rattle.planner.specs.declared.outcome.SolveFault.TheVariants as fault;
-ghost use Rattle.planner.specs.Answers.{IsOutcome, IsRefusal, Shows, limit_of};
+ghost use Rattle.planner.specs.Answers.{IsOutcome, Shows, limit_of};
 ghost use Rattle.planner.specs.Gathering.{AreShallow, HaveGoals, IsGathered};
 ghost use Rattle.planner.specs.Searched.{IsFound, IsWorkedOut, IsAnswerOf};
 ghost use Rattle.planner.specs.Searching.{IsSearching};
@@ -168,7 +168,6 @@ pub fn solve_with<R: Threads + Wait + Sync, G: Gate + Sync>(
 ) -> Result<Outcome, SolveFault>
     ensures answer { IfOk result (IsOutcome instance.now options) }
     ensures shows { IfOk result (Shows instance.now) }
-    ensures err { IfErr result IsRefusal }
 {
     let _nodes = instance.nodes();
     let reserve = Reserve::begin(alloc)?;
@@ -194,7 +193,6 @@ pub fn solve<R: Threads + Wait + Sync>(
 ) -> Result<Outcome, SolveFault>
     ensures answer { IfOk result (IsOutcome instance.now options) }
     ensures shows { IfOk result (Shows instance.now) }
-    ensures err { IfErr result IsRefusal }
 {
     solve_with(rt, alloc, instance, options, &FreeGate)
 }

@@ -51,10 +51,6 @@ fn wrong_line(alloc: Global) -> Option<usize> {
             6,
         ),
         (Fault::Search(SearchFault::Thread), "solve thread\n", 7),
-        (Fault::Search(SearchFault::DoubledName), "solve P1\n", 7),
-        (Fault::Search(SearchFault::MissingName), "solve P2\n", 7),
-        (Fault::Search(SearchFault::StrayName), "solve P3\n", 7),
-        (Fault::Search(SearchFault::LowGoal), "solve P4\n", 7),
     ];
     for (k, (fault, line, status)) in rows.into_iter().enumerate() {
         let told = Told::at(alloc, &End::Refused(fault), Vec::new(alloc));

@@ -30,7 +30,6 @@ mod refusals;
 #[cfg(test)]
 mod searches;
 #[cfg(test)]
-mod steps_that_go;
 #[cfg(test)]
 mod subtrees;
 #[cfg(test)]

@@ -13,7 +13,6 @@ use Rattle.planner.specs.declared.outcome.Outcome.{Outcome}
 use Rattle.planner.specs.declared.outcome.Outcome.TheVariants as answer
 use Rattle.planner.specs.declared.outcome.Why.{Why}
 use Rattle.planner.specs.declared.outcome.Why.TheVariants as why
-use Rattle.planner.specs.declared.fault.GatherFault.TheVariants as gathering
 use Rattle.planner.specs.declared.outcome.SolveFault.{SolveFault}
 use Rattle.planner.specs.declared.outcome.SolveFault.TheVariants as solving
 use Rattle.planner.specs.Answers as answers
@@ -40,11 +39,6 @@ end_told (answer.Stopped why low best cert) = Stopped
 abbrev pub fault_of : SolveFault → SearchFault
 fault_of solving.Memory = search.Memory
 fault_of solving.Thread = search.Thread
-fault_of (solving.Gather gathering.DoubledName) = search.DoubledName
-fault_of (solving.Gather gathering.MissingName) = search.MissingName
-fault_of (solving.Gather gathering.StrayName) = search.StrayName
-fault_of (solving.Gather gathering.LowGoal) = search.LowGoal
-fault_of (solving.Gather gathering.OutOfMemory) = search.Memory
 
 -- the word for why a search stopped
 abbrev pub why_word : Why → List ℕ

@@ -3,15 +3,13 @@
 ghost use Rattle.std.specs.Prelude.{◌≡◌, ◌+◌, None, true, false, is_some, string_bytes, IfErr, IfOk, IfSome, MatchResult};
 ghost use Rattle.command_streams.specs.Limits.{instance_limit};
 ghost use Rattle.command_streams.specs.Streams.{TakesAtMost};
-ghost use Rattle.planner.specs.Answers.{cert_of, IsBestPlan, IsOutcome, IsRefusal, Shows};
+ghost use Rattle.planner.specs.Answers.{cert_of, IsBestPlan, IsOutcome, Shows};
 ghost use Rattle.solve_command.specs.Solved.{best_word, end_told, fault_of, held, left, stopped_line, why_word, IsAnswerText, IsCertifying, IsSolveAnswer, IsSolved, IsStoppedText, IsUnsolved, IsWritingTo};
 
 use crate::progress::Follower;
 use certificate::Cert;
 use command_streams::{End, Fault, SearchFault, Sink, read_instance, write_text};
-use planner::{
-    FreeGate, GatherFault, Options, Outcome, SolveFault, Why, solve_with, with_short_certificate,
-};
+use planner::{FreeGate, Options, Outcome, SolveFault, Why, solve_with};
 use std::alloc::{AllocError, Global};
 use std::fmt;
 use std::io::{Read, Write};
@@ -141,47 +139,33 @@ fn fault_of(fault: SolveFault) -> SearchFault
     match fault {
         SolveFault::Memory => SearchFault::Memory,
         SolveFault::Thread => SearchFault::Thread,
-        SolveFault::Gather(GatherFault::DoubledName) => SearchFault::DoubledName,
-        SolveFault::Gather(GatherFault::MissingName) => SearchFault::MissingName,
-        SolveFault::Gather(GatherFault::StrayName) => SearchFault::StrayName,
-        SolveFault::Gather(GatherFault::LowGoal) => SearchFault::LowGoal,
-        SolveFault::Gather(GatherFault::OutOfMemory) => SearchFault::Memory,
     }
 }
 
-/// Searches an instance, and tells a follower of it. A certificate that is asked for is made short.
+/// Searches an instance, and tells a follower of it.
 fn searched<R: Threads + Wait + Sync, G: Follower + Sync>(
     rt: &R,
     alloc: Global,
     instance: &Instance,
     options: Options,
     follower: &G,
-    is_certified: bool,
 ) -> Result<Outcome, SolveFault>
     ensures answer { IfOk result (IsOutcome instance.now options) }
     ensures shows { IfOk result (Shows instance.now) }
-    ensures err { IfErr result IsRefusal }
 {
     follower.begin(alloc, instance);
     let searched = solve_with(rt, alloc, instance, options, follower);
     follower.end();
-    match searched {
-        Ok(outcome) if is_certified => {
-            Ok(with_short_certificate(rt, alloc, instance, options, outcome))
-        }
-        Ok(outcome) => Ok(outcome),
-        Err(fault) => Err(fault),
-    }
+    searched
 }
 
-/// Searches the instance that a reader's bytes state, and makes the answer's text. A certificate that is asked for is made short.
+/// Searches the instance that a reader's bytes state, and makes the answer's text.
 fn solved_of_reader<R: Threads + Wait + Sync, G: Follower + Sync, I: Read>(
     rt: &R,
     alloc: Global,
     instance: &mut I,
     options: Options,
     follower: &G,
-    is_certified: bool,
 ) -> Result<Solved, Fault>
     ensures judged { IfSome (I.remaining instance.old) (λ bytes. MatchResult result
         (IsSolved bytes options)
@@ -189,7 +173,7 @@ fn solved_of_reader<R: Threads + Wait + Sync, G: Follower + Sync, I: Read>(
     ensures most { TakesAtMost (instance_limit + 1) (I.remaining instance.old) (I.remaining instance.new) }
 {
     let instance = read_instance(alloc, instance)?;
-    let outcome = match searched(rt, alloc, &instance, options, follower, is_certified) {
+    let outcome = match searched(rt, alloc, &instance, options, follower) {
         Ok(outcome) => outcome,
         Err(fault) => return Err(Fault::Search(fault_of(fault))),
     };
@@ -241,7 +225,7 @@ fn solve_alone<R: Threads + Wait + Sync, G: Follower + Sync, I: Read, W: Write>(
         IsSolveAnswer bytes options false None None (W.contents out.old) (W.contents out.new) result) }
     ensures most { TakesAtMost (instance_limit + 1) (I.remaining instance.old) (I.remaining instance.new) }
 {
-    match solved_of_reader(rt, alloc, instance, options, follower, false) {
+    match solved_of_reader(rt, alloc, instance, options, follower) {
         Ok(solved) => write_answer(&solved, out),
         Err(fault) => End::Refused(fault),
     }
@@ -263,7 +247,7 @@ fn solve_certified<R: Threads + Wait + Sync, G: Follower + Sync, I: Read, C: Wri
         (W.contents out.old) (W.contents out.new) result) }
     ensures most { TakesAtMost (instance_limit + 1) (I.remaining instance.old) (I.remaining instance.new) }
 {
-    let solved = match solved_of_reader(rt, alloc, instance, options, follower, true) {
+    let solved = match solved_of_reader(rt, alloc, instance, options, follower) {
         Ok(solved) => solved,
         Err(fault) => return End::Refused(fault),
     };

@@ -11,7 +11,7 @@ use Rattle.ttp_model.specs.Instance.{Instance}
 use Rattle.ttp_model.proofs.Ranges.{range_more}
 use Rattle.tt_choice.specs.declared.decision.Decision.TheVariants as decided
 use Rattle.tt_choice.specs.Choice.{Choice, IsChoice}
-use Rattle.tt_choice.specs.Branches.{is_placed, unplaced, place_next, IsOpen, children, child, child_choices}
+use Rattle.tt_choice.specs.Branches.{is_placed, unplaced, IsOpen, children, child, child_choices}
 use Rattle.tt_choice.specs.Decisions.{decisions_of}
 use Rattle.tt_choice.proofs.Children.{IsChoice-child}
 
@@ -35,11 +35,7 @@ next_more g c n new = rw (passing_more (λ m. not (is_placed c m)) n, new) (sym 
 pub next_same : {X : Type 0} (g : ℕ → X) (c : Choice) (n : ℕ) → is_placed c n ≡ true → map g (filter (λ m. not (is_placed c m)) (range_with_len 0 n)) ≡ map g (filter (λ m. not (is_placed c m)) (range_with_len 0 (n + 1)))
 next_same g c n placed = rw (passing_more (λ m. not (is_placed c m)) n, placed) (grind (arith, common_steps))
 
--- the unplaced nodes put next are the children of a place
-pub placed_each : (i : Instance) (c : Choice) → map (place_next c) (unplaced i c) ≡ child_choices i c Place
-placed_each i c = sym (each_again (place_next c) (unplaced i c))
-
--- and as decisions those of a place
+-- the unplaced nodes put next are the decisions of a place
 pub place_each : (i : Instance) (c : Choice) → map decided.Place (unplaced i c) ≡ decisions_of i c Place
 place_each i c = sym (each_again decided.Place (unplaced i c))
 

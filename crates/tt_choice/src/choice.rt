@@ -8,7 +8,7 @@ ghost use Rattle.tt_choice.specs.Choice.{IsChoice, IsIn, bare, fixed_cap, is_bef
 ghost use Rattle.tt_choice.specs.Branches.{open_choice, root_choice};
 
 mod changes;
-mod children;
+mod decisions;
 mod extremes;
 mod questions;
 mod trail;
