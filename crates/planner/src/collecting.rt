@@ -23,6 +23,7 @@ use std::sync::Wait;
 use std::thread::Threads;
 use steal_pool::{Hand, Searched, drain, pool};
 use ttp_model::{Instance, MemoryFault, Plan};
+use used_decisions::Manner;
 
 /// A pool whose first hand has the whole tree.
 fn planted<J: Searched>(
@@ -155,6 +156,7 @@ pub fn searched<J: Searched + Send + Sync, G: Gate + Sync, R: Threads + Wait>(
     alloc: Global,
     instance: &Instance,
     options: Options,
+    manner: Manner,
     first: Option<(Plan, u64)>,
     gate: &G,
 ) -> Result<Search, SolveFault>
@@ -171,7 +173,7 @@ pub fn searched<J: Searched + Send + Sync, G: Gate + Sync, R: Threads + Wait>(
     let jobs = deal(alloc, &word, &mut opening, hands, options.budget)?;
     let crew = Crew::begin(alloc, jobs.len(), opening, first)?;
     let reserve = Reserve::begin(alloc)?;
-    let reports = run_all(rt, alloc, instance, &word, gate, jobs)?;
+    let reports = run_all(rt, alloc, instance, &word, gate, manner, jobs)?;
     reserve.give_back();
     let crew = crew.add_all(&word, reports)?;
     let search = collected(word, crew)?;

@@ -15,7 +15,7 @@ use crate::outcome::SolveFault;
 use branch_tree::{Piece, Task};
 use certificate::Node;
 use incumbent::{Incumbent, Watch};
-use pool_worker::{Gate, Report, Rest, run_worker};
+use pool_worker::{Gate, Report, Rest, run_worker_in};
 use std::alloc::Global;
 use std::marker::{Send, Sync};
 use std::snapshot::Snapshot;
@@ -24,6 +24,7 @@ use std::thread;
 use std::thread::{Promise, Scope, Threads};
 use steal_pool::{Hand, Searched};
 use ttp_model::{Instance, MemoryFault, Plan};
+use used_decisions::Manner;
 
 /// What a worker begins with.
 #[derive(Drop)]
@@ -49,6 +50,7 @@ fn done<J: Searched, G: Gate>(
     instance: &Instance,
     word: &Incumbent,
     gate: &G,
+    manner: Manner,
     job: Job<J>,
 ) -> Report<J>
     requires of { instance.now ≡ J.instance }
@@ -61,7 +63,9 @@ fn done<J: Searched, G: Gate>(
         budget,
         workers,
     } = job;
-    run_worker(alloc, instance, hand, word, watch, budget, workers, gate)
+    run_worker_in(
+        alloc, instance, hand, word, watch, budget, workers, manner, gate,
+    )
 }
 
 /// The better of two plans with their delays, where there is one.
@@ -191,6 +195,7 @@ fn start_all<'s, E, J: Searched + Send + Sync + 's, G: Gate + Sync, R: Threads>(
     instance: &'s Instance,
     word: &'s Incumbent,
     gate: &'s G,
+    manner: Manner,
     mut jobs: Vec<Job<J>>,
     reports: Vec<Report<J>>,
 ) -> Result<Vec<Report<J>>, SolveFault>
@@ -212,11 +217,13 @@ fn start_all<'s, E, J: Searched + Send + Sync + 's, G: Gate + Sync, R: Threads>(
         move || -> Report<J>
             requires { (instance.now ≡ J.instance) × IsJob word.now job }
             ensures { IsReportOfJob J.instance job result }
-        { done(alloc, instance, word, gate, job) },
+        { done(alloc, instance, word, gate, manner, job) },
     ) else {
         return Err(SolveFault::Thread);
     };
-    let others = start_all(rt, scope, alloc, instance, word, gate, jobs, reports);
+    let others = start_all(
+        rt, scope, alloc, instance, word, gate, manner, jobs, reports,
+    );
     let report = child.join(rt);
     let mut all = others?;
     all.push_reserved(report);
@@ -231,6 +238,7 @@ pub fn run_all<J: Searched + Send + Sync, G: Gate + Sync, R: Threads + Wait>(
     instance: &Instance,
     word: &Incumbent,
     gate: &G,
+    manner: Manner,
     jobs: Vec<Job<J>>,
 ) -> Result<Vec<Report<J>>, SolveFault>
     requires of { instance.now ≡ J.instance }
@@ -246,6 +254,10 @@ pub fn run_all<J: Searched + Send + Sync, G: Gate + Sync, R: Threads + Wait>(
         move |scope| -> Result<Vec<Report<J>>, SolveFault>
             requires { (instance.now ≡ J.instance) × All (IsJob word.now) jobs.items × (reports.items ≡ []) × (vec_len jobs ≤ vec_capacity reports) }
             ensures reports { IfOk result (λ all. AreReportsOf J.instance jobs.items all.items) }
-        { start_all(rt, scope, alloc, instance, word, gate, jobs, reports) },
+        {
+            start_all(
+                rt, scope, alloc, instance, word, gate, manner, jobs, reports,
+            )
+        },
     )
 }

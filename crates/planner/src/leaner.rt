@@ -14,6 +14,7 @@ use certificate::Cert;
 use dropped_decisions::{Standing, proof_of, without_unused};
 use std::alloc::Global;
 use ttp_model::{Instance, MemoryFault};
+use used_decisions::Manner;
 
 /// The pieces of a search, and the tasks that it left.
 fn standing(alloc: Global, search: &Search) -> Result<Vec<Standing>, MemoryFault> {
@@ -35,14 +36,19 @@ fn standing(alloc: Global, search: &Search) -> Result<Vec<Standing>, MemoryFault
 }
 
 /// A certificate of the delay that had to be beaten, of the pieces of a search that left nothing but tasks that needn't be worked:
-/// none where one of them is needed, or memory is refused.
-pub fn lean_proof(alloc: Global, instance: &Instance, search: &Search) -> Option<Cert>
+/// none where one of them is needed, memory is refused, or the search is plain.
+pub fn lean_proof(
+    alloc: Global,
+    instance: &Instance,
+    manner: Manner,
+    search: &Search,
+) -> Option<Cert>
     requires { IsFound instance.now search.now.best }
     ensures proves { IfSome result (Proves instance.now) }
     ensures low { IfSome result (λ cert. cert.low ≡ limit_of instance.now search.now.best) }
     ensures few { IfSome result (λ cert. branches cert.tree ≤ length search.now.pieces.items) }
 {
-    if search.tasks.len() > search.spared {
+    if manner == Manner::Plain || search.tasks.len() > search.spared {
         return None;
     }
     let low = limit(instance, &search.best);

@@ -22,4 +22,5 @@ pub use laws::{
 };
 pub use outcome::{Options, Outcome, SolveFault, Why};
 pub use pool_worker::{FreeGate, Gate};
-pub use solving::{solve, solve_with};
+pub use solving::{solve, solve_in, solve_with};
+pub use used_decisions::Manner;

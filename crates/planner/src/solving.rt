@@ -27,26 +27,23 @@ use std::alloc::Global;
 use std::marker::{Brand, Sync};
 use std::sync::Wait;
 use std::thread::Threads;
-use tt_choice::Choice;
 use ttp_model::{Instance, MemoryFault, Plan};
+use used_decisions::{Manner, usual_manner};
 
-/// How much the root leaves to choose, at most, where no plan is looked for before the search: such a tree is worked as
-/// fast.
-const LITTLE: usize = 32;
-
-/// A plan to begin with; none is looked for with a budget of 0, or where little is to be chosen.
+/// A plan to begin with; none is looked for with a budget of 0, or in a plain search.
 fn first_plan<R: Threads + Sync>(
     rt: &R,
     alloc: Global,
     instance: &Instance,
     options: Options,
+    manner: Manner,
 ) -> Result<Option<(Plan, u64)>, MemoryFault>
     ensures { IfOk result (IsFound instance.now) }
 {
-    if options.budget == 0 || Choice::root(alloc, instance)?.size_left(instance) <= LITTLE {
-        return Ok(None);
+    match manner {
+        Manner::Sparing if options.budget > 0 => good_plan(rt, alloc, instance, options.workers),
+        _ => Ok(None),
     }
-    good_plan(rt, alloc, instance, options.workers)
 }
 
 /// Pieces and others after them, in no more room than they take: what is left of it is free.
@@ -127,6 +124,7 @@ fn worked_out(
     options: Options,
     search: Search,
     reserve: Reserve,
+    manner: Manner,
 ) -> Result<Outcome, SolveFault>
     requires searching { IsSearching instance.now search.pieces.items search.tasks.items search.best }
     requires within { length search.pieces.items ≤ options.budget }
@@ -139,7 +137,10 @@ fn worked_out(
     let why = search.go(alloc, instance, options.budget);
     reserve.give_back();
     let outcome = concluded(alloc, instance, options, search, why)?;
-    Ok(leaner(alloc, instance, outcome))
+    match manner {
+        Manner::Plain => Ok(outcome),
+        Manner::Sparing => Ok(leaner(alloc, instance, outcome)),
+    }
 }
 
 /// What a tree shows whose bound is the delay that had to be beaten.
@@ -157,8 +158,30 @@ fn settled(instance: &Instance, options: Options, best: Option<(Plan, u64)>, cer
     }
 }
 
+/// Searches for the shortest plan of an instance in this manner, which changes nothing of what is promised, and else as `solve_with` does.
+pub fn solve_in<R: Threads + Wait + Sync, G: Gate + Sync>(
+    rt: &R,
+    alloc: Global,
+    instance: &Instance,
+    options: Options,
+    manner: Manner,
+    gate: &G,
+) -> Result<Outcome, SolveFault>
+    ensures answer { IfOk result (IsOutcome instance.now options) }
+    ensures shows { IfOk result (Shows instance.now) }
+{
+    let _nodes = instance.nodes();
+    let reserve = Reserve::begin(alloc)?;
+    let first = first_plan(rt, alloc, instance, options, manner)?;
+    let search = searched::<Brand, G, R>(rt, alloc, instance, options, manner, first, gate)?;
+    match lean_proof(alloc, instance, manner, &search) {
+        Some(cert) => Ok(settled(instance, options, search.best, cert)),
+        None => worked_out(alloc, instance, options, search, reserve, manner),
+    }
+}
+
 /// Searches for the shortest plan of an instance, as `solve` does, and calls a gate as workers go on: `start` once for each,
-/// and `enter` and `leave` for each task that they take. The caller's thread calls none.
+/// first, and `enter` and `leave` for each task that they work. The caller's thread calls none.
 pub fn solve_with<R: Threads + Wait + Sync, G: Gate + Sync>(
     rt: &R,
     alloc: Global,
@@ -169,20 +192,14 @@ pub fn solve_with<R: Threads + Wait + Sync, G: Gate + Sync>(
     ensures answer { IfOk result (IsOutcome instance.now options) }
     ensures shows { IfOk result (Shows instance.now) }
 {
-    let _nodes = instance.nodes();
-    let reserve = Reserve::begin(alloc)?;
-    let first = first_plan(rt, alloc, instance, options)?;
-    let search = searched::<Brand, G, R>(rt, alloc, instance, options, first, gate)?;
-    match lean_proof(alloc, instance, &search) {
-        Some(cert) => Ok(settled(instance, options, search.best, cert)),
-        None => worked_out(alloc, instance, options, search, reserve),
-    }
+    let manner = usual_manner(alloc, instance)?;
+    solve_in(rt, alloc, instance, options, manner, gate)
 }
 
 /// Searches for the shortest plan of an instance, by workers in threads of their own: works at most `budget` subtrees, what the
 /// workers leave on the caller's thread, and closes those that are left then as well as propagation can. With a budget of 0
-/// nothing is worked and no plan is looked for; nor is one looked for before the search where the root leaves at most 32 to
-/// choose.
+/// nothing is worked and no plan is looked for. Where the root leaves at most 32 to choose the search is plain: no plan is looked for before it
+/// either, every subtree is worked, and the certificate is the tree that was worked.
 ///
 /// It waits for its workers. Where a thread can't be started, those that run are joined, and nothing is answered.
 pub fn solve<R: Threads + Wait + Sync>(

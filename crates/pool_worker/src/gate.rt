@@ -7,10 +7,10 @@ pub trait Gate {
     /// A worker begins. It is called once for each, first.
     fn start(&self, worker: usize);
 
-    /// A worker has taken the task of this name.
+    /// A worker begins to work the task of this name.
     fn enter(&self, worker: usize, name: &Name);
 
-    /// A worker is done with the task of this name: it is worked and its children are pushed, or memory was refused.
+    /// A worker is done with the task of this name, of which it was told before: it is worked and its children are pushed, or memory was refused.
     fn leave(&self, worker: usize, name: &Name);
 }
 

@@ -8,4 +8,4 @@ mod worker;
 
 pub use gate::{FreeGate, Gate};
 pub use report::{Ending, Report, Rest};
-pub use worker::run_worker;
+pub use worker::{run_worker, run_worker_in};

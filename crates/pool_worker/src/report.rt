@@ -23,7 +23,7 @@ pub enum Ending {
     Budget,
     /// Memory was refused.
     Memory,
-    /// It found no task for long.
+    /// It found no task for long, or left a million one after another.
     Idle,
 }
 
@@ -39,7 +39,7 @@ pub struct Report<J: Searched> {
     /// The best plan that it found, with its delay in ticks.
     pub best: Option<(Plan, u64)>,
     pub rest: Rest,
-    /// Tasks that it took and didn't work, since the branch above them is proved without them, as far as it saw.
+    /// Tasks that it took and didn't work, since the branch above them is proved without them, as far as it saw; none in a plain search.
     pub spared: Vec<Task>,
     /// How many tasks it worked.
     pub worked: u64,

@@ -6,6 +6,7 @@ ghost use Rattle.branch_tree.specs.Workbench.{IsWorkbenchOf};
 ghost use Rattle.incumbent.specs.Watch.{IsOther};
 ghost use Rattle.steal_pool.specs.Hand.{pushed, taken, IsSameHand};
 ghost use Rattle.pool_worker.specs.declared.run.Sweep.TheVariants as sweep;
+ghost use Rattle.used_decisions.specs.declared.manner.Manner.TheVariants as manner;
 ghost use Rattle.pool_worker.specs.Run.{GoesOn, Pushes, Refuses, Spares, Works, rest_after};
 
 use crate::gate::Gate;
@@ -16,7 +17,7 @@ use incumbent::{Incumbent, Watch};
 use std::alloc::Global;
 use steal_pool::{Hand, Searched};
 use ttp_model::{Instance, Kind, MemoryFault, Plan};
-use used_decisions::Needs;
+use used_decisions::{Manner, Needs};
 
 /// For how many pieces there is room beside those that are made, at least: the leaves that close what is open in the end.
 const AHEAD: usize = 4096;
@@ -109,6 +110,16 @@ fn make_room(
     Ok(())
 }
 
+/// Whether a task is left in this manner, since it needn't be worked as far as was seen.
+fn is_left(manner: Manner, needs: &Needs, task: &Task) -> bool
+    ensures { manner ≡ manner.Plain → result ≡ false }
+{
+    match manner {
+        Manner::Plain => false,
+        Manner::Sparing => needs.are_met_without(task.name().as_slice()),
+    }
+}
+
 impl<J: Searched> Run<J> {
     /// Works a task at the best delay so far, on from the last one, and pushes its children, or offers the delay of the plan
     /// that was found: what became of the task, and the children that couldn't be pushed. All memory is asked for before the
@@ -177,7 +188,7 @@ impl<J: Searched> Run<J> {
         Sweep::Spared
     }
 
-    /// Takes a task, where one is found, and works it, if that is needed.
+    /// Takes a task, where one is found, and works it, if that is needed. The gate is told of work alone.
     pub fn turn<'a, G: Gate>(
         &mut self,
         alloc: Global,
@@ -185,6 +196,7 @@ impl<J: Searched> Run<J> {
         bench: &mut Workbench<'a>,
         needs: &mut Needs<'a>,
         word: &Incumbent,
+        manner: Manner,
         gate: &G,
     ) -> Sweep
         requires of { instance.now ≡ J.instance }
@@ -195,18 +207,18 @@ impl<J: Searched> Run<J> {
         ensures idle { result ≡ sweep.Idle → vec_len self.new.pieces ≡ vec_len self.old.pieces }
         ensures spared { result ≡ sweep.Spared → vec_len self.new.pieces ≡ vec_len self.old.pieces }
         ensures worked { result ≡ sweep.Worked → vec_len self.new.pieces ≡ vec_len self.old.pieces + 1 }
+        ensures plain { manner ≡ manner.Plain → self.new.spared.items ≡ self.old.spared.items }
         ensures most { vec_len self.new.pieces ≤ vec_len self.old.pieces + 1 }
         ensures bench { IsWorkbenchOf instance.now bench.new }
     {
         let Some(task) = self.hand.take() else {
             return Sweep::Idle;
         };
-        let worker = self.hand.number();
-        gate.enter(worker, task.name());
-        if needs.are_met_without(task.name().as_slice()) {
-            gate.leave(worker, task.name());
+        if is_left(manner, needs, &task) {
             return self.spare(task);
         }
+        let worker = self.hand.number();
+        gate.enter(worker, task.name());
         match self.make(alloc, instance, bench, needs, word, task) {
             Ok((piece, left)) => {
                 gate.leave(worker, &piece.name);

@@ -1,12 +1,14 @@
 //! What does a worker do until it ends?
 
-ghost use Rattle.std.specs.Prelude.{◌≡◌, ◌≤◌, vec_len};
+ghost use Rattle.std.specs.Prelude.{◌≡◌, ◌≤◌, [], vec_len};
 ghost use Rattle.incumbent.specs.Watch.{IsOther, IsSameWatch};
 ghost use Rattle.steal_pool.specs.Hand.{IsSameHand};
 ghost use Rattle.pool_worker.specs.declared.report.Ending.TheVariants as ending;
 ghost use Rattle.pool_worker.specs.Goals.{goals_of, AreGoals};
 ghost use Rattle.pool_worker.specs.Best.{OffersBest};
 ghost use Rattle.pool_worker.specs.Report.{HasAccount};
+ghost use Rattle.used_decisions.specs.Manners.{usual_manner};
+ghost use Rattle.used_decisions.specs.declared.manner.Manner.TheVariants as manner;
 
 use crate::gate::Gate;
 use crate::report::{Ending, Report, Rest};
@@ -17,7 +19,7 @@ use incumbent::{Incumbent, Watch};
 use std::alloc::Global;
 use steal_pool::{Hand, Searched};
 use ttp_model::Instance;
-use used_decisions::Needs;
+use used_decisions::{Manner, Needs, usual_manner};
 
 /// How many sweeps one after another find no task before a worker ends.
 const SWEEPS: u64 = 1000;
@@ -63,11 +65,8 @@ impl<J: Searched> Run<J> {
     }
 }
 
-/// Takes tasks of a pool and works them, each at the best delay that is known by then, until `budget` of them are worked,
-/// memory is refused, or none was found for long. A task that stands below a branch which another child was seen to prove is left.
-/// It never waits for another worker. Where memory is refused, the lists that
-/// it reports have room for what so many workers come to that make no more than it did.
-pub fn run_worker<J: Searched, G: Gate>(
+/// Takes tasks of a pool and works them as `run_worker` does, in this manner.
+pub fn run_worker_in<J: Searched, G: Gate>(
     alloc: Global,
     instance: &Instance,
     hand: Hand<J>,
@@ -75,6 +74,7 @@ pub fn run_worker<J: Searched, G: Gate>(
     watch: Watch,
     budget: u64,
     workers: usize,
+    manner: Manner,
     gate: &G,
 ) -> Report<J>
     requires of { instance.now ≡ J.instance }
@@ -82,6 +82,7 @@ pub fn run_worker<J: Searched, G: Gate>(
     ensures hand { IsSameHand hand result.hand }
     ensures watch { IsSameWatch watch result.watch }
     ensures account { HasAccount instance.now hand result.hand result.pieces.items result.spared.items result.rest }
+    ensures plain { manner ≡ manner.Plain → result.spared.items ≡ [] }
     ensures goals { AreGoals watch result.watch (goals_of result.pieces.items) }
     ensures best { OffersBest instance.now watch result.watch result.best }
     ensures worked { result.worked ≡ vec_len result.pieces }
@@ -103,7 +104,7 @@ pub fn run_worker<J: Searched, G: Gate>(
     let (mut worked, mut idle, mut spared) = (0, 0, 0);
     let backoff = Backoff::new();
     while worked < budget && idle < SWEEPS && spared < MOST_SPARED {
-        match run.turn(alloc, instance, &mut bench, &mut needs, word, gate) {
+        match run.turn(alloc, instance, &mut bench, &mut needs, word, manner, gate) {
             Sweep::Idle => {
                 idle += 1;
                 wait(&backoff);
@@ -114,7 +115,10 @@ pub fn run_worker<J: Searched, G: Gate>(
                 spared = 0;
                 backoff.reset();
             }
-            Sweep::Spared => spared += 1,
+            Sweep::Spared => {
+                spared += 1;
+                idle = 0;
+            }
             Sweep::Ended(rest) => {
                 let worked = run.pieces.len() as u64;
                 return run.report(rest, worked, Ending::Memory);
@@ -127,4 +131,37 @@ pub fn run_worker<J: Searched, G: Gate>(
         Ending::Budget
     };
     run.report(Rest::Nothing, worked, ending)
+}
+
+/// Takes tasks of a pool and works them, each at the best delay that is known by then, until `budget` of them are worked,
+/// memory is refused, none was found for long, or a million were left one after another. A task that stands below a branch which another
+/// child was seen to prove is left, unless the root leaves at most 32 to choose: then each is worked.
+/// It never waits for another worker. Where memory is refused, the lists that
+/// it reports have room for what so many workers come to that make no more than it did.
+pub fn run_worker<J: Searched, G: Gate>(
+    alloc: Global,
+    instance: &Instance,
+    hand: Hand<J>,
+    word: &Incumbent,
+    watch: Watch,
+    budget: u64,
+    workers: usize,
+    gate: &G,
+) -> Report<J>
+    requires of { instance.now ≡ J.instance }
+    requires watch { IsOther word.now watch }
+    ensures hand { IsSameHand hand result.hand }
+    ensures watch { IsSameWatch watch result.watch }
+    ensures account { HasAccount instance.now hand result.hand result.pieces.items result.spared.items result.rest }
+    ensures plain { usual_manner instance.now ≡ manner.Plain → result.spared.items ≡ [] }
+    ensures goals { AreGoals watch result.watch (goals_of result.pieces.items) }
+    ensures best { OffersBest instance.now watch result.watch result.best }
+    ensures worked { result.worked ≡ vec_len result.pieces }
+    ensures within { result.worked ≤ budget }
+    ensures ending { result.ending ≡ ending.Budget → result.worked ≡ budget }
+{
+    let manner = usual_manner(alloc, instance).unwrap_or(Manner::Plain);
+    run_worker_in(
+        alloc, instance, hand, word, watch, budget, workers, manner, gate,
+    )
 }

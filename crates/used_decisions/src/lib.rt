@@ -3,6 +3,7 @@
 
 mod given;
 mod levels;
+mod manner;
 mod needs;
 mod path;
 mod reader;
@@ -10,6 +11,7 @@ mod uses;
 mod way;
 
 pub use levels::Levels;
+pub use manner::{Manner, usual_manner};
 pub use needs::Needs;
 pub use path::{Cut, Path};
 pub use reader::Reader;

@@ -68,8 +68,8 @@ returns-in-Err-clause-goes_on g c = λ hand watch run.
       best = best_still i watch mid c.make.new.self back.1.best run.best;
     }
 
-pub returns-then-are_met_without-clause-goes_on : goal.returns-then-are_met_without-clause-goes_on
-returns-then-are_met_without-clause-goes_on g c = λ hand watch run.
+pub returns-then-is_left-clause-goes_on : goal.returns-then-is_left-clause-goes_on
+returns-then-is_left-clause-goes_on g c = λ hand watch run.
     let i = c.args.instance.now in
     let old = c.args.self.now in
     let spares = c.spare.ensures in
@@ -83,5 +83,5 @@ returns-then-are_met_without-clause-goes_on g c = λ hand watch run.
       best = rw spares.watch (rw spares.best run.best);
     }
 
-pub returns-then-are_met_without-clause-worked : goal.returns-then-are_met_without-clause-worked
-returns-then-are_met_without-clause-worked g c = λ worked. absurd (c.spare.ensures.unworked worked)
+pub returns-then-is_left-clause-worked : goal.returns-then-is_left-clause-worked
+returns-then-is_left-clause-worked g c = λ worked. absurd (c.spare.ensures.unworked worked)

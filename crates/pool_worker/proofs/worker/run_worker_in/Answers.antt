@@ -5,7 +5,7 @@ use Rattle.steal_pool.specs.declared.hand.Hand.{Hand}
 use Rattle.steal_pool.specs.Hand.{IsSameHand}
 use Rattle.pool_worker.specs.declared.run.Run.{Run}
 use Rattle.pool_worker.proofs.Begun.{begins}
-use Rattle.pool_worker.proofs.worker.run_worker.Goals as goal
+use Rattle.pool_worker.proofs.worker.run_worker_in.Goals as goal
 
 pub loop-worked-init : goal.loop-worked-init
 loop-worked-init g c =
@@ -16,6 +16,7 @@ loop-worked-init g c =
       bench = search rules;
       count = search rules;
       within = omega arith;
+      plain = λ _. c.new-2.ensures.items;
     }
 
 pub loop-worked-preserved-in-Idle : goal.loop-worked-preserved-in-Idle
@@ -25,6 +26,7 @@ loop-worked-preserved-in-Idle g c = record {
   bench = c.in-Idle.ensures.bench;
   count = c.in-Idle.ensures.idle refl ∙ c.loop-worked.invariant.count;
   within = c.loop-worked.invariant.within;
+  plain = λ plain. c.in-Idle.ensures.plain plain ∙ c.loop-worked.invariant.plain plain;
 }
 
 pub loop-worked-preserved : goal.loop-worked-preserved
@@ -34,6 +36,7 @@ loop-worked-preserved g c = record {
   bench = c.in-Spared.ensures.bench;
   count = c.in-Spared.ensures.spared refl ∙ c.loop-worked.invariant.count;
   within = c.loop-worked.invariant.within;
+  plain = λ plain. c.in-Spared.ensures.plain plain ∙ c.loop-worked.invariant.plain plain;
 }
 
 pub loop-worked-preserved-in-Worked : goal.loop-worked-preserved-in-Worked
@@ -43,6 +46,7 @@ loop-worked-preserved-in-Worked g c = record {
   bench = c.in-Worked.ensures.bench;
   count = omega (arith, c.in-Worked.ensures.worked refl, c.loop-worked.invariant.count);
   within = omega arith;
+  plain = λ plain. c.in-Worked.ensures.plain plain ∙ c.loop-worked.invariant.plain plain;
 }
 
 pub returns-in-Ended-clause-hand : goal.returns-in-Ended-clause-hand

@@ -1,5 +1,5 @@
 use Rattle.planner.proofs.Shown.{answer_shows}
-use Rattle.planner.proofs.solving.solve_with.Goals as goal
+use Rattle.planner.proofs.solving.solve_in.Goals as goal
 
 pub returns-in-Some-clause-shows : goal.returns-in-Some-clause-shows
 returns-in-Some-clause-shows g c =
