@@ -1,12 +1,12 @@
 //! What does a worker do in one turn?
 
-ghost use Rattle.std.specs.Prelude.{◌≡◌, ◌≢◌, ◌<◌, ◌≤◌, ◌+◌, ◌++◌, All, IfOk, OnOk, IfErr, IsPermutation, length, vec_len, vec_capacity};
+ghost use Rattle.std.specs.Prelude.{◌≡◌, ◌≢◌, false, ◌<◌, ◌≤◌, ◌+◌, ◌++◌, All, IfOk, OnOk, IfErr, IsPermutation, length, vec_len, vec_capacity};
 ghost use Rattle.branch_tree.specs.Task.{IsTask};
 ghost use Rattle.branch_tree.specs.Workbench.{IsWorkbenchOf};
 ghost use Rattle.incumbent.specs.Watch.{IsOther};
 ghost use Rattle.steal_pool.specs.Hand.{pushed, taken, IsSameHand};
 ghost use Rattle.pool_worker.specs.declared.run.Sweep.TheVariants as sweep;
-ghost use Rattle.used_decisions.specs.declared.manner.Manner.TheVariants as manner;
+ghost use Rattle.used_decisions.specs.declared.manner.Manner.TheVariants.{Plain};
 ghost use Rattle.pool_worker.specs.Run.{GoesOn, Pushes, Refuses, Spares, Works, rest_after};
 
 use crate::gate::Gate;
@@ -112,7 +112,7 @@ fn make_room(
 
 /// Whether a task is left in this manner, since it needn't be worked as far as was seen.
 fn is_left(manner: Manner, needs: &Needs, task: &Task) -> bool
-    ensures { manner ≡ manner.Plain → result ≡ false }
+    ensures { manner ≡ Plain → result ≡ false }
 {
     match manner {
         Manner::Plain => false,
@@ -207,7 +207,7 @@ impl<J: Searched> Run<J> {
         ensures idle { result ≡ sweep.Idle → vec_len self.new.pieces ≡ vec_len self.old.pieces }
         ensures spared { result ≡ sweep.Spared → vec_len self.new.pieces ≡ vec_len self.old.pieces }
         ensures worked { result ≡ sweep.Worked → vec_len self.new.pieces ≡ vec_len self.old.pieces + 1 }
-        ensures plain { manner ≡ manner.Plain → self.new.spared.items ≡ self.old.spared.items }
+        ensures plain { manner ≡ Plain → self.new.spared.items ≡ self.old.spared.items }
         ensures most { vec_len self.new.pieces ≤ vec_len self.old.pieces + 1 }
         ensures bench { IsWorkbenchOf instance.now bench.new }
     {

@@ -8,7 +8,7 @@ ghost use Rattle.pool_worker.specs.Goals.{goals_of, AreGoals};
 ghost use Rattle.pool_worker.specs.Best.{OffersBest};
 ghost use Rattle.pool_worker.specs.Report.{HasAccount};
 ghost use Rattle.used_decisions.specs.Manners.{usual_manner};
-ghost use Rattle.used_decisions.specs.declared.manner.Manner.TheVariants as manner;
+ghost use Rattle.used_decisions.specs.declared.manner.Manner.TheVariants.{Plain};
 
 use crate::gate::Gate;
 use crate::report::{Ending, Report, Rest};
@@ -82,7 +82,7 @@ pub fn run_worker_in<J: Searched, G: Gate>(
     ensures hand { IsSameHand hand result.hand }
     ensures watch { IsSameWatch watch result.watch }
     ensures account { HasAccount instance.now hand result.hand result.pieces.items result.spared.items result.rest }
-    ensures plain { manner ≡ manner.Plain → result.spared.items ≡ [] }
+    ensures plain { manner ≡ Plain → result.spared.items ≡ [] }
     ensures goals { AreGoals watch result.watch (goals_of result.pieces.items) }
     ensures best { OffersBest instance.now watch result.watch result.best }
     ensures worked { result.worked ≡ vec_len result.pieces }
@@ -153,7 +153,7 @@ pub fn run_worker<J: Searched, G: Gate>(
     ensures hand { IsSameHand hand result.hand }
     ensures watch { IsSameWatch watch result.watch }
     ensures account { HasAccount instance.now hand result.hand result.pieces.items result.spared.items result.rest }
-    ensures plain { usual_manner instance.now ≡ manner.Plain → result.spared.items ≡ [] }
+    ensures plain { usual_manner instance.now ≡ Plain → result.spared.items ≡ [] }
     ensures goals { AreGoals watch result.watch (goals_of result.pieces.items) }
     ensures best { OffersBest instance.now watch result.watch result.best }
     ensures worked { result.worked ≡ vec_len result.pieces }
