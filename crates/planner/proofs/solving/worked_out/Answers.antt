@@ -1,11 +1,15 @@
 use Rattle.planner.proofs.Shown.{answer_shows}
 use Rattle.planner.proofs.solving.worked_out.Goals as goal
 
-pub returns-clause-answer : goal.returns-clause-answer
-returns-clause-answer c = c.leaner.ensures.answer c.args.options c.in_ok-outcome.ensures.answer
+pub returns-in-Plain-clause-shows : goal.returns-in-Plain-clause-shows
+returns-in-Plain-clause-shows c =
+    answer_shows c.args.instance.now c.args.options c.in_ok-outcome.outcome c.nodes-nodes.ensures.instance c.in_ok-outcome.ensures.answer
 
-pub returns-clause-shows : goal.returns-clause-shows
-returns-clause-shows c =
+pub returns-in-Sparing-clause-answer : goal.returns-in-Sparing-clause-answer
+returns-in-Sparing-clause-answer c = c.leaner.ensures.answer c.args.options c.in_ok-outcome.ensures.answer
+
+pub returns-in-Sparing-clause-shows : goal.returns-in-Sparing-clause-shows
+returns-in-Sparing-clause-shows c =
     answer_shows c.args.instance.now c.args.options c.leaner.result c.nodes-nodes.ensures.instance (c.leaner.ensures.answer c.args.options c.in_ok-outcome.ensures.answer)
 
 pub leaner-requires : goal.leaner-requires
