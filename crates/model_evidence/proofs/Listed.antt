@@ -1,11 +1,10 @@
 -- What holds of each entry of the tables of a plan.
-use Rattle.std.proofs.Common.{◌≡◌, ℕ, ◌<◌, ◌==◌, ◌&&◌, ◌||◌, Bool, true, false, [], length, map, slice_index, slice_index_or, All, Any, arith, refl, inl, inr}
+use Rattle.std.proofs.Common.{◌≡◌, ℕ, ◌<◌, ◌==◌, ◌&&◌, ◌||◌, Bool, true, false, [], length, map, slice_index, All, Any, arith, refl, inl, inr}
 use Rattle.std.specs.List.{list_any, range_with_len}
 use Rattle.std.proofs.lemmas.Bool.{false≢true}
 use Rattle.std.proofs.lemmas.List.Elements.{All-filter, filter_passes}
 use Rattle.std.proofs.lemmas.List.Folds.{Any-from_list_any}
 use Rattle.std.proofs.lemmas.List.FromFn.{get_or-map-range_with_len, length-map-range_with_len}
-use Rattle.std.proofs.lemmas.Grind.{common_steps}
 use Rattle.ttp_model.specs.declared.plan.Plan.{Plan}
 use Rattle.ttp_model.specs.Instance.{Instance, message_at, node_of, source_of}
 use Rattle.ttp_model.specs.Plans.{bytes_in}
@@ -35,9 +34,9 @@ module _ (i : Instance) (plan : Plan) where
   is_entry-concerns node n r m passes =
       let receivers = (message_at i m).receivers in
       concerned i node m (source_of i m == node) (list_any (λ q. node_of i q == node) receivers)
-          (second_true (is_in_frame i plan n r m) (is_shown_on i node m) passes)
-          (λ same. grind arith)
-          (λ some. let one = Any-from_list_any (λ q. node_of i q == node) receivers some in (one.0, one.1, one.2, one.3, grind (arith, one.4)))
+      (second_true (is_in_frame i plan n r m) (is_shown_on i node m) passes)
+      (λ same. grind arith)
+      (λ some. let one = Any-from_list_any (λ q. node_of i q == node) receivers some in (one.0, one.1, one.2, one.3, grind (arith, one.4)))
 
   -- what holds of the entries of each row holds of those of the node's table in the tables of the plan
   each_entry : (t : Medl) (node : ℕ) (P : Row → Entry → Type 0) → t ≡ medl_of i plan → node < length i.nodes → ((r k : ℕ) → let row = row_of i plan node r k in All (P row) row.messages) → EachEntry t node P
@@ -55,4 +54,4 @@ module _ (i : Instance) (plan : Plan) where
   own_offsets t node is inside = each_entry t node (λ row e. e.offset ≡ total (bytes_in i plan row.sender row.round) e.message) is inside (λ r k.
       let n = slice_index plan.order k in
       All-filter (λ (e : Entry). is_entry i plan node n r e.message) (λ e. e.offset ≡ total (bytes_in i plan n r) e.message) (map (entry_of i plan n r) (range_with_len 0 (length i.messages)))
-          (All-map-range (λ (e : Entry). e.offset ≡ total (bytes_in i plan n r) e.message) (entry_of i plan n r) (length i.messages) (λ m _. refl)))
+      (All-map-range (λ (e : Entry). e.offset ≡ total (bytes_in i plan n r) e.message) (entry_of i plan n r) (length i.messages) (λ m _. refl)))

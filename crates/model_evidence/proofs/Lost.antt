@@ -1,7 +1,6 @@
 -- What a replay with losses says.
-use Rattle.std.proofs.Common.{◌≡◌, ◌≢◌, ℕ, ◌+◌, ◌<◌, ◌&&◌, ◌==◌, Bool, true, false, cond, List, [], ◌∷◌, ◌++◌, All, Contains, length, map, slice_index_or, Result, Ok, Err, IfOk, OnOk, IsErr, arith, refl, not}
+use Rattle.std.proofs.Common.{◌≡◌, ◌≢◌, ℕ, ◌+◌, ◌<◌, ◌&&◌, Bool, true, false, cond, List, [], ◌∷◌, All, Contains, length, slice_index_or, Result, Ok, Err, IfOk, OnOk, IsErr, arith, refl}
 use Rattle.std.specs.List.{range_with_len}
-use Rattle.std.proofs.lemmas.Bool.Decides.{eqb_tells}
 use Rattle.std.proofs.lemmas.List.Elements.{All-append, All-cons, All-contains, All-map, All-nil}
 use Rattle.std.proofs.lemmas.List.FromFn.{get_or-map-range_with_len}
 use Rattle.tt_layout.proofs.Ranges.{All-flat_map}
@@ -15,9 +14,9 @@ use Rattle.membership_replay.specs.declared.state.Step.TheVariants.{Nothing, Dro
 use Rattle.membership_replay.specs.declared.trace.Event.{Event}
 use Rattle.membership_replay.specs.declared.trace.Event.TheVariants.{Ack, Doubt, Leave, Drop, Deliver}
 use Rattle.membership_replay.specs.Losses.{CanBeReplayed, no_loss}
-use Rattle.membership_replay.specs.LostFrames.{LosesOneFrame, SenderLeaves}
+use Rattle.membership_replay.specs.LostFrames.{SenderLeaves}
 use Rattle.membership_replay.specs.Machine.{has_member, is_same}
-use Rattle.membership_replay.specs.Trace.{Trace, deliveries, drop_events, is_received, is_told, next_state, node_events, replay_of, row_at, slot_count, slot_of, state_at, states_before, step_at, step_events, takes_messages}
+use Rattle.membership_replay.specs.Trace.{Trace, deliveries, drop_events, is_told, next_state, node_events, replay_of, row_at, slot_count, slot_of, state_at, states_before, step_at, step_events, takes_messages}
 use Rattle.membership_replay.specs.Undisturbed.{no_slot, slot_at}
 use Rattle.model_evidence.specs.Membership.{agrees}
 
@@ -32,7 +31,7 @@ module _ {E : Type 0} (t : Medl) (losses : List Loss) where
 
 -- no step is told as a delivery
 module _ (m i : ℕ) where
-  IsOther : Event → Type 0
+  abbrev IsOther : Event → Type 0
   IsOther e = e ≢ Deliver m i
 
   drop_is_other : (j b : ℕ) (member : Bool) → All IsOther (cond member (Drop j b ∷ []) [])
@@ -66,8 +65,8 @@ module _ (m i : ℕ) where
   unfolding node_events
   node_is_other row losses messages states differ j =
       told (is_told row states j) _ (All-append IsOther (step_events (step_at row losses states j) j row.sender (state_at states j).vector) _
-          (steps_are_other (step_at row losses states j) j row.sender (state_at states j).vector)
-          (taken (takes_messages row losses states j) j messages (λ same. rw same (second_false _ _ differ))))
+      (steps_are_other (step_at row losses states j) j row.sender (state_at states j).vector)
+      (taken (takes_messages row losses states j) j messages (λ same. rw same (second_false _ _ differ))))
 
   pub none_delivered : {E : Type 0} (t : Medl) (losses : List Loss) (result : Result Trace E) (slot : ℕ) → IfOk result (λ trace. trace ≡ replay_of t losses) → slot < slot_count t → agrees t losses slot i ≡ false → IfOk result (λ trace. ¬ Contains (slot_at trace slot).events (Deliver m i))
   unfolding slot_of

@@ -25,7 +25,7 @@ pub fn lost_at_sender(
     requires { AreTables instance.now medl.now }
     ensures { (k : ℕ) → k < length losses.now
         → (slice_index_or losses.now k no_loss).receiver
-            ≡ (row_at medl.now 0 (slice_index_or losses.now k no_loss).slot).sender
+        ≡ (row_at medl.now 0 (slice_index_or losses.now k no_loss).slot).sender
         → IsErr result }
 {
     replay(alloc, instance, medl, losses)
@@ -41,8 +41,8 @@ pub fn lost_everywhere(
     requires { AreTables instance.now medl.now }
     ensures { (slot : ℕ) → LosesOneFrame medl.now losses.now slot → slot + 3 ≡ slot_count medl.now
         → IfOk result (λ trace. has_member
-            (state_at trace.states (row_at medl.now 0 slot).sender).vector
-            (row_at medl.now 0 slot).sender ≡ false) }
+        (state_at trace.states (row_at medl.now 0 slot).sender).vector
+        (row_at medl.now 0 slot).sender ≡ false) }
 {
     replay(alloc, instance, medl, losses)
 }

@@ -35,7 +35,7 @@ pub fn tables_of_frames(
 ) -> Result<Option<Medl>, MemoryFault>
     ensures { (node : ℕ) → node < length instance.now.nodes → IfOk result (λ found. IfSome found (λ medl.
         EachEntry medl node (λ row entry. entry.offset
-            ≡ total (bytes_in instance.now plan.now row.sender row.round) entry.message))) }
+        ≡ total (bytes_in instance.now plan.now row.sender row.round) entry.message))) }
 {
     let Ok(_ticks) = check(instance, plan) else {
         return Ok(None);
@@ -44,7 +44,11 @@ pub fn tables_of_frames(
 }
 
 /// The text of tables tells each row's round, position, sender and capacity in this order.
-pub fn text_with_rows(alloc: Global, instance: &Instance, medl: &Medl) -> Result<Vec<u8>, MemoryFault>
+pub fn text_with_rows(
+    alloc: Global,
+    instance: &Instance,
+    medl: &Medl,
+) -> Result<Vec<u8>, MemoryFault>
     requires { AreTables instance.now medl.now }
     ensures { (node : ℕ) (row : Row) → node < length medl.now.rows
         → Contains (slice_index_or medl.now.rows node []) row

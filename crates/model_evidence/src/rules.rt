@@ -30,33 +30,68 @@ impl Model for Tables {
 pub fn sixty_five_processes(alloc: Global, tables: Tables) -> Result<Instance, ModelError>
     ensures { length tables.processes ≡ 65 → IsErr result }
 {
-    Instance::build(alloc, tables.cluster, tables.nodes, tables.processes, tables.links, tables.messages)
+    Instance::build(
+        alloc,
+        tables.cluster,
+        tables.nodes,
+        tables.processes,
+        tables.links,
+        tables.messages,
+    )
 }
 
 /// A message to the process behind the last one.
 pub fn received_by_nobody(alloc: Global, tables: Tables) -> Result<Instance, ModelError>
     ensures { (p : ℕ) → HasMessage tables p (length tables.processes) → IsErr result }
 {
-    Instance::build(alloc, tables.cluster, tables.nodes, tables.processes, tables.links, tables.messages)
+    Instance::build(
+        alloc,
+        tables.cluster,
+        tables.nodes,
+        tables.processes,
+        tables.links,
+        tables.messages,
+    )
 }
 
 /// A message to a process of its sender's own node.
 pub fn received_at_home(alloc: Global, tables: Tables) -> Result<Instance, ModelError>
     ensures { (p q : ℕ) → HasMessage tables p q → node_of tables p ≡ node_of tables q → IsErr result }
 {
-    Instance::build(alloc, tables.cluster, tables.nodes, tables.processes, tables.links, tables.messages)
+    Instance::build(
+        alloc,
+        tables.cluster,
+        tables.nodes,
+        tables.processes,
+        tables.links,
+        tables.messages,
+    )
 }
 
 /// A lead that is a tick shorter than twice the precision.
 pub fn with_short_lead(alloc: Global, tables: Tables) -> Result<Instance, ModelError>
     ensures { tables.cluster.lead + 1 ≡ 2 * tables.cluster.precision → IsErr result }
 {
-    Instance::build(alloc, tables.cluster, tables.nodes, tables.processes, tables.links, tables.messages)
+    Instance::build(
+        alloc,
+        tables.cluster,
+        tables.nodes,
+        tables.processes,
+        tables.links,
+        tables.messages,
+    )
 }
 
 /// Two processes that wait for each other.
 pub fn linked_both_ways(alloc: Global, tables: Tables) -> Result<Instance, ModelError>
     ensures { (p q : ℕ) → HasLink tables p q → HasLink tables q p → IsErr result }
 {
-    Instance::build(alloc, tables.cluster, tables.nodes, tables.processes, tables.links, tables.messages)
+    Instance::build(
+        alloc,
+        tables.cluster,
+        tables.nodes,
+        tables.processes,
+        tables.links,
+        tables.messages,
+    )
 }

@@ -26,7 +26,7 @@ pub fn precision_past_32_bits(alloc: Global, bytes: &[u8]) -> Result<Instance, T
         → IsDocument bytes.now table → stated_tables table ≡ Ok tables
         → tables.cluster ≡ member (codes "precision") (integer (pos n)) no_members
         → IsErrAnd result (λ e. e ≢ TextError.OutOfMemory
-            → e ≡ TextError.OutOfRange Place.Cluster Key.Precision) }
+        → e ≡ TextError.OutOfRange Place.Cluster Key.Precision) }
 {
     read(alloc, bytes)
 }
@@ -34,12 +34,24 @@ pub fn precision_past_32_bits(alloc: Global, bytes: &[u8]) -> Result<Instance, T
 /// A text whose first process has neither a node nor a time: the node is missed first.
 pub fn process_without_node_and_time(alloc: Global, bytes: &[u8]) -> Result<Instance, TextError>
     ensures { (table : Members) (tables : Tables) (cluster : Cluster) (nodes : List Node)
-            (name : List ℕ) (others : List Members)
+        (name : List ℕ) (others : List Members)
         → IsDocument bytes.now table → stated_tables table ≡ Ok tables
         → cluster_of tables.cluster ≡ Ok cluster → nodes_of tables.nodes ≡ Ok nodes
         → tables.processes ≡ member (codes "name") (string name) no_members ∷ others
         → IsErrAnd result (λ e. e ≢ TextError.OutOfMemory
-            → e ≡ TextError.MissingKey (Place.Process 0) Key.Node) }
+        → e ≡ TextError.MissingKey (Place.Process 0) Key.Node) }
+{
+    read(alloc, bytes)
+}
+
+/// The first process of a text is on the node that has the name which it states as its node's.
+pub fn node_of_first_process(alloc: Global, bytes: &[u8]) -> Result<Instance, TextError>
+    ensures { (table : Members) (tables : Tables) (process : Members) (others : List Members)
+        (name : List ℕ)
+        → IsDocument bytes.now table → stated_tables table ≡ Ok tables
+        → tables.processes ≡ process ∷ others
+        → get_member (codes "node") process ≡ Some (string name)
+        → IfOk result (λ i. (node_at i (node_of i 0)).name ≡ name) }
 {
     read(alloc, bytes)
 }

@@ -1,4 +1,3 @@
-use Rattle.std.proofs.Common.{arith}
 use Rattle.model_evidence.proofs.slots.begins_at_or_after.Goals as goal
 
 pub of-layout-requires-clause-capacities : goal.of-layout-requires-clause-capacities

@@ -7,4 +7,4 @@ returns c =
     let i = c.args.instance.now in
     let laws = c.delay_is_an_end.ensures in
     λ other valid inside. no_later i _ _ other c.in_ok-earliest.ensures valid inside (laws.each i)
-        (λ plan. laws.last i plan (omega (arith, c.processes-processes.ensures.instance.limits.processes_least)))
+    (λ plan. laws.last i plan (omega (arith, c.processes-processes.ensures.instance.limits.processes_least)))

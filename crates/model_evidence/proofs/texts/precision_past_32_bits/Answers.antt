@@ -1,9 +1,8 @@
-use Rattle.std.proofs.Common.{◌≡◌, ◌^◌, Err, false, nat_lt, refl, arith}
+use Rattle.std.proofs.Common.{◌≡◌, ◌^◌, false, nat_lt, refl, arith}
 use Rattle.std.proofs.lemmas.Bool.Decides.{nat_tests}
 use Rattle.instance_text.specs.declared.error.TextError.TheVariants.{OutOfRange}
 use Rattle.instance_text.specs.declared.error.Place.TheVariants.{Cluster}
 use Rattle.instance_text.specs.declared.error.Key.TheVariants.{Precision}
-use Rattle.instance_text.specs.Stated.{stated}
 use Rattle.model_evidence.proofs.FirstFault.{first_fault}
 use Rattle.model_evidence.proofs.texts.precision_past_32_bits.Goals as goal
 

@@ -1,4 +1,4 @@
-use Rattle.std.proofs.Common.{◌≡◌, refl, sym}
+use Rattle.std.proofs.Common.{refl, sym}
 use Rattle.instance_text.specs.declared.error.TextError.TheVariants.{MissingKey}
 use Rattle.instance_text.specs.declared.error.Place.TheVariants.{Process}
 use Rattle.instance_text.specs.declared.error.Key.TheVariants.{Node}
@@ -12,5 +12,5 @@ pub returns : goal.returns
 returns c = λ table tables cluster nodes name others document reads reads_cluster reads_nodes processes.
     let fault = MissingKey (Process 0) Node in
     first_fault _ table fault document
-        (stated-processes index_in table tables cluster nodes (index_in (node_names nodes)) reads (sym reads_cluster) reads_nodes refl fault (rw processes refl))
-        _ c.read.ensures.ok c.read.ensures.err
+    (stated-processes index_in table tables cluster nodes (index_in (node_names nodes)) reads (sym reads_cluster) reads_nodes refl fault (rw processes refl))
+    _ c.read.ensures.ok c.read.ensures.err

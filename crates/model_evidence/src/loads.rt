@@ -1,0 +1,38 @@
+//! Which loads close a node, and which fact a step is about.
+
+ghost use Rattle.std.specs.Prelude.{◌≡◌, ◌≢◌, ℕ, ◌-◌, ◌<◌, ◌≤◌, IsSome, Some, length};
+ghost use Rattle.ttp_model.specs.Instance.{link_at};
+ghost use Rattle.ttp_model.specs.Totals.{total};
+ghost use Rattle.tt_infer.specs.Premises.{load_within};
+
+use load_bounds::node_load;
+use step_facts::{Fact, target};
+use tt_infer::Facts;
+use ttp_model::{Instance, Step};
+
+/// An interval that the node's processes just fill is never told as too short for them.
+pub fn interval_that_is_not_full(facts: &Facts, node: u32) -> Option<Step>
+    ensures { (a b : ℕ) → b - a ≡ total (load_within facts.now.instance facts.now.known node a b)
+        (length facts.now.instance.processes)
+        → result ≢ Some (Step.XLoad node a b) }
+{
+    node_load(facts, node)
+}
+
+/// Where the node's processes take longer than some interval has, a load is told.
+pub fn interval_that_is_too_short(facts: &Facts, node: u32) -> Option<Step>
+    ensures { (a b : ℕ) → node < length facts.now.instance.nodes → a ≤ b
+        → b - a < total (load_within facts.now.instance facts.now.known node a b)
+        (length facts.now.instance.processes)
+        → IsSome result }
+{
+    node_load(facts, node)
+}
+
+/// What the step on a link's end sharpens: the latest end of the link's first process.
+pub fn fact_of_link(instance: &Instance, l: u32) -> Fact
+    ensures { result ≡ Fact.End (link_at instance.now l).before }
+{
+    let step = Step::LeLink(l);
+    target(instance, &step)
+}
