@@ -3,8 +3,11 @@
 
     tools/second_check.py verify INSTANCE PLAN     writes `valid D`
     tools/second_check.py check INSTANCE CERT      writes `bound LOW`
+    tools/second_check.py schedule INSTANCE PLAN [--table processes|slots|messages]
+                                                   writes the table
 
-Anything else is told in one line on standard error, with the words and the statuses of `ttplan verify` and `ttplan check`.
+Anything else is told in one line on standard error, with the words and the statuses of `ttplan verify`, `check` and
+`schedule`.
 It was written from docs/FORMATS.md and docs/CERTIFICATES.md alone and is proved in no way: where it and ttplan differ, a
 document is wrong, or one of the two programs is.
 
@@ -417,8 +420,8 @@ def plan_faults(instance, plan):
             yield "V10", n, r
 
 
-def verify(instance, plan_text):
-    """The line of a valid plan; raises Refused."""
+def verified(instance, plan_text):
+    """A valid plan that states its own delay; raises Refused."""
     if len(plan_text) > PLAN_BYTES:
         raise Refused(6, "read plan")
     plan = read_plan(instance, plan_text)
@@ -427,7 +430,87 @@ def verify(instance, plan_text):
     delay = max(start + process.wcet for start, process in zip(plan.starts, instance.processes))
     if delay != plan.delay:
         raise plan_fault("D1", delay)
-    return f"valid {delay}"
+    return plan
+
+
+def verify(instance, plan_text):
+    """The line of a valid plan; raises Refused."""
+    return f"valid {verified(instance, plan_text).delay}"
+
+
+# A schedule as a table
+
+
+def slack(instance, plan, p):
+    """By how many ticks a process may run longer: tried, since a plan that breaks a rule breaks it with more ticks too."""
+    process = instance.processes[p]
+    wcet, fits, breaks = process.wcet, 0, TICKS_MOST + 1
+    while breaks - fits > 1:
+        ticks = (fits + breaks) // 2
+        process.wcet = wcet + ticks
+        if next(plan_faults(instance, plan), None):
+            breaks = ticks
+        else:
+            fits = ticks
+    process.wcet = wcet
+    return fits
+
+
+def process_rows(instance, plan):
+    yield "node", "process", "start", "end", "release", "deadline", "slack"
+    for n, node in enumerate(instance.nodes):
+        there = [p for p, process in enumerate(instance.processes) if process.node == n]
+        for p in sorted(there, key=lambda p: plan.starts[p]):
+            process, start = instance.processes[p], plan.starts[p]
+            yield (node.name, process.name, start, start + process.wcet, process.release,
+                   min(process.deadline, instance.horizon), slack(instance, plan, p))
+
+
+def slot_times(instance, plan):
+    """The length of a round, and for each node how far into it its slot begins, and how long that is."""
+    durations = [instance.duration(capacity) for capacity in plan.caps]
+    begins, behind = {}, 0
+    for n in plan.order:
+        begins[n] = behind
+        behind += durations[n]
+    return behind, begins, durations
+
+
+def slot_rows(instance, plan):
+    yield "round", "position", "channel", "node", "start", "frame", "frame_end", "end", "capacity", "used", "messages"
+    length, begins, durations = slot_times(instance, plan)
+    sent = {}
+    for m, message in enumerate(instance.messages):
+        sent.setdefault((plan.rounds[m], instance.sender_node(m)), []).append(message)
+    for r in range(-(-plan.delay // length)):
+        for k, n in enumerate(plan.order):
+            start, frame = r * length + begins[n], sent.get((r, n), [])
+            end = start + durations[n]
+            yield (r, k, 0, instance.nodes[n].name, start, start + instance.lead, end - instance.trail, end, plan.caps[n],
+                   sum(message.bytes for message in frame), " ".join(message.name for message in frame))
+
+
+def message_rows(instance, plan):
+    yield ("message", "sender", "receiver", "bytes", "round", "channel", "node", "ready", "slot", "slot_end", "arrived",
+           "needed")
+    length, begins, durations = slot_times(instance, plan)
+    for m, message in enumerate(instance.messages):
+        n, sender = instance.sender_node(m), instance.processes[message.sender]
+        ready = plan.starts[message.sender] + sender.wcet + instance.copy_out
+        start = plan.rounds[m] * length + begins[n]
+        end = start + durations[n]
+        for q in message.to:
+            yield (message.name, sender.name, instance.processes[q].name, message.bytes, plan.rounds[m], 0,
+                   instance.nodes[n].name, ready, start, end, end + instance.copy_in, plan.starts[q])
+
+
+TABLES = {"processes": process_rows, "slots": slot_rows, "messages": message_rows}
+
+
+def schedule(instance, plan_text, table):
+    """The text of a table of a valid plan; raises Refused."""
+    rows = TABLES[table](instance, verified(instance, plan_text))
+    return "\n".join(",".join(str(cell) for cell in row) for row in rows)
 
 
 # A certificate: its text
@@ -823,10 +906,21 @@ def taken(file, what, limit):
         raise Refused(6, f"read {what}") from fault
 
 
-def run(words):
+def command_of(words):
+    """What is judged by the words, without the table that they name."""
+    table = "processes"
+    if len(words) == 5 and words[0] == "schedule" and words[3] == "--table" and words[4] in TABLES:
+        words, table = words[:3], words[4]
+    if len(words) == 3 and words[0] == "schedule":
+        return (lambda instance, text: schedule(instance, text, table)), "plan", PLAN_BYTES
     if len(words) != 3 or words[0] not in COMMANDS:
-        raise Refused(2, "usage: second_check.py verify INSTANCE PLAN | check INSTANCE CERT")
-    judge, what, limit = COMMANDS[words[0]]
+        raise Refused(2, "usage: second_check.py verify INSTANCE PLAN | check INSTANCE CERT"
+                         " | schedule INSTANCE PLAN [--table TABLE]")
+    return COMMANDS[words[0]]
+
+
+def run(words):
+    judge, what, limit = command_of(words)
     with opened(words[1], "instance") as instance, opened(words[2], what) as text:
         judged = Instance(taken(instance, "instance", INSTANCE_BYTES))
         return judge(judged, taken(text, what, limit))

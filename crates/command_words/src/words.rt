@@ -8,6 +8,7 @@ use crate::names::name_one_file;
 use crate::numbers::{BUDGET, NumberOption, WORKERS};
 use clap::error::ErrorKind;
 use clap::{Arg, ArgAction, ArgMatches, Command, Error};
+use plan_sheets::Table;
 use std::alloc::{AllocError, Global};
 use std::io;
 use std::rt::Env;
@@ -21,6 +22,8 @@ pub enum Task<'a> {
     Tables,
     /// Replay its cycle, in which the frames that these words name are lost.
     Replay(Vec<&'a str>),
+    /// Write one of its tables.
+    Schedule(Table),
 }
 
 /// A command, with the files that it names.
@@ -116,6 +119,26 @@ fn replay_command<'a>(alloc: Global) -> Result<Command<'a>, AllocError> {
     .arg(losses)
 }
 
+/// The names of the tables of `schedule`.
+const TABLES: &[&str] = &["processes", "slots", "messages"];
+
+fn schedule_command<'a>(alloc: Global) -> Result<Command<'a>, AllocError> {
+    let table = Arg::new(alloc, "table")
+        .long("table")
+        .value_name("TABLE")
+        .value_parser(TABLES)
+        .default_value("processes")
+        .help(
+            "Which table: each process in the order of starts, with the ticks by which it may run longer; each slot of the cycle; or each message and receiver",
+        );
+    command_on_files(
+        alloc,
+        "schedule",
+        "Prints a table of a valid plan, as comma-separated values with a head",
+    )?
+    .arg(table)
+}
+
 /// An option `--name` that takes a number, and has a value where it isn't used.
 fn number<'a>(alloc: Global, option: NumberOption, help: &'a str) -> Arg<'a> {
     Arg::new(alloc, option.name)
@@ -182,7 +205,8 @@ fn command<'a>(alloc: Global) -> Result<Command<'a>, AllocError> {
         .subcommand(verify_command(alloc)?)?
         .subcommand(check_command(alloc)?)?
         .subcommand(tables_command(alloc)?)?
-        .subcommand(replay_command(alloc)?)
+        .subcommand(replay_command(alloc)?)?
+        .subcommand(schedule_command(alloc)?)
 }
 
 /// The number of an option.
@@ -249,6 +273,16 @@ fn replay_task<'a>(alloc: Global, matches: &ArgMatches<'a>) -> Result<Task<'a>, 
     Ok(Task::Replay(losses))
 }
 
+/// The task of writing the table that is named.
+fn schedule_task<'a>(matches: &ArgMatches<'a>) -> Result<Task<'a>, Misuse<'a>> {
+    match matches.get_str("table") {
+        Some("processes") => Ok(Task::Schedule(Table::Processes)),
+        Some("slots") => Ok(Task::Schedule(Table::Slots)),
+        Some("messages") => Ok(Task::Schedule(Table::Messages)),
+        _ => Err(Misuse::Missing),
+    }
+}
+
 /// What the words of the subcommand of this name ask for.
 fn request_of<'a>(
     alloc: Global,
@@ -263,6 +297,7 @@ fn request_of<'a>(
         "verify" => request_on_files(matches, Task::Verify),
         "tables" => request_on_files(matches, Task::Tables),
         "replay" => request_on_files(matches, replay_task(alloc, matches)?),
+        "schedule" => request_on_files(matches, schedule_task(matches)?),
         _ => None,
     };
     match request {

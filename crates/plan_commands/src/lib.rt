@@ -6,10 +6,12 @@ mod certified;
 mod losses;
 mod node_tables;
 mod replay;
+mod sheets;
 mod verdict;
 
 pub use bundle::verify_bundle;
 pub use certified::check_run;
 pub use node_tables::tables;
 pub use replay::replay_run;
+pub use sheets::schedule_run;
 pub use verdict::verify;

@@ -4,10 +4,11 @@ ghost use Rattle.std.specs.Prelude.{◌≤◌, IfOk};
 
 use crate::checks::FIRST_CERTIFICATE;
 use crate::replays::{THREE, THREE_PLAN};
-use crate::told::Asked::{Check, Replay, Tables, Verify};
+use crate::told::Asked::{Check, Replay, Schedule, Tables, Verify};
 use crate::told::{Asked, CLUSTER, FIRST, FIRST_PARTS, FIRST_PLAN, Told, joined};
 use command_streams::End;
 use plan_commands::verify_bundle;
+use plan_sheets::Table::Slots;
 use solve_command::{Options, solve_run};
 use std::alloc::{Alloc, AllocError, Global};
 use std::io;
@@ -284,6 +285,7 @@ static ROWS: &[Row] = &[
     (Command::OfTwo(Tables), FIRST, FIRST_PLAN),
     (Command::OfTwo(Replay(&["0/0/*"])), THREE, THREE_PLAN),
     (Command::OfTwo(Check), FIRST, FIRST_CERTIFICATE),
+    (Command::OfTwo(Schedule(Slots)), FIRST, FIRST_PLAN),
     (Command::OfBundle, &[CLUSTER, FIRST_PARTS, "%%\n", FIRST_PLAN], ""),
     (Command::Search, FIRST, ""),
 ];

@@ -20,6 +20,8 @@ mod reports;
 #[cfg(test)]
 mod requests;
 #[cfg(test)]
+mod sheets;
+#[cfg(test)]
 mod solve_streams;
 #[cfg(test)]
 mod solves;

@@ -2,11 +2,13 @@
 
 use crate::checks::FIRST_CERTIFICATE;
 use crate::replays::{ALL_RECEIVED, THREE, THREE_PLAN};
+use crate::sheets::FIRST_PROCESSES;
 use crate::table_texts::FIRST_TABLES;
-use crate::told::Asked::{Check, Replay, Tables, Verify};
+use crate::told::Asked::{Check, Replay, Schedule, Tables, Verify};
 use crate::told::{CLUSTER, FIRST, FIRST_PARTS, FIRST_PLAN, Row, joined};
 use command_streams::{End, report, status};
 use plan_commands::verify_bundle;
+use plan_sheets::Table::Processes;
 use solve_command::{Options, solve_run};
 use std::alloc::{Alloc, Global};
 use std::io::Cursor;
@@ -112,6 +114,7 @@ static ANSWERS: &[Row] = &[
     (Tables, FIRST, &[FIRST_PLAN], FIRST_TABLES, 0),
     (Check, FIRST, &[FIRST_CERTIFICATE], "bound 9\n", 0),
     (Replay(&[]), THREE, &[THREE_PLAN], ALL_RECEIVED, 0),
+    (Schedule(Processes), FIRST, &[FIRST_PLAN], FIRST_PROCESSES, 0),
 ];
 
 /// Run with each allocation refused in turn: the answer is the same, or that memory was refused.

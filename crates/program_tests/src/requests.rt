@@ -31,6 +31,15 @@ static COMMANDS: &[Asking] = &[
         &["ttplan", "replay", "a", "b", "0/1/*", "x"],
         "OnFiles { instance: \"a\", plan: \"b\", task: Replay([\"0/1/*\", \"x\"]) }",
     ),
+    (&["ttplan", "schedule", "a", "b"], "OnFiles { instance: \"a\", plan: \"b\", task: Schedule(Processes) }"),
+    (
+        &["ttplan", "schedule", "a", "b", "--table", "slots"],
+        "OnFiles { instance: \"a\", plan: \"b\", task: Schedule(Slots) }",
+    ),
+    (
+        &["ttplan", "schedule", "--table=messages", "a", "b"],
+        "OnFiles { instance: \"a\", plan: \"b\", task: Schedule(Messages) }",
+    ),
     (&["ttplan", "check", "a", "c"], "Check { instance: \"a\", certificate: \"c\" }"),
     (
         &["ttplan", "solve", "a"],
@@ -101,6 +110,8 @@ static USAGE_FAULTS: &[Refused] = &[
     (&["ttplan", "verify", "a"], "<PLAN>"),
     (&["ttplan", "check", "a"], "<CERT>"),
     (&["ttplan", "tables", "a", "b", "c"], "unexpected argument 'c'"),
+    (&["ttplan", "schedule", "a"], "<PLAN>"),
+    (&["ttplan", "schedule", "a", "b", "--table", "x"], "invalid value 'x' for '--table <TABLE>'"),
     (&["ttplan", "--help"], "Usage: ttplan"),
     (&["ttplan", "solve", "a", "--version"], "unexpected argument '--version'"),
     (&["ttplan", "solve", "a", "--workers", "0"], NO_WORKERS),

@@ -1,7 +1,8 @@
 //! What does a command tell of texts: what it writes, why it is refused, and its status?
 
 use command_streams::{End, report, status};
-use plan_commands::{check_run, replay_run, tables, verify};
+use plan_commands::{check_run, replay_run, schedule_run, tables, verify};
+use plan_sheets::Table;
 use std::alloc::{Alloc, AllocError, Global};
 use std::io::{Read, Write};
 use std::thread::Threads;
@@ -73,6 +74,8 @@ pub enum Asked<'a> {
     /// With the words that name lost frames.
     Replay(&'a [&'a str]),
     Check,
+    /// With the table that is asked for.
+    Schedule(Table),
 }
 
 impl<'a> Asked<'a> {
@@ -89,6 +92,7 @@ impl<'a> Asked<'a> {
             Asked::Tables => tables(rt.alloc(), instance, second, out),
             Asked::Replay(words) => replay_run(rt.alloc(), instance, second, words, out),
             Asked::Check => check_run(rt, rt.alloc(), instance, second, out),
+            Asked::Schedule(table) => schedule_run(rt.alloc(), instance, second, table, out),
         }
     }
 

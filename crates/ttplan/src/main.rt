@@ -4,7 +4,7 @@
 use command_streams::end_with;
 pub use command_streams::{End, Fault, SearchFault, Sink, Source, report, status};
 use command_words::{Request, Task, VERSION, refuse, request_in};
-pub use plan_commands::{check_run, replay_run, tables, verify, verify_bundle};
+pub use plan_commands::{check_run, replay_run, schedule_run, tables, verify, verify_bundle};
 pub use solve_command::{Options, solve_run};
 use solve_command::{Progress, solve_run_with};
 use std::fs::File;
@@ -46,6 +46,9 @@ fn run_on_files(rt: &HostRuntime, instance: &str, plan: &str, task: Task) -> End
             losses.as_slice(),
             &mut out,
         ),
+        Task::Schedule(table) => {
+            schedule_run(rt.alloc(), &mut instance, &mut plan, table, &mut out)
+        }
     }
 }
 

@@ -1,0 +1,17 @@
+use Rattle.command_streams.proofs.Outcomes.{ended_later}
+use Rattle.command_streams.specs.Outcomes.{OnDone}
+use Rattle.plan_commands.specs.Schedules.{IsTableText}
+use Rattle.plan_commands.specs.Verdicts.{IsRefused, IsTold, IsVerified}
+use Rattle.plan_commands.proofs.Tellings.{refused_of_readers, told_of_readers}
+use Rattle.plan_commands.proofs.sheets.schedule_run.Goals as goal
+
+pub returns-in-Ok-print-clause-answer : goal.returns-in-Ok-print-clause-answer
+returns-in-Ok-print-clause-answer g c =
+    told_of_readers (IsTableText c.args.table) IsRefused _ _ c.in-Ok.verified _ _ _ _ c.in-Ok.ensures.judged c.in-Ok-print.ensures (rw c.as_slice.ensures.value at c.end_with.ensures)
+
+pub returns-in-Ok-print-clause-order : goal.returns-in-Ok-print-clause-order
+returns-in-Ok-print-clause-order g c = ended_later _ _ _ _ _ c.end_with.ensures
+
+pub returns-in-Err-clause-answer : goal.returns-in-Err-clause-answer
+returns-in-Err-clause-answer g c =
+    refused_of_readers (λ instance plan. OnDone (IsTold (IsVerified instance plan) (IsTableText c.args.table))) _ _ _ c.in-Err.fault c.in-Err.ensures.judged

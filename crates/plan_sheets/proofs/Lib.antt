@@ -1,0 +1,5 @@
+pub mod Growing
+pub mod Least
+pub mod Longer
+pub mod Exact
+pub mod Placing

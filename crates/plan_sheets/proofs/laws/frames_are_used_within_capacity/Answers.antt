@@ -1,0 +1,6 @@
+use Rattle.std.proofs.Common.{slice_index}
+use Rattle.ttp_model.proofs.ValidPlans.{frames_fit_lem}
+use Rattle.plan_sheets.proofs.laws.frames_are_used_within_capacity.Goals as goal
+
+pub returns : goal.returns
+returns c = λ i plan r k w. frames_fit_lem i plan (slice_index plan.order k) r w

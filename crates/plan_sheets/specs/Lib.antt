@@ -1,0 +1,10 @@
+pub mod Lines
+pub mod Slack
+pub mod Order
+pub mod Dispatch
+pub mod Slots
+pub mod Deliveries
+pub mod Tables
+pub use Rattle.tt_layout.specs.Instance
+pub use Rattle.tt_layout.specs.Plans
+pub use Rattle.tt_layout.specs.Cycle

@@ -1,0 +1,18 @@
+//! What people and programs are told of a plan, as tables of comma-separated values: when each process is dispatched and
+//! by how much it may run longer, what each slot carries, and when each message is ready, sent and there.
+#![tactic(auto)]
+
+mod deliveries;
+mod dispatch;
+mod laws;
+mod order;
+mod sheet;
+mod slack;
+mod slots;
+mod table;
+
+pub use laws::{
+    dispatch_has_each_process, frames_are_used_within_capacity, messages_are_in_time, slack_is_exact,
+};
+pub use table::{Table, print};
+pub use ttp_model::MemoryFault;

@@ -1,0 +1,218 @@
+//! What does each slot carry, and when?
+
+ghost use Rattle.std.specs.Prelude.{◌≡◌, ◌<◌, ◌≤◌, ◌++◌, ◌↔◌, ◌*◌, [], All, Contains, IfOk, IsTrue, OnOk, drop, length};
+ghost use Rattle.ttp_model.specs.declared.limits.TheConstants.{MOST_BYTES, MOST_MESSAGES};
+ghost use Rattle.ttp_model.specs.Plans.{HasLengths, IsValid, load_of};
+ghost use Rattle.tt_layout.specs.Layout.{timing};
+ghost use Rattle.plan_sheets.specs.Lines.{IsLineStart, IsSheet, text_of};
+ghost use Rattle.plan_sheets.specs.Slots.{IsSlotRow, is_in_frame, messages_in, round_text, slot_line, slot_of, slots_text, spaced_names};
+
+use crate::sheet::Sheet;
+use line_text::push_word;
+use std::alloc::Global;
+use tt_layout::{Layout, cycle_rounds};
+use ttp_model::{Instance, MOST_NODES, MOST_TICKS, MemoryFault, Numbers, Plan, bytes_in};
+
+/// A slot of the cycle.
+#[derive(Debug, Drop)]
+pub struct Slot {
+    /// The round, from 0.
+    pub round: u32,
+    /// The position of the slot in the order, from 0.
+    pub position: u32,
+    /// The channel.
+    pub channel: u32,
+    /// The node that sends in it, by its index in the instance.
+    pub node: u32,
+    /// When it begins, in ticks.
+    pub start: u64,
+    /// When its frame begins.
+    pub frame: u64,
+    /// When its frame ends: the first tick after it.
+    pub frame_end: u64,
+    /// When it ends.
+    pub end: u64,
+    /// How many bytes the frame may carry.
+    pub capacity: u32,
+    /// How many it carries.
+    pub used: u32,
+    /// The messages of the frame in the instance's order, by their indices.
+    pub messages: Numbers,
+}
+
+/// The table of slots, in order of time. Messages are looked at in the rounds in which one is sent.
+pub fn slots(alloc: Global, instance: &Instance, plan: &Plan) -> Result<Vec<u8>, MemoryFault>
+    requires { IsValid instance.now plan.now }
+    ensures { IfOk result (λ text. text.items ≡ slots_text instance.now plan.now) }
+{
+    let rounds = cycle_rounds(instance, plan);
+    let mut sheet = Sheet::new(
+        alloc,
+        b"round,position,channel,node,start,frame,frame_end,end,capacity,used,messages\n",
+    )?;
+    for round in 0..rounds {
+        put_round(alloc, &mut sheet, instance, plan, round)?;
+    }
+    sheet.into_text()
+}
+
+/// Adds the lines of a round.
+fn put_round(
+    alloc: Global,
+    sheet: &mut Sheet,
+    instance: &Instance,
+    plan: &Plan,
+    round: u32,
+) -> Result<(), MemoryFault>
+    requires valid { IsValid instance.now plan.now }
+    requires start { IsLineStart sheet.old }
+    ensures { OnOk result (IsSheet sheet.new (text_of sheet.old ++ round_text instance.now plan.now round) []) }
+{
+    let layout = Layout::of(instance, plan.order.as_slice(), plan.caps.as_slice());
+    let count = instance.nodes().len();
+    let sends = plan.rounds.contains(round);
+    for k in 0..count {
+        let row = slot_of(alloc, instance, plan, &layout, round, k, sends)?;
+        put_slot(alloc, sheet, instance, &row)?;
+    }
+    Ok(())
+}
+
+/// The slot at position `k` of a round. Whether any message is sent in the round is known.
+fn slot_of(
+    alloc: Global,
+    instance: &Instance,
+    plan: &Plan,
+    layout: &Layout,
+    round: u32,
+    k: usize,
+    sends: bool,
+) -> Result<Slot, MemoryFault>
+    requires valid { IsValid instance.now plan.now }
+    requires layout { layout.now ≡ timing instance.now.cluster plan.now.order plan.now.caps }
+    requires inside { k < length instance.now.nodes }
+    requires few { k < MOST_NODES }
+    requires sends { IsTrue sends ↔ Contains plan.now.rounds round }
+    ensures row { IfOk result (λ row. row ≡ slot_of instance.now plan.now round k) }
+    ensures there { IfOk result (IsSlotRow instance.now) }
+{
+    let cluster = instance.cluster();
+    let node = plan.order.as_slice()[k];
+    let start = layout.slot_start(node, round);
+    let end = start + layout.duration(node);
+    Ok(Slot {
+        round,
+        position: k as u32,
+        channel: 0,
+        node,
+        start,
+        frame: start + u64::from(cluster.lead),
+        frame_end: end - u64::from(cluster.trail),
+        end,
+        capacity: plan.caps.as_slice()[node as usize],
+        used: load_of(instance, plan, node, round, sends),
+        messages: messages_in(alloc, instance, plan, node, round, sends)?,
+    })
+}
+
+/// How many bytes the messages of a frame have. Where no message is sent in the round, none is looked at.
+fn load_of(instance: &Instance, plan: &Plan, n: u32, r: u32, sends: bool) -> u32
+    requires lengths { HasLengths instance.now plan.now }
+    requires sends { IsTrue sends ↔ Contains plan.now.rounds r }
+    ensures { result ≡ load_of instance.now plan.now n r }
+{
+    if !sends {
+        return 0;
+    }
+    let count = instance.messages().len();
+    let mut load = 0;
+    for m in 0..count {
+        load += bytes_in(instance, plan, n, r, m);
+    }
+    load
+}
+
+/// The messages of a frame. Where no message is sent in the round, none is looked at.
+fn messages_in(
+    alloc: Global,
+    instance: &Instance,
+    plan: &Plan,
+    n: u32,
+    r: u32,
+    sends: bool,
+) -> Result<Numbers, MemoryFault>
+    requires lengths { HasLengths instance.now plan.now }
+    requires sends { IsTrue sends ↔ Contains plan.now.rounds r }
+    ensures messages { IfOk result (λ messages. messages ≡ messages_in instance.now plan.now n r) }
+{
+    let mut messages = Vec::new(alloc);
+    if !sends {
+        return Ok(Numbers::new(messages));
+    }
+    let count = instance.messages().len();
+    for m in 0..count {
+        if is_in_frame(instance, plan, n, r, m) {
+            messages.push(m as u32)?;
+        }
+    }
+    Ok(Numbers::new(messages))
+}
+
+/// Whether a message is in the frame of node `n` in round `r`.
+fn is_in_frame(instance: &Instance, plan: &Plan, n: u32, r: u32, m: usize) -> bool
+    requires lengths { HasLengths instance.now plan.now }
+    requires inside { m < length instance.now.messages }
+    ensures { result ≡ is_in_frame instance.now plan.now n r m }
+{
+    instance.source_of(m) == n && plan.rounds.as_slice()[m] == r
+}
+
+/// Adds the line of a slot.
+fn put_slot(
+    alloc: Global,
+    sheet: &mut Sheet,
+    instance: &Instance,
+    row: &Slot,
+) -> Result<(), MemoryFault>
+    requires there { IsSlotRow instance.now row.now }
+    requires start { IsLineStart sheet.old }
+    ensures { OnOk result (IsSheet sheet.new (text_of sheet.old ++ slot_line instance.now row.now) []) }
+{
+    let names = spaced_names(alloc, instance, row.messages.as_slice())?;
+    sheet.put_number(row.round as u64)?;
+    sheet.put_number(row.position as u64)?;
+    sheet.put_number(row.channel as u64)?;
+    sheet.put(instance.nodes()[row.node as usize].name.as_bytes())?;
+    sheet.put_number(row.start)?;
+    sheet.put_number(row.frame)?;
+    sheet.put_number(row.frame_end)?;
+    sheet.put_number(row.end)?;
+    sheet.put_number(row.capacity as u64)?;
+    sheet.put_number(row.used as u64)?;
+    sheet.put(without_first(names.as_slice()))?;
+    sheet.end_line()?;
+    Ok(())
+}
+
+/// The names of messages, each with a space before it.
+fn spaced_names(
+    alloc: Global,
+    instance: &Instance,
+    messages: &[u32],
+) -> Result<Vec<u8>, MemoryFault>
+    requires { All (λ m. m < length instance.now.messages) messages.now }
+    ensures { IfOk result (λ names. names.items ≡ spaced_names instance.now messages.now) }
+{
+    let mut names = Vec::new(alloc);
+    for m in messages {
+        push_word(&mut names, instance.message_at(*m as usize).name.as_bytes())?;
+    }
+    Ok(names)
+}
+
+/// What stands behind the first byte.
+fn without_first(bytes: &[u8]) -> &[u8]
+    ensures { result.now ≡ drop 1 bytes.now }
+{
+    if bytes.is_empty() { bytes } else { &bytes[1..] }
+}
