@@ -12,11 +12,11 @@ use Rattle.plan_sheets.proofs.Least.{le-least, least-le, least-le-top}
 use Rattle.plan_sheets.proofs.Longer.{deadline-kept, end-other, end-same, load-kept, node-kept, process-other, processes-length, release-kept, sent_from-kept, sent_until-kept, source-kept}
 
 -- what each limit asks of the time at which p ends
-record AllAllow (i : Instance) (plan : Plan) (p time : ℕ) : Type 0 where
-  last : time ≤ last_end i p
-  processes : (q : ℕ) → q < length i.processes → time ≤ limit_of_process i plan p q
-  links : (l : ℕ) → l < length i.links → time ≤ limit_of_link i plan p l
-  messages : (m : ℕ) → m < length i.messages → time ≤ limit_of_message i plan p m
+pub record AllAllow (i : Instance) (plan : Plan) (p time : ℕ) : Type 0 where
+  pub last : time ≤ last_end i p
+  pub processes : (q : ℕ) → q < length i.processes → time ≤ limit_of_process i plan p q
+  pub links : (l : ℕ) → l < length i.links → time ≤ limit_of_link i plan p l
+  pub messages : (m : ℕ) → m < length i.messages → time ≤ limit_of_message i plan p m
 
 module _ (i : Instance) (plan : Plan) (p : ℕ) where
   abbrev of_processes : ℕ
@@ -88,10 +88,7 @@ module _ (i : Instance) (plan : Plan) (p time : ℕ) where
     | inr other ↦ absurd (other.1 same)
   ]
 
-module _ (i : Instance) (plan : Plan) (wi : IsInstance i) (w : IsValid i plan) (p : ℕ) (inside : p < length i.processes) where
-  runs : (q : ℕ) → q < length i.processes → 1 ≤ (process_at i q).wcet
-  runs q lt = (wi.ranges (AtProcess q) lt).wcet_least
-
+module _ (i : Instance) (plan : Plan) (w : IsValid i plan) (p : ℕ) (inside : p < length i.processes) where
   -- p's end now
   pub allowed-now : AllAllow i plan p (end_of i plan p)
   allowed-now =
@@ -99,12 +96,16 @@ module _ (i : Instance) (plan : Plan) (wi : IsInstance i) (w : IsValid i plan) (
       record {
         last = omega (arith, last);
         processes = λ q lt. process-allows i plan p (end_of i plan p) last.1 q (λ same before. before);
-        links = λ l lt. link-allows i plan p (end_of i plan p) last.1 l (λ same. rw same at (w.links l lt));
-        messages = λ m lt. message-allows i plan p (end_of i plan p) last.1 m (λ same. rw same at (w.ready m lt));
+        links = λ l lt. link-allows i plan p (end_of i plan p) last.1 l (λ same. omega (arith, w.links l lt, ap (end_of i plan) same));
+        messages = λ m lt. message-allows i plan p (end_of i plan p) last.1 m (λ same. omega (arith, w.ready m lt, ap (end_of i plan) same));
       }
 
   pub end-le-latest : end_of i plan p ≤ latest_end i plan p
   end-le-latest = latest-allowed i plan p (end_of i plan p) allowed-now
+
+module _ (i : Instance) (plan : Plan) (wi : IsInstance i) (w : IsValid i plan) (p : ℕ) (inside : p < length i.processes) where
+  runs : (q : ℕ) → q < length i.processes → 1 ≤ (process_at i q).wcet
+  runs q lt = (wi.ranges (AtProcess q) lt).wcet_least
 
   module _ (ticks : ℕ) where
     abbrev j : Instance
@@ -139,17 +140,21 @@ module _ (i : Instance) (plan : Plan) (wi : IsInstance i) (w : IsValid i plan) (
         let p_there : p < length j.processes = omega (arith, inside, processes-length i p ticks inside) in
         let last = v.in_time p p_there in
         let horizon : time ≤ i.cluster.horizon = omega (arith, last.1, here) in
-        let all : AllAllow i plan p time = record {
+        let all_allow : AllAllow i plan p time = record {
           last = omega (arith, last.0, here, deadline-kept i p ticks inside p, horizon);
           processes = λ q lt. process-allows i plan p time horizon q (apart-allows q lt v);
-          links = λ l lt. link-allows i plan p time horizon l (λ same. (let kept = rw same at (v.links l lt) in omega (arith, kept, here)));
-          messages = λ m lt. message-allows i plan p time horizon m (λ same. (let kept = rw same at (v.ready m lt) in omega (arith, kept, here, sent_from-kept i p ticks inside plan m)));
+          links = λ l lt. link-allows i plan p time horizon l (λ same. omega (arith, v.links l lt, ap (end_of j plan) same, here));
+          messages = λ m lt. message-allows i plan p time horizon m (λ same. omega (arith, v.ready m lt, ap (end_of j plan) same, here, sent_from-kept i p ticks inside plan m));
         } in
-        omega (arith, latest-allowed i plan p time all)
+        omega (arith, latest-allowed i plan p time all_allow)
 
     module _ (le : ticks ≤ slack i plan p) where
       all : AllAllow i plan p time
-      all = allowed-latest i plan p time (omega (arith, le, end-le-latest))
+      all = allowed-latest i plan p time (omega (arith, le, end-le-latest i plan w p inside))
+
+      -- p can still end by its deadline when it starts at its release
+      pub ends-by-deadline : (process_at i p).release + (process_at i p).wcet + ticks ≤ (process_at i p).deadline
+      ends-by-deadline = omega (arith, all.last, w.released p inside)
 
       -- an end is as late as that of p at most, or is what it was
       end-cases : (q : ℕ) → ((q ≡ p) × (end_of j plan q ≡ time)) ⊎ ((q ≢ p) × (end_of j plan q ≡ end_of i plan q))

@@ -1,7 +1,7 @@
 -- A table grows cell by cell and line by line.
-use Rattle.std.proofs.Common.{◌≡◌, ◌∙◌, ℕ, ◌+◌, ◌<◌, List, [], ◌∷◌, ◌++◌, length, slice_index, take, ap, append_assoc, refl}
+use Rattle.std.proofs.Common.{◌≡◌, ◌∙◌, ℕ, ◌+◌, ◌<◌, List, [], ◌∷◌, ◌++◌, length, slice_index, take, ap, sym}
 use Rattle.std.specs.List.{flat_map, range_with_len}
-use Rattle.std.proofs.lemmas.List.{flat_map_more, take_more}
+use Rattle.std.proofs.lemmas.List.{append-nil, flat_map_more, take_more}
 use Rattle.tt_layout.proofs.Ranges.{append-flat_map-range_with_len_more}
 use Rattle.plan_sheets.specs.declared.sheet.Sheet.{Sheet}
 use Rattle.plan_sheets.specs.Lines.{IsLineStart, IsSheet, IsTidy, cells_of, line_of, text_of}
@@ -23,6 +23,13 @@ line_ends begun now next cells so_far is =
 
 pub line_starts : (s : Sheet) (text : List ℕ) → IsSheet s text [] → IsLineStart s
 line_starts s text is = record { tidy = is.tidy; empty = is.cells }
+
+-- before any line of its own
+pub line_begins : (s : Sheet) → IsLineStart s → IsSheet s (text_of s ++ []) []
+line_begins s start = record { tidy = start.tidy; text = sym (append-nil (text_of s)); cells = start.empty }
+
+pub head_begins : (s : Sheet) (head : List ℕ) → IsSheet s head [] → IsSheet s (head ++ []) []
+head_begins s head is = record { tidy = is.tidy; text = is.text ∙ sym (append-nil head); cells = is.cells }
 
 -- the lines of one number more
 pub range_grows : (s t : Sheet) (before : List ℕ) (f : ℕ → List ℕ) (k : ℕ) → IsSheet s (before ++ flat_map f (range_with_len 0 k)) [] → IsSheet t (text_of s ++ f k) [] → IsSheet t (before ++ flat_map f (range_with_len 0 (k + 1))) []

@@ -1,5 +1,8 @@
 pub mod Growing
+pub mod Filters
+pub mod Frames
 pub mod Least
 pub mod Longer
 pub mod Exact
+pub mod Lawful
 pub mod Placing

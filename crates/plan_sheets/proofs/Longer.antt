@@ -34,6 +34,9 @@ module _ (i : Instance) (p ticks : ℕ) (inside : p < length i.processes) where
   pub node-kept : (q : ℕ) → node_of (longer i p ticks) q ≡ node_of i q
   node-kept = kept (λ (x : Process). x.node) refl
 
+  pub name-kept : (q : ℕ) → (process_at (longer i p ticks) q).name ≡ (process_at i q).name
+  name-kept = kept (λ (x : Process). x.name) refl
+
   pub release-kept : (q : ℕ) → (process_at (longer i p ticks) q).release ≡ (process_at i q).release
   release-kept = kept (λ (x : Process). x.release) refl
 

@@ -58,28 +58,28 @@ fn put_node(
     let order = order_of(alloc, instance, plan, node)?;
     let processes = order.as_slice();
     for p in processes {
-        let row = dispatch_of(instance, plan, *p as usize);
+        let row = dispatch_of(instance, plan, *p);
         put_dispatch(sheet, instance, &row)?;
     }
     Ok(())
 }
 
 /// What a dispatcher is told of process `p`.
-fn dispatch_of(instance: &Instance, plan: &Plan, p: usize) -> Dispatch
+fn dispatch_of(instance: &Instance, plan: &Plan, p: u32) -> Dispatch
     requires valid { IsValid instance.now plan.now }
     requires inside { p < length instance.now.processes }
     ensures row { result ≡ dispatch_of instance.now plan.now p }
     ensures there { IsDispatchRow instance.now result }
 {
-    let process = instance.process_at(p);
+    let process = instance.process_at(p as usize);
     Dispatch {
         node: process.node,
-        process: p as u32,
-        start: plan.starts.as_slice()[p],
-        end: end_of(instance, plan, p),
+        process: p,
+        start: plan.starts.as_slice()[p as usize],
+        end: end_of(instance, plan, p as usize),
         release: process.release,
-        deadline: last_end(instance, p),
-        slack: slack(instance, plan, p),
+        deadline: last_end(instance, p as usize),
+        slack: slack(instance, plan, p as usize),
     }
 }
 

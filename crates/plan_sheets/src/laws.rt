@@ -14,10 +14,13 @@ ghost use Rattle.plan_sheets.specs.Slack.{longer, slack};
 ghost use Rattle.plan_sheets.specs.Slots.{slot_of};
 
 /// Where a process runs for some ticks more and all else stays, the plan stays valid just where they are no more than
-/// its slack: the ten rules of a plan are asked, in the instance with that process's worst-case execution time changed.
+/// its slack. The ten rules of a plan are asked, in the instance with that process's worst-case execution time changed;
+/// that one is an instance too, as long as the plan is valid.
 pub fn slack_is_exact()
-    ensures { (i : Instance) (plan : Plan) (p ticks : ℕ) → IsInstance i → IsValid i plan → p < length i.processes
+    ensures exact { (i : Instance) (plan : Plan) (p ticks : ℕ) → IsInstance i → IsValid i plan → p < length i.processes
         → IsValid (longer i p ticks) plan ↔ (ticks ≤ slack i plan p) }
+    ensures lawful { (i : Instance) (plan : Plan) (p ticks : ℕ) → IsInstance i → IsValid i plan → p < length i.processes
+        → ticks ≤ slack i plan p → IsInstance (longer i p ticks) }
 {}
 
 /// The rows of a node's processes are all of these, each once, by rising starts, and each ends before the next starts.

@@ -55,13 +55,11 @@ impl Sheet {
         requires { IsTidy self.old }
         ensures { OnOk result (IsSheet self.new (text_of self.old ++ line_of (cells_of self.old)) []) }
     {
-        match self.writer.write_byte_record(&self.cells) {
-            Ok(()) => {
-                self.cells.clear();
-                Ok(())
-            }
-            Err(_) => Err(MemoryFault),
-        }
+        let Ok(()) = self.writer.write_byte_record(&self.cells) else {
+            return Err(MemoryFault);
+        };
+        self.cells.clear();
+        Ok(())
     }
 
     /// The text.

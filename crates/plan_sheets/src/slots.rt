@@ -93,8 +93,7 @@ fn slot_of(
     requires inside { k < length instance.now.nodes }
     requires few { k < MOST_NODES }
     requires sends { IsTrue sends ↔ Contains plan.now.rounds round }
-    ensures row { IfOk result (λ row. row ≡ slot_of instance.now plan.now round k) }
-    ensures there { IfOk result (IsSlotRow instance.now) }
+    ensures { IfOk result (λ row. row ≡ slot_of instance.now plan.now round k) }
 {
     let cluster = instance.cluster();
     let node = plan.order.as_slice()[k];
@@ -143,7 +142,7 @@ fn messages_in(
 ) -> Result<Numbers, MemoryFault>
     requires lengths { HasLengths instance.now plan.now }
     requires sends { IsTrue sends ↔ Contains plan.now.rounds r }
-    ensures messages { IfOk result (λ messages. messages ≡ messages_in instance.now plan.now n r) }
+    ensures { IfOk result (λ messages. messages ≡ messages_in instance.now plan.now n r) }
 {
     let mut messages = Vec::new(alloc);
     if !sends {

@@ -3,9 +3,9 @@ use Rattle.csv.specs.declared.writer.QuoteStyle.TheVariants as style
 use Rattle.plan_sheets.specs.Lines.{cells_of, line_of, text_of}
 use Rattle.plan_sheets.proofs.sheet.Sheet.end_line.Goals as goal
 
-pub returns-in-Ok : goal.returns-in-Ok
+pub returns : goal.returns
 unfolding cells_of line_of text_of
-returns-in-Ok c =
+returns c =
     let tidy = c.requires in
     let plain : c.args.self.now.writer.cfg.style ≢ style.NonNumeric = rw tidy.setup (λ e. cc e) in
     let gains = c.in-Ok.ensures.bytes tidy.fields tidy.wrote plain in
