@@ -1,6 +1,6 @@
 -- A plan stays valid for as many ticks of a process as its slack says, and for no more.
-use Rattle.std.proofs.Common.{◌≡◌, ◌≢◌, ℕ, ◌+◌, ◌-◌, ◌<◌, ◌≤◌, ◌⊎◌, ◌==◌, ◌&&◌, nat_le, true, false, length, slice_index, arith, inl, inr, refl, ap, sym}
-use Rattle.std.proofs.lemmas.Bool.{cases_cond, cases_eq, cases_order}
+use Rattle.std.proofs.Common.{◌≡◌, ◌≢◌, ℕ, ◌+◌, ◌-◌, ◌<◌, ◌≤◌, ◌⊎◌, length, arith, inl, inr, ap, sym}
+use Rattle.std.proofs.lemmas.Bool.{cases_eq, cases_order}
 use Rattle.std.proofs.lemmas.Bool.Decides.{eqb_tells, leb_tells}
 use Rattle.ttp_model.specs.declared.plan.Plan.{Plan}
 use Rattle.ttp_model.specs.declared.error.Place.TheVariants.{AtProcess}
@@ -9,7 +9,7 @@ use Rattle.ttp_model.specs.Rules.{IsInstance}
 use Rattle.ttp_model.specs.Plans.{AreApart, EndsBefore, IsValid, end_of, round_of, sent_from, start_of}
 use Rattle.plan_sheets.specs.Slack.{last_end, latest_end, least, limit_of_link, limit_of_message, limit_of_process, longer, slack}
 use Rattle.plan_sheets.proofs.Least.{le-least, least-le, least-le-top}
-use Rattle.plan_sheets.proofs.Longer.{deadline-kept, end-other, end-same, load-kept, node-kept, process-other, processes-length, release-kept, sent_from-kept, sent_until-kept, source-kept}
+use Rattle.plan_sheets.proofs.Longer.{deadline-kept, end-other, end-same, load-kept, node-kept, processes-length, release-kept, sent_from-kept, sent_until-kept, source-kept}
 
 -- what each limit asks of the time at which p ends
 pub record AllAllow (i : Instance) (plan : Plan) (p time : ℕ) : Type 0 where

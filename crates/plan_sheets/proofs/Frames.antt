@@ -1,5 +1,5 @@
 -- What the frames of a round carry in which no message is sent, and that a slot names what is there.
-use Rattle.std.proofs.Common.{◌≡◌, ◌≢◌, ℕ, ◌<◌, ◌==◌, Bool, false, [], All, Contains, filter, if◌then◌else◌, length, slice_index, arith, inl, inr, refl}
+use Rattle.std.proofs.Common.{◌≡◌, ◌≢◌, ℕ, ◌<◌, ◌==◌, false, [], All, Contains, length, slice_index, arith, inl, inr, refl}
 use Rattle.std.specs.List.{range_with_len}
 use Rattle.std.proofs.lemmas.Bool.{and_right}
 use Rattle.std.proofs.lemmas.Bool.Decides.{eqb_tells}
@@ -7,7 +7,7 @@ use Rattle.std.proofs.lemmas.Grind.{common_steps}
 use Rattle.std.proofs.lemmas.List.Elements.{All-filter}
 use Rattle.std.proofs.lemmas.List.FromFn.{get_or-range_with_len, length-range_with_len}
 use Rattle.ttp_model.specs.declared.plan.Plan.{Plan}
-use Rattle.ttp_model.specs.Instance.{Instance, message_at, source_of}
+use Rattle.ttp_model.specs.Instance.{Instance, source_of}
 use Rattle.ttp_model.specs.Plans.{HasLengths, IsValid, bytes_in, load_of, round_of}
 use Rattle.ttp_model.proofs.Totals.{total_none}
 use Rattle.plan_sheets.specs.Slots.{IsSlotRow, is_in_frame, messages_in, slot_of}

@@ -4,7 +4,7 @@ use Rattle.std.specs.List.{flat_map, range_with_len}
 use Rattle.std.proofs.lemmas.List.{append-nil, flat_map_more, take_more}
 use Rattle.tt_layout.proofs.Ranges.{append-flat_map-range_with_len_more}
 use Rattle.plan_sheets.specs.declared.sheet.Sheet.{Sheet}
-use Rattle.plan_sheets.specs.Lines.{IsLineStart, IsSheet, IsTidy, cells_of, line_of, text_of}
+use Rattle.plan_sheets.specs.Lines.{IsLineStart, IsSheet, cells_of, line_of, text_of}
 
 -- since a line began, these cells were put into it
 pub record IsRow (begun now : Sheet) (row : List (List ℕ)) : Type 0 where

@@ -1,14 +1,13 @@
 -- Where a process runs longer by its slack at most, the instance still keeps all rules of an instance.
-use Rattle.std.proofs.Common.{◌≡◌, ◌≢◌, ℕ, ◌+◌, ◌<◌, ◌≤◌, length, All, arith, inl, inr, refl, ap, subst, sym}
+use Rattle.std.proofs.Common.{ℕ, ◌+◌, ◌<◌, ◌≤◌, length, arith, inl, inr, subst, sym}
 use Rattle.std.proofs.lemmas.Bool.{cases_eq}
-use Rattle.ttp_model.specs.declared.parts.Process.{Process}
 use Rattle.ttp_model.specs.declared.error.Place.{Place}
 use Rattle.ttp_model.specs.declared.error.Place.TheVariants.{AtCluster, AtNode, AtProcess, AtLink, AtMessage}
-use Rattle.ttp_model.specs.Instance.{Instance, link_at, message_at, node_of, process_at}
-use Rattle.ttp_model.specs.Graph.{HasLink, HasMessage, IsClosedWalk, Leads}
-use Rattle.ttp_model.specs.Rules.{CanEndInTime, IsInRange, IsInstance, IsNamed, IsNewName, IsProcessInRange, NamesWhatIsThere, StaysOnNode}
+use Rattle.ttp_model.specs.Instance.{Instance, link_at, message_at, process_at}
+use Rattle.ttp_model.specs.Graph.{Leads}
+use Rattle.ttp_model.specs.Rules.{CanEndInTime, IsInRange, IsInstance, IsNamed, IsNewName, IsProcessInRange, NamesWhatIsThere}
 use Rattle.plan_sheets.specs.Slack.{longer}
-use Rattle.plan_sheets.proofs.Longer.{deadline-kept, name-kept, node-kept, process-other, process-same, processes-length, release-kept, source-kept}
+use Rattle.plan_sheets.proofs.Longer.{name-kept, node-kept, process-other, process-same, processes-length, source-kept}
 
 module _ (i : Instance) (p ticks : ℕ) (inside : p < length i.processes) (wi : IsInstance i) (ends : (process_at i p).release + (process_at i p).wcet + ticks ≤ (process_at i p).deadline) where
   abbrev j : Instance

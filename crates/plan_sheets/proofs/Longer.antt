@@ -1,12 +1,11 @@
 -- What changes in an instance where a process runs longer, and what stays.
-use Rattle.std.proofs.Common.{◌≡◌, ◌≢◌, ◌∙◌, ℕ, ◌+◌, ◌<◌, length, slice_index_or, slice_set, arith, inl, inr, refl, ap, sym}
+use Rattle.std.proofs.Common.{◌≡◌, ◌≢◌, ◌∙◌, ℕ, ◌+◌, ◌<◌, length, arith, inl, inr, refl, ap, sym}
 use Rattle.std.proofs.lemmas.Bool.{cases_eq}
 use Rattle.std.proofs.lemmas.List.{get_or-set_same, get_or-set_other, length-set}
 use Rattle.ttp_model.specs.declared.parts.Process.{Process}
 use Rattle.ttp_model.specs.declared.plan.Plan.{Plan}
 use Rattle.ttp_model.specs.Instance.{Instance, message_at, no_process, node_of, process_at, source_of}
 use Rattle.ttp_model.specs.Plans.{bytes_in, end_of, load_of, sent_from, sent_until}
-use Rattle.ttp_model.specs.Slots.{slot_end, slot_start}
 use Rattle.ttp_model.proofs.Totals.{total_same}
 use Rattle.plan_sheets.specs.Slack.{longer}
 

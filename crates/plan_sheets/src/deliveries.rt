@@ -78,13 +78,7 @@ fn put_message(
 }
 
 /// Message `m` on its way to process `q`.
-fn delivery_of(
-    instance: &Instance,
-    plan: &Plan,
-    layout: &Layout,
-    m: usize,
-    q: usize,
-) -> Delivery
+fn delivery_of(instance: &Instance, plan: &Plan, layout: &Layout, m: usize, q: usize) -> Delivery
     requires valid { IsValid instance.now plan.now }
     requires layout { layout.now ≡ timing instance.now.cluster plan.now.order plan.now.caps }
     requires inside { m < length instance.now.messages }

@@ -1,4 +1,4 @@
-use Rattle.std.proofs.Common.{◌≡◌, ◌<◌, arith, length}
+use Rattle.std.proofs.Common.{arith}
 use Rattle.std.proofs.lemmas.List.{take_all}
 use Rattle.plan_sheets.specs.Dispatch.{dispatch_text, node_text}
 use Rattle.plan_sheets.proofs.Growing.{line_begins, line_starts, list_grows}
