@@ -245,35 +245,55 @@ def example_cases():
     """The examples' instances with the plans and certificates that go with them by name."""
     folder = ROOT / "examples"
     for instance in sorted(folder.glob("*.toml")):
-        for text in sorted(folder.glob("*.plan")) + sorted(folder.glob("*.cert")):
-            if text.stem.startswith(instance.stem):
-                yield ("verify" if text.suffix == ".plan" else "check"), instance.read_bytes(), text.read_bytes()
+        plans, certificates = ([text.read_bytes() for text in sorted(folder.glob(f"*.{kind}")) if text.stem.startswith(instance.stem)]
+                               for kind in ("plan", "cert"))
+        yield from (("verify", instance.read_bytes(), plan) for plan in plans)
+        yield from (("check", instance.read_bytes(), certificate) for certificate in certificates)
+        yield from (("judge", instance.read_bytes(), plan, certificate) for plan in plans for certificate in certificates)
+
+
+def made_place(dice, plan):
+    """What may stand in a plan's place: the plan, or what a search printed that was stopped, or that there is none."""
+    best = dice.choice([b"none", b"%d" % dice.choice([0, 9, 4294967295, 4294967296])])
+    line = b"stopped %b %d %b\n" % (dice.choice([b"budget", b"memory"]), dice.choice([0, 8, 4294967295]), best)
+    return dice.choice([plan, plan, b"none\n", line + plan, line + plan, line])
+
+
+def made_texts(dice, command, instance):
+    """The texts of a command behind the instance's."""
+    plan, certificate = made_plan(dice, instance), made_certificate(dice, instance)
+    return {"verify": [plan], "check": [certificate], "judge": [made_place(dice, plan), certificate]}[command]
 
 
 def case(dice, examples):
-    """A command and its two texts."""
+    """A command and its texts."""
     if dice.random() < 0.3:
-        command, instance, text = dice.choice(examples)
+        command, *texts = dice.choice(examples)
     else:
-        command, instance = dice.choice(["verify", "check", "check"]), made_instance(dice)
+        command, texts = dice.choice(["verify", "check", "check", "judge"]), [made_instance(dice)]
         try:
-            read = second_check.Instance(instance)
+            read = second_check.Instance(texts[0])
         except second_check.Refused:
-            return command, instance, b""
-        text = made_plan(dice, read) if command == "verify" else made_certificate(dice, read)
+            return command, *texts, *[b""] * (2 if command == "judge" else 1)
+        texts += made_texts(dice, command, read)
         if command == "check" and dice.random() < 0.7:
-            return command, instance, text
+            return command, *texts
     where = dice.random()
     if where < 0.3:
-        instance = damaged(dice, instance)
+        texts[0] = damaged(dice, texts[0])
     elif where < 0.9:
-        text = damaged(dice, text)
-    return command, instance, text
+        at = dice.randrange(1, len(texts))
+        texts[at] = damaged(dice, texts[at])
+    return command, *texts
 
 
-def second(command, instance, text):
+def second(command, instance, *texts):
     try:
-        return 0, second_check.COMMANDS[command][0](second_check.Instance(instance), text)
+        judged = second_check.Instance(instance)
+        if command == "judge":
+            delay = second_check.given_delay(judged, texts[0])
+            return second_check.judgement(judged, delay, second_check.proved_bound(judged, texts[1]))[::-1]
+        return 0, second_check.COMMANDS[command][0](judged, *texts)
     except second_check.Refused as fault:
         return fault.status, fault.line
 
@@ -290,20 +310,21 @@ def main():
     dice, examples = random.Random(asked.seed), list(example_cases())
     answers, differ = collections.Counter(), 0
     with tempfile.TemporaryDirectory(prefix="ttplan-") as room:
-        files = [pathlib.Path(room, name) for name in ("instance", "text")]
+        files = [pathlib.Path(room, name) for name in ("instance", "text", "certificate")]
         for k in range(asked.cases):
             command, *texts = case(dice, examples)
             for file, text in zip(files, texts):
                 file.write_bytes(text)
-            ran = subprocess.run([asked.program, command, *map(str, files)], capture_output=True, text=True)
+            named = [str(file) for file, _ in zip(files, texts)]
+            ran = subprocess.run([asked.program, command, *named], capture_output=True, text=True)
             first = ran.returncode, (ran.stdout + ran.stderr).rstrip("\n")
             other = second(command, *texts)
-            answers[" ".join(other[1].split(" ")[: 1 if other[0] == 0 else 2])] += 1
+            answers[" ".join(other[1].split(" ")[: 1 if other[0] in (0, 10, 11) else 2])] += 1
             if first != other and not (first[1].startswith("instance M13") and other[1].startswith("instance M13")):
                 differ += 1
                 print(f"case {k}: {command}: ttplan {first}, second_check {other}", flush=True)
                 if asked.keep:
-                    for name, text in zip(("toml", "text"), texts):
+                    for name, text in zip(("toml", "text", "cert"), texts):
                         pathlib.Path(asked.keep, f"case{k}.{name}").write_bytes(text)
     print(", ".join(f"{answer} {count}" for answer, count in sorted(answers.items())))
     print(f"{asked.cases} cases, {differ} differ")

@@ -3,10 +3,11 @@
 
     tools/second_check.py verify INSTANCE PLAN     writes `valid D`
     tools/second_check.py check INSTANCE CERT      writes `bound LOW`
+    tools/second_check.py judge INSTANCE PLAN CERT writes `least D`, `none` or `between LOW BEST`
     tools/second_check.py schedule INSTANCE PLAN [--table processes|slots|messages]
                                                    writes the table
 
-Anything else is told in one line on standard error, with the words and the statuses of `ttplan verify`, `check` and
+Anything else is told in one line on standard error, with the words and the statuses of `ttplan verify`, `check`, `judge` and
 `schedule`.
 It was written from docs/FORMATS.md and docs/CERTIFICATES.md alone and is proved in no way: where it and ttplan differ, a
 document is wrong, or one of the two programs is.
@@ -24,6 +25,7 @@ import tomllib
 from dataclasses import dataclass, replace
 
 INSTANCE_BYTES, PLAN_BYTES, CERTIFICATE_BYTES = 1_048_576, 65_536, 268_435_456
+STOPPED_BYTES = len("stopped budget 4294967295 4294967295\n")
 NUMBER_MOST = 4_294_967_295
 TICKS_MOST = 1_000_000
 NESTING_MOST = 80  # of brackets in brackets, and of a key's parts
@@ -302,22 +304,22 @@ class Instance:
 
 
 class Lines:
-    """The lines of a text, each without its LF, counted from 1. `early` and `behind` tell its end."""
+    """The lines of a text, each without its LF, counted from 1, or on from those before. `early` and `behind` tell its end."""
 
-    def __init__(self, text, refuse, early, behind):
+    def __init__(self, text, refuse, early, behind, before=0):
         self.lines = text.split(b"\n")
         self.rest = self.lines.pop()
         self.refuse, self.early, self.behind = refuse, early, behind
-        self.count = 0
+        self.before = self.count = before
 
     def next(self):
         self.count += 1
-        if self.count > len(self.lines):
+        if self.count - self.before > len(self.lines):
             raise self.refuse(self.early, self.count)
-        return self.lines[self.count - 1]
+        return self.lines[self.count - self.before - 1]
 
     def end(self):
-        if self.rest or self.count < len(self.lines):
+        if self.rest or self.count - self.before < len(self.lines):
             raise self.refuse(self.behind, self.count + 1)
 
 
@@ -369,8 +371,8 @@ def stated_order(lines, instance):
     return order
 
 
-def read_plan(instance, text):
-    lines = Lines(text, plan_fault, "F5", "F6")
+def read_plan(instance, text, lines_before):
+    lines = Lines(text, plan_fault, "F5", "F6", lines_before)
     if lines.next() != b"ttplan 1":
         raise plan_fault("F1", lines.count)
     plan = Plan(
@@ -420,11 +422,11 @@ def plan_faults(instance, plan):
             yield "V10", n, r
 
 
-def verified(instance, plan_text):
-    """A valid plan that states its own delay; raises Refused."""
+def verified(instance, plan_text, lines_before=0):
+    """A valid plan that states its own delay, whose text stands behind so many lines; raises Refused."""
     if len(plan_text) > PLAN_BYTES:
         raise Refused(6, "read plan")
-    plan = read_plan(instance, plan_text)
+    plan = read_plan(instance, plan_text, lines_before)
     for fault in plan_faults(instance, plan):
         raise plan_fault(*fault)
     delay = max(start + process.wcet for start, process in zip(plan.starts, instance.processes))
@@ -511,6 +513,33 @@ def schedule(instance, plan_text, table):
     """The text of a table of a valid plan; raises Refused."""
     rows = TABLES[table](instance, verified(instance, plan_text))
     return "\n".join(",".join(str(cell) for cell in row) for row in rows)
+
+
+# What may stand in a plan's place
+
+
+def is_number(word):
+    return NUMBER.fullmatch(word) is not None and not is_too_great(word)
+
+
+def is_stopped_line(line):
+    words = line.split(b" ")
+    return (len(words) == 4 and words[0] == b"stopped" and words[1] in (b"budget", b"memory")
+            and is_number(words[2]) and (words[3] == b"none" or is_number(words[3])))
+
+
+def given_delay(instance, text):
+    """The delay of the plan that is given, or None where it is said that there is none; raises Refused."""
+    line, end, rest = text.partition(b"\n")
+    if not end or not is_stopped_line(line):
+        return None if text == b"none\n" else verified(instance, text).delay
+    if not line.endswith(b" none"):
+        return verified(instance, rest, lines_before=1).delay
+    if len(rest) > PLAN_BYTES:
+        raise Refused(6, "read plan")
+    if rest:
+        raise plan_fault("F6", 2)
+    return None
 
 
 # A certificate: its text
@@ -861,8 +890,8 @@ def check_leaf(instance, choice, low, node):
         raise certificate_fault("C5", line)
 
 
-def check(instance, certificate_text):
-    """The line of a certificate that proves its bound; raises Refused."""
+def proved_bound(instance, certificate_text):
+    """The bound that a certificate proves; raises Refused."""
     if len(certificate_text) > CERTIFICATE_BYTES:
         raise Refused(6, "read certificate")
     low, nodes = read_certificate(certificate_text)
@@ -882,12 +911,19 @@ def check(instance, certificate_text):
         if len(below) != children_stated(word, numbers):
             raise certificate_fault("C1", line)
         choices += below[::-1]
-    return f"bound {low}"
+    return low
+
+
+def check(instance, certificate_text):
+    """The line of a certificate that proves its bound; raises Refused."""
+    return f"bound {proved_bound(instance, certificate_text)}"
 
 
 # The program
 
 
+USAGE = ("usage: second_check.py verify INSTANCE PLAN | check INSTANCE CERT | judge INSTANCE PLAN CERT"
+         " | schedule INSTANCE PLAN [--table TABLE]")
 COMMANDS = {"verify": (verify, "plan", PLAN_BYTES), "check": (check, "certificate", CERTIFICATE_BYTES)}
 
 
@@ -906,6 +942,22 @@ def taken(file, what, limit):
         raise Refused(6, f"read {what}") from fault
 
 
+def judgement(instance, delay, low):
+    """What a certificate's bound says of what is given in a plan's place, and the status."""
+    if delay is None:
+        return ("none", 10) if low == instance.horizon + 1 else (f"between {low} none", 11)
+    return (f"least {delay}", 0) if low == delay else (f"between {low} {delay}", 11)
+
+
+def judge(paths):
+    """The same of files; raises Refused."""
+    with (opened(paths[0], "instance") as instance, opened(paths[1], "plan") as plan,
+          opened(paths[2], "certificate") as certificate):
+        judged = Instance(taken(instance, "instance", INSTANCE_BYTES))
+        delay = given_delay(judged, taken(plan, "plan", STOPPED_BYTES + PLAN_BYTES))
+        return judgement(judged, delay, proved_bound(judged, taken(certificate, "certificate", CERTIFICATE_BYTES)))
+
+
 def command_of(words):
     """What is judged by the words, without the table that they name."""
     table = "processes"
@@ -914,16 +966,17 @@ def command_of(words):
     if len(words) == 3 and words[0] == "schedule":
         return (lambda instance, text: schedule(instance, text, table)), "plan", PLAN_BYTES
     if len(words) != 3 or words[0] not in COMMANDS:
-        raise Refused(2, "usage: second_check.py verify INSTANCE PLAN | check INSTANCE CERT"
-                         " | schedule INSTANCE PLAN [--table TABLE]")
+        raise Refused(2, USAGE)
     return COMMANDS[words[0]]
 
 
 def run(words):
-    judge, what, limit = command_of(words)
+    if len(words) == 4 and words[0] == "judge":
+        return judge(words[1:])
+    command, what, limit = command_of(words)
     with opened(words[1], "instance") as instance, opened(words[2], what) as text:
         judged = Instance(taken(instance, "instance", INSTANCE_BYTES))
-        return judge(judged, taken(text, what, limit))
+        return command(judged, taken(text, what, limit)), 0
 
 
 def write_out(line):
@@ -935,8 +988,9 @@ def write_out(line):
 
 def main():
     try:
-        write_out(run(sys.argv[1:]))
-        return 0
+        line, status = run(sys.argv[1:])
+        write_out(line)
+        return status
     except Refused as fault:
         print(fault.line, file=sys.stderr)
         return fault.status

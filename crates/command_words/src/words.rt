@@ -51,6 +51,12 @@ pub enum Request<'a> {
         instance: &'a str,
         certificate: &'a str,
     },
+    /// Judge the plan of one file for the instance of another by the certificate of a third.
+    Judge {
+        instance: &'a str,
+        plan: &'a str,
+        certificate: &'a str,
+    },
     /// Verify an instance and a plan in one stream: no words were given.
     VerifyBundle,
     /// Say which version this is.
@@ -73,6 +79,10 @@ const INSTANCE_HELP: &str = "The cluster and its processes, in TOML";
 /// What a search prints, and how to go on where it is stopped.
 const SOLVE_HELP: &str =
     "It prints one of these, and ends with the status beside it:\n   0  the text of a plan: it is valid, and no valid plan has a smaller delay\n  10  `none`: no plan is valid\n  11  `stopped WHY LOW BEST`, and behind it the text of the best plan found\n\nWHY is `budget`, where the budget is spent, or `memory`, where memory ran out. No valid plan has a delay below LOW ticks. BEST is the delay of the best plan found, or `none`, and then no text follows.\n\nA search that is interrupted keeps nothing: no plan is printed, and FILE is empty. To go in steps, begin with a small budget, and take ten times as much after each `stopped budget`. Each run begins anew; those before the last work at most a ninth of its budget.\n\nBefore the search a good plan is looked for, where more than 32 are left to choose: nodes to place, capacities, pairs of processes, and binary digits of rounds.";
+
+/// What a judgement prints.
+const JUDGE_HELP: &str =
+    "It prints one of these, and ends with the status beside it:\n   0  `least D`: the plan is valid and takes D ticks, and no valid plan has a smaller delay\n  10  `none`: no plan is valid\n  11  `between LOW D`, or `between LOW none` where PLAN has no plan: no valid plan has a delay below LOW ticks, which is less than D or than all that the horizon allows\n\nPLAN is a plan's text, or `none`, or what a search printed that was stopped: its line `stopped`, and behind it the plan.";
 
 /// A file that has to be named.
 fn file<'a>(alloc: Global, name: &'a str, help: &'a str) -> Arg<'a> {
@@ -193,6 +203,19 @@ fn check_command<'a>(alloc: Global) -> Result<Command<'a>, AllocError> {
         .arg(file(alloc, "CERT", "The certificate's text"))
 }
 
+fn judge_command<'a>(alloc: Global) -> Result<Command<'a>, AllocError> {
+    Command::new(alloc, "judge")
+        .about("Checks a plan and a certificate, and prints whether no plan is shorter")
+        .after_help(JUDGE_HELP)
+        .arg(file(alloc, "INSTANCE", INSTANCE_HELP))?
+        .arg(file(
+            alloc,
+            "PLAN",
+            "The plan's text, or whatever `ttplan solve` printed in its place",
+        ))?
+        .arg(file(alloc, "CERT", "The certificate's text"))
+}
+
 /// The command line that is understood.
 fn command<'a>(alloc: Global) -> Result<Command<'a>, AllocError> {
     Command::new(alloc, "ttplan")
@@ -204,6 +227,7 @@ fn command<'a>(alloc: Global) -> Result<Command<'a>, AllocError> {
         .subcommand(solve_command(alloc)?)?
         .subcommand(verify_command(alloc)?)?
         .subcommand(check_command(alloc)?)?
+        .subcommand(judge_command(alloc)?)?
         .subcommand(tables_command(alloc)?)?
         .subcommand(replay_command(alloc)?)?
         .subcommand(schedule_command(alloc)?)
@@ -256,6 +280,17 @@ fn check_request<'a>(matches: &ArgMatches<'a>) -> Option<Request<'a>>
     })
 }
 
+/// A judgement of a plan by a certificate.
+fn judge_request<'a>(matches: &ArgMatches<'a>) -> Option<Request<'a>>
+    ensures { IfSome result IsSound }
+{
+    Some(Request::Judge {
+        instance: matches.get_str("INSTANCE")?,
+        plan: matches.get_str("PLAN")?,
+        certificate: matches.get_str("CERT")?,
+    })
+}
+
 /// A task on an instance and a plan.
 fn request_on_files<'a>(matches: &ArgMatches<'a>, task: Task<'a>) -> Option<Request<'a>>
     ensures { IfSome result IsSound }
@@ -294,6 +329,7 @@ fn request_of<'a>(
     let request = match name {
         "solve" => return solve_request(alloc, matches),
         "check" => check_request(matches),
+        "judge" => judge_request(matches),
         "verify" => request_on_files(matches, Task::Verify),
         "tables" => request_on_files(matches, Task::Tables),
         "replay" => request_on_files(matches, replay_task(alloc, matches)?),

@@ -7,3 +7,8 @@ pub mod Traced
 pub mod Certificates
 pub mod Unread
 pub mod Streamed
+pub mod StoppedLines
+pub mod PlanLines
+pub mod Standings
+pub mod Judging
+pub mod Judgements

@@ -5,3 +5,5 @@ pub mod Schedules
 pub mod LossWords
 pub mod Traces
 pub mod Certified
+pub mod Fronts
+pub mod Judged

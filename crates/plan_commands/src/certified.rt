@@ -7,6 +7,7 @@ ghost use Rattle.command_streams.specs.Limits.{certificate_limit, instance_limit
 ghost use Rattle.command_streams.specs.Streams.{TakesAtMost};
 ghost use Rattle.command_streams.specs.Instances.{IsOfInstance};
 ghost use Rattle.command_streams.specs.Outcomes.{IfRefused, IsWritingUnlessMemory};
+ghost use Rattle.plan_commands.specs.Judged.{IsBeforeCertificate};
 
 use cert_check::{StreamFault, check_stream};
 use certificate::CertTextError;
@@ -32,7 +33,7 @@ fn fault_of(fault: StreamFault) -> Fault
 }
 
 /// The bound that the certificate of a reader's bytes proves.
-fn read_bound<R: Read>(
+pub fn read_bound<R: Read>(
     rt: &(impl Threads + Sync),
     alloc: Global,
     instance: &Instance,
@@ -42,6 +43,7 @@ fn read_bound<R: Read>(
         (HasBound instance.now bytes)
         (IsCertificateFault instance.now bytes)) }
     ensures later { IfErr result (λ fault. ¬ IsOfInstance fault) }
+    ensures last { IfErr result (λ fault. ¬ IsBeforeCertificate fault) }
     ensures most { TakesAtMost (certificate_limit + 1) (R.remaining certificate.old) (R.remaining certificate.new) }
 {
     match check_stream(rt, alloc, instance, certificate, BATCH) {

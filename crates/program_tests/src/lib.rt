@@ -10,6 +10,8 @@ mod failing_streams;
 #[cfg(test)]
 mod hostile_texts;
 #[cfg(test)]
+mod judgements;
+#[cfg(test)]
 mod progress;
 #[cfg(test)]
 mod refusals;

@@ -7,7 +7,7 @@ use crate::table_texts::FIRST_TABLES;
 use crate::told::Asked::{Check, Replay, Schedule, Tables, Verify};
 use crate::told::{CLUSTER, FIRST, FIRST_PARTS, FIRST_PLAN, Row, joined};
 use command_streams::{End, report, status};
-use plan_commands::verify_bundle;
+use plan_commands::{judge_run, verify_bundle};
 use plan_sheets::Table::Processes;
 use solve_command::{Options, solve_run};
 use std::alloc::{Alloc, Global};
@@ -70,6 +70,24 @@ fn bundle_survives(alloc: Global) -> Result<bool, Fail> {
     is_told(&end, &out, "valid 9\n")
 }
 
+/// The same of a judgement, in which the plan stands behind the line of a search that was stopped.
+fn judgement_survives(
+    rt: &(impl Alloc<A = Global> + Threads + Sync),
+) -> Result<bool, Fail> {
+    let instance = joined(rt.alloc(), FIRST)?;
+    let plan = joined(rt.alloc(), &["stopped memory 8 9\n", FIRST_PLAN])?;
+    let mut out = page();
+    let end = judge_run(
+        rt,
+        rt.alloc(),
+        &mut instance.as_bytes(),
+        &mut plan.as_bytes(),
+        &mut FIRST_CERTIFICATE.as_bytes(),
+        &mut out,
+    );
+    is_told(&end, &out, "least 9\n")
+}
+
 /// Whether a search that ended so has written what it writes where there is memory, bounds and a certificate, or nothing.
 fn is_found(end: &End, out: &Page, certificate: &Page) -> Result<bool, Fail> {
     let mut error = page();
@@ -129,6 +147,12 @@ fn refused_in_turn(rt: HostRuntime) -> Result<(), Fail> {
 #[test]
 fn bundle_refused_in_turn(rt: HostRuntime) -> Result<(), Fail> {
     assert!(rt; bundle_survives(rt.alloc())?);
+    Ok(())
+}
+
+#[test]
+fn judgement_refused_in_turn(rt: HostRuntime) -> Result<(), Fail> {
+    assert!(rt; judgement_survives(&rt)?);
     Ok(())
 }
 

@@ -41,6 +41,7 @@ static COMMANDS: &[Asking] = &[
         "OnFiles { instance: \"a\", plan: \"b\", task: Schedule(Messages) }",
     ),
     (&["ttplan", "check", "a", "c"], "Check { instance: \"a\", certificate: \"c\" }"),
+    (&["ttplan", "judge", "a", "b", "c"], "Judge { instance: \"a\", plan: \"b\", certificate: \"c\" }"),
     (
         &["ttplan", "solve", "a"],
         "Solve { instance: \"a\", certificate: None, workers: 4, budget: 1000000, progress: false }",
@@ -109,6 +110,7 @@ static USAGE_FAULTS: &[Refused] = &[
     (&["ttplan", "solve"], "<INSTANCE>"),
     (&["ttplan", "verify", "a"], "<PLAN>"),
     (&["ttplan", "check", "a"], "<CERT>"),
+    (&["ttplan", "judge", "a", "b"], "<CERT>"),
     (&["ttplan", "tables", "a", "b", "c"], "unexpected argument 'c'"),
     (&["ttplan", "schedule", "a"], "<PLAN>"),
     (&["ttplan", "schedule", "a", "b", "--table", "x"], "invalid value 'x' for '--table <TABLE>'"),

@@ -4,7 +4,9 @@
 use command_streams::end_with;
 pub use command_streams::{End, Fault, SearchFault, Sink, Source, report, status};
 use command_words::{Request, Task, VERSION, refuse, request_in};
-pub use plan_commands::{check_run, replay_run, schedule_run, tables, verify, verify_bundle};
+pub use plan_commands::{
+    check_run, judge_run, replay_run, schedule_run, tables, verify, verify_bundle,
+};
 pub use solve_command::{Options, solve_run};
 use solve_command::{Progress, solve_run_with};
 use std::fs::File;
@@ -68,6 +70,31 @@ fn run_check(
         threads,
         rt.alloc(),
         &mut instance,
+        &mut certificate,
+        &mut rt.stdout(),
+    )
+}
+
+/// Judges a plan by a certificate: all three files are open before one is read.
+fn run_judge(
+    rt: &HostRuntime,
+    threads: &(impl Threads + Sync),
+    instance: &str,
+    plan: &str,
+    certificate: &str,
+) -> End {
+    let (mut instance, mut plan) = match open_both(rt, instance, plan, Source::Plan) {
+        Ok(files) => files,
+        Err(source) => return End::Refused(Fault::Unread(source)),
+    };
+    let Ok(mut certificate) = File::open(rt, certificate) else {
+        return End::Refused(Fault::Unread(Source::Certificate));
+    };
+    judge_run(
+        threads,
+        rt.alloc(),
+        &mut instance,
+        &mut plan,
         &mut certificate,
         &mut rt.stdout(),
     )
@@ -157,6 +184,11 @@ fn run(rt: &HostRuntime, threads: &(impl Threads + Wait + Sync), request: Reques
             instance,
             certificate,
         } => run_check(rt, threads, instance, certificate),
+        Request::Judge {
+            instance,
+            plan,
+            certificate,
+        } => run_judge(rt, threads, instance, plan, certificate),
         Request::VerifyBundle => { verify_bundle(rt.alloc(), &mut rt.stdin(), &mut rt.stdout()) }
         Request::Version => end_with(&mut rt.stdout(), VERSION.as_bytes()),
     }

@@ -1,0 +1,138 @@
+-- What three readers give is judged as their texts are, and the line of a judgement is the outcome of `judge`.
+use Rattle.std.proofs.Common.{◌≡◌, ℕ, ◌≤◌, List, Option, None, Some, IfSome, arith, refl, inl, inr}
+use Rattle.std.specs.Io.KnownBytes.{Appends}
+use Rattle.ttp_model.specs.Instance.{Instance}
+use Rattle.command_streams.specs.declared.ending.Source.TheVariants as source
+use Rattle.command_streams.specs.declared.ending.Sink.TheVariants as sink
+use Rattle.command_streams.specs.declared.ending.Fault.{Fault}
+use Rattle.command_streams.specs.declared.ending.Fault.TheVariants.{NoMark, LossForm, InstanceText, Memory, PlanText, Plan, StatedDelay, CertificateText, Certificate, TooFewNodes, WrongLoss, Search, Unread, Unwritten}
+use Rattle.command_streams.specs.declared.ending.End.{End}
+use Rattle.command_streams.specs.declared.ending.End.TheVariants.{Refused}
+use Rattle.command_streams.specs.Instances.{HasInstance}
+use Rattle.command_streams.proofs.Outcomes.{keeps}
+use Rattle.plan_commands.specs.declared.front.Front.{Front}
+use Rattle.plan_commands.specs.declared.front.Front.TheVariants as front
+use Rattle.plan_commands.specs.declared.judge.Standing.{Standing}
+use Rattle.plan_commands.specs.declared.judge.Judgement.{Judgement}
+use Rattle.plan_commands.specs.declared.judge.Judgement.TheVariants.{Least, NoPlan, Between}
+use Rattle.plan_commands.specs.Certified.{HasBound, IsCertificateFault}
+use Rattle.plan_commands.specs.Judged.{HasNoStanding, HasPlanOf, IsJudgeAnswer, IsJudged, IsJudgementOf, IsStanding, IsToldAt, IsWritingJudgement, StandsBehind, StandsFor, end_of, judgement_line, limit_of}
+
+-- ---- a bound is at most what it is held against
+
+plan_above : (i : Instance) (text certificate : List ℕ) (best : Option ℕ) (low : ℕ) → HasPlanOf i text best → HasBound i certificate low → low ≤ limit_of i best
+plan_above i text certificate None low has bound = absurd has
+plan_above i text certificate (Some d) low has bound =
+    omega (arith, bound.bound has.0 has.1.valid, has.1.has_delay)
+
+horizon_above : (i : Instance) (certificate : List ℕ) (best : Option ℕ) (low : ℕ) → best ≡ None → HasBound i certificate low → low ≤ limit_of i best
+horizon_above i certificate best low is bound =
+    rw is (omega (arith, bound.proves.low, bound.low_is))
+
+above : (i : Instance) (begun : Front) (rest certificate : List ℕ) (best : Option ℕ) (low : ℕ) → StandsBehind i begun rest best → HasBound i certificate low → low ≤ limit_of i best
+above i front.Plan rest certificate best low stands bound = plan_above i rest certificate best low stands bound
+above i front.Stopped rest certificate best low stands bound = plan_above i rest certificate best low stands bound
+above i front.NoPlan rest certificate best low stands bound = horizon_above i certificate best low stands.1 bound
+
+pub bound_below : (i : Instance) (plan certificate : List ℕ) (best : Option ℕ) (low : ℕ) → StandsFor i plan best → HasBound i certificate low → low ≤ limit_of i best
+bound_below i plan certificate best low stands bound = above i stands.begun stands.rest certificate best low stands.stands bound
+
+-- ---- a judgement that is told
+
+module _ (instance plan certificate : List ℕ) (old : Option (List ℕ)) where
+  at_end : (judgement : Judgement) (text : List ℕ) (new : Option (List ℕ)) → IsToldAt instance plan certificate (end_of judgement) text → Appends old new text
+      → IsJudgeAnswer instance plan certificate old new (end_of judgement)
+  at_end (Least d) text new is gains = record { text = text; is = is; appends = gains }
+  at_end NoPlan text new is gains = record { text = text; is = is; appends = gains }
+  at_end (Between low best) text new is gains = record { text = text; is = is; appends = gains }
+
+  told : (judgement : Judgement) (new : Option (List ℕ)) (end : End) → IsJudged instance plan certificate judgement → IsWritingJudgement judgement old new end
+      → IsJudgeAnswer instance plan certificate old new end
+  told judgement new end is writing =
+      let said : IsToldAt instance plan certificate (end_of judgement) (judgement_line judgement) =
+      record { judgement = judgement; is = is; ends = refl; text_is = refl } in
+      elim writing [
+        | inl whole ↦ rw whole.0 (at_end judgement (judgement_line judgement) new said whole.1)
+        | inr other ↦ (elim other [
+          | inl part ↦ rw part.0 (record { at = end_of judgement; text = judgement_line judgement; is = said; part = part.1 })
+          | inr memory ↦ rw memory.0 (tt, memory.1)
+        ])
+      ]
+
+  -- ---- faults
+
+  unstanding : (fault : Fault) → HasNoStanding instance plan fault → IsJudgeAnswer instance plan certificate old old (Refused fault)
+  unstanding (InstanceText error) is = (is, keeps old)
+  unstanding Memory is = (tt, keeps old)
+  unstanding (Unread source.Instance) is = (tt, keeps old)
+  unstanding (Unread source.Plan) is = (is, keeps old)
+  unstanding (Unread source.Certificate) is = absurd is
+  unstanding (PlanText error) is = (is, keeps old)
+  unstanding (Plan fault) is = (is, keeps old)
+  unstanding (StatedDelay d) is = (is, keeps old)
+  unstanding NoMark is = absurd is
+  unstanding (LossForm k) is = absurd is
+  unstanding (CertificateText error) is = absurd is
+  unstanding (Certificate fault) is = absurd is
+  unstanding TooFewNodes is = absurd is
+  unstanding (WrongLoss k) is = absurd is
+  unstanding (Search fault) is = absurd is
+  unstanding (Unwritten sink) is = absurd is
+
+  unbounded : (i : Instance) (best : Option ℕ) → HasInstance instance i → StandsFor i plan best → (fault : Fault) → IsCertificateFault i certificate fault
+      → IsJudgeAnswer instance plan certificate old old (Refused fault)
+  unbounded i best has stands Memory refused = (tt, keeps old)
+  unbounded i best has stands (Unread source.Certificate) refused = (record { problem = i; has_instance = has; best = best; stands = stands; refused = refused }, keeps old)
+  unbounded i best has stands (CertificateText error) refused = (record { problem = i; has_instance = has; best = best; stands = stands; refused = refused }, keeps old)
+  unbounded i best has stands (Certificate fault) refused = (record { problem = i; has_instance = has; best = best; stands = stands; refused = refused }, keeps old)
+  unbounded i best has stands NoMark refused = absurd refused
+  unbounded i best has stands (LossForm k) refused = absurd refused
+  unbounded i best has stands (InstanceText error) refused = absurd refused
+  unbounded i best has stands (PlanText error) refused = absurd refused
+  unbounded i best has stands (Plan fault) refused = absurd refused
+  unbounded i best has stands (StatedDelay d) refused = absurd refused
+  unbounded i best has stands TooFewNodes refused = absurd refused
+  unbounded i best has stands (WrongLoss k) refused = absurd refused
+  unbounded i best has stands (Search fault) refused = absurd refused
+  unbounded i best has stands (Unread source.Instance) refused = absurd refused
+  unbounded i best has stands (Unread source.Plan) refused = absurd refused
+  unbounded i best has stands (Unwritten sink) refused = absurd refused
+
+-- ---- what three readers tell
+
+module _ (old : Option (List ℕ)) where
+  pub judged_of_readers : (a b c : Option (List ℕ)) (s : Standing) (low : ℕ) (judgement : Judgement) (new : Option (List ℕ)) (end : End)
+      → IfSome a (λ instance. IfSome b (λ plan. IsStanding instance plan s))
+      → IfSome c (λ certificate. HasBound s.instance certificate low)
+      → (low ≤ limit_of s.instance s.best → IsJudgementOf s.instance s.best low judgement)
+      → IsWritingJudgement judgement old new end
+      → IfSome a (λ instance. IfSome b (λ plan. IfSome c (λ certificate. IsJudgeAnswer instance plan certificate old new end)))
+  judged_of_readers None b c s low judgement new end standing bound says writing = tt
+  judged_of_readers (Some instance) None c s low judgement new end standing bound says writing = tt
+  judged_of_readers (Some instance) (Some plan) None s low judgement new end standing bound says writing = tt
+  judged_of_readers (Some instance) (Some plan) (Some certificate) s low judgement new end standing bound says writing =
+      told instance plan certificate old judgement new end (record {
+        problem = s.instance;
+        has_instance = standing.has_instance;
+        best = s.best;
+        stands = standing.stands;
+        low = low;
+        has_bound = bound;
+        is = says (bound_below s.instance plan certificate s.best low standing.stands bound);
+      }) writing
+
+  pub unstanding_of_readers : (a b c : Option (List ℕ)) (fault : Fault) → IfSome a (λ instance. IfSome b (λ plan. HasNoStanding instance plan fault))
+      → IfSome a (λ instance. IfSome b (λ plan. IfSome c (λ certificate. IsJudgeAnswer instance plan certificate old old (Refused fault))))
+  unstanding_of_readers None b c fault refused = tt
+  unstanding_of_readers (Some instance) None c fault refused = tt
+  unstanding_of_readers (Some instance) (Some plan) None fault refused = tt
+  unstanding_of_readers (Some instance) (Some plan) (Some certificate) fault refused = unstanding instance plan certificate old fault refused
+
+  pub unbounded_of_readers : (a b c : Option (List ℕ)) (s : Standing) (fault : Fault) → IfSome a (λ instance. IfSome b (λ plan. IsStanding instance plan s))
+      → IfSome c (λ certificate. IsCertificateFault s.instance certificate fault)
+      → IfSome a (λ instance. IfSome b (λ plan. IfSome c (λ certificate. IsJudgeAnswer instance plan certificate old old (Refused fault))))
+  unbounded_of_readers None b c s fault standing refused = tt
+  unbounded_of_readers (Some instance) None c s fault standing refused = tt
+  unbounded_of_readers (Some instance) (Some plan) None s fault standing refused = tt
+  unbounded_of_readers (Some instance) (Some plan) (Some certificate) s fault standing refused =
+      unbounded instance plan certificate old s.instance s.best standing.has_instance standing.stands fault refused
