@@ -40,13 +40,16 @@ reached i plan best stands = plan_behind i stands.begun stands.rest best stands.
 module _ (instance plan certificate : List ℕ) where
   pub least_said : (d : ℕ) → IsJudged instance plan certificate (Least d) → (i : Instance) × HasInstance instance i × IsLeastDelay i d
   least_said d judged =
-      let is : IsReached judged.problem (Some d) = subst (IsReached judged.problem) judged.is.0 (reached judged.problem plan judged.best judged.stands) in
-      (judged.problem, judged.has_instance, record {
-        plan = is.0;
-        valid = is.1.0;
-        reached = is.1.1;
-        bound = λ other valid. rw (← judged.is.1) (judged.has_bound.bound other valid);
-      })
+      let is : IsReached judged.problem (Some d) = subst (IsReached judged.problem) judged.is.0 (reached judged.problem plan judged.best judged.stands) in (
+        judged.problem,
+        judged.has_instance,
+        record {
+          plan = is.0;
+          valid = is.1.0;
+          reached = is.1.1;
+          bound = λ other valid. rw (← judged.is.1) (judged.has_bound.bound other valid);
+        },
+      )
 
   pub none_said : IsJudged instance plan certificate NoPlan → (i : Instance) × HasInstance instance i × HasNoPlan i
   none_said judged =
@@ -57,10 +60,13 @@ module _ (instance plan certificate : List ℕ) where
       → (i : Instance) × HasInstance instance i × IsLowerBound i low × (low < limit_of i best) × IsReached i best
   between_said low best judged =
       let i = judged.problem in
-      let same : best ≡ judged.best = judged.is.1.0 in
-      (i, judged.has_instance, subst (IsLowerBound i) (sym judged.is.0) judged.has_bound.bound,
-      rw (judged.is.0, same) judged.is.1.1,
-      subst (IsReached i) (sym same) (reached i plan judged.best judged.stands))
+      let same : best ≡ judged.best = judged.is.1.0 in (
+        i,
+        judged.has_instance,
+        subst (IsLowerBound i) (sym judged.is.0) judged.has_bound.bound,
+        rw (judged.is.0, same) judged.is.1.1,
+        subst (IsReached i) (sym same) (reached i plan judged.best judged.stands),
+      )
 
 -- ---- each of the three texts says one thing
 
@@ -140,7 +146,7 @@ by_what_they_say instance plan certificate i best low judgement has stands bound
       let same_low : judged.low ≡ low = bound_once i certificate judged.low low bound_so bound in
       let said : IsJudgementOf i judged.best judged.low judgement = subst (λ (j : Instance). IsJudgementOf j judged.best judged.low judgement) same_instance judged.is in
       subst (λ (n : ℕ). IsJudgementOf i best n judgement) same_low (subst (λ (o : Option ℕ). IsJudgementOf i o judged.low judgement) same_best said),
-  λ is. record { problem = i; has_instance = has; best = best; stands = stands; low = low; has_bound = bound; is = is }
+  λ is. record { problem = i; has_instance = has; best = best; stands = stands; low = low; has_bound = bound; is = is },
 )
 
 pub judged_once : (instance plan certificate : List ℕ) (a b : Judgement) → IsJudged instance plan certificate a → IsJudged instance plan certificate b → a ≡ b

@@ -40,10 +40,7 @@ pub enum Judgement {
     /// No plan is valid.
     NoPlan,
     /// No valid plan has a delay below `low`, and the given one, if there is any, has this delay, which is larger.
-    Between {
-        low: u32,
-        best: Option<u64>,
-    },
+    Between { low: u32, best: Option<u64> },
 }
 
 impl fmt::Display for Judgement {

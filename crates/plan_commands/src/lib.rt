@@ -17,7 +17,8 @@ pub use certified::check_run;
 pub use judge::judge_run;
 pub use laws::{
     between_has_the_least_delay, least_is_the_least_delay, none_is_that_there_is_no_plan,
-    stopped_lines_are_short, texts_are_judged, texts_are_judged_by_what_they_say, texts_are_judged_once,
+    stopped_lines_are_short, texts_are_judged, texts_are_judged_by_what_they_say,
+    texts_are_judged_once,
 };
 pub use node_tables::tables;
 pub use replay::replay_run;

@@ -71,9 +71,7 @@ fn bundle_survives(alloc: Global) -> Result<bool, Fail> {
 }
 
 /// The same of a judgement, in which the plan stands behind the line of a search that was stopped.
-fn judgement_survives(
-    rt: &(impl Alloc<A = Global> + Threads + Sync),
-) -> Result<bool, Fail> {
+fn judgement_survives(rt: &(impl Alloc<A = Global> + Threads + Sync)) -> Result<bool, Fail> {
     let instance = joined(rt.alloc(), FIRST)?;
     let plan = joined(rt.alloc(), &["stopped memory 8 9\n", FIRST_PLAN])?;
     let mut out = page();
