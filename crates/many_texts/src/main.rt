@@ -4,13 +4,18 @@
 
 use command_streams::{End, report, status, take_input, write_text};
 use line_text::{NumberWord, cut, number_word, push_number, push_number_word};
-use plan_commands::{check_run, verify, verify_bundle};
+use plan_commands::{
+    check_run, judge_run, replay_run, schedule_run, tables, verify, verify_bundle,
+};
+use plan_sheets::Table;
 use std::alloc::{Alloc, AllocError, Global};
 use std::io::{Read, Write};
 use std::process::ExitCode;
+use std::str::{Utf8Error, from_utf8};
 use std::thread::Threads;
 
-/// The bytes of a header: a command's word and two lengths, each with a space behind it, and anything up to its end.
+/// The bytes of a header: a command's word and the lengths of its texts, each with a space behind it, and anything up to
+/// its end.
 const HEADER_LENGTH: u32 = 32;
 
 /// The bytes of a text, at most.
@@ -26,27 +31,51 @@ impl From<AllocError> for Stopped {
     }
 }
 
+impl From<Utf8Error> for Stopped {
+    fn from(_error: Utf8Error) -> Stopped {
+        Stopped("words are no UTF-8")
+    }
+}
+
 /// A command that judges texts.
 #[derive(Clone, Copy)]
 enum Command {
     Verify,
     Bundle,
+    Tables,
+    Replay,
     Check,
+    Judge,
+    Schedule,
 }
 
-/// What a case asks for, and the lengths of its two texts. A bundle's second text isn't looked at.
+/// What a case asks for, and the lengths of its texts. A bundle's second text isn't looked at.
 #[derive(Clone, Copy)]
 struct Header {
     command: Command,
     first: u32,
     second: u32,
+    third: u32,
+}
+
+/// What a case asks for, and its texts. The third is a certificate, or words.
+#[derive(Drop)]
+struct Case {
+    command: Command,
+    first: Vec<u8>,
+    second: Vec<u8>,
+    third: Vec<u8>,
 }
 
 fn command_of(word: &[u8]) -> Option<Command> {
     match word {
         b"verify" => Some(Command::Verify),
         b"bundle" => Some(Command::Bundle),
+        b"tables" => Some(Command::Tables),
+        b"replay" => Some(Command::Replay),
         b"check" => Some(Command::Check),
+        b"judge" => Some(Command::Judge),
+        b"schedule" => Some(Command::Schedule),
         _ => None,
     }
 }
@@ -58,14 +87,26 @@ fn length_of(word: &[u8]) -> Option<u32> {
     }
 }
 
+fn third_length(command: Command, rest: &[u8]) -> Option<u32> {
+    match command {
+        Command::Replay | Command::Judge | Command::Schedule => {
+            let (third, _) = cut(b' ', rest)?;
+            length_of(third)
+        }
+        _ => Some(0),
+    }
+}
+
 fn header_of(bytes: &[u8]) -> Option<Header> {
     let (command, rest) = cut(b' ', bytes)?;
     let (first, rest) = cut(b' ', rest)?;
-    let (second, _) = cut(b' ', rest)?;
+    let (second, rest) = cut(b' ', rest)?;
+    let command = command_of(command)?;
     Some(Header {
-        command: command_of(command)?,
+        command,
         first: length_of(first)?,
         second: length_of(second)?,
+        third: third_length(command, rest)?,
     })
 }
 
@@ -79,19 +120,70 @@ fn next_bytes<R: Read>(alloc: Global, input: &mut R, length: u32) -> Result<Vec<
     Ok(taken.bytes)
 }
 
-/// How a command ends on two texts.
+/// The next text, which is of so many bytes.
+fn next_text<R: Read>(alloc: Global, input: &mut R, length: u32) -> Result<Vec<u8>, Stopped> {
+    let text = next_bytes(alloc, input, length)?;
+    if text.len() != length as usize {
+        return Err(Stopped("a text breaks off"));
+    }
+    Ok(text)
+}
+
+/// The next case, or none where the input has ended.
+fn next_case<R: Read>(alloc: Global, input: &mut R) -> Result<Option<Case>, Stopped> {
+    let header = next_bytes(alloc, input, HEADER_LENGTH)?;
+    if header.is_empty() {
+        return Ok(None);
+    }
+    let Some(header) = header_of(header.as_slice()) else {
+        return Err(Stopped("a header is malformed"));
+    };
+    Ok(Some(Case {
+        command: header.command,
+        first: next_text(alloc, input, header.first)?,
+        second: next_text(alloc, input, header.second)?,
+        third: next_text(alloc, input, header.third)?,
+    }))
+}
+
+/// The words of a text, behind each of which is a byte 0.
+fn words_in<'a>(alloc: Global, text: &'a str) -> Result<Vec<&'a str>, AllocError> {
+    let mut words = Vec::new(alloc);
+    for word in text.split_terminator('\0') {
+        words.push(word)?;
+    }
+    Ok(words)
+}
+
+/// The table that words name; that of processes where they name none.
+fn table_of(words: &[&str]) -> Table {
+    match words {
+        ["slots"] => Table::Slots,
+        ["messages"] => Table::Messages,
+        _ => Table::Processes,
+    }
+}
+
+/// How a command ends on its texts.
 fn end_of<W: Write>(
     rt: &(impl Threads + Sync),
     alloc: Global,
-    command: Command,
-    mut first: &[u8],
-    mut second: &[u8],
+    case: &Case,
+    words: &[&str],
     out: &mut W,
 ) -> End {
-    match command {
+    let (mut first, mut second) = (case.first.as_slice(), case.second.as_slice());
+    match case.command {
         Command::Verify => verify(alloc, &mut first, &mut second, out),
         Command::Bundle => verify_bundle(alloc, &mut first, out),
+        Command::Tables => tables(alloc, &mut first, &mut second, out),
+        Command::Replay => replay_run(alloc, &mut first, &mut second, words, out),
         Command::Check => check_run(rt, alloc, &mut first, &mut second, out),
+        Command::Judge => {
+            let mut third = case.third.as_slice();
+            judge_run(rt, alloc, &mut first, &mut second, &mut third, out)
+        }
+        Command::Schedule => { schedule_run(alloc, &mut first, &mut second, table_of(words), out) }
     }
 }
 
@@ -99,12 +191,11 @@ fn end_of<W: Write>(
 fn answer_of(
     rt: &(impl Threads + Sync),
     alloc: Global,
-    command: Command,
-    first: &[u8],
-    second: &[u8],
+    case: &Case,
+    words: &[&str],
 ) -> Result<Vec<u8>, AllocError> {
     let (mut out, mut error) = (Vec::new(alloc), Vec::new(alloc));
-    let end = end_of(rt, alloc, command, first, second, &mut out);
+    let end = end_of(rt, alloc, case, words, &mut out);
     let _ = report(&end, &mut error);
     let mut answer = Vec::new(alloc);
     push_number(&mut answer, u64::from(status(&end)))?;
@@ -116,32 +207,20 @@ fn answer_of(
     Ok(answer)
 }
 
-/// The answer to the next case, or none where the input has ended.
-fn next_answer<R: Read>(
-    rt: &(impl Threads + Sync),
-    alloc: Global,
-    input: &mut R,
-) -> Result<Option<Vec<u8>>, Stopped> {
-    let header = next_bytes(alloc, input, HEADER_LENGTH)?;
-    if header.is_empty() {
-        return Ok(None);
+/// The words of a case.
+fn words_of<'a>(alloc: Global, case: &'a Case) -> Result<Vec<&'a str>, Stopped> {
+    match case.command {
+        Command::Replay | Command::Schedule => {
+            Ok(words_in(alloc, from_utf8(case.third.as_slice())?)?)
+        }
+        _ => Ok(Vec::new(alloc)),
     }
-    let Some(header) = header_of(header.as_slice()) else {
-        return Err(Stopped("a header is malformed"));
-    };
-    let first = next_bytes(alloc, input, header.first)?;
-    let second = next_bytes(alloc, input, header.second)?;
-    if first.len() != header.first as usize || second.len() != header.second as usize {
-        return Err(Stopped("a text breaks off"));
-    }
-    let answer = answer_of(
-        rt,
-        alloc,
-        header.command,
-        first.as_slice(),
-        second.as_slice(),
-    )?;
-    Ok(Some(answer))
+}
+
+/// The answer to a case.
+fn answer_to(rt: &(impl Threads + Sync), alloc: Global, case: &Case) -> Result<Vec<u8>, Stopped> {
+    let words = words_of(alloc, case)?;
+    Ok(answer_of(rt, alloc, case, words.as_slice())?)
 }
 
 /// Answers all cases of the input.
@@ -151,9 +230,10 @@ fn answer_all<R: Read, W: Write>(
     out: &mut W,
 ) -> Result<(), Stopped> {
     for _ in 0..u64::MAX {
-        let Some(answer) = next_answer(rt, rt.alloc(), input)? else {
+        let Some(case) = next_case(rt.alloc(), input)? else {
             return Ok(());
         };
+        let answer = answer_to(rt, rt.alloc(), &case)?;
         if write_text(out, answer.as_slice()).is_err() {
             return Err(Stopped("an answer can't be written"));
         }

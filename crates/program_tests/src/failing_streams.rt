@@ -2,10 +2,11 @@
 
 ghost use Rattle.std.specs.Prelude.{◌≤◌, IfOk};
 
-use crate::checks::FIRST_CERTIFICATE;
-use crate::replays::{THREE, THREE_PLAN};
 use crate::told::Asked::{Check, Replay, Schedule, Tables, Verify};
-use crate::told::{Asked, CLUSTER, FIRST, FIRST_PARTS, FIRST_PLAN, Told, joined};
+use crate::told::{
+    Asked, CLUSTER, FIRST, FIRST_CERTIFICATE, FIRST_PARTS, FIRST_PLAN, THREE, THREE_PLAN, Told,
+    joined,
+};
 use command_streams::End;
 use plan_commands::verify_bundle;
 use plan_sheets::Table::Slots;

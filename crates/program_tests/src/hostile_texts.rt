@@ -1,9 +1,7 @@
-//! Texts that break off, that announce what they don't have, and that are just too large.
+//! Texts that break off.
 
-use crate::checks::FIRST_CERTIFICATE;
-use crate::solves::CLUSTER_BEFORE_HORIZON;
 use crate::told::Asked::{Check, Verify};
-use crate::told::{Asked, CLUSTER, FIRST, FIRST_PARTS, FIRST_PLAN, Row, Told, joined, wrong_row};
+use crate::told::{Asked, FIRST, FIRST_CERTIFICATE, FIRST_PLAN, Told, joined};
 use std::alloc::{Alloc, AllocError, Global};
 use std::test::Fail;
 use std::thread::Threads;
@@ -112,85 +110,6 @@ fn wrong_instance_prefix(
     Ok(None)
 }
 
-/// The front of a certificate of the bound 0.
-const LOW_ZERO: &str = "ttcert 1\nlow 0\n";
-
-const HORIZON_OVER_NUMBERS: &[&str] = &[
-    CLUSTER_BEFORE_HORIZON,
-    "horizon = 4294967296\n",
-    FIRST_PARTS,
-];
-
-const GREATEST_HORIZON: &[&str] = &[
-    CLUSTER_BEFORE_HORIZON,
-    "horizon = 4294967295\n",
-    FIRST_PARTS,
-];
-
-#[rattlefmt::skip]
-static ANNOUNCED: &[Row] = &[
-    (Check, FIRST, &[LOW_ZERO, "place 4294967295\n"], "certificate G5 4\n", 5),
-    (Check, FIRST, &[LOW_ZERO, "cap 0 4294967295\n"], "certificate G5 4\n", 5),
-    (Check, FIRST, &[LOW_ZERO, "leaf 0 4294967295\n"], "certificate G5 4\n", 5),
-    (Check, FIRST, &[LOW_ZERO, "leaf 0 4294967296\n"], "certificate G3 3\n", 5),
-    (Check, FIRST, &[LOW_ZERO, "place 0\n"], "certificate C1 3\n", 5),
-    (Check, FIRST, &[LOW_ZERO, "cap 0 0\n"], "certificate C1 3\n", 5),
-    (Check, FIRST, &[LOW_ZERO, "leaf 0 0\n"], "certificate C5 3\n", 5),
-    (Check, FIRST, &[LOW_ZERO, "leaf 0 2\nle-own 0\nx-window 0\n"], "bound 0\n", 0),
-    (Verify, HORIZON_OVER_NUMBERS, &[FIRST_PLAN], "instance T5 cluster horizon\n", 3),
-    (Verify, GREATEST_HORIZON, &[FIRST_PLAN], "instance M5 cluster\n", 3),
-];
-
-/// So many branches one below another, and then so many leaves.
-fn deep(alloc: Global, branches: u32, leaves: u32) -> Result<String, AllocError> {
-    let mut text = LOW_ZERO.to_string(alloc)?;
-    for _ in 0..branches {
-        text.push_str("round 0 0\n")?;
-    }
-    for _ in 0..leaves {
-        text.push_str("leaf 0 0\n")?;
-    }
-    Ok(text)
-}
-
-/// Branches and leaves, and what is told of them: all of it is read before a second branch on one round is refused.
-type Depth = (u32, u32, &'static str);
-
-#[rattlefmt::skip]
-static DEPTHS: &[Depth] = &[
-    (4608, 4609, "certificate C2 4\n"),
-    (4608, 4608, "certificate G5 9219\n"),
-    (4609, 1, "certificate G4 4612\n"),
-];
-
-/// The first of these of which something else is told.
-fn wrong_depth(rt: &(impl Alloc<A = Global> + Threads + Sync)) -> Result<Option<u32>, AllocError> {
-    for (branches, leaves, text) in DEPTHS {
-        let certificate = deep(rt.alloc(), *branches, *leaves)?;
-        if !Check.tells(rt, FIRST, &[certificate.as_str()], text, 5)? {
-            return Ok(Some(*branches));
-        }
-    }
-    Ok(None)
-}
-
-const NODE: &str = "[[node]]\nname = \"A\"\ncapacities = [0]\n";
-
-const PROCESS: &str = "[[process]]\nname = \"p\"\nnode = \"A\"\nwcet = 1\n";
-
-/// Whether this is told of an instance with so many nodes of one name.
-fn is_told_of_nodes(
-    rt: &(impl Alloc<A = Global> + Threads + Sync),
-    count: u32,
-    text: &str,
-) -> Result<bool, AllocError> {
-    let mut instance = joined(rt.alloc(), &[CLUSTER, PROCESS])?;
-    for _ in 0..count {
-        instance.push_str(NODE)?;
-    }
-    Verify.tells(rt, &[instance.as_str()], &[FIRST_PLAN], text, 3)
-}
-
 #[test]
 fn hostile_texts(rt: HostRuntime) -> Result<(), Fail> {
     let plan = FIRST_PLAN.as_bytes();
@@ -203,14 +122,5 @@ fn hostile_texts(rt: HostRuntime) -> Result<(), Fail> {
         None
     );
     assert_eq!(rt; wrong_instance_prefix(&rt)?, None);
-    Ok(())
-}
-
-#[test]
-fn counts_and_depths_are_judged_by_the_lines_that_are_there(rt: HostRuntime) -> Result<(), Fail> {
-    assert_eq!(rt; wrong_row(&rt, ANNOUNCED)?, None);
-    assert_eq!(rt; wrong_depth(&rt)?, None);
-    assert!(rt; is_told_of_nodes(&rt, 16, "instance M3 node 1\n")?);
-    assert!(rt; is_told_of_nodes(&rt, 17, "instance M1 node\n")?);
     Ok(())
 }

@@ -4,25 +4,21 @@
 #[cfg(test)]
 mod bundles;
 #[cfg(test)]
-mod checks;
-#[cfg(test)]
 mod failing_streams;
 #[cfg(test)]
 mod hostile_texts;
 #[cfg(test)]
 mod judgements;
 #[cfg(test)]
+mod limits;
+#[cfg(test)]
 mod progress;
 #[cfg(test)]
 mod refusals;
 #[cfg(test)]
-mod replays;
-#[cfg(test)]
 mod reports;
 #[cfg(test)]
 mod requests;
-#[cfg(test)]
-mod sheets;
 #[cfg(test)]
 mod solve_streams;
 #[cfg(test)]
@@ -30,8 +26,4 @@ mod solves;
 #[cfg(test)]
 mod streams;
 #[cfg(test)]
-mod table_texts;
-#[cfg(test)]
 mod told;
-#[cfg(test)]
-mod verdicts;

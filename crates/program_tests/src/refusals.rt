@@ -1,11 +1,10 @@
 //! Commands in which memory is refused.
 
-use crate::checks::FIRST_CERTIFICATE;
-use crate::replays::{ALL_RECEIVED, THREE, THREE_PLAN};
-use crate::sheets::FIRST_PROCESSES;
-use crate::table_texts::FIRST_TABLES;
 use crate::told::Asked::{Check, Replay, Schedule, Tables, Verify};
-use crate::told::{CLUSTER, FIRST, FIRST_PARTS, FIRST_PLAN, Row, joined};
+use crate::told::{
+    ALL_RECEIVED, Asked, CLUSTER, FIRST, FIRST_CERTIFICATE, FIRST_PARTS, FIRST_PLAN,
+    FIRST_PROCESSES, FIRST_TABLES, THREE, THREE_PLAN, joined,
+};
 use command_streams::{End, report, status};
 use plan_commands::{judge_run, verify_bundle};
 use plan_sheets::Table::Processes;
@@ -45,10 +44,18 @@ fn is_told(end: &End, out: &Page, text: &str) -> Result<bool, Fail> {
     })
 }
 
+/// A command, an instance and a second text, each in parts, and what is written of them.
+type Row = (
+    Asked<'static>,
+    &'static [&'static str],
+    &'static [&'static str],
+    &'static str,
+);
+
 /// Whether a command tells what it does where there is memory, or has written nothing and says that there is none.
 fn survives_refusals(
     rt: &(impl Alloc<A = Global> + Threads + Sync),
-    (command, instance, second, text, _): Row,
+    (command, instance, second, text): Row,
 ) -> Result<bool, Fail> {
     let instance = joined(rt.alloc(), instance)?;
     let second = joined(rt.alloc(), second)?;
@@ -126,11 +133,11 @@ fn search_survives<R: Threads + Wait + Sync>(
 
 #[rattlefmt::skip]
 static ANSWERS: &[Row] = &[
-    (Verify, FIRST, &[FIRST_PLAN], "valid 9\n", 0),
-    (Tables, FIRST, &[FIRST_PLAN], FIRST_TABLES, 0),
-    (Check, FIRST, &[FIRST_CERTIFICATE], "bound 9\n", 0),
-    (Replay(&[]), THREE, &[THREE_PLAN], ALL_RECEIVED, 0),
-    (Schedule(Processes), FIRST, &[FIRST_PLAN], FIRST_PROCESSES, 0),
+    (Verify, FIRST, &[FIRST_PLAN], "valid 9\n"),
+    (Tables, FIRST, &[FIRST_PLAN], FIRST_TABLES),
+    (Check, FIRST, &[FIRST_CERTIFICATE], "bound 9\n"),
+    (Replay(&[]), THREE, &[THREE_PLAN], ALL_RECEIVED),
+    (Schedule(Processes), FIRST, &[FIRST_PLAN], FIRST_PROCESSES),
 ];
 
 /// Run with each allocation refused in turn: the answer is the same, or that memory was refused.

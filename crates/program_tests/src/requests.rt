@@ -1,9 +1,6 @@
 //! Which words ask for which command, and which are refused.
 
-use crate::checks::FIRST_CERTIFICATE;
-use crate::replays::ALL_RECEIVED;
-use crate::table_texts::FIRST_TABLES;
-use crate::told::FIRST_PLAN;
+use crate::told::{ALL_RECEIVED, FIRST_CERTIFICATE, FIRST_PLAN, FIRST_TABLES};
 use command_words::{VERSION, refuse, request_in};
 use std::alloc::{AllocError, Global};
 use std::str::from_utf8;

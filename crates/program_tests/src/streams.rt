@@ -1,9 +1,14 @@
 //! What stands after a read or a write of a command has failed?
 
-use crate::told::{Asked, Told, joined};
+use crate::told::Asked::{Check, Replay, Tables, Verify};
+use crate::told::{
+    Asked, FIRST, FIRST_CERTIFICATE, FIRST_PLAN, FIRST_TABLES, ONE_LOST, THREE, THREE_PLAN, Told,
+    joined,
+};
 use std::alloc::{Alloc, AllocError, Global};
 use std::io;
 use std::io::{Read, Write};
+use std::test::Fail;
 use std::thread::Threads;
 
 /// A reader that gives one byte at a time, and fails at a call.
@@ -63,17 +68,17 @@ impl Write for FullWriter {
 
 /// A command on two texts, with the line that tells a failure of the second reader, and what is written of them.
 #[derive(Clone, Copy)]
-pub struct Case<'a> {
-    pub command: Asked<'a>,
-    pub instance: &'a [&'a str],
-    pub second: &'a str,
-    pub error: &'a str,
-    pub out: &'a str,
+struct Case<'a> {
+    command: Asked<'a>,
+    instance: &'a [&'a str],
+    second: &'a str,
+    error: &'a str,
+    out: &'a str,
 }
 
 /// A failure that is told otherwise: of a reader at this call, or of the writer with room for so many bytes.
 #[derive(Clone, Copy, Debug, PartialEq, Eq)]
-pub enum Wrong {
+enum Wrong {
     Instance(usize),
     Second(usize),
     Out(usize),
@@ -148,7 +153,7 @@ impl<'a> Case<'a> {
     }
 
     /// The first failure that is told otherwise.
-    pub fn wrong(
+    fn wrong(
         &self,
         rt: &(impl Alloc<A = Global> + Threads + Sync),
     ) -> Result<Option<Wrong>, AllocError> {
@@ -160,4 +165,51 @@ impl<'a> Case<'a> {
                 .or(self.wrong_room(rt, instance)),
         )
     }
+}
+
+static CASES: &[Case<'static>] = &[
+    Case {
+        command: Verify,
+        instance: FIRST,
+        second: FIRST_PLAN,
+        error: "read plan\n",
+        out: "valid 9\n",
+    },
+    Case {
+        command: Tables,
+        instance: FIRST,
+        second: FIRST_PLAN,
+        error: "read plan\n",
+        out: FIRST_TABLES,
+    },
+    Case {
+        command: Replay(&["0/0/*"]),
+        instance: THREE,
+        second: THREE_PLAN,
+        error: "read plan\n",
+        out: ONE_LOST,
+    },
+    // A read that fails is told before a loss that can't be.
+    Case {
+        command: Replay(&["9/9/9"]),
+        instance: THREE,
+        second: THREE_PLAN,
+        error: "read plan\n",
+        out: "",
+    },
+    Case {
+        command: Check,
+        instance: FIRST,
+        second: FIRST_CERTIFICATE,
+        error: "read certificate\n",
+        out: "bound 9\n",
+    },
+];
+
+#[test]
+fn a_failure_is_told_and_leaves_a_prefix(rt: HostRuntime) -> Result<(), Fail> {
+    for (k, case) in CASES.iter().enumerate() {
+        assert_eq!(rt; case.wrong(&rt)?, None, "case {k}");
+    }
+    Ok(())
 }

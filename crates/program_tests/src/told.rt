@@ -14,15 +14,36 @@ pub const CLUSTER: &str =
 pub const FIRST_PARTS: &str =
     "[[node]]\nname = \"A\"\ncapacities = [2]\n[[node]]\nname = \"B\"\ncapacities = [0]\n[[process]]\nname = \"p\"\nnode = \"A\"\nwcet = 3\n[[process]]\nname = \"q\"\nnode = \"B\"\nwcet = 2\n[[message]]\nname = \"m\"\nfrom = \"p\"\nto = [\"q\"]\nbytes = 2\n";
 
-/// The first example, its plan, and that plan up to its starts.
+/// The first example, its plan, the tables of that, when its processes are dispatched, and a certificate of its delay.
 pub const FIRST: &[&str] = &[CLUSTER, FIRST_PARTS];
 
 pub const FIRST_PLAN: &str =
     "ttplan 1\ndelay 9\norder A B\ncap A 2\ncap B 0\nstart p 0\nstart q 7\nround m 1\n";
 
-pub const FIRST_HEAD: &str = "ttplan 1\ndelay 9\norder A B\ncap A 2\ncap B 0\n";
+pub const FIRST_TABLES: &str =
+    "ttmedl 1\nrounds 3\nnode A\nrow 0 0 A 2\nrow 0 1 B 0\nrow 1 0 A 2 m:0\nrow 1 1 B 0\nrow 2 0 A 2\nrow 2 1 B 0\nnode B\nrow 0 0 A 2\nrow 0 1 B 0\nrow 1 0 A 2 m:0\nrow 1 1 B 0\nrow 2 0 A 2\nrow 2 1 B 0\nttguard 1\nwindow 0 A 0 3\nwindow 0 B 3 4\nwindow 1 A 4 7\nwindow 1 B 7 8\nwindow 2 A 8 11\nwindow 2 B 11 12\n";
 
-pub const ONE_NODE: &str = "[[node]]\nname = \"A\"\ncapacities = [0]\n";
+pub const FIRST_PROCESSES: &str =
+    "node,process,start,end,release,deadline,slack\nA,p,0,3,0,100,1\nB,q,7,9,0,100,91\n";
+
+pub const FIRST_CERTIFICATE: &str =
+    "ttcert 1\nlow 9\nleaf 9 5\nes-release 0\nlo-send 0\nes-arrive 0 1\nle-own 1\nx-window 1\n";
+
+/// A process of 3 ticks on one of three nodes, and the traces where all frames are received and where A's is lost.
+pub const THREE: &[&str] = &[
+    CLUSTER,
+    "[[node]]\nname = \"A\"\ncapacities = [0]\n[[node]]\nname = \"B\"\ncapacities = [0]\n[[node]]\nname = \"C\"\ncapacities = [0]\n",
+    "[[process]]\nname = \"p\"\nnode = \"A\"\nwcet = 3\n",
+];
+
+pub const THREE_PLAN: &str =
+    "ttplan 1\ndelay 3\norder A B C\ncap A 0\ncap B 0\ncap C 0\nstart p 0\n";
+
+pub const ALL_RECEIVED: &str =
+    "ttreplay 1\nslot 0 0 A sent\nslot 0 1 B sent\nack A\nslot 0 2 C sent\nack B\nmember A A B C\nmember B A B C\nmember C A B C\n";
+
+pub const ONE_LOST: &str =
+    "ttreplay 1\nslot 0 0 A sent\ndrop B A\ndrop C A\nslot 0 1 B sent\ndoubt A\nslot 0 2 C sent\nleave A\nack B\nmember A B C\nmember B B C\nmember C B C\n";
 
 /// Texts, one after another.
 pub fn joined(alloc: Global, parts: &[&str]) -> Result<String, AllocError> {
@@ -112,41 +133,4 @@ impl<'a> Asked<'a> {
         );
         Told::at(rt.alloc(), &end, out)
     }
-
-    /// Whether it tells this text at this status, of two texts in parts.
-    pub fn tells(
-        self,
-        rt: &(impl Alloc<A = Global> + Threads + Sync),
-        instance: &[&str],
-        second: &[&str],
-        text: &str,
-        status: u8,
-    ) -> Result<bool, AllocError> {
-        let instance = joined(rt.alloc(), instance)?;
-        let second = joined(rt.alloc(), second)?;
-        let told = self.told(rt, instance.as_str(), second.as_str());
-        Ok(told.is(text, status))
-    }
-}
-
-/// A command, an instance and a second text, each in parts, and the text that it tells of them, with the status.
-pub type Row = (
-    Asked<'static>,
-    &'static [&'static str],
-    &'static [&'static str],
-    &'static str,
-    u8,
-);
-
-/// The first row of which something else is told.
-pub fn wrong_row(
-    rt: &(impl Alloc<A = Global> + Threads + Sync),
-    rows: &[Row],
-) -> Result<Option<usize>, AllocError> {
-    for (k, &(command, instance, second, text, status)) in rows.iter().enumerate() {
-        if !command.tells(rt, instance, second, text, status)? {
-            return Ok(Some(k));
-        }
-    }
-    Ok(None)
 }

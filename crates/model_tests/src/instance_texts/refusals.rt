@@ -1,87 +1,22 @@
-//! Which stated instances does the model refuse, and what happens without memory?
+//! What is told of a text of many links, and what where memory is refused?
 
-use super::{LAST, TEXT, changed, fails, fault};
+use super::TEXT;
 use crate::outcomes::same;
-use instance_text::{Key, Place, TextError};
+use instance_text::{Key, Place, TextError, read};
 use std::alloc::{AllocError, Global};
 use std::process::Abort;
 use std::test::Fail;
-use ttp_model::{ModelError, Numbers, Part, Place as At};
+use ttp_model::{ModelError, Part};
 
-#[test]
-fn the_models_refusal_is_handed_on_whole(rt: HostRuntime) -> Result<(), Fail> {
-    let rows = &[
-        (
-            "name = \"m\"",
-            "name = \"9\"",
-            TextError::Model(ModelError::NameForm(At::AtMessage(0))),
-        ),
-        (
-            "capacities = [2]",
-            "capacities = []",
-            TextError::Model(ModelError::Capacities(0)),
-        ),
-        (
-            "to = [\"q\"]",
-            "to = []",
-            TextError::Model(ModelError::NoReceiver(0)),
-        ),
-        (
-            "to = [\"q\"]",
-            "to = [\"p\"]",
-            TextError::Model(ModelError::ReceiverOnSender(0)),
-        ),
-        (
-            "precision = 0\nlead = 0\ntrail = 0",
-            "precision = 1\nlead = 1\ntrail = 1",
-            TextError::Model(ModelError::ShortLead),
-        ),
-        (
-            "wcet = 2",
-            "wcet = 2\ndeadline = 1",
-            TextError::Model(ModelError::Deadline(1)),
-        ),
-        (
-            TEXT,
-            "node = []\nprocess = []\n[cluster]\nprecision = 0\nlead = 0\ntrail = 0\nhead = 1
-per_byte = 1\ncopy_out = 0\ncopy_in = 0\nhorizon = 100\n",
-            TextError::Model(ModelError::Length(Part::Nodes)),
-        ),
-        (
-            LAST,
-            "bytes = 2\n[[process]]\nname = \"p\"\nnode = \"B\"\nwcet = 1\n",
-            TextError::Model(ModelError::NameRepeated(At::AtProcess(2))),
-        ),
-        (
-            LAST,
-            "bytes = 2\n[[node]]\nname = \"A\"\ncapacities = [0]\n",
-            TextError::Model(ModelError::NameRepeated(At::AtNode(2))),
-        ),
-    ];
-    for (old, new, rule) in rows {
-        fails(&rt, rt.alloc(), old, new, rule)?;
-    }
-    Ok(())
+/// The first fault of a text.
+fn fault(alloc: Global, text: &str) -> Option<TextError> {
+    read(alloc, text.as_bytes()).err()
 }
 
-#[test]
-fn a_cycle_is_the_models_to_refuse(rt: HostRuntime) -> Result<(), Fail> {
-    let cycle = "bytes = 2\n[[process]]\nname = \"r\"\nnode = \"B\"\nwcet = 1
-[[link]]\nfrom = \"q\"\nto = \"r\"\n[[link]]\nfrom = \"r\"\nto = \"q\"\n";
-    let waiting = Numbers::new(vec![in rt.alloc(); 1, 2]?);
-    fails(
-        &rt,
-        rt.alloc(),
-        LAST,
-        cycle,
-        &TextError::Model(ModelError::Cycle(waiting)),
-    )?;
-    Ok(())
-}
-
-/// The text with 30,000 links from p to q.
+/// The text with a message that has no receiver, and 30,000 links from p to q.
 fn linked(rt: &impl Abort, alloc: Global) -> Result<String, AllocError> {
-    let mut text = changed(rt, alloc, "to = [\"q\"]", "to = []")?;
+    let (before, after) = TEXT.split_once("[\"q\"]").expect(rt, "the receiver");
+    let mut text = format!(in alloc; "{before}[]{after}")?;
     for _ in 0..30_000 {
         text.push_str("[[link]]\nfrom = \"p\"\nto = \"q\"\n")?;
     }

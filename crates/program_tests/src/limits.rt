@@ -1,0 +1,89 @@
+//! Texts of as many bytes as are read, and of one more.
+
+use crate::told::Asked::Verify;
+use crate::told::{CLUSTER, FIRST_PARTS, FIRST_PLAN, Told, joined};
+use plan_commands::verify_bundle;
+use std::alloc::{Alloc, AllocError, Global};
+use std::test::Fail;
+use std::thread::Threads;
+
+/// A text of so many bytes: an instance or a bundle that is a comment, or the first example's bundle, whose two parts are
+/// filled up by a comment, and by bytes behind the plan.
+#[derive(Clone, Copy, Debug)]
+enum Filled {
+    Instance(usize),
+    Bundle(usize),
+    Parts(usize, usize),
+}
+
+/// A text, and the line that is told of it, with the status.
+type Row = (Filled, &'static str, u8);
+
+#[rattlefmt::skip]
+static ROWS: &[Row] = &[
+    (Filled::Instance(1_048_576), "instance T3 top cluster\n", 3),
+    (Filled::Instance(1_048_577), "read instance\n", 6),
+    (Filled::Bundle(1_048_577), "read instance\n", 6),
+    (Filled::Parts(1_048_576, 65_536), "plan F6 9\n", 5),
+    (Filled::Parts(1_048_576, 65_537), "read plan\n", 6),
+    (Filled::Parts(1_048_577, 65_536), "read instance\n", 6),
+];
+
+/// So many bytes of a comment.
+fn comment(alloc: Global, length: usize) -> Result<String, AllocError> {
+    let mut text = String::new(alloc);
+    for _ in 0..length {
+        text.push('#')?;
+    }
+    Ok(text)
+}
+
+/// What is told of a bundle in parts.
+fn told_of_bundle(alloc: Global, parts: &[&str]) -> Result<Told, AllocError> {
+    let bundle = joined(alloc, parts)?;
+    let mut out = Vec::new(alloc);
+    let end = verify_bundle(alloc, &mut bundle.as_bytes(), &mut out);
+    Ok(Told::at(alloc, &end, out))
+}
+
+/// What is told of the first example's bundle with parts of so many bytes.
+fn told_of_parts(alloc: Global, instance: usize, plan: usize) -> Result<Told, AllocError> {
+    let front = CLUSTER.len() + FIRST_PARTS.len() + 1;
+    let filling = comment(alloc, instance.saturating_sub(front))?;
+    let behind = comment(alloc, plan.saturating_sub(FIRST_PLAN.len()))?;
+    let parts = [
+        CLUSTER,
+        FIRST_PARTS,
+        filling.as_str(),
+        "\n%%\n",
+        FIRST_PLAN,
+        behind.as_str(),
+    ];
+    told_of_bundle(alloc, &parts)
+}
+
+/// What is told of a text.
+fn told(
+    rt: &(impl Alloc<A = Global> + Threads + Sync),
+    filled: Filled,
+) -> Result<Told, AllocError> {
+    match filled {
+        Filled::Instance(length) => {
+            let instance = comment(rt.alloc(), length)?;
+            Ok(Verify.told(rt, instance.as_str(), FIRST_PLAN))
+        }
+        Filled::Bundle(length) => {
+            let bundle = comment(rt.alloc(), length)?;
+            told_of_bundle(rt.alloc(), &[bundle.as_str()])
+        }
+        Filled::Parts(instance, plan) => told_of_parts(rt.alloc(), instance, plan),
+    }
+}
+
+#[test]
+fn a_text_over_its_limit_is_not_read(rt: HostRuntime) -> Result<(), Fail> {
+    for (filled, line, status) in ROWS {
+        assert!(rt; told(&rt, *filled)?.is(line, *status), "{filled:?}");
+    }
+    Ok(())
+}
