@@ -1,0 +1,5 @@
+pub mod WorkersAfter
+pub mod PlansTold
+pub mod PartedBundles
+pub mod BoundsAndTraces
+pub mod SearchesTold

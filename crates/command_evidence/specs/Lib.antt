@@ -1,0 +1,5 @@
+pub mod Events
+pub mod Verdicts
+pub mod Bundles
+pub mod Tellings
+pub mod Answers

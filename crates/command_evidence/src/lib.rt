@@ -1,0 +1,32 @@
+//! Proved callers of the commands and of what they stand on: each states one right answer.
+#![tactic(auto)]
+
+mod answers;
+mod bundles;
+mod events;
+mod smaller_trees;
+mod streams;
+mod tellings;
+mod verdicts;
+
+pub use answers::{
+    answer_waits_for_the_certificate, best_plan_stands_behind_the_line, certificate_is_written,
+    search_ends_at_no_stated_delay,
+};
+pub use bundles::{instance_is_unread_only_before_the_mark, mark_is_a_line};
+pub use events::{
+    leaf_is_closed_at_what_was_seen, look_sees_the_best_delay, pop_takes_the_last_name,
+};
+pub use smaller_trees::{
+    bound_is_the_one_asked_for, branches_are_few_enough, tree_that_is_given_is_a_proof,
+};
+pub use streams::{
+    both_texts_are_written, end_is_told_of_all_bytes, late_message_is_told_as_late,
+    what_is_over_its_limit_is_refused,
+};
+pub use tellings::{
+    bound_told_is_the_certificates, named_frames_are_lost, wrong_loss_is_of_the_word_told,
+};
+pub use verdicts::{
+    plan_is_unread_only_behind_an_instance, stated_delay_is_the_plans_own, tables_end_with_windows,
+};
