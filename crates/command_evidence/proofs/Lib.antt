@@ -3,3 +3,4 @@ pub mod PlansTold
 pub mod PartedBundles
 pub mod BoundsAndTraces
 pub mod SearchesTold
+pub mod Spared

@@ -1,6 +1,5 @@
 -- What commands tell of verified plans is right to tell.
 use Rattle.std.proofs.Common.{◌≡◌, ℕ, List, Option, subst}
-use Rattle.ttp_model.specs.Instance.{Instance}
 use Rattle.command_streams.specs.declared.ending.Source.TheVariants.{Plan}
 use Rattle.command_streams.specs.declared.ending.Fault.TheVariants.{Unread}
 use Rattle.command_streams.specs.declared.ending.End.{End}

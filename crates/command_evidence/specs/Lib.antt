@@ -3,3 +3,4 @@ pub mod Verdicts
 pub mod Bundles
 pub mod Tellings
 pub mod Answers
+pub mod Words

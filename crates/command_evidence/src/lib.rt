@@ -8,6 +8,7 @@ mod smaller_trees;
 mod streams;
 mod tellings;
 mod verdicts;
+mod words;
 
 pub use answers::{
     answer_waits_for_the_certificate, best_plan_stands_behind_the_line, certificate_is_written,
@@ -30,3 +31,4 @@ pub use tellings::{
 pub use verdicts::{
     plan_is_unread_only_behind_an_instance, stated_delay_is_the_plans_own, tables_end_with_windows,
 };
+pub use words::certificate_is_another_file;

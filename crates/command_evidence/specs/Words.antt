@@ -1,0 +1,11 @@
+-- Which files a search is to write.
+use Rattle.std.specs.Prelude.{◌≡◌, ◌++◌, IfSome, codes, false}
+use Rattle.command_words.specs.declared.words.Request.{Request}
+use Rattle.command_words.specs.declared.words.Request.TheVariants.{Solve}
+use Rattle.command_words.specs.Names.{is_rooted}
+
+-- the certificate isn't written to the instance's file, of which the name is given again with `./` before it
+abbrev pub SparesInstance : Request → Type 0
+SparesInstance (Solve instance certificate workers budget progress) =
+    IfSome certificate (λ file. is_rooted instance.now ≡ false → file.now ≡ codes "./" ++ instance.now → ⊥)
+SparesInstance _ = Unit {0}
