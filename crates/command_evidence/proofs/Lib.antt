@@ -4,3 +4,4 @@ pub mod PartedBundles
 pub mod BoundsAndTraces
 pub mod SearchesTold
 pub mod Spared
+pub mod JudgementsTold

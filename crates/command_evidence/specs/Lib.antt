@@ -4,3 +4,4 @@ pub mod Bundles
 pub mod Tellings
 pub mod Answers
 pub mod Words
+pub mod Judgements

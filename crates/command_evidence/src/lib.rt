@@ -4,6 +4,7 @@
 mod answers;
 mod bundles;
 mod events;
+mod judgements;
 mod smaller_trees;
 mod streams;
 mod tellings;
@@ -18,6 +19,7 @@ pub use bundles::{instance_is_unread_only_before_the_mark, mark_is_a_line};
 pub use events::{
     leaf_is_closed_at_what_was_seen, look_sees_the_best_delay, pop_takes_the_last_name,
 };
+pub use judgements::{bounds_are_told_in_order, delay_told_is_the_least, none_is_told_of_no_plan};
 pub use smaller_trees::{
     bound_is_the_one_asked_for, branches_are_few_enough, tree_that_is_given_is_a_proof,
 };
