@@ -1,344 +1,372 @@
 //! Choices of small instances: what is left open, and how far the slots can move.
 
-ghost use Rattle.std.specs.Prelude.{◌≡◌, ◌<◌, length, All, IfOk};
+ghost use Rattle.std.specs.Prelude.{◌<◌, length, IfOk};
 ghost use Rattle.tt_choice.specs.Choice.{IsChoice};
 
-use crate::decisions::chosen;
+use crate::decisions::{chosen, is_open};
 use crate::instances::Small;
 use std::alloc::Global;
 use std::process::Abort;
 use std::test::Fail;
 use tt_choice::Decision::{AtLeast, AtMost, Before, Cap, Place};
 use tt_choice::{Choice, Decision};
-use ttp_model::{Instance, Kind};
+use ttp_model::{Instance, Kind, MemoryFault};
 use worked_instances::PLAIN;
 
-/// Checks how much is left to choose; where nothing is, the choice is complete.
-fn expect_left(
-    rt: &impl Abort,
-    alloc: Global,
-    small: Small,
-    decisions: &[Decision],
-    size: usize,
-) -> Result<(), Fail> {
-    let i = small.build(alloc)?;
-    let choice = chosen(rt, alloc, &i, decisions)?;
-    assert_eq!(rt; choice.size_left(&i), size);
-    assert_eq!(rt; choice.is_complete(&i), size == 0);
-    Ok(())
-}
-
-/// Checks which of these branches are open.
-fn expect_open(
-    rt: &impl Abort,
-    alloc: Global,
-    small: Small,
-    decisions: &[Decision],
-    rows: &[(Kind, bool)],
-) -> Result<(), Fail> {
-    let i = small.build(alloc)?;
-    let choice = chosen(rt, alloc, &i, decisions)?;
-    for (kind, is_open) in rows {
-        assert_eq!(rt; choice.is_open(&i, kind), *is_open, "{kind:?}");
-    }
-    Ok(())
-}
-
-/// A number of a choice that has a least value and a greatest one.
+/// Something that a choice is asked, and its answer.
 #[derive(Clone, Copy, Debug)]
-enum Span {
-    /// The capacity of this node.
-    Cap(u32),
-    /// When the slot of this node begins in round 0.
-    Start(u32),
-    /// When the slot of this node ends in round 1.
-    End(u32),
-    /// The round of this message.
-    Round(u32),
+enum Asked {
+    /// So much is left to choose; where nothing is, the choice is complete.
+    Left(usize),
+    /// Whether this branch is open.
+    Open(Kind, bool),
+    /// The least and the greatest capacity of this node.
+    Caps(u32, u32, u32),
+    /// When the slot of this node begins in round 0: the least and the greatest.
+    Starts(u32, u64, u64),
+    /// When the slot of this node ends in round 1: the least and the greatest.
+    Ends(u32, u64, u64),
+    /// How long the slot of this node takes at least.
+    Shortest(u32, u64),
+    /// The least and the greatest round of this message.
+    Rounds(u32, u32, u32),
+    /// Whether the first process goes before the second, by either question.
+    Ordered(u32, u32, bool),
+    /// The nodes that are placed.
+    Placed(&'static [u32]),
+    /// The capacity that is fixed for this node, if one is.
+    Fixed(u32, Option<u32>),
 }
 
-/// The least and the greatest value.
-fn span_of(rt: &impl Abort, i: &Instance, choice: &Choice, span: Span) -> (u64, u64)
+/// Whether this is answered.
+fn holds(i: &Instance, choice: &Choice, asked: Asked) -> bool
     requires { IsChoice i.now choice.now }
 {
-    match span {
-        Span::Cap(n) => {
-            assert!(rt; (n as usize) < i.nodes().len());
-            (choice.cap_least(i, n).into(), choice.cap_most(i, n).into())
+    match asked {
+        Asked::Left(size) => choice.size_left(i) == size && choice.is_complete(i) == (size == 0),
+        Asked::Open(kind, open) => choice.is_open(i, &kind) == open,
+        Asked::Ordered(p, q, ordered) => {
+            choice.is_before(p, q) == ordered && choice.precedence().goes_before(p, q) == ordered
         }
-        Span::Start(n) => {
-            assert!(rt; (n as usize) < i.nodes().len());
-            (choice.start_least(i, n, 0), choice.start_most(i, n, 0))
+        Asked::Placed(nodes) => choice.prefix() == nodes,
+        Asked::Rounds(m, least, most) => {
+            (m as usize) < i.messages().len() && choice.lo(m) == least && choice.hi(m) == most
         }
-        Span::End(n) => {
-            assert!(rt; (n as usize) < i.nodes().len());
-            (choice.end_least(i, n, 1), choice.end_most(i, n, 1))
-        }
-        Span::Round(m) => {
-            assert!(rt; (m as usize) < i.messages().len());
-            (choice.lo(m).into(), choice.hi(m).into())
+        Asked::Caps(n, ..)
+        | Asked::Starts(n, ..)
+        | Asked::Ends(n, ..)
+        | Asked::Shortest(n, ..)
+        | Asked::Fixed(n, ..) => {
+            (n as usize) < i.nodes().len() && holds_of_node(i, choice, n, asked)
         }
     }
 }
 
-/// Checks the least and the greatest values.
-fn expect_spans(
-    rt: &impl Abort,
-    alloc: Global,
-    small: Small,
-    decisions: &[Decision],
-    rows: &[(Span, (u64, u64))],
-) -> Result<(), Fail> {
-    let i = small.build(alloc)?;
-    let choice = chosen(rt, alloc, &i, decisions)?;
-    for (span, ends) in rows {
-        assert_eq!(rt; span_of(rt, &i, &choice, *span), *ends, "{span:?}");
+/// Whether this is answered of a node.
+fn holds_of_node(i: &Instance, choice: &Choice, n: u32, asked: Asked) -> bool
+    requires of { IsChoice i.now choice.now }
+    requires node { n < length i.now.nodes }
+{
+    match asked {
+        Asked::Caps(_, least, most) => {
+            choice.cap_least(i, n) == least && choice.cap_most(i, n) == most
+        }
+        Asked::Starts(_, least, most) => {
+            choice.start_least(i, n, 0) == least && choice.start_most(i, n, 0) == most
+        }
+        Asked::Ends(_, least, most) => {
+            choice.end_least(i, n, 1) == least && choice.end_most(i, n, 1) == most
+        }
+        Asked::Shortest(_, ticks) => choice.dur_least(i, n) == ticks,
+        Asked::Fixed(_, cap) => choice.fixed_cap(n) == cap,
+        _ => false,
     }
-    Ok(())
 }
 
-/// Which nodes are placed, and which capacities are fixed of the first ones.
-type Layout<'a> = (&'a [u32], &'a [Option<u32>]);
-
-/// Checks the layout that is chosen so far.
-fn expect_layout(rt: &impl Abort, i: &Instance, choice: &Choice, layout: Layout)
+/// Checks that all this is answered.
+fn expect_all(rt: &impl Abort, i: &Instance, choice: &Choice, label: &str, all: &[Asked])
     requires { IsChoice i.now choice.now }
 {
-    let (prefix, caps) = layout;
-    assert_eq!(rt; choice.prefix(), prefix);
-    assert!(rt; caps.len() <= i.nodes().len());
-    for n in 0..caps.len() {
-        assert_eq!(rt; choice.fixed_cap(n as u32), caps[n], "node {n}");
+    for asked in all {
+        assert!(rt; holds(i, choice, *asked), "{label}: {asked:?}");
     }
 }
 
-/// Checks the layout of a choice, and that its copy is the same.
-fn expect_copies(
-    rt: &impl Abort,
-    alloc: Global,
-    small: Small,
-    decisions: &[Decision],
-    layout: Layout,
-) -> Result<(), Fail> {
-    let i = small.build(alloc)?;
-    let choice = chosen(rt, alloc, &i, decisions)?;
-    expect_layout(rt, &i, &choice, layout);
+/// The same choice in memory of its own.
+fn copied(alloc: Global, i: &Instance, choice: &Choice) -> Result<Choice, MemoryFault>
+    requires { IsChoice i.now choice.now }
+    ensures { IfOk result (IsChoice i.now) }
+{
     let copy = choice.copy(alloc)?;
-    expect_layout(rt, &i, &copy, layout);
-    assert_eq!(rt; copy.is_complete(&i), choice.is_complete(&i));
+    Ok(copy)
+}
+
+/// Decisions, and what their choice is asked.
+struct Row {
+    label: &'static str,
+    small: Small,
+    decisions: &'static [Decision],
+    asked: &'static [Asked],
+}
+
+/// Checks the choice of a row, and its copy.
+fn expect(rt: &impl Abort, alloc: Global, row: &Row) -> Result<(), Fail> {
+    let i = row.small.build(alloc)?;
+    let choice = chosen(rt, alloc, &i, row.decisions)?;
+    expect_all(rt, &i, &choice, row.label, row.asked);
+    expect_copy(rt, alloc, &i, &choice, row)
+}
+
+/// Checks the copy of a row's choice.
+fn expect_copy(
+    rt: &impl Abort,
+    alloc: Global,
+    i: &Instance,
+    choice: &Choice,
+    row: &Row,
+) -> Result<(), Fail>
+    requires { IsChoice i.now choice.now }
+{
+    let copy = copied(alloc, i, choice)?;
+    expect_all(rt, i, &copy, row.label, row.asked);
     Ok(())
 }
 
-/// The choices that an open branch leads to where nothing is chosen.
-fn children(rt: &impl Abort, alloc: Global, i: &Instance, kind: Kind) -> Result<Vec<Choice>, Fail>
-    ensures { IfOk result (λ choices. All (IsChoice i.now) choices.items) }
-{
-    let root = Choice::root(alloc, i)?;
-    assert!(rt; root.is_open(i, &kind));
-    let choices = root.children(alloc, i, &kind)?;
-    Ok(choices)
+static ROWS: &[Row] = &[
+    Row {
+        label: "at the root eleven halvings are left",
+        small: Small::OneMessage(PLAIN),
+        decisions: &[],
+        asked: &[
+            Asked::Left(11),
+            Asked::Starts(0, 0, 1),
+            Asked::Ends(0, 7, 8),
+        ],
+    },
+    Row {
+        label: "a free capacity moves the end of a slot",
+        small: Small::TwoOptions,
+        decisions: &[],
+        asked: &[
+            Asked::Caps(0, 2, 4),
+            Asked::Ends(0, 7, 12),
+            Asked::Shortest(0, 3),
+        ],
+    },
+    Row {
+        label: "a node that comes first delays the slot of the other",
+        small: Small::OneMessage(PLAIN),
+        decisions: &[Place(1)],
+        asked: &[Asked::Placed(&[1]), Asked::Starts(0, 1, 1), Asked::Left(10)],
+    },
+    Row {
+        label: "a capacity is open until it is fixed: where it is open",
+        small: Small::TwoOptions,
+        decisions: &[],
+        asked: &[
+            Asked::Open(Kind::Place, true),
+            Asked::Open(Kind::Cap(0), true),
+        ],
+    },
+    Row {
+        label: "a capacity is open until it is fixed: where it is fixed",
+        small: Small::TwoOptions,
+        decisions: &[Cap(0, 1)],
+        asked: &[
+            Asked::Open(Kind::Cap(0), false),
+            Asked::Open(Kind::Cap(2), false),
+            Asked::Caps(0, 4, 4),
+            Asked::Placed(&[]),
+            Asked::Fixed(0, Some(4)),
+        ],
+    },
+    Row {
+        label: "a range is open until it is one round: all rounds",
+        small: Small::TwoOptions,
+        decisions: &[Cap(0, 1)],
+        asked: &[
+            Asked::Open(Kind::Round(0, 98), true),
+            Asked::Open(Kind::Round(0, 99), false),
+            Asked::Open(Kind::Round(1, 0), false),
+            Asked::Rounds(0, 0, 99),
+        ],
+    },
+    Row {
+        label: "a range is open until it is one round: two rounds",
+        small: Small::TwoOptions,
+        decisions: &[Cap(0, 1), AtMost(0, 1)],
+        asked: &[Asked::Rounds(0, 0, 1)],
+    },
+    Row {
+        label: "a range is open until it is one round: one round",
+        small: Small::TwoOptions,
+        decisions: &[Cap(0, 1), AtMost(0, 1), AtLeast(0, 1)],
+        asked: &[
+            Asked::Rounds(0, 1, 1),
+            Asked::Open(Kind::Round(0, 1), false),
+            Asked::Left(3),
+        ],
+    },
+    Row {
+        label: "a link orders no pair",
+        small: Small::ThreeLengths,
+        decisions: &[],
+        asked: &[
+            Asked::Open(Kind::Pair(0, 2), true),
+            Asked::Open(Kind::Pair(1, 1), false),
+            Asked::Open(Kind::Pair(1, 3), false),
+            Asked::Open(Kind::Pair(1, 0), true),
+            Asked::Left(5),
+        ],
+    },
+    Row {
+        label: "a pair that is ordered one way is open neither way",
+        small: Small::ThreeLengths,
+        decisions: &[Before(1, 0)],
+        asked: &[
+            Asked::Ordered(1, 0, true),
+            Asked::Ordered(0, 1, false),
+            Asked::Open(Kind::Pair(1, 0), false),
+            Asked::Open(Kind::Pair(0, 1), false),
+            Asked::Left(4),
+        ],
+    },
+    Row {
+        label: "a choice is complete when nothing is open",
+        small: Small::OneMessage(PLAIN),
+        decisions: &[AtMost(0, 0), Place(0), Place(1), Cap(0, 0), Cap(1, 0)],
+        asked: &[
+            Asked::Left(0),
+            Asked::Placed(&[0, 1]),
+            Asked::Fixed(0, Some(2)),
+            Asked::Fixed(1, Some(0)),
+        ],
+    },
+];
+
+#[test]
+fn choice_rows(rt: HostRuntime) -> Result<(), Fail> {
+    for row in ROWS {
+        expect(&rt, rt.alloc(), row)?;
+    }
+    Ok(())
 }
 
-/// Checks the layouts of the choices that an open branch leads to, in their order.
-fn expect_children(
-    rt: &impl Abort,
-    alloc: Global,
+/// A branch that is open where nothing is chosen: its decisions in their order, and what the choice of each is asked.
+struct Branch {
+    label: &'static str,
     small: Small,
     kind: Kind,
-    layouts: &[Layout],
-) -> Result<(), Fail> {
-    let i = small.build(alloc)?;
-    let choices = children(rt, alloc, &i, kind)?;
-    assert_eq!(rt; choices.len(), layouts.len());
-    for k in 0..layouts.len() {
-        expect_layout(rt, &i, &choices[k], layouts[k]);
-    }
-    Ok(())
+    decisions: &'static [Decision],
+    children: &'static [&'static [Asked]],
 }
 
-#[test]
-fn at_the_root_eleven_halvings_are_left(rt: HostRuntime) -> Result<(), Fail> {
-    let small = Small::OneMessage(PLAIN);
-    expect_left(&rt, rt.alloc(), small, &[], 11)?;
-    let rows = [(Span::Start(0), (0, 1)), (Span::End(0), (7, 8))];
-    expect_spans(&rt, rt.alloc(), small, &[], &rows)
-}
-
-/// How long the slot of the first node takes at least, where nothing is chosen.
-fn shortest_slot(rt: &impl Abort, alloc: Global, small: Small) -> Result<u64, Fail> {
-    let i = small.build(alloc)?;
-    let root = Choice::root(alloc, &i)?;
-    assert!(rt; !i.nodes().is_empty());
-    Ok(root.dur_least(&i, 0))
-}
-
-#[test]
-fn a_free_capacity_moves_the_end_of_a_slot(rt: HostRuntime) -> Result<(), Fail> {
-    let rows = [(Span::Cap(0), (2, 4)), (Span::End(0), (7, 12))];
-    expect_spans(&rt, rt.alloc(), Small::TwoOptions, &[], &rows)?;
-    assert_eq!(rt; shortest_slot(&rt, rt.alloc(), Small::TwoOptions)?, 3);
-    Ok(())
-}
-
-#[test]
-fn a_node_that_comes_first_delays_the_slot_of_the_other(rt: HostRuntime) -> Result<(), Fail> {
-    let small = Small::OneMessage(PLAIN);
-    expect_copies(&rt, rt.alloc(), small, &[Place(1)], (&[1], &[]))?;
-    expect_spans(
-        &rt,
-        rt.alloc(),
-        small,
-        &[Place(1)],
-        &[(Span::Start(0), (1, 1))],
-    )?;
-    expect_left(&rt, rt.alloc(), small, &[Place(1)], 10)
-}
-
-#[test]
-fn a_capacity_is_open_until_it_is_fixed(rt: HostRuntime) -> Result<(), Fail> {
-    let at_root = [(Kind::Place, true), (Kind::Cap(0), true)];
-    expect_open(&rt, rt.alloc(), Small::TwoOptions, &[], &at_root)?;
-    let rows = [(Kind::Cap(0), false), (Kind::Cap(2), false)];
-    expect_open(&rt, rt.alloc(), Small::TwoOptions, &[Cap(0, 1)], &rows)?;
-    let capacity = [(Span::Cap(0), (4, 4))];
-    expect_spans(&rt, rt.alloc(), Small::TwoOptions, &[Cap(0, 1)], &capacity)?;
-    expect_copies(
-        &rt,
-        rt.alloc(),
-        Small::TwoOptions,
-        &[Cap(0, 1)],
-        (&[], &[Some(4)]),
-    )
-}
-
-#[test]
-fn a_range_is_open_until_it_is_one_round(rt: HostRuntime) -> Result<(), Fail> {
-    let small = Small::TwoOptions;
-    let free = [Cap(0, 1)];
-    let rows = [
-        (Kind::Round(0, 98), true),
-        (Kind::Round(0, 99), false),
-        (Kind::Round(1, 0), false),
-    ];
-    expect_open(&rt, rt.alloc(), small, &free, &rows)?;
-    expect_spans(&rt, rt.alloc(), small, &free, &[(Span::Round(0), (0, 99))])?;
-    let two = [Cap(0, 1), AtMost(0, 1)];
-    expect_spans(&rt, rt.alloc(), small, &two, &[(Span::Round(0), (0, 1))])?;
-    let one = [Cap(0, 1), AtMost(0, 1), AtLeast(0, 1)];
-    expect_spans(&rt, rt.alloc(), small, &one, &[(Span::Round(0), (1, 1))])?;
-    expect_open(&rt, rt.alloc(), small, &one, &[(Kind::Round(0, 1), false)])?;
-    expect_left(&rt, rt.alloc(), small, &one, 3)
-}
-
-#[test]
-fn a_link_orders_no_pair(rt: HostRuntime) -> Result<(), Fail> {
-    let rows = [
-        (Kind::Pair(0, 2), true),
-        (Kind::Pair(1, 1), false),
-        (Kind::Pair(1, 3), false),
-        (Kind::Pair(1, 0), true),
-    ];
-    expect_open(&rt, rt.alloc(), Small::ThreeLengths, &[], &rows)?;
-    expect_left(&rt, rt.alloc(), Small::ThreeLengths, &[], 5)
-}
-
-/// Whether the second process goes before the first, by either question, and the first before the
-/// second.
-fn orders(choice: &Choice) -> (bool, bool, bool) {
-    let second = choice.precedence().goes_before(1, 0);
-    (choice.is_before(1, 0), second, choice.is_before(0, 1))
-}
-
-/// The orders at the choice of these decisions.
-fn chosen_orders(
-    rt: &impl Abort,
-    alloc: Global,
-    small: Small,
-    decisions: &[Decision],
-) -> Result<(bool, bool, bool), Fail> {
-    let i = small.build(alloc)?;
-    let choice = chosen(rt, alloc, &i, decisions)?;
-    Ok(orders(&choice))
-}
-
-#[test]
-fn a_pair_that_is_ordered_one_way_is_open_neither_way(rt: HostRuntime) -> Result<(), Fail> {
-    let small = Small::ThreeLengths;
-    let decisions = [Before(1, 0)];
-    let answer = chosen_orders(&rt, rt.alloc(), small, &decisions)?;
-    assert_eq!(rt; answer, (true, true, false));
-    let rows = [(Kind::Pair(1, 0), false), (Kind::Pair(0, 1), false)];
-    expect_open(&rt, rt.alloc(), small, &decisions, &rows)?;
-    expect_left(&rt, rt.alloc(), small, &decisions, 4)
-}
-
-#[test]
-fn a_choice_is_complete_when_nothing_is_open(rt: HostRuntime) -> Result<(), Fail> {
-    let small = Small::OneMessage(PLAIN);
-    let decisions = [AtMost(0, 0), Place(0), Place(1), Cap(0, 0), Cap(1, 0)];
-    expect_left(&rt, rt.alloc(), small, &decisions, 0)?;
-    expect_copies(
-        &rt,
-        rt.alloc(),
-        small,
-        &decisions,
-        (&[0, 1], &[Some(2), Some(0)]),
-    )
-}
-
-#[test]
-fn the_children_of_a_branch_come_in_order(rt: HostRuntime) -> Result<(), Fail> {
-    let small = Small::TwoOptions;
-    let placed: [Layout; 2] = [(&[0], &[]), (&[1], &[])];
-    expect_children(&rt, rt.alloc(), small, Kind::Place, &placed)?;
-    let fixed: [Layout; 2] = [(&[], &[Some(2)]), (&[], &[Some(4)])];
-    expect_children(&rt, rt.alloc(), small, Kind::Cap(0), &fixed)?;
-    let sides: [Layout; 2] = [(&[], &[]), (&[], &[])];
-    expect_children(&rt, rt.alloc(), small, Kind::Round(0, 4), &sides)
-}
-
-#[test]
-fn the_children_of_a_pair_are_its_two_orders(rt: HostRuntime) -> Result<(), Fail> {
-    let i = Small::ThreeLengths.build(rt.alloc())?;
-    let choices = children(&rt, rt.alloc(), &i, Kind::Pair(1, 0))?;
-    assert_eq!(rt; choices.len(), 2);
-    assert_eq!(rt; orders(&choices[0]), (true, true, false));
-    assert_eq!(rt; orders(&choices[1]), (false, false, true));
-    Ok(())
-}
-
-/// Checks the decisions of a branch that is open where nothing is chosen.
+/// Checks the decisions of a branch.
 fn expect_decisions(
     rt: &impl Abort,
     alloc: Global,
-    small: Small,
-    kind: Kind,
-    decisions: &[Decision],
-) -> Result<(), Fail> {
-    let i = small.build(alloc)?;
-    let root = Choice::root(alloc, &i)?;
-    assert!(rt; root.is_open(&i, &kind));
-    assert_eq!(rt; root.decisions(alloc, &i, &kind)?.as_slice(), decisions);
+    i: &Instance,
+    root: &Choice,
+    branch: &Branch,
+) -> Result<(), Fail>
+    requires { IsChoice i.now root.now }
+{
+    assert!(rt; root.is_open(i, &branch.kind), "{}", branch.label);
+    let decisions = root.decisions(alloc, i, &branch.kind)?;
+    let children = branch.children.len();
+    assert_eq!(rt;
+        (decisions.as_slice(), decisions.len()),
+        (branch.decisions, children),
+        "{}",
+        branch.label
+    );
     Ok(())
 }
 
-#[test]
-fn the_decisions_of_a_branch_come_in_order(rt: HostRuntime) -> Result<(), Fail> {
-    let small = Small::TwoOptions;
-    let rows: [(Kind, &[Decision]); 3] = [
-        (Kind::Place, &[Place(0), Place(1)]),
-        (Kind::Cap(0), &[Cap(0, 0), Cap(0, 1)]),
-        (Kind::Round(0, 4), &[AtMost(0, 4), AtLeast(0, 5)]),
-    ];
-    for (kind, decisions) in &rows {
-        expect_decisions(&rt, rt.alloc(), small, *kind, decisions)?;
+/// Checks the choice that an open decision leads to.
+fn expect_child(
+    rt: &impl Abort,
+    alloc: Global,
+    i: &Instance,
+    root: &Choice,
+    decision: Decision,
+    label: &str,
+    asked: &[Asked],
+) -> Result<(), Fail>
+    requires { IsChoice i.now root.now }
+{
+    let mut child = copied(alloc, i, root)?;
+    assert!(rt; is_open(i, &child, decision));
+    child.decide(alloc, i, decision)?;
+    expect_all(rt, i, &child, label, asked);
+    Ok(())
+}
+
+/// Checks the decisions of a branch on its instance, and the choices that they lead to.
+fn expect_branch_on(
+    rt: &impl Abort,
+    alloc: Global,
+    i: &Instance,
+    branch: &Branch,
+) -> Result<(), Fail> {
+    let root = Choice::root(alloc, i)?;
+    expect_decisions(rt, alloc, i, &root, branch)?;
+    for (decision, asked) in branch.decisions.iter().zip(branch.children) {
+        expect_child(rt, alloc, i, &root, *decision, branch.label, asked)?;
     }
-    let pair = [Before(1, 0), Before(0, 1)];
-    expect_decisions(
-        &rt,
-        rt.alloc(),
-        Small::ThreeLengths,
-        Kind::Pair(1, 0),
-        &pair,
-    )
+    Ok(())
+}
+
+/// Checks a branch.
+fn expect_branch(rt: &impl Abort, alloc: Global, branch: &Branch) -> Result<(), Fail> {
+    let i = branch.small.build(alloc)?;
+    expect_branch_on(rt, alloc, &i, branch)
+}
+
+static BRANCHES: &[Branch] = &[
+    Branch {
+        label: "the children of a branch come in order: which node comes next",
+        small: Small::TwoOptions,
+        kind: Kind::Place,
+        decisions: &[Place(0), Place(1)],
+        children: &[&[Asked::Placed(&[0])], &[Asked::Placed(&[1])]],
+    },
+    Branch {
+        label: "the children of a branch come in order: which capacity a node has",
+        small: Small::TwoOptions,
+        kind: Kind::Cap(0),
+        decisions: &[Cap(0, 0), Cap(0, 1)],
+        children: &[
+            &[Asked::Placed(&[]), Asked::Fixed(0, Some(2))],
+            &[Asked::Placed(&[]), Asked::Fixed(0, Some(4))],
+        ],
+    },
+    Branch {
+        label: "the children of a branch come in order: in which rounds a message goes",
+        small: Small::TwoOptions,
+        kind: Kind::Round(0, 4),
+        decisions: &[AtMost(0, 4), AtLeast(0, 5)],
+        children: &[
+            &[Asked::Placed(&[]), Asked::Rounds(0, 0, 4)],
+            &[Asked::Placed(&[]), Asked::Rounds(0, 5, 99)],
+        ],
+    },
+    Branch {
+        label: "the children of a pair are its two orders",
+        small: Small::ThreeLengths,
+        kind: Kind::Pair(1, 0),
+        decisions: &[Before(1, 0), Before(0, 1)],
+        children: &[
+            &[Asked::Ordered(1, 0, true), Asked::Ordered(0, 1, false)],
+            &[Asked::Ordered(1, 0, false), Asked::Ordered(0, 1, true)],
+        ],
+    },
+];
+
+#[test]
+fn branch_rows(rt: HostRuntime) -> Result<(), Fail> {
+    for branch in BRANCHES {
+        expect_branch(&rt, rt.alloc(), branch)?;
+    }
+    Ok(())
 }

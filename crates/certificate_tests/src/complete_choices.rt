@@ -8,152 +8,183 @@ use std::process::Abort;
 use std::test::Fail;
 use tt_choice::Decision;
 use tt_choice::Decision::{AtLeast, AtMost, Before, Cap, Place};
-use ttp_model::Numbers;
+use ttp_model::Instance;
 use worked_instances::PLAIN;
 
-/// The answer for the choice of these decisions, which leave nothing open.
-fn answer(
+/// What comes of a complete choice.
+#[derive(Clone, Copy)]
+enum Answer {
+    /// The plan of these starts, with this delay.
+    Plan(&'static [u32], u64),
+    /// A clash at this message's round.
+    Round(u32),
+    /// A clash at this process's window.
+    Window(u32),
+    /// A clash at this node's frame in this round.
+    Frame(u32, u32),
+    /// A cycle of these processes.
+    Cycle(&'static [u32]),
+    /// A cycle of so many processes.
+    CycleOf(usize),
+}
+
+impl Answer {
+    /// Whether this was answered.
+    fn is(self, earliest: &Earliest) -> bool {
+        match earliest {
+            Earliest::Plan(plan, delay) => self.is_plan(plan.starts.as_slice(), *delay),
+            Earliest::Clash(Clash::Cycle(ring)) => self.is_cycle(ring.as_slice()),
+            Earliest::Clash(Clash::Round(message)) =>
+                matches!(self, Answer::Round(m) if m == *message),
+            Earliest::Clash(Clash::Window(process)) =>
+                matches!(self, Answer::Window(p) if p == *process),
+            Earliest::Clash(Clash::Frame(node, round)) => self.is_frame(*node, *round),
+        }
+    }
+
+    fn is_plan(self, starts: &[u32], delay: u64) -> bool {
+        match self {
+            Answer::Plan(wanted, ticks) => starts == wanted && delay == ticks,
+            _ => false,
+        }
+    }
+
+    fn is_cycle(self, ring: &[u32]) -> bool {
+        match self {
+            Answer::Cycle(processes) => ring == processes,
+            Answer::CycleOf(count) => ring.len() == count,
+            _ => false,
+        }
+    }
+
+    fn is_frame(self, node: u32, round: u32) -> bool {
+        match self {
+            Answer::Frame(n, r) => n == node && r == round,
+            _ => false,
+        }
+    }
+}
+
+/// Decisions that leave nothing open, and what comes of them.
+struct Row {
+    label: &'static str,
+    small: Small,
+    decisions: &'static [Decision],
+    answer: Answer,
+}
+
+/// What comes of the choice of these decisions, which leave nothing open.
+fn outcome(
     rt: &impl Abort,
     alloc: Global,
-    small: Small,
+    i: &Instance,
     decisions: &[Decision],
 ) -> Result<Earliest, Fail> {
-    let i = small.build(alloc)?;
-    let choice = chosen(rt, alloc, &i, decisions)?;
-    assert!(rt; choice.is_complete(&i));
-    Ok(earliest(alloc, &i, &choice)?)
+    let choice = chosen(rt, alloc, i, decisions)?;
+    assert!(rt; choice.is_complete(i));
+    Ok(earliest(alloc, i, &choice)?)
 }
 
-/// Checks that the answer is the plan of these starts and this delay.
-fn expect_plan(
-    rt: &impl Abort,
-    alloc: Global,
-    small: Small,
-    decisions: &[Decision],
-    starts: &[u32],
-    ticks: u64,
-) -> Result<(), Fail> {
-    match answer(rt, alloc, small, decisions)? {
-        Earliest::Plan(plan, delay) => {
-            assert_eq!(rt; plan.starts.as_slice(), starts);
-            assert_eq!(rt; delay, ticks);
-        }
-        Earliest::Clash(clash) => panic!(rt; "{clash:?}"),
+/// Checks what comes of the choice of a row.
+fn expect_on(rt: &impl Abort, alloc: Global, i: &Instance, row: &Row) -> Result<(), Fail> {
+    let found = outcome(rt, alloc, i, row.decisions)?;
+    assert!(rt; row.answer.is(&found), "{}: {found:?}", row.label);
+    Ok(())
+}
+
+/// Checks a row on its instance.
+fn expect(rt: &impl Abort, alloc: Global, row: &Row) -> Result<(), Fail> {
+    let i = row.small.build(alloc)?;
+    expect_on(rt, alloc, &i, row)
+}
+
+static ROWS: &[Row] = &[
+    Row {
+        label: "a receiver starts when its slot has ended",
+        small: Small::OneMessage(PLAIN),
+        decisions: &[
+            Place(0),
+            Cap(0, 0),
+            Place(1),
+            Cap(1, 0),
+            AtMost(0, 1),
+            AtLeast(0, 1),
+        ],
+        answer: Answer::Plan(&[0, 7], 9),
+    },
+    Row {
+        label: "a message misses a slot that begins before its sender ends",
+        small: Small::OneMessage(PLAIN),
+        decisions: &[Place(0), Cap(0, 0), Place(1), Cap(1, 0), AtMost(0, 0)],
+        answer: Answer::Round(0),
+    },
+    Row {
+        label: "two messages do not fit into one frame",
+        small: Small::Overfull,
+        decisions: &[
+            Place(1),
+            Cap(1, 0),
+            Place(0),
+            Cap(0, 0),
+            AtMost(0, 0),
+            AtMost(1, 0),
+        ],
+        answer: Answer::Frame(0, 0),
+    },
+    Row {
+        label: "a process that goes first ends in time",
+        small: Small::Deadline,
+        decisions: &[Place(0), Cap(0, 0), Before(1, 0)],
+        answer: Answer::Plan(&[2, 0], 5),
+    },
+    Row {
+        label: "a process that goes second ends too late",
+        small: Small::Deadline,
+        decisions: &[Place(0), Cap(0, 0), Before(0, 1)],
+        answer: Answer::Window(1),
+    },
+    Row {
+        label: "processes run in the order that is chosen",
+        small: Small::ThreeLinked,
+        decisions: &[
+            Place(0),
+            Cap(0, 0),
+            Before(1, 0),
+            Before(0, 2),
+            Before(1, 2),
+        ],
+        answer: Answer::Plan(&[2, 0, 4], 6),
+    },
+    Row {
+        label: "processes that go before one another are a cycle",
+        small: Small::ThreeLinked,
+        decisions: &[
+            Place(0),
+            Cap(0, 0),
+            Before(0, 2),
+            Before(2, 1),
+            Before(1, 0),
+        ],
+        answer: Answer::CycleOf(3),
+    },
+    Row {
+        label: "a link that is turned is a cycle",
+        small: Small::ThreeLinked,
+        decisions: &[
+            Place(0),
+            Cap(0, 0),
+            Before(2, 0),
+            Before(2, 1),
+            Before(1, 0),
+        ],
+        answer: Answer::Cycle(&[0, 2]),
+    },
+];
+
+#[test]
+fn complete_choices(rt: HostRuntime) -> Result<(), Fail> {
+    for row in ROWS {
+        expect(&rt, rt.alloc(), row)?;
     }
-    Ok(())
-}
-
-/// Checks that the answer is this clash.
-fn expect_clash(
-    rt: &impl Abort,
-    alloc: Global,
-    small: Small,
-    decisions: &[Decision],
-    clash: Clash,
-) -> Result<(), Fail> {
-    assert_eq!(rt;
-        answer(rt, alloc, small, decisions)?,
-        Earliest::Clash(clash)
-    );
-    Ok(())
-}
-
-/// The processes of the cycle that is answered.
-fn ring_of(
-    rt: &impl Abort,
-    alloc: Global,
-    small: Small,
-    decisions: &[Decision],
-) -> Result<Numbers, Fail> {
-    match answer(rt, alloc, small, decisions)? {
-        Earliest::Clash(Clash::Cycle(ring)) => Ok(ring),
-        other => panic!(rt; "{other:?}"),
-    }
-}
-
-#[test]
-fn a_receiver_starts_when_its_slot_has_ended(rt: HostRuntime) -> Result<(), Fail> {
-    let small = Small::OneMessage(PLAIN);
-    let decisions = [
-        Place(0),
-        Cap(0, 0),
-        Place(1),
-        Cap(1, 0),
-        AtMost(0, 1),
-        AtLeast(0, 1),
-    ];
-    expect_plan(&rt, rt.alloc(), small, &decisions, &[0, 7], 9)
-}
-
-#[test]
-fn a_message_misses_a_slot_that_begins_before_its_sender_ends(rt: HostRuntime) -> Result<(), Fail> {
-    let small = Small::OneMessage(PLAIN);
-    let decisions = [Place(0), Cap(0, 0), Place(1), Cap(1, 0), AtMost(0, 0)];
-    expect_clash(&rt, rt.alloc(), small, &decisions, Clash::Round(0))
-}
-
-#[test]
-fn two_messages_do_not_fit_into_one_frame(rt: HostRuntime) -> Result<(), Fail> {
-    let small = Small::Overfull;
-    let decisions = [
-        Place(1),
-        Cap(1, 0),
-        Place(0),
-        Cap(0, 0),
-        AtMost(0, 0),
-        AtMost(1, 0),
-    ];
-    expect_clash(&rt, rt.alloc(), small, &decisions, Clash::Frame(0, 0))
-}
-
-#[test]
-fn a_process_that_goes_second_ends_too_late(rt: HostRuntime) -> Result<(), Fail> {
-    let small = Small::Deadline;
-    let first = [Place(0), Cap(0, 0), Before(1, 0)];
-    expect_plan(&rt, rt.alloc(), small, &first, &[2, 0], 5)?;
-    let second = [Place(0), Cap(0, 0), Before(0, 1)];
-    expect_clash(&rt, rt.alloc(), small, &second, Clash::Window(1))
-}
-
-#[test]
-fn processes_run_in_the_order_that_is_chosen(rt: HostRuntime) -> Result<(), Fail> {
-    let small = Small::ThreeLinked;
-    let decisions = [
-        Place(0),
-        Cap(0, 0),
-        Before(1, 0),
-        Before(0, 2),
-        Before(1, 2),
-    ];
-    expect_plan(&rt, rt.alloc(), small, &decisions, &[2, 0, 4], 6)
-}
-
-#[test]
-fn processes_that_go_before_one_another_are_a_cycle(rt: HostRuntime) -> Result<(), Fail> {
-    let small = Small::ThreeLinked;
-    let decisions = [
-        Place(0),
-        Cap(0, 0),
-        Before(0, 2),
-        Before(2, 1),
-        Before(1, 0),
-    ];
-    let ring = ring_of(&rt, rt.alloc(), small, &decisions)?;
-    assert_eq!(rt; ring.len(), 3);
-    Ok(())
-}
-
-#[test]
-fn a_link_that_is_turned_is_a_cycle(rt: HostRuntime) -> Result<(), Fail> {
-    let small = Small::ThreeLinked;
-    let decisions = [
-        Place(0),
-        Cap(0, 0),
-        Before(2, 0),
-        Before(2, 1),
-        Before(1, 0),
-    ];
-    let ring = ring_of(&rt, rt.alloc(), small, &decisions)?;
-    assert_eq!(rt; ring.as_slice(), [0, 2].as_slice());
     Ok(())
 }

@@ -8,6 +8,7 @@ use std::alloc::Global;
 use std::process::Abort;
 use std::test::Fail;
 use tt_choice::{Choice, Decision};
+use tt_infer::Facts;
 use ttp_model::{Instance, Kind};
 
 /// Whether a decision is open.
@@ -73,6 +74,19 @@ pub fn chosen(
         choice.decide(alloc, i, *decision)?;
     }
     Ok(choice)
+}
+
+/// What is known at first of the choice of these decisions, below a goal.
+pub fn first_facts<'a>(
+    rt: &impl Abort,
+    alloc: Global,
+    i: &'a Instance,
+    decisions: &[Decision],
+    goal: u32,
+) -> Result<Facts<'a>, Fail> {
+    let choice = chosen(rt, alloc, i, decisions)?;
+    let facts = Facts::new(alloc, i, &choice, goal)?;
+    Ok(facts)
 }
 
 /// A number below a count, of a random one.

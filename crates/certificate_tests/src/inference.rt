@@ -5,30 +5,49 @@ mod closers;
 mod dominance;
 mod refusals;
 
-use crate::decisions::chosen;
+use crate::decisions::first_facts;
 use crate::instances::Small;
-use certificate::{Node, read};
+use certificate::{Cert, Node, read};
 use std::alloc::Global;
 use std::process::Abort;
 use std::test::Fail;
 use tt_choice::Decision;
 use tt_infer::{Facts, StepFault};
+use ttp_model::{Instance, Step};
 
-/// A step in the words of a certificate, how it is answered, and what is known after it.
-type Row<'a> = (&'a str, Result<(), StepFault>, &'a str);
+/// Steps in the words of a certificate, each on a line, how each of them is answered, and what is known after each.
+type Steps = (&'static str, Result<(), StepFault>, &'static str);
 
-/// What is known, as a line: of each process how early it starts and how late it ends, of each
-/// message its least round and the first that is too late, and which processes go before which.
-fn line(alloc: Global, facts: &Facts) -> Result<String, Fail> {
-    let mut text = String::new(alloc);
+/// Steps that are taken one after another, at the choice of these decisions, and what they show.
+struct Row {
+    label: &'static str,
+    small: Small,
+    decisions: &'static [Decision],
+    goal: u32,
+    steps: &'static [Steps],
+}
+
+/// Adds of each process how early it starts and how late it ends.
+fn add_processes(facts: &Facts, text: &mut String) -> Result<(), Fail> {
     let processes = facts.instance().processes().len() as u32;
     for p in 0..processes {
         write!(text, "{}..{} ", facts.es(p), facts.le(p))?;
     }
+    Ok(())
+}
+
+/// Adds of each message its least round and the first that is too late.
+fn add_messages(facts: &Facts, text: &mut String) -> Result<(), Fail> {
     let messages = facts.instance().messages().len() as u32;
     for m in 0..messages {
         write!(text, "m {}..{} ", facts.lo(m), facts.top(m))?;
     }
+    Ok(())
+}
+
+/// Adds which processes go before which.
+fn add_orders(facts: &Facts, text: &mut String) -> Result<(), Fail> {
+    let processes = facts.instance().processes().len() as u32;
     for p in 0..processes {
         for q in 0..processes {
             if facts.bef(p, q) {
@@ -36,51 +55,71 @@ fn line(alloc: Global, facts: &Facts) -> Result<String, Fail> {
             }
         }
     }
+    Ok(())
+}
+
+/// What is known, as a line: of each process how early it starts and how late it ends, of each
+/// message its least round and the first that is too late, and which processes go before which.
+fn line(alloc: Global, facts: &Facts) -> Result<String, Fail> {
+    let mut text = String::new(alloc);
+    add_processes(facts, &mut text)?;
+    add_messages(facts, &mut text)?;
+    add_orders(facts, &mut text)?;
     text.push_str(if facts.closed() { "closed" } else { "open" })?;
     Ok(text)
 }
 
-/// Takes the step that these words are, or refuses it.
-fn take(
-    rt: &impl Abort,
-    alloc: Global,
-    facts: &mut Facts,
-    words: &str,
-) -> Result<Result<(), StepFault>, Fail> {
-    let text = format!(in alloc; "ttcert 1\nlow 0\nleaf 0 1\n{words}\n")?;
-    let cert = read(alloc, text.as_bytes())?;
-    let [Node::Leaf(leaf)] = cert.nodes() else {
-        panic!(rt; "no leaf");
-    };
-    let [step] = leaf.steps.as_slice() else {
-        panic!(rt; "no step");
-    };
-    Ok(facts.apply(step))
+/// A certificate of one leaf with the steps of these lines.
+fn cert_of(alloc: Global, lines: &str) -> Result<Cert, Fail> {
+    let count = lines.lines().count();
+    let text = format!(in alloc; "ttcert 1\nlow 0\nleaf 0 {count}\n{lines}\n")?;
+    Ok(read(alloc, text.as_bytes())?)
 }
 
 /// Checks the answer to a step, and what is known after it.
-fn expect(rt: &impl Abort, alloc: Global, facts: &mut Facts, row: &Row) -> Result<(), Fail> {
-    let words = row.0;
-    assert_eq!(rt; take(rt, alloc, facts, words)?, row.1, "{words}");
+fn expect_step(
+    rt: &impl Abort,
+    alloc: Global,
+    facts: &mut Facts,
+    label: &str,
+    step: &Step,
+    wanted: (Result<(), StepFault>, &str),
+) -> Result<(), Fail> {
+    let answer = facts.apply(step);
     let known = line(alloc, facts)?;
-    assert_eq!(rt; known.as_str(), row.2, "{words}");
+    assert_eq!(rt; (answer, known.as_str()), wanted, "{label}: {step:?}");
     Ok(())
 }
 
-/// Takes the steps one after another, at the choice of these decisions.
-fn replay(
+/// Checks the answer to each of these steps, and what is known after each.
+fn expect(
     rt: &impl Abort,
     alloc: Global,
-    small: Small,
-    decisions: &[Decision],
-    goal: u32,
-    rows: &[Row],
+    facts: &mut Facts,
+    label: &str,
+    (lines, answer, known): &Steps,
 ) -> Result<(), Fail> {
-    let i = small.build(alloc)?;
-    let choice = chosen(rt, alloc, &i, decisions)?;
-    let mut facts = Facts::new(alloc, &i, &choice, goal)?;
-    for row in rows {
-        expect(rt, alloc, &mut facts, row)?;
+    let cert = cert_of(alloc, lines)?;
+    let [Node::Leaf(leaf)] = cert.nodes() else {
+        panic!(rt; "no leaf");
+    };
+    for step in leaf.steps.as_slice() {
+        expect_step(rt, alloc, facts, label, step, (*answer, known))?;
     }
     Ok(())
+}
+
+/// Takes the steps of a row on its instance.
+fn replay_on(rt: &impl Abort, alloc: Global, i: &Instance, row: &Row) -> Result<(), Fail> {
+    let mut facts = first_facts(rt, alloc, i, row.decisions, row.goal)?;
+    for steps in row.steps {
+        expect(rt, alloc, &mut facts, row.label, steps)?;
+    }
+    Ok(())
+}
+
+/// Takes the steps of a row one after another.
+fn replay(rt: &impl Abort, alloc: Global, row: &Row) -> Result<(), Fail> {
+    let i = row.small.build(alloc)?;
+    replay_on(rt, alloc, &i, row)
 }

@@ -1,10 +1,26 @@
 //! The small instances of these tests.
 
-use std::alloc::Global;
+use self::Part::{Link, Message, Node, Process, Within};
+use std::alloc::{AllocError, Global};
 use ttp_model::{Cluster, Instance, ModelError};
 use worked_instances::{
     Draft, PLAIN, deadline, no_frame, one_message, overfull, three_alike, three_linked, two_alike,
 };
+
+/// A part of an instance. Parts of one kind have indices from 0 in their order.
+#[derive(Clone, Copy)]
+pub enum Part {
+    /// Its name and the capacities that its frames may have.
+    Node(&'static str, &'static [u32]),
+    /// Its name, its node and how long it runs. It may start at once and has no deadline but the horizon.
+    Process(&'static str, u32, u32),
+    /// The same of a process that has to run from its release to its deadline.
+    Within(&'static str, u32, u32, (u32, u32)),
+    /// The process that goes first, and the other one.
+    Link(u32, u32),
+    /// Its name, its sender, its receiver and its bytes.
+    Message(&'static str, u32, u32, u32),
+}
 
 /// A small instance. The first seven are worked instances.
 #[derive(Clone, Copy)]
@@ -26,6 +42,8 @@ pub enum Small {
     ThereAndBack(Cluster),
     NearlyAlike,
     TwoSenders,
+    /// These parts on the plain cluster.
+    Of(&'static [Part]),
 }
 
 impl Small {
@@ -38,190 +56,160 @@ impl Small {
             Small::ThreeAlike => three_alike(alloc),
             Small::ThreeLinked => three_linked(alloc),
             Small::Deadline => deadline(alloc),
-            Small::TwoOptions => two_options(alloc),
-            Small::ThreeLengths => three_lengths(alloc),
-            Small::ThreeAfterOne => three_after_one(alloc),
-            Small::TwoMessages => two_messages(alloc),
-            Small::SilentNodes => silent_nodes(alloc),
-            Small::TwoSilent => two_silent(alloc),
-            Small::ThreeSilent => three_silent(alloc),
-            Small::ThereAndBack(cluster) => there_and_back(alloc, cluster),
-            Small::NearlyAlike => nearly_alike(alloc),
-            Small::TwoSenders => two_senders(alloc),
+            Small::ThereAndBack(cluster) => made_of(alloc, cluster, THERE_AND_BACK),
+            other => made_of(alloc, PLAIN, other.parts()),
+        }
+    }
+
+    /// The parts of one that isn't a worked instance.
+    fn parts(self) -> &'static [Part] {
+        match self {
+            Small::TwoOptions => TWO_OPTIONS,
+            Small::ThreeLengths => THREE_LENGTHS,
+            Small::ThreeAfterOne => THREE_AFTER_ONE,
+            Small::TwoMessages => TWO_MESSAGES,
+            Small::SilentNodes => SILENT_NODES,
+            Small::TwoSilent => TWO_SILENT,
+            Small::ThreeSilent => THREE_SILENT,
+            Small::NearlyAlike => NEARLY_ALIKE,
+            Small::TwoSenders => TWO_SENDERS,
+            Small::Of(parts) => parts,
+            _ => &[],
         }
     }
 }
 
-/// Process p of 3 ticks on A sends 2 bytes to process q of 2 ticks on B, and A's frames hold 2 or 4.
-fn two_options(alloc: Global) -> Result<Instance, ModelError> {
-    Draft::of(alloc, PLAIN)
-        .node("A", &[2, 4])?
-        .node("B", &[0])?
-        .process("p", 0, 3)?
-        .process("q", 1, 2)?
-        .message("m", 0, 1, 2)?
-        .build()
+/// The instance of these parts.
+fn made_of(alloc: Global, cluster: Cluster, parts: &[Part]) -> Result<Instance, ModelError> {
+    let mut draft = Draft::of(alloc, cluster);
+    for part in parts {
+        draft = with_part(draft, *part)?;
+    }
+    draft.build()
 }
 
-/// Processes a of 3 ticks, b of 2 and c of 1 on one node, with a link from a to c.
-fn three_lengths(alloc: Global) -> Result<Instance, ModelError> {
-    Draft::of(alloc, PLAIN)
-        .node("A", &[0])?
-        .process("a", 0, 3)?
-        .process("b", 0, 2)?
-        .process("c", 0, 1)?
-        .link(0, 2)?
-        .build()
+/// With one more part.
+fn with_part(draft: Draft, part: Part) -> Result<Draft, AllocError> {
+    match part {
+        Node(name, capacities) => draft.node(name, capacities),
+        Process(name, node, wcet) => draft.process(name, node, wcet),
+        Within(name, node, wcet, window) => draft.process_within(name, node, wcet, window),
+        Link(before, after) => draft.link(before, after),
+        Message(name, sender, receiver, bytes) => draft.message(name, sender, receiver, bytes),
+    }
 }
+
+/// Process p of 3 ticks on A sends 2 bytes to process q of 2 ticks on B, and A's frames hold 2 or 4.
+static TWO_OPTIONS: &[Part] = &[
+    Node("A", &[2, 4]),
+    Node("B", &[0]),
+    Process("p", 0, 3),
+    Process("q", 1, 2),
+    Message("m", 0, 1, 2),
+];
+
+/// Processes a of 3 ticks, b of 2 and c of 1 on one node, with a link from a to c.
+static THREE_LENGTHS: &[Part] = &[
+    Node("A", &[0]),
+    Process("a", 0, 3),
+    Process("b", 0, 2),
+    Process("c", 0, 1),
+    Link(0, 2),
+];
 
 /// Process p on node A sends a message to process q on node B; r, s and t follow q there, of which
 /// t is longer.
-fn three_after_one(alloc: Global) -> Result<Instance, ModelError> {
-    Draft::of(alloc, PLAIN)
-        .node("A", &[2])?
-        .node("B", &[0])?
-        .node("C", &[0])?
-        .process("p", 0, 3)?
-        .process("q", 1, 2)?
-        .process("r", 1, 2)?
-        .process("s", 1, 2)?
-        .process("t", 1, 3)?
-        .link(1, 2)?
-        .link(1, 3)?
-        .link(1, 4)?
-        .message("m", 0, 1, 2)?
-        .build()
-}
+static THREE_AFTER_ONE: &[Part] = &[
+    Node("A", &[2]),
+    Node("B", &[0]),
+    Node("C", &[0]),
+    Process("p", 0, 3),
+    Process("q", 1, 2),
+    Process("r", 1, 2),
+    Process("s", 1, 2),
+    Process("t", 1, 3),
+    Link(1, 2),
+    Link(1, 3),
+    Link(1, 4),
+    Message("m", 0, 1, 2),
+];
 
 /// Process p on node A sends a message to each of q and r on node B, and A's frames hold one.
-fn two_messages(alloc: Global) -> Result<Instance, ModelError> {
-    Draft::of(alloc, PLAIN)
-        .node("A", &[2])?
-        .node("B", &[0])?
-        .process("p", 0, 3)?
-        .process("q", 1, 2)?
-        .process("r", 1, 2)?
-        .message("m", 0, 1, 2)?
-        .message("second", 0, 2, 2)?
-        .build()
-}
+static TWO_MESSAGES: &[Part] = &[
+    Node("A", &[2]),
+    Node("B", &[0]),
+    Process("p", 0, 3),
+    Process("q", 1, 2),
+    Process("r", 1, 2),
+    Message("m", 0, 1, 2),
+    Message("second", 0, 2, 2),
+];
 
 /// Two nodes that send nothing, beside one that sends, and a process on each of two.
-fn silent_nodes(alloc: Global) -> Result<Instance, ModelError> {
-    Draft::of(alloc, PLAIN)
-        .node("A", &[2])?
-        .node("B", &[0, 3])?
-        .node("C", &[0, 3])?
-        .process("p", 0, 3)?
-        .process("q", 1, 2)?
-        .message("m", 0, 1, 2)?
-        .build()
-}
+static SILENT_NODES: &[Part] = &[
+    Node("A", &[2]),
+    Node("B", &[0, 3]),
+    Node("C", &[0, 3]),
+    Process("p", 0, 3),
+    Process("q", 1, 2),
+    Message("m", 0, 1, 2),
+];
 
 /// Two nodes that send nothing, with the same capacity, and a process of 3 ticks on the first.
-fn two_silent(alloc: Global) -> Result<Instance, ModelError> {
-    Draft::of(alloc, PLAIN)
-        .node("A", &[0])?
-        .node("B", &[0])?
-        .process("p", 0, 3)?
-        .build()
-}
+static TWO_SILENT: &[Part] = &[Node("A", &[0]), Node("B", &[0]), Process("p", 0, 3)];
 
 /// Nodes A and B send nothing and have the same capacities. C has other ones, and D sends.
-fn three_silent(alloc: Global) -> Result<Instance, ModelError> {
-    Draft::of(alloc, PLAIN)
-        .node("A", &[1])?
-        .node("B", &[1])?
-        .node("C", &[1, 2])?
-        .node("D", &[1])?
-        .process("p", 3, 1)?
-        .process("q", 0, 1)?
-        .message("m", 0, 1, 1)?
-        .build()
-}
+static THREE_SILENT: &[Part] = &[
+    Node("A", &[1]),
+    Node("B", &[1]),
+    Node("C", &[1, 2]),
+    Node("D", &[1]),
+    Process("p", 3, 1),
+    Process("q", 0, 1),
+    Message("m", 0, 1, 1),
+];
 
 /// Processes 0 and 1 on A, 2 and 3 on B; process 0 sends to 2, and 3 to 1.
-fn there_and_back(alloc: Global, cluster: Cluster) -> Result<Instance, ModelError> {
-    Draft::of(alloc, cluster)
-        .node("A", &[1])?
-        .node("B", &[1])?
-        .process("a", 0, 1)?
-        .process("b", 0, 1)?
-        .process("c", 1, 1)?
-        .process("d", 1, 1)?
-        .message("m1", 0, 2, 1)?
-        .message("m2", 3, 1, 1)?
-        .build()
-}
+static THERE_AND_BACK: &[Part] = &[
+    Node("A", &[1]),
+    Node("B", &[1]),
+    Process("a", 0, 1),
+    Process("b", 0, 1),
+    Process("c", 1, 1),
+    Process("d", 1, 1),
+    Message("m1", 0, 2, 1),
+    Message("m2", 3, 1, 1),
+];
 
 /// The first two processes on A are alike. Each other one there differs from them in one thing: how
 /// long it takes, when it is released, when it has to end, a link from it or to it, a message that
 /// it sends or receives. The last process is on B.
-fn nearly_alike(alloc: Global) -> Result<Instance, ModelError> {
-    Draft::of(alloc, PLAIN)
-        .node("A", &[1])?
-        .node("B", &[1])?
-        .process("a", 0, 2)?
-        .process("b", 0, 2)?
-        .process("longer", 0, 3)?
-        .process_within("released", 0, 2, (1, 1_000_000))?
-        .process_within("hurried", 0, 2, (0, 99))?
-        .process("before", 0, 2)?
-        .process("after", 0, 2)?
-        .process("sends", 0, 2)?
-        .process("receives", 0, 2)?
-        .process("away", 1, 2)?
-        .link(5, 6)?
-        .message("m1", 7, 9, 1)?
-        .message("m2", 9, 8, 1)?
-        .build()
-}
+static NEARLY_ALIKE: &[Part] = &[
+    Node("A", &[1]),
+    Node("B", &[1]),
+    Process("a", 0, 2),
+    Process("b", 0, 2),
+    Process("longer", 0, 3),
+    Within("released", 0, 2, (1, 1_000_000)),
+    Within("hurried", 0, 2, (0, 99)),
+    Process("before", 0, 2),
+    Process("after", 0, 2),
+    Process("sends", 0, 2),
+    Process("receives", 0, 2),
+    Process("away", 1, 2),
+    Link(5, 6),
+    Message("m1", 7, 9, 1),
+    Message("m2", 9, 8, 1),
+];
 
 /// Processes p of 1 tick and r of 20 on A, whose frame holds 4 bytes, send to process q of 1 tick on
 /// B: r sends 2 bytes first, and p 3 bytes.
-fn two_senders(alloc: Global) -> Result<Instance, ModelError> {
-    Draft::of(alloc, PLAIN)
-        .node("A", &[4])?
-        .node("B", &[0])?
-        .process("p", 0, 1)?
-        .process("r", 0, 20)?
-        .process("q", 1, 1)?
-        .message("m1", 1, 2, 2)?
-        .message("m2", 0, 2, 3)?
-        .build()
-}
-
-/// A process: its node, how long it runs, and from when until when it may.
-#[derive(Clone, Copy)]
-pub struct Run {
-    pub node: u32,
-    pub wcet: u32,
-    pub release: u32,
-    pub deadline: u32,
-}
-
-/// These processes on A and B, without messages.
-pub fn running(alloc: Global, runs: &[Run]) -> Result<Instance, ModelError> {
-    let mut draft = Draft::of(alloc, PLAIN).node("A", &[0])?.node("B", &[0])?;
-    for (p, run) in runs.iter().enumerate() {
-        let name = format!(in alloc; "p{p}")?;
-        let window = (run.release, run.deadline);
-        draft = draft.process_within(name.as_str(), run.node, run.wcet, window)?;
-    }
-    draft.build()
-}
-
-/// A process of 1 tick on A, whose slot has one of these capacities, sends messages of so many bytes
-/// to one of 1 tick on B.
-pub fn sending(alloc: Global, capacities: &[u32], bytes: &[u32]) -> Result<Instance, ModelError> {
-    let mut draft = Draft::of(alloc, PLAIN)
-        .node("A", capacities)?
-        .node("B", &[0])?
-        .process("p0", 0, 1)?
-        .process("p1", 1, 1)?;
-    for (m, size) in bytes.iter().enumerate() {
-        let name = format!(in alloc; "m{m}")?;
-        draft = draft.message(name.as_str(), 0, 1, *size)?;
-    }
-    draft.build()
-}
+static TWO_SENDERS: &[Part] = &[
+    Node("A", &[4]),
+    Node("B", &[0]),
+    Process("p", 0, 1),
+    Process("r", 0, 20),
+    Process("q", 1, 1),
+    Message("m1", 1, 2, 2),
+    Message("m2", 0, 2, 3),
+];

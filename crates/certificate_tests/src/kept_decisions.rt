@@ -12,79 +12,51 @@ use tt_choice::Choice;
 use ttp_model::Instance;
 use worked_instances::PLAIN;
 
-/// All that the readers of a choice tell.
-#[derive(Drop)]
-struct Content {
-    prefix: Vec<u32>,
-    caps: Vec<Option<u32>>,
-    orders: Vec<bool>,
-    ranges: Vec<(u32, u32)>,
-    size_left: usize,
-}
-
-/// The capacity of each node, where one is fixed.
-fn caps(alloc: Global, i: &Instance, choice: &Choice) -> Result<Vec<Option<u32>>, Fail>
-    requires { IsChoice i.now choice.now }
-{
-    let mut caps = Vec::new(alloc);
-    let nodes = i.nodes().len() as u32;
-    for n in 0..nodes {
-        caps.push(choice.fixed_cap(n))?;
-    }
-    Ok(caps)
-}
-
-/// Whether process `p` goes before each one.
-fn add_orders(i: &Instance, choice: &Choice, p: u32, orders: &mut Vec<bool>) -> Result<(), Fail> {
-    let processes = i.processes().len() as u32;
-    for q in 0..processes {
-        orders.push(choice.is_before(p, q))?;
+/// Adds which processes go before which.
+fn add_orders(choice: &Choice, processes: u32, text: &mut String) -> Result<(), Fail> {
+    for p in 0..processes {
+        for q in 0..processes {
+            if choice.is_before(p, q) {
+                write!(text, " {p}<{q}")?;
+            }
+        }
     }
     Ok(())
 }
 
-/// Which processes go before which.
-fn orders(alloc: Global, i: &Instance, choice: &Choice) -> Result<Vec<bool>, Fail> {
-    let mut orders = Vec::new(alloc);
-    let processes = i.processes().len() as u32;
-    for p in 0..processes {
-        add_orders(i, choice, p, &mut orders)?;
-    }
-    Ok(orders)
-}
-
-/// The least and the greatest round of each message.
-fn ranges(alloc: Global, i: &Instance, choice: &Choice) -> Result<Vec<(u32, u32)>, Fail>
+/// All that the readers of a choice tell, as a line: how much is left to choose, the nodes that are placed, the capacity of each
+/// node where one is fixed, the least and the greatest round of each message, and the orders.
+fn line(alloc: Global, i: &Instance, choice: &Choice) -> Result<String, Fail>
     requires { IsChoice i.now choice.now }
 {
-    let mut ranges = Vec::new(alloc);
+    let left = choice.size_left(i);
+    let mut text = format!(in alloc; "{left} {:?}", choice.prefix())?;
+    let nodes = i.nodes().len() as u32;
+    for n in 0..nodes {
+        write!(text, " {:?}", choice.fixed_cap(n))?;
+    }
     let messages = i.messages().len() as u32;
     for m in 0..messages {
-        ranges.push((choice.lo(m), choice.hi(m)))?;
+        write!(text, " {}..{}", choice.lo(m), choice.hi(m))?;
     }
-    Ok(ranges)
+    add_orders(choice, i.processes().len() as u32, &mut text)?;
+    Ok(text)
 }
 
-impl Content {
-    fn of(alloc: Global, i: &Instance, choice: &Choice) -> Result<Self, Fail>
-        requires { IsChoice i.now choice.now }
-    {
-        Ok(Content {
-            prefix: Vec::from_slice(alloc, choice.prefix())?,
-            caps: caps(alloc, i, choice)?,
-            orders: orders(alloc, i, choice)?,
-            ranges: ranges(alloc, i, choice)?,
-            size_left: choice.size_left(i),
-        })
-    }
-
-    fn is(&self, other: &Content) -> bool {
-        self.prefix.as_slice() == other.prefix.as_slice()
-            && self.caps.as_slice() == other.caps.as_slice()
-            && self.orders.as_slice() == other.orders.as_slice()
-            && self.ranges.as_slice() == other.ranges.as_slice()
-            && self.size_left == other.size_left
-    }
+/// Checks that a choice is what it was, by its line, or no more.
+fn expect_line(
+    rt: &impl Abort,
+    alloc: Global,
+    i: &Instance,
+    choice: &Choice,
+    before: &str,
+    is_same: bool,
+) -> Result<(), Fail>
+    requires { IsChoice i.now choice.now }
+{
+    let now = line(alloc, i, choice)?;
+    assert!(rt; (now.as_str() == before) == is_same, "{before}; {now}");
+    Ok(())
 }
 
 /// Makes decisions that look random, where they are open, and takes all back: the choice is then what it was before each.
@@ -107,12 +79,12 @@ fn goes_there_and_back(
     if !is_open(i, choice, decision) {
         return goes_there_and_back(rt, alloc, i, choice, tries - 1, next(seed));
     }
-    let before = Content::of(alloc, i, choice)?;
+    let before = line(alloc, i, choice)?;
     choice.decide(alloc, i, decision)?;
-    assert!(rt; !Content::of(alloc, i, choice)?.is(&before), "{decision:?}");
+    expect_line(rt, alloc, i, choice, before.as_str(), false)?;
     let made = goes_there_and_back(rt, alloc, i, choice, tries - 1, next(seed))?;
     choice.undo();
-    assert!(rt; Content::of(alloc, i, choice)?.is(&before), "{decision:?}");
+    expect_line(rt, alloc, i, choice, before.as_str(), true)?;
     Ok(made.saturating_add(1))
 }
 

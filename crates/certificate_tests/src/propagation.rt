@@ -17,33 +17,37 @@ use tt_infer::Facts;
 use ttp_model::{Cluster, Instance, Leaf, MOST_TICKS, Step};
 use worked_instances::PLAIN;
 
-/// The path bound.
-fn bound(alloc: Global, small: Small) -> Result<u32, Fail> {
-    let i = small.build(alloc)?;
-    Ok(path_bound(alloc, &i)?)
+/// What is asked of the choice of some decisions, and the answer.
+#[derive(Clone, Copy, Debug)]
+enum Asked {
+    /// The path bound of the instance is this one.
+    PathBound(u32),
+    /// Whether propagation closes the choice at this goal.
+    Closes(u32, bool),
+    /// Propagation closes the choice at this goal, at last since this message is late where this round could take it.
+    Late(u32, u32, u32),
+    /// The leaf that closes the choice up to this top has this goal.
+    Leaf(u32, u32),
+    /// The leaf that closes the choice up to this top has so many steps at most.
+    Steps(u32, usize),
+    /// The leaf that closes the choice up to this goal has fewer steps than propagation takes at it.
+    Fewer(u32),
 }
 
-/// The steps by which propagation closes the choice of these decisions at a goal, if it does.
+/// The steps by which propagation closes a choice at a goal, if it does.
 fn closing_steps(
-    rt: &impl Abort,
     alloc: Global,
-    small: Small,
-    decisions: &[Decision],
+    i: &Instance,
+    choice: &Choice,
     goal: u32,
-) -> Result<Option<Vec<Step>>, Fail> {
-    let i = small.build(alloc)?;
-    let choice = chosen(rt, alloc, &i, decisions)?;
+) -> Result<Option<Vec<Step>>, Fail>
+    requires { IsChoice i.now choice.now }
+{
     let mut steps = Vec::new(alloc);
-    match propagate(alloc, &i, &choice, goal, &mut steps)? {
+    match propagate(alloc, i, choice, goal, &mut steps)? {
         Reached::Closed => Ok(Some(steps)),
         Reached::At(_) => Ok(None),
     }
-}
-
-/// Whether propagation closes the root at a goal.
-fn closes(rt: &impl Abort, alloc: Global, small: Small, goal: u32) -> Result<bool, Fail> {
-    let steps = closing_steps(rt, alloc, small, &[], goal)?;
-    Ok(steps.is_some())
 }
 
 /// Whether the leaf's steps close the choice at its goal, one after another.
@@ -59,76 +63,108 @@ fn replays(alloc: Global, i: &Instance, choice: &Choice, leaf: &Leaf) -> Result<
     Ok(facts.closed())
 }
 
-/// The goal of the leaf that closes the choice of these decisions, and how many steps it has.
-fn leaf_below(
+/// The goal of the leaf that closes a choice up to a top, and how many steps it has. They do close it.
+fn leaf_size(
     rt: &impl Abort,
     alloc: Global,
-    small: Small,
-    decisions: &[Decision],
+    i: &Instance,
+    choice: &Choice,
     top: u32,
-) -> Result<(u32, usize), Fail> {
-    let i = small.build(alloc)?;
-    let choice = chosen(rt, alloc, &i, decisions)?;
-    let leaf = best_goal(alloc, &i, &choice, top)?;
-    assert!(rt; replays(alloc, &i, &choice, &leaf)?);
+) -> Result<(u32, usize), Fail>
+    requires { IsChoice i.now choice.now }
+{
+    let leaf = best_goal(alloc, i, choice, top)?;
+    assert!(rt; replays(alloc, i, choice, &leaf)?);
     Ok((leaf.goal, leaf.steps.as_slice().len()))
 }
 
-/// The same of the leaf that closes the root.
-fn leaf_size(rt: &impl Abort, alloc: Global, small: Small, top: u32) -> Result<(u32, usize), Fail> {
-    leaf_below(rt, alloc, small, &[], top)
-}
-
-#[test]
-fn worked_path_bounds(rt: HostRuntime) -> Result<(), Fail> {
-    assert_eq!(rt; bound(rt.alloc(), Small::OneMessage(PLAIN))?, 8);
-    assert_eq!(rt; bound(rt.alloc(), Small::ThreeAlike)?, 2);
-    assert_eq!(rt; bound(rt.alloc(), Small::Overfull)?, 7);
-    Ok(())
-}
-
-#[test]
-fn propagation_closes_up_to_the_path_bound(rt: HostRuntime) -> Result<(), Fail> {
-    for goal in 0..11 {
-        let is_closed = closes(&rt, rt.alloc(), Small::OneMessage(PLAIN), goal)?;
-        assert_eq!(rt; is_closed, goal < 10, "goal {goal}");
+/// The step by which propagation closes a choice at a goal at last, if it is that a message is late where a round could take it.
+fn last_late(
+    alloc: Global,
+    i: &Instance,
+    choice: &Choice,
+    goal: u32,
+) -> Result<Option<(u32, u32)>, Fail>
+    requires { IsChoice i.now choice.now }
+{
+    let steps = closing_steps(alloc, i, choice, goal)?.ok_or("open")?;
+    match steps.last() {
+        Some(Step::XLate(m, r)) => Ok(Some((*m, *r))),
+        _ => Ok(None),
     }
-    assert!(rt; closes(&rt, rt.alloc(), Small::NoFrame, 101)?);
+}
+
+/// How many steps propagation takes to close a choice at a goal, if it does.
+fn closing_count(
+    alloc: Global,
+    i: &Instance,
+    choice: &Choice,
+    goal: u32,
+) -> Result<Option<usize>, Fail>
+    requires { IsChoice i.now choice.now }
+{
+    match closing_steps(alloc, i, choice, goal)? {
+        Some(steps) => Ok(Some(steps.len())),
+        None => Ok(None),
+    }
+}
+
+/// Whether this is answered.
+fn holds(
+    rt: &impl Abort,
+    alloc: Global,
+    i: &Instance,
+    choice: &Choice,
+    asked: Asked,
+) -> Result<bool, Fail>
+    requires { IsChoice i.now choice.now }
+{
+    match asked {
+        Asked::PathBound(bound) => Ok(path_bound(alloc, i)? == bound),
+        Asked::Closes(goal, closes) => Ok(
+            closing_count(alloc, i, choice, goal)?.is_some() == closes,
+        ),
+        Asked::Late(goal, m, r) => Ok(last_late(alloc, i, choice, goal)? == Some((m, r))),
+        Asked::Leaf(top, goal) => Ok(leaf_size(rt, alloc, i, choice, top)?.0 == goal),
+        Asked::Steps(top, most) => Ok(leaf_size(rt, alloc, i, choice, top)?.1 <= most),
+        Asked::Fewer(goal) => {
+            let all = closing_count(alloc, i, choice, goal)?.ok_or("open")?;
+            Ok(leaf_size(rt, alloc, i, choice, goal)?.1 < all)
+        }
+    }
+}
+
+/// Decisions, and what their choice is asked.
+struct Row {
+    label: &'static str,
+    small: Small,
+    decisions: &'static [Decision],
+    asked: &'static [Asked],
+}
+
+/// Checks what is answered of a choice.
+fn expect_one(
+    rt: &impl Abort,
+    alloc: Global,
+    i: &Instance,
+    choice: &Choice,
+    label: &str,
+    asked: Asked,
+) -> Result<(), Fail>
+    requires { IsChoice i.now choice.now }
+{
+    let holds = holds(rt, alloc, i, choice, asked)?;
+    assert!(rt; holds, "{label}: {asked:?}");
     Ok(())
 }
 
-/// One message: the leaves up to a top above the path bound and below it.
-#[test]
-fn leaves_of_one_message(rt: HostRuntime) -> Result<(), Fail> {
-    let (goal, steps) = leaf_size(&rt, rt.alloc(), Small::OneMessage(PLAIN), 101)?;
-    assert_eq!(rt; goal, 9);
-    assert!(rt; steps <= 4, "{steps} steps");
-    let (low, _) = leaf_size(&rt, rt.alloc(), Small::OneMessage(PLAIN), 5)?;
-    assert_eq!(rt; low, 5);
-    Ok(())
-}
-
-#[test]
-fn leaves_of_loads_and_frames(rt: HostRuntime) -> Result<(), Fail> {
-    let (goal, steps) = leaf_size(&rt, rt.alloc(), Small::ThreeAlike, 101)?;
-    assert_eq!(rt; goal, 6);
-    assert!(rt; steps <= 6, "{steps} steps");
-    assert_eq!(rt; leaf_size(&rt, rt.alloc(), Small::NoFrame, 101)?, (101, 1));
-    Ok(())
-}
-
-/// How many steps propagation takes to close the root at a goal.
-fn count_of_steps(rt: &impl Abort, alloc: Global, small: Small, goal: u32) -> Result<usize, Fail> {
-    let steps = closing_steps(rt, alloc, small, &[], goal)?;
-    Ok(steps.ok_or("open")?.len())
-}
-
-/// Trimming keeps the goal, and steps that the closer doesn't need go.
-#[test]
-fn leaves_without_what_they_do_not_need(rt: HostRuntime) -> Result<(), Fail> {
-    let all = count_of_steps(&rt, rt.alloc(), Small::OneMessage(PLAIN), 9)?;
-    let (_, needed) = leaf_size(&rt, rt.alloc(), Small::OneMessage(PLAIN), 9)?;
-    assert!(rt; needed < all, "{needed} of {all}");
+/// Checks what is answered of the choice of a row.
+fn expect(rt: &impl Abort, alloc: Global, row: &Row) -> Result<(), Fail> {
+    let i = row.small.build(alloc)?;
+    let choice = chosen(rt, alloc, &i, row.decisions)?;
+    for asked in row.asked {
+        expect_one(rt, alloc, &i, &choice, row.label, *asked)?;
+    }
     Ok(())
 }
 
@@ -138,37 +174,105 @@ const FAR: Cluster = Cluster {
     ..PLAIN
 };
 
-/// Processes that wait for each other in a ring of links, orders and messages are seen at once: what is known doesn't
-/// climb round by round up to the horizon.
-#[test]
-fn a_ring_is_not_climbed(rt: HostRuntime) -> Result<(), Fail> {
-    let ring = [Before(1, 0), Before(2, 3)];
-    let (goal, steps) = leaf_below(
-        &rt,
-        rt.alloc(),
-        Small::ThereAndBack(FAR),
-        &ring,
-        MOST_TICKS + 1,
-    )?;
-    assert_eq!(rt; goal, MOST_TICKS + 1);
-    assert!(rt; steps <= 8, "{steps} steps");
-    let (_, open) = leaf_below(
-        &rt,
-        rt.alloc(),
-        Small::ThereAndBack(FAR),
-        &[Before(1, 0)],
-        MOST_TICKS + 1,
-    )?;
-    assert!(rt; open <= 16, "{open} steps");
-    Ok(())
-}
+static ROWS: &[Row] = &[
+    Row {
+        label: "worked path bounds: one message",
+        small: Small::OneMessage(PLAIN),
+        decisions: &[],
+        asked: &[Asked::PathBound(8)],
+    },
+    Row {
+        label: "worked path bounds: three alike",
+        small: Small::ThreeAlike,
+        decisions: &[],
+        asked: &[Asked::PathBound(2)],
+    },
+    Row {
+        label: "worked path bounds: two messages that share no frame",
+        small: Small::Overfull,
+        decisions: &[],
+        asked: &[Asked::PathBound(7)],
+    },
+    Row {
+        label: "propagation closes up to the path bound, and two goals further",
+        small: Small::OneMessage(PLAIN),
+        decisions: &[],
+        asked: &[
+            Asked::Closes(0, true),
+            Asked::Closes(1, true),
+            Asked::Closes(2, true),
+            Asked::Closes(3, true),
+            Asked::Closes(4, true),
+            Asked::Closes(5, true),
+            Asked::Closes(6, true),
+            Asked::Closes(7, true),
+            Asked::Closes(8, true),
+            Asked::Closes(9, true),
+            Asked::Closes(10, false),
+        ],
+    },
+    Row {
+        label: "propagation closes at each goal where a message fits no frame",
+        small: Small::NoFrame,
+        decisions: &[],
+        asked: &[Asked::Closes(101, true)],
+    },
+    Row {
+        label: "leaves of one message, up to a top above the path bound and below it",
+        small: Small::OneMessage(PLAIN),
+        decisions: &[],
+        asked: &[Asked::Leaf(101, 9), Asked::Steps(101, 4), Asked::Leaf(5, 5)],
+    },
+    Row {
+        label: "a leaf of loads",
+        small: Small::ThreeAlike,
+        decisions: &[],
+        asked: &[Asked::Leaf(101, 6), Asked::Steps(101, 6)],
+    },
+    Row {
+        label: "a leaf of frames is one step",
+        small: Small::NoFrame,
+        decisions: &[],
+        asked: &[Asked::Leaf(101, 101), Asked::Steps(101, 1)],
+    },
+    // Trimming keeps the goal.
+    Row {
+        label: "leaves are without the steps that their closers do not need",
+        small: Small::OneMessage(PLAIN),
+        decisions: &[],
+        asked: &[Asked::Fewer(9)],
+    },
+    // Processes that wait for each other in a ring of links, orders and messages are seen at once: what is known doesn't climb
+    // round by round up to the horizon.
+    Row {
+        label: "a ring is not climbed",
+        small: Small::ThereAndBack(FAR),
+        decisions: &[Before(1, 0), Before(2, 3)],
+        asked: &[
+            Asked::Leaf(MOST_TICKS + 1, MOST_TICKS + 1),
+            Asked::Steps(MOST_TICKS + 1, 8),
+        ],
+    },
+    Row {
+        label: "nor is a part of the ring",
+        small: Small::ThereAndBack(FAR),
+        decisions: &[Before(1, 0)],
+        asked: &[Asked::Steps(MOST_TICKS + 1, 16)],
+    },
+    // The second message waits behind the frame that the first one needs in round 4. In round 3 it could go, and in round 4 it
+    // couldn't.
+    Row {
+        label: "a message that could go before a crowded round is late",
+        small: Small::TwoSenders,
+        decisions: &[Before(0, 1), AtLeast(0, 4), AtMost(0, 4), AtLeast(1, 5)],
+        asked: &[Asked::Late(101, 1, 3)],
+    },
+];
 
-/// The second message waits behind the frame that the first one needs in round 4. In round 3 it
-/// could go, and in round 4 it couldn't.
 #[test]
-fn a_message_that_could_go_before_a_crowded_round_is_late(rt: HostRuntime) -> Result<(), Fail> {
-    let decisions = [Before(0, 1), AtLeast(0, 4), AtMost(0, 4), AtLeast(1, 5)];
-    let steps = closing_steps(&rt, rt.alloc(), Small::TwoSenders, &decisions, 101)?.ok_or("open")?;
-    assert!(rt; matches!(steps.last(), Some(Step::XLate(1, 3))));
+fn propagation_rows(rt: HostRuntime) -> Result<(), Fail> {
+    for row in ROWS {
+        expect(&rt, rt.alloc(), row)?;
+    }
     Ok(())
 }

@@ -1,108 +1,138 @@
 //! Steps one after another, and what is known after each.
 
-use super::{line, replay};
-use crate::decisions::chosen;
+use super::{Row, line, replay};
+use crate::decisions::first_facts;
 use crate::instances::Small;
+use std::alloc::Global;
+use std::process::Abort;
 use std::test::Fail;
 use tt_choice::Decision::Before;
 use tt_infer::Facts;
 use ttp_model::Cluster;
 use worked_instances::PLAIN;
 
-/// What the facts are about: their goal, whether the last process goes before the second one by the
-/// choice, and how many links there are.
-fn subject(facts: &Facts) -> (u32, bool, usize) {
+/// Checks what the facts are about: their goal, whether the last process goes before the second one by the choice, and how many
+/// links there are; and what is known.
+fn expect_first(rt: &impl Abort, alloc: Global, facts: &Facts) -> Result<(), Fail> {
     let is_before = facts.choice().is_before(2, 1);
-    (facts.goal(), is_before, facts.instance().links().len())
+    let subject = (facts.goal(), is_before, facts.instance().links().len());
+    let known = line(alloc, facts)?;
+    let wanted = "0..100 0..100 0..100 2<1 open";
+    assert_eq!(rt; (subject, known.as_str()), ((7, true, 1), wanted));
+    Ok(())
 }
 
 #[test]
 fn at_first_all_is_open(rt: HostRuntime) -> Result<(), Fail> {
     let i = Small::ThreeLinked.build(rt.alloc())?;
-    let choice = chosen(&rt, rt.alloc(), &i, &[Before(2, 1)])?;
-    let facts = Facts::new(rt.alloc(), &i, &choice, 7)?;
-    assert_eq!(rt; subject(&facts), (7, true, 1));
-    let known = line(rt.alloc(), &facts)?;
-    assert_eq!(rt; known.as_str(), "0..100 0..100 0..100 2<1 open");
+    let facts = first_facts(&rt, rt.alloc(), &i, &[Before(2, 1)], 7)?;
+    expect_first(&rt, rt.alloc(), &facts)
+}
+
+/// A tick from a sender's end to its message, and two from its slot's end to its receiver.
+const COPYING: Cluster = Cluster {
+    copy_out: 1,
+    copy_in: 2,
+    ..PLAIN
+};
+
+/// A horizon of 5 ticks.
+const SHORT: Cluster = Cluster {
+    horizon: 5,
+    ..PLAIN
+};
+
+/// Steps that bound starts, ends and rounds, and that order processes.
+static ROWS: &[Row] = &[
+    Row {
+        label: "a receiver cannot end before tick nine",
+        small: Small::OneMessage(PLAIN),
+        decisions: &[],
+        goal: 9,
+        steps: &[
+            ("es-release 0", Ok(()), "0..100 0..100 m 0..100 open"),
+            ("lo-send 0", Ok(()), "0..100 0..100 m 1..100 open"),
+            ("es-arrive 0 1", Ok(()), "0..100 7..100 m 1..100 open"),
+            ("le-own 1", Ok(()), "0..100 7..8 m 1..100 open"),
+            ("x-window 1", Ok(()), "0..100 7..8 m 1..100 closed"),
+        ],
+    },
+    Row {
+        label: "a sender has to end before its slot",
+        small: Small::OneMessage(PLAIN),
+        decisions: &[],
+        goal: 9,
+        steps: &[
+            ("es-message 0 1", Ok(()), "0..100 6..100 m 0..100 open"),
+            ("le-own 1", Ok(()), "0..100 6..8 m 0..100 open"),
+            ("le-message 0 1", Ok(()), "0..3 6..8 m 0..100 open"),
+            ("hi-arrive 0 1", Ok(()), "0..3 6..8 m 0..1 open"),
+            ("le-send 0", Ok(()), "0..1 6..8 m 0..1 open"),
+            ("x-window 0", Ok(()), "0..1 6..8 m 0..1 closed"),
+        ],
+    },
+    Row {
+        label: "messages are copied out and in",
+        small: Small::OneMessage(COPYING),
+        decisions: &[],
+        goal: 101,
+        steps: &[
+            ("lo-send 0", Ok(()), "0..100 0..100 m 1..100 open"),
+            (
+                "es-message 0 1\nes-arrive 0 1",
+                Ok(()),
+                "0..100 9..100 m 1..100 open",
+            ),
+            ("le-message 0 1", Ok(()), "0..92 9..100 m 1..100 open"),
+            (
+                "hi-arrive 0 1\nle-send 0",
+                Ok(()),
+                "0..92 9..100 m 1..24 open",
+            ),
+        ],
+    },
+    Row {
+        label: "past the horizon a time is one past it",
+        small: Small::OneMessage(SHORT),
+        decisions: &[],
+        goal: 6,
+        steps: &[
+            ("es-arrive 0 1", Ok(()), "0..5 3..5 m 0..5 open"),
+            ("lo-send 0", Ok(()), "0..5 3..5 m 1..5 open"),
+            ("es-arrive 0 1", Ok(()), "0..5 6..5 m 1..5 open"),
+            ("le-message 0 1", Ok(()), "0..0 6..5 m 1..5 open"),
+        ],
+    },
+    Row {
+        label: "a link orders its processes",
+        small: Small::ThreeLinked,
+        decisions: &[],
+        goal: 101,
+        steps: &[
+            ("es-link 0", Ok(()), "0..100 0..100 2..100 open"),
+            ("le-link 0", Ok(()), "0..98 0..100 2..100 open"),
+        ],
+    },
+    Row {
+        label: "a process that must go first delays the other",
+        small: Small::TwoAlike,
+        decisions: &[],
+        goal: 4,
+        steps: &[
+            ("le-own 0", Ok(()), "0..3 0..100 open"),
+            ("le-own 1", Ok(()), "0..3 0..3 open"),
+            ("ord-window 0 1", Ok(()), "0..3 0..3 0<1 open"),
+            ("es-before 0 1", Ok(()), "0..3 2..3 0<1 open"),
+            ("le-before 0 1", Ok(()), "0..1 2..3 0<1 open"),
+            ("x-window 1", Ok(()), "0..1 2..3 0<1 closed"),
+        ],
+    },
+];
+
+#[test]
+fn bounds_rows(rt: HostRuntime) -> Result<(), Fail> {
+    for row in ROWS {
+        replay(&rt, rt.alloc(), row)?;
+    }
     Ok(())
-}
-
-#[test]
-fn a_receiver_cannot_end_before_tick_nine(rt: HostRuntime) -> Result<(), Fail> {
-    let rows = [
-        ("es-release 0", Ok(()), "0..100 0..100 m 0..100 open"),
-        ("lo-send 0", Ok(()), "0..100 0..100 m 1..100 open"),
-        ("es-arrive 0 1", Ok(()), "0..100 7..100 m 1..100 open"),
-        ("le-own 1", Ok(()), "0..100 7..8 m 1..100 open"),
-        ("x-window 1", Ok(()), "0..100 7..8 m 1..100 closed"),
-    ];
-    replay(&rt, rt.alloc(), Small::OneMessage(PLAIN), &[], 9, &rows)
-}
-
-#[test]
-fn a_sender_has_to_end_before_its_slot(rt: HostRuntime) -> Result<(), Fail> {
-    let rows = [
-        ("es-message 0 1", Ok(()), "0..100 6..100 m 0..100 open"),
-        ("le-own 1", Ok(()), "0..100 6..8 m 0..100 open"),
-        ("le-message 0 1", Ok(()), "0..3 6..8 m 0..100 open"),
-        ("hi-arrive 0 1", Ok(()), "0..3 6..8 m 0..1 open"),
-        ("le-send 0", Ok(()), "0..1 6..8 m 0..1 open"),
-        ("x-window 0", Ok(()), "0..1 6..8 m 0..1 closed"),
-    ];
-    replay(&rt, rt.alloc(), Small::OneMessage(PLAIN), &[], 9, &rows)
-}
-
-#[test]
-fn messages_are_copied_out_and_in(rt: HostRuntime) -> Result<(), Fail> {
-    let copying = Cluster {
-        copy_out: 1,
-        copy_in: 2,
-        ..PLAIN
-    };
-    let rows = [
-        ("lo-send 0", Ok(()), "0..100 0..100 m 1..100 open"),
-        ("es-message 0 1", Ok(()), "0..100 9..100 m 1..100 open"),
-        ("es-arrive 0 1", Ok(()), "0..100 9..100 m 1..100 open"),
-        ("le-message 0 1", Ok(()), "0..92 9..100 m 1..100 open"),
-        ("hi-arrive 0 1", Ok(()), "0..92 9..100 m 1..24 open"),
-        ("le-send 0", Ok(()), "0..92 9..100 m 1..24 open"),
-    ];
-    replay(&rt, rt.alloc(), Small::OneMessage(copying), &[], 101, &rows)
-}
-
-#[test]
-fn past_the_horizon_a_time_is_one_past_it(rt: HostRuntime) -> Result<(), Fail> {
-    let short = Cluster {
-        horizon: 5,
-        ..PLAIN
-    };
-    let rows = [
-        ("es-arrive 0 1", Ok(()), "0..5 3..5 m 0..5 open"),
-        ("lo-send 0", Ok(()), "0..5 3..5 m 1..5 open"),
-        ("es-arrive 0 1", Ok(()), "0..5 6..5 m 1..5 open"),
-        ("le-message 0 1", Ok(()), "0..0 6..5 m 1..5 open"),
-    ];
-    replay(&rt, rt.alloc(), Small::OneMessage(short), &[], 6, &rows)
-}
-
-#[test]
-fn a_link_orders_its_processes(rt: HostRuntime) -> Result<(), Fail> {
-    let rows = [
-        ("es-link 0", Ok(()), "0..100 0..100 2..100 open"),
-        ("le-link 0", Ok(()), "0..98 0..100 2..100 open"),
-    ];
-    replay(&rt, rt.alloc(), Small::ThreeLinked, &[], 101, &rows)
-}
-
-#[test]
-fn a_process_that_must_go_first_delays_the_other(rt: HostRuntime) -> Result<(), Fail> {
-    let rows = [
-        ("le-own 0", Ok(()), "0..3 0..100 open"),
-        ("le-own 1", Ok(()), "0..3 0..3 open"),
-        ("ord-window 0 1", Ok(()), "0..3 0..3 0<1 open"),
-        ("es-before 0 1", Ok(()), "0..3 2..3 0<1 open"),
-        ("le-before 0 1", Ok(()), "0..1 2..3 0<1 open"),
-        ("x-window 1", Ok(()), "0..1 2..3 0<1 closed"),
-    ];
-    replay(&rt, rt.alloc(), Small::TwoAlike, &[], 4, &rows)
 }

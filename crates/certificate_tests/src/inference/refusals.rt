@@ -1,235 +1,166 @@
-//! Steps that are refused, for each reason.
+//! Steps that are refused, for each reason. A refused step changes nothing that is known.
 
-use super::{replay, take};
+use super::{Row, replay};
 use crate::instances::Small;
-use std::alloc::Global;
-use std::process::Abort;
 use std::test::Fail;
-use tt_choice::Choice;
 use tt_infer::StepFault::{AlreadyClosed, NoPremise, NoSuchIndex};
-use tt_infer::{Facts, StepFault};
 use worked_instances::PLAIN;
 
-/// Checks that the steps are all answered so.
-fn expect_all(
-    rt: &impl Abort,
-    alloc: Global,
-    facts: &mut Facts,
-    steps: &[&str],
-    answer: Result<(), StepFault>,
-) -> Result<(), Fail> {
-    for words in steps {
-        assert_eq!(rt; take(rt, alloc, facts, words)?, answer, "{words}");
+/// What is known of one message at first.
+const FIRST: &str = "0..100 0..100 m 0..100 open";
+
+/// What is known of one message once its sender has to end by tick 2 and no plan is left.
+const CLOSED: &str = "0..2 0..100 m 0..100 closed";
+
+/// What is known of three processes at first.
+const THREE: &str = "0..100 0..100 0..100 open";
+
+/// Steps that are refused, and those before them.
+static ROWS: &[Row] = &[
+    Row {
+        label: "what is named has to be there",
+        small: Small::OneMessage(PLAIN),
+        decisions: &[],
+        goal: 3,
+        steps: &[
+            (
+                "x-cycle 0 2\nes-release 2\nle-own 2\nus-settled 2\nord-twin 2 3\nx-window 4294967295\nes-link 0\nle-link 0\nlo-send 1",
+                Err(NoSuchIndex),
+                FIRST,
+            ),
+            (
+                "le-send 1\nx-round 1\nx-frame 1\nx-late 1 0\nx-load 2 0 1\nx-frames 2 0 1\nx-silent 0 2\nx-silent 2 0",
+                Err(NoSuchIndex),
+                FIRST,
+            ),
+        ],
+    },
+    Row {
+        label: "a message step names a receiver",
+        small: Small::OneMessage(PLAIN),
+        decisions: &[],
+        goal: 3,
+        steps: &[
+            (
+                "es-arrive 0 0\nes-arrive 0 2\nes-arrive 1 1\nes-message 0 0\nes-message 1 1\nle-message 0 0\nle-message 1 1",
+                Err(NoSuchIndex),
+                FIRST,
+            ),
+            ("hi-arrive 0 0\nhi-arrive 1 1", Err(NoSuchIndex), FIRST),
+        ],
+    },
+    Row {
+        label: "a pair is two processes of one node",
+        small: Small::OneMessage(PLAIN),
+        decisions: &[],
+        goal: 3,
+        steps: &[
+            (
+                "es-before 0 1\nes-before 0 0\nes-before 0 2\nes-before 2 0\nle-before 0 1\nle-before 1 1\nord-window 0 1",
+                Err(NoSuchIndex),
+                FIRST,
+            ),
+            (
+                "ord-window 1 1\nord-twin 0 1\nord-twin 1 1",
+                Err(NoSuchIndex),
+                FIRST,
+            ),
+        ],
+    },
+    Row {
+        label: "what is asked for has to be known",
+        small: Small::OneMessage(PLAIN),
+        decisions: &[],
+        goal: 3,
+        steps: &[(
+            "x-cycle 0 1\nx-window 0\nx-round 0\nx-frame 0\nx-frames 0 0 1\nx-load 0 0 3\nx-late 0 0\nx-silent 0 1",
+            Err(NoPremise),
+            FIRST,
+        )],
+    },
+    Row {
+        label: "an order has to be known",
+        small: Small::ThreeLinked,
+        decisions: &[],
+        goal: 3,
+        steps: &[(
+            "es-before 0 2\nle-before 0 2\nord-window 0 2\nord-twin 0 1",
+            Err(NoPremise),
+            THREE,
+        )],
+    },
+    Row {
+        label: "a refused step changes nothing",
+        small: Small::TwoAlike,
+        decisions: &[],
+        goal: 4,
+        steps: &[
+            ("le-own 1", Ok(()), "0..100 0..3 open"),
+            ("ord-window 1 0", Ok(()), "0..100 0..3 1<0 open"),
+            ("es-before 0 1", Err(NoPremise), "0..100 0..3 1<0 open"),
+            ("es-before 1 2", Err(NoSuchIndex), "0..100 0..3 1<0 open"),
+            ("es-before 1 0", Ok(()), "2..100 0..3 1<0 open"),
+            ("le-own 0", Ok(()), "2..3 0..3 1<0 open"),
+            ("x-window 0", Ok(()), "2..3 0..3 1<0 closed"),
+            ("le-own 9", Err(AlreadyClosed), "2..3 0..3 1<0 closed"),
+        ],
+    },
+    Row {
+        label: "a message without a round has no last slot",
+        small: Small::OneMessage(PLAIN),
+        decisions: &[],
+        goal: 0,
+        steps: &[
+            ("le-own 1", Ok(()), "0..100 0..0 m 0..100 open"),
+            ("hi-arrive 0 1", Ok(()), "0..100 0..0 m 0..0 open"),
+            (
+                "le-send 0\nus-settled 1",
+                Err(NoPremise),
+                "0..100 0..0 m 0..0 open",
+            ),
+        ],
+    },
+    Row {
+        label: "no step that sharpens follows a closer",
+        small: Small::OneMessage(PLAIN),
+        decisions: &[],
+        goal: 3,
+        steps: &[
+            ("le-own 0", Ok(()), "0..2 0..100 m 0..100 open"),
+            ("x-window 0", Ok(()), CLOSED),
+            (
+                "es-release 0\nes-link 0\nes-before 0 1\nes-arrive 0 1\nes-message 0 1\nlo-send 0\nle-own 0\nle-link 0\nle-before 0 1",
+                Err(AlreadyClosed),
+                CLOSED,
+            ),
+            (
+                "le-message 0 1\nle-send 0\nhi-arrive 0 1\nord-window 0 1\nord-twin 0 1\nus-settled 0",
+                Err(AlreadyClosed),
+                CLOSED,
+            ),
+        ],
+    },
+    Row {
+        label: "no closer follows a closer",
+        small: Small::OneMessage(PLAIN),
+        decisions: &[],
+        goal: 3,
+        steps: &[
+            ("le-own 0", Ok(()), "0..2 0..100 m 0..100 open"),
+            ("x-window 0", Ok(()), CLOSED),
+            (
+                "x-cycle 0 1\nx-window 0\nx-round 0\nx-load 0 1 0\nx-frame 0\nx-frames 9 0 1\nx-late 0 0\nx-silent 0 0",
+                Err(AlreadyClosed),
+                CLOSED,
+            ),
+        ],
+    },
+];
+
+#[test]
+fn refusal_rows(rt: HostRuntime) -> Result<(), Fail> {
+    for row in ROWS {
+        replay(&rt, rt.alloc(), row)?;
     }
     Ok(())
-}
-
-/// Checks that each of the steps is refused for this reason after the first ones, where nothing is
-/// chosen.
-fn refuse_all(
-    rt: &impl Abort,
-    alloc: Global,
-    small: Small,
-    first: &[&str],
-    steps: &[&str],
-    fault: StepFault,
-) -> Result<(), Fail> {
-    let i = small.build(alloc)?;
-    let root = Choice::root(alloc, &i)?;
-    let mut facts = Facts::new(alloc, &i, &root, 3)?;
-    expect_all(rt, alloc, &mut facts, first, Ok(()))?;
-    expect_all(rt, alloc, &mut facts, steps, Err(fault))
-}
-
-#[test]
-fn what_is_named_has_to_be_there(rt: HostRuntime) -> Result<(), Fail> {
-    let steps = [
-        "x-cycle 0 2",
-        "es-release 2",
-        "le-own 2",
-        "us-settled 2",
-        "ord-twin 2 3",
-        "x-window 4294967295",
-        "es-link 0",
-        "le-link 0",
-        "lo-send 1",
-        "le-send 1",
-        "x-round 1",
-        "x-frame 1",
-        "x-late 1 0",
-        "x-load 2 0 1",
-        "x-frames 2 0 1",
-        "x-silent 0 2",
-        "x-silent 2 0",
-    ];
-    refuse_all(
-        &rt,
-        rt.alloc(),
-        Small::OneMessage(PLAIN),
-        &[],
-        &steps,
-        NoSuchIndex,
-    )
-}
-
-#[test]
-fn a_message_step_names_a_receiver(rt: HostRuntime) -> Result<(), Fail> {
-    let steps = [
-        "es-arrive 0 0",
-        "es-arrive 0 2",
-        "es-arrive 1 1",
-        "es-message 0 0",
-        "es-message 1 1",
-        "le-message 0 0",
-        "le-message 1 1",
-        "hi-arrive 0 0",
-        "hi-arrive 1 1",
-    ];
-    refuse_all(
-        &rt,
-        rt.alloc(),
-        Small::OneMessage(PLAIN),
-        &[],
-        &steps,
-        NoSuchIndex,
-    )
-}
-
-#[test]
-fn a_pair_is_two_processes_of_one_node(rt: HostRuntime) -> Result<(), Fail> {
-    let steps = [
-        "es-before 0 1",
-        "es-before 0 0",
-        "es-before 0 2",
-        "es-before 2 0",
-        "le-before 0 1",
-        "le-before 1 1",
-        "ord-window 0 1",
-        "ord-window 1 1",
-        "ord-twin 0 1",
-        "ord-twin 1 1",
-    ];
-    refuse_all(
-        &rt,
-        rt.alloc(),
-        Small::OneMessage(PLAIN),
-        &[],
-        &steps,
-        NoSuchIndex,
-    )
-}
-
-#[test]
-fn what_is_asked_for_has_to_be_known(rt: HostRuntime) -> Result<(), Fail> {
-    let steps = [
-        "x-cycle 0 1",
-        "x-window 0",
-        "x-round 0",
-        "x-frame 0",
-        "x-frames 0 0 1",
-        "x-load 0 0 3",
-        "x-late 0 0",
-        "x-silent 0 1",
-    ];
-    refuse_all(
-        &rt,
-        rt.alloc(),
-        Small::OneMessage(PLAIN),
-        &[],
-        &steps,
-        NoPremise,
-    )
-}
-
-#[test]
-fn an_order_has_to_be_known(rt: HostRuntime) -> Result<(), Fail> {
-    let steps = [
-        "es-before 0 2",
-        "le-before 0 2",
-        "ord-window 0 2",
-        "ord-twin 0 1",
-    ];
-    refuse_all(&rt, rt.alloc(), Small::ThreeLinked, &[], &steps, NoPremise)
-}
-
-#[test]
-fn a_refused_step_changes_nothing(rt: HostRuntime) -> Result<(), Fail> {
-    let ordered = "0..100 0..3 1<0 open";
-    let closed = "2..3 0..3 1<0 closed";
-    let rows = [
-        ("le-own 1", Ok(()), "0..100 0..3 open"),
-        ("ord-window 1 0", Ok(()), ordered),
-        ("es-before 0 1", Err(NoPremise), ordered),
-        ("es-before 1 2", Err(NoSuchIndex), ordered),
-        ("es-before 1 0", Ok(()), "2..100 0..3 1<0 open"),
-        ("le-own 0", Ok(()), "2..3 0..3 1<0 open"),
-        ("x-window 0", Ok(()), closed),
-        ("le-own 9", Err(AlreadyClosed), closed),
-    ];
-    replay(&rt, rt.alloc(), Small::TwoAlike, &[], 4, &rows)
-}
-
-#[test]
-fn a_message_without_a_round_has_no_last_slot(rt: HostRuntime) -> Result<(), Fail> {
-    let known = "0..100 0..0 m 0..0 open";
-    let rows = [
-        ("le-own 1", Ok(()), "0..100 0..0 m 0..100 open"),
-        ("hi-arrive 0 1", Ok(()), known),
-        ("le-send 0", Err(NoPremise), known),
-        ("us-settled 1", Err(NoPremise), known),
-    ];
-    replay(&rt, rt.alloc(), Small::OneMessage(PLAIN), &[], 0, &rows)
-}
-
-#[test]
-fn no_step_that_sharpens_follows_a_closer(rt: HostRuntime) -> Result<(), Fail> {
-    let closing = ["le-own 0", "x-window 0"];
-    let steps = [
-        "es-release 0",
-        "es-link 0",
-        "es-before 0 1",
-        "es-arrive 0 1",
-        "es-message 0 1",
-        "lo-send 0",
-        "le-own 0",
-        "le-link 0",
-        "le-before 0 1",
-        "le-message 0 1",
-        "le-send 0",
-        "hi-arrive 0 1",
-        "ord-window 0 1",
-        "ord-twin 0 1",
-        "us-settled 0",
-    ];
-    refuse_all(
-        &rt,
-        rt.alloc(),
-        Small::OneMessage(PLAIN),
-        &closing,
-        &steps,
-        AlreadyClosed,
-    )
-}
-
-#[test]
-fn no_closer_follows_a_closer(rt: HostRuntime) -> Result<(), Fail> {
-    let closing = ["le-own 0", "x-window 0"];
-    let steps = [
-        "x-cycle 0 1",
-        "x-window 0",
-        "x-round 0",
-        "x-load 0 1 0",
-        "x-frame 0",
-        "x-frames 9 0 1",
-        "x-late 0 0",
-        "x-silent 0 0",
-    ];
-    refuse_all(
-        &rt,
-        rt.alloc(),
-        Small::OneMessage(PLAIN),
-        &closing,
-        &steps,
-        AlreadyClosed,
-    )
 }
