@@ -1,29 +1,28 @@
 //! Which tables are an instance, and which rule do others break first?
 
+use crate::outcomes::same;
 use std::alloc::{AllocError, Global};
-use std::process::Abort;
 use std::test::Fail;
 use ttp_model::{
-    Cluster, Instance, Link, MOST_TICKS, Message, ModelError, Name, Node, Numbers, Part, Place,
-    Process, is_name,
+    Cluster, Instance, Link, MOST_TICKS, Message, ModelError, Name, Node, Numbers, Process, is_name,
 };
 use worked_instances::PLAIN;
 
 /// The tables of an instance in few words.
 #[derive(Clone, Copy)]
-struct Tables<'a> {
-    cluster: Cluster,
+pub struct Tables {
+    pub cluster: Cluster,
     /// Each node's name and capacities.
-    nodes: &'a [(&'a str, &'a [u32])],
+    pub nodes: &'static [(&'static str, &'static [u32])],
     /// Each process's name, node, time and deadline; it may start at once.
-    processes: &'a [(&'a str, u32, u32, u32)],
-    links: &'a [Link],
+    pub processes: &'static [(&'static str, u32, u32, u32)],
+    pub links: &'static [Link],
     /// The name, receivers and bytes of each message of process 0.
-    messages: &'a [(&'a str, &'a [u32], u32)],
+    pub messages: &'static [(&'static str, &'static [u32], u32)],
 }
 
-/// Two nodes, of which the first has a process that sends two bytes to the second's.
-const LAWFUL: Tables<'static> = Tables {
+/// Node A, whose slot carries 2 bytes, has a process p of 3 ticks that sends 2 bytes to process q of 2 ticks on node B.
+pub const LAWFUL: Tables = Tables {
     cluster: PLAIN,
     nodes: &[("A", &[2]), ("B", &[0])],
     processes: &[("p", 0, 3, MOST_TICKS), ("q", 1, 2, MOST_TICKS)],
@@ -78,7 +77,8 @@ fn messages(alloc: Global, rows: &[(&str, &[u32], u32)]) -> Result<Vec<Message>,
     Ok(messages)
 }
 
-fn build(alloc: Global, tables: Tables) -> Result<Instance, ModelError> {
+/// The instance of these tables, or the rule that they break first.
+pub fn build(alloc: Global, tables: &Tables) -> Result<Instance, ModelError> {
     let nodes = nodes(alloc, tables.nodes)?;
     let processes = processes(alloc, tables.processes)?;
     let links = Vec::from_slice(alloc, tables.links)?;
@@ -86,212 +86,167 @@ fn build(alloc: Global, tables: Tables) -> Result<Instance, ModelError> {
     Instance::build(alloc, tables.cluster, nodes, processes, links, messages)
 }
 
-/// Each of these tables breaks that rule first.
-fn break_first(rt: &impl Abort, alloc: Global, rows: &[(Tables, ModelError)]) {
-    for (tables, rule) in rows {
-        let refusal = build(alloc, *tables).err();
-        assert_eq!(rt; refusal.as_ref(), Some(rule));
-    }
-}
-
 #[test]
 fn lawful_tables_are_an_instance_and_are_read_back(rt: HostRuntime) -> Result<(), Fail> {
-    let instance = build(rt.alloc(), LAWFUL)?;
-    assert_eq!(rt; instance.cluster().horizon, 100);
-    assert_eq!(rt; instance.nodes().len(), 2);
-    assert_eq!(rt; instance.processes().len(), 2);
-    assert_eq!(rt; instance.links().len(), 0);
-    assert_eq!(rt; instance.messages().len(), 1);
+    let instance = build(rt.alloc(), &LAWFUL)?;
+    let found = [
+        instance.cluster().horizon as usize,
+        instance.nodes().len(),
+        instance.processes().len(),
+        instance.links().len(),
+        instance.messages().len(),
+    ];
+    same(&rt, "the horizon, and how many", found, [100, 2, 2, 0, 1]);
     Ok(())
 }
 
 #[test]
-fn lists_are_judged_before_names(rt: HostRuntime) {
-    let rows = &[
-        (
-            Tables {
-                nodes: &[("1", &[2])],
-                processes: &[],
-                ..LAWFUL
-            },
-            ModelError::Length(Part::Processes),
-        ),
-        (
-            Tables {
-                nodes: &[("A", [0].as_slice()); 17],
-                ..LAWFUL
-            },
-            ModelError::Length(Part::Nodes),
-        ),
-        (
-            Tables {
-                messages: &[("m", &[1], 2), ("1", &[], 0)],
-                ..LAWFUL
-            },
-            ModelError::NoReceiver(1),
-        ),
-    ];
-    break_first(&rt, rt.alloc(), rows);
-}
-
-#[test]
 fn names_are_formed(rt: HostRuntime) {
-    for (text, formed) in &[("_9", true), ("9_", false), ("", false), ("a-b", false)] {
-        assert_eq!(rt; is_name(text.as_bytes()), *formed, "of {text:?}");
+    for (text, formed) in NAMES {
+        same(&rt, text, is_name(text.as_bytes()), *formed);
     }
-    let long = [b'a'; 33];
-    assert!(rt; is_name(&long[..32]) && !is_name(&long));
 }
 
-#[test]
-fn names_are_formed_and_new_in_their_list(rt: HostRuntime) {
-    let rows = &[
-        (
-            Tables {
-                processes: &[("A", 0, 3, MOST_TICKS), ("A", 1, 2, MOST_TICKS)],
-                ..LAWFUL
-            },
-            ModelError::NameRepeated(Place::AtProcess(1)),
-        ),
-        (
-            Tables {
-                processes: &[("p", 0, 3, MOST_TICKS), ("q.", 1, 2, MOST_TICKS)],
-                ..LAWFUL
-            },
-            ModelError::NameForm(Place::AtProcess(1)),
-        ),
-    ];
-    break_first(&rt, rt.alloc(), rows);
-}
+/// Texts, and whether they are names.
+const NAMES: &[(&str, bool)] = &[
+    ("_9", true),
+    ("9_", false),
+    ("", false),
+    ("a-b", false),
+    ("aaaaaaaaaaaaaaaaaaaaaaaaaaaaaaaa", true),
+    ("aaaaaaaaaaaaaaaaaaaaaaaaaaaaaaaaa", false),
+];
 
-#[test]
-fn indices_and_numbers_are_there_and_in_range(rt: HostRuntime) {
-    let rows = &[
-        (
-            Tables {
-                links: &[Link {
-                    before: 0,
-                    after: 2,
-                }],
-                ..LAWFUL
-            },
-            ModelError::NoSuchIndex(Place::AtLink(0)),
-        ),
-        (
-            Tables {
-                cluster: Cluster {
-                    horizon: 4_294_967_295,
-                    ..PLAIN
-                },
-                ..LAWFUL
-            },
-            ModelError::OutOfRange(Place::AtCluster),
-        ),
-        (
-            Tables {
-                processes: &[("p", 0, 0, MOST_TICKS), ("q", 1, 2, MOST_TICKS)],
-                ..LAWFUL
-            },
-            ModelError::OutOfRange(Place::AtProcess(0)),
-        ),
-        (
-            Tables {
-                nodes: &[("A", &[2]), ("B", &[3, 3])],
-                ..LAWFUL
-            },
-            ModelError::Capacities(1),
-        ),
-    ];
-    break_first(&rt, rt.alloc(), rows);
-}
-
-#[test]
-fn the_bus_keeps_room_for_its_guardians(rt: HostRuntime) {
-    let rows = &[
-        (
-            Tables {
-                cluster: Cluster {
-                    precision: 1,
-                    lead: 1,
-                    trail: 1,
-                    ..PLAIN
-                },
-                ..LAWFUL
-            },
-            ModelError::ShortLead,
-        ),
-        (
-            Tables {
-                cluster: Cluster {
-                    precision: 1,
-                    lead: 2,
-                    ..PLAIN
-                },
-                ..LAWFUL
-            },
-            ModelError::ShortTrail,
-        ),
-        (
-            Tables {
-                processes: &[("p", 0, 3, MOST_TICKS), ("q", 0, 2, MOST_TICKS)],
-                ..LAWFUL
-            },
-            ModelError::ReceiverOnSender(0),
-        ),
-    ];
-    break_first(&rt, rt.alloc(), rows);
-}
-
-#[test]
-fn deadlines_and_links_can_be_kept(rt: HostRuntime) {
-    let rows = &[
-        (
-            Tables {
-                processes: &[("p", 0, 3, MOST_TICKS), ("q", 1, 2, 1)],
-                ..LAWFUL
-            },
-            ModelError::Deadline(1),
-        ),
-        (
-            Tables {
-                links: &[Link {
-                    before: 0,
-                    after: 1,
-                }],
-                ..LAWFUL
-            },
-            ModelError::LinkAcross(0),
-        ),
-        (
-            Tables {
-                messages: &[("m", &[1], 2), ("twice", &[1, 1], 1)],
-                ..LAWFUL
-            },
-            ModelError::ReceiverTwice(1),
-        ),
-    ];
-    break_first(&rt, rt.alloc(), rows);
-}
-
-#[test]
-fn a_cycle_is_told_from_its_least_process_on(rt: HostRuntime) -> Result<(), Fail> {
-    let waiting = Tables {
-        processes: &[("p", 0, 3, MOST_TICKS), ("q", 0, 2, MOST_TICKS)],
-        links: &[
-            Link {
-                before: 0,
-                after: 1,
-            },
-            Link {
-                before: 1,
-                after: 0,
-            },
-        ],
-        messages: &[],
-        ..LAWFUL
+/// The lawful tables, where some are others.
+macro_rules! with {
+    ($($table:ident: $rows:expr),*) => {
+        Tables { $($table: $rows,)* ..LAWFUL }
     };
-    let cycle = numbers(rt.alloc(), &[0, 1])?;
-    let refusal = build(rt.alloc(), waiting).err();
-    assert_eq!(rt; refusal, Some(ModelError::Cycle(cycle)));
+}
+
+/// The lawful tables, where some of the cluster's numbers are others.
+macro_rules! with_cluster {
+    ($($key:ident: $number:expr),*) => {
+        with!(cluster: Cluster { $($key: $number,)* ..PLAIN })
+    };
+}
+
+/// Two links of which each goes back along the other.
+const THERE_AND_BACK: &[Link] = &[
+    Link {
+        before: 0,
+        after: 1,
+    },
+    Link {
+        before: 1,
+        after: 0,
+    },
+];
+
+/// The capacities of a node whose frame carries nothing.
+const NO_BYTES: &[u32] = &[0];
+
+/// Tables, and the rule that they break first, as it is printed.
+const BROKEN: &[(&str, Tables, &str)] = &[
+    (
+        "lists are judged before names",
+        with!(nodes: &[("1", &[2])], processes: &[]),
+        "Length(Processes)",
+    ),
+    (
+        "17 nodes of one name",
+        with!(nodes: &[("A", NO_BYTES); 17]),
+        "Length(Nodes)",
+    ),
+    (
+        "receivers are there before names are formed",
+        with!(messages: &[("m", &[1], 2), ("1", &[], 0)]),
+        "NoReceiver(1)",
+    ),
+    (
+        "a process may have a node's name, and not another one's",
+        with!(processes: &[("A", 0, 3, MOST_TICKS), ("A", 1, 2, MOST_TICKS)]),
+        "NameRepeated(AtProcess(1))",
+    ),
+    (
+        "a point in a name",
+        with!(processes: &[("p", 0, 3, MOST_TICKS), ("q.", 1, 2, MOST_TICKS)]),
+        "NameForm(AtProcess(1))",
+    ),
+    (
+        "a link to a process that isn't there",
+        with!(links: &[Link { before: 0, after: 2 }]),
+        "NoSuchIndex(AtLink(0))",
+    ),
+    (
+        "the greatest horizon that a word has",
+        with_cluster!(horizon: 4_294_967_295),
+        "OutOfRange(AtCluster)",
+    ),
+    (
+        "a process that takes no time",
+        with!(processes: &[("p", 0, 0, MOST_TICKS), ("q", 1, 2, MOST_TICKS)]),
+        "OutOfRange(AtProcess(0))",
+    ),
+    (
+        "a capacity twice",
+        with!(nodes: &[("A", &[2]), ("B", &[3, 3])]),
+        "Capacities(1)",
+    ),
+    (
+        "a lead of one precision",
+        with_cluster!(precision: 1, lead: 1, trail: 1),
+        "ShortLead",
+    ),
+    (
+        "no trail",
+        with_cluster!(precision: 1, lead: 2),
+        "ShortTrail",
+    ),
+    (
+        "a message within a node",
+        with!(processes: &[("p", 0, 3, MOST_TICKS), ("q", 0, 2, MOST_TICKS)]),
+        "ReceiverOnSender(0)",
+    ),
+    (
+        "a process that can't end in time",
+        with!(processes: &[("p", 0, 3, MOST_TICKS), ("q", 1, 2, 1)]),
+        "Deadline(1)",
+    ),
+    (
+        "a link between nodes",
+        with!(links: &[Link { before: 0, after: 1 }]),
+        "LinkAcross(0)",
+    ),
+    (
+        "a receiver twice",
+        with!(messages: &[("m", &[1], 2), ("twice", &[1, 1], 1)]),
+        "ReceiverTwice(1)",
+    ),
+    (
+        "a cycle is told from its least process on",
+        with!(
+            processes: &[("p", 0, 3, MOST_TICKS), ("q", 0, 2, MOST_TICKS)],
+            links: THERE_AND_BACK,
+            messages: &[]
+        ),
+        "Cycle(Numbers { items: [0, 1] })",
+    ),
+];
+
+/// The rule that is broken, as it is printed, or that there is an instance.
+pub fn verdict(alloc: Global, built: Result<Instance, ModelError>) -> Result<String, AllocError> {
+    match built {
+        Ok(_) => String::from_str(alloc, "lawful"),
+        Err(rule) => format!(in alloc; "{rule:?}"),
+    }
+}
+
+#[test]
+fn the_rule_broken_first_is_told(rt: HostRuntime) -> Result<(), Fail> {
+    for (what, tables, rule) in BROKEN {
+        let told = verdict(rt.alloc(), build(rt.alloc(), tables))?;
+        same(&rt, what, told.as_str(), *rule);
+    }
     Ok(())
 }

@@ -1,10 +1,11 @@
 //! How many parts may an instance have, and how large may its numbers be?
 
+use crate::building::verdict;
+use crate::outcomes::same;
 use std::alloc::{AllocError, Global};
-use std::process::Abort;
+use std::test::Fail;
 use ttp_model::{
-    Cluster, Instance, Link, MOST_TICKS, Message, ModelError, Name, Node, Numbers, Part, Place,
-    Process,
+    Cluster, Instance, Link, MOST_TICKS, Message, ModelError, Name, Node, Numbers, Process,
 };
 use worked_instances::PLAIN;
 
@@ -13,9 +14,8 @@ use worked_instances::PLAIN;
 struct Sizes {
     cluster: Cluster,
     nodes: usize,
-    /// The capacities of each node, from the last one down.
-    options: u32,
-    last_capacity: u32,
+    /// Those of each node.
+    capacities: &'static [u32],
     processes: u32,
     name_bytes: usize,
     wcet: u32,
@@ -31,8 +31,7 @@ struct Sizes {
 const SMALL: Sizes = Sizes {
     cluster: PLAIN,
     nodes: 2,
-    options: 1,
-    last_capacity: 0,
+    capacities: &[0],
     processes: 3,
     name_bytes: 6,
     wcet: 1,
@@ -59,14 +58,9 @@ fn name(alloc: Global, length: usize, index: usize) -> Result<Name, AllocError> 
 fn nodes(alloc: Global, sizes: &Sizes) -> Result<Vec<Node>, AllocError> {
     let mut nodes = Vec::new(alloc);
     for n in 0..sizes.nodes {
-        let mut capacities = Vec::new(alloc);
-        for k in 0..sizes.options {
-            let below = sizes.options - 1 - k;
-            capacities.push(sizes.last_capacity.saturating_sub(below))?;
-        }
         nodes.push(Node {
             name: name(alloc, sizes.name_bytes, n)?,
-            capacities: Numbers::new(capacities),
+            capacities: Numbers::new(Vec::from_slice(alloc, sizes.capacities)?),
         })?;
     }
     Ok(nodes)
@@ -111,11 +105,7 @@ fn messages(alloc: Global, sizes: &Sizes) -> Result<Vec<Message>, AllocError> {
     Ok(messages)
 }
 
-/// Why there is no instance of these sizes, if there is none.
-fn refusal(alloc: Global, sizes: &Sizes) -> Option<ModelError> {
-    build(alloc, sizes).err()
-}
-
+/// The instance of these sizes, or the rule that they break first.
 fn build(alloc: Global, sizes: &Sizes) -> Result<Instance, ModelError> {
     let nodes = nodes(alloc, sizes)?;
     let processes = processes(alloc, sizes)?;
@@ -124,216 +114,195 @@ fn build(alloc: Global, sizes: &Sizes) -> Result<Instance, ModelError> {
     Instance::build(alloc, sizes.cluster, nodes, processes, links, messages)
 }
 
-/// The sizes of each first item are an instance's, and those of each second item break the rule.
-fn end_at(rt: &impl Abort, alloc: Global, rows: &[(Sizes, Sizes, ModelError)]) {
-    for (most, more, rule) in rows {
-        assert!(rt; refusal(alloc, most).is_none());
-        assert_eq!(rt; refusal(alloc, more).as_ref(), Some(rule));
-    }
+/// The least sizes, where some are others.
+macro_rules! with {
+    ($($of:ident: $size:expr),*) => {
+        Sizes { $($of: $size,)* ..SMALL }
+    };
 }
 
-const fn sized(nodes: usize, processes: u32, links: usize, messages: usize) -> Sizes {
-    Sizes {
-        nodes,
-        processes,
-        links,
-        messages,
-        ..SMALL
-    }
+/// The least sizes, where some of the cluster's numbers are others.
+macro_rules! with_cluster {
+    ($($key:ident: $number:expr),*) => {
+        with!(cluster: Cluster { $($key: $number,)* ..PLAIN })
+    };
 }
 
-/// So many nodes, processes, links and messages, and one more.
+/// What is limited, sizes that are an instance's, sizes that are not, and the rule that those break, as it is printed.
+type Limit = (&'static str, Sizes, Sizes, &'static str);
+
+/// The limits of the lists: the most, and one more.
+const LISTS: &[Limit] = &[
+    ("nodes", with!(nodes: 16), with!(nodes: 17), "Length(Nodes)"),
+    (
+        "processes",
+        with!(processes: 64),
+        with!(processes: 65),
+        "Length(Processes)",
+    ),
+    (
+        "links",
+        with!(links: 256),
+        with!(links: 257),
+        "Length(Links)",
+    ),
+    (
+        "messages",
+        with!(messages: 128),
+        with!(messages: 129),
+        "Length(Messages)",
+    ),
+    (
+        "the most of all, and no nodes",
+        with!(nodes: 16, processes: 64, links: 256, messages: 128),
+        with!(nodes: 0),
+        "Length(Nodes)",
+    ),
+    (
+        "a message, and no processes",
+        with!(messages: 1),
+        with!(processes: 0),
+        "Length(Processes)",
+    ),
+];
+
+/// The limits of capacities, of the bytes of names and of messages, and of the times of a process.
+const PARTS: &[Limit] = &[
+    (
+        "eight capacities, and nine",
+        with!(capacities: &[0, 1, 2, 3, 4, 5, 6, 7]),
+        with!(capacities: &[0, 1, 2, 3, 4, 5, 6, 7, 8]),
+        "Capacities(0)",
+    ),
+    (
+        "no capacity",
+        with!(capacities: &[0]),
+        with!(capacities: &[]),
+        "Capacities(0)",
+    ),
+    (
+        "the greatest capacity",
+        with!(capacities: &[993, 994, 995, 996, 997, 998, 999, 1_000]),
+        with!(capacities: &[1_001]),
+        "Capacities(0)",
+    ),
+    (
+        "bytes of a name",
+        with!(name_bytes: 32),
+        with!(name_bytes: 33),
+        "NameForm(AtNode(0))",
+    ),
+    (
+        "ticks of a process",
+        with!(wcet: MOST_TICKS),
+        with!(wcet: MOST_TICKS + 1),
+        "OutOfRange(AtProcess(0))",
+    ),
+    (
+        "a release that leaves a tick",
+        with!(release: MOST_TICKS - 1),
+        with!(release: MOST_TICKS),
+        "Deadline(0)",
+    ),
+    (
+        "a release in range",
+        with!(release: 0),
+        with!(release: MOST_TICKS + 1),
+        "OutOfRange(AtProcess(0))",
+    ),
+    (
+        "no bytes of a message",
+        with!(messages: 1, bytes: 1),
+        with!(messages: 1, bytes: 0),
+        "OutOfRange(AtMessage(0))",
+    ),
+    (
+        "bytes of a message",
+        with!(messages: 1, bytes: 1_000),
+        with!(messages: 1, bytes: 1_001),
+        "OutOfRange(AtMessage(0))",
+    ),
+];
+
+/// The limits of a cluster's numbers.
+const CLUSTERS: &[Limit] = &[
+    (
+        "the lead",
+        with_cluster!(lead: 10_000),
+        with_cluster!(lead: 10_001),
+        "OutOfRange(AtCluster)",
+    ),
+    (
+        "the trail",
+        with_cluster!(trail: 10_000),
+        with_cluster!(trail: 10_001),
+        "OutOfRange(AtCluster)",
+    ),
+    (
+        "the head",
+        with_cluster!(head: 10_000),
+        with_cluster!(head: 10_001),
+        "OutOfRange(AtCluster)",
+    ),
+    (
+        "a head of a tick, and none",
+        with_cluster!(head: 1),
+        with_cluster!(head: 0),
+        "OutOfRange(AtCluster)",
+    ),
+    (
+        "ticks of a byte",
+        with_cluster!(per_byte: 1_000),
+        with_cluster!(per_byte: 1_001),
+        "OutOfRange(AtCluster)",
+    ),
+    (
+        "copying out",
+        with_cluster!(copy_out: 10_000),
+        with_cluster!(copy_out: 10_001),
+        "OutOfRange(AtCluster)",
+    ),
+    (
+        "copying in",
+        with_cluster!(copy_in: 10_000),
+        with_cluster!(copy_in: 10_001),
+        "OutOfRange(AtCluster)",
+    ),
+    (
+        "the horizon",
+        with_cluster!(horizon: MOST_TICKS),
+        with_cluster!(horizon: MOST_TICKS + 1),
+        "OutOfRange(AtCluster)",
+    ),
+    (
+        "a horizon of a tick, and none",
+        with_cluster!(horizon: 1),
+        with_cluster!(horizon: 0),
+        "OutOfRange(AtCluster)",
+    ),
+    (
+        "half the lead",
+        with_cluster!(precision: 5_000, lead: 10_000, trail: 10_000),
+        with_cluster!(precision: 5_001, lead: 10_000, trail: 10_000),
+        "ShortLead",
+    ),
+    (
+        "a precision in range",
+        with_cluster!(precision: 0, lead: 10_000, trail: 10_000),
+        with_cluster!(precision: 10_001, lead: 10_000, trail: 10_000),
+        "OutOfRange(AtCluster)",
+    ),
+];
+
 #[test]
-fn lists_have_their_limits(rt: HostRuntime) {
-    let rows = &[
-        (
-            sized(16, 3, 0, 0),
-            sized(17, 3, 0, 0),
-            ModelError::Length(Part::Nodes),
-        ),
-        (
-            sized(2, 64, 0, 0),
-            sized(2, 65, 0, 0),
-            ModelError::Length(Part::Processes),
-        ),
-        (
-            sized(2, 3, 256, 0),
-            sized(2, 3, 257, 0),
-            ModelError::Length(Part::Links),
-        ),
-        (
-            sized(2, 3, 0, 128),
-            sized(2, 3, 0, 129),
-            ModelError::Length(Part::Messages),
-        ),
-        (
-            sized(16, 64, 256, 128),
-            sized(0, 3, 0, 0),
-            ModelError::Length(Part::Nodes),
-        ),
-        (
-            sized(2, 3, 0, 1),
-            sized(2, 0, 0, 0),
-            ModelError::Length(Part::Processes),
-        ),
-    ];
-    end_at(&rt, rt.alloc(), rows);
-}
-
-const fn node(options: u32, last_capacity: u32) -> Sizes {
-    Sizes {
-        options,
-        last_capacity,
-        ..SMALL
+fn each_limit_is_reached_and_not_passed(rt: HostRuntime) -> Result<(), Fail> {
+    for limits in &[LISTS, PARTS, CLUSTERS] {
+        for (what, most, more, rule) in *limits {
+            let told = verdict(rt.alloc(), build(rt.alloc(), most))?;
+            same(&rt, what, told.as_str(), "lawful");
+            let told = verdict(rt.alloc(), build(rt.alloc(), more))?;
+            same(&rt, what, told.as_str(), *rule);
+        }
     }
-}
-
-const fn process(name_bytes: usize, wcet: u32, release: u32) -> Sizes {
-    Sizes {
-        name_bytes,
-        wcet,
-        release,
-        ..SMALL
-    }
-}
-
-const fn message(bytes: u32) -> Sizes {
-    Sizes {
-        messages: 1,
-        bytes,
-        ..SMALL
-    }
-}
-
-/// Capacities, the bytes of names and of messages, and the times of a process.
-#[test]
-fn parts_have_their_limits(rt: HostRuntime) {
-    let rows = &[
-        (node(8, 7), node(9, 8), ModelError::Capacities(0)),
-        (node(1, 0), node(0, 0), ModelError::Capacities(0)),
-        (node(8, 1_000), node(1, 1_001), ModelError::Capacities(0)),
-        (
-            process(32, 1, 0),
-            process(33, 1, 0),
-            ModelError::NameForm(Place::AtNode(0)),
-        ),
-        (
-            process(6, MOST_TICKS, 0),
-            process(6, MOST_TICKS + 1, 0),
-            ModelError::OutOfRange(Place::AtProcess(0)),
-        ),
-        (
-            process(6, 1, MOST_TICKS - 1),
-            process(6, 1, MOST_TICKS),
-            ModelError::Deadline(0),
-        ),
-        (
-            process(6, 1, 0),
-            process(6, 1, MOST_TICKS + 1),
-            ModelError::OutOfRange(Place::AtProcess(0)),
-        ),
-        (
-            message(1),
-            message(0),
-            ModelError::OutOfRange(Place::AtMessage(0)),
-        ),
-        (
-            message(1_000),
-            message(1_001),
-            ModelError::OutOfRange(Place::AtMessage(0)),
-        ),
-    ];
-    end_at(&rt, rt.alloc(), rows);
-}
-
-const fn on(cluster: Cluster) -> Sizes {
-    Sizes { cluster, ..SMALL }
-}
-
-const fn bus(lead: u32, trail: u32, head: u32, per_byte: u32) -> Sizes {
-    on(Cluster {
-        lead,
-        trail,
-        head,
-        per_byte,
-        ..PLAIN
-    })
-}
-
-const fn copies(copy_out: u32, copy_in: u32, horizon: u32) -> Sizes {
-    on(Cluster {
-        copy_out,
-        copy_in,
-        horizon,
-        ..PLAIN
-    })
-}
-
-/// A cluster of this precision whose lead and trail are the greatest.
-const fn precise(precision: u32) -> Sizes {
-    on(Cluster {
-        precision,
-        lead: 10_000,
-        trail: 10_000,
-        ..PLAIN
-    })
-}
-
-/// The numbers of a cluster.
-#[test]
-fn clusters_have_their_limits(rt: HostRuntime) {
-    let rows = &[
-        (
-            bus(10_000, 0, 1, 1),
-            bus(10_001, 0, 1, 1),
-            ModelError::OutOfRange(Place::AtCluster),
-        ),
-        (
-            bus(0, 10_000, 1, 1),
-            bus(0, 10_001, 1, 1),
-            ModelError::OutOfRange(Place::AtCluster),
-        ),
-        (
-            bus(0, 0, 10_000, 1),
-            bus(0, 0, 10_001, 1),
-            ModelError::OutOfRange(Place::AtCluster),
-        ),
-        (
-            bus(0, 0, 1, 1),
-            bus(0, 0, 0, 1),
-            ModelError::OutOfRange(Place::AtCluster),
-        ),
-        (
-            bus(0, 0, 1, 1_000),
-            bus(0, 0, 1, 1_001),
-            ModelError::OutOfRange(Place::AtCluster),
-        ),
-        (
-            copies(10_000, 0, 100),
-            copies(10_001, 0, 100),
-            ModelError::OutOfRange(Place::AtCluster),
-        ),
-        (
-            copies(0, 10_000, 100),
-            copies(0, 10_001, 100),
-            ModelError::OutOfRange(Place::AtCluster),
-        ),
-        (
-            copies(0, 0, MOST_TICKS),
-            copies(0, 0, MOST_TICKS + 1),
-            ModelError::OutOfRange(Place::AtCluster),
-        ),
-        (
-            copies(0, 0, 1),
-            copies(0, 0, 0),
-            ModelError::OutOfRange(Place::AtCluster),
-        ),
-        (precise(5_000), precise(5_001), ModelError::ShortLead),
-        (
-            precise(0),
-            precise(10_001),
-            ModelError::OutOfRange(Place::AtCluster),
-        ),
-    ];
-    end_at(&rt, rt.alloc(), rows);
+    Ok(())
 }

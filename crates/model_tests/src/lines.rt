@@ -6,49 +6,55 @@ use line_text::{
 };
 use std::test::Fail;
 
-#[test]
-fn a_text_is_cut_at_its_first_space(rt: HostRuntime) {
-    let rows: &[(&[u8], Option<(&[u8], &[u8])>)] = &[
-        (b"cap A 2", Some((b"cap", b"A 2"))),
-        (b" A", Some((b"", b"A"))),
-        (b"cap", None),
-        (b"", None),
-    ];
-    for (text, parts) in rows {
-        same(&rt, text, cut(b' ', text), *parts);
-    }
-}
+/// What a text is cut to at its first space, what follows the keyword `cap `, and which number the text is.
+type Readings = (
+    Option<(&'static [u8], &'static [u8])>,
+    Option<&'static [u8]>,
+    NumberWord,
+);
+
+/// Texts, and how they are read.
+const TEXTS: &[(&str, Readings)] = &[
+    (
+        "cap A 2",
+        (Some((b"cap", b"A 2")), Some(b"A 2"), NumberWord::Malformed),
+    ),
+    (" A", (Some((b"", b"A")), None, NumberWord::Malformed)),
+    ("cap", (None, None, NumberWord::Malformed)),
+    (
+        "Cap A 2",
+        (Some((b"Cap", b"A 2")), None, NumberWord::Malformed),
+    ),
+    ("", (None, None, NumberWord::Malformed)),
+    ("0", (None, None, NumberWord::Number(0))),
+    ("7", (None, None, NumberWord::Number(7))),
+    ("10", (None, None, NumberWord::Number(10))),
+    (
+        "4294967295",
+        (None, None, NumberWord::Number(4_294_967_295)),
+    ),
+    ("4294967296", (None, None, NumberWord::TooLarge)),
+    (
+        "100000000000000000000000000000",
+        (None, None, NumberWord::TooLarge),
+    ),
+    ("00", (None, None, NumberWord::Malformed)),
+    ("07", (None, None, NumberWord::Malformed)),
+    ("+7", (None, None, NumberWord::Malformed)),
+    ("7\r", (None, None, NumberWord::Malformed)),
+    ("4294967296x", (None, None, NumberWord::Malformed)),
+];
 
 #[test]
-fn a_keyword_is_left_off_where_the_text_begins_with_it(rt: HostRuntime) {
-    let rows: &[(&[u8], Option<&[u8]>)] = &[
-        (b"cap A 2", Some(b"A 2")),
-        (b"cap", None),
-        (b"Cap A 2", None),
-    ];
-    for (text, rest) in rows {
-        same(&rt, text, after_keyword(b"cap ", text), *rest);
-    }
-}
-
-#[test]
-fn a_word_is_one_number_or_none(rt: HostRuntime) {
-    let rows: &[(&str, NumberWord)] = &[
-        ("0", NumberWord::Number(0)),
-        ("7", NumberWord::Number(7)),
-        ("10", NumberWord::Number(10)),
-        ("4294967295", NumberWord::Number(4_294_967_295)),
-        ("4294967296", NumberWord::TooLarge),
-        ("100000000000000000000000000000", NumberWord::TooLarge),
-        ("", NumberWord::Malformed),
-        ("00", NumberWord::Malformed),
-        ("07", NumberWord::Malformed),
-        ("+7", NumberWord::Malformed),
-        ("7\r", NumberWord::Malformed),
-        ("4294967296x", NumberWord::Malformed),
-    ];
-    for (word, number) in rows {
-        same(&rt, word, number_word(word.as_bytes()), *number);
+fn texts_are_cut_and_read_as_numbers(rt: HostRuntime) {
+    for (text, wanted) in TEXTS {
+        let bytes = text.as_bytes();
+        let found = (
+            cut(b' ', bytes),
+            after_keyword(b"cap ", bytes),
+            number_word(bytes),
+        );
+        same(&rt, text, found, *wanted);
     }
 }
 

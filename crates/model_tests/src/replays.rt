@@ -1,167 +1,178 @@
 //! What happens in worked cycles where frames are lost, and how is it written?
 
-ghost use Rattle.medl_tables.specs.Medl.{AreTables};
-
+use crate::building::{LAWFUL, Tables, build};
 use crate::outcomes::same;
 use crate::plans::{Lists, tables};
-use medl_tables::Medl;
-use membership_replay::{Loss, ReplayFault, Trace, print, replay};
+use membership_replay::{Loss, ReplayFault, print, replay};
 use std::alloc::Global;
 use std::process::Abort;
 use std::test::Fail;
-use ttp_model::{Instance, ModelError};
-use worked_instances::{Draft, PLAIN};
+use ttp_model::MOST_TICKS;
 
 /// Nodes A, B and C with frames of 1 tick, and a process of 3 ticks: one round.
-fn three_nodes(alloc: Global) -> Result<Instance, ModelError> {
-    Draft::of(alloc, PLAIN)
-        .node("A", &[0])?
-        .node("B", &[0])?
-        .node("C", &[0])?
-        .process("p", 0, 3)?
-        .build()
-}
+const THREE: Tables = Tables {
+    nodes: &[("A", &[0]), ("B", &[0]), ("C", &[0])],
+    processes: &[("p", 0, 3, MOST_TICKS)],
+    messages: &[],
+    ..LAWFUL
+};
+
+/// The same without node C.
+const TWO: Tables = Tables {
+    nodes: &[("A", &[0]), ("B", &[0])],
+    ..THREE
+};
 
 /// Nodes A, B and C, where A's frame may have 2 bytes, and a message of p on A to q on B: p takes 3
 /// ticks, A's slot of round 1 is from 5 to 8, and q takes 2 ticks.
-fn delivery(alloc: Global) -> Result<Instance, ModelError> {
-    Draft::of(alloc, PLAIN)
-        .node("A", &[2])?
-        .node("B", &[0])?
-        .node("C", &[0])?
-        .process("p", 0, 3)?
-        .process("q", 1, 2)?
-        .message("m", 0, 1, 2)?
-        .build()
+const DELIVERY: Tables = Tables {
+    nodes: &[("A", &[2]), ("B", &[0]), ("C", &[0])],
+    ..LAWFUL
+};
+
+/// The losses of frames at position 0: each is in a round, at a node.
+macro_rules! losses {
+    ($(($round:literal, $receiver:literal)),*) => {
+        &[$(Loss { round: $round, slot: 0, receiver: $receiver }),*]
+    };
 }
 
-/// Nodes A and B with frames of 1 tick.
-fn two_nodes(alloc: Global) -> Result<Instance, ModelError> {
-    Draft::of(alloc, PLAIN)
-        .node("A", &[0])?
-        .node("B", &[0])?
-        .process("p", 0, 3)?
-        .build()
+/// A cycle in which frames are lost, and what is told of it.
+#[derive(Clone, Copy)]
+struct Cycle {
+    parts: Tables,
+    lists: Lists<'static>,
+    delay: u64,
+    losses: &'static [Loss],
+    /// How many slots and states of nodes its trace has, and the lines.
+    told: Result<(usize, usize, &'static [u8]), ReplayFault>,
 }
 
-/// A loss at this node of the frame at position 0 in a round.
-fn loss(round: u32, receiver: u32) -> Loss {
-    Loss {
-        round,
-        slot: 0,
-        receiver,
+/// Three nodes that lose nothing.
+const ALL_STAY: Cycle = Cycle {
+    parts: THREE,
+    lists: [&[0, 1, 2], &[0, 0, 0], &[0], &[]],
+    delay: 3,
+    losses: &[],
+    told: Ok((
+        3,
+        3,
+        b"ttreplay 1\n\
+        slot 0 0 A sent\nslot 0 1 B sent\nack A\nslot 0 2 C sent\nack B\n\
+        member A A B C\nmember B A B C\nmember C A B C\n",
+    )),
+};
+
+/// A's frame is lost everywhere.
+const ONE_LEAVES: Cycle = Cycle {
+    losses: losses![(0, 1), (0, 2)],
+    told: Ok((
+        3,
+        3,
+        b"ttreplay 1\n\
+        slot 0 0 A sent\ndrop B A\ndrop C A\n\
+        slot 0 1 B sent\ndoubt A\n\
+        slot 0 2 C sent\nleave A\nack B\n\
+        member A B C\nmember B B C\nmember C B C\n",
+    )),
+    ..ALL_STAY
+};
+
+/// A loss outside the cycle.
+const OUTSIDE: Cycle = Cycle {
+    losses: losses![(1, 1), (0, 1)],
+    told: Err(ReplayFault::WrongLoss(0)),
+    ..ALL_STAY
+};
+
+/// A loss at the sender.
+const AT_SENDER: Cycle = Cycle {
+    losses: losses![(0, 1), (0, 0)],
+    told: Err(ReplayFault::WrongLoss(1)),
+    ..ALL_STAY
+};
+
+/// Two nodes are too few, whatever is lost.
+const TOO_FEW: Cycle = Cycle {
+    parts: TWO,
+    lists: [&[0, 1], &[0, 0], &[0], &[]],
+    losses: losses![(7, 7)],
+    told: Err(ReplayFault::TooFewNodes),
+    ..ALL_STAY
+};
+
+/// A message that arrives.
+const DELIVERED: Cycle = Cycle {
+    parts: DELIVERY,
+    lists: [&[0, 1, 2], &[2, 0, 0], &[0, 8], &[1]],
+    delay: 10,
+    losses: &[],
+    told: Ok((
+        6,
+        3,
+        b"ttreplay 1\n\
+        slot 0 0 A sent\nslot 0 1 B sent\nack A\nslot 0 2 C sent\nack B\n\
+        slot 1 0 A sent\ndeliver m B\nack C\nslot 1 1 B sent\nack A\nslot 1 2 C sent\nack B\n\
+        member A A B C\nmember B A B C\nmember C A B C\n",
+    )),
+};
+
+/// The same, where its frame is lost.
+const LOST: Cycle = Cycle {
+    losses: losses![(1, 1)],
+    told: Ok((
+        6,
+        3,
+        b"ttreplay 1\n\
+        slot 0 0 A sent\nslot 0 1 B sent\nack A\nslot 0 2 C sent\nack B\n\
+        slot 1 0 A sent\ndrop B A\nack C\nslot 1 1 B sent\ndoubt A\ndrop C B\n\
+        slot 1 2 C sent\nack A\ndrop A B\ndrop B C\n\
+        member A A C\nmember B B\nmember C A C\n",
+    )),
+    ..DELIVERED
+};
+
+/// What is told of cycles in which nothing is delivered.
+const CYCLES: &[Cycle] = &[ONE_LEAVES, ALL_STAY, OUTSIDE, AT_SENDER, TOO_FEW];
+
+/// The same of a message.
+const DELIVERIES: &[Cycle] = &[DELIVERED, LOST];
+
+/// This is told of the cycle, unless memory is refused.
+fn is_told(rt: &impl Abort, alloc: Global, cycle: &Cycle) -> Result<(), Fail> {
+    let instance = build(alloc, &cycle.parts)?;
+    let medl = tables(rt, alloc, &instance, cycle.lists, cycle.delay)?;
+    match replay(alloc, &instance, &medl, cycle.losses) {
+        Ok(trace) => {
+            let text = print(alloc, &instance, &trace)?;
+            let found = (trace.slots().len(), trace.states().len(), text.as_slice());
+            same(rt, cycle.losses, Ok(found), cycle.told);
+            Ok(())
+        }
+        Err(ReplayFault::OutOfMemory) => Err(ReplayFault::OutOfMemory.into()),
+        Err(fault) => {
+            same(rt, cycle.losses, Err(fault), cycle.told);
+            Ok(())
+        }
     }
-}
-
-/// The trace of the cycle with these losses, which is written as these lines.
-fn trace(
-    rt: &impl Abort,
-    alloc: Global,
-    instance: &Instance,
-    medl: &Medl,
-    losses: &[Loss],
-    lines: &[u8],
-) -> Result<Trace, Fail>
-    requires { AreTables instance.now medl.now }
-{
-    let trace = replay(alloc, instance, medl, losses)?;
-    let text = print(alloc, instance, &trace)?;
-    same(rt, losses, text.as_slice(), lines);
-    Ok(trace)
-}
-
-/// Why the cycle with these losses can't be replayed.
-fn refusal(alloc: Global, instance: &Instance, medl: &Medl, losses: &[Loss]) -> Option<ReplayFault>
-    requires { AreTables instance.now medl.now }
-{
-    replay(alloc, instance, medl, losses).err()
-}
-
-/// The trace of three nodes in which A's frame is lost at B and C.
-const LOST: &[u8] = b"ttreplay 1\n\
-    slot 0 0 A sent\ndrop B A\ndrop C A\n\
-    slot 0 1 B sent\ndoubt A\n\
-    slot 0 2 C sent\nleave A\nack B\n\
-    member A B C\nmember B B C\nmember C B C\n";
-
-/// The trace of three nodes without losses.
-const KEPT: &[u8] = b"ttreplay 1\n\
-    slot 0 0 A sent\nslot 0 1 B sent\nack A\nslot 0 2 C sent\nack B\n\
-    member A A B C\nmember B A B C\nmember C A B C\n";
-
-#[test]
-fn a_node_leaves_whose_frame_is_lost_everywhere_and_else_stays(
-    rt: HostRuntime,
-) -> Result<(), Fail> {
-    let alloc = rt.alloc();
-    let instance = three_nodes(alloc)?;
-    let lists: Lists = [&[0, 1, 2], &[0, 0, 0], &[0], &[]];
-    let medl = tables(&rt, alloc, &instance, lists, 3)?;
-    trace(
-        &rt,
-        alloc,
-        &instance,
-        &medl,
-        &[loss(0, 1), loss(0, 2)],
-        LOST,
-    )?;
-    trace(&rt, alloc, &instance, &medl, &[], KEPT)?;
-    Ok(())
-}
-
-#[test]
-fn a_loss_is_of_the_cycle_and_not_at_the_sender(rt: HostRuntime) -> Result<(), Fail> {
-    let alloc = rt.alloc();
-    let instance = three_nodes(alloc)?;
-    let lists: Lists = [&[0, 1, 2], &[0, 0, 0], &[0], &[]];
-    let medl = tables(&rt, alloc, &instance, lists, 3)?;
-    let outside = refusal(alloc, &instance, &medl, &[loss(1, 1), loss(0, 1)]);
-    same(&rt, "outside", outside, Some(ReplayFault::WrongLoss(0)));
-    let at_sender = refusal(alloc, &instance, &medl, &[loss(0, 1), loss(0, 0)]);
-    same(
-        &rt,
-        "at the sender",
-        at_sender,
-        Some(ReplayFault::WrongLoss(1)),
-    );
-    Ok(())
 }
 
 #[test]
 fn a_message_is_delivered_in_its_round_where_its_frame_is_not_lost(
     rt: HostRuntime,
 ) -> Result<(), Fail> {
-    let alloc = rt.alloc();
-    let instance = delivery(alloc)?;
-    let lists: Lists = [&[0, 1, 2], &[2, 0, 0], &[0, 8], &[1]];
-    let medl = tables(&rt, alloc, &instance, lists, 10)?;
-    let lines = b"ttreplay 1\n\
-        slot 0 0 A sent\nslot 0 1 B sent\nack A\nslot 0 2 C sent\nack B\n\
-        slot 1 0 A sent\ndeliver m B\nack C\nslot 1 1 B sent\nack A\nslot 1 2 C sent\nack B\n\
-        member A A B C\nmember B A B C\nmember C A B C\n";
-    trace(&rt, alloc, &instance, &medl, &[], lines)?;
-    let lines = b"ttreplay 1\n\
-        slot 0 0 A sent\nslot 0 1 B sent\nack A\nslot 0 2 C sent\nack B\n\
-        slot 1 0 A sent\ndrop B A\nack C\nslot 1 1 B sent\ndoubt A\ndrop C B\n\
-        slot 1 2 C sent\nack A\ndrop A B\ndrop B C\n\
-        member A A C\nmember B B\nmember C A C\n";
-    let trace = trace(&rt, alloc, &instance, &medl, &[loss(1, 1)], lines)?;
-    same(
-        &rt,
-        "slots and states",
-        (trace.slots().len(), trace.states().len()),
-        (6, 3),
-    );
+    for cycle in DELIVERIES {
+        is_told(&rt, rt.alloc(), cycle)?;
+    }
     Ok(())
 }
 
 #[test]
-fn two_nodes_are_too_few(rt: HostRuntime) -> Result<(), Fail> {
-    let alloc = rt.alloc();
-    let instance = two_nodes(alloc)?;
-    let lists: Lists = [&[0, 1], &[0, 0], &[0], &[]];
-    let medl = tables(&rt, alloc, &instance, lists, 3)?;
-    let fault = refusal(alloc, &instance, &medl, &[loss(7, 7)]);
-    same(&rt, "two nodes", fault, Some(ReplayFault::TooFewNodes));
+fn a_loss_is_of_the_cycle_and_a_node_leaves_whose_frame_is_lost_everywhere(
+    rt: HostRuntime,
+) -> Result<(), Fail> {
+    for cycle in CYCLES {
+        is_told(&rt, rt.alloc(), cycle)?;
+    }
     Ok(())
 }

@@ -1,7 +1,8 @@
 //! What does a search answer, in numbers?
 
+use crate::instances::Sample;
 use cert_check::check;
-use planner::{Options, Outcome, Why, solve};
+use planner::{FreeGate, Manner, Options, Outcome, SolveFault, Why, solve, solve_in};
 use std::alloc::Global;
 use std::sync::Wait;
 use std::test::Fail;
@@ -9,7 +10,7 @@ use std::thread::Threads;
 use ttp_model::{Instance, Plan};
 
 /// An answer in ticks. Its plan has the delay that is stated, and its certificate proves the bound.
-#[derive(Clone, Copy, Debug, PartialEq, Eq)]
+#[derive(Clone, Copy)]
 pub struct Answer {
     /// Why the search stopped, where it doesn't know the least delay.
     pub stopped: Option<Why>,
@@ -20,10 +21,15 @@ pub struct Answer {
 }
 
 impl Answer {
+    /// Whether it says that this delay is least, or that there is no plan.
+    pub fn is_least(self, least: Option<u64>) -> bool {
+        self.stopped.is_none() && self.delay == least
+    }
+
     /// Whether it is right where this delay is least: it says so, or was stopped for this cause with bounds around it.
     pub fn is_right(self, least: u64, cause: Why) -> bool {
         let Some(why) = self.stopped else {
-            return self.low == least && self.delay == Some(least);
+            return self.low == least && self.is_least(Some(least));
         };
         let is_above = match self.delay {
             Some(delay) => least <= delay && self.low < delay,
@@ -31,11 +37,6 @@ impl Answer {
         };
         why == cause && self.low <= least && is_above
     }
-}
-
-/// One worker, with this budget.
-pub fn options(budget: u64) -> Options {
-    Options { workers: 1, budget }
 }
 
 /// The delay that is stated of a plan; an error where the plan has another, or breaks a rule.
@@ -81,23 +82,36 @@ pub fn read(alloc: Global, instance: &Instance, outcome: &Outcome) -> Result<Ans
     }
 }
 
-/// What is answered for an instance by one worker, with this budget.
+/// Both manners of a search.
+pub const MANNERS: &[Manner] = &[Manner::Plain, Manner::Sparing];
+
+/// What is answered for an instance by a search in this manner, or why there is no answer. The instances of these tests are
+/// small, so that a plain search is what is made of them by itself.
 pub fn solved<R: Threads + Wait + Sync>(
     rt: &R,
     alloc: Global,
     instance: &Instance,
-    budget: u64,
-) -> Result<Answer, Fail> {
-    solved_by(rt, alloc, instance, options(budget))
+    options: Options,
+    manner: Manner,
+) -> Result<Result<Answer, SolveFault>, Fail> {
+    let searched = match manner {
+        Manner::Plain => solve(rt, alloc, instance, options),
+        Manner::Sparing => solve_in(rt, alloc, instance, options, manner, &FreeGate),
+    };
+    match searched {
+        Ok(outcome) => Ok(Ok(read(alloc, instance, &outcome)?)),
+        Err(fault) => Ok(Err(fault)),
+    }
 }
 
-/// What is answered for an instance.
-pub fn solved_by<R: Threads + Wait + Sync>(
+/// What is answered for an instance that is named.
+pub fn solved_sample<R: Threads + Wait + Sync>(
     rt: &R,
     alloc: Global,
-    instance: &Instance,
+    sample: &Sample,
     options: Options,
+    manner: Manner,
 ) -> Result<Answer, Fail> {
-    let outcome = solve(rt, alloc, instance, options)?;
-    read(alloc, instance, &outcome)
+    let instance = sample.build(alloc)?;
+    Ok(solved(rt, alloc, &instance, options, manner)??)
 }

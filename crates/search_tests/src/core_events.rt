@@ -7,7 +7,7 @@ use std::test::Fail;
 use ttp_model::{Kind, Leaf, Steps};
 
 /// An event of a worker, the first number. Its leaves have no steps.
-#[derive(Clone, Copy, Debug)]
+#[derive(Clone, Copy)]
 pub enum Act {
     Pop(u32),
     /// From this other worker.
@@ -80,18 +80,45 @@ fn step(alloc: Global, world: &mut World, act: Act) -> Result<Reply, Illegal> {
     }
 }
 
-/// Does a script's events one after another, each of which has to come to what stands beside it.
-fn play(rt: &impl Abort, alloc: Global, world: &mut World, script: &[(Act, Effect)]) {
-    for (index, (act, effect)) in script.iter().enumerate() {
-        let reply = step(alloc, world, *act);
-        assert!(rt; effect.is_of(&reply), "event {index}: {reply:?}");
-    }
+/// What is done with a world whose goal is 101, and what each event comes to.
+struct Script {
+    what: &'static str,
+    workers: u32,
+    /// Events that are run at once, and how that ends.
+    run: &'static [Act],
+    ended: Result<(), Illegal>,
+    /// Events one after another.
+    steps: &'static [(Act, Effect)],
 }
 
-#[test]
-fn a_stolen_root_is_split_and_shared(rt: HostRuntime) -> Result<(), Fail> {
-    let mut world = World::start(rt.alloc(), 2, 101)?;
-    let script = [
+/// Runs the events of these acts at once.
+fn run(alloc: Global, world: &mut World, acts: &[Act]) -> Result<Result<(), Illegal>, AllocError> {
+    let mut events = Vec::new(alloc);
+    for act in acts {
+        events.push(act.event(alloc))?;
+    }
+    Ok(world.run(alloc, events))
+}
+
+/// Each event of the script comes to what stands beside it.
+fn play(rt: &impl Abort, alloc: Global, script: &Script) -> Result<(), Fail> {
+    let what = script.what;
+    let mut world = World::start(alloc, script.workers.max(1), 101)?;
+    let ended = run(alloc, &mut world, script.run)?;
+    assert!(rt; ended == script.ended, "{what}: the run");
+    for (index, (act, effect)) in script.steps.iter().enumerate() {
+        let reply = step(alloc, &mut world, *act);
+        assert!(rt; effect.is_of(&reply), "{what}: event {index}");
+    }
+    Ok(())
+}
+
+const STOLEN_ROOT: Script = Script {
+    what: "a stolen root is split and shared",
+    workers: 2,
+    run: &[],
+    ended: Ok(()),
+    steps: &[
         (Act::Steal(1, 0), Effect::Name(&[])),
         (Act::Look(1), Effect::Best(101)),
         (Act::Split(1, Kind::Place, 2), Effect::Done),
@@ -101,94 +128,93 @@ fn a_stolen_root_is_split_and_shared(rt: HostRuntime) -> Result<(), Fail> {
         (Act::Pop(1), Effect::Name(&[1])),
         (Act::Pop(1), Effect::Refused(Illegal::WrongHand)),
         (Act::Look(1), Effect::Best(101)),
-    ];
-    play(&rt, rt.alloc(), &mut world, &script);
-    Ok(())
+    ],
+};
+
+/// Scripts in which events are refused.
+const REFUSED: &[Script] = &[
+    Script {
+        what: "workers that are not there",
+        steps: &[
+            (Act::Pop(2), NO_SUCH_WORKER),
+            (Act::Steal(2, 0), NO_SUCH_WORKER),
+            (Act::Steal(1, 2), NO_SUCH_WORKER),
+            (Act::Steal(0, 0), NO_SUCH_WORKER),
+            (Act::Look(2), NO_SUCH_WORKER),
+            (Act::Split(2, Kind::Place, 0), NO_SUCH_WORKER),
+            (Act::Push(2), NO_SUCH_WORKER),
+            (Act::Offer(2), NO_SUCH_WORKER),
+            (Act::Rest(4_294_967_295), NO_SUCH_WORKER),
+            (Act::Pop(0), Effect::Name(&[])),
+        ],
+        ..STOLEN_ROOT
+    },
+    Script {
+        what: "wrong hands and empty deques",
+        steps: &[
+            (Act::Pop(0), Effect::Name(&[])),
+            (Act::Pop(0), WRONG_HAND),
+            (Act::Steal(0, 1), WRONG_HAND),
+            (Act::Look(1), WRONG_HAND),
+            (Act::Split(1, Kind::Place, 0), WRONG_HAND),
+            (Act::Push(0), WRONG_HAND),
+            (Act::Push(1), WRONG_HAND),
+            (Act::Offer(0), WRONG_HAND),
+            (Act::Offer(1), WRONG_HAND),
+            (Act::Rest(1), WRONG_HAND),
+            (Act::Pop(1), EMPTY_DEQUE),
+            (Act::Steal(1, 0), EMPTY_DEQUE),
+            (Act::Look(0), Effect::Best(101)),
+        ],
+        ..STOLEN_ROOT
+    },
+    Script {
+        what: "counts and goals that do not fit",
+        steps: &[
+            (Act::Pop(0), Effect::Name(&[])),
+            (Act::Split(0, Kind::Place, 0), MISFIT),
+            (Act::Split(0, Kind::Cap(0), 0), MISFIT),
+            (Act::Split(0, Kind::Pair(0, 1), 3), MISFIT),
+            (Act::Split(0, Kind::Round(0, 1), 1), MISFIT),
+            (Act::Closed(0, 100), MISFIT),
+            (Act::Closed(0, 102), MISFIT),
+            (Act::Found(0, 101, 9), MISFIT),
+            (Act::Found(0, 9, 10), MISFIT),
+            (Act::Found(0, 9, 9), Effect::Done),
+            (Act::Offer(0), Effect::Best(9)),
+        ],
+        ..STOLEN_ROOT
+    },
+    Script {
+        what: "a run stops at the first refusal",
+        workers: 1,
+        run: &[Act::Pop(0), Act::Push(0), Act::Rest(0)],
+        ended: Err(Illegal::WrongHand),
+        steps: &[
+            (Act::Look(0), Effect::Best(101)),
+            (Act::Rest(0), Effect::Done),
+            (Act::Rest(0), WRONG_HAND),
+        ],
+    },
+];
+
+const NO_SUCH_WORKER: Effect = Effect::Refused(Illegal::NoSuchWorker);
+
+const WRONG_HAND: Effect = Effect::Refused(Illegal::WrongHand);
+
+const EMPTY_DEQUE: Effect = Effect::Refused(Illegal::EmptyDeque);
+
+const MISFIT: Effect = Effect::Refused(Illegal::Misfit);
+
+#[test]
+fn a_stolen_root_is_split_and_shared(rt: HostRuntime) -> Result<(), Fail> {
+    play(&rt, rt.alloc(), &STOLEN_ROOT)
 }
 
 #[test]
-fn workers_that_are_not_there_are_refused(rt: HostRuntime) -> Result<(), Fail> {
-    let mut world = World::start(rt.alloc(), 2, 101)?;
-    let refused = Effect::Refused(Illegal::NoSuchWorker);
-    let script = [
-        (Act::Pop(2), refused),
-        (Act::Steal(2, 0), refused),
-        (Act::Steal(1, 2), refused),
-        (Act::Steal(0, 0), refused),
-        (Act::Look(2), refused),
-        (Act::Split(2, Kind::Place, 0), refused),
-        (Act::Push(2), refused),
-        (Act::Offer(2), refused),
-        (Act::Rest(4_294_967_295), refused),
-        (Act::Pop(0), Effect::Name(&[])),
-    ];
-    play(&rt, rt.alloc(), &mut world, &script);
-    Ok(())
-}
-
-#[test]
-fn wrong_hands_and_empty_deques_are_refused(rt: HostRuntime) -> Result<(), Fail> {
-    let mut world = World::start(rt.alloc(), 2, 101)?;
-    let refused = Effect::Refused(Illegal::WrongHand);
-    let script = [
-        (Act::Pop(0), Effect::Name(&[])),
-        (Act::Pop(0), refused),
-        (Act::Steal(0, 1), refused),
-        (Act::Look(1), refused),
-        (Act::Split(1, Kind::Place, 0), refused),
-        (Act::Push(0), refused),
-        (Act::Push(1), refused),
-        (Act::Offer(0), refused),
-        (Act::Offer(1), refused),
-        (Act::Rest(1), refused),
-        (Act::Pop(1), Effect::Refused(Illegal::EmptyDeque)),
-        (Act::Steal(1, 0), Effect::Refused(Illegal::EmptyDeque)),
-        (Act::Look(0), Effect::Best(101)),
-    ];
-    play(&rt, rt.alloc(), &mut world, &script);
-    Ok(())
-}
-
-#[test]
-fn counts_and_goals_that_do_not_fit_are_refused(rt: HostRuntime) -> Result<(), Fail> {
-    let mut world = World::start(rt.alloc(), 2, 101)?;
-    let refused = Effect::Refused(Illegal::Misfit);
-    let script = [
-        (Act::Pop(0), Effect::Name(&[])),
-        (Act::Split(0, Kind::Place, 0), refused),
-        (Act::Split(0, Kind::Cap(0), 0), refused),
-        (Act::Split(0, Kind::Pair(0, 1), 3), refused),
-        (Act::Split(0, Kind::Round(0, 1), 1), refused),
-        (Act::Closed(0, 100), refused),
-        (Act::Closed(0, 102), refused),
-        (Act::Found(0, 101, 9), refused),
-        (Act::Found(0, 9, 10), refused),
-        (Act::Found(0, 9, 9), Effect::Done),
-        (Act::Offer(0), Effect::Best(9)),
-    ];
-    play(&rt, rt.alloc(), &mut world, &script);
-    Ok(())
-}
-
-/// The events of these acts.
-fn events(alloc: Global, acts: &[Act]) -> Result<Vec<Event>, AllocError> {
-    let mut events = Vec::new(alloc);
-    for act in acts {
-        events.push(act.event(alloc))?;
+fn what_an_event_needs_is_asked(rt: HostRuntime) -> Result<(), Fail> {
+    for script in REFUSED {
+        play(&rt, rt.alloc(), script)?;
     }
-    Ok(events)
-}
-
-#[test]
-fn a_run_stops_at_the_first_refusal(rt: HostRuntime) -> Result<(), Fail> {
-    let mut world = World::start(rt.alloc(), 1, 101)?;
-    let events = events(rt.alloc(), &[Act::Pop(0), Act::Push(0), Act::Rest(0)])?;
-    assert_eq!(rt; world.run(rt.alloc(), events), Err(Illegal::WrongHand));
-    let script = [
-        (Act::Look(0), Effect::Best(101)),
-        (Act::Rest(0), Effect::Done),
-        (Act::Rest(0), Effect::Refused(Illegal::WrongHand)),
-    ];
-    play(&rt, rt.alloc(), &mut world, &script);
     Ok(())
 }

@@ -34,40 +34,15 @@ fn left(alloc: Global, i: &Instance, text: &str) -> Result<Vec<u8>, Fail> {
     let _low = check(alloc, i, &cert)?;
     let left = without_unused(alloc, i, cert);
     let _low = check(alloc, i, &left)?;
-    let text = print(alloc, &left)?;
-    Ok(text)
-}
-
-/// Whether this is left of a text.
-fn leaves(alloc: Global, text: &str, other: &str) -> Result<bool, Fail> {
-    let i = one_message(alloc, PLAIN)?;
-    let left = left(alloc, &i, text)?;
-    Ok(left.as_slice() == other.as_bytes())
-}
-
-/// Certificates, and what is left of them.
-const ROWS: &[(&str, &str)] = &[
-    (ONE_LEAF, ONE_LEAF),
-    (TWO_RANGES, ONE_LEAF),
-    (SENT_EARLY, ONE_LEAF),
-    (TWO_ORDERS, TWO_ORDERS),
-    (ORDERS_AND_RANGES, TWO_ORDERS),
-];
-
-#[test]
-fn branches_that_no_step_uses_go(rt: HostRuntime) -> Result<(), Fail> {
-    for (text, other) in ROWS {
-        assert!(rt; leaves(rt.alloc(), text, other)?, "{text}");
-    }
-    Ok(())
+    Ok(print(alloc, &left)?)
 }
 
 /// The names of a branch and of its two children.
 const NAMES: [&[u32]; 3] = [&[], &[0], &[1]];
 
-/// What proves the bound of a certificate's text, where the node at this place was left.
-fn proof_without(alloc: Global, text: &str, place: usize) -> Result<Option<Vec<u8>>, Fail> {
-    let i = one_message(alloc, PLAIN)?;
+/// What proves the bound of a certificate's text, where the node at this place was left. Nothing is written where
+/// that is missed.
+fn proof_without(alloc: Global, i: &Instance, text: &str, place: usize) -> Result<Vec<u8>, Fail> {
     let cert = read(alloc, text.as_bytes())?;
     let nodes = cert.nodes();
     let mut standing = Vec::new(alloc);
@@ -78,38 +53,51 @@ fn proof_without(alloc: Global, text: &str, place: usize) -> Result<Option<Vec<u
             node,
         })?;
     }
-    match proof_of(alloc, &i, cert.low(), standing, 1)? {
-        Some(proof) => Ok(Some(print(alloc, &proof)?)),
-        None => Ok(None),
+    match proof_of(alloc, i, cert.low(), standing, 1)? {
+        Some(proof) => Ok(print(alloc, &proof)?),
+        None => Ok(Vec::new(alloc)),
     }
 }
 
-/// Whether this proves the bound of a text whose node at a place was left.
-fn proves(alloc: Global, text: &str, place: usize, other: Option<&str>) -> Result<bool, Fail> {
-    Ok(match (proof_without(alloc, text, place)?, other) {
-        (Some(proof), Some(other)) => proof.as_slice() == other.as_bytes(),
-        (None, None) => true,
-        _ => false,
-    })
-}
+/// A certificate, the place of its node that was left, if any was, and the text of what comes of it.
+type Row = (&'static str, &'static str, Option<usize>, &'static str);
 
-/// Certificates, which node of theirs was left, and what proves the bound.
-const LEFT: &[(&str, usize, Option<&str>)] = &[
-    (TWO_RANGES, 1, Some(ONE_LEAF)),
-    (TWO_RANGES, 2, Some(ONE_LEAF)),
-    (SENT_EARLY, 1, None),
-    (SENT_EARLY, 2, Some(ONE_LEAF)),
-    (TWO_ORDERS, 1, None),
-    (ONE_LEAF, 0, None),
+const ROWS: &[Row] = &[
+    ("a leaf stays", ONE_LEAF, None, ONE_LEAF),
+    ("no step reads the rounds", TWO_RANGES, None, ONE_LEAF),
+    ("the first leaf doesn't", SENT_EARLY, None, ONE_LEAF),
+    ("each leaf reads the order", TWO_ORDERS, None, TWO_ORDERS),
+    (
+        "one of three branches is read",
+        ORDERS_AND_RANGES,
+        None,
+        TWO_ORDERS,
+    ),
+    ("the second proves it", TWO_RANGES, Some(1), ONE_LEAF),
+    ("the first proves it", TWO_RANGES, Some(2), ONE_LEAF),
+    ("the second one isn't enough", SENT_EARLY, Some(1), ""),
+    ("the first one is enough", SENT_EARLY, Some(2), ONE_LEAF),
+    ("both are needed", TWO_ORDERS, Some(1), ""),
+    ("nothing is there", ONE_LEAF, Some(0), ""),
 ];
 
+/// Whether this comes of a certificate.
+fn comes_of(alloc: Global, row: &Row) -> Result<bool, Fail> {
+    let (_what, text, place, wanted) = *row;
+    let i = one_message(alloc, PLAIN)?;
+    let found = match place {
+        None => left(alloc, &i, text)?,
+        Some(place) => proof_without(alloc, &i, text, place)?,
+    };
+    Ok(found.as_slice() == wanted.as_bytes())
+}
+
 #[test]
-fn subtrees_that_were_left_are_missed_where_they_are_needed(rt: HostRuntime) -> Result<(), Fail> {
-    for (text, place, other) in LEFT {
-        assert!(rt;
-            proves(rt.alloc(), text, *place, *other)?,
-            "{text} without {place}"
-        );
+fn branches_that_no_step_uses_go_and_subtrees_are_missed_where_they_are_needed(
+    rt: HostRuntime,
+) -> Result<(), Fail> {
+    for row in ROWS {
+        assert!(rt; comes_of(rt.alloc(), row)?, "{}", row.0);
     }
     Ok(())
 }

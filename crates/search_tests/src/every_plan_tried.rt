@@ -2,14 +2,16 @@
 
 ghost use Rattle.std.specs.Prelude.{◌<◌, ◌≤◌};
 
-use crate::answers::{Answer, solved};
+use crate::answers::{MANNERS, solved};
+use crate::instances::name;
 use exhaustive::least_delay;
+use planner::Options;
 use std::alloc::Global;
 use std::process::Abort;
 use std::sync::Wait;
 use std::test::Fail;
 use std::thread::Threads;
-use ttp_model::{Cluster, Instance, Link, Message, Name, Node, Numbers, Process};
+use ttp_model::{Cluster, Instance, Link, Message, Node, Numbers, Process};
 
 /// A linear congruence: numbers that look like chance, the same in each run.
 #[derive(Drop)]
@@ -60,6 +62,30 @@ struct Sizes {
     messages: u32,
 }
 
+const ONE_NODE: Sizes = Sizes {
+    nodes: 1,
+    processes: 3,
+    messages: 0,
+};
+
+const TWO_MESSAGES: Sizes = Sizes {
+    nodes: 2,
+    processes: 2,
+    messages: 2,
+};
+
+const THREE_PROCESSES: Sizes = Sizes {
+    nodes: 2,
+    processes: 3,
+    messages: 1,
+};
+
+const THREE_NODES: Sizes = Sizes {
+    nodes: 3,
+    processes: 2,
+    messages: 1,
+};
+
 fn cluster(draws: &mut Draws) -> Cluster {
     let precision = draws.seldom();
     Cluster {
@@ -72,11 +98,6 @@ fn cluster(draws: &mut Draws) -> Cluster {
         copy_in: draws.rarely(),
         horizon: 8 + draws.up_to(4),
     }
-}
-
-/// The name of a letter and a number.
-fn name(alloc: Global, letter: &str, number: u32) -> Result<Name, Fail> {
-    Ok(Name::new(format!(in alloc; "{letter}{number}")?))
 }
 
 /// One or two capacities of at most 3 bytes.
@@ -93,7 +114,7 @@ fn nodes(alloc: Global, draws: &mut Draws, count: u32) -> Result<Vec<Node>, Fail
     let mut nodes = Vec::new(alloc);
     for number in 0..count {
         nodes.push(Node {
-            name: name(alloc, "n", number)?,
+            name: name(alloc, "n", number as usize)?,
             capacities: capacities(alloc, draws)?,
         })?;
     }
@@ -110,7 +131,7 @@ fn process(alloc: Global, draws: &mut Draws, number: u32, nodes: u32) -> Result<
         _ => release + wcet + draws.up_to(3),
     };
     Ok(Process {
-        name: name(alloc, "p", number)?,
+        name: name(alloc, "p", number as usize)?,
         node,
         wcet,
         release,
@@ -192,8 +213,8 @@ fn messages(
         let receivers = followers(alloc, draws, processes, backwards, sender, false)?;
         if !receivers.is_empty() {
             messages.push(Message {
-                name: name(alloc, "m", number)?,
                 sender: u32::try_from(sender)?,
+                name: name(alloc, "m", number as usize)?,
                 receivers: Numbers::new(receivers),
                 bytes: 1 + draws.rarely(),
             })?;
@@ -220,83 +241,67 @@ fn instance(alloc: Global, sizes: Sizes, number: u32) -> Result<Instance, Fail> 
     Ok(Instance::build(alloc, cluster, nodes, processes, links, messages)?)
 }
 
-/// Whether an instance has a plan. Solved, it has to have the answer that trying every plan gives.
-fn compared<R: Abort + Threads + Wait + Sync>(
+/// One worker, and more subtrees than any of these instances has.
+const BUDGET: Options = Options {
+    workers: 1,
+    budget: 100_000,
+};
+
+/// The least delay of an instance, and whether it has that answer too where it is solved in both manners.
+fn compared<R: Threads + Wait + Sync>(
     rt: &R,
     alloc: Global,
     sizes: Sizes,
     number: u32,
-) -> Result<bool, Fail> {
+) -> Result<(Option<u64>, bool), Fail> {
     let instance = instance(alloc, sizes, number)?;
-    let delay = least_delay(alloc, &instance)?;
-    let wanted = Answer {
-        stopped: None,
-        low: delay.unwrap_or(u64::from(instance.past_horizon())),
-        delay,
-    };
-    let answer = solved(rt, alloc, &instance, 100_000)?;
-    assert_eq!(rt; answer, wanted, "instance {number}");
-    Ok(delay.is_some())
+    let least = least_delay(alloc, &instance)?;
+    let low = least.unwrap_or(u64::from(instance.past_horizon()));
+    let mut is_same = true;
+    for manner in MANNERS {
+        let answer = solved(rt, alloc, &instance, BUDGET, *manner)??;
+        is_same = is_same && answer.is_least(least) && answer.low == low;
+    }
+    Ok((least, is_same))
 }
 
-/// Compares this many instances, some of which have a plan and some have none.
+/// How many instances of each sizes there are.
+const INSTANCES: u32 = 40;
+
+/// Compares instances, some of which have a plan and some have none.
 fn compare<R: Abort + Threads + Wait + Sync>(
     rt: &R,
     alloc: Global,
     sizes: Sizes,
-    count: u32,
 ) -> Result<(), Fail> {
-    let (mut with, mut without) = (0u32, 0u32);
-    for number in 0..count {
-        if compared(rt, alloc, sizes, number)? {
+    let mut with = 0u32;
+    for number in 0..INSTANCES {
+        let (least, is_same) = compared(rt, alloc, sizes, number)?;
+        assert!(rt; is_same, "instance {number}");
+        if least.is_some() {
             with = with.saturating_add(1);
-        } else {
-            without = without.saturating_add(1);
         }
     }
-    assert!(rt;
-        with >= 10 && without >= 3,
-        "{with} with a plan, {without} without"
-    );
+    assert!(rt; with >= 10 && with <= INSTANCES - 3, "{with} with a plan");
     Ok(())
 }
 
 #[test]
 fn on_one_node_every_plan_was_thought_of(rt: HostRuntime) -> Result<(), Fail> {
-    let sizes = Sizes {
-        nodes: 1,
-        processes: 3,
-        messages: 0,
-    };
-    compare(&rt, rt.alloc(), sizes, 40)
+    compare(&rt, rt.alloc(), ONE_NODE)
 }
 
 #[test]
 fn with_two_messages_every_plan_was_thought_of(rt: HostRuntime) -> Result<(), Fail> {
-    let sizes = Sizes {
-        nodes: 2,
-        processes: 2,
-        messages: 2,
-    };
-    compare(&rt, rt.alloc(), sizes, 40)
+    compare(&rt, rt.alloc(), TWO_MESSAGES)
 }
 
 #[test]
 fn with_three_processes_every_plan_was_thought_of(rt: HostRuntime) -> Result<(), Fail> {
-    let sizes = Sizes {
-        nodes: 2,
-        processes: 3,
-        messages: 1,
-    };
-    compare(&rt, rt.alloc(), sizes, 40)
+    compare(&rt, rt.alloc(), THREE_PROCESSES)
 }
 
 #[test]
 fn on_three_nodes_every_plan_was_thought_of(rt: HostRuntime) -> Result<(), Fail> {
-    let sizes = Sizes {
-        nodes: 3,
-        processes: 2,
-        messages: 1,
-    };
-    compare(&rt, rt.alloc(), sizes, 40)
+    compare(&rt, rt.alloc(), THREE_NODES)
 }

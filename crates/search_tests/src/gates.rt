@@ -10,7 +10,7 @@ const TURNS: u32 = 20_000_000;
 
 /// A count that threads share.
 #[derive(Drop)]
-struct Count {
+pub struct Count {
     count: AtomicU64,
 }
 
@@ -26,28 +26,28 @@ impl Count {
         self.count.fetch_add(1, Ordering::SeqCst)
     }
 
-    fn get(&self) -> u64 {
+    pub fn get(&self) -> u64 {
         self.count.load(Ordering::SeqCst)
     }
 
-    /// Waits until there are so many: whether it came to that before the limit.
-    fn comes_to(&self, least: u64) -> bool {
+    /// Waits until there are so many; where the wait meets its limit, that is counted.
+    fn hold_until(&self, least: u64, limits_met: &Count) {
         let backoff = Backoff::new();
         for _turn in 0..TURNS {
             if least <= self.get() {
-                return true;
+                return;
             }
             backoff.snooze();
         }
-        false
+        limits_met.add();
     }
 }
 
 /// Counts the names that were left below each of the root's first two children, themselves too.
 #[derive(Drop)]
 pub struct LeftBelow {
-    first: Count,
-    second: Count,
+    pub first: Count,
+    pub second: Count,
 }
 
 impl LeftBelow {
@@ -56,10 +56,6 @@ impl LeftBelow {
             first: Count::new(),
             second: Count::new(),
         }
-    }
-
-    pub fn counts(&self) -> (u64, u64) {
-        (self.first.get(), self.second.get())
     }
 }
 
@@ -87,10 +83,12 @@ impl Gate for LeftBelow {
 pub struct InTurn {
     /// How many names there are below the first and the second child.
     names: (u64, u64),
-    left: LeftBelow,
+    /// The names that were left.
+    pub left: LeftBelow,
     root_left: Count,
     first_entered: Count,
-    limits_met: Count,
+    /// The waits that met their limit.
+    pub limits_met: Count,
 }
 
 impl InTurn {
@@ -103,28 +101,12 @@ impl InTurn {
             limits_met: Count::new(),
         }
     }
-
-    /// How many waits met their limit.
-    pub fn limits_met(&self) -> u64 {
-        self.limits_met.get()
-    }
-
-    /// How many names were left below the first and the second child.
-    pub fn names_left(&self) -> (u64, u64) {
-        self.left.counts()
-    }
-
-    fn hold_until(&self, count: &Count, least: u64) {
-        if !count.comes_to(least) {
-            self.limits_met.add();
-        }
-    }
 }
 
 impl Gate for InTurn {
     fn start(&self, worker: usize) {
         if worker == 1 {
-            self.hold_until(&self.root_left, 1);
+            self.root_left.hold_until(1, &self.limits_met);
         }
     }
 
@@ -132,9 +114,9 @@ impl Gate for InTurn {
         match name.as_slice() {
             [0] => {
                 self.first_entered.add();
-                self.hold_until(&self.left.second, self.names.1);
+                self.left.second.hold_until(self.names.1, &self.limits_met);
             }
-            [1] => self.hold_until(&self.first_entered, 1),
+            [1] => self.first_entered.hold_until(1, &self.limits_met),
             _ => {}
         }
     }
@@ -146,7 +128,7 @@ impl Gate for InTurn {
                 self.root_left.add();
             }
             Some(1) if self.left.second.get() == self.names.1 => {
-                self.hold_until(&self.left.first, self.names.0);
+                self.left.first.hold_until(self.names.0, &self.limits_met);
             }
             _ => {}
         }
@@ -159,9 +141,11 @@ impl Gate for InTurn {
 pub struct Meeting {
     root_left: Count,
     children_entered: Count,
-    left_by_first: Count,
-    left_by_second: Count,
-    limits_met: Count,
+    /// The children of the root that each worker left.
+    pub left_by_first: Count,
+    pub left_by_second: Count,
+    /// The waits that met their limit.
+    pub limits_met: Count,
 }
 
 impl Meeting {
@@ -172,22 +156,6 @@ impl Meeting {
             left_by_first: Count::new(),
             left_by_second: Count::new(),
             limits_met: Count::new(),
-        }
-    }
-
-    /// How many children of the root each worker left.
-    pub fn children_left(&self) -> (u64, u64) {
-        (self.left_by_first.get(), self.left_by_second.get())
-    }
-
-    /// How many waits met their limit.
-    pub fn limits_met(&self) -> u64 {
-        self.limits_met.get()
-    }
-
-    fn hold_until(&self, count: &Count) {
-        if !count.comes_to(1) {
-            self.limits_met.add();
         }
     }
 
@@ -204,14 +172,14 @@ impl Meeting {
 impl Gate for Meeting {
     fn start(&self, worker: usize) {
         if worker == 1 {
-            self.hold_until(&self.root_left);
+            self.root_left.hold_until(1, &self.limits_met);
         }
     }
 
     fn enter(&self, worker: usize, name: &Name) {
         if name.as_slice().len() == 1 && self.children_entered.add() == 0 {
             let (_own, other) = self.left_by(worker);
-            self.hold_until(other);
+            other.hold_until(1, &self.limits_met);
         }
     }
 

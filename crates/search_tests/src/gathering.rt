@@ -11,7 +11,7 @@ use std::test::Fail;
 use ttp_model::{Kind, Leaf, Steps};
 
 /// What stands at a name.
-#[derive(Clone, Copy, Debug)]
+#[derive(Clone, Copy)]
 enum Part {
     /// A branch with so many children.
     Place(u32),
@@ -43,8 +43,11 @@ fn name(alloc: Global, way: &[u32]) -> Result<Name, Fail> {
     Ok(name)
 }
 
+/// Ways from the root, and what stands at their ends.
+type Parts = &'static [(&'static [u32], Part)];
+
 /// What stands at the ends of these ways.
-fn pieces(alloc: Global, parts: &[(&[u32], Part)]) -> Result<Vec<Piece>, Fail> {
+fn pieces(alloc: Global, parts: Parts) -> Result<Vec<Piece>, Fail> {
     let mut pieces = Vec::new(alloc);
     for (way, part) in parts {
         let name = name(alloc, way)?;
@@ -73,64 +76,60 @@ fn are_shallow(pieces: &[Piece]) -> bool
     true
 }
 
-/// The text of what these parts gather to, or their fault. No test has a name that is too long.
-fn gathered(
+/// Whether parts gather to this text, or have this fault. No test has a name that is too long.
+fn gathers(
     alloc: Global,
-    parts: &[(&[u32], Part)],
+    parts: Parts,
     low: u32,
-) -> Result<Result<String, GatherFault>, Fail> {
+    wanted: Result<&str, GatherFault>,
+) -> Result<bool, Fail> {
     let pieces = pieces(alloc, parts)?;
     if !are_shallow(pieces.as_slice()) {
-        return Err(GatherFault::StrayName.into());
+        return Ok(false);
     }
-    match gather(alloc, pieces, low) {
-        Ok(cert) => Ok(Ok(String::from_utf8(print(alloc, &cert)?)?)),
-        Err(GatherFault::OutOfMemory) => Err(GatherFault::OutOfMemory.into()),
-        Err(fault) => Ok(Err(fault)),
+    match (gather(alloc, pieces, low), wanted) {
+        (Ok(cert), Ok(text)) => Ok(print(alloc, &cert)?.as_slice() == text.as_bytes()),
+        (Err(GatherFault::OutOfMemory), _) => Err(GatherFault::OutOfMemory.into()),
+        (Err(fault), Err(wanted)) => Ok(fault == wanted),
+        _ => Ok(false),
     }
 }
 
-/// Whether these parts gather to this text.
-fn is_text(alloc: Global, parts: &[(&[u32], Part)], low: u32, wanted: &str) -> Result<bool, Fail> {
-    match gathered(alloc, parts, low)? {
-        Ok(text) => Ok(text.as_str() == wanted),
-        Err(_fault) => Ok(false),
-    }
-}
+/// Parts that are a tree, the bound that its leaves are at, and the text.
+const TREES: &[(Parts, u32, &str)] = &[
+    (&[(&[], Part::Leaf(9))], 7, "ttcert 1\nlow 7\nleaf 9 0\n"),
+    (
+        &[
+            (&[1, 0], Part::Leaf(11)),
+            (&[2], Part::Leaf(10)),
+            (&[1], Part::Pair(4, 3)),
+            (&[0], Part::Leaf(9)),
+            (&[], Part::Place(3)),
+            (&[1, 1], Part::Leaf(12)),
+        ],
+        9,
+        "ttcert 1\nlow 9\nplace 3\nleaf 9 0\npair 4 3\nleaf 11 0\nleaf 12 0\nleaf 10 0\n",
+    ),
+    (&[(&[], Part::Place(0))], 9, "ttcert 1\nlow 9\nplace 0\n"),
+];
 
 #[test]
 fn a_tree_may_stand_in_any_order(rt: HostRuntime) -> Result<(), Fail> {
-    let alone: [(&[u32], Part); 1] = [(&[], Part::Leaf(9))];
-    let unsorted: [(&[u32], Part); 6] = [
-        (&[1, 0], Part::Leaf(11)),
-        (&[2], Part::Leaf(10)),
-        (&[1], Part::Pair(4, 3)),
-        (&[0], Part::Leaf(9)),
-        (&[], Part::Place(3)),
-        (&[1, 1], Part::Leaf(12)),
-    ];
-    let childless: [(&[u32], Part); 1] = [(&[], Part::Place(0))];
-    for (parts, low, text) in [
-        (alone.as_slice(), 7, "ttcert 1\nlow 7\nleaf 9 0\n"),
-        (
-            unsorted.as_slice(),
-            9,
-            "ttcert 1\nlow 9\nplace 3\nleaf 9 0\npair 4 3\nleaf 11 0\nleaf 12 0\nleaf 10 0\n",
-        ),
-        (childless.as_slice(), 9, "ttcert 1\nlow 9\nplace 0\n"),
-    ] {
-        assert!(rt; is_text(rt.alloc(), parts, low, text)?, "{parts:?}");
+    for (parts, low, text) in TREES {
+        assert!(rt; gathers(rt.alloc(), parts, *low, Ok(text))?, "{text}");
     }
     Ok(())
 }
 
-/// What is first wrong with these parts, for a bound of 9.
-const FAULTS: [(GatherFault, &[(&[u32], Part)]); 14] = [
+/// What is first wrong with parts, for a bound of 9.
+const FAULTS: &[(&str, GatherFault, Parts)] = &[
     (
+        "the root twice",
         GatherFault::DoubledName,
         &[(&[], Part::Leaf(9)), (&[], Part::Leaf(9))],
     ),
     (
+        "a child twice",
         GatherFault::DoubledName,
         &[
             (&[0], Part::Leaf(9)),
@@ -139,16 +138,19 @@ const FAULTS: [(GatherFault, &[(&[u32], Part)]); 14] = [
             (&[0], Part::Leaf(10)),
         ],
     ),
-    (GatherFault::MissingName, &[]),
+    ("nothing", GatherFault::MissingName, &[]),
     (
+        "the last child",
         GatherFault::MissingName,
         &[(&[], Part::Place(2)), (&[0], Part::Leaf(9))],
     ),
     (
+        "the first child",
         GatherFault::MissingName,
         &[(&[], Part::Place(2)), (&[1], Part::Leaf(9))],
     ),
     (
+        "the second child of a pair",
         GatherFault::MissingName,
         &[
             (&[], Part::Place(1)),
@@ -157,10 +159,12 @@ const FAULTS: [(GatherFault, &[(&[u32], Part)]); 14] = [
         ],
     ),
     (
+        "the greatest count of children",
         GatherFault::MissingName,
         &[(&[], Part::Place(4_294_967_295))],
     ),
     (
+        "a child too many",
         GatherFault::StrayName,
         &[
             (&[], Part::Place(1)),
@@ -169,14 +173,17 @@ const FAULTS: [(GatherFault, &[(&[u32], Part)]); 14] = [
         ],
     ),
     (
+        "a child of a leaf",
         GatherFault::StrayName,
         &[(&[], Part::Leaf(9)), (&[0], Part::Leaf(9))],
     ),
     (
+        "far below a leaf",
         GatherFault::StrayName,
         &[(&[], Part::Leaf(9)), (&[7, 7, 7], Part::Leaf(9))],
     ),
     (
+        "a leaf below the bound",
         GatherFault::LowGoal,
         &[
             (&[], Part::Place(2)),
@@ -185,11 +192,17 @@ const FAULTS: [(GatherFault, &[(&[u32], Part)]); 14] = [
         ],
     ),
     (
+        "doubled goes before all others",
         GatherFault::DoubledName,
         &[(&[3], Part::Leaf(8)), (&[3], Part::Leaf(8))],
     ),
-    (GatherFault::MissingName, &[(&[3], Part::Leaf(8))]),
     (
+        "missing goes before stray and low",
+        GatherFault::MissingName,
+        &[(&[3], Part::Leaf(8))],
+    ),
+    (
+        "stray goes before low",
         GatherFault::StrayName,
         &[(&[], Part::Leaf(8)), (&[3], Part::Leaf(8))],
     ),
@@ -197,12 +210,8 @@ const FAULTS: [(GatherFault, &[(&[u32], Part)]); 14] = [
 
 #[test]
 fn the_first_fault_is_told(rt: HostRuntime) -> Result<(), Fail> {
-    for (fault, parts) in FAULTS {
-        assert_eq!(rt;
-            gathered(rt.alloc(), parts, 9)?.err(),
-            Some(fault),
-            "{parts:?}"
-        );
+    for (what, fault, parts) in FAULTS {
+        assert!(rt; gathers(rt.alloc(), parts, 9, Err(*fault))?, "{what}");
     }
     Ok(())
 }

@@ -30,7 +30,6 @@ mod refusals;
 #[cfg(test)]
 mod searches;
 #[cfg(test)]
-#[cfg(test)]
 mod subtrees;
 #[cfg(test)]
 mod two_workers;

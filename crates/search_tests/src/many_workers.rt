@@ -1,32 +1,38 @@
-//! Searches by many workers.
+//! Searches by one worker, and by many.
 
-use crate::answers::{Answer, solved_by};
-use crate::instances::{LEAST_DELAYS, Sample};
-use planner::{Options, Why};
+use crate::answers::{MANNERS, solved_sample};
+use crate::instances::{LEAST_DELAYS, ONE_MESSAGE, TWO_RECEIVERS};
+use planner::{Manner, Options, Why};
 use std::alloc::Global;
+use std::process::Abort;
 use std::sync::Wait;
 use std::test::Fail;
 use std::thread::Threads;
 
-/// The answer for an instance that is named, by so many workers with this budget.
-fn solved_sample<R: Threads + Wait + Sync>(
+/// So many workers find the least delays.
+fn find_least<R: Abort + Threads + Wait + Sync>(
     rt: &R,
     alloc: Global,
-    sample: Sample,
     workers: u32,
-    budget: u64,
-) -> Result<Answer, Fail> {
-    let instance = sample.build(alloc)?;
-    solved_by(rt, alloc, &instance, Options { workers, budget })
+    manner: Manner,
+) -> Result<(), Fail> {
+    let budget = 1_000;
+    for (sample, least) in LEAST_DELAYS {
+        let answer = solved_sample(rt, alloc, sample, Options { workers, budget }, manner)?;
+        assert!(rt;
+            answer.is_least(*least),
+            "{} by {workers}, {manner:?}",
+            sample.name
+        );
+    }
+    Ok(())
 }
 
 #[test]
 fn many_workers_find_the_least_delay(rt: HostRuntime) -> Result<(), Fail> {
-    for workers in [1, 2, 3, 16] {
-        for (sample, least) in LEAST_DELAYS {
-            let answer = solved_sample(&rt, rt.alloc(), sample, workers, 1_000)?;
-            assert_eq!(rt; answer.delay, least, "{sample:?} by {workers}");
-            assert!(rt; answer.stopped.is_none(), "{sample:?} by {workers}");
+    for workers in &[1, 2, 3, 16] {
+        for manner in MANNERS {
+            find_least(&rt, rt.alloc(), *workers, *manner)?;
         }
     }
     Ok(())
@@ -37,33 +43,38 @@ const ROUNDS: u32 = 10;
 
 #[test]
 fn sixteen_workers_always_find_the_same_delay(rt: HostRuntime) -> Result<(), Fail> {
-    for round in 0..ROUNDS {
-        for (sample, least) in LEAST_DELAYS {
-            let answer = solved_sample(&rt, rt.alloc(), sample, 16, 1_000)?;
-            assert_eq!(rt; answer.delay, least, "{sample:?} in round {round}");
-        }
+    for _ in 0..ROUNDS {
+        find_least(&rt, rt.alloc(), 16, Manner::Sparing)?;
     }
     Ok(())
 }
 
+/// Whether so many workers without a budget answer the path bound and no plan.
+fn leave_path_bound<R: Threads + Wait + Sync>(
+    rt: &R,
+    alloc: Global,
+    workers: u32,
+) -> Result<bool, Fail> {
+    let options = Options { workers, budget: 0 };
+    let answer = solved_sample(rt, alloc, &ONE_MESSAGE, options, Manner::Plain)?;
+    Ok(answer.stopped == Some(Why::Budget) && matches!(answer.low, 8 | 9) && answer.delay.is_none())
+}
+
 #[test]
 fn workers_without_a_budget_leave_the_path_bound(rt: HostRuntime) -> Result<(), Fail> {
-    for workers in [1, 2, 16] {
-        let answer = solved_sample(&rt, rt.alloc(), Sample::OneMessage(100), workers, 0)?;
-        assert_eq!(rt; answer.stopped, Some(Why::Budget));
-        assert!(rt; matches!(answer.low, 8 | 9) && answer.delay.is_none());
+    for workers in &[1, 2, 16] {
+        assert!(rt; leave_path_bound(&rt, rt.alloc(), *workers)?, "{workers}");
     }
     Ok(())
 }
 
 #[test]
 fn each_budget_of_three_workers_bounds_two_messages(rt: HostRuntime) -> Result<(), Fail> {
+    let workers = 3;
     for budget in 0..60 {
-        let answer = solved_sample(&rt, rt.alloc(), Sample::TwoReceivers, 3, budget)?;
-        assert!(rt; answer.low <= 8, "budget {budget}: {answer:?}");
-        if let Some(delay) = answer.delay {
-            assert!(rt; 8 <= delay, "budget {budget}: {answer:?}");
-        }
+        let options = Options { workers, budget };
+        let answer = solved_sample(&rt, rt.alloc(), &TWO_RECEIVERS, options, Manner::Sparing)?;
+        assert!(rt; answer.is_right(8, Why::Budget), "budget {budget}");
     }
     Ok(())
 }

@@ -3,11 +3,12 @@
 ghost use Rattle.std.specs.Prelude.{◌≡◌, All, IfOk};
 ghost use Rattle.branch_tree.specs.Task.{IsTask};
 
-use crate::instances::Sample;
+use crate::instances::ONE_MESSAGE;
 use branch_tree::{Piece, Task, Worked, work};
 use certificate::Node;
 use incumbent::Incumbent;
-use pool_worker::{FreeGate, run_worker};
+use planner::Manner;
+use pool_worker::{FreeGate, Report, run_worker, run_worker_in};
 use std::alloc::Global;
 use std::marker::Brand;
 use std::test::Fail;
@@ -24,12 +25,6 @@ fn word_of_two(alloc: Global) -> Result<(u32, u32, u32), MemoryFault> {
     let told = word.offer(&mut second, 12);
     word.join(&mut first, second);
     Ok((seen, told, word.close(first)))
-}
-
-#[test]
-fn a_watch_sees_what_another_one_offered(rt: HostRuntime) -> Result<(), Fail> {
-    assert_eq!(rt; word_of_two(rt.alloc())?, (9, 9, 9));
-    Ok(())
 }
 
 /// The root's children, in order.
@@ -62,11 +57,9 @@ fn taken_child<J: Searched>(hand: &mut Hand<J>) -> Option<u32> {
     task.name().as_slice().last().copied()
 }
 
-/// Which children of the root the second hand of two takes, and then the first one, which has pushed them.
-fn taken_by_two<J: Searched>(
-    alloc: Global,
-    instance: &Instance,
-) -> Result<(Option<u32>, Option<u32>), Fail>
+/// Whether of two hands, the first of which has pushed the root's children, the second one takes child 0, and then the
+/// first one child 1.
+fn take_in_turn<J: Searched>(alloc: Global, instance: &Instance) -> Result<bool, Fail>
     requires { instance.now ≡ J.instance }
 {
     let mut hands = pool::<J>(alloc, instance, 2)?;
@@ -75,24 +68,14 @@ fn taken_by_two<J: Searched>(
     };
     let (mut first, mut second) = (first, second);
     push_all(&mut first, children(alloc, instance)?)?;
-    let stolen = taken_child(&mut second);
-    Ok((stolen, taken_child(&mut first)))
+    Ok(taken_child(&mut second) == Some(0) && taken_child(&mut first) == Some(1))
 }
 
 #[test]
 fn a_hand_takes_the_oldest_task_of_another_one(rt: HostRuntime) -> Result<(), Fail> {
-    let instance = Sample::OneMessage(100).build(rt.alloc())?;
-    let taken = taken_by_two::<Brand>(rt.alloc(), &instance)?;
-    assert_eq!(rt; taken, (Some(0), Some(1)));
+    let instance = ONE_MESSAGE.build(rt.alloc())?;
+    assert!(rt; take_in_turn::<Brand>(rt.alloc(), &instance)?);
     Ok(())
-}
-
-/// Whether a piece is a branch, or a leaf at this goal.
-fn has_goal(piece: &Piece, goal: u32) -> bool {
-    match &piece.node {
-        Node::Branch(_) => true,
-        Node::Leaf(leaf) => leaf.goal == goal,
-    }
 }
 
 /// A hand of a pool of one, which has the whole tree.
@@ -108,26 +91,55 @@ pub fn lone_hand<J: Searched>(alloc: Global, instance: &Instance) -> Result<Hand
     }
 }
 
+/// What a worker alone comes to in this manner, where another watch has offered this. The instance is small, so that it works
+/// plainly by itself.
+pub fn lone_report<J: Searched>(
+    alloc: Global,
+    instance: &Instance,
+    offer: u32,
+    manner: Manner,
+) -> Result<Report<J>, Fail>
+    requires { instance.now ≡ J.instance }
+{
+    let hand = lone_hand::<J>(alloc, instance)?;
+    let (word, opening) = Incumbent::begin(alloc, instance.past_horizon())?;
+    let mut first = opening;
+    let second = word.split(alloc, &mut first)?;
+    word.offer(&mut first, offer);
+    let budget = 1_000_000;
+    Ok(match manner {
+        Manner::Plain => run_worker(alloc, instance, hand, &word, second, budget, 1, &FreeGate),
+        Manner::Sparing => run_worker_in(
+            alloc, instance, hand, &word, second, budget, 1, manner, &FreeGate,
+        ),
+    })
+}
+
+/// Whether each leaf of these pieces is at this goal.
+fn are_at(pieces: &[Piece], goal: u32) -> bool {
+    for piece in pieces {
+        if let Node::Leaf(leaf) = &piece.node {
+            if leaf.goal != goal {
+                return false;
+            }
+        }
+    }
+    true
+}
+
 /// Whether a worker works at what another watch has offered: it finds no plan, and each leaf is at that goal.
 fn works_at_offer<J: Searched>(alloc: Global, instance: &Instance, offer: u32) -> Result<bool, Fail>
     requires { instance.now ≡ J.instance }
 {
-    let (word, opening) = Incumbent::begin(alloc, instance.past_horizon())?;
-    let mut opening = opening;
-    let mut first = word.split(alloc, &mut opening)?;
-    let second = word.split(alloc, &mut opening)?;
-    word.offer(&mut first, offer);
-    let hand = lone_hand::<J>(alloc, instance)?;
-    let report = run_worker(
-        alloc, instance, hand, &word, second, 1_000_000, 1, &FreeGate,
-    );
-    let pieces = report.pieces.as_slice();
-    Ok(report.best.is_none() && pieces.iter().all(|piece| has_goal(piece, offer)))
+    let report = lone_report::<J>(alloc, instance, offer, Manner::Plain)?;
+    Ok(report.best.is_none() && are_at(report.pieces.as_slice(), offer))
 }
 
+/// By a watch, and by a worker.
 #[test]
 fn word_seen(rt: HostRuntime) -> Result<(), Fail> {
-    let instance = Sample::OneMessage(100).build(rt.alloc())?;
+    assert!(rt; word_of_two(rt.alloc())? == (9, 9, 9));
+    let instance = ONE_MESSAGE.build(rt.alloc())?;
     assert!(rt; works_at_offer::<Brand>(rt.alloc(), &instance, 9)?);
     Ok(())
 }

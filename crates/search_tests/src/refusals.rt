@@ -2,13 +2,12 @@
 
 ghost use Rattle.std.specs.Prelude.{◌≡◌};
 
-use crate::answers::read;
-use crate::instances::Sample;
-use crate::one_thread::lone_hand;
+use crate::answers::{MANNERS, solved};
+use crate::instances::TWO_RECEIVERS;
+use crate::one_thread::lone_report;
 use branch_tree::Piece;
-use incumbent::Incumbent;
-use planner::{Options, SolveFault, Why, solve};
-use pool_worker::{Ending, FreeGate, Report, Rest, run_worker};
+use planner::{Manner, Options, SolveFault, Why};
+use pool_worker::{Ending, Report, Rest};
 use std::alloc::Global;
 use std::marker::Brand;
 use std::sync::Wait;
@@ -23,11 +22,12 @@ fn survives_refusals<R: Threads + Wait + Sync>(
     alloc: Global,
     instance: &Instance,
     workers: u32,
+    manner: Manner,
 ) -> Result<bool, Fail> {
     let budget = 1_000;
-    match solve(rt, alloc, instance, Options { workers, budget }) {
-        Ok(outcome) => Ok(read(alloc, instance, &outcome)?.is_right(8, Why::Memory)),
-        Err(fault) => Ok(matches!(fault, SolveFault::Memory | SolveFault::Thread)),
+    match solved(rt, alloc, instance, Options { workers, budget }, manner)? {
+        Ok(answer) => Ok(answer.is_right(8, Why::Memory)),
+        Err(SolveFault::Memory | SolveFault::Thread) => Ok(true),
     }
 }
 
@@ -35,12 +35,11 @@ fn survives_refusals<R: Threads + Wait + Sync>(
 /// refusal is told.
 #[test]
 fn refused_in_turn(rt: HostRuntime) -> Result<(), Fail> {
-    let instance = Sample::TwoReceivers.build(rt.alloc())?;
-    for workers in [1, 2] {
-        assert!(rt;
-            survives_refusals(&rt, rt.alloc(), &instance, workers)?,
-            "{workers}"
-        );
+    let instance = TWO_RECEIVERS.build(rt.alloc())?;
+    for workers in &[1, 2] {
+        for manner in MANNERS {
+            assert!(rt; survives_refusals(&rt, rt.alloc(), &instance, *workers, *manner)?);
+        }
     }
     Ok(())
 }
@@ -75,30 +74,34 @@ fn held(rest: &Rest) -> u64 {
 
 /// Whether what a lone worker did, spared, had in hand and left is the root and all children of its branches, and only want of
 /// memory left any.
-fn accounts_for_all<J: Searched>(report: Report<J>) -> bool {
-    let mut hand = report.hand;
-    let open = held(&report.rest).saturating_add(left(&mut hand));
+fn accounts_for_all<J: Searched>(report: &mut Report<J>) -> bool {
+    let open = held(&report.rest).saturating_add(left(&mut report.hand));
     let pieces = report.pieces.as_slice();
     let all = ((pieces.len() + report.spared.len()) as u64).saturating_add(open);
     all == children(pieces).saturating_add(1) && (open == 0 || report.ending == Ending::Memory)
 }
 
 /// Whether a lone worker accounts for each task.
-fn keeps_account<J: Searched>(alloc: Global, instance: &Instance) -> Result<bool, Fail>
+fn keeps_account<J: Searched>(
+    alloc: Global,
+    instance: &Instance,
+    manner: Manner,
+) -> Result<bool, Fail>
     requires { instance.now ≡ J.instance }
 {
-    let (word, opening) = Incumbent::begin(alloc, instance.past_horizon())?;
-    let mut opening = opening;
-    let watch = word.split(alloc, &mut opening)?;
-    let hand = lone_hand::<J>(alloc, instance)?;
-    let report = run_worker(alloc, instance, hand, &word, watch, 1_000, 1, &FreeGate);
-    Ok(accounts_for_all(report))
+    let mut report = lone_report::<J>(alloc, instance, instance.past_horizon(), manner)?;
+    Ok(accounts_for_all(&mut report))
 }
 
 /// Run with each allocation refused in turn: no task is lost by a worker that ends.
 #[test]
 fn worker_refused_in_turn(rt: HostRuntime) -> Result<(), Fail> {
-    let instance = Sample::TwoReceivers.build(rt.alloc())?;
-    assert!(rt; keeps_account::<Brand>(rt.alloc(), &instance)?);
+    let instance = TWO_RECEIVERS.build(rt.alloc())?;
+    for manner in MANNERS {
+        assert!(rt;
+            keeps_account::<Brand>(rt.alloc(), &instance, *manner)?,
+            "{manner:?}"
+        );
+    }
     Ok(())
 }

@@ -4,8 +4,8 @@ ghost use Rattle.std.specs.Prelude.{All, IfOk, OnOk};
 ghost use Rattle.branch_tree.specs.Task.{IsTask};
 ghost use Rattle.branch_tree.specs.Work.{IsWorked};
 
-use crate::instances::{LEAST_DELAYS, Sample};
-use branch_tree::{Piece, Task, Worked, close_left, work};
+use crate::instances::{ALONE, LEAST_DELAYS, NO_FRAME, ONE_MESSAGE, SHORT_RECEIVER, Sample};
+use branch_tree::{Task, Worked, close_left, work};
 use certificate::Node;
 use std::alloc::Global;
 use std::test::Fail;
@@ -86,77 +86,126 @@ fn begun(alloc: Global, instance: &Instance, turns: u32) -> Result<Tree, Fail> {
 /// More turns than any of these trees needs.
 const ALL_TURNS: u32 = 10_000;
 
-/// The tree of an instance after so many turns.
-fn tree_of(alloc: Global, sample: Sample, turns: u32) -> Result<Tree, Fail> {
+/// A process of 1 tick, whose slot carries 2 or 3 bytes, sends so many messages of 1 byte to one of 1 tick.
+macro_rules! many_messages {
+    ($count:literal) => {
+        Sample {
+            name: "so many messages",
+            nodes: &[&[2, 3], &[0]],
+            messages: &[(0, 1, 1); $count],
+            ..SHORT_RECEIVER
+        }
+    };
+}
+
+/// What a tree is like.
+#[derive(Clone, Copy)]
+enum Like {
+    /// It has found this least delay.
+    Least(Option<u64>),
+    /// Its branches are these, in the order worked.
+    Branches(&'static [Kind]),
+    /// Its leaves are at these goals, in the order worked.
+    Goals(&'static [u32]),
+    /// All of its leaves are at this goal.
+    AllAt(u32),
+}
+
+fn are_all(goals: &[u32], goal: u32) -> bool {
+    for other in goals {
+        if *other != goal {
+            return false;
+        }
+    }
+    true
+}
+
+impl Like {
+    fn is_of(self, tree: &Tree) -> bool {
+        match self {
+            Like::Least(least) => tree.least == least,
+            Like::Branches(kinds) => tree.branches.as_slice() == kinds,
+            Like::Goals(goals) => tree.goals.as_slice() == goals,
+            Like::AllAt(goal) => are_all(tree.goals.as_slice(), goal),
+        }
+    }
+}
+
+/// Instances, and what their trees are like after so many turns.
+const TREES: &[(&str, Sample, u32, Like)] = &[
+    (
+        "the layout first",
+        ONE_MESSAGE,
+        1,
+        Like::Branches(&[Kind::Place]),
+    ),
+    (
+        "a process alone",
+        ALONE,
+        ALL_TURNS,
+        Like::Branches(&[Kind::Place, Kind::Cap(0)]),
+    ),
+    (
+        "nineteen messages",
+        many_messages!(19),
+        2,
+        Like::Branches(&[Kind::Place, Kind::Cap(0)]),
+    ),
+    (
+        "empty halves of rounds are ruled out before the layout from twenty messages on",
+        many_messages!(20),
+        2,
+        Like::Branches(&[Kind::Place, Kind::Round(0, 49)]),
+    ),
+    ("a leaf", ALONE, ALL_TURNS, Like::Goals(&[7])),
+    ("no plan", NO_FRAME, ALL_TURNS, Like::AllAt(101)),
+];
+
+/// Whether the tree of an instance after so many turns is like this.
+fn is_like(alloc: Global, sample: &Sample, turns: u32, like: Like) -> Result<bool, Fail> {
     let instance = sample.build(alloc)?;
-    begun(alloc, &instance, turns)
+    Ok(like.is_of(&begun(alloc, &instance, turns)?))
 }
 
 #[test]
 fn trees_lead_to_the_least_delay(rt: HostRuntime) -> Result<(), Fail> {
     for (sample, least) in LEAST_DELAYS {
-        let tree = tree_of(rt.alloc(), sample, ALL_TURNS)?;
-        assert_eq!(rt; tree.least, least, "{sample:?}");
-    }
-    Ok(())
-}
-
-/// Empty halves of rounds are ruled out before the layout where there are twenty messages.
-#[test]
-fn branches_come_in_this_order(rt: HostRuntime) -> Result<(), Fail> {
-    for (sample, turns, branches) in [
-        (Sample::OneMessage(100), 1, [Kind::Place].as_slice()),
-        (
-            Sample::Alone,
-            ALL_TURNS,
-            [Kind::Place, Kind::Cap(0)].as_slice(),
-        ),
-        (
-            Sample::ManyMessages(19),
-            2,
-            [Kind::Place, Kind::Cap(0)].as_slice(),
-        ),
-        (
-            Sample::ManyMessages(20),
-            2,
-            [Kind::Place, Kind::Round(0, 49)].as_slice(),
-        ),
-    ] {
-        let tree = tree_of(rt.alloc(), sample, turns)?;
-        assert_eq!(rt; tree.branches.as_slice(), branches, "{sample:?}");
+        let leads = is_like(rt.alloc(), sample, ALL_TURNS, Like::Least(*least))?;
+        assert!(rt; leads, "{}", sample.name);
     }
     Ok(())
 }
 
 #[test]
-fn leaves_are_at_the_goal(rt: HostRuntime) -> Result<(), Fail> {
-    let alone = tree_of(rt.alloc(), Sample::Alone, ALL_TURNS)?;
-    assert_eq!(rt; alone.goals.as_slice(), [7].as_slice());
-    let none = tree_of(rt.alloc(), Sample::NoFrame, ALL_TURNS)?;
-    assert!(rt; none.goals.as_slice().iter().all(|goal| *goal == 101));
+fn branches_come_in_this_order_and_leaves_are_at_the_goal(rt: HostRuntime) -> Result<(), Fail> {
+    for (what, sample, turns, like) in TREES {
+        assert!(rt; is_like(rt.alloc(), sample, *turns, *like)?, "{what}");
+    }
     Ok(())
 }
 
-/// The goal of a leaf.
-fn leaf_goal(piece: &Piece) -> Option<u32> {
-    match &piece.node {
-        Node::Leaf(leaf) => Some(leaf.goal),
-        _ => None,
-    }
-}
-
-/// The goal of the leaf that the whole tree of one message is closed by.
-fn closed_goal(alloc: Global, top: u32) -> Result<Option<u32>, Fail> {
-    let instance = Sample::OneMessage(100).build(alloc)?;
-    match close_left(alloc, &instance, Task::root(alloc, &instance)?, top) {
-        Ok(piece) => Ok(leaf_goal(&piece)),
+/// Whether what is left of an instance, all of it, is closed at one of these goals.
+fn is_closed_at(
+    alloc: Global,
+    instance: &Instance,
+    top: u32,
+    goals: [u32; 2],
+) -> Result<bool, Fail> {
+    let root = Task::root(alloc, instance)?;
+    match close_left(alloc, instance, root, top) {
+        Ok(piece) => Ok(match &piece.node {
+            Node::Leaf(leaf) => leaf.goal == goals[0] || leaf.goal == goals[1],
+            Node::Branch(_) => false,
+        }),
         Err((_task, fault)) => Err(Fail::from(fault)),
     }
 }
 
 #[test]
 fn what_is_left_is_closed_at_the_path_bound_at_least(rt: HostRuntime) -> Result<(), Fail> {
-    assert!(rt; matches!(closed_goal(rt.alloc(), 101)?, Some(8 | 9)));
-    assert_eq!(rt; closed_goal(rt.alloc(), 5)?, Some(5));
+    let instance = ONE_MESSAGE.build(rt.alloc())?;
+    for (top, goals) in &[(101, [8, 9]), (5, [5, 5])] {
+        assert!(rt; is_closed_at(rt.alloc(), &instance, *top, *goals)?, "{top}");
+    }
     Ok(())
 }

@@ -1,10 +1,10 @@
 //! Two workers whom a gate holds up, so that it is known what the one has done when the other goes on.
 
-use crate::answers::{options, read};
+use crate::answers::read;
 use crate::gates::{InTurn, LeftBelow, Meeting};
-use crate::instances::Sample;
+use crate::instances::{ONE_MESSAGE, SHORT_RECEIVER, Sample};
 use certificate::{Cert, Node};
-use planner::{Options, Outcome, solve_with};
+use planner::{Gate, Options, Outcome, solve_with};
 use std::alloc::Global;
 use std::sync::Wait;
 use std::test::Fail;
@@ -13,45 +13,60 @@ use std::thread::Threads;
 /// More subtrees than there are below one message.
 const BUDGET: u64 = 1_000;
 
+const ONE: Options = Options {
+    workers: 1,
+    budget: BUDGET,
+};
+
 const TWO: Options = Options {
     workers: 2,
     budget: BUDGET,
 };
 
-/// What two workers came to who met below the root.
-#[derive(Clone, Copy, Debug, PartialEq, Eq)]
-struct Met {
-    delay: Option<u64>,
-    /// How many children of the root each of them left.
-    children_left: (u64, u64),
-    /// How many waits met their limit.
-    limits_met: u64,
+/// What comes of an instance where this gate holds workers up.
+fn outcome_of<R: Threads + Wait + Sync, G: Gate + Sync>(
+    rt: &R,
+    alloc: Global,
+    sample: &Sample,
+    options: Options,
+    gate: &G,
+) -> Result<Outcome, Fail> {
+    let instance = sample.build(alloc)?;
+    Ok(solve_with(rt, alloc, &instance, options, gate)?)
 }
 
-fn two_who_meet<R: Threads + Wait + Sync>(rt: &R, alloc: Global) -> Result<Met, Fail> {
-    let instance = Sample::OneMessage(100).build(alloc)?;
-    let gate = Meeting::new();
-    let outcome = solve_with(rt, alloc, &instance, TWO, &gate)?;
-    Ok(Met {
-        delay: read(alloc, &instance, &outcome)?.delay,
-        children_left: gate.children_left(),
-        limits_met: gate.limits_met(),
-    })
+/// The delay that is said to be least, of a plan that was judged with its certificate.
+fn delay_of(alloc: Global, sample: &Sample, outcome: &Outcome) -> Result<Option<u64>, Fail> {
+    let instance = sample.build(alloc)?;
+    Ok(read(alloc, &instance, outcome)?.delay)
+}
+
+/// The delay that two workers find who meet below the root.
+fn found_by_two<R: Threads + Wait + Sync>(
+    rt: &R,
+    alloc: Global,
+    gate: &Meeting,
+) -> Result<Option<u64>, Fail> {
+    let outcome = outcome_of(rt, alloc, &ONE_MESSAGE, TWO, gate)?;
+    delay_of(alloc, &ONE_MESSAGE, &outcome)
 }
 
 /// How often two workers meet.
 const MEETINGS: u32 = 3;
 
-/// A search on one thread would wait for itself, up to the limit.
+/// Each of them leaves one child of the root, and no wait meets its limit. A search on one thread would wait for itself,
+/// up to the limit.
 #[test]
 fn two_workers_work_at_the_same_time(rt: HostRuntime) -> Result<(), Fail> {
-    let wanted = Met {
-        delay: Some(9),
-        children_left: (1, 1),
-        limits_met: 0,
-    };
     for meeting in 0..MEETINGS {
-        assert_eq!(rt; two_who_meet(&rt, rt.alloc())?, wanted, "meeting {meeting}");
+        let gate = Meeting::new();
+        let delay = found_by_two(&rt, rt.alloc(), &gate)?;
+        let met = [
+            gate.left_by_first.get(),
+            gate.left_by_second.get(),
+            gate.limits_met.get(),
+        ];
+        assert!(rt; delay == Some(9) && met == [1, 1, 0], "meeting {meeting}");
     }
     Ok(())
 }
@@ -85,59 +100,44 @@ fn greatest_goal_below_first(cert: &Cert) -> u32 {
 fn names_below<R: Threads + Wait + Sync>(
     rt: &R,
     alloc: Global,
-    sample: Sample,
+    sample: &Sample,
 ) -> Result<(u64, u64), Fail> {
-    let instance = sample.build(alloc)?;
     let gate = LeftBelow::new();
-    solve_with(rt, alloc, &instance, options(BUDGET), &gate)?;
-    Ok(gate.counts())
+    outcome_of(rt, alloc, sample, ONE, &gate)?;
+    Ok((gate.first.get(), gate.second.get()))
 }
 
-/// What came of it that one worker began below the root's first child once the other had searched below the second.
-#[derive(Clone, Copy, Debug)]
-struct InTurnWorked {
-    /// How many waits met their limit.
-    limits_met: u64,
-    /// The greatest goal of the certificate's leaves below the first child.
-    greatest_goal: u32,
-    /// How many names were left below the first child.
-    names_left: u64,
-}
-
-fn in_turn<R: Threads + Wait + Sync>(
+/// The greatest goal of the certificate's leaves below the root's first child, where this gate holds two workers up.
+fn goal_below_first<R: Threads + Wait + Sync>(
     rt: &R,
     alloc: Global,
-    sample: Sample,
-) -> Result<InTurnWorked, Fail> {
-    let instance = sample.build(alloc)?;
-    let gate = InTurn::new(names_below(rt, alloc, sample)?);
-    let outcome = solve_with(rt, alloc, &instance, TWO, &gate)?;
-    let cert = certificate(outcome)?;
-    Ok(InTurnWorked {
-        limits_met: gate.limits_met(),
-        greatest_goal: greatest_goal_below_first(&cert),
-        names_left: gate.names_left().0,
-    })
+    sample: &Sample,
+    gate: &InTurn,
+) -> Result<u32, Fail> {
+    let cert = certificate(outcome_of(rt, alloc, sample, TWO, gate)?)?;
+    Ok(greatest_goal_below_first(&cert))
 }
 
-/// Below the second child there is a plan of 10 ticks, which who works below the first one has to beat.
+/// An instance, the greatest goal that a leaf below the first child may have, and how many names may be left there.
+type Shared = (Sample, u32, u64);
+
+const SHARED: &[Shared] = &[
+    // Below the second child there is a plan of 10 ticks, which who works below the first one has to beat.
+    (ONE_MESSAGE, 10, u64::MAX),
+    // Below the second child there is the shortest plan. Who knows of it closes the first child at once.
+    (SHORT_RECEIVER, u32::MAX, 1),
+];
+
+/// One worker begins below the root's first child once the other has searched below the second.
 #[test]
 fn shared_word(rt: HostRuntime) -> Result<(), Fail> {
-    let worked = in_turn(&rt, rt.alloc(), Sample::OneMessage(100))?;
-    assert!(rt;
-        worked.limits_met == 0 && worked.greatest_goal <= 10,
-        "{worked:?}"
-    );
-    Ok(())
-}
-
-/// Below the second child there is the shortest plan. Who knows of it closes the first child at once.
-#[test]
-fn what_others_found_needs_no_search(rt: HostRuntime) -> Result<(), Fail> {
-    let worked = in_turn(&rt, rt.alloc(), Sample::ShortReceiver(&[0], 1))?;
-    assert!(rt;
-        worked.limits_met == 0 && worked.names_left == 1,
-        "{worked:?}"
-    );
+    for (sample, most_goal, most_names) in SHARED {
+        let gate = InTurn::new(names_below(&rt, rt.alloc(), sample)?);
+        let goal = goal_below_first(&rt, rt.alloc(), sample, &gate)?;
+        let names = gate.left.first.get();
+        let is_held = gate.limits_met.get() == 0;
+        let is_shared = goal <= *most_goal && 1 <= names && names <= *most_names;
+        assert!(rt; is_held && is_shared, "{}: {goal}, {names}", sample.name);
+    }
     Ok(())
 }

@@ -1,6 +1,6 @@
 use Rattle.std.proofs.Common.{subst}
 use Rattle.planner.specs.Gathering.{AreShallow}
-use Rattle.search_tests.proofs.gathering.gathered.Goals as goal
+use Rattle.search_tests.proofs.gathering.gathers.Goals as goal
 
 pub gather-requires : goal.gather-requires
 gather-requires c = subst AreShallow c.as_slice.ensures.value c.if-not-are_shallow.ensures
