@@ -8,55 +8,76 @@ use std::test::Fail;
 use std::thread::Threads;
 use ttp_model::Plan;
 
-/// The starts and the rounds of a plan.
-type Lists = [&'static [u32]; 2];
-
-/// Whether the good plan that so many workers find has this delay, and these starts and rounds if any are given.
-fn is_good(
+/// The good plan of an instance that so many workers find, with its delay.
+fn found(
     rt: &(impl Threads + Sync),
     alloc: Global,
     sample: &Sample,
     workers: u32,
-    wanted: (Option<u64>, Option<Lists>),
-) -> Result<bool, Fail> {
+) -> Result<Option<(Plan, u64)>, Fail> {
     let instance = sample.build(alloc)?;
-    let found = good_plan(rt, alloc, &instance, workers)?;
-    Ok(is_wanted(&found, wanted))
+    Ok(good_plan(rt, alloc, &instance, workers)?)
 }
 
-/// Whether a plan and its delay are those, and no plan is wanted where there is none.
-fn is_wanted(found: &Option<(Plan, u64)>, wanted: (Option<u64>, Option<Lists>)) -> bool {
-    match (found, wanted) {
-        (None, (None, _)) => true,
-        (Some((_plan, delay)), (Some(least), None)) => *delay == least,
-        (Some((plan, delay)), (Some(least), Some([starts, rounds]))) => {
-            *delay == least && plan.starts.as_slice() == starts && plan.rounds.as_slice() == rounds
-        }
-        _ => false,
+/// Whether the good plan that one worker finds has this delay, and there is none where none is wanted.
+fn has_delay(
+    rt: &(impl Threads + Sync),
+    alloc: Global,
+    sample: &Sample,
+    least: Option<u64>,
+) -> Result<bool, Fail> {
+    match found(rt, alloc, sample, 1)? {
+        Some((_plan, delay)) => Ok(least == Some(delay)),
+        None => Ok(least.is_none()),
     }
 }
 
 #[test]
 fn shortest_plans_are_found(rt: HostRuntime) -> Result<(), Fail> {
     for (sample, least) in LEAST_DELAYS {
-        let is_found = is_good(&rt, rt.alloc(), sample, 1, (*least, None))?;
-        assert!(rt; is_found, "{}", sample.name);
+        assert!(rt;
+            has_delay(&rt, rt.alloc(), sample, *least)?,
+            "{}",
+            sample.name
+        );
     }
     Ok(())
 }
 
-/// Plans in which processes and messages wait for others: their delays, starts and rounds.
-const GOOD_PLANS: &[(Sample, u64, Lists)] = &[
-    (THREE_ALIKE, 6, [&[0, 2, 4], &[]]),
-    (ONE_ORDER, 15, [&[10, 6, 3, 1, 0], &[]]),
-    (ONE_WAITS, 15, [&[0, 1, 10, 5], &[1, 0]]),
+/// A plan's delay, starts and rounds.
+type Good = (u64, &'static [u32], &'static [u32]);
+
+/// Plans in which processes and messages wait for others.
+const GOOD_PLANS: &[(Sample, Good)] = &[
+    (THREE_ALIKE, (6, &[0, 2, 4], &[])),
+    (ONE_ORDER, (15, &[10, 6, 3, 1, 0], &[])),
+    (ONE_WAITS, (15, &[0, 1, 10, 5], &[1, 0])),
 ];
+
+/// Whether so many workers find this plan.
+fn is_found(
+    rt: &(impl Threads + Sync),
+    alloc: Global,
+    sample: &Sample,
+    workers: u32,
+    (least, starts, rounds): Good,
+) -> Result<bool, Fail> {
+    match found(rt, alloc, sample, workers)? {
+        Some((plan, delay)) => Ok(
+            delay == least && plan.starts.as_slice() == starts && plan.rounds.as_slice() == rounds,
+        ),
+        None => Ok(false),
+    }
+}
 
 /// So many workers find these plans.
 fn find_plans(rt: &(impl Abort + Threads + Sync), alloc: Global, workers: u32) -> Result<(), Fail> {
-    for (sample, delay, lists) in GOOD_PLANS {
-        let is_found = is_good(rt, alloc, sample, workers, (Some(*delay), Some(*lists)))?;
-        assert!(rt; is_found, "{} by {workers}", sample.name);
+    for (sample, good) in GOOD_PLANS {
+        assert!(rt;
+            is_found(rt, alloc, sample, workers, *good)?,
+            "{} by {workers}",
+            sample.name
+        );
     }
     Ok(())
 }
