@@ -3,4 +3,4 @@ use Rattle.tt_choice.proofs.Trail.{IsChoice-keeping}
 use Rattle.certificate_tests.proofs.choices.copied.Goals as goal
 
 pub returns : goal.returns
-returns g c = rw c.in_ok-copy.ensures (IsChoice-keeping _ _ [] c.requires)
+returns c = rw c.in_ok-copy.ensures (IsChoice-keeping _ _ [] c.requires)
