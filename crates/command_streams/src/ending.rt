@@ -100,7 +100,8 @@ pub enum End {
     Done,
     /// There is no plan.
     Absent,
-    /// The search was stopped by its budget, or for want of memory.
+    /// Less is known than was asked: the search was stopped by its budget or for want of memory, or a certificate's bound is
+    /// below what it was held against.
     Stopped,
     Refused(Fault),
 }

@@ -1,6 +1,7 @@
 -- Steps in lists that grow.
-use Rattle.std.proofs.Common.{◌≡◌, ℕ, ◌+◌, ◌<◌, List, [], ◌∷◌, ◌++◌, length, slice_index, Contains, refl, lit<, subst, sym, ◌∙◌}
+use Rattle.std.proofs.Common.{◌≡◌, ℕ, ◌+◌, ◌<◌, List, [], ◌∷◌, ◌++◌, length, slice_index, get_or, take, Contains, refl, lit<, ap, subst, sym, ◌∙◌, append_assoc}
 use Rattle.std.proofs.lemmas.Grind.{get_or_default_zero}
+use Rattle.std.proofs.lemmas.List.{take_more}
 use Rattle.std.proofs.lemmas.List.Elements.{Contains-append_left, Contains-append_right}
 use Rattle.ttp_model.specs.declared.step.Step.{Step}
 use Rattle.ttp_model.specs.declared.step.Step.TheVariants.{EsRelease, EsArrive, EsMessage, LeOwn, LeSend, XWindow, XRound, XFrames}
@@ -61,3 +62,9 @@ round_steps_pushed i c steps m source round from at = rw (from, at) (record {
 
 pub round_steps_kept : (i : Instance) (c : Choice) (old new : List Step) (m : ℕ) → KeepsSteps old new → HasRoundSteps i c old m → HasRoundSteps i c new m
 round_steps_kept i c old new m keeps has = record { send = keeps _ has.send; round = keeps _ has.round; frame = keeps _ has.frame }
+
+-- one element more of a list that is copied behind another
+pub copied_more : {X : Type 0} (xs : List X) (k : ℕ) (x : X) (start old new : List X) → k < length xs → x ≡ get_or xs k x → old ≡ start ++ take k xs → new ≡ old ++ x ∷ [] → new ≡ start ++ take (k + 1) xs
+copied_more {X} xs k x start old new lt is so_far more =
+    let taken : take (k + 1) xs ≡ take k xs ++ x ∷ [] = take_more xs k x lt ∙ ap (λ (y : X). take k xs ++ y ∷ []) (sym is) in
+    more ∙ ap (λ (t : List X). t ++ x ∷ []) so_far ∙ append_assoc start (take k xs) (x ∷ []) ∙ ap (λ (t : List X). start ++ t) (sym taken)

@@ -85,11 +85,14 @@ pub record IsOutcome (i : Instance) (options : Options) (outcome : Outcome) : Ty
   pub within : branches (cert_of outcome).tree ≤ options.budget
   pub says : Says i options.budget outcome
 
--- what a caller learns: a least plan, no plan, or bounds on both sides
+-- a plan that was found before the search was stopped is valid, and has the delay that stands beside it
 abbrev pub IsBestPlan : Instance → Option (Plan × ℕ) → Type 0
 IsBestPlan i None = Unit {0}
 IsBestPlan i (Some best) = IsValid i best.0 × (best.1 ≡ delay i best.0)
 
+-- What a caller learns. Of a plan that is called least: it is valid, has the delay stated, and no valid plan has a smaller one.
+-- Of "no plan": there is no valid one. Of a search that was stopped: no valid plan is below the bound, and the plan beside it, if
+-- there is one, is valid and has the delay stated.
 abbrev pub Shows : Instance → Outcome → Type 0
 Shows i (Optimal plan ticks cert) = IsValid i plan × (ticks ≡ delay i plan) × IsLeastDelay i ticks
 Shows i (Infeasible cert) = HasNoPlan i

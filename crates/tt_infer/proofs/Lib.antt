@@ -7,6 +7,7 @@ pub mod Ends
 pub mod Rounds
 pub mod Orders
 pub mod Closers
+pub mod Copies
 pub mod Twins
 pub mod Waits
 pub mod LateMessages

@@ -43,3 +43,13 @@ returns-clause-reach c =
     let arrival : c.index-end.result.now + c.transfer.result ≡ slice_index c.args.ends.now.items (message_at i c.args.m).sender + least_transfer i (source_of i c.args.m) = omega (arith, start, sent) in
     from_places (λ (q : ℕ). slice_index c.args.ends.now.items (message_at i c.args.m).sender + least_transfer i (source_of i c.args.m) + (process_at i q).wcet ≤ slice_index c.loop-q.ends.items q) (message_at i c.args.m).receivers
     (λ k inside. omega (arith, c.loop-q.invariant.reach k (omega (arith, inside, ap length items, c.loop-q-test.false)), arrival))
+
+pub process_at-requires : goal.process_at-requires
+process_at-requires c =
+    let inside = rw (← c.as_slice-q-items.ensures) at c.message_at-message.ensures.receivers in
+    inside c.loop-q.q-index 0 c.loop-q-test.true
+
+pub raise-requires : goal.raise-requires
+raise-requires c =
+    let inside = rw (← c.as_slice-q-items.ensures) at c.message_at-message.ensures.receivers in
+    rw c.loop-q.invariant.chains.all (inside c.loop-q.q-index 0 c.loop-q-test.true)

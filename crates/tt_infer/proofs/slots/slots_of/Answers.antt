@@ -1,4 +1,4 @@
-use Rattle.std.proofs.Common.{◌≡◌, ℕ, ◌+◌, ◌<◌, ◌∷◌, ◌++◌, [], List, length, arith, inl, inr, ap}
+use Rattle.std.proofs.Common.{◌≡◌, ℕ, ◌+◌, ◌<◌, ◌∷◌, ◌++◌, [], List, length, arith, inl, inr, sym, ap, ◌∙◌}
 use Rattle.std.proofs.lemmas.Bool.{cases_lt}
 use Rattle.std.proofs.Math.ListN.{get_or-append, length-append}
 use Rattle.std.proofs.Math.Seq.{get_or-append_seam}
@@ -23,4 +23,13 @@ loop-n-preserved c =
       count = omega (arith, simp length-append at (ap length items), inv.count);
       times = rw items (one_more (AreSlotTimes c.args.instance.now c.args.choice.now) _ _ _ inv.count inv.times c.times_of.ensures.times);
       short = rw items (one_more (λ (k : ℕ) (s : SlotTimes). AreShort s) _ _ _ inv.count inv.short c.times_of.ensures.short);
+    }
+
+pub returns : goal.returns
+returns c =
+    let all : length c.args.instance.now.nodes ≡ c.loop-n.n = omega (arith, ap length c.nodes.ensures.value, c.loop-n.auto.n-end, c.loop-n-test.false) in
+    record {
+      count = c.loop-n.invariant.count ∙ sym all;
+      times = λ n inside. c.loop-n.invariant.times n (omega (arith, inside, all));
+      short = λ n inside. c.loop-n.invariant.short n (omega (arith, inside, all));
     }

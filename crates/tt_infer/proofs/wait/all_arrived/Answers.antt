@@ -1,7 +1,7 @@
 use Rattle.std.proofs.Common.{◌≡◌, length, arith, ap, below_more}
 use Rattle.std.proofs.lemmas.Bool.{both_ways}
 use Rattle.tt_infer.specs.Dominance.{IsSentTo, last_arrival}
-use Rattle.ttp_model.proofs.Raising.{raised_more, raised_same}
+use Rattle.ttp_model.proofs.Raising.{raised_none, raised_more, raised_same}
 use Rattle.tt_infer.proofs.wait.all_arrived.Goals as goal
 use Rattle.tt_infer.proofs.wait.all_arrived.Goals.{then-receives+else-top-eq0, else-receives}
 
@@ -37,3 +37,13 @@ pub returns-clause-last : goal.returns-clause-last
 returns-clause-last c =
     let all : length c.args.setting.now.instance.messages ≡ c.loop-m.m = omega (arith, ap length (rw c.instance-instance.ensures at c.messages.ensures.value), c.loop-m.auto.m-end, c.loop-m-test.false) in
     rw all c.loop-m.invariant.last
+
+pub returns-clause-rounds : goal.returns-clause-rounds
+returns-clause-rounds c = λ m sent.
+    c.loop-m.invariant.rounds m (omega (arith, sent.0, ap length (rw c.instance-instance.ensures at c.messages.ensures.value), c.loop-m-test.false)) sent
+
+pub loop-m-init : goal.loop-m-init
+loop-m-init c = record { rounds = λ k lt. absurd (omega (arith, lt)); last = raised_none _ _ _; bound = c.requires.short }
+
+pub last_arrival-requires-clause-message : goal.last_arrival-requires-clause-message
+last_arrival-requires-clause-message c = omega (arith, c.loop-m-test.true, ap length (rw c.instance-instance.ensures at c.messages.ensures.value))

@@ -1,7 +1,7 @@
-use Rattle.std.proofs.Common.{arith}
+use Rattle.std.proofs.Common.{◌≡◌, length, ap, arith}
 use Rattle.std.proofs.lemmas.Bool.{both_ways}
 use Rattle.ttp_model.specs.Instance.{process_at}
-use Rattle.ttp_model.proofs.Raising.{raised_later, raised_same}
+use Rattle.ttp_model.proofs.Raising.{raised_none, raised_later, raised_same}
 use Rattle.tt_infer.specs.Known.{le_of}
 use Rattle.tt_infer.specs.Dominance.{MayGoBefore}
 use Rattle.tt_infer.proofs.wait.last_end.Goals as goal
@@ -20,3 +20,11 @@ loop-x-preserved c =
         | else-end-time-via-else-end-time w' ↦ omega (arith, w'.if-end-time.false, c.le-end.ensures)
       ]))
     ]
+
+pub loop-x-init : goal.loop-x-init
+loop-x-init c = rw c.process_at.ensures.value (raised_none _ _ _)
+
+pub returns : goal.returns
+returns c =
+    let all : length c.args.instance.now.processes ≡ c.loop-x.x = omega (arith, ap length c.processes.ensures.value, c.loop-x.auto.x-end, c.loop-x-test.false) in
+    rw all c.loop-x.invariant
