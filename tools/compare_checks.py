@@ -4,8 +4,8 @@
     tools/compare_checks.py [--cases N] [--seed S] [--program FILE] [--keep FOLDER]
 
 The texts are the examples' and those of small instances made here, with plans and certificates; most are damaged in one to
-three places. Both programs have to write the same words and end with the same status. A case on which they differ is
-told, and kept in FOLDER. What was answered how often is written at the end, and the status is 1 where any case differed.
+three places. Both programs have to write the same words and end with the same status, and of a valid plan the same tables. A case
+on which they differ is told, and kept in FOLDER. What was answered how often is written at the end, and the status is 1 where any case differed.
 
 Which circle of processes is told is left out (M13)."""
 
@@ -288,14 +288,24 @@ def case(dice, examples):
 
 
 def second(command, instance, *texts):
+    """The second checker's status and text. Behind the plan of `schedule` stands the table's name."""
     try:
         judged = second_check.Instance(instance)
         if command == "judge":
             delay = second_check.given_delay(judged, texts[0])
             return second_check.judgement(judged, delay, second_check.proved_bound(judged, texts[1]))[::-1]
+        if command == "schedule":
+            return 0, second_check.schedule(judged, *texts)
         return 0, second_check.COMMANDS[command][0](judged, *texts)
     except second_check.Refused as fault:
         return fault.status, fault.line
+
+
+def both(program, files, command, *texts):
+    """What the two programs say, each a status and a text. Behind the plan of `schedule` stands the table's name."""
+    words = ["schedule", *files, "--table", texts[-1]] if command == "schedule" else [command, *files]
+    ran = subprocess.run([program, *words], capture_output=True, text=True)
+    return (ran.returncode, (ran.stdout + ran.stderr).rstrip("\n")), second(command, *texts)
 
 
 def main():
@@ -316,16 +326,20 @@ def main():
             for file, text in zip(files, texts):
                 file.write_bytes(text)
             named = [str(file) for file, _ in zip(files, texts)]
-            ran = subprocess.run([asked.program, command, *named], capture_output=True, text=True)
-            first = ran.returncode, (ran.stdout + ran.stderr).rstrip("\n")
-            other = second(command, *texts)
+            pairs = [both(asked.program, named, command, *texts)]
+            first, other = pairs[0]
             answers[" ".join(other[1].split(" ")[: 1 if other[0] in (0, 10, 11) else 2])] += 1
-            if first != other and not (first[1].startswith("instance M13") and other[1].startswith("instance M13")):
-                differ += 1
-                print(f"case {k}: {command}: ttplan {first}, second_check {other}", flush=True)
-                if asked.keep:
-                    for name, text in zip(("toml", "text", "cert"), texts):
-                        pathlib.Path(asked.keep, f"case{k}.{name}").write_bytes(text)
+            if first[1].startswith("instance M13") and other[1].startswith("instance M13"):
+                continue
+            if command == "verify" and other[0] == 0:
+                pairs += [both(asked.program, named, "schedule", *texts, table) for table in second_check.TABLES]
+            for first, other in pairs:
+                if first != other:
+                    differ += 1
+                    print(f"case {k}: {command}: ttplan {first}, second_check {other}", flush=True)
+            if asked.keep and any(first != other for first, other in pairs):
+                for name, text in zip(("toml", "text", "cert"), texts):
+                    pathlib.Path(asked.keep, f"case{k}.{name}").write_bytes(text)
     print(", ".join(f"{answer} {count}" for answer, count in sorted(answers.items())))
     print(f"{asked.cases} cases, {differ} differ")
     return 1 if differ else 0

@@ -17,6 +17,7 @@ Two things may differ: which circle of processes is told (M13), where there are 
 a second 60 and the year 0."""
 
 import codecs
+import functools
 import math
 import os
 import re
@@ -565,20 +566,28 @@ def is_node(word, numbers):
     return len(numbers) == 2 if word == b"leaf" else BRANCHES.get(word) == len(numbers)
 
 
+# Most lines of a large certificate stand in it a thousand times, so what is known of a line is kept.
+@functools.lru_cache(maxsize=65_536)
 def parts(line):
     """The word and the numbers of a line that was read before."""
     word, *numbers = line.split(b" ")
-    return word, [int(number) for number in numbers]
+    return word, tuple(int(number) for number in numbers)
+
+
+@functools.lru_cache(maxsize=65_536)
+def fault_of_line(line, is_right):
+    """The code of a line that hasn't the form that `is_right` asks for, or None."""
+    word, *numbers = line.split(b" ")
+    if not is_right(word, numbers) or not all(NUMBER.fullmatch(number) for number in numbers):
+        return "G2"
+    return "G3" if any(is_too_great(number) for number in numbers) else None
 
 
 def stated_line(lines, is_right):
     """The next line, which has the form that `is_right` asks for."""
     line = lines.next()
-    word, *numbers = line.split(b" ")
-    if not is_right(word, numbers) or not all(NUMBER.fullmatch(number) for number in numbers):
-        raise certificate_fault("G2", lines.count)
-    if any(is_too_great(number) for number in numbers):
-        raise certificate_fault("G3", lines.count)
+    if code := fault_of_line(line, is_right):
+        raise certificate_fault(code, lines.count)
     return line
 
 

@@ -2,9 +2,10 @@
 
 ghost use Rattle.certificate.specs.Streams.{IsFresh};
 
+use crate::certificate_texts::deep;
 use crate::readers::{Endless, Slow};
-use certificate::{CertStream, Node, SourceFault, read};
-use std::alloc::Global;
+use certificate::{Cert, CertStream, SourceFault, read};
+use std::alloc::{AllocError, Global};
 use std::io::Read;
 use std::process::Abort;
 use std::test::Fail;
@@ -12,33 +13,34 @@ use std::test::Fail;
 const TWO_LEAVES: &str =
     "ttcert 1\nlow 9\nround 0 1\nleaf 9 5\nes-release 0\nlo-send 0\nes-arrive 0 1\nle-own 1\nx-window 1\nleaf 101 2\nus-settled 0\nx-late 0 1\n";
 
-/// The bound, and each node with its line.
-#[derive(Drop)]
-struct Said {
-    low: u32,
-    nodes: Vec<(Node, u64)>,
-}
-
-/// What a stream says to its end, or its first fault.
-fn drained<R: Read>(alloc: Global, stream: &mut CertStream<R>) -> Result<Said, SourceFault>
+/// Adds what a stream says to its end or its first fault: the bound, and each node with its line.
+fn add_drained<R: Read>(
+    alloc: Global,
+    text: &mut String,
+    stream: &mut CertStream<R>,
+) -> Result<(), SourceFault>
     requires { IsFresh stream.old }
 {
     let low = stream.low()?;
-    let mut nodes = Vec::new(alloc);
+    writeln!(text, "{low}")?;
     for _ in 0..u32::MAX {
         match stream.next_node(alloc)? {
-            Some(node) => nodes.push(node)?,
-            None => return Ok(Said { low, nodes }),
+            Some((node, line)) => writeln!(text, "{line} {node:?}")?,
+            None => return Ok(()),
         }
     }
     Err(SourceFault::TooLong)
 }
 
 /// The same, where a fault of the reader goes before one of the text.
-fn judged<R: Read + Drop>(alloc: Global, reader: R) -> Result<Said, SourceFault> {
+fn add_judged<R: Read + Drop>(
+    alloc: Global,
+    text: &mut String,
+    reader: R,
+) -> Result<(), SourceFault> {
     let mut reader = reader;
     let mut stream = CertStream::new(alloc, &mut reader);
-    match drained(alloc, &mut stream) {
+    match add_drained(alloc, text, &mut stream) {
         Err(SourceFault::Read) => Err(SourceFault::Read),
         Err(SourceFault::TooLong) => Err(SourceFault::TooLong),
         other => {
@@ -48,73 +50,73 @@ fn judged<R: Read + Drop>(alloc: Global, reader: R) -> Result<Said, SourceFault>
     }
 }
 
-/// Checks that a stream says what the whole text does.
-fn expect_same(rt: &impl Abort, alloc: Global, text: &[u8]) -> Result<(), Fail> {
-    for count in [1, 2, 7, 100_000] {
-        match (read(alloc, text), judged(alloc, Slow::giving(count, text))) {
-            (Ok(cert), Ok(said)) => {
-                assert_eq!(rt; said.low, cert.low());
-                assert_eq!(rt; said.nodes.len(), cert.nodes().len());
-                let mut line = 3;
-                for (node, other) in said.nodes.iter().zip(cert.nodes()) {
-                    assert_eq!(rt;
-                        format!(in alloc; "{:?}", node.0)?.as_str(),
-                        format!(in alloc; "{other:?}")?.as_str()
-                    );
-                    assert_eq!(rt; node.1, line);
-                    line = other.lines().saturating_add(line);
-                }
-            }
-            (Err(fault), Err(other)) => assert_eq!(rt; other, SourceFault::Text(fault)),
-            _ => assert!(rt; false, "one of them has a fault"),
-        }
+/// What a stream says, or what is wrong.
+fn streamed<R: Read + Drop>(alloc: Global, reader: R) -> Result<String, SourceFault> {
+    let mut text = String::new(alloc);
+    add_judged(alloc, &mut text, reader)?;
+    Ok(text)
+}
+
+/// Adds the bound of a certificate, and each node with its line.
+fn add_cert(text: &mut String, cert: &Cert) -> Result<(), AllocError> {
+    writeln!(text, "{}", cert.low())?;
+    let mut line = 3;
+    for node in cert.nodes() {
+        writeln!(text, "{line} {node:?}")?;
+        line = node.lines().saturating_add(line);
     }
     Ok(())
 }
+
+/// What the whole text says, or what is wrong.
+fn said(alloc: Global, bytes: &[u8]) -> Result<String, SourceFault> {
+    let cert = read(alloc, bytes)?;
+    let mut text = String::new(alloc);
+    add_cert(&mut text, &cert)?;
+    Ok(text)
+}
+
+/// Checks that a stream says what the whole text does.
+fn expect_same(rt: &impl Abort, alloc: Global, text: &[u8]) {
+    let whole = said(alloc, text);
+    for count in [1, 2, 7, 100_000] {
+        let found = streamed(alloc, Slow::giving(count, text));
+        assert!(rt; found == whole, "{count}: {found:?}; {whole:?}");
+    }
+}
+
+const TEXTS: &[&str] = &[
+    TWO_LEAVES,
+    "ttcert 1\nlow 0\nplace 0\n",
+    "ttcert 1\nlow 0\nplace 2\npair 1 0\nleaf 0 0\nleaf 1 0\ncap 3 1\nleaf 2 0\n",
+    "ttcert 2\nlow 0\nplace 0\n",
+    "ttcert 1\nlow 4294967296\nplace 0\n",
+    "ttcert 1\nhigh 0\nplace 0\n",
+    "ttcert 1\nlow 0\nplace 1\n",
+    "ttcert 1\nlow 0\nplace 00\n",
+    "ttcert 1\nlow 0\nleaf 0 4294967295\n",
+    "ttcert 1\nlow 0\nleaf 0 2\nx-round 1\nx-cycle 1\n",
+    "ttcert 1\nlow 0\nleaf 0 0\nleaf 0 0\n",
+    "ttcert 1\nlow 0\nleaf 0 0\n\n",
+];
 
 #[test]
-fn a_stream_says_what_the_whole_text_does(rt: HostRuntime) -> Result<(), Fail> {
-    let texts = [
-        TWO_LEAVES,
-        "ttcert 1\nlow 0\nplace 0\n",
-        "ttcert 1\nlow 0\nplace 2\npair 1 0\nleaf 0 0\nleaf 1 0\ncap 3 1\nleaf 2 0\n",
-        "ttcert 2\nlow 0\nplace 0\n",
-        "ttcert 1\nlow 4294967296\nplace 0\n",
-        "ttcert 1\nhigh 0\nplace 0\n",
-        "ttcert 1\nlow 0\nplace 1\n",
-        "ttcert 1\nlow 0\nplace 00\n",
-        "ttcert 1\nlow 0\nleaf 0 4294967295\n",
-        "ttcert 1\nlow 0\nleaf 0 2\nx-round 1\nx-cycle 1\n",
-        "ttcert 1\nlow 0\nleaf 0 0\nleaf 0 0\n",
-        "ttcert 1\nlow 0\nleaf 0 0\n\n",
-    ];
-    for text in texts {
-        expect_same(&rt, rt.alloc(), text.as_bytes())?;
+fn a_stream_says_what_the_whole_text_does(rt: HostRuntime) {
+    for text in TEXTS {
+        expect_same(&rt, rt.alloc(), text.as_bytes());
     }
     for len in 0..TWO_LEAVES.len() {
-        expect_same(&rt, rt.alloc(), &TWO_LEAVES.as_bytes()[..len])?;
+        expect_same(&rt, rt.alloc(), &TWO_LEAVES.as_bytes()[..len]);
     }
-    Ok(())
-}
-
-/// So many branches one below another, and so many leaves.
-fn deep(alloc: Global, branches: u32, leaves: u32) -> Result<Vec<u8>, Fail> {
-    let mut text = Vec::from_slice(alloc, b"ttcert 1\nlow 0\n")?;
-    for _ in 0..branches {
-        text.extend_from_slice(b"round 0 0\n")?;
-    }
-    for _ in 0..leaves {
-        text.extend_from_slice(b"leaf 0 0\n")?;
-    }
-    Ok(text)
 }
 
 #[test]
 fn a_stream_goes_as_deep_as_a_text(rt: HostRuntime) -> Result<(), Fail> {
-    let deepest = deep(rt.alloc(), 4608, 4609)?;
-    expect_same(&rt, rt.alloc(), deepest.as_slice())?;
-    let deeper = deep(rt.alloc(), 4609, 1)?;
-    expect_same(&rt, rt.alloc(), deeper.as_slice())
+    for (branches, leaves) in [(4608, 4609), (4609, 1)] {
+        let text = deep(rt.alloc(), branches, leaves)?;
+        expect_same(&rt, rt.alloc(), text.as_slice());
+    }
+    Ok(())
 }
 
 #[test]
@@ -124,7 +126,8 @@ fn a_line_may_be_longer_than_a_block(rt: HostRuntime) -> Result<(), Fail> {
         text.extend_from_slice(b" 3")?;
     }
     text.extend_from_slice(b"\nx-round 0\n")?;
-    expect_same(&rt, rt.alloc(), text.as_slice())
+    expect_same(&rt, rt.alloc(), text.as_slice());
+    Ok(())
 }
 
 #[test]
@@ -137,7 +140,7 @@ fn a_failed_read_goes_before_a_fault_of_the_text(rt: HostRuntime) -> Result<(), 
         let bytes = text.as_bytes();
         for calls_left in 0..bytes.len() {
             let reader = Slow::failing_after(calls_left, bytes);
-            let fault = judged(rt.alloc(), reader).err();
+            let fault = streamed(rt.alloc(), reader).err();
             assert_eq!(rt; fault, Some(SourceFault::Read), "{calls_left}");
         }
     }
@@ -155,7 +158,7 @@ fn a_text_that_is_too_long_goes_before_its_fault(rt: HostRuntime) -> Result<(), 
             first: first.as_bytes(),
         };
         assert_eq!(rt;
-            judged(rt.alloc(), reader).err(),
+            streamed(rt.alloc(), reader).err(),
             Some(SourceFault::TooLong),
             "{first}"
         );

@@ -13,56 +13,61 @@ const NO_PLAN: &str = "ttcert 1\nlow 101\nleaf 101 1\nx-frame 0\n";
 const TWO_LEAVES: &str =
     "ttcert 1\nlow 9\nround 0 1\nleaf 9 5\nes-release 0\nlo-send 0\nes-arrive 0 1\nle-own 1\nx-window 1\nleaf 101 2\nus-settled 0\nx-late 0 1\n";
 
-/// A branch on a pair of processes, and two leaves.
-const PAIR: &str = "ttcert 1\nlow 0\npair 0 1\nleaf 0 1\nx-cycle 0 1\nleaf 0 0\n";
-
 /// A node, how many children it has, and how many lines.
-type Row<'a> = (&'a str, u32, u64);
+type Row = (&'static str, u32, u64);
 
 /// A leaf's goal and steps, or what a branch decides.
-fn told(alloc: Global, node: &Node) -> Result<String, Fail> {
-    let text = match node {
-        Node::Leaf(leaf) => format!(in alloc; "{} {:?}", leaf.goal, leaf.steps.as_slice())?,
-        branch => format!(in alloc; "{branch:?}")?,
-    };
-    Ok(text)
+fn told(alloc: Global, node: &Node) -> Result<String, AllocError> {
+    match node {
+        Node::Leaf(leaf) => format!(in alloc; "{} {:?}", leaf.goal, leaf.steps.as_slice()),
+        branch => format!(in alloc; "{branch:?}"),
+    }
 }
 
-/// Checks the bound and the nodes of a certificate.
+/// Checks a node of a certificate.
+fn expect_node(
+    rt: &impl Abort,
+    alloc: Global,
+    node: &Node,
+    (wanted, children, lines): &Row,
+) -> Result<(), AllocError> {
+    let text = told(alloc, node)?;
+    let found = (text.as_str(), node.children(), node.lines());
+    assert_eq!(rt; found, (*wanted, *children, *lines));
+    Ok(())
+}
+
+/// Checks the nodes of a certificate.
 fn expect_nodes(
     rt: &impl Abort,
     alloc: Global,
-    text: &str,
-    low: u32,
+    nodes: &[Node],
     rows: &[Row],
-) -> Result<(), Fail> {
-    let cert = read(alloc, text.as_bytes())?;
-    assert_eq!(rt; cert.low(), low);
-    assert_eq!(rt; cert.nodes().len(), rows.len());
-    for (node, row) in cert.nodes().iter().zip(rows) {
-        assert_eq!(rt; told(alloc, node)?.as_str(), row.0);
-        assert_eq!(rt;
-            (node.children(), node.lines()),
-            (row.1, row.2),
-            "{}",
-            row.0
-        );
+) -> Result<(), AllocError> {
+    assert_eq!(rt; nodes.len(), rows.len());
+    for (node, row) in nodes.iter().zip(rows) {
+        expect_node(rt, alloc, node, row)?;
     }
     Ok(())
 }
 
+/// The nodes of `TWO_LEAVES`.
+static NODES: &[Row] = &[
+    ("Branch(Branch { kind: Round(0, 1), children: 2 })", 2, 1),
+    (
+        "9 [EsRelease(0), LoSend(0), EsArrive(0, 1), LeOwn(1), XWindow(1)]",
+        0,
+        6,
+    ),
+    ("101 [UsSettled(0), XLate(0, 1)]", 0, 3),
+];
+
 #[test]
 fn nodes_stand_in_front_of_those_below_them(rt: HostRuntime) -> Result<(), Fail> {
-    let rows = [
-        ("Branch(Branch { kind: Round(0, 1), children: 2 })", 2, 1),
-        (
-            "9 [EsRelease(0), LoSend(0), EsArrive(0, 1), LeOwn(1), XWindow(1)]",
-            0,
-            6,
-        ),
-        ("101 [UsSettled(0), XLate(0, 1)]", 0, 3),
-    ];
-    expect_nodes(&rt, rt.alloc(), TWO_LEAVES, 9, &rows)
+    let cert = read(rt.alloc(), TWO_LEAVES.as_bytes())?;
+    assert_eq!(rt; cert.low(), 9);
+    expect_nodes(&rt, rt.alloc(), cert.nodes(), NODES)?;
+    Ok(())
 }
 
 /// Checks that what is read is written again. How many nodes it has.
@@ -81,11 +86,13 @@ const WRITTEN: &[&str] = &[
     NO_PLAN,
     TWO_LEAVES,
     STEPS,
+    "ttcert 1\nlow 0\npair 0 1\nleaf 0 1\nx-cycle 0 1\nleaf 0 0\n",
     "ttcert 1\nlow 0\nplace 0\n",
     "ttcert 1\nlow 4294967295\ncap 4294967295 0\n",
     "ttcert 1\nlow 0\nplace 2\npair 1 0\nleaf 0 0\nleaf 1 0\ncap 3 1\nleaf 2 0\n",
 ];
 
+/// Run with each allocation refused in turn too.
 #[test]
 fn what_is_read_is_written_again(rt: HostRuntime) -> Result<(), Fail> {
     for text in WRITTEN {
@@ -116,7 +123,7 @@ fn other_texts_are_refused_at_their_line(rt: HostRuntime) {
 }
 
 /// So many branches one below another, and so many leaves.
-fn deep(alloc: Global, branches: u32, leaves: u32) -> Result<Vec<u8>, AllocError> {
+pub fn deep(alloc: Global, branches: u32, leaves: u32) -> Result<Vec<u8>, AllocError> {
     let mut text = Vec::from_slice(alloc, b"ttcert 1\nlow 0\n")?;
     for _ in 0..branches {
         text.extend_from_slice(b"round 0 0\n")?;
@@ -127,16 +134,28 @@ fn deep(alloc: Global, branches: u32, leaves: u32) -> Result<Vec<u8>, AllocError
     Ok(text)
 }
 
+/// How many nodes are read of such a text, and written again.
+fn deep_nodes(rt: &impl Abort, alloc: Global, branches: u32, leaves: u32) -> Result<usize, Fail> {
+    let text = deep(alloc, branches, leaves)?;
+    written_again(rt, alloc, text.as_slice())
+}
+
+/// The first fault of such a text.
+fn deep_fault(
+    alloc: Global,
+    branches: u32,
+    leaves: u32,
+) -> Result<Option<CertTextError>, AllocError> {
+    let text = deep(alloc, branches, leaves)?;
+    Ok(read(alloc, text.as_slice()).err())
+}
+
 #[test]
 fn a_node_stands_below_4608_branches_at_most(rt: HostRuntime) -> Result<(), Fail> {
-    let text = deep(rt.alloc(), 4608, 4609)?;
-    assert_eq!(rt; written_again(&rt, rt.alloc(), text.as_slice())?, 9217);
-    let text = deep(rt.alloc(), 4609, 1)?;
+    assert_eq!(rt; deep_nodes(&rt, rt.alloc(), 4608, 4609)?, 9217);
     let fault = LineFault::Depth;
-    assert_eq!(rt;
-        read(rt.alloc(), text.as_slice()).err(),
-        Some(CertTextError::At { line: 4612, fault })
-    );
+    let wanted = CertTextError::At { line: 4612, fault };
+    assert_eq!(rt; deep_fault(rt.alloc(), 4609, 1)?, Some(wanted));
     Ok(())
 }
 
@@ -158,21 +177,4 @@ fn a_leaf_alone_is_a_tree(rt: HostRuntime) -> Result<(), Fail> {
     let text = print(rt.alloc(), &cert)?;
     assert_eq!(rt; text.as_slice(), NO_PLAN.as_bytes());
     Ok(())
-}
-
-/// Checks what is printed of `PAIR`, if there is memory for it.
-fn expect_pair(rt: &impl Abort, alloc: Global, cert: &Cert) {
-    assert_eq!(rt; cert.nodes().len(), 3);
-    if let Ok(text) = print(alloc, cert) {
-        assert_eq!(rt; text.as_slice(), PAIR.as_bytes());
-    }
-}
-
-/// Run with each allocation refused in turn: the answer is the same, or that memory is refused.
-#[test]
-fn a_refusal_of_memory_changes_no_answer(rt: HostRuntime) {
-    match read(rt.alloc(), PAIR.as_bytes()) {
-        Ok(cert) => expect_pair(&rt, rt.alloc(), &cert),
-        Err(error) => assert_eq!(rt; error, CertTextError::OutOfMemory),
-    }
 }

@@ -15,7 +15,7 @@ use worked_instances::PLAIN;
 
 /// Something that a choice is asked, and its answer.
 #[derive(Clone, Copy, Debug)]
-enum Asked {
+pub enum Asked {
     /// So much is left to choose; where nothing is, the choice is complete.
     Left(usize),
     /// Whether this branch is open.
@@ -102,19 +102,11 @@ fn copied(alloc: Global, i: &Instance, choice: &Choice) -> Result<Choice, Memory
 }
 
 /// Decisions, and what their choice is asked.
-struct Row {
-    label: &'static str,
-    small: Small,
-    decisions: &'static [Decision],
-    asked: &'static [Asked],
-}
-
-/// Checks the choice of a row, and its copy.
-fn expect(rt: &impl Abort, alloc: Global, row: &Row) -> Result<(), Fail> {
-    let i = row.small.build(alloc)?;
-    let choice = chosen(rt, alloc, &i, row.decisions)?;
-    expect_all(rt, &i, &choice, row.label, row.asked);
-    expect_copy(rt, alloc, &i, &choice, row)
+pub struct Row {
+    pub label: &'static str,
+    pub small: Small,
+    pub decisions: &'static [Decision],
+    pub asked: &'static [Asked],
 }
 
 /// Checks the copy of a row's choice.
@@ -124,7 +116,7 @@ fn expect_copy(
     i: &Instance,
     choice: &Choice,
     row: &Row,
-) -> Result<(), Fail>
+) -> Result<(), MemoryFault>
     requires { IsChoice i.now choice.now }
 {
     let copy = copied(alloc, i, choice)?;
@@ -132,17 +124,20 @@ fn expect_copy(
     Ok(())
 }
 
+/// Checks the choice of a row on its instance, and its copy.
+fn expect_on(rt: &impl Abort, alloc: Global, i: &Instance, row: &Row) -> Result<(), MemoryFault> {
+    let choice = chosen(rt, alloc, i, row.decisions)?;
+    expect_all(rt, i, &choice, row.label, row.asked);
+    expect_copy(rt, alloc, i, &choice, row)
+}
+
+/// Checks the choice of a row, and its copy.
+pub fn expect(rt: &impl Abort, alloc: Global, row: &Row) -> Result<(), Fail> {
+    let i = row.small.build(alloc)?;
+    Ok(expect_on(rt, alloc, &i, row)?)
+}
+
 static ROWS: &[Row] = &[
-    Row {
-        label: "at the root eleven halvings are left",
-        small: Small::OneMessage(PLAIN),
-        decisions: &[],
-        asked: &[
-            Asked::Left(11),
-            Asked::Starts(0, 0, 1),
-            Asked::Ends(0, 7, 8),
-        ],
-    },
     Row {
         label: "a free capacity moves the end of a slot",
         small: Small::TwoOptions,
@@ -152,12 +147,6 @@ static ROWS: &[Row] = &[
             Asked::Ends(0, 7, 12),
             Asked::Shortest(0, 3),
         ],
-    },
-    Row {
-        label: "a node that comes first delays the slot of the other",
-        small: Small::OneMessage(PLAIN),
-        decisions: &[Place(1)],
-        asked: &[Asked::Placed(&[1]), Asked::Starts(0, 1, 1), Asked::Left(10)],
     },
     Row {
         label: "a capacity is open until it is fixed: where it is open",
@@ -253,7 +242,7 @@ fn choice_rows(rt: HostRuntime) -> Result<(), Fail> {
 }
 
 /// A branch that is open where nothing is chosen: its decisions in their order, and what the choice of each is asked.
-struct Branch {
+pub struct Branch {
     label: &'static str,
     small: Small,
     kind: Kind,
@@ -268,7 +257,7 @@ fn expect_decisions(
     i: &Instance,
     root: &Choice,
     branch: &Branch,
-) -> Result<(), Fail>
+) -> Result<(), MemoryFault>
     requires { IsChoice i.now root.now }
 {
     assert!(rt; root.is_open(i, &branch.kind), "{}", branch.label);
@@ -283,8 +272,8 @@ fn expect_decisions(
     Ok(())
 }
 
-/// Checks the choice that an open decision leads to.
-fn expect_child(
+/// Checks the choice that an open decision leads to, where it is kept.
+fn expect_kept(
     rt: &impl Abort,
     alloc: Global,
     i: &Instance,
@@ -292,7 +281,7 @@ fn expect_child(
     decision: Decision,
     label: &str,
     asked: &[Asked],
-) -> Result<(), Fail>
+) -> Result<(), MemoryFault>
     requires { IsChoice i.now root.now }
 {
     let mut child = copied(alloc, i, root)?;
@@ -302,28 +291,58 @@ fn expect_child(
     Ok(())
 }
 
-/// Checks the decisions of a branch on its instance, and the choices that they lead to.
+/// Checks the choice that it leads to where none is kept.
+fn expect_changed(
+    rt: &impl Abort,
+    alloc: Global,
+    i: &Instance,
+    decision: Decision,
+    label: &str,
+    asked: &[Asked],
+) -> Result<(), MemoryFault> {
+    let mut child = Choice::root(alloc, i)?;
+    assert!(rt; is_open(i, &child, decision));
+    child.change(alloc, i, decision)?;
+    expect_all(rt, i, &child, label, asked);
+    Ok(())
+}
+
+/// Checks the decisions of a branch at the choice in which nothing is chosen, and the choices that they lead to.
+fn expect_branch_at(
+    rt: &impl Abort,
+    alloc: Global,
+    i: &Instance,
+    root: &Choice,
+    branch: &Branch,
+) -> Result<(), MemoryFault>
+    requires { IsChoice i.now root.now }
+{
+    expect_decisions(rt, alloc, i, root, branch)?;
+    for (decision, asked) in branch.decisions.iter().zip(branch.children) {
+        expect_kept(rt, alloc, i, root, *decision, branch.label, asked)?;
+        expect_changed(rt, alloc, i, *decision, branch.label, asked)?;
+    }
+    Ok(())
+}
+
+/// Checks a branch on its instance.
 fn expect_branch_on(
     rt: &impl Abort,
     alloc: Global,
     i: &Instance,
     branch: &Branch,
-) -> Result<(), Fail> {
+) -> Result<(), MemoryFault> {
     let root = Choice::root(alloc, i)?;
-    expect_decisions(rt, alloc, i, &root, branch)?;
-    for (decision, asked) in branch.decisions.iter().zip(branch.children) {
-        expect_child(rt, alloc, i, &root, *decision, branch.label, asked)?;
-    }
-    Ok(())
+    expect_branch_at(rt, alloc, i, &root, branch)
 }
 
 /// Checks a branch.
-fn expect_branch(rt: &impl Abort, alloc: Global, branch: &Branch) -> Result<(), Fail> {
+pub fn expect_branch(rt: &impl Abort, alloc: Global, branch: &Branch) -> Result<(), Fail> {
     let i = branch.small.build(alloc)?;
-    expect_branch_on(rt, alloc, &i, branch)
+    Ok(expect_branch_on(rt, alloc, &i, branch)?)
 }
 
-static BRANCHES: &[Branch] = &[
+pub static BRANCHES: &[Branch] = &[
     Branch {
         label: "the children of a branch come in order: which node comes next",
         small: Small::TwoOptions,

@@ -1,5 +1,7 @@
 //! Complete choices of small instances: their earliest plans and their clashes.
 
+use crate::choices;
+use crate::choices::Asked;
 use crate::decisions::chosen;
 use crate::instances::Small;
 use earliest_starts::{Clash, Earliest, earliest};
@@ -8,7 +10,7 @@ use std::process::Abort;
 use std::test::Fail;
 use tt_choice::Decision;
 use tt_choice::Decision::{AtLeast, AtMost, Before, Cap, Place};
-use ttp_model::Instance;
+use ttp_model::{Instance, MemoryFault};
 use worked_instances::PLAIN;
 
 /// What comes of a complete choice.
@@ -66,7 +68,7 @@ impl Answer {
 }
 
 /// Decisions that leave nothing open, and what comes of them.
-struct Row {
+pub struct Row {
     label: &'static str,
     small: Small,
     decisions: &'static [Decision],
@@ -79,26 +81,52 @@ fn outcome(
     alloc: Global,
     i: &Instance,
     decisions: &[Decision],
-) -> Result<Earliest, Fail> {
+) -> Result<Earliest, MemoryFault> {
     let choice = chosen(rt, alloc, i, decisions)?;
     assert!(rt; choice.is_complete(i));
-    Ok(earliest(alloc, i, &choice)?)
+    earliest(alloc, i, &choice)
 }
 
 /// Checks what comes of the choice of a row.
-fn expect_on(rt: &impl Abort, alloc: Global, i: &Instance, row: &Row) -> Result<(), Fail> {
+fn expect_on(rt: &impl Abort, alloc: Global, i: &Instance, row: &Row) -> Result<(), MemoryFault> {
     let found = outcome(rt, alloc, i, row.decisions)?;
     assert!(rt; row.answer.is(&found), "{}: {found:?}", row.label);
     Ok(())
 }
 
 /// Checks a row on its instance.
-fn expect(rt: &impl Abort, alloc: Global, row: &Row) -> Result<(), Fail> {
+pub fn expect(rt: &impl Abort, alloc: Global, row: &Row) -> Result<(), Fail> {
     let i = row.small.build(alloc)?;
-    expect_on(rt, alloc, &i, row)
+    Ok(expect_on(rt, alloc, &i, row)?)
 }
 
-static ROWS: &[Row] = &[
+/// Choices that leave much open: how far the slots can move, and how much is left.
+static INCOMPLETE: &[choices::Row] = &[
+    choices::Row {
+        label: "at the root eleven halvings are left",
+        small: Small::OneMessage(PLAIN),
+        decisions: &[],
+        asked: &[
+            Asked::Left(11),
+            Asked::Starts(0, 0, 1),
+            Asked::Ends(0, 7, 8),
+        ],
+    },
+    choices::Row {
+        label: "a node that comes first delays the slot of the other",
+        small: Small::OneMessage(PLAIN),
+        decisions: &[Place(1)],
+        asked: &[Asked::Placed(&[1]), Asked::Starts(0, 1, 1), Asked::Left(10)],
+    },
+    choices::Row {
+        label: "a free capacity moves the end of a slot with two messages",
+        small: Small::TwoReceivers,
+        decisions: &[],
+        asked: &[Asked::Ends(0, 7, 12)],
+    },
+];
+
+pub static ROWS: &[Row] = &[
     Row {
         label: "a receiver starts when its slot has ended",
         small: Small::OneMessage(PLAIN),
@@ -183,6 +211,9 @@ static ROWS: &[Row] = &[
 
 #[test]
 fn complete_choices(rt: HostRuntime) -> Result<(), Fail> {
+    for row in INCOMPLETE {
+        choices::expect(&rt, rt.alloc(), row)?;
+    }
     for row in ROWS {
         expect(&rt, rt.alloc(), row)?;
     }

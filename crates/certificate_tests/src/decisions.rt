@@ -6,10 +6,9 @@ ghost use Rattle.tt_choice.specs.Decisions.{IsOpenDecision};
 
 use std::alloc::Global;
 use std::process::Abort;
-use std::test::Fail;
 use tt_choice::{Choice, Decision};
 use tt_infer::Facts;
-use ttp_model::{Instance, Kind};
+use ttp_model::{Instance, Kind, MemoryFault};
 
 /// Whether a decision is open.
 pub fn is_open(i: &Instance, choice: &Choice, decision: Decision) -> bool
@@ -65,7 +64,7 @@ pub fn chosen(
     alloc: Global,
     i: &Instance,
     decisions: &[Decision],
-) -> Result<Choice, Fail>
+) -> Result<Choice, MemoryFault>
     ensures { IfOk result (IsChoice i.now) }
 {
     let mut choice = Choice::root(alloc, i)?;
@@ -83,10 +82,9 @@ pub fn first_facts<'a>(
     i: &'a Instance,
     decisions: &[Decision],
     goal: u32,
-) -> Result<Facts<'a>, Fail> {
+) -> Result<Facts<'a>, MemoryFault> {
     let choice = chosen(rt, alloc, i, decisions)?;
-    let facts = Facts::new(alloc, i, &choice, goal)?;
-    Ok(facts)
+    Facts::new(alloc, i, &choice, goal)
 }
 
 /// A number below a count, of a random one.

@@ -8,7 +8,7 @@ mod refusals;
 use crate::decisions::first_facts;
 use crate::instances::Small;
 use certificate::{Cert, Node, read};
-use std::alloc::Global;
+use std::alloc::{AllocError, Global};
 use std::process::Abort;
 use std::test::Fail;
 use tt_choice::Decision;
@@ -28,7 +28,7 @@ struct Row {
 }
 
 /// Adds of each process how early it starts and how late it ends.
-fn add_processes(facts: &Facts, text: &mut String) -> Result<(), Fail> {
+fn add_processes(facts: &Facts, text: &mut String) -> Result<(), AllocError> {
     let processes = facts.instance().processes().len() as u32;
     for p in 0..processes {
         write!(text, "{}..{} ", facts.es(p), facts.le(p))?;
@@ -37,7 +37,7 @@ fn add_processes(facts: &Facts, text: &mut String) -> Result<(), Fail> {
 }
 
 /// Adds of each message its least round and the first that is too late.
-fn add_messages(facts: &Facts, text: &mut String) -> Result<(), Fail> {
+fn add_messages(facts: &Facts, text: &mut String) -> Result<(), AllocError> {
     let messages = facts.instance().messages().len() as u32;
     for m in 0..messages {
         write!(text, "m {}..{} ", facts.lo(m), facts.top(m))?;
@@ -46,7 +46,7 @@ fn add_messages(facts: &Facts, text: &mut String) -> Result<(), Fail> {
 }
 
 /// Adds which processes go before which.
-fn add_orders(facts: &Facts, text: &mut String) -> Result<(), Fail> {
+fn add_orders(facts: &Facts, text: &mut String) -> Result<(), AllocError> {
     let processes = facts.instance().processes().len() as u32;
     for p in 0..processes {
         for q in 0..processes {
@@ -58,22 +58,35 @@ fn add_orders(facts: &Facts, text: &mut String) -> Result<(), Fail> {
     Ok(())
 }
 
-/// What is known, as a line: of each process how early it starts and how late it ends, of each
+/// Adds what is known, as a line: of each process how early it starts and how late it ends, of each
 /// message its least round and the first that is too late, and which processes go before which.
-fn line(alloc: Global, facts: &Facts) -> Result<String, Fail> {
+fn add_line(facts: &Facts, text: &mut String) -> Result<(), AllocError> {
+    add_processes(facts, text)?;
+    add_messages(facts, text)?;
+    add_orders(facts, text)?;
+    text.push_str(if facts.closed() { "closed" } else { "open" })
+}
+
+/// What is known, as a line.
+fn line(alloc: Global, facts: &Facts) -> Result<String, AllocError> {
     let mut text = String::new(alloc);
-    add_processes(facts, &mut text)?;
-    add_messages(facts, &mut text)?;
-    add_orders(facts, &mut text)?;
-    text.push_str(if facts.closed() { "closed" } else { "open" })?;
+    add_line(facts, &mut text)?;
     Ok(text)
 }
 
 /// A certificate of one leaf with the steps of these lines.
-fn cert_of(alloc: Global, lines: &str) -> Result<Cert, Fail> {
+pub fn cert_of(alloc: Global, lines: &str) -> Result<Cert, Fail> {
     let count = lines.lines().count();
     let text = format!(in alloc; "ttcert 1\nlow 0\nleaf 0 {count}\n{lines}\n")?;
     Ok(read(alloc, text.as_bytes())?)
+}
+
+/// The steps of a certificate that is one leaf.
+pub fn leaf_steps<'a>(rt: &impl Abort, cert: &'a Cert) -> &'a [Step] {
+    let [Node::Leaf(leaf)] = cert.nodes() else {
+        panic!(rt; "no leaf");
+    };
+    leaf.steps.as_slice()
 }
 
 /// Checks the answer to a step, and what is known after it.
@@ -84,7 +97,7 @@ fn expect_step(
     label: &str,
     step: &Step,
     wanted: (Result<(), StepFault>, &str),
-) -> Result<(), Fail> {
+) -> Result<(), AllocError> {
     let answer = facts.apply(step);
     let known = line(alloc, facts)?;
     assert_eq!(rt; (answer, known.as_str()), wanted, "{label}: {step:?}");
@@ -92,6 +105,21 @@ fn expect_step(
 }
 
 /// Checks the answer to each of these steps, and what is known after each.
+fn expect_steps(
+    rt: &impl Abort,
+    alloc: Global,
+    facts: &mut Facts,
+    label: &str,
+    steps: &[Step],
+    wanted: (Result<(), StepFault>, &str),
+) -> Result<(), Fail> {
+    for step in steps {
+        expect_step(rt, alloc, facts, label, step, wanted)?;
+    }
+    Ok(())
+}
+
+/// Checks the same of the steps of some lines.
 fn expect(
     rt: &impl Abort,
     alloc: Global,
@@ -100,25 +128,25 @@ fn expect(
     (lines, answer, known): &Steps,
 ) -> Result<(), Fail> {
     let cert = cert_of(alloc, lines)?;
-    let [Node::Leaf(leaf)] = cert.nodes() else {
-        panic!(rt; "no leaf");
-    };
-    for step in leaf.steps.as_slice() {
-        expect_step(rt, alloc, facts, label, step, (*answer, known))?;
-    }
-    Ok(())
-}
-
-/// Takes the steps of a row on its instance.
-fn replay_on(rt: &impl Abort, alloc: Global, i: &Instance, row: &Row) -> Result<(), Fail> {
-    let mut facts = first_facts(rt, alloc, i, row.decisions, row.goal)?;
-    for steps in row.steps {
-        expect(rt, alloc, &mut facts, row.label, steps)?;
-    }
-    Ok(())
+    let steps = leaf_steps(rt, &cert);
+    expect_steps(rt, alloc, facts, label, steps, (*answer, known))
 }
 
 /// Takes the steps of a row one after another.
+fn replay_all(rt: &impl Abort, alloc: Global, facts: &mut Facts, row: &Row) -> Result<(), Fail> {
+    for steps in row.steps {
+        expect(rt, alloc, facts, row.label, steps)?;
+    }
+    Ok(())
+}
+
+/// The same from what is known at first on the row's instance.
+fn replay_on(rt: &impl Abort, alloc: Global, i: &Instance, row: &Row) -> Result<(), Fail> {
+    let mut facts = first_facts(rt, alloc, i, row.decisions, row.goal)?;
+    replay_all(rt, alloc, &mut facts, row)
+}
+
+/// The same of the row alone.
 fn replay(rt: &impl Abort, alloc: Global, row: &Row) -> Result<(), Fail> {
     let i = row.small.build(alloc)?;
     replay_on(rt, alloc, &i, row)

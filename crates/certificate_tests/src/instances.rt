@@ -36,6 +36,7 @@ pub enum Small {
     ThreeLengths,
     ThreeAfterOne,
     TwoMessages,
+    TwoReceivers,
     SilentNodes,
     TwoSilent,
     ThreeSilent,
@@ -68,6 +69,7 @@ impl Small {
             Small::ThreeLengths => THREE_LENGTHS,
             Small::ThreeAfterOne => THREE_AFTER_ONE,
             Small::TwoMessages => TWO_MESSAGES,
+            Small::TwoReceivers => TWO_RECEIVERS,
             Small::SilentNodes => SILENT_NODES,
             Small::TwoSilent => TWO_SILENT,
             Small::ThreeSilent => THREE_SILENT,
@@ -143,6 +145,17 @@ static TWO_MESSAGES: &[Part] = &[
     Process("r", 1, 2),
     Message("m", 0, 1, 2),
     Message("second", 0, 2, 2),
+];
+
+/// Process p of 1 tick on A sends 2 bytes to each of q1 and q2 on B, of 1 tick each, and A's frames hold one message or both.
+static TWO_RECEIVERS: &[Part] = &[
+    Node("A", &[2, 4]),
+    Node("B", &[0]),
+    Process("p", 0, 1),
+    Process("q1", 1, 1),
+    Process("q2", 1, 1),
+    Message("m1", 0, 1, 2),
+    Message("m2", 0, 2, 2),
 ];
 
 /// Two nodes that send nothing, beside one that sends, and a process on each of two.

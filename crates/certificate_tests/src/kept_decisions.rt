@@ -5,15 +5,15 @@ ghost use Rattle.tt_choice.specs.Choice.{IsChoice};
 
 use crate::decisions::{is_open, next, some_decision};
 use crate::instances::Small;
-use std::alloc::Global;
+use std::alloc::{AllocError, Global};
 use std::process::Abort;
 use std::test::Fail;
 use tt_choice::Choice;
-use ttp_model::Instance;
+use ttp_model::{Instance, MemoryFault};
 use worked_instances::PLAIN;
 
 /// Adds which processes go before which.
-fn add_orders(choice: &Choice, processes: u32, text: &mut String) -> Result<(), Fail> {
+fn add_orders(choice: &Choice, processes: u32, text: &mut String) -> Result<(), AllocError> {
     for p in 0..processes {
         for q in 0..processes {
             if choice.is_before(p, q) {
@@ -24,34 +24,58 @@ fn add_orders(choice: &Choice, processes: u32, text: &mut String) -> Result<(), 
     Ok(())
 }
 
-/// All that the readers of a choice tell, as a line: how much is left to choose, the nodes that are placed, the capacity of each
-/// node where one is fixed, the least and the greatest round of each message, and the orders.
-fn line(alloc: Global, i: &Instance, choice: &Choice) -> Result<String, Fail>
+/// Adds the nodes that are placed, and the capacity of each node where one is fixed.
+fn add_nodes(i: &Instance, choice: &Choice, text: &mut String) -> Result<(), AllocError>
     requires { IsChoice i.now choice.now }
 {
-    let left = choice.size_left(i);
-    let mut text = format!(in alloc; "{left} {:?}", choice.prefix())?;
+    write!(text, "{:?}", choice.prefix())?;
     let nodes = i.nodes().len() as u32;
     for n in 0..nodes {
         write!(text, " {:?}", choice.fixed_cap(n))?;
     }
+    Ok(())
+}
+
+/// Adds the least and the greatest round of each message.
+fn add_messages(i: &Instance, choice: &Choice, text: &mut String) -> Result<(), AllocError>
+    requires { IsChoice i.now choice.now }
+{
     let messages = i.messages().len() as u32;
     for m in 0..messages {
         write!(text, " {}..{}", choice.lo(m), choice.hi(m))?;
     }
-    add_orders(choice, i.processes().len() as u32, &mut text)?;
+    Ok(())
+}
+
+/// Adds all that the readers of a choice tell: the nodes that are placed, the capacity of each node where one is fixed, the
+/// least and the greatest round of each message, the orders, and how much is left to choose.
+fn add_line(i: &Instance, choice: &Choice, text: &mut String) -> Result<(), AllocError>
+    requires { IsChoice i.now choice.now }
+{
+    add_nodes(i, choice, text)?;
+    add_messages(i, choice, text)?;
+    add_orders(choice, i.processes().len() as u32, text)?;
+    write!(text, " {}", choice.size_left(i))
+}
+
+/// All that the readers of a choice tell, as a line.
+pub fn line(alloc: Global, i: &Instance, choice: &Choice) -> Result<String, AllocError>
+    requires { IsChoice i.now choice.now }
+{
+    let mut text = String::new(alloc);
+    add_line(i, choice, &mut text)?;
     Ok(text)
 }
 
 /// Checks that a choice is what it was, by its line, or no more.
-fn expect_line(
+pub fn expect_line(
     rt: &impl Abort,
     alloc: Global,
     i: &Instance,
     choice: &Choice,
     before: &str,
     is_same: bool,
-) -> Result<(), Fail>
+) -> Result<(), MemoryFault>
     requires { IsChoice i.now choice.now }
 {
     let now = line(alloc, i, choice)?;
@@ -68,7 +92,7 @@ fn goes_there_and_back(
     choice: &mut Choice,
     tries: u32,
     seed: u32,
-) -> Result<u32, Fail>
+) -> Result<u32, MemoryFault>
     requires { IsChoice i.now choice.old }
     ensures { OnOk result (choice.new ≡ choice.old) }
 {
@@ -88,11 +112,16 @@ fn goes_there_and_back(
     Ok(made.saturating_add(1))
 }
 
-/// How many decisions are made of a small instance, and taken back.
+/// How many decisions are made of an instance, and taken back.
+fn made_on(rt: &impl Abort, alloc: Global, i: &Instance, seed: u32) -> Result<u32, MemoryFault> {
+    let mut choice = Choice::root(alloc, i)?;
+    goes_there_and_back(rt, alloc, i, &mut choice, 60, seed)
+}
+
+/// The same of a small instance.
 fn made(rt: &impl Abort, alloc: Global, small: Small, seed: u32) -> Result<u32, Fail> {
     let i = small.build(alloc)?;
-    let mut choice = Choice::root(alloc, &i)?;
-    goes_there_and_back(rt, alloc, &i, &mut choice, 60, seed)
+    Ok(made_on(rt, alloc, &i, seed)?)
 }
 
 static ROWS: &[Small] = &[

@@ -26,6 +26,8 @@ mod propagation;
 #[cfg(test)]
 mod readers;
 #[cfg(test)]
+mod refusals;
+#[cfg(test)]
 mod settled_plans;
 #[cfg(test)]
 mod streamed_checks;

@@ -4,13 +4,13 @@ use crate::decisions::first_facts;
 use crate::instances::Part::{Message, Node, Process, Within};
 use crate::instances::{Part, Small};
 use load_bounds::{frame_load, node_load};
-use std::alloc::Global;
+use std::alloc::{AllocError, Global};
 use std::process::Abort;
 use std::test::Fail;
 use tt_choice::Decision;
 use tt_choice::Decision::{AtMost, Cap, Place};
 use tt_infer::{Facts, StepFault};
-use ttp_model::{Instance, Step};
+use ttp_model::{Instance, MemoryFault, Step};
 
 /// What of a node may be too much.
 #[derive(Clone, Copy)]
@@ -22,9 +22,9 @@ enum Load {
 use self::Load::{Messages, Processes};
 
 /// Loads that are asked for one after another at the choice of these decisions, each with its closer if it has one.
-struct Row {
+pub struct Row {
     label: &'static str,
-    parts: &'static [Part],
+    small: Small,
     decisions: &'static [Decision],
     goal: u32,
     loads: &'static [(Load, &'static str)],
@@ -42,24 +42,12 @@ fn bound_processes(rt: &impl Abort, facts: &mut Facts) {
     }
 }
 
-/// Checks a load: which closer it has, if it has one. No plan is left after that, and no other closer is taken.
-fn expect_load(
-    rt: &impl Abort,
-    alloc: Global,
-    facts: &mut Facts,
-    label: &str,
-    (load, closer): &(Load, &str),
-) -> Result<(), Fail> {
-    let found = match *load {
+/// The closer of a load, if it has one.
+fn closer(facts: &Facts, load: Load) -> Option<Step> {
+    match load {
         Processes(n) => node_load(facts, n),
         Messages(n) => frame_load(facts, n),
-    };
-    let text = format!(in alloc; "{found:?}")?;
-    assert_eq!(rt; text.as_str(), *closer, "{label}");
-    if let Some(step) = found {
-        close(rt, facts, &step);
     }
-    Ok(())
 }
 
 /// Takes a closer, where none was taken before.
@@ -72,20 +60,58 @@ fn close(rt: &impl Abort, facts: &mut Facts, step: &Step) {
     assert_eq!(rt; (facts.apply(step), facts.closed()), (answer, true));
 }
 
-/// Checks the loads of a row on its instance.
-fn expect_on(rt: &impl Abort, alloc: Global, i: &Instance, row: &Row) -> Result<(), Fail> {
-    let mut facts = first_facts(rt, alloc, i, row.decisions, row.goal)?;
-    bound_processes(rt, &mut facts);
+/// Checks which closer was found.
+fn expect_closer(
+    rt: &impl Abort,
+    alloc: Global,
+    found: &Option<Step>,
+    wanted: &str,
+    label: &str,
+) -> Result<(), AllocError> {
+    let text = format!(in alloc; "{found:?}")?;
+    assert_eq!(rt; text.as_str(), wanted, "{label}");
+    Ok(())
+}
+
+/// Checks a load: which closer it has, if it has one. No plan is left after that, and no other closer is taken.
+fn expect_load(
+    rt: &impl Abort,
+    alloc: Global,
+    facts: &mut Facts,
+    label: &str,
+    (load, wanted): &(Load, &str),
+) -> Result<(), AllocError> {
+    let found = closer(facts, *load);
+    if let Some(step) = &found {
+        close(rt, facts, step);
+    }
+    expect_closer(rt, alloc, &found, wanted, label)
+}
+
+/// Checks the loads of a row by what is known.
+fn expect_loads(
+    rt: &impl Abort,
+    alloc: Global,
+    facts: &mut Facts,
+    row: &Row,
+) -> Result<(), MemoryFault> {
+    bound_processes(rt, facts);
     for load in row.loads {
-        expect_load(rt, alloc, &mut facts, row.label, load)?;
+        expect_load(rt, alloc, facts, row.label, load)?;
     }
     Ok(())
 }
 
+/// Checks the loads of a row on its instance.
+fn expect_on(rt: &impl Abort, alloc: Global, i: &Instance, row: &Row) -> Result<(), MemoryFault> {
+    let mut facts = first_facts(rt, alloc, i, row.decisions, row.goal)?;
+    expect_loads(rt, alloc, &mut facts, row)
+}
+
 /// Checks the loads of a row.
-fn expect(rt: &impl Abort, alloc: Global, row: &Row) -> Result<(), Fail> {
-    let i = Small::Of(row.parts).build(alloc)?;
-    expect_on(rt, alloc, &i, row)
+pub fn expect(rt: &impl Abort, alloc: Global, row: &Row) -> Result<(), Fail> {
+    let i = row.small.build(alloc)?;
+    Ok(expect_on(rt, alloc, &i, row)?)
 }
 
 const A: Part = Node("A", &[0]);
@@ -99,113 +125,101 @@ const RECEIVER: Part = Process("p1", 1, 1);
 
 /// Processes that are too much for an interval, and that are just not; then messages that are too much for the frames of some
 /// rounds, and that are just not.
-static ROWS: &[Row] = &[
+pub static ROWS: &[Row] = &[
     Row {
         label: "three of two ticks do not fit below tick six",
-        parts: &[
-            A,
-            B,
-            Within("p0", 0, 2, (0, 100)),
-            Within("p1", 0, 2, (0, 100)),
-            Within("p2", 0, 2, (0, 100)),
-        ],
+        small: Small::ThreeAlike,
         decisions: &[],
         goal: 6,
         loads: &[(Processes(0), "Some(XLoad(0, 0, 5))")],
     },
     Row {
         label: "three of two ticks fit below tick seven",
-        parts: &[
-            A,
-            B,
-            Within("p0", 0, 2, (0, 100)),
-            Within("p1", 0, 2, (0, 100)),
-            Within("p2", 0, 2, (0, 100)),
-        ],
+        small: Small::ThreeAlike,
         decisions: &[],
         goal: 7,
         loads: &[(Processes(0), "None")],
     },
     Row {
         label: "the whole window may have room where a part has not",
-        parts: &[
+        small: Small::Of(&[
             A,
             B,
             Within("p0", 0, 1, (0, 100)),
             Within("p1", 0, 2, (10, 13)),
             Within("p2", 0, 2, (10, 13)),
-        ],
+        ]),
         decisions: &[],
         goal: 101,
         loads: &[(Processes(0), "Some(XLoad(0, 10, 13))")],
     },
     Row {
         label: "a part that is a tick wider has room too",
-        parts: &[
+        small: Small::Of(&[
             A,
             B,
             Within("p0", 0, 1, (0, 100)),
             Within("p1", 0, 2, (10, 13)),
             Within("p2", 0, 2, (10, 14)),
-        ],
+        ]),
         decisions: &[],
         goal: 101,
         loads: &[(Processes(0), "None")],
     },
     Row {
         label: "a part may have room where the whole window has not",
-        parts: &[
+        small: Small::Of(&[
             A,
             B,
             Within("p0", 0, 2, (0, 5)),
             Within("p1", 0, 2, (0, 4)),
             Within("p2", 0, 2, (1, 5)),
-        ],
+        ]),
         decisions: &[],
         goal: 101,
         loads: &[(Processes(0), "Some(XLoad(0, 0, 5))")],
     },
     Row {
         label: "a process that ends before it starts is too much at once",
-        parts: &[
+        small: Small::Of(&[
             A,
             B,
             Within("p0", 0, 1, (0, 100)),
             Within("p1", 0, 1, (5, 100)),
-        ],
+        ]),
         decisions: &[],
         goal: 4,
         loads: &[(Processes(0), "Some(XLoad(0, 5, 5))")],
     },
     Row {
         label: "each node has its own processes, and each has room",
-        parts: &[
+        small: Small::Of(&[
             A,
             B,
             Within("p0", 0, 3, (0, 4)),
             Within("p1", 1, 3, (0, 4)),
             Within("p2", 0, 1, (0, 4)),
-        ],
+        ]),
         decisions: &[],
         goal: 101,
         loads: &[(Processes(0), "None"), (Processes(1), "None")],
     },
     Row {
         label: "each node has its own processes, which are too much for one of them",
-        parts: &[
+        small: Small::Of(&[
             A,
             B,
             Within("p0", 0, 3, (0, 4)),
             Within("p1", 1, 3, (0, 4)),
             Within("p2", 0, 1, (0, 4)),
-        ],
+        ]),
         decisions: &[],
         goal: 3,
         loads: &[(Processes(1), "Some(XLoad(1, 0, 2))")],
     },
     Row {
         label: "a node that is not there has no load",
-        parts: &[A, B, Within("p0", 0, 2, (0, 100))],
+        small: Small::Of(&[A, B, Within("p0", 0, 2, (0, 100))]),
         decisions: &[],
         goal: 0,
         loads: &[
@@ -218,12 +232,12 @@ static ROWS: &[Row] = &[
     },
     Row {
         label: "a closer is found after a closer but not taken",
-        parts: &[
+        small: Small::Of(&[
             A,
             B,
             Within("p0", 0, 2, (0, 100)),
             Within("p1", 0, 2, (0, 100)),
-        ],
+        ]),
         decisions: &[],
         goal: 4,
         loads: &[
@@ -233,14 +247,7 @@ static ROWS: &[Row] = &[
     },
     Row {
         label: "two messages do not fit into one frame",
-        parts: &[
-            Node("A", &[4]),
-            B,
-            SENDER,
-            RECEIVER,
-            Message("m0", 0, 1, 2),
-            Message("m1", 0, 1, 3),
-        ],
+        small: Small::Overfull,
         decisions: &[
             Place(1),
             Cap(1, 0),
@@ -259,7 +266,7 @@ static ROWS: &[Row] = &[
     },
     Row {
         label: "frames of two rounds hold twice as much: three messages",
-        parts: &[
+        small: Small::Of(&[
             Node("A", &[4]),
             B,
             SENDER,
@@ -268,14 +275,14 @@ static ROWS: &[Row] = &[
             Message("m1", 0, 1, 3),
             Message("m2", 0, 1, 2),
             Message("m3", 0, 1, 1),
-        ],
+        ]),
         decisions: &[AtMost(0, 1), AtMost(1, 1), AtMost(2, 1)],
         goal: 101,
         loads: &[(Messages(0), "None")],
     },
     Row {
         label: "frames of two rounds hold twice as much, and not four messages",
-        parts: &[
+        small: Small::Of(&[
             Node("A", &[4]),
             B,
             SENDER,
@@ -284,45 +291,37 @@ static ROWS: &[Row] = &[
             Message("m1", 0, 1, 3),
             Message("m2", 0, 1, 2),
             Message("m3", 0, 1, 1),
-        ],
+        ]),
         decisions: &[AtMost(0, 1), AtMost(1, 1), AtMost(2, 1), AtMost(3, 1)],
         goal: 101,
         loads: &[(Messages(0), "Some(XFrames(0, 0, 2))")],
     },
     Row {
         label: "a free capacity counts as the greatest",
-        parts: &[
+        small: Small::Of(&[
             Node("A", &[2, 4]),
             B,
             SENDER,
             RECEIVER,
             Message("m0", 0, 1, 2),
             Message("m1", 0, 1, 2),
-        ],
+        ]),
         decisions: &[AtMost(0, 0), AtMost(1, 0)],
         goal: 101,
         loads: &[(Messages(0), "None")],
     },
     Row {
         label: "a fixed capacity counts as it is",
-        parts: &[
+        small: Small::Of(&[
             Node("A", &[2, 4]),
             B,
             SENDER,
             RECEIVER,
             Message("m0", 0, 1, 2),
             Message("m1", 0, 1, 2),
-        ],
+        ]),
         decisions: &[AtMost(0, 0), AtMost(1, 0), Place(0), Cap(0, 0)],
         goal: 101,
         loads: &[(Messages(0), "Some(XFrames(0, 0, 1))")],
     },
 ];
-
-#[test]
-fn load_rows(rt: HostRuntime) -> Result<(), Fail> {
-    for row in ROWS {
-        expect(&rt, rt.alloc(), row)?;
-    }
-    Ok(())
-}

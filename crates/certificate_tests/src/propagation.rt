@@ -1,12 +1,14 @@
 //! Bounds of small instances, counted by hand.
 
 mod fixed_points;
-mod trail;
+mod many_decisions;
+pub mod trail;
 
 ghost use Rattle.tt_choice.specs.Choice.{IsChoice};
 
 use crate::decisions::chosen;
 use crate::instances::Small;
+use crate::loads;
 use path_bounds::{Reached, best_goal, path_bound, propagate};
 use std::alloc::Global;
 use std::process::Abort;
@@ -14,7 +16,7 @@ use std::test::Fail;
 use tt_choice::Decision::{AtLeast, AtMost, Before};
 use tt_choice::{Choice, Decision};
 use tt_infer::Facts;
-use ttp_model::{Cluster, Instance, Leaf, MOST_TICKS, Step};
+use ttp_model::{Cluster, Instance, Leaf, MOST_TICKS, MemoryFault, Step};
 use worked_instances::PLAIN;
 
 /// What is asked of the choice of some decisions, and the answer.
@@ -40,7 +42,7 @@ fn closing_steps(
     i: &Instance,
     choice: &Choice,
     goal: u32,
-) -> Result<Option<Vec<Step>>, Fail>
+) -> Result<Option<Vec<Step>>, MemoryFault>
     requires { IsChoice i.now choice.now }
 {
     let mut steps = Vec::new(alloc);
@@ -50,8 +52,47 @@ fn closing_steps(
     }
 }
 
+/// How many steps propagation takes to close a choice at a goal, if it does.
+fn closing_count(
+    alloc: Global,
+    i: &Instance,
+    choice: &Choice,
+    goal: u32,
+) -> Result<Option<usize>, MemoryFault>
+    requires { IsChoice i.now choice.now }
+{
+    match closing_steps(alloc, i, choice, goal)? {
+        Some(steps) => Ok(Some(steps.len())),
+        None => Ok(None),
+    }
+}
+
+/// The message and the round of a step by which the message is late where the round could take it.
+fn late(step: Option<&Step>) -> Option<(u32, u32)> {
+    // No other step says so.
+    if let Some(Step::XLate(m, r)) = step {
+        return Some((*m, *r));
+    }
+    None
+}
+
+/// Those of the step by which propagation closes a choice at a goal at last, if it is such a one.
+fn last_late(
+    alloc: Global,
+    i: &Instance,
+    choice: &Choice,
+    goal: u32,
+) -> Result<Option<(u32, u32)>, MemoryFault>
+    requires { IsChoice i.now choice.now }
+{
+    match closing_steps(alloc, i, choice, goal)? {
+        Some(steps) => Ok(late(steps.last())),
+        None => Ok(None),
+    }
+}
+
 /// Whether the leaf's steps close the choice at its goal, one after another.
-fn replays(alloc: Global, i: &Instance, choice: &Choice, leaf: &Leaf) -> Result<bool, Fail>
+fn replays(alloc: Global, i: &Instance, choice: &Choice, leaf: &Leaf) -> Result<bool, MemoryFault>
     requires { IsChoice i.now choice.now }
 {
     let mut facts = Facts::new(alloc, i, choice, leaf.goal)?;
@@ -70,7 +111,7 @@ fn leaf_size(
     i: &Instance,
     choice: &Choice,
     top: u32,
-) -> Result<(u32, usize), Fail>
+) -> Result<(u32, usize), MemoryFault>
     requires { IsChoice i.now choice.now }
 {
     let leaf = best_goal(alloc, i, choice, top)?;
@@ -78,34 +119,20 @@ fn leaf_size(
     Ok((leaf.goal, leaf.steps.as_slice().len()))
 }
 
-/// The step by which propagation closes a choice at a goal at last, if it is that a message is late where a round could take it.
-fn last_late(
+/// Whether the leaf that closes a choice up to a goal has fewer steps than propagation takes at it.
+fn has_fewer(
+    rt: &impl Abort,
     alloc: Global,
     i: &Instance,
     choice: &Choice,
     goal: u32,
-) -> Result<Option<(u32, u32)>, Fail>
+) -> Result<bool, MemoryFault>
     requires { IsChoice i.now choice.now }
 {
-    let steps = closing_steps(alloc, i, choice, goal)?.ok_or("open")?;
-    match steps.last() {
-        Some(Step::XLate(m, r)) => Ok(Some((*m, *r))),
-        _ => Ok(None),
-    }
-}
-
-/// How many steps propagation takes to close a choice at a goal, if it does.
-fn closing_count(
-    alloc: Global,
-    i: &Instance,
-    choice: &Choice,
-    goal: u32,
-) -> Result<Option<usize>, Fail>
-    requires { IsChoice i.now choice.now }
-{
-    match closing_steps(alloc, i, choice, goal)? {
-        Some(steps) => Ok(Some(steps.len())),
-        None => Ok(None),
+    let (_goal, steps) = leaf_size(rt, alloc, i, choice, goal)?;
+    match closing_count(alloc, i, choice, goal)? {
+        Some(all) => Ok(steps < all),
+        None => Ok(false),
     }
 }
 
@@ -116,7 +143,7 @@ fn holds(
     i: &Instance,
     choice: &Choice,
     asked: Asked,
-) -> Result<bool, Fail>
+) -> Result<bool, MemoryFault>
     requires { IsChoice i.now choice.now }
 {
     match asked {
@@ -127,15 +154,12 @@ fn holds(
         Asked::Late(goal, m, r) => Ok(last_late(alloc, i, choice, goal)? == Some((m, r))),
         Asked::Leaf(top, goal) => Ok(leaf_size(rt, alloc, i, choice, top)?.0 == goal),
         Asked::Steps(top, most) => Ok(leaf_size(rt, alloc, i, choice, top)?.1 <= most),
-        Asked::Fewer(goal) => {
-            let all = closing_count(alloc, i, choice, goal)?.ok_or("open")?;
-            Ok(leaf_size(rt, alloc, i, choice, goal)?.1 < all)
-        }
+        Asked::Fewer(goal) => has_fewer(rt, alloc, i, choice, goal),
     }
 }
 
 /// Decisions, and what their choice is asked.
-struct Row {
+pub struct Row {
     label: &'static str,
     small: Small,
     decisions: &'static [Decision],
@@ -143,29 +167,32 @@ struct Row {
 }
 
 /// Checks what is answered of a choice.
-fn expect_one(
+fn expect_all(
     rt: &impl Abort,
     alloc: Global,
     i: &Instance,
     choice: &Choice,
-    label: &str,
-    asked: Asked,
-) -> Result<(), Fail>
+    row: &Row,
+) -> Result<(), MemoryFault>
     requires { IsChoice i.now choice.now }
 {
-    let holds = holds(rt, alloc, i, choice, asked)?;
-    assert!(rt; holds, "{label}: {asked:?}");
+    for asked in row.asked {
+        let holds = holds(rt, alloc, i, choice, *asked)?;
+        assert!(rt; holds, "{}: {asked:?}", row.label);
+    }
     Ok(())
 }
 
+/// Checks what is answered of the choice of a row on its instance.
+fn expect_on(rt: &impl Abort, alloc: Global, i: &Instance, row: &Row) -> Result<(), MemoryFault> {
+    let choice = chosen(rt, alloc, i, row.decisions)?;
+    expect_all(rt, alloc, i, &choice, row)
+}
+
 /// Checks what is answered of the choice of a row.
-fn expect(rt: &impl Abort, alloc: Global, row: &Row) -> Result<(), Fail> {
+pub fn expect(rt: &impl Abort, alloc: Global, row: &Row) -> Result<(), Fail> {
     let i = row.small.build(alloc)?;
-    let choice = chosen(rt, alloc, &i, row.decisions)?;
-    for asked in row.asked {
-        expect_one(rt, alloc, &i, &choice, row.label, *asked)?;
-    }
-    Ok(())
+    Ok(expect_on(rt, alloc, &i, row)?)
 }
 
 /// A cluster with the greatest horizon.
@@ -174,24 +201,13 @@ const FAR: Cluster = Cluster {
     ..PLAIN
 };
 
-static ROWS: &[Row] = &[
+/// The bounds of one message.
+pub static ONE_MESSAGE: &[Row] = &[
     Row {
         label: "worked path bounds: one message",
         small: Small::OneMessage(PLAIN),
         decisions: &[],
         asked: &[Asked::PathBound(8)],
-    },
-    Row {
-        label: "worked path bounds: three alike",
-        small: Small::ThreeAlike,
-        decisions: &[],
-        asked: &[Asked::PathBound(2)],
-    },
-    Row {
-        label: "worked path bounds: two messages that share no frame",
-        small: Small::Overfull,
-        decisions: &[],
-        asked: &[Asked::PathBound(7)],
     },
     Row {
         label: "propagation closes up to the path bound, and two goals further",
@@ -212,16 +228,38 @@ static ROWS: &[Row] = &[
         ],
     },
     Row {
-        label: "propagation closes at each goal where a message fits no frame",
-        small: Small::NoFrame,
-        decisions: &[],
-        asked: &[Asked::Closes(101, true)],
-    },
-    Row {
         label: "leaves of one message, up to a top above the path bound and below it",
         small: Small::OneMessage(PLAIN),
         decisions: &[],
         asked: &[Asked::Leaf(101, 9), Asked::Steps(101, 4), Asked::Leaf(5, 5)],
+    },
+    // Trimming keeps the goal.
+    Row {
+        label: "leaves are without the steps that their closers do not need",
+        small: Small::OneMessage(PLAIN),
+        decisions: &[],
+        asked: &[Asked::Fewer(9)],
+    },
+];
+
+static ROWS: &[Row] = &[
+    Row {
+        label: "worked path bounds: three alike",
+        small: Small::ThreeAlike,
+        decisions: &[],
+        asked: &[Asked::PathBound(2)],
+    },
+    Row {
+        label: "worked path bounds: two messages that share no frame",
+        small: Small::Overfull,
+        decisions: &[],
+        asked: &[Asked::PathBound(7)],
+    },
+    Row {
+        label: "propagation closes at each goal where a message fits no frame",
+        small: Small::NoFrame,
+        decisions: &[],
+        asked: &[Asked::Closes(101, true)],
     },
     Row {
         label: "a leaf of loads",
@@ -234,13 +272,6 @@ static ROWS: &[Row] = &[
         small: Small::NoFrame,
         decisions: &[],
         asked: &[Asked::Leaf(101, 101), Asked::Steps(101, 1)],
-    },
-    // Trimming keeps the goal.
-    Row {
-        label: "leaves are without the steps that their closers do not need",
-        small: Small::OneMessage(PLAIN),
-        decisions: &[],
-        asked: &[Asked::Fewer(9)],
     },
     // Processes that wait for each other in a ring of links, orders and messages are seen at once: what is known doesn't climb
     // round by round up to the horizon.
@@ -270,9 +301,14 @@ static ROWS: &[Row] = &[
 ];
 
 #[test]
-fn propagation_rows(rt: HostRuntime) -> Result<(), Fail> {
-    for row in ROWS {
-        expect(&rt, rt.alloc(), row)?;
+fn bounds_rows(rt: HostRuntime) -> Result<(), Fail> {
+    for rows in [ONE_MESSAGE, ROWS] {
+        for row in rows {
+            expect(&rt, rt.alloc(), row)?;
+        }
+    }
+    for row in loads::ROWS {
+        loads::expect(&rt, rt.alloc(), row)?;
     }
     Ok(())
 }

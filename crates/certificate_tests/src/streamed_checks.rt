@@ -14,7 +14,7 @@ use ttp_model::Instance;
 use worked_instances::PLAIN;
 
 /// How many leaves are judged together, and how many bytes a reader gives a call.
-type Pace = (usize, usize);
+pub type Pace = (usize, usize);
 
 const PACES: &[Pace] = &[(1, 1), (2, 100_000), (2_048, 7)];
 
@@ -23,7 +23,7 @@ const TWO_FAULTS: &str =
     "ttcert 1\nlow 9\nround 0 1\nleaf 8 5\nes-release 0\nlo-send 0\nes-arrive 0 1\nle-own 1\nx-window 1\nleaf 101 0\n";
 
 /// What the check says of a text that is read as a whole.
-fn whole_answer(alloc: Global, i: &Instance, text: &[u8]) -> Result<u32, StreamFault> {
+pub fn whole_answer(alloc: Global, i: &Instance, text: &[u8]) -> Result<u32, StreamFault> {
     let cert = match read(alloc, text) {
         Ok(cert) => cert,
         Err(error) => return Err(StreamFault::Text(error)),
@@ -35,7 +35,7 @@ fn whole_answer(alloc: Global, i: &Instance, text: &[u8]) -> Result<u32, StreamF
 }
 
 /// What it says of the same text as it is read.
-fn streamed_answer(
+pub fn streamed_answer(
     rt: &(impl Threads + Sync),
     alloc: Global,
     i: &Instance,
@@ -69,61 +69,36 @@ fn each_prefix_is_answered_as_a_whole_text(rt: HostRuntime) -> Result<(), Fail> 
     Ok(())
 }
 
-/// A text with a fault of the certificate, and its answer.
-type Row = (&'static str, StreamFault);
+/// Texts with a fault of the certificate, and the fault that goes first.
+#[rattlefmt::skip]
+static FAULTS: &[(&str, StreamFault)] = &[
+    (TWO_FAULTS, StreamFault::Cert(CertFault::At { line: 4, fault: NodeFault::LowGoal })),
+    ("ttcert 1\nlow 9\nplace 2\nleaf 8 0\nleaf 9 x\n", StreamFault::Text(CertTextError::At { line: 5, fault: LineFault::Form })),
+    ("ttcert 1\nlow 9\nplace 2\nplace 2\nleaf 9 0\n", StreamFault::Text(CertTextError::At { line: 6, fault: LineFault::EarlyEnd })),
+    ("ttcert 1\nlow 102\nleaf 9 0\n", StreamFault::Cert(CertFault::LowTooGreat)),
+    ("ttcert 1\nlow 102\nleaf 9 0\nleaf 9 0\n", StreamFault::Text(CertTextError::At { line: 4, fault: LineFault::Trailing })),
+    ("ttcert 1\nlow 9\nplace 0\nplace 0\n", StreamFault::Text(CertTextError::At { line: 4, fault: LineFault::Trailing })),
+];
 
-fn in_text(line: u64, fault: LineFault) -> StreamFault {
-    StreamFault::Text(CertTextError::At { line, fault })
-}
-
-fn in_tree(line: u64, fault: NodeFault) -> StreamFault {
-    StreamFault::Cert(CertFault::At { line, fault })
-}
-
-/// The first of these of which something else is said.
-fn wrong_row(
-    rt: &(impl Threads + Sync),
+/// Checks what is said of a text at each pace.
+fn expect_fault(
+    rt: &(impl Abort + Threads + Sync),
     alloc: Global,
     i: &Instance,
-    rows: &[Row],
-    pace: Pace,
-) -> Option<usize> {
-    for (k, (text, fault)) in rows.iter().enumerate() {
-        if streamed_answer(rt, alloc, i, text.as_bytes(), pace) != Err(*fault) {
-            return Some(k);
-        }
+    text: &str,
+    fault: StreamFault,
+) {
+    for pace in PACES {
+        let answer = streamed_answer(rt, alloc, i, text.as_bytes(), *pace);
+        assert_eq!(rt; answer, Err(fault), "{text}");
     }
-    None
 }
 
 #[test]
 fn a_fault_of_the_text_goes_before_one_of_the_certificate(rt: HostRuntime) -> Result<(), Fail> {
     let i = Small::OneMessage(PLAIN).build(rt.alloc())?;
-    let rows = [
-        (TWO_FAULTS, in_tree(4, NodeFault::LowGoal)),
-        (
-            "ttcert 1\nlow 9\nplace 2\nleaf 8 0\nleaf 9 x\n",
-            in_text(5, LineFault::Form),
-        ),
-        (
-            "ttcert 1\nlow 9\nplace 2\nplace 2\nleaf 9 0\n",
-            in_text(6, LineFault::EarlyEnd),
-        ),
-        (
-            "ttcert 1\nlow 102\nleaf 9 0\n",
-            StreamFault::Cert(CertFault::LowTooGreat),
-        ),
-        (
-            "ttcert 1\nlow 102\nleaf 9 0\nleaf 9 0\n",
-            in_text(4, LineFault::Trailing),
-        ),
-        (
-            "ttcert 1\nlow 9\nplace 0\nplace 0\n",
-            in_text(4, LineFault::Trailing),
-        ),
-    ];
-    for pace in PACES {
-        assert_eq!(rt; wrong_row(&rt, rt.alloc(), &i, &rows, *pace), None);
+    for (text, fault) in FAULTS {
+        expect_fault(&rt, rt.alloc(), &i, text, *fault);
     }
     Ok(())
 }
@@ -163,42 +138,33 @@ fn a_text_that_is_too_long_goes_before_its_other_faults(rt: HostRuntime) -> Resu
     Ok(())
 }
 
-/// A leaf for the rounds that are early enough.
-const EARLY: &[&str] = &[
-    "leaf 9 5\n",
-    "es-release 0\n",
-    "lo-send 0\n",
-    "es-arrive 0 1\n",
-    "le-own 1\n",
-    "x-window 1\n",
-];
+/// The first branch, and a leaf for the rounds that are early enough.
+const EARLY: &str =
+    "ttcert 1\nlow 9\nround 0 1\nleaf 9 5\nes-release 0\nlo-send 0\nes-arrive 0 1\nle-own 1\nx-window 1\n";
 
 /// Adds a leaf for rounds in which no settled plan sends, with so many steps more than it needs.
-fn add_late(alloc: Global, lines: &mut Vec<String>, more: u32) -> Result<(), AllocError> {
-    lines.push(format!(in alloc; "leaf 101 {}\n", more.saturating_add(2))?)?;
+fn add_late(text: &mut String, more: u32) -> Result<(), AllocError> {
+    writeln!(text, "leaf 101 {}", more.saturating_add(2))?;
     for _ in 0..more {
-        lines.push("es-release 0\n".to_string(alloc)?)?;
+        text.push_str("es-release 0\n")?;
     }
-    lines.push("us-settled 0\n".to_string(alloc)?)?;
-    lines.push("x-late 0 1\n".to_string(alloc)?)?;
-    Ok(())
+    text.push_str("us-settled 0\nx-late 0 1\n")
 }
 
-/// The lines of a certificate that no plan of `one_message` has a delay below 9, which takes its rounds one by one.
-fn round_by_round(alloc: Global, more: u32) -> Result<Vec<String>, AllocError> {
-    let mut lines = Vec::new(alloc);
-    for line in ["ttcert 1\n", "low 9\n", "round 0 1\n"] {
-        lines.push(line.to_string(alloc)?)?;
-    }
-    for line in EARLY {
-        lines.push(line.to_string(alloc)?)?;
-    }
+/// Adds the other rounds one by one.
+fn add_rounds(text: &mut String, more: u32) -> Result<(), AllocError> {
     for round in 2..99 {
-        lines.push(format!(in alloc; "round 0 {round}\n")?)?;
-        add_late(alloc, &mut lines, more)?;
+        writeln!(text, "round 0 {round}")?;
+        add_late(text, more)?;
     }
-    add_late(alloc, &mut lines, more)?;
-    Ok(lines)
+    add_late(text, more)
+}
+
+/// A certificate that no plan of `one_message` has a delay below 9, which takes its rounds one by one.
+fn round_by_round(alloc: Global, more: u32) -> Result<String, AllocError> {
+    let mut text = String::from_str(alloc, EARLY)?;
+    add_rounds(&mut text, more)?;
+    Ok(text)
 }
 
 /// What becomes of a line.
@@ -222,24 +188,30 @@ const DAMAGES: &[Damage] = &[
     Damage::EndsTheText,
 ];
 
-/// The text of lines of which one is damaged.
-fn damaged(
-    alloc: Global,
-    lines: &[String],
+/// Adds the lines of a text, of which one is damaged.
+fn add_damaged(
+    text: &mut String,
+    whole: &str,
     at: usize,
     damage: Damage,
-) -> Result<String, AllocError> {
-    let mut text = String::new(alloc);
-    for (k, line) in lines.iter().enumerate() {
+) -> Result<(), AllocError> {
+    for (k, line) in whole.lines().enumerate() {
         if k != at {
-            text.push_str(line.as_str())?;
+            writeln!(text, "{line}")?;
             continue;
         }
         match damage {
             Damage::Becomes(other) => text.push_str(other)?,
-            Damage::EndsTheText => return Ok(text),
+            Damage::EndsTheText => return Ok(()),
         }
     }
+    Ok(())
+}
+
+/// The text of which one line is damaged.
+fn damaged(alloc: Global, whole: &str, at: usize, damage: Damage) -> Result<String, AllocError> {
+    let mut text = String::new(alloc);
+    add_damaged(&mut text, whole, at, damage)?;
     Ok(text)
 }
 
@@ -286,37 +258,80 @@ fn line_by(number: u64, count: usize) -> usize {
     }
 }
 
-/// Checks that damaged copies are answered as whole texts. How often there was an answer of each kind.
+/// What is said of a damaged copy, read as a whole and as a stream.
+fn copy_answer(
+    rt: &(impl Abort + Threads + Sync),
+    alloc: Global,
+    i: &Instance,
+    text: &str,
+    copy: u32,
+) -> Result<u32, StreamFault> {
+    let whole = whole_answer(alloc, i, text.as_bytes());
+    let pace = [(1, 4_096), (2, 511), (2_048, 100_000)][copy as usize % 3];
+    let streamed = streamed_answer(rt, alloc, i, text.as_bytes(), pace);
+    assert_eq!(rt; streamed, whole, "{copy}");
+    whole
+}
+
+/// The same of the copy of a text whose line is named by a number.
+fn damaged_answer(
+    rt: &(impl Abort + Threads + Sync),
+    alloc: Global,
+    i: &Instance,
+    whole: &str,
+    (copy, number): (u32, u64),
+) -> Result<Result<u32, StreamFault>, AllocError> {
+    let damage = DAMAGES[copy as usize % DAMAGES.len()];
+    let at = line_by(number, whole.lines().count());
+    let text = damaged(alloc, whole, at, damage)?;
+    Ok(copy_answer(rt, alloc, i, text.as_str(), copy))
+}
+
+/// How often there was an answer of each kind to damaged copies of a text.
 fn kinds_of_copies(
     rt: &(impl Abort + Threads + Sync),
     alloc: Global,
-    lines: &[String],
+    i: &Instance,
+    whole: &str,
     copies: u32,
-) -> Result<[u32; 13], Fail> {
-    let i = Small::OneMessage(PLAIN).build(alloc)?;
+) -> Result<[u32; 13], AllocError> {
     let mut kinds = [0u32; 13];
     let mut number = 1;
     for copy in 0..copies {
         number = after(number);
-        let damage = DAMAGES[copy as usize % DAMAGES.len()];
-        let text = damaged(alloc, lines, line_by(number, lines.len()), damage)?;
-        let whole = whole_answer(alloc, &i, text.as_bytes());
-        let pace = [(1, 4_096), (2, 511), (2_048, 100_000)][copy as usize % 3];
-        assert_eq!(rt;
-            streamed_answer(rt, alloc, &i, text.as_bytes(), pace),
-            whole,
-            "{copy}"
-        );
-        let kind = &mut kinds[kind_of(whole)];
+        let answer = damaged_answer(rt, alloc, i, whole, (copy, number))?;
+        let kind = &mut kinds[kind_of(answer)];
         *kind = kind.saturating_add(1);
     }
     Ok(kinds)
 }
 
+/// The same of the certificate that takes rounds one by one, with so many steps more a leaf.
+fn kinds_on(
+    rt: &(impl Abort + Threads + Sync),
+    alloc: Global,
+    i: &Instance,
+    more: u32,
+    copies: u32,
+) -> Result<[u32; 13], AllocError> {
+    let whole = round_by_round(alloc, more)?;
+    kinds_of_copies(rt, alloc, i, whole.as_str(), copies)
+}
+
+/// The same of its instance.
+fn kinds_of(
+    rt: &(impl Abort + Threads + Sync),
+    alloc: Global,
+    more: u32,
+    copies: u32,
+) -> Result<[u32; 13], Fail> {
+    let i = Small::OneMessage(PLAIN).build(alloc)?;
+    Ok(kinds_on(rt, alloc, &i, more, copies)?)
+}
+
 #[test]
 fn damaged_copies_are_answered_as_whole_texts(rt: HostRuntime) -> Result<(), Fail> {
-    let lines = round_by_round(rt.alloc(), 5)?;
-    let kinds = kinds_of_copies(&rt, rt.alloc(), lines.as_slice(), 500)?;
+    let kinds = kinds_of(&rt, rt.alloc(), 5, 500)?;
     for kind in 0..12 {
         assert!(rt; kinds[kind] > 0, "{kinds:?}");
     }
@@ -325,7 +340,6 @@ fn damaged_copies_are_answered_as_whole_texts(rt: HostRuntime) -> Result<(), Fai
 
 #[test]
 fn damaged_copies_of_a_large_text_are_answered_so_too(rt: HostRuntime) -> Result<(), Fail> {
-    let lines = round_by_round(rt.alloc(), 1_000)?;
-    kinds_of_copies(&rt, rt.alloc(), lines.as_slice(), 30)?;
+    kinds_of(&rt, rt.alloc(), 1_000, 30)?;
     Ok(())
 }

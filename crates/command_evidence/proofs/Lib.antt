@@ -5,3 +5,4 @@ pub mod BoundsAndTraces
 pub mod SearchesTold
 pub mod Spared
 pub mod JudgementsTold
+pub mod Transfers

@@ -5,6 +5,8 @@ mod answers;
 mod bundles;
 mod events;
 mod judgements;
+mod propagations;
+mod searches;
 mod smaller_trees;
 mod streams;
 mod tellings;
@@ -20,6 +22,14 @@ pub use events::{
     leaf_is_closed_at_what_was_seen, look_sees_the_best_delay, pop_takes_the_last_name,
 };
 pub use judgements::{bounds_are_told_in_order, delay_told_is_the_least, none_is_told_of_no_plan};
+pub use propagations::{
+    bound_counts_a_transfer, closed_is_told_of_steps_that_close, log_of_an_order_leads_there,
+    refused_decision_is_not_kept, supposed_order_is_not_known, what_was_known_is_known_again,
+};
+pub use searches::{
+    found_plan_is_settled, leaf_of_a_find_is_below_the_goal, least_is_told_of_a_least_delay,
+    task_left_is_closed_at_the_path_bound,
+};
 pub use smaller_trees::{
     bound_is_the_one_asked_for, branches_are_few_enough, tree_that_is_given_is_a_proof,
 };

@@ -6,3 +6,5 @@ pub mod Told
 pub mod Lost
 pub mod Named
 pub mod Intervals
+pub mod Judged
+pub mod JustValid

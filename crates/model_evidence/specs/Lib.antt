@@ -1,3 +1,4 @@
 pub mod Answers
 pub mod NodeTables
 pub mod Membership
+pub mod Edges

@@ -1,29 +1,48 @@
 //! What the lower crates answer just where a wrong answer would differ: each function calls one of
-//! theirs, and its contract doesn't follow from a weaker one.
+//! theirs, and its contract doesn't follow from a weaker one. Those of `edges` call nothing, and say which plans are valid.
 #![tactic(auto)]
 
+mod choices;
+mod edges;
 mod figures;
 mod lines;
 mod loads;
 mod membership;
 mod node_tables;
+mod plans;
 mod rules;
 mod slots;
 mod starts;
+mod steps;
 mod texts;
 mod windows;
 
+pub use choices::{
+    both_orders_of_a_pair, decision_taken_back, latest_slot_of_a_node, least_of_free_capacities,
+    node_that_was_placed, order_that_was_put, pair_of_the_other_order,
+};
+pub use edges::{plan_that_just_keeps_the_rules, plans_that_just_break_a_rule};
 pub use figures::{children_of_a_pair, delay_of_first_process, slot_without_bytes};
 pub use lines::{lengths_of_parts, number_past_the_last};
 pub use loads::{fact_of_link, interval_that_is_not_full, interval_that_is_too_short};
 pub use membership::{lost_at_sender, lost_everywhere, without_agreement};
 pub use node_tables::{tables_of_frames, tables_of_own_messages, text_with_rows};
+pub use plans::{
+    end_past_the_horizon, first_node_once_more, frame_that_is_full, link_without_a_gap,
+    processes_that_touch, start_before_the_message, start_past_its_release,
+};
 pub use rules::{
     Tables, linked_both_ways, received_at_home, received_by_nobody, sixty_five_processes,
     with_short_lead,
 };
 pub use slots::{begins_at_or_after, cycle_past_delay, first_slot_of_round};
 pub use starts::{plan_of_choice_with_plans, plan_that_ends_first, plan_with_room_in_frames};
+pub use steps::{
+    arrival_in_the_least_round, end_after_the_greatest_wait, end_before_the_last_slot,
+    goal_of_turned_facts, order_that_is_not_known, order_that_is_supposed,
+    ring_that_does_not_close, rounds_left_at_first, rounds_that_reach_a_receiver,
+    silent_nodes_in_order, span_that_is_just_full, window_just_long_enough,
+};
 pub use texts::{
     node_of_first_process, precision_past_32_bits, process_without_node_and_time, unknown_key,
 };

@@ -1,12 +1,14 @@
 //! Which verdicts do plans get that no text spells?
 
+use crate::building::{LAWFUL, Tables, build};
 use crate::outcomes::same;
 use crate::plans::Lists;
 use plan_check::{PlanFault, PlanPart, check};
 use std::alloc::{AllocError, Global};
+use std::process::Abort;
 use std::test::Fail;
 use ttp_model::Instance;
-use worked_instances::{PLAIN, one_message, plan};
+use worked_instances::plan;
 
 /// The delay of a valid plan, or the rule that another one breaks first.
 type Verdict = Result<u64, PlanFault>;
@@ -17,26 +19,82 @@ fn verdict(alloc: Global, instance: &Instance, lists: Lists) -> Result<Verdict, 
     Ok(check(instance, &plan))
 }
 
-/// Lists are judged before times.
-const WRONG_LISTS: &[(Lists<'static>, PlanFault)] = &[
+/// A plan, and the rule that it breaks first.
+type Refused = (Lists<'static>, PlanFault);
+
+/// Lists are judged before times: one that is a number too short or too long, and orders that aren't the nodes'.
+const WRONG_LISTS: &[Refused] = &[
     (
         [&[0, 1], &[2, 0], &[0, 7], &[]],
         PlanFault::WrongLength(PlanPart::Rounds),
     ),
     (
+        [&[0, 1], &[2, 0], &[0, 7], &[1, 1]],
+        PlanFault::WrongLength(PlanPart::Rounds),
+    ),
+    (
+        [&[0, 1], &[2, 0], &[0], &[1]],
+        PlanFault::WrongLength(PlanPart::Starts),
+    ),
+    (
+        [&[0, 1], &[2, 0], &[0, 7, 9], &[1]],
+        PlanFault::WrongLength(PlanPart::Starts),
+    ),
+    (
+        [&[0, 1], &[2], &[0, 7], &[1]],
+        PlanFault::WrongLength(PlanPart::Capacities),
+    ),
+    (
+        [&[0, 1], &[2, 0, 0], &[0, 7], &[1]],
+        PlanFault::WrongLength(PlanPart::Capacities),
+    ),
+    (
         [&[0], &[2, 0], &[0], &[]],
+        PlanFault::WrongLength(PlanPart::Order),
+    ),
+    (
+        [&[0, 1, 0], &[2, 0], &[0, 7], &[1]],
         PlanFault::WrongLength(PlanPart::Order),
     ),
     ([&[1, 1], &[3, 0], &[9, 0], &[0]], PlanFault::WrongOrder(1)),
     ([&[2, 1], &[2, 0], &[0, 7], &[1]], PlanFault::WrongOrder(0)),
 ];
 
-#[test]
-fn lists_that_no_text_spells_are_refused(rt: HostRuntime) -> Result<(), Fail> {
-    let instance = one_message(rt.alloc(), PLAIN)?;
-    for (lists, fault) in WRONG_LISTS {
-        let found = verdict(rt.alloc(), &instance, *lists)?;
-        same(&rt, lists, found, Err(*fault));
+/// Three nodes, of which the last has no process.
+const THREE_NODES: Tables = Tables {
+    nodes: &[("A", &[2]), ("B", &[0]), ("C", &[0])],
+    ..LAWFUL
+};
+
+/// A node that stands in the order again, though not just behind itself, and one that isn't there.
+const WRONG_ORDERS: &[Refused] = &[
+    (
+        [&[0, 1, 0], &[2, 0, 0], &[0, 7], &[1]],
+        PlanFault::WrongOrder(2),
+    ),
+    (
+        [&[2, 0, 3], &[2, 0, 0], &[0, 7], &[1]],
+        PlanFault::WrongOrder(2),
+    ),
+];
+
+/// Each of these plans is refused for the rule beside it.
+fn are_refused(
+    rt: &impl Abort,
+    alloc: Global,
+    tables: &Tables,
+    rows: &[Refused],
+) -> Result<(), Fail> {
+    let instance = build(alloc, tables)?;
+    for (lists, fault) in rows {
+        let found = verdict(alloc, &instance, *lists)?;
+        same(rt, lists, found, Err(*fault));
     }
     Ok(())
+}
+
+#[test]
+fn lists_that_no_text_spells_are_refused(rt: HostRuntime) -> Result<(), Fail> {
+    are_refused(&rt, rt.alloc(), &LAWFUL, WRONG_LISTS)?;
+    are_refused(&rt, rt.alloc(), &THREE_NODES, WRONG_ORDERS)
 }

@@ -1,17 +1,23 @@
 //! Which line and status does a refusal have, and what stands on standard error where it isn't written in full?
 
 use crate::streams::FullWriter;
-use crate::told::Told;
-use command_streams::{End, Fault, SearchFault, Sink, Source, report};
+use cert_check::CertFault;
+use certificate::CertTextError;
+use command_streams::{End, Fault, SearchFault, Sink, Source, report, status};
+use instance_text::TextError;
+use plan_format::PlanTextError;
 use std::alloc::Global;
 use std::test::Fail;
+use ttp_model::{ModelError, Place, PlanFault, PlanPart};
 
-/// The first room on standard error with which it hasn't just a prefix of the line, or no failure is told.
+/// The first room on standard error, up to that for the whole line, with which it hasn't just a prefix of the line, or a
+/// failure isn't told just where a part is lacking.
 fn wrong_room(alloc: Global, end: &End, line: &[u8]) -> Option<usize> {
-    for room in 0..line.len() {
+    for room in 0..line.len() + 1 {
         let mut error = FullWriter::with_room(alloc, room);
         let told = report(end, &mut error);
-        if told.is_ok() || error.taken.as_slice() != &line[..room] {
+        let is_whole = room == line.len();
+        if told.is_ok() != is_whole || error.taken.as_slice() != &line[..room] {
             return Some(room);
         }
     }
@@ -30,6 +36,13 @@ fn nothing_is_told_of_an_end_without_a_fault(rt: HostRuntime) -> Result<(), Fail
     let mut error = FullWriter::with_room(rt.alloc(), 0);
     assert!(rt; report(&End::Absent, &mut error).is_ok());
     Ok(())
+}
+
+/// Whether a fault has this status and this line, which is written in full where the writer takes it.
+fn is_told(alloc: Global, fault: Fault, line: &str, code: u8) -> bool {
+    let end = End::Refused(fault);
+    let mut error: Vec<u8> = Vec::new(alloc);
+    report(&end, &mut error).is_ok() && error.as_slice() == line.as_bytes() && status(&end) == code
 }
 
 /// The first of these faults that has another line or another status.
@@ -53,8 +66,71 @@ fn wrong_line(alloc: Global) -> Option<usize> {
         (Fault::Search(SearchFault::Thread), "solve thread\n", 7),
     ];
     for (k, (fault, line, status)) in rows.into_iter().enumerate() {
-        let told = Told::at(alloc, &End::Refused(fault), Vec::new(alloc));
-        if !told.is(line, status) {
+        if !is_told(alloc, fault, line, status) {
+            return Some(k);
+        }
+    }
+    None
+}
+
+/// A fault of the model.
+fn of_model(error: ModelError) -> Fault {
+    Fault::InstanceText(TextError::Model(error))
+}
+
+/// The first of these faults that has another line or another status: no text has them, only tables and plans that are made
+/// otherwise, and want of memory.
+fn wrong_line_of_no_text(alloc: Global) -> Option<usize> {
+    let rows = [
+        (
+            of_model(ModelError::NoSuchIndex(Place::AtProcess(1))),
+            "instance M4 process 1\n",
+            3,
+        ),
+        (
+            of_model(ModelError::NoSuchIndex(Place::AtLink(2))),
+            "instance M4 link 2\n",
+            3,
+        ),
+        (
+            of_model(ModelError::NoSuchIndex(Place::AtMessage(0))),
+            "instance M4 message 0\n",
+            3,
+        ),
+        (
+            Fault::Plan(PlanFault::WrongLength(PlanPart::Order)),
+            "plan V1 0\n",
+            5,
+        ),
+        (
+            Fault::Plan(PlanFault::WrongLength(PlanPart::Capacities)),
+            "plan V1 1\n",
+            5,
+        ),
+        (
+            Fault::Plan(PlanFault::WrongLength(PlanPart::Starts)),
+            "plan V1 2\n",
+            5,
+        ),
+        (
+            Fault::Plan(PlanFault::WrongLength(PlanPart::Rounds)),
+            "plan V1 3\n",
+            5,
+        ),
+        (Fault::Plan(PlanFault::WrongOrder(1)), "plan V2 1\n", 5),
+        (of_model(ModelError::OutOfMemory), "memory\n", 4),
+        (Fault::InstanceText(TextError::OutOfMemory), "memory\n", 4),
+        (Fault::PlanText(PlanTextError::OutOfMemory), "memory\n", 4),
+        (
+            Fault::CertificateText(CertTextError::OutOfMemory),
+            "memory\n",
+            4,
+        ),
+        (Fault::Certificate(CertFault::OutOfMemory), "memory\n", 4),
+        (Fault::Search(SearchFault::Memory), "memory\n", 4),
+    ];
+    for (k, (fault, line, status)) in rows.into_iter().enumerate() {
+        if !is_told(alloc, fault, line, status) {
             return Some(k);
         }
     }
@@ -64,5 +140,6 @@ fn wrong_line(alloc: Global) -> Option<usize> {
 #[test]
 fn each_fault_beside_those_of_texts_has_its_line(rt: HostRuntime) -> Result<(), Fail> {
     assert_eq!(rt; wrong_line(rt.alloc()), None);
+    assert_eq!(rt; wrong_line_of_no_text(rt.alloc()), None);
     Ok(())
 }

@@ -18,18 +18,24 @@ pub struct Answer {
     pub low: u64,
     /// The delay of the plan, where there is one.
     pub delay: Option<u64>,
+    /// How many nodes the certificate has.
+    pub nodes: u64,
 }
 
 impl Answer {
-    /// Whether it says that this delay is least, or that there is no plan.
+    /// Whether it says that this delay is least, and proves that, or that there is no plan.
     pub fn is_least(self, least: Option<u64>) -> bool {
-        self.stopped.is_none() && self.delay == least
+        let is_proved = match least {
+            Some(delay) => self.low == delay,
+            None => true,
+        };
+        self.stopped.is_none() && self.delay == least && is_proved
     }
 
     /// Whether it is right where this delay is least: it says so, or was stopped for this cause with bounds around it.
     pub fn is_right(self, least: u64, cause: Why) -> bool {
         let Some(why) = self.stopped else {
-            return self.low == least && self.is_least(Some(least));
+            return self.is_least(Some(least));
         };
         let is_above = match self.delay {
             Some(delay) => least <= delay && self.low < delay,
@@ -54,11 +60,13 @@ pub fn read(alloc: Global, instance: &Instance, outcome: &Outcome) -> Result<Ans
             stopped: None,
             low: u64::from(check(alloc, instance, cert)?),
             delay: Some(judged(instance, plan, *delay)?),
+            nodes: cert.nodes().len() as u64,
         }),
         Outcome::Infeasible { cert } => Ok(Answer {
             stopped: None,
             low: u64::from(check(alloc, instance, cert)?),
             delay: None,
+            nodes: cert.nodes().len() as u64,
         }),
         Outcome::Stopped {
             why,
@@ -77,6 +85,7 @@ pub fn read(alloc: Global, instance: &Instance, outcome: &Outcome) -> Result<Ans
                 stopped: Some(*why),
                 low: u64::from(*low),
                 delay,
+                nodes: cert.nodes().len() as u64,
             })
         }
     }

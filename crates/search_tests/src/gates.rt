@@ -3,6 +3,7 @@
 use branch_tree::Name;
 use crossbeam_utils::Backoff;
 use planner::Gate;
+use std::alloc::{AllocError, Global};
 use std::sync::atomic::{AtomicU64, Ordering};
 
 /// How many turns a wait has at most.
@@ -46,8 +47,8 @@ impl Count {
 /// Counts the names that were left below each of the root's first two children, themselves too.
 #[derive(Drop)]
 pub struct LeftBelow {
-    pub first: Count,
-    pub second: Count,
+    first: Count,
+    second: Count,
 }
 
 impl LeftBelow {
@@ -56,6 +57,11 @@ impl LeftBelow {
             first: Count::new(),
             second: Count::new(),
         }
+    }
+
+    /// How many there are below the first child, and below the second.
+    pub fn counts(&self) -> (u64, u64) {
+        (self.first.get(), self.second.get())
     }
 }
 
@@ -193,6 +199,83 @@ impl Gate for Meeting {
                 own.add();
             }
             _ => {}
+        }
+    }
+}
+
+/// The names that a worker left, and those of them that stand below the root.
+#[derive(Drop)]
+struct Left {
+    names: Count,
+    below_root: Count,
+}
+
+/// Has many workers meet: all but the first begin once the root was left, and each is held as it leaves its first subtree below
+/// the root, until all of them have left one.
+#[derive(Drop)]
+pub struct Assembly {
+    root_left: Count,
+    /// By each worker.
+    left: Vec<Left>,
+    /// The workers that left a subtree below the root.
+    met: Count,
+    /// The waits that met their limit.
+    limits_met: Count,
+}
+
+impl Assembly {
+    /// So many workers, none of whom has begun.
+    pub fn new(alloc: Global, workers: usize) -> Result<Self, AllocError> {
+        let mut left = Vec::with_capacity(alloc, workers)?;
+        for _worker in 0..workers {
+            left.push(Left {
+                names: Count::new(),
+                below_root: Count::new(),
+            })?;
+        }
+        Ok(Assembly {
+            root_left: Count::new(),
+            left,
+            met: Count::new(),
+            limits_met: Count::new(),
+        })
+    }
+
+    /// Whether each worker has left a subtree below the root before one of them went on.
+    pub fn is_met(&self) -> bool {
+        self.met.get() == self.left.len() as u64 && self.limits_met.get() == 0
+    }
+
+    /// How many names each worker left.
+    pub fn shares(&self, alloc: Global) -> Result<Vec<u64>, AllocError> {
+        let mut shares = Vec::with_capacity(alloc, self.left.len())?;
+        for left in &self.left {
+            shares.push(left.names.get())?;
+        }
+        Ok(shares)
+    }
+}
+
+impl Gate for Assembly {
+    fn start(&self, worker: usize) {
+        if worker > 0 {
+            self.root_left.hold_until(1, &self.limits_met);
+        }
+    }
+
+    fn enter(&self, _worker: usize, _name: &Name) {}
+
+    fn leave(&self, worker: usize, name: &Name) {
+        let Some(left) = self.left.get(worker) else {
+            return;
+        };
+        left.names.add();
+        if name.as_slice().is_empty() {
+            self.root_left.add();
+        } else if left.below_root.add() == 0 {
+            self.met.add();
+            self.met
+                .hold_until(self.left.len() as u64, &self.limits_met);
         }
     }
 }

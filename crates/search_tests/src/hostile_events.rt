@@ -2,9 +2,9 @@
 //! nothing.
 
 use crate::core_events::Act;
-use branch_tree::Piece;
+use crate::trees::{Indices, add_name, add_pieces, children, children_of};
 use search_core::{Hand, Illegal, Reply, Worker, World};
-use std::alloc::{AllocError, Global};
+use std::alloc::Global;
 use std::test::Fail;
 use ttp_model::Kind;
 
@@ -105,15 +105,6 @@ fn first_seen(world: &World) -> u32 {
     }
 }
 
-/// The indices of a name.
-type Indices = Vec<u32>;
-
-/// One more name.
-fn add_name(alloc: Global, names: &mut Vec<Indices>, name: &[u32]) -> Result<(), AllocError> {
-    names.push(Vec::from_slice(alloc, name)?)?;
-    Ok(())
-}
-
 /// The names of the children from the one of this name on, so many.
 fn add_children(
     alloc: Global,
@@ -151,20 +142,8 @@ fn add_names(alloc: Global, names: &mut Vec<Indices>, worker: &Worker) -> Result
     for name in worker.left() {
         add_name(alloc, names, name.as_slice())?;
     }
-    for piece in worker.pieces() {
-        add_name(alloc, names, piece.name.as_slice())?;
-    }
+    add_pieces(alloc, names, worker.pieces())?;
     add_held(alloc, names, worker.hand())
-}
-
-/// How many children the branch of this name has, of one worker's pieces; 0 where it has no such branch.
-fn children_of(pieces: &[Piece], name: &[u32]) -> u32 {
-    for piece in pieces {
-        if piece.name.as_slice() == name {
-            return piece.node.children();
-        }
-    }
-    0
 }
 
 /// Whether a name is the root's, or that of a branch's child.
@@ -179,12 +158,10 @@ fn is_wanted(world: &World, name: &[u32]) -> bool {
 }
 
 /// How many children all branches have.
-fn children(world: &World) -> usize {
+fn all_children(world: &World) -> usize {
     let mut count = 0usize;
     for worker in world.workers() {
-        for piece in worker.pieces() {
-            count = count.saturating_add(piece.node.children() as usize);
-        }
+        count = count.saturating_add(children(worker.pieces()));
     }
     count
 }
@@ -202,7 +179,7 @@ fn is_tree(alloc: Global, world: &World) -> Result<bool, Fail> {
             return Ok(false);
         }
     }
-    Ok(names.len() == children(world).saturating_add(1))
+    Ok(names.len() == all_children(world).saturating_add(1))
 }
 
 /// How many events were done, and how many were refused.

@@ -124,6 +124,56 @@ pub const ONE_WAITS: Sample = Sample {
     ..ONE_MESSAGE
 };
 
+/// A process of 5 ticks on one of so many nodes, no two of which have slots of one length. The root has a child for each node.
+macro_rules! one_of_many {
+    ($nodes:expr) => {
+        Sample {
+            name: "one process on one of many nodes",
+            nodes: $nodes,
+            processes: &[(0, 5, ANY)],
+            messages: &[],
+            ..ONE_MESSAGE
+        }
+    };
+}
+
+pub const ONE_OF_THREE: Sample = one_of_many!(&[&[0], &[1], &[2]]);
+
+pub const ONE_OF_FOUR: Sample = one_of_many!(&[&[0], &[1], &[2], &[3]]);
+
+pub const ONE_OF_SIXTEEN: Sample = one_of_many!(SIXTEEN_NODES);
+
+/// As many nodes as there may be, no two of which have slots of one length.
+const SIXTEEN_NODES: &[&[u32]] = &[
+    &[3],
+    &[0],
+    &[1],
+    &[2],
+    &[4],
+    &[5],
+    &[6],
+    &[7],
+    &[8],
+    &[9],
+    &[10],
+    &[11],
+    &[12],
+    &[13],
+    &[14],
+    &[15],
+];
+
+/// Six messages of 2 bytes from a node whose frames hold 3, so that each has a frame of its own, though by their bytes four frames
+/// would do. For each order of sixteen nodes it has to be tried out that no two fit in one.
+pub const SIX_FRAMES: Sample = Sample {
+    name: "six frames",
+    horizon: 2_000,
+    nodes: SIXTEEN_NODES,
+    processes: &[(0, 1, ANY), (1, 1, ANY)],
+    messages: &[(0, 1, 2); 6],
+    ..ONE_MESSAGE
+};
+
 /// The least delays of instances.
 pub const LEAST_DELAYS: &[(Sample, Option<u64>)] = &[
     (ONE_MESSAGE, Some(9)),

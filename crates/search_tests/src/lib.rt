@@ -32,4 +32,6 @@ mod searches;
 #[cfg(test)]
 mod subtrees;
 #[cfg(test)]
+mod trees;
+#[cfg(test)]
 mod two_workers;

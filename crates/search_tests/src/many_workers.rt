@@ -1,8 +1,12 @@
 //! Searches by one worker, and by many.
 
-use crate::answers::{MANNERS, solved_sample};
-use crate::instances::{LEAST_DELAYS, ONE_MESSAGE, TWO_RECEIVERS};
-use planner::{Manner, Options, Why};
+use crate::answers::{Answer, MANNERS, read, solved_sample};
+use crate::gates::Assembly;
+use crate::instances::{
+    LEAST_DELAYS, ONE_MESSAGE, ONE_OF_FOUR, ONE_OF_SIXTEEN, ONE_OF_THREE, SIX_FRAMES, Sample,
+    TWO_RECEIVERS,
+};
+use planner::{Manner, Options, Why, solve_in};
 use std::alloc::Global;
 use std::process::Abort;
 use std::sync::Wait;
@@ -75,6 +79,99 @@ fn each_budget_of_three_workers_bounds_two_messages(rt: HostRuntime) -> Result<(
         let options = Options { workers, budget };
         let answer = solved_sample(&rt, rt.alloc(), &TWO_RECEIVERS, options, Manner::Sparing)?;
         assert!(rt; answer.is_right(8, Why::Budget), "budget {budget}");
+    }
+    Ok(())
+}
+
+/// What a plain search comes to whose workers this gate holds up.
+fn held<R: Threads + Wait + Sync>(
+    rt: &R,
+    alloc: Global,
+    sample: &Sample,
+    options: Options,
+    gate: &Assembly,
+) -> Result<Answer, Fail> {
+    let instance = sample.build(alloc)?;
+    let outcome = solve_in(rt, alloc, &instance, options, Manner::Plain, gate)?;
+    read(alloc, &instance, &outcome)
+}
+
+/// How many workers meet, and where.
+const MEETINGS: &[(u32, Sample)] = &[(3, ONE_OF_THREE), (4, ONE_OF_FOUR), (16, ONE_OF_SIXTEEN)];
+
+/// Whether so many workers find the shortest plan, each of whom works a subtree before any of them goes on.
+fn meet<R: Threads + Wait + Sync>(
+    rt: &R,
+    alloc: Global,
+    workers: u32,
+    sample: &Sample,
+) -> Result<bool, Fail> {
+    let budget = 100_000;
+    let gate = Assembly::new(alloc, workers as usize)?;
+    let answer = held(rt, alloc, sample, Options { workers, budget }, &gate)?;
+    Ok(gate.is_met() && answer.is_least(Some(5)))
+}
+
+#[test]
+fn many_workers_work_at_the_same_time(rt: HostRuntime) -> Result<(), Fail> {
+    for (workers, sample) in MEETINGS {
+        assert!(rt; meet(&rt, rt.alloc(), *workers, sample)?, "{workers}");
+    }
+    Ok(())
+}
+
+/// How many of ten thousand subtrees each worker works: equally many, and one more the first of them.
+const SHARES: &[&[u64]] = &[
+    &[3_334, 3_333, 3_333],
+    &[2_500, 2_500, 2_500, 2_500],
+    &[1_667, 1_667, 1_667, 1_667, 1_666, 1_666],
+    &[625; 16],
+];
+
+/// Whether workers who meet work just these shares of a search that has more to work.
+fn work_shares<R: Threads + Wait + Sync>(
+    rt: &R,
+    alloc: Global,
+    shares: &[u64],
+) -> Result<bool, Fail> {
+    let workers = u32::try_from(shares.len())?;
+    let budget = 10_000;
+    let gate = Assembly::new(alloc, shares.len())?;
+    let answer = held(rt, alloc, &SIX_FRAMES, Options { workers, budget }, &gate)?;
+    let is_stopped = answer.stopped == Some(Why::Budget) && budget < answer.nodes;
+    Ok(is_stopped && gate.is_met() && gate.shares(alloc)?.as_slice() == shares)
+}
+
+#[test]
+fn each_worker_works_its_share(rt: HostRuntime) -> Result<(), Fail> {
+    for shares in SHARES {
+        assert!(rt; work_shares(&rt, rt.alloc(), shares)?, "{shares:?}");
+    }
+    Ok(())
+}
+
+/// Whether a plain search by one worker has a certificate with a node for each subtree that was worked.
+fn is_of_all_worked<R: Threads + Wait + Sync>(
+    rt: &R,
+    alloc: Global,
+    sample: &Sample,
+) -> Result<bool, Fail> {
+    let (workers, budget) = (1, 1_000);
+    let gate = Assembly::new(alloc, 1)?;
+    let answer = held(rt, alloc, sample, Options { workers, budget }, &gate)?;
+    Ok(answer.stopped.is_none() && gate.shares(alloc)?.as_slice() == [answer.nodes].as_slice())
+}
+
+#[test]
+fn the_certificate_of_a_plain_search_is_the_tree_that_was_worked(
+    rt: HostRuntime,
+) -> Result<(), Fail> {
+    for (sample, _least) in LEAST_DELAYS {
+        assert!(rt;
+            is_of_all_worked(&rt, rt.alloc(), sample)?,
+            "{}",
+            sample.name
+        );
     }
     Ok(())
 }

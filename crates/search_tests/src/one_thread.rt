@@ -3,7 +3,7 @@
 ghost use Rattle.std.specs.Prelude.{◌≡◌, All, IfOk};
 ghost use Rattle.branch_tree.specs.Task.{IsTask};
 
-use crate::instances::ONE_MESSAGE;
+use crate::instances::{ONE_MESSAGE, ONE_OF_THREE, Sample};
 use branch_tree::{Piece, Task, Worked, work};
 use certificate::Node;
 use incumbent::Incumbent;
@@ -51,30 +51,77 @@ fn push_all<J: Searched>(hand: &mut Hand<J>, tasks: Vec<Task>) -> Result<(), Fai
     Ok(())
 }
 
-/// Which child of the root a hand takes.
-fn taken_child<J: Searched>(hand: &mut Hand<J>) -> Option<u32> {
+/// Pushes the root's children by the first of these hands.
+fn push_children<J: Searched>(
+    alloc: Global,
+    instance: &Instance,
+    hands: &mut Vec<Hand<J>>,
+) -> Result<(), Fail>
+    requires { instance.now ≡ J.instance }
+{
+    let tasks = children(alloc, instance)?;
+    if hands.is_empty() {
+        return Err("there is no hand".into());
+    }
+    let hand = &mut hands[0];
+    push_all(hand, tasks)
+}
+
+/// Which child of the root the hand at this place takes.
+fn taken_at<J: Searched>(hands: &mut Vec<Hand<J>>, place: usize) -> Option<u32> {
+    if place >= hands.len() {
+        return None;
+    }
+    let hand = &mut hands[place];
     let task = hand.take()?;
     task.name().as_slice().last().copied()
 }
 
-/// Whether of two hands, the first of which has pushed the root's children, the second one takes child 0, and then the
-/// first one child 1.
-fn take_in_turn<J: Searched>(alloc: Global, instance: &Instance) -> Result<bool, Fail>
+/// Which hand takes, and which of the root's children.
+type Taking = (usize, Option<u32>);
+
+/// Whether these hands take these of the root's children, one after another, once the first of so many has pushed them.
+fn take_in_turn<J: Searched>(
+    alloc: Global,
+    instance: &Instance,
+    hands: usize,
+    takings: &[Taking],
+) -> Result<bool, Fail>
     requires { instance.now ≡ J.instance }
 {
-    let mut hands = pool::<J>(alloc, instance, 2)?;
-    let (Some(second), Some(first)) = (hands.pop(), hands.pop()) else {
-        return Err("there are two hands".into());
-    };
-    let (mut first, mut second) = (first, second);
-    push_all(&mut first, children(alloc, instance)?)?;
-    Ok(taken_child(&mut second) == Some(0) && taken_child(&mut first) == Some(1))
+    let mut hands = pool::<J>(alloc, instance, hands)?;
+    push_children(alloc, instance, &mut hands)?;
+    for (place, child) in takings {
+        if taken_at(&mut hands, *place) != *child {
+            return Ok(false);
+        }
+    }
+    Ok(true)
+}
+
+/// An instance, how many hands there are, and what they take.
+type Takings = (Sample, usize, &'static [Taking]);
+
+#[rattlefmt::skip]
+const TAKINGS: &[Takings] = &[
+    (ONE_MESSAGE, 2, &[(1, Some(0)), (0, Some(1)), (0, None), (1, None)]),
+    (ONE_OF_THREE, 2, &[(0, Some(2)), (0, Some(1)), (1, Some(0)), (1, None), (0, None)]),
+    (ONE_OF_THREE, 2, &[(1, Some(0)), (0, Some(2)), (1, Some(1)), (0, None), (1, None)]),
+    (ONE_OF_THREE, 3, &[(2, Some(0)), (1, Some(1)), (0, Some(2)), (1, None), (2, None)]),
+];
+
+/// Whether the hands of a pool take as this row says.
+fn are_taken(alloc: Global, row: &Takings) -> Result<bool, Fail> {
+    let (sample, hands, takings) = *row;
+    let instance = sample.build(alloc)?;
+    take_in_turn::<Brand>(alloc, &instance, hands, takings)
 }
 
 #[test]
-fn a_hand_takes_the_oldest_task_of_another_one(rt: HostRuntime) -> Result<(), Fail> {
-    let instance = ONE_MESSAGE.build(rt.alloc())?;
-    assert!(rt; take_in_turn::<Brand>(rt.alloc(), &instance)?);
+fn a_hand_takes_its_newest_task_or_the_oldest_of_another_one(rt: HostRuntime) -> Result<(), Fail> {
+    for (k, row) in TAKINGS.iter().enumerate() {
+        assert!(rt; are_taken(rt.alloc(), row)?, "row {k}");
+    }
     Ok(())
 }
 
@@ -115,19 +162,21 @@ pub fn lone_report<J: Searched>(
     })
 }
 
-/// Whether each leaf of these pieces is at this goal.
+/// Whether there are leaves among these pieces, each at this goal.
 fn are_at(pieces: &[Piece], goal: u32) -> bool {
+    let mut has_leaf = false;
     for piece in pieces {
         if let Node::Leaf(leaf) = &piece.node {
             if leaf.goal != goal {
                 return false;
             }
+            has_leaf = true;
         }
     }
-    true
+    has_leaf
 }
 
-/// Whether a worker works at what another watch has offered: it finds no plan, and each leaf is at that goal.
+/// Whether a worker works at what another watch has offered: it finds no plan, and each of its leaves is at that goal.
 fn works_at_offer<J: Searched>(alloc: Global, instance: &Instance, offer: u32) -> Result<bool, Fail>
     requires { instance.now ≡ J.instance }
 {

@@ -5,103 +5,159 @@ ghost use Rattle.std.specs.Prelude.{◌≡◌};
 use crate::answers::{MANNERS, solved};
 use crate::instances::TWO_RECEIVERS;
 use crate::one_thread::lone_report;
-use branch_tree::Piece;
+use crate::trees::{Indices, add_name, add_pieces, add_tasks, are_tree};
 use planner::{Manner, Options, SolveFault, Why};
 use pool_worker::{Ending, Report, Rest};
-use std::alloc::Global;
+use std::alloc::{AllocError, Global};
 use std::marker::Brand;
 use std::sync::Wait;
 use std::test::Fail;
 use std::thread::Threads;
 use steal_pool::{Hand, Searched};
-use ttp_model::Instance;
+use ttp_model::{Instance, MemoryFault};
 
-/// Whether so many workers say that 8 ticks are least, or memory was refused; then what is told has to hold.
-fn survives_refusals<R: Threads + Wait + Sync>(
+/// What is told of an instance whose least delay is 8.
+#[derive(Clone, Copy, PartialEq, Eq)]
+enum Told {
+    /// That it is least.
+    Least,
+    /// That memory was refused, with what holds all the same.
+    Refused,
+    /// What doesn't hold.
+    Wrong,
+}
+
+/// How often each was told.
+#[derive(Clone, Copy)]
+struct Tally {
+    refused: u32,
+    wrong: u32,
+}
+
+impl Tally {
+    fn none() -> Self {
+        Tally {
+            refused: 0,
+            wrong: 0,
+        }
+    }
+
+    fn add(&mut self, told: Told) {
+        match told {
+            Told::Least => {}
+            Told::Refused => self.refused = self.refused.saturating_add(1),
+            Told::Wrong => self.wrong = self.wrong.saturating_add(1),
+        }
+    }
+
+    /// Whether nothing wrong was told, and no more than the one refusal that a run may meet.
+    fn is_right(self) -> bool {
+        self.wrong == 0 && self.refused <= 1
+    }
+
+    /// Ends as a run that met a refusal, where one was told. So a run that met none is wrong then.
+    fn end(self) -> Result<(), Fail> {
+        if self.refused > 0 {
+            return Err(MemoryFault.into());
+        }
+        Ok(())
+    }
+}
+
+/// What so many workers tell.
+fn told_by_workers<R: Threads + Wait + Sync>(
     rt: &R,
     alloc: Global,
     instance: &Instance,
     workers: u32,
     manner: Manner,
-) -> Result<bool, Fail> {
+) -> Result<Told, Fail> {
     let budget = 1_000;
-    match solved(rt, alloc, instance, Options { workers, budget }, manner)? {
-        Ok(answer) => Ok(answer.is_right(8, Why::Memory)),
-        Err(SolveFault::Memory | SolveFault::Thread) => Ok(true),
-    }
+    Ok(
+        match solved(rt, alloc, instance, Options { workers, budget }, manner)? {
+            Ok(answer) if answer.is_least(Some(8)) => Told::Least,
+            Ok(answer) if answer.is_right(8, Why::Memory) => Told::Refused,
+            Ok(_) => Told::Wrong,
+            Err(SolveFault::Memory | SolveFault::Thread) => Told::Refused,
+        },
+    )
 }
 
-/// Run with each allocation refused in turn: the answer is the same, or has bounds that hold, or the
-/// refusal is told.
+/// Run with each allocation refused in turn: the answer is the same, or has bounds that hold, or the refusal is told. Where none
+/// is refused, the answer is that 8 ticks are least.
 #[test]
 fn refused_in_turn(rt: HostRuntime) -> Result<(), Fail> {
     let instance = TWO_RECEIVERS.build(rt.alloc())?;
+    let mut tally = Tally::none();
     for workers in &[1, 2] {
         for manner in MANNERS {
-            assert!(rt; survives_refusals(&rt, rt.alloc(), &instance, *workers, *manner)?);
+            tally.add(told_by_workers(&rt, rt.alloc(), &instance, *workers, *manner)?);
+        }
+    }
+    assert!(rt; tally.is_right());
+    tally.end()
+}
+
+/// The names of the tasks that a hand can still take.
+fn add_left<J: Searched>(
+    alloc: Global,
+    names: &mut Vec<Indices>,
+    hand: &mut Hand<J>,
+) -> Result<(), AllocError> {
+    for _taking in 0..u64::MAX {
+        match hand.take() {
+            Some(task) => add_name(alloc, names, task.name().as_slice())?,
+            None => break,
         }
     }
     Ok(())
 }
 
-/// How many children the branches among pieces have.
-fn children(pieces: &[Piece]) -> u64 {
-    let mut count = 0u64;
-    for piece in pieces {
-        count = count.saturating_add(u64::from(piece.node.children()));
-    }
-    count
-}
-
-/// How many tasks a hand can still take.
-fn left<J: Searched>(hand: &mut Hand<J>) -> u64 {
-    for count in 0..u64::MAX {
-        if hand.take().is_none() {
-            return count;
-        }
-    }
-    u64::MAX
-}
-
-/// How many tasks a worker had in hand as it ended.
-fn held(rest: &Rest) -> u64 {
+/// The names of what a worker had in hand as it ended.
+fn add_rest(alloc: Global, names: &mut Vec<Indices>, rest: &Rest) -> Result<(), AllocError> {
     match rest {
-        Rest::Nothing => 0,
-        Rest::One(_) => 1,
-        Rest::Children(tasks) => tasks.len() as u64,
+        Rest::Nothing => Ok(()),
+        Rest::One(task) => add_name(alloc, names, task.name().as_slice()),
+        Rest::Children(tasks) => add_tasks(alloc, names, tasks.as_slice()),
     }
 }
 
-/// Whether what a lone worker did, spared, had in hand and left is the root and all children of its branches, and only want of
-/// memory left any.
-fn accounts_for_all<J: Searched>(report: &mut Report<J>) -> bool {
-    let open = held(&report.rest).saturating_add(left(&mut report.hand));
-    let pieces = report.pieces.as_slice();
-    let all = ((pieces.len() + report.spared.len()) as u64).saturating_add(open);
-    all == children(pieces).saturating_add(1) && (open == 0 || report.ending == Ending::Memory)
+/// Whether what a lone worker did, spared, had in hand and left is by its names the root and all children of its branches, each
+/// once, and what it tells.
+fn told_in<J: Searched>(alloc: Global, report: &mut Report<J>) -> Result<Told, Fail> {
+    let mut names = Vec::new(alloc);
+    add_pieces(alloc, &mut names, report.pieces.as_slice())?;
+    add_tasks(alloc, &mut names, report.spared.as_slice())?;
+    let done = names.len();
+    add_rest(alloc, &mut names, &report.rest)?;
+    let held = names.len();
+    add_left(alloc, &mut names, &mut report.hand)?;
+    let is_tree = are_tree(names.as_slice(), report.pieces.as_slice());
+    let is_found = matches!(&report.best, Some((_plan, delay)) if *delay == 8);
+    Ok(match report.ending {
+        Ending::Idle if is_tree && is_found && done == names.len() => Told::Least,
+        Ending::Memory if is_tree && done < held => Told::Refused,
+        _ => Told::Wrong,
+    })
 }
 
-/// Whether a lone worker accounts for each task.
-fn keeps_account<J: Searched>(
-    alloc: Global,
-    instance: &Instance,
-    manner: Manner,
-) -> Result<bool, Fail>
+/// What a lone worker tells in this manner.
+fn told_alone<J: Searched>(alloc: Global, instance: &Instance, manner: Manner) -> Result<Told, Fail>
     requires { instance.now ≡ J.instance }
 {
     let mut report = lone_report::<J>(alloc, instance, instance.past_horizon(), manner)?;
-    Ok(accounts_for_all(&mut report))
+    told_in(alloc, &mut report)
 }
 
-/// Run with each allocation refused in turn: no task is lost by a worker that ends.
+/// Run with each allocation refused in turn: no task is lost by a worker that ends. Where none is refused, it works all and finds
+/// the least delay.
 #[test]
 fn worker_refused_in_turn(rt: HostRuntime) -> Result<(), Fail> {
     let instance = TWO_RECEIVERS.build(rt.alloc())?;
+    let mut tally = Tally::none();
     for manner in MANNERS {
-        assert!(rt;
-            keeps_account::<Brand>(rt.alloc(), &instance, *manner)?,
-            "{manner:?}"
-        );
+        tally.add(told_alone::<Brand>(rt.alloc(), &instance, *manner)?);
     }
-    Ok(())
+    assert!(rt; tally.is_right());
+    tally.end()
 }

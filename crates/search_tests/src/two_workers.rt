@@ -35,10 +35,14 @@ fn outcome_of<R: Threads + Wait + Sync, G: Gate + Sync>(
     Ok(solve_with(rt, alloc, &instance, options, gate)?)
 }
 
-/// The delay that is said to be least, of a plan that was judged with its certificate.
+/// The delay that is said to be least, of a plan that was judged with its certificate; None where none is said to be.
 fn delay_of(alloc: Global, sample: &Sample, outcome: &Outcome) -> Result<Option<u64>, Fail> {
     let instance = sample.build(alloc)?;
-    Ok(read(alloc, &instance, outcome)?.delay)
+    let answer = read(alloc, &instance, outcome)?;
+    if answer.is_least(answer.delay) {
+        return Ok(answer.delay);
+    }
+    Ok(None)
 }
 
 /// The delay that two workers find who meet below the root.
@@ -79,10 +83,13 @@ fn certificate(outcome: Outcome) -> Result<Cert, Fail> {
     }
 }
 
-/// The greatest goal of the leaves at and below the root's first child.
-fn greatest_goal_below_first(cert: &Cert) -> u32 {
+/// The greatest goal of the leaves at and below the root's first child; None where the root isn't a branch with two children.
+fn greatest_goal_below_first(cert: &Cert) -> Option<u32> {
     let nodes = cert.nodes();
-    let (mut greatest, mut open) = (0, 1u64);
+    if nodes.first()?.children() != 2 {
+        return None;
+    }
+    let (mut greatest, mut open) = (None, 1u64);
     for k in 1..nodes.len() {
         if open == 0 {
             break;
@@ -90,7 +97,7 @@ fn greatest_goal_below_first(cert: &Cert) -> u32 {
         let node = &nodes[k];
         open = (open - 1).saturating_add(u64::from(node.children()));
         if let Node::Leaf(leaf) = node {
-            greatest = leaf.goal.max(greatest);
+            greatest = Some(leaf.goal.max(greatest.unwrap_or(0)));
         }
     }
     greatest
@@ -104,40 +111,46 @@ fn names_below<R: Threads + Wait + Sync>(
 ) -> Result<(u64, u64), Fail> {
     let gate = LeftBelow::new();
     outcome_of(rt, alloc, sample, ONE, &gate)?;
-    Ok((gate.first.get(), gate.second.get()))
+    Ok(gate.counts())
 }
 
-/// The greatest goal of the certificate's leaves below the root's first child, where this gate holds two workers up.
-fn goal_below_first<R: Threads + Wait + Sync>(
-    rt: &R,
-    alloc: Global,
-    sample: &Sample,
-    gate: &InTurn,
-) -> Result<u32, Fail> {
-    let cert = certificate(outcome_of(rt, alloc, sample, TWO, gate)?)?;
-    Ok(greatest_goal_below_first(&cert))
-}
-
-/// An instance, the greatest goal that a leaf below the first child may have, and how many names may be left there.
-type Shared = (Sample, u32, u64);
+/// An instance, its least delay, the greatest goal that a leaf at or below the root's first child may have, and how many names may
+/// be left there.
+type Shared = (Sample, u64, u32, u64);
 
 const SHARED: &[Shared] = &[
-    // Below the second child there is a plan of 10 ticks, which who works below the first one has to beat.
-    (ONE_MESSAGE, 10, u64::MAX),
+    // Below the second child there is a plan of 10 ticks, which who works below the first one has to beat. Then of a hundred rounds
+    // one is left: three branches with one child, seven that halve the rounds, each with a half that closes at once, and the plan.
+    (ONE_MESSAGE, 9, 10, 18),
     // Below the second child there is the shortest plan. Who knows of it closes the first child at once.
-    (SHORT_RECEIVER, u32::MAX, 1),
+    (SHORT_RECEIVER, 5, 5, 1),
 ];
 
-/// One worker begins below the root's first child once the other has searched below the second.
+/// Whether two workers whom this gate holds up leave leaves of no greater goal at and below the root's first child.
+fn is_shared<R: Threads + Wait + Sync>(
+    rt: &R,
+    alloc: Global,
+    (sample, least, most, _names): &Shared,
+    gate: &InTurn,
+) -> Result<bool, Fail> {
+    let outcome = outcome_of(rt, alloc, sample, TWO, gate)?;
+    let delay = delay_of(alloc, sample, &outcome)?;
+    let goal = greatest_goal_below_first(&certificate(outcome)?);
+    Ok(delay == Some(*least) && matches!(goal, Some(goal) if goal <= *most))
+}
+
+/// One worker begins below the root's first child once the other has searched below the second, and leaves the names that one
+/// worker alone leaves there.
 #[test]
 fn shared_word(rt: HostRuntime) -> Result<(), Fail> {
-    for (sample, most_goal, most_names) in SHARED {
-        let gate = InTurn::new(names_below(&rt, rt.alloc(), sample)?);
-        let goal = goal_below_first(&rt, rt.alloc(), sample, &gate)?;
-        let names = gate.left.first.get();
-        let is_held = gate.limits_met.get() == 0;
-        let is_shared = goal <= *most_goal && 1 <= names && names <= *most_names;
-        assert!(rt; is_held && is_shared, "{}: {goal}, {names}", sample.name);
+    for row in SHARED {
+        let names = names_below(&rt, rt.alloc(), &row.0)?;
+        let gate = InTurn::new(names);
+        let knows = is_shared(&rt, rt.alloc(), row, &gate)?;
+        let left = gate.left.counts();
+        let is_known = 1 <= names.0 && names.0 <= row.3 && 1 <= names.1;
+        assert!(rt; knows && gate.limits_met.get() == 0, "{}", row.0.name);
+        assert!(rt; is_known && left == names, "{}: {left:?}", row.0.name);
     }
     Ok(())
 }

@@ -3,7 +3,7 @@
 use super::{Row, line, replay};
 use crate::decisions::first_facts;
 use crate::instances::Small;
-use std::alloc::Global;
+use std::alloc::{AllocError, Global};
 use std::process::Abort;
 use std::test::Fail;
 use tt_choice::Decision::Before;
@@ -13,7 +13,7 @@ use worked_instances::PLAIN;
 
 /// Checks what the facts are about: their goal, whether the last process goes before the second one by the choice, and how many
 /// links there are; and what is known.
-fn expect_first(rt: &impl Abort, alloc: Global, facts: &Facts) -> Result<(), Fail> {
+fn expect_first(rt: &impl Abort, alloc: Global, facts: &Facts) -> Result<(), AllocError> {
     let is_before = facts.choice().is_before(2, 1);
     let subject = (facts.goal(), is_before, facts.instance().links().len());
     let known = line(alloc, facts)?;
@@ -26,7 +26,8 @@ fn expect_first(rt: &impl Abort, alloc: Global, facts: &Facts) -> Result<(), Fai
 fn at_first_all_is_open(rt: HostRuntime) -> Result<(), Fail> {
     let i = Small::ThreeLinked.build(rt.alloc())?;
     let facts = first_facts(&rt, rt.alloc(), &i, &[Before(2, 1)], 7)?;
-    expect_first(&rt, rt.alloc(), &facts)
+    expect_first(&rt, rt.alloc(), &facts)?;
+    Ok(())
 }
 
 /// A tick from a sender's end to its message, and two from its slot's end to its receiver.
@@ -130,7 +131,7 @@ static ROWS: &[Row] = &[
 ];
 
 #[test]
-fn bounds_rows(rt: HostRuntime) -> Result<(), Fail> {
+fn chain_rows(rt: HostRuntime) -> Result<(), Fail> {
     for row in ROWS {
         replay(&rt, rt.alloc(), row)?;
     }

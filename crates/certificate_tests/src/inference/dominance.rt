@@ -2,6 +2,7 @@
 
 use super::{Row, replay};
 use crate::instances::Small;
+use crate::{settled_plans, verdicts};
 use std::test::Fail;
 use tt_choice::Decision::{AtLeast, AtMost, Place};
 use tt_infer::StepFault::{NoPremise, NoSuchIndex};
@@ -183,6 +184,12 @@ static ROWS: &[Row] = &[
 fn dominance_rows(rt: HostRuntime) -> Result<(), Fail> {
     for row in ROWS {
         replay(&rt, rt.alloc(), row)?;
+    }
+    for row in verdicts::DOMINANCE {
+        verdicts::expect(&rt, rt.alloc(), row)?;
+    }
+    for row in settled_plans::WORKED {
+        settled_plans::expect(&rt, rt.alloc(), row)?;
     }
     Ok(())
 }

@@ -1,62 +1,109 @@
 //! What is known after decisions, and again once they are taken back.
 
-use super::fixed_points::{expect_idle, known};
-use crate::decisions::{is_open, next, some_decision};
+use super::fixed_points::expect_reached;
+use crate::decisions::{chosen, is_open, next, some_decision};
 use crate::instances::Small;
+use crate::kept_decisions::{expect_line, line};
 use path_bounds::Propagator;
-use std::alloc::Global;
+use std::alloc::{AllocError, Global};
 use std::process::Abort;
 use std::test::Fail;
 use tt_choice::Decision;
 use tt_infer::Facts;
+use ttp_model::{Instance, MemoryFault};
 use worked_instances::PLAIN;
 
-/// What a propagation has come to.
-#[derive(Drop)]
-struct Content {
-    /// All that is known, as numbers.
-    known: Vec<u32>,
-    prefix: Vec<u32>,
-    decisions: usize,
-    steps: usize,
-}
-
-impl Content {
-    fn of(alloc: Global, propagator: &Propagator) -> Result<Self, Fail> {
-        let facts = propagator.facts();
-        Ok(Content {
-            known: known(alloc, facts)?,
-            prefix: Vec::from_slice(alloc, facts.choice().prefix())?,
-            decisions: propagator.decisions().len(),
-            steps: propagator.log().len(),
-        })
-    }
-
-    fn is(&self, other: &Content) -> bool {
-        self.known.as_slice() == other.known.as_slice()
-            && self.prefix.as_slice() == other.prefix.as_slice()
-            && self.decisions == other.decisions
-            && self.steps == other.steps
-    }
-}
-
-/// The log leads from the first facts to what is known; and where plans may be left, no step sharpens that.
-fn expect_reached(rt: &impl Abort, alloc: Global, propagator: &Propagator) -> Result<(), Fail> {
-    let facts = propagator.facts();
-    let mut again = Facts::new(alloc, facts.instance(), facts.choice(), facts.goal())?;
-    for step in propagator.log() {
-        assert!(rt; again.apply(step).is_ok(), "{step:?}");
-    }
-    let reached = known(alloc, facts)?;
-    assert!(rt; known(alloc, &again)?.as_slice() == reached.as_slice());
-    if !propagator.closed() {
-        expect_idle(rt, alloc, &mut again)?;
+/// Adds all that is known: when processes start and end, the rounds of messages, whether a plan may be left, and which
+/// processes go before which.
+fn add_known(facts: &Facts, text: &mut String) -> Result<(), AllocError> {
+    write!(text, "{:?} {:?} ", facts.starts(), facts.ends())?;
+    write!(
+        text,
+        "{:?} {:?} ",
+        facts.first_rounds(),
+        facts.late_rounds()
+    )?;
+    write!(text, "{} {}", facts.goal(), facts.closed())?;
+    let processes = facts.instance().processes().len() as u32;
+    for p in 0..processes {
+        for q in 0..processes {
+            if facts.bef(p, q) {
+                write!(text, " {p}<{q}")?;
+            }
+        }
     }
     Ok(())
 }
 
+/// Adds the decisions, the choice that they make, what is known, and the log.
+fn add_all(propagator: &Propagator, text: &mut String) -> Result<(), AllocError> {
+    let facts = propagator.facts();
+    write!(text, "{:?} {:?} ", propagator.decisions(), facts.choice())?;
+    add_known(facts, text)?;
+    write!(text, " {:?}", propagator.log())
+}
+
+/// All that a propagation has come to.
+pub fn told(alloc: Global, propagator: &Propagator) -> Result<String, AllocError> {
+    let mut text = String::new(alloc);
+    add_all(propagator, &mut text)?;
+    Ok(text)
+}
+
+/// A propagation has come to just this.
+pub fn expect_told(
+    rt: &impl Abort,
+    alloc: Global,
+    propagator: &Propagator,
+    wanted: &str,
+) -> Result<(), AllocError> {
+    let now = told(alloc, propagator)?;
+    assert_eq!(rt; now.as_str(), wanted);
+    Ok(())
+}
+
+/// The choice of these decisions has this line.
+fn expect_chosen(
+    rt: &impl Abort,
+    alloc: Global,
+    i: &Instance,
+    decisions: &[Decision],
+    wanted: &str,
+) -> Result<(), MemoryFault> {
+    let choice = chosen(rt, alloc, i, decisions)?;
+    expect_line(rt, alloc, i, &choice, wanted, true)
+}
+
+/// The choice is the one that the decisions make.
+fn expect_decided(
+    rt: &impl Abort,
+    alloc: Global,
+    propagator: &Propagator,
+) -> Result<(), MemoryFault> {
+    let facts = propagator.facts();
+    let choice = line(alloc, facts.instance(), facts.choice())?;
+    expect_chosen(
+        rt,
+        alloc,
+        facts.instance(),
+        propagator.decisions(),
+        choice.as_str(),
+    )
+}
+
+/// The choice is the one that the decisions make, the log leads to what is known of it, and where plans may be left no step
+/// sharpens that.
+fn expect_settled(rt: &impl Abort, alloc: Global, propagator: &Propagator) -> Result<(), Fail> {
+    expect_decided(rt, alloc, propagator)?;
+    expect_reached(rt, alloc, propagator.facts(), propagator.log())
+}
+
 /// Makes a decision, where it is open and a plan may be left. Whether it does.
-fn decide(alloc: Global, propagator: &mut Propagator, decision: Decision) -> Result<bool, Fail> {
+pub fn decide(
+    alloc: Global,
+    propagator: &mut Propagator,
+    decision: Decision,
+) -> Result<bool, MemoryFault> {
     let facts = propagator.facts();
     if propagator.closed() || !is_open(facts.instance(), facts.choice(), decision) {
         return Ok(false);
@@ -66,40 +113,94 @@ fn decide(alloc: Global, propagator: &mut Propagator, decision: Decision) -> Res
 }
 
 /// Takes the last decision back, where there is one.
-fn undo(propagator: &mut Propagator) {
+pub fn undo(propagator: &mut Propagator) {
     if !propagator.decisions().is_empty() {
         propagator.undo();
     }
 }
 
-/// Makes decisions that look random and are open, and takes all back: what was known before each is known again. How many
-/// were made.
-fn goes_there_and_back(
+/// Makes a decision, where it is open and a plan may be left, and keeps what was come to before it.
+fn go_on(
     rt: &impl Abort,
     alloc: Global,
-    small: Small,
-    goal: u32,
+    propagator: &mut Propagator,
+    before: &mut Vec<String>,
+    decision: Decision,
+) -> Result<(), Fail> {
+    before.reserve(1)?;
+    let earlier = told(alloc, propagator)?;
+    if !decide(alloc, propagator, decision)? {
+        return Ok(());
+    }
+    before.push_reserved(earlier);
+    expect_settled(rt, alloc, propagator)
+}
+
+/// Makes decisions that look random, where they are open, and keeps what was come to before each.
+fn go_there(
+    rt: &impl Abort,
+    alloc: Global,
+    propagator: &mut Propagator,
+    before: &mut Vec<String>,
     seed: u32,
-) -> Result<usize, Fail> {
-    let i = small.build(alloc)?;
-    let mut propagator = Propagator::start(alloc, &i, goal)?;
-    let mut before = Vec::new(alloc);
+) -> Result<(), Fail> {
+    expect_settled(rt, alloc, propagator)?;
     let mut seed = seed;
     for _try in 0..60 {
         seed = next(seed);
-        let content = Content::of(alloc, &propagator)?;
-        if decide(alloc, &mut propagator, some_decision(&i, seed))? {
-            expect_reached(rt, alloc, &propagator)?;
-            before.push(content)?;
-        }
+        let decision = some_decision(propagator.facts().instance(), seed);
+        go_on(rt, alloc, propagator, before, decision)?;
     }
-    let made = before.len();
-    before.reverse();
-    for earlier in before {
-        undo(&mut propagator);
-        assert!(rt; Content::of(alloc, &propagator)?.is(&earlier));
+    Ok(())
+}
+
+/// Takes decisions back: what was come to before each stands again. How many they are.
+fn go_back(
+    rt: &impl Abort,
+    alloc: Global,
+    propagator: &mut Propagator,
+    before: &[String],
+) -> Result<usize, Fail> {
+    for earlier in before.iter().rev() {
+        undo(propagator);
+        expect_told(rt, alloc, propagator, earlier.as_str())?;
     }
-    Ok(made)
+    Ok(before.len())
+}
+
+/// Makes decisions and takes all back. How many were made.
+fn go_there_and_back(
+    rt: &impl Abort,
+    alloc: Global,
+    propagator: &mut Propagator,
+    seed: u32,
+) -> Result<usize, Fail> {
+    let mut before = Vec::new(alloc);
+    go_there(rt, alloc, propagator, &mut before, seed)?;
+    go_back(rt, alloc, propagator, before.as_slice())
+}
+
+/// How many decisions are made of the plans of an instance below a goal, and taken back.
+fn made_on(
+    rt: &impl Abort,
+    alloc: Global,
+    i: &Instance,
+    goal: u32,
+    seed: u32,
+) -> Result<usize, Fail> {
+    let mut propagator = Propagator::start(alloc, i, goal)?;
+    go_there_and_back(rt, alloc, &mut propagator, seed)
+}
+
+/// The same of a small instance.
+fn made(
+    rt: &impl Abort,
+    alloc: Global,
+    (small, goal): (Small, u32),
+    seed: u32,
+) -> Result<usize, Fail> {
+    let i = small.build(alloc)?;
+    made_on(rt, alloc, &i, goal, seed)
 }
 
 /// Instances, with a goal above their least delay.
@@ -118,10 +219,9 @@ static ROWS: &[(Small, u32)] = &[
 #[test]
 fn trail(rt: HostRuntime) -> Result<(), Fail> {
     let mut all: usize = 0;
-    for &(small, goal) in ROWS {
+    for row in ROWS {
         for seed in 0..4 {
-            let made = goes_there_and_back(&rt, rt.alloc(), small, goal, seed)?;
-            all = all.saturating_add(made);
+            all = all.saturating_add(made(&rt, rt.alloc(), *row, seed)?);
         }
     }
     assert!(rt; all > 100, "{all} decisions");

@@ -1,0 +1,112 @@
+//! What is known once as many decisions are taken back as an instance can hardly have more of.
+
+use super::trail::{decide, expect_told, told, undo};
+use path_bounds::Propagator;
+use std::alloc::{AllocError, Global};
+use std::process::Abort;
+use std::test::Fail;
+use tt_choice::Decision;
+use ttp_model::{Cluster, Instance, MemoryFault, ModelError};
+use worked_instances::{Draft, PLAIN};
+
+/// As many processes as there may be.
+const PROCESSES: u32 = 64;
+
+/// How many decisions are made: each two of these processes can be ordered once, in 2,016 ways.
+const DECISIONS: usize = 2_000;
+
+/// Later than all of the processes take, one after another.
+const GOAL: u32 = 4_000;
+
+/// With one more process, which takes a tick more than its number.
+fn with_process(alloc: Global, draft: Draft, number: u32) -> Result<Draft, AllocError> {
+    let name = format!(in alloc; "p{number}")?;
+    draft.process(name.as_str(), 0, number.saturating_add(1))
+}
+
+/// Processes on one node, no two of which take as long: 2,080 ticks in all.
+fn crowd(alloc: Global) -> Result<Instance, ModelError> {
+    let cluster = Cluster {
+        horizon: GOAL,
+        ..PLAIN
+    };
+    let mut draft = Draft::of(alloc, cluster).node("A", &[0])?;
+    for number in 0..PROCESSES {
+        draft = with_process(alloc, draft, number)?;
+    }
+    draft.build()
+}
+
+/// Makes a decision that has to be open.
+fn go_on(
+    rt: &impl Abort,
+    alloc: Global,
+    propagator: &mut Propagator,
+    decision: Decision,
+) -> Result<(), MemoryFault> {
+    let is_made = decide(alloc, propagator, decision)?;
+    assert!(rt; is_made, "{decision:?}");
+    Ok(())
+}
+
+/// Lets each process of a lower number go before process `q`, up to so many decisions in all.
+fn order(
+    rt: &impl Abort,
+    alloc: Global,
+    propagator: &mut Propagator,
+    q: u32,
+) -> Result<(), MemoryFault> {
+    for p in 0..q {
+        if propagator.decisions().len() < DECISIONS {
+            go_on(rt, alloc, propagator, Decision::Before(p, q))?;
+        }
+    }
+    Ok(())
+}
+
+/// Lets processes of lower numbers go before others, up to so many decisions. All before process 62 take 1,953 ticks.
+fn go_there(
+    rt: &impl Abort,
+    alloc: Global,
+    propagator: &mut Propagator,
+) -> Result<(), MemoryFault> {
+    for q in 1..PROCESSES {
+        order(rt, alloc, propagator, q)?;
+    }
+    assert_eq!(rt; propagator.decisions().len(), DECISIONS);
+    assert_eq!(rt; propagator.facts().starts().get(62).copied(), Some(1_953));
+    Ok(())
+}
+
+/// Takes all decisions back.
+fn go_back(propagator: &mut Propagator) {
+    let made = propagator.decisions().len();
+    for _decision in 0..made {
+        undo(propagator);
+    }
+}
+
+/// Makes all decisions and takes them back: just what was known before them is known again.
+fn expect_there_and_back(
+    rt: &impl Abort,
+    alloc: Global,
+    propagator: &mut Propagator,
+) -> Result<(), MemoryFault> {
+    let before = told(alloc, propagator)?;
+    go_there(rt, alloc, propagator)?;
+    go_back(propagator);
+    Ok(expect_told(rt, alloc, propagator, before.as_str())?)
+}
+
+/// The same of what is known of an instance at first.
+fn expect_on(rt: &impl Abort, alloc: Global, i: &Instance) -> Result<(), MemoryFault> {
+    let mut propagator = Propagator::start(alloc, i, GOAL)?;
+    expect_there_and_back(rt, alloc, &mut propagator)
+}
+
+#[test]
+fn two_thousand_decisions_are_taken_back(rt: HostRuntime) -> Result<(), Fail> {
+    let i = crowd(rt.alloc())?;
+    expect_on(&rt, rt.alloc(), &i)?;
+    Ok(())
+}

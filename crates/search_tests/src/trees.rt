@@ -1,0 +1,76 @@
+//! Are names those of a tree?
+
+use branch_tree::{Piece, Task};
+use std::alloc::{AllocError, Global};
+
+/// The indices of a name.
+pub type Indices = Vec<u32>;
+
+/// One more name.
+pub fn add_name(alloc: Global, names: &mut Vec<Indices>, name: &[u32]) -> Result<(), AllocError> {
+    names.push(Vec::from_slice(alloc, name)?)?;
+    Ok(())
+}
+
+/// The names of pieces.
+pub fn add_pieces(
+    alloc: Global,
+    names: &mut Vec<Indices>,
+    pieces: &[Piece],
+) -> Result<(), AllocError> {
+    for piece in pieces {
+        add_name(alloc, names, piece.name.as_slice())?;
+    }
+    Ok(())
+}
+
+/// The names of tasks.
+pub fn add_tasks(
+    alloc: Global,
+    names: &mut Vec<Indices>,
+    tasks: &[Task],
+) -> Result<(), AllocError> {
+    for task in tasks {
+        add_name(alloc, names, task.name().as_slice())?;
+    }
+    Ok(())
+}
+
+/// How many children the branch of this name has, of these pieces; 0 where there is no such branch.
+pub fn children_of(pieces: &[Piece], name: &[u32]) -> u32 {
+    for piece in pieces {
+        if piece.name.as_slice() == name {
+            return piece.node.children();
+        }
+    }
+    0
+}
+
+/// How many children the branches among pieces have.
+pub fn children(pieces: &[Piece]) -> usize {
+    let mut count = 0usize;
+    for piece in pieces {
+        count = count.saturating_add(piece.node.children() as usize);
+    }
+    count
+}
+
+/// Whether a name is the root's, or that of a child of a branch among these pieces.
+fn is_child(pieces: &[Piece], name: &[u32]) -> bool {
+    match name.split_last() {
+        None => true,
+        Some((index, parent)) => *index < children_of(pieces, parent),
+    }
+}
+
+/// Whether these are the names of the root and of all children of the branches among these pieces, each once: none is there
+/// twice, each is one of these, and they are as many.
+pub fn are_tree(names: &[Indices], pieces: &[Piece]) -> bool {
+    for (place, name) in names.iter().enumerate() {
+        let is_twice = names[..place].iter().any(|other| other == name);
+        if is_twice || !is_child(pieces, name.as_slice()) {
+            return false;
+        }
+    }
+    names.len() == children(pieces).saturating_add(1)
+}
