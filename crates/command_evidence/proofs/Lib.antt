@@ -6,3 +6,4 @@ pub mod SearchesTold
 pub mod Spared
 pub mod JudgementsTold
 pub mod Transfers
+pub mod FirstSteps

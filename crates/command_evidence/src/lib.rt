@@ -3,8 +3,11 @@
 
 mod answers;
 mod bundles;
+mod certificates;
+mod checks;
 mod events;
 mod judgements;
+mod plans;
 mod propagations;
 mod searches;
 mod smaller_trees;
@@ -12,16 +15,29 @@ mod streams;
 mod tellings;
 mod verdicts;
 mod words;
+mod workers;
 
 pub use answers::{
     answer_waits_for_the_certificate, best_plan_stands_behind_the_line, certificate_is_written,
     search_ends_at_no_stated_delay,
 };
 pub use bundles::{instance_is_unread_only_before_the_mark, mark_is_a_line};
+pub use certificates::{
+    gathered_goals_reach_the_bound, gathered_tree_is_that_of_the_pieces, printed_text_spells_it,
+    text_spells_what_is_read, what_is_read_is_a_whole_tree,
+};
+pub use checks::{
+    branch_that_is_not_open_is_refused, byte_past_the_limit_is_refused,
+    fault_of_bytes_is_the_first, leaf_without_steps_is_refused, rest_is_read_behind_a_fault,
+    unlawful_first_step_is_refused, yes_is_a_proof, yes_of_bytes_is_a_proof,
+};
 pub use events::{
     leaf_is_closed_at_what_was_seen, look_sees_the_best_delay, pop_takes_the_last_name,
 };
 pub use judgements::{bounds_are_told_in_order, delay_told_is_the_least, none_is_told_of_no_plan};
+pub use plans::{
+    printed_text_spells_the_plan, settled_frames_fit, settled_messages_arrive, text_spells_the_plan,
+};
 pub use propagations::{
     bound_counts_a_transfer, closed_is_told_of_steps_that_close, log_of_an_order_leads_there,
     refused_decision_is_not_kept, supposed_order_is_not_known, what_was_known_is_known_again,
@@ -44,3 +60,4 @@ pub use verdicts::{
     plan_is_unread_only_behind_an_instance, stated_delay_is_the_plans_own, tables_end_with_windows,
 };
 pub use words::certificate_is_another_file;
+pub use workers::{no_task_is_dropped, spent_budget_was_worked};

@@ -1,0 +1,51 @@
+//! What a worker reports.
+
+ghost use Rattle.std.specs.Prelude.{◌≡◌};
+ghost use Rattle.incumbent.specs.Watch.{IsOther};
+ghost use Rattle.pool_worker.specs.Report.{HasAccount};
+ghost use Rattle.pool_worker.specs.declared.report.Ending.TheVariants as ending;
+
+use incumbent::{Incumbent, Watch};
+use pool_worker::{FreeGate, Report, run_worker};
+use std::alloc::Global;
+use steal_pool::{Hand, Searched};
+use ttp_model::Instance;
+
+/// Each task that it took was worked, or is one of those that it says it spared or still holds; and each child that its branches
+/// have was pushed or is held too.
+pub fn no_task_is_dropped<J: Searched>(
+    alloc: Global,
+    instance: &Instance,
+    hand: Hand<J>,
+    word: &Incumbent,
+    watch: Watch,
+    budget: u64,
+    workers: usize,
+) -> Report<J>
+    requires of { instance.now ≡ J.instance }
+    requires watch { IsOther word.now watch }
+    ensures { HasAccount instance.now hand result.hand result.pieces.items result.spared.items result.rest }
+{
+    run_worker(
+        alloc, instance, hand, word, watch, budget, workers, &FreeGate,
+    )
+}
+
+/// Where it says that the budget is spent, it worked so many subtrees.
+pub fn spent_budget_was_worked<J: Searched>(
+    alloc: Global,
+    instance: &Instance,
+    hand: Hand<J>,
+    word: &Incumbent,
+    watch: Watch,
+    budget: u64,
+    workers: usize,
+) -> Report<J>
+    requires of { instance.now ≡ J.instance }
+    requires watch { IsOther word.now watch }
+    ensures { result.ending ≡ ending.Budget → result.worked ≡ budget }
+{
+    run_worker(
+        alloc, instance, hand, word, watch, budget, workers, &FreeGate,
+    )
+}
