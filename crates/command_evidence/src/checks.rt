@@ -1,6 +1,6 @@
 //! Which certificates are refused, and what is told of one that is read as it comes.
 
-ghost use Rattle.std.specs.Prelude.{◌≡◌, ◌<◌, List, [], ◌∷◌, IfErr, IfOk, IsErr, Ok, Err, Some, length};
+ghost use Rattle.std.specs.Prelude.{◌≡◌, ◌+◌, ◌<◌, List, [], ◌∷◌, IfErr, IfOk, IsErr, Ok, Err, Some, length};
 ghost use Rattle.std.specs.Io.KnownBytes.{IsAtEnd};
 ghost use Rattle.ttp_model.specs.declared.step.Leaf.{Leaf};
 ghost use Rattle.ttp_model.specs.declared.step.Step.{Step};
@@ -9,6 +9,7 @@ ghost use Rattle.tt_infer.specs.Known.{Known, first_facts};
 ghost use Rattle.tt_infer.specs.Table.{IsLawful};
 ghost use Rattle.certificate.specs.declared.branch.Branch.{Branch};
 ghost use Rattle.certificate.specs.declared.node.Node.TheVariants as node;
+ghost use Rattle.certificate.specs.Blocks.{IsFrom};
 ghost use Rattle.certificate.specs.Cert.{Cert};
 ghost use Rattle.certificate.specs.Limits.{most_text_bytes};
 ghost use Rattle.certificate.specs.Streams.{BytesRead};
@@ -123,4 +124,18 @@ pub fn byte_past_the_limit_is_refused(
 {
     let mut reader = bytes;
     check_stream(rt, alloc, instance, &mut reader, batch)
+}
+
+/// Where a text is told to be too long, just one byte past the limit was taken of its reader.
+pub fn one_byte_past_the_limit_is_taken<R: Read>(
+    rt: &(impl Threads + Sync),
+    alloc: Global,
+    instance: &Instance,
+    reader: &mut R,
+    batch: usize,
+) -> Result<u32, StreamFault>
+    ensures { result ≡ Err stream.TooLong
+        → IsFrom (R.remaining reader.new) (most_text_bytes + 1) (R.remaining reader.old) }
+{
+    check_stream(rt, alloc, instance, reader, batch)
 }

@@ -28,8 +28,9 @@ pub use certificates::{
 };
 pub use checks::{
     branch_that_is_not_open_is_refused, byte_past_the_limit_is_refused,
-    fault_of_bytes_is_the_first, leaf_without_steps_is_refused, rest_is_read_behind_a_fault,
-    unlawful_first_step_is_refused, yes_is_a_proof, yes_of_bytes_is_a_proof,
+    fault_of_bytes_is_the_first, leaf_without_steps_is_refused, one_byte_past_the_limit_is_taken,
+    rest_is_read_behind_a_fault, unlawful_first_step_is_refused, yes_is_a_proof,
+    yes_of_bytes_is_a_proof,
 };
 pub use events::{
     leaf_is_closed_at_what_was_seen, look_sees_the_best_delay, pop_takes_the_last_name,
