@@ -1,7 +1,7 @@
 -- The step that closes a complete choice without a plan, or at a goal within its plan's delay. Own profile.
 use Rattle.std.specs.Prelude.{ℕ, ◌+◌, List, [], ◌∷◌, ◌++◌, All}
 use Rattle.ttp_model.specs.declared.step.Step.{Step}
-use Rattle.ttp_model.specs.declared.step.Step.TheVariants.{OrdTwin, UsSettled, XWindow, XRound, XCycle, XFrames, XLate, XSilent}
+use Rattle.ttp_model.specs.declared.step.Step.TheVariants.{EsRelease, EsLink, EsBefore, EsArrive, EsMessage, LoSend, LeOwn, LeLink, LeBefore, LeMessage, LeSend, HiArrive, OrdWindow, OrdTwin, UsSettled, XWindow, XRound, XCycle, XLoad, XFrame, XFrames, XLate, XSilent}
 use Rattle.ttp_model.specs.Instance.{Instance}
 use Rattle.tt_choice.specs.Choice.{Choice}
 use Rattle.tt_infer.specs.Leaves.{ClosesLeaf}
@@ -10,11 +10,29 @@ use Rattle.earliest_starts.specs.declared.clash.Clash.TheVariants.{Cycle, Round,
 
 -- the four steps that are true of settled plans alone
 abbrev pub IsDominance : Step → Type 0
+IsDominance (EsRelease p) = ⊥
+IsDominance (EsLink l) = ⊥
+IsDominance (EsBefore p q) = ⊥
+IsDominance (EsArrive m q) = ⊥
+IsDominance (EsMessage m q) = ⊥
+IsDominance (LoSend m) = ⊥
+IsDominance (LeOwn p) = ⊥
+IsDominance (LeLink l) = ⊥
+IsDominance (LeBefore p q) = ⊥
+IsDominance (LeMessage m q) = ⊥
+IsDominance (LeSend m) = ⊥
+IsDominance (HiArrive m q) = ⊥
+IsDominance (OrdWindow p q) = ⊥
 IsDominance (OrdTwin p q) = Unit {0}
 IsDominance (UsSettled p) = Unit {0}
+IsDominance (XWindow p) = ⊥
+IsDominance (XRound m) = ⊥
+IsDominance (XCycle ps) = ⊥
+IsDominance (XLoad n a b) = ⊥
+IsDominance (XFrame m) = ⊥
+IsDominance (XFrames n a b) = ⊥
 IsDominance (XLate m r) = Unit {0}
 IsDominance (XSilent u v) = Unit {0}
-IsDominance step = ⊥
 
 -- the step that closes the choice for a clash
 abbrev pub closer_of : Clash → Step

@@ -39,7 +39,13 @@ fn node_of(instance: &Instance, closer: &Step) -> Option<u32> {
         Step::XWindow(p) => home(instance, *p),
         Step::XRound(m) | Step::XFrame(m) | Step::XLate(m, _) => source(instance, *m),
         Step::XLoad(n, _, _) | Step::XFrames(n, _, _) => Some(*n),
-        _ => None,
+        Step::XCycle(_) | Step::XSilent(_, _) => None,
+        // They don't close.
+        Step::EsRelease(_) | Step::EsLink(_) | Step::EsBefore(_, _) => None,
+        Step::EsArrive(_, _) | Step::EsMessage(_, _) | Step::LoSend(_) => None,
+        Step::LeOwn(_) | Step::LeLink(_) | Step::LeBefore(_, _) => None,
+        Step::LeMessage(_, _) | Step::LeSend(_) | Step::HiArrive(_, _) => None,
+        Step::OrdWindow(_, _) | Step::OrdTwin(_, _) | Step::UsSettled(_) => None,
     }
 }
 

@@ -11,5 +11,6 @@ pub mod Waiting
 pub mod LeafSteps
 pub mod NoFaults
 pub mod Streams
+pub mod Accepted
 pub mod Failing
 pub mod Pieces

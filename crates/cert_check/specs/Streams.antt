@@ -14,6 +14,7 @@ use Rattle.certificate.specs.declared.node.Node.{Node}
 use Rattle.certificate.specs.declared.stream.CertStream.{CertStream}
 use Rattle.certificate.specs.Blocks.{IsFrom, Stops}
 use Rattle.cert_check.specs.declared.fault.CertFault.{CertFault}
+use Rattle.cert_check.specs.declared.fault.CertFault.TheVariants.{OutOfMemory}
 use Rattle.cert_check.specs.declared.fault.StreamFault.{StreamFault}
 use Rattle.cert_check.specs.declared.fault.StreamFault.TheVariants.{Read, TooLong, Text, Cert as InCert}
 use Rattle.cert_check.specs.Proofs.{Proves}
@@ -43,6 +44,14 @@ IsAnswerOf i Tells (Err (InCert fault)) = (cert : Cert) × Tells (Ok cert) × Is
 -- what it says of the bytes that a reader has, which are any where they aren't known
 abbrev pub IsStreamJudged : Instance → Option (List ℕ) → Result ℕ StreamFault → Type 0
 IsStreamJudged i known = IsAnswerOf i (BytesRead known)
+
+-- What a certificate that proves this bound is answered with: the bound, unless the reader failed or memory was refused.
+abbrev pub IsBoundUnlessStopped : ℕ → Result ℕ StreamFault → Type 0
+IsBoundUnlessStopped low (Ok said) = said ≡ low
+IsBoundUnlessStopped low (Err Read) = Unit {0}
+IsBoundUnlessStopped low (Err TooLong) = ⊥
+IsBoundUnlessStopped low (Err (Text error)) = error ≡ text.OutOfMemory
+IsBoundUnlessStopped low (Err (InCert fault)) = fault ≡ OutOfMemory
 
 -- Where so many bytes were taken: all that there are, within the limit, or one more than that where the text is too long. Only
 -- a reader that failed, and memory that was refused, may leave some.

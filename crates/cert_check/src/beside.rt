@@ -1,6 +1,6 @@
 //! How are leaves judged while the next ones are read?
 
-ghost use Rattle.std.specs.Prelude.{◌<◌, All, IfNone, IfSome};
+ghost use Rattle.std.specs.Prelude.{◌<◌, ◌≤◌, All, IfNone, IfSome, length};
 ghost use Rattle.certificate.specs.Streams.{next_line};
 ghost use Rattle.cert_check.specs.Waiting.{Judges, RunCloses, Waits};
 ghost use Rattle.cert_check.specs.UnderWay.{ComesFrom, GoesOn, Halts, IsSomewhere};
@@ -32,6 +32,9 @@ pub fn judge_beside<T: Threads + Sync, R: Read>(
 ) -> (Result<(), HeldFault>, Option<Stop>)
     requires waits { All (Waits instance.now) front.now }
     requires under_way { IsSomewhere instance.now R.remaining stream.old going.old.walk going.old.held.items }
+    requires together { length front.now ≤ batch }
+    requires room { length going.old.held.items < batch }
+    ensures few { length going.new.held.items ≤ batch }
     ensures judges { Judges instance.now low front.now result.0 }
     ensures full { IfNone result.1 (GoesOn instance.now R.remaining stream.old stream.new going.old.walk going.new.walk going.old.held.items going.new.held.items) }
     ensures on { IfNone result.1 (next_line stream.old < next_line stream.new) }
@@ -70,6 +73,8 @@ fn read_and_share<T: Threads + Sync, R: Read>(
 ) -> (Vec<usize>, Option<Stop>)
     requires waits { All (Waits instance.now) front.now }
     requires under_way { IsSomewhere instance.now R.remaining stream.old going.old.walk going.old.held.items }
+    requires room { length going.old.held.items < batch }
+    ensures few { length going.new.held.items ≤ batch }
     ensures closed { All (RunCloses instance.now low front.now) result.0.items }
     ensures full { IfNone result.1 (GoesOn instance.now R.remaining stream.old stream.new going.old.walk going.new.walk going.old.held.items going.new.held.items) }
     ensures on { IfNone result.1 (next_line stream.old < next_line stream.new) }
@@ -85,7 +90,8 @@ fn read_and_share<T: Threads + Sync, R: Read>(
         ensures { All (RunCloses instance.entry.now low front.entry.now) result.items }
     { closed_runs(alloc, instance, low, front, next) };
     let mut go_on = || -> (Vec<usize>, Option<Stop>)
-        requires { (0 < others) × All (Waits instance.now) front.now × IsSomewhere instance.now R.remaining stream.now going.now.walk going.now.held.items }
+        requires { (0 < others) × All (Waits instance.now) front.now × IsSomewhere instance.now R.remaining stream.now going.now.walk going.now.held.items × (length going.now.held.items < batch) }
+        ensures few { length going.exit.now.held.items ≤ batch }
         ensures closed { All (RunCloses instance.entry.now low front.entry.now) result.0.items }
         ensures full { IfNone result.1 (GoesOn instance.entry.now R.remaining stream.entry.now stream.exit.now going.entry.now.walk going.exit.now.walk going.entry.now.held.items going.exit.now.held.items) }
         ensures on { IfNone result.1 (next_line stream.entry.now < next_line stream.exit.now) }

@@ -1,6 +1,6 @@
 //! Which leaves wait, where the nodes of a certificate come one after another?
 
-ghost use Rattle.std.specs.Prelude.{◌≡◌, ◌∷◌, [], ◌<◌, ◌^◌, ◌++◌, ℕ, List, IfErr, IfNone, IfOk, IfSome, OnErr, OnOk};
+ghost use Rattle.std.specs.Prelude.{◌≡◌, ◌∷◌, [], ◌<◌, ◌≤◌, ◌+◌, ◌^◌, ◌++◌, ℕ, List, IfErr, IfNone, IfOk, IfSome, IsFalse, OnErr, OnOk, length};
 ghost use Rattle.tt_choice.specs.Choice.{Choice, bare};
 ghost use Rattle.tt_choice.specs.Branches.{root_choice};
 ghost use Rattle.certificate.specs.Streams.{next_line};
@@ -126,10 +126,11 @@ impl Going {
         ensures walk { self.new.walk ≡ self.old.walk }
         ensures held { self.new.held ≡ self.old.held }
     {
-        let Some(mut choice) = self.spares.pop() else {
+        let Some(spare) = self.spares.pop() else {
             let choice = self.walk.choice().copy(alloc)?;
             return Ok(choice);
         };
+        let mut choice = spare.bare();
         choice.set_to(self.walk.choice())?;
         Ok(choice)
     }
@@ -191,6 +192,7 @@ impl Going {
         ensures kept { OnErr result (self.new.held.items ≡ self.old.held.items) }
         ensures err { IfErr result (λ stop. (c : Choice) (left : List Choice) → IsWalk instance.now self.old.walk (c ∷ left)
             → TakeFails instance.now head line c stop) }
+        ensures few { length self.new.held.items ≤ length self.old.held.items + 1 }
     {
         match (self.walk.go_on(alloc, instance), head) {
             (Ok(()), Head::OfBranch(branch)) => {
@@ -210,7 +212,9 @@ impl Going {
     }
 
     /// Whether as many leaves wait as are judged together.
-    fn is_full(&self, batch: usize) -> bool {
+    fn is_full(&self, batch: usize) -> bool
+        ensures { IsFalse result → length self.now.held.items < batch }
+    {
         self.held.len() >= batch.min(self.together) || self.bytes >= MOST_BYTES_HELD
     }
 
@@ -223,7 +227,9 @@ impl Going {
         stream: &mut CertStream<R>,
         steps: &mut Vec<u8>,
     ) -> Option<Stop>
-        requires { IsSomewhere instance.now R.remaining stream.old self.old.walk self.old.held.items }
+        requires under_way { IsSomewhere instance.now R.remaining stream.old self.old.walk self.old.held.items }
+        requires room { length self.old.held.items < batch }
+        ensures few { length self.new.held.items ≤ batch }
         ensures full { IfNone result (GoesOn instance.now R.remaining stream.old stream.new self.old.walk self.new.walk self.old.held.items self.new.held.items) }
         ensures on { IfNone result (next_line stream.old < next_line stream.new) }
         ensures stopped { IfSome result (Halts instance.now R.remaining stream.old stream.new self.old.walk self.old.held.items self.new.held.items) }

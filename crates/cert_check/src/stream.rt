@@ -1,12 +1,15 @@
 //! Do the bytes of a reader spell a certificate that proves its bound?
 
-ghost use Rattle.std.specs.Prelude.{◌≡◌, ◌+◌, ◌∷◌, [], ◌<◌, ◌≤◌, ℕ, List, Ok, IfErr, IfNone, IfOk, OnOk};
+ghost use Rattle.std.specs.Prelude.{◌≡◌, ◌+◌, ◌∷◌, [], ◌<◌, ◌≤◌, ℕ, List, Ok, IfErr, IfNone, IfOk, IfSome, OnOk, length, max};
 ghost use Rattle.ttp_model.specs.Delays.{HasNoPlan, IsLowerBound};
 ghost use Rattle.certificate.specs.declared.node.Node.{Node};
 ghost use Rattle.certificate.specs.Cert.{Cert};
+ghost use Rattle.certificate.specs.Limits.{most_text_bytes};
 ghost use Rattle.certificate.specs.Sources.{Origin};
+ghost use Rattle.certificate.specs.Spelling.{SpellsCert};
 ghost use Rattle.certificate.specs.Streams.{IsFresh, LeavesNodes, LeavesCert, StreamIsFrom, IsCertFault, IsNodeFault, next_line, still_to_come, bytes_taken, stream_reader};
-ghost use Rattle.cert_check.specs.Streams.{IsAnswerOf, IsFound, IsStreamJudged, IsTakenFrom, IsToldBehind, TakesAll};
+ghost use Rattle.cert_check.specs.Proofs.{Proves};
+ghost use Rattle.cert_check.specs.Streams.{IsAnswerOf, IsBoundUnlessStopped, IsFound, IsStreamJudged, IsTakenFrom, IsToldBehind, TakesAll};
 ghost use Rattle.ttp_model.specs.Instance.{Instance};
 ghost use Rattle.certificate.specs.declared.stream.CertStream.{CertStream};
 ghost use Rattle.cert_check.specs.declared.batch.HeldLeaf.{HeldLeaf};
@@ -26,6 +29,14 @@ use ttp_model::Instance;
 
 /// How many leaves are judged together at most.
 pub const MOST_LEAVES_HELD: usize = 4_096;
+
+/// How many leaves wait for each other at most, where a caller asks for so many.
+fn most_waiting(batch: usize) -> usize
+    ensures some { 0 < result }
+    ensures most { result ≤ max batch 1 }
+{
+    batch.max(1).min(MOST_LEAVES_HELD)
+}
 
 /// Reads the nodes that are left, and judges none.
 fn pass_nodes<R: Read>(alloc: Global, stream: &mut CertStream<R>) -> Result<(), SourceFault>
@@ -107,6 +118,7 @@ fn go_through<R: Read>(
 ) -> Result<Option<CertFault>, SourceFault>
     requires due { still_to_come stream.old ≡ 1 ∷ [] }
     requires line { next_line stream.old ≡ 3 }
+    requires batch { 0 < batch }
     ensures answers { AnswersAll instance.now low R.remaining stream.old (bytes_taken stream.new) result }
     ensures from { (origin : Origin) → StreamIsFrom R.remaining stream.old origin → StreamIsFrom R.remaining stream.new origin }
 {
@@ -160,7 +172,8 @@ fn judge<R: Read>(
     batch: usize,
     stream: &mut CertStream<R>,
 ) -> Result<(u32, Option<CertFault>), SourceFault>
-    requires { IsFresh stream.old }
+    requires fresh { IsFresh stream.old }
+    requires batch { 0 < batch }
     ensures found { IfOk result (λ said. (cert : Cert) × LeavesCert R.remaining stream.old (Ok cert)
         × ((said.0 ≡ cert.low) × IsFound instance.now cert said.1)) }
     ensures bound { IfOk result (λ said. IfNone said.1 (IsLowerBound instance.now said.0)) }
@@ -185,7 +198,8 @@ fn judge_all<R: Read>(
     batch: usize,
     stream: &mut CertStream<R>,
 ) -> Result<u32, StreamFault>
-    requires { IsFresh stream.old }
+    requires fresh { IsFresh stream.old }
+    requires batch { 0 < batch }
     ensures answer { IsAnswerOf instance.now (LeavesCert R.remaining stream.old) result }
     ensures bound { IfOk result (λ low. IsLowerBound instance.now low) }
     ensures none { IfOk result
@@ -215,8 +229,8 @@ fn judge_all<R: Read>(
 /// certificate the rest is still read; of no reader more than `certificate::MOST_TEXT_BYTES` and one byte are taken.
 ///
 /// Leaves are read and judged together on all processors, up to `batch` of them, 1 at least and `MOST_LEAVES_HELD` at most, and no
-/// more than are judged fast together, while this thread reads on until as many others wait. Takes memory for one path of the
-/// tree, and for all those leaves with their lines and choices.
+/// more than are judged fast together, while this thread reads on until as many others wait. So no more than `batch` leaves wait, nor
+/// are more judged at a time. Takes memory for one path of the tree, and for all those leaves with their lines and choices.
 pub fn check_stream<R: Read>(
     rt: &(impl Threads + Sync),
     alloc: Global,
@@ -225,12 +239,14 @@ pub fn check_stream<R: Read>(
     batch: usize,
 ) -> Result<u32, StreamFault>
     ensures answer { IsStreamJudged instance.now (R.remaining reader.old) result }
+    ensures only { IfSome (R.remaining reader.old) (λ bytes. (cert : Cert) → length bytes ≤ most_text_bytes → SpellsCert bytes cert
+        → Proves instance.now cert → IsBoundUnlessStopped cert.low result) }
     ensures bound { IfOk result (λ low. IsLowerBound instance.now low) }
     ensures none { IfOk result
         (λ low. low ≡ instance.now.cluster.horizon + 1 → HasNoPlan instance.now) }
     ensures taken { IsTakenFrom (R.remaining reader.old) (R.remaining reader.new) result }
 {
-    let batch = batch.min(MOST_LEAVES_HELD);
+    let batch = most_waiting(batch);
     let mut stream = CertStream::new(alloc, reader);
     let answer = judge_all(rt, alloc, instance, batch, &mut stream);
     let _reader = stream.into_reader();

@@ -2,7 +2,7 @@
 use Rattle.std.specs.Prelude.{◌≡◌, ℕ, ◌<◌, ◌≤◌, ◌^◌, List, ◌∷◌, ◌++◌, [], length, All, codes, decimal}
 use Rattle.std.specs.List.{flat_map}
 use Rattle.ttp_model.specs.declared.step.Step.{Step}
-use Rattle.ttp_model.specs.declared.step.Step.TheVariants.{XCycle}
+use Rattle.ttp_model.specs.declared.step.Step.TheVariants.{EsRelease, EsLink, EsBefore, EsArrive, EsMessage, LoSend, LeOwn, LeLink, LeBefore, LeMessage, LeSend, HiArrive, OrdWindow, OrdTwin, UsSettled, XWindow, XRound, XCycle, XLoad, XFrame, XFrames, XLate, XSilent}
 use Rattle.certificate.specs.declared.node.Node.{Node}
 use Rattle.certificate.specs.Trees.{IsTree, preorder}
 use Rattle.certificate.specs.Cert.{Cert}
@@ -36,8 +36,29 @@ Fit numbers = All (λ n. n < 2 ^ 32) numbers
 
 -- a cycle goes through two or more processes
 abbrev pub IsLong : Step → Type 0
+IsLong (EsRelease p) = Unit {0}
+IsLong (EsLink l) = Unit {0}
+IsLong (EsBefore p q) = Unit {0}
+IsLong (EsArrive m q) = Unit {0}
+IsLong (EsMessage m q) = Unit {0}
+IsLong (LoSend m) = Unit {0}
+IsLong (LeOwn p) = Unit {0}
+IsLong (LeLink l) = Unit {0}
+IsLong (LeBefore p q) = Unit {0}
+IsLong (LeMessage m q) = Unit {0}
+IsLong (LeSend m) = Unit {0}
+IsLong (HiArrive m q) = Unit {0}
+IsLong (OrdWindow p q) = Unit {0}
+IsLong (OrdTwin p q) = Unit {0}
+IsLong (UsSettled p) = Unit {0}
+IsLong (XWindow p) = Unit {0}
+IsLong (XRound m) = Unit {0}
 IsLong (XCycle ps) = 2 ≤ length ps
-IsLong _ = Unit {0}
+IsLong (XLoad n a b) = Unit {0}
+IsLong (XFrame m) = Unit {0}
+IsLong (XFrames n a b) = Unit {0}
+IsLong (XLate m r) = Unit {0}
+IsLong (XSilent u v) = Unit {0}
 
 pub record StepHasText (step : Step) : Type 0 where
   pub numbers : Fit (step_words step).1

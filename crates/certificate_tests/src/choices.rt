@@ -3,7 +3,7 @@
 ghost use Rattle.std.specs.Prelude.{◌<◌, length, IfOk};
 ghost use Rattle.tt_choice.specs.Choice.{IsChoice};
 
-use crate::decisions::{chosen, is_open};
+use crate::decisions::chosen;
 use crate::instances::Small;
 use std::alloc::Global;
 use std::process::Abort;
@@ -285,7 +285,7 @@ fn expect_kept(
     requires { IsChoice i.now root.now }
 {
     let mut child = copied(alloc, i, root)?;
-    assert!(rt; is_open(i, &child, decision));
+    assert!(rt; child.is_open_decision(i, decision));
     child.decide(alloc, i, decision)?;
     expect_all(rt, i, &child, label, asked);
     Ok(())
@@ -301,7 +301,7 @@ fn expect_changed(
     asked: &[Asked],
 ) -> Result<(), MemoryFault> {
     let mut child = Choice::root(alloc, i)?;
-    assert!(rt; is_open(i, &child, decision));
+    assert!(rt; child.is_open_decision(i, decision));
     child.change(alloc, i, decision)?;
     expect_all(rt, i, &child, label, asked);
     Ok(())

@@ -3,7 +3,7 @@
 ghost use Rattle.std.specs.Prelude.{◌≡◌, OnOk};
 ghost use Rattle.tt_choice.specs.Choice.{IsChoice};
 
-use crate::decisions::{is_open, next, some_decision};
+use crate::decisions::{next, some_decision};
 use crate::instances::Small;
 use std::alloc::{AllocError, Global};
 use std::process::Abort;
@@ -100,14 +100,17 @@ fn goes_there_and_back(
         return Ok(0);
     }
     let decision = some_decision(i, seed);
-    if !is_open(i, choice, decision) {
+    if !choice.is_open_decision(i, decision) {
         return goes_there_and_back(rt, alloc, i, choice, tries - 1, next(seed));
     }
     let before = line(alloc, i, choice)?;
+    let kept = choice.kept();
     choice.decide(alloc, i, decision)?;
+    assert!(rt; choice.kept() > kept, "{decision:?}");
     expect_line(rt, alloc, i, choice, before.as_str(), false)?;
     let made = goes_there_and_back(rt, alloc, i, choice, tries - 1, next(seed))?;
     choice.undo();
+    assert_eq!(rt; choice.kept(), kept);
     expect_line(rt, alloc, i, choice, before.as_str(), true)?;
     Ok(made.saturating_add(1))
 }

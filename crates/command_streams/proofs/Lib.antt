@@ -1,3 +1,4 @@
 pub mod Written
 pub mod Consumed
+pub mod StatedOnce
 pub mod Outcomes

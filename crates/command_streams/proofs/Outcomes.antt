@@ -7,7 +7,7 @@ use Rattle.command_streams.specs.declared.ending.Fault.TheVariants.{NoMark, Loss
 use Rattle.command_streams.specs.declared.ending.End.{End}
 use Rattle.command_streams.specs.declared.ending.End.TheVariants.{Done, Absent, Stopped, Refused}
 use Rattle.command_streams.specs.Instances.{IsOfInstance}
-use Rattle.command_streams.specs.Outcomes.{IfRefused, IsCommandAnswer, IsWriting, IsWritingUnlessMemory, OnDone}
+use Rattle.command_streams.specs.Outcomes.{IfRefused, IsCommandAnswer, IsWriting, IsWritingUnlessMemory, IsWritingUnlessStopped, OnDone}
 
 pub keeps : (old : Option (List ℕ)) → Keeps old old
 keeps None = tt
@@ -54,6 +54,28 @@ module _ (IsText : List ℕ → Type 0) (IsRefusedBy : Fault → Type 0) (text :
     made_outcome (Refused (WrongLoss k)) gains = absurd gains
     made_outcome (Refused (Search fault)) gains = absurd gains
     made_outcome (Refused (Unread source)) gains = absurd gains
+
+-- a text that is made and written is written unless something stops the command
+module _ (text : List ℕ) (old new : Option (List ℕ)) where
+  pub made_unless_stopped : (end : End) → IsWritingUnlessMemory text old new end → IsWritingUnlessStopped text old new end
+  made_unless_stopped Done gains = gains
+  made_unless_stopped Absent gains = absurd gains
+  made_unless_stopped Stopped gains = absurd gains
+  made_unless_stopped (Refused (Unwritten sink.Certificate)) gains = absurd gains
+  made_unless_stopped (Refused (Unwritten sink.Out)) part = tt
+  made_unless_stopped (Refused Memory) kept = refl
+  made_unless_stopped (Refused NoMark) gains = absurd gains
+  made_unless_stopped (Refused (LossForm k)) gains = absurd gains
+  made_unless_stopped (Refused (InstanceText error)) gains = absurd gains
+  made_unless_stopped (Refused (PlanText error)) gains = absurd gains
+  made_unless_stopped (Refused (Plan fault)) gains = absurd gains
+  made_unless_stopped (Refused (StatedDelay d)) gains = absurd gains
+  made_unless_stopped (Refused TooFewNodes) gains = absurd gains
+  made_unless_stopped (Refused (CertificateText error)) gains = absurd gains
+  made_unless_stopped (Refused (Certificate fault)) gains = absurd gains
+  made_unless_stopped (Refused (WrongLoss k)) gains = absurd gains
+  made_unless_stopped (Refused (Search fault)) gains = absurd gains
+  made_unless_stopped (Refused (Unread source)) gains = absurd gains
 
 -- what is told once an instance is read is no fault of it
 module _ (text : List ℕ) (old new : Option (List ℕ)) (Holds : Type 0) where

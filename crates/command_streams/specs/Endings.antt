@@ -1,5 +1,5 @@
 -- The status that the program exits with.
-use Rattle.std.specs.Prelude.{ℕ}
+use Rattle.std.specs.Prelude.{◌≡◌, ℕ}
 use Rattle.ttp_model.specs.declared.error.ModelError.TheVariants as model
 use Rattle.instance_text.specs.declared.error.TextError.TheVariants as text
 use Rattle.plan_format.specs.declared.fault.PlanTextError.TheVariants as plan_text
@@ -33,6 +33,12 @@ fault_status (Search search.Memory) = 4
 fault_status (Search _) = 7
 fault_status (Unread source) = 6
 fault_status (Unwritten sink) = 6
+
+-- the fault isn't one of what is given: a reader or a writer failed, or memory was refused
+abbrev pub IsNotOfTexts : Fault → Type 0
+IsNotOfTexts (Unread source) = Unit {0}
+IsNotOfTexts (Unwritten sink) = Unit {0}
+IsNotOfTexts fault = fault_status fault ≡ 4
 
 -- of every end: 0 where the command did what it is for
 abbrev pub status_of : End → ℕ

@@ -6,6 +6,7 @@ use Rattle.command_streams.specs.declared.ending.Fault.{Fault}
 use Rattle.command_streams.specs.declared.ending.Fault.TheVariants.{Memory, Unwritten}
 use Rattle.command_streams.specs.declared.ending.End.{End}
 use Rattle.command_streams.specs.declared.ending.End.TheVariants.{Done, Absent, Stopped, Refused}
+use Rattle.command_streams.specs.Endings.{IsNotOfTexts}
 use Rattle.command_streams.specs.Streams.{AppendsPart}
 
 -- what a fault says, where a command is refused
@@ -23,6 +24,13 @@ IsWriting text old new _ = ⊥
 abbrev pub IsWritingUnlessMemory : List ℕ → Option (List ℕ) → Option (List ℕ) → End → Type 0
 IsWritingUnlessMemory text old new (Refused Memory) = Keeps old new
 IsWritingUnlessMemory text old new end = IsWriting text old new end
+
+-- a text is written, unless a reader or a writer failed or memory was refused
+abbrev pub IsWritingUnlessStopped : List ℕ → Option (List ℕ) → Option (List ℕ) → End → Type 0
+IsWritingUnlessStopped text old new Done = Appends old new text
+IsWritingUnlessStopped text old new Absent = ⊥
+IsWritingUnlessStopped text old new Stopped = ⊥
+IsWritingUnlessStopped text old new (Refused fault) = IsNotOfTexts fault
 
 -- the writer gained a text of these
 pub record IsWritten (IsText : List ℕ → Type 0) (old new : Option (List ℕ)) : Type 0 where

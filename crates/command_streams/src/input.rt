@@ -2,6 +2,8 @@
 
 ghost use Rattle.std.specs.Prelude.{◌≡◌, ◌+◌, ◌<◌, ◌≤◌, ◌^◌, length, IfErr, IfOk, IfSome, MatchResult};
 ghost use Rattle.std.specs.Io.KnownBytes.{Consumes};
+ghost use Rattle.ttp_model.specs.Instance.{Instance};
+ghost use Rattle.command_streams.specs.Endings.{IsNotOfTexts};
 ghost use Rattle.command_streams.specs.Limits.{instance_limit};
 ghost use Rattle.command_streams.specs.Streams.{IsOfReadBytes, IsReadFault, IsTaken, TakesAtMost};
 ghost use Rattle.command_streams.specs.Instances.{HasInstance, IsInstanceFault};
@@ -91,6 +93,7 @@ pub fn instance_of_text(alloc: Global, bytes: &[u8]) -> Result<Instance, Fault>
         (HasInstance bytes.now)
         (IsInstanceFault bytes.now) }
     ensures read { IfErr result IsOfReadBytes }
+    ensures only { (i : Instance) → HasInstance bytes.now i → MatchResult result (λ read. read ≡ i) IsNotOfTexts }
 {
     match instance_text::read(alloc, bytes) {
         Ok(instance) => Ok(instance),
@@ -103,6 +106,8 @@ pub fn read_instance<R: Read>(alloc: Global, reader: &mut R) -> Result<Instance,
     ensures judged { IfSome (R.remaining reader.old) (λ bytes. MatchResult result
         (HasInstance bytes)
         (IsInstanceFault bytes)) }
+    ensures only { IfSome (R.remaining reader.old) (λ bytes. (i : Instance) → HasInstance bytes i
+        → MatchResult result (λ read. read ≡ i) IsNotOfTexts) }
     ensures most { TakesAtMost (instance_limit + 1) (R.remaining reader.old) (R.remaining reader.new) }
 {
     let bytes = read_all(alloc, reader, INSTANCE_LIMIT, Source::Instance)?;

@@ -3,6 +3,7 @@
 #![tactic(auto)]
 
 mod choices;
+mod decisions;
 mod edges;
 mod figures;
 mod lines;
@@ -21,6 +22,7 @@ pub use choices::{
     both_orders_of_a_pair, decision_taken_back, latest_slot_of_a_node, least_of_free_capacities,
     node_that_was_placed, order_that_was_put, pair_of_the_other_order,
 };
+pub use decisions::{choice_without_decisions, decision_made_and_taken_back};
 pub use edges::{plan_that_just_keeps_the_rules, plans_that_just_break_a_rule};
 pub use figures::{children_of_a_pair, delay_of_first_process, slot_without_bytes};
 pub use lines::{lengths_of_parts, number_past_the_last};

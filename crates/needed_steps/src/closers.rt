@@ -3,8 +3,7 @@
 use crate::moment::Moment;
 use crate::needs::Needs;
 use crate::slots::{begin_least, copy_out};
-use step_facts::sender;
-use tt_infer::Facts;
+use tt_infer::{Facts, sender};
 use ttp_model::Instance;
 
 /// Asks that process `p` has to end before `q` can have started and both have run, or `p` alone where it is `q`.

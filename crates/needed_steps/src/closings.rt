@@ -3,8 +3,7 @@
 use crate::closers::most_carried;
 use crate::spans::Spans;
 use std::alloc::Global;
-use step_facts::{Fact, value};
-use tt_infer::Facts;
+use tt_infer::{Fact, Facts, value};
 use ttp_model::{MemoryFault, Step};
 
 /// The most closers that are found.

@@ -3,38 +3,30 @@
 use crate::moment::Moment;
 use crate::needs::Needs;
 use crate::slots::{copy_in, copy_out, end_least, least_passage, rounds_arrived, rounds_begun};
-use step_facts::link_after;
-use ttp_model::{Step, has_link};
-
-/// Asks for what a step reads on ends and late rounds, so that it says of its own at most `need`.
-pub fn ask_late(needs: &mut Needs, moment: &Moment, step: &Step, need: u64) {
-    match step {
-        Step::LeLink(l) => ask_start(needs, moment, link_after(moment.instance(), *l), need),
-        Step::LeBefore(p, q) => {
-            ask_start(needs, moment, *q, need);
-            needs.go_first(*p, *q);
-        }
-        Step::LeMessage(m, q) => {
-            let started = need.saturating_add(least_passage(moment.facts, *m));
-            ask_start(needs, moment, *q, started);
-        }
-        Step::LeSend(m) => {
-            let rounds = rounds_begun(
-                moment.facts,
-                *m,
-                need.saturating_add(copy_out(moment.facts)),
-            );
-            ask_rounds(needs, moment, *m, rounds);
-        }
-        Step::HiArrive(m, q) => ask_missed(needs, moment, *m, *q, need),
-        Step::UsSettled(p) => ask_settled(needs, moment, *p, need),
-        _ => {}
-    }
-}
+use ttp_model::has_link;
 
 /// Asks that a process has to start by a time.
-fn ask_start(needs: &mut Needs, moment: &Moment, p: u32, time: u64) {
+pub fn ask_start(needs: &mut Needs, moment: &Moment, p: u32, time: u64) {
     needs.end_until(p, time.saturating_add(moment.wcet(p)));
+}
+
+/// Asks that process `p` goes before `q`, which has to start by a time.
+pub fn ask_second_start(needs: &mut Needs, moment: &Moment, p: u32, q: u32, time: u64) {
+    ask_start(needs, moment, q, time);
+    needs.go_first(p, q);
+}
+
+/// Asks that process `q` has to start before message `m` can have arrived that is ready after a time.
+pub fn ask_receiver_start(needs: &mut Needs, moment: &Moment, m: u32, q: u32, time: u64) {
+    let started = time.saturating_add(least_passage(moment.facts, m));
+    ask_start(needs, moment, q, started);
+}
+
+/// Asks that message `m` is sent in no round that begins so late that its sender may end after a time.
+pub fn ask_sending(needs: &mut Needs, moment: &Moment, m: u32, time: u64) {
+    let begun = time.saturating_add(copy_out(moment.facts));
+    let rounds = rounds_begun(moment.facts, m, begun);
+    ask_rounds(needs, moment, m, rounds);
 }
 
 /// Asks that a message is sent in one of so many rounds; where none would do, in one of those that are known.
@@ -44,14 +36,14 @@ fn ask_rounds(needs: &mut Needs, moment: &Moment, m: u32, rounds: u64) {
 }
 
 /// Asks that process `q` has to start before a message of this round has arrived.
-fn ask_missed(needs: &mut Needs, moment: &Moment, m: u32, q: u32, round: u64) {
+pub fn ask_missed(needs: &mut Needs, moment: &Moment, m: u32, q: u32, round: u64) {
     let round = round.min(u64::from(u32::MAX)) as u32;
     let arrived = end_least(moment.facts, m, round).saturating_add(copy_in(moment.facts));
     ask_start(needs, moment, q, arrived.saturating_sub(1));
 }
 
 /// Asks that process `p` has nothing to wait for that would let it end later.
-fn ask_settled(needs: &mut Needs, moment: &Moment, p: u32, end: u64) {
+pub fn ask_settled(needs: &mut Needs, moment: &Moment, p: u32, end: u64) {
     let start = end.saturating_sub(moment.wcet(p));
     let count = moment.instance().processes().len() as u32;
     for x in 0..count {

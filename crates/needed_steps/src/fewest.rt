@@ -6,8 +6,8 @@ use crate::moment::Moment;
 use crate::needs::Needs;
 use crate::weights::Weights;
 use std::alloc::Global;
-use step_facts::{Fact, Marked, Values, target};
-use tt_infer::Facts;
+use step_facts::{Marked, Values};
+use tt_infer::{Fact, Facts, target};
 use ttp_model::{Instance, MemoryFault, Step};
 
 /// Steps each of which sharpened its fact, how far that was known before it, and what is known after them.

@@ -1,7 +1,7 @@
 //! What is known before a step of a log?
 
-use step_facts::{Fact, Values};
-use tt_infer::Facts;
+use step_facts::Values;
+use tt_infer::{Fact, Facts};
 use ttp_model::Instance;
 
 /// What is known before a step of a log, and what at first.

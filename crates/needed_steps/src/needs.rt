@@ -1,7 +1,8 @@
 //! How sharp has each fact to be?
 
 use std::alloc::Global;
-use step_facts::{Fact, FactSet, Values};
+use step_facts::{FactSet, Values};
+use tt_infer::Fact;
 use ttp_model::{Instance, MemoryFault};
 
 /// How sharp facts have to be, so that steps say enough which were looked at.

@@ -1,8 +1,8 @@
 //! How many steps does each fact rest on?
 
 use std::alloc::Global;
-use step_facts::{Fact, Reader, add_reads, target};
-use tt_infer::Facts;
+use step_facts::{Reader, add_reads};
+use tt_infer::{Fact, Facts, target};
 use ttp_model::{Instance, MOST_MESSAGES, MOST_PROCESSES, MemoryFault, Step};
 
 /// By fact, how many steps of a log it rests on: a step that several others read counts once for each. Of what no step has sharpened

@@ -23,7 +23,8 @@ use Rattle.path_bounds.specs.declared.reached.Reached.{Reached}
 use Rattle.path_bounds.specs.declared.reached.Reached.TheVariants.{Closed}
 use Rattle.path_bounds.specs.Journal.{Journal, Advances, slack}
 use Rattle.path_bounds.specs.Propagation.{LeadSharply, Propagates, IsReached}
-use Rattle.path_bounds.proofs.Targets.{stays, lowers}
+use Rattle.tt_infer.proofs.Targets.{stays}
+use Rattle.path_bounds.proofs.Targets.{lowers}
 use Rattle.path_bounds.proofs.Logs.{Lead-sharply}
 
 -- a lawful step that changes what is known lowers the slack

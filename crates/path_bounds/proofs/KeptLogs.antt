@@ -18,7 +18,7 @@ use Rattle.tt_infer.specs.Facts.{Facts, AreFacts, after}
 use Rattle.tt_infer.specs.Leaves.{ClosesLeaf}
 use Rattle.path_bounds.specs.Journal.{Journal, Advances}
 use Rattle.path_bounds.specs.Propagation.{LeadSharply, IsPlanBelow}
-use Rattle.path_bounds.specs.Propagator.{IsLog, FollowsFrom, Propagator, IsPropagation, Undoes}
+use Rattle.path_bounds.specs.Propagator.{IsLog, first_log, FollowsFrom, Propagator, IsPropagation, Undoes}
 use Rattle.path_bounds.proofs.Counts.{closes_log, closes_of}
 
 -- where a log that began without steps leads
@@ -154,9 +154,9 @@ bare_at p s is s_is =
     subst (λ (t : Facts). bare t.choice ≡ t.choice) (sym about) (bare-same (chosen p.instance p.decisions) (none_kept-after_all p.instance (root_choice p.instance) p.decisions refl))
 
 -- Steps that are taken again from the first facts on, and leave no plan.
-pub trimmed_of : (s : Facts) (steps : List Step) (start end : Journal) (known : Facts) → AreFacts s → bare s.choice ≡ s.choice → start ≡ record { facts = record { instance = s.instance; choice = bare s.choice; goal = s.goal; known = first_facts s.instance (bare s.choice) }; steps = [] } → Advances start end → known ≡ end.facts → steps ≡ end.steps → IsTrue known.known.closed → ClosesLeaf s.instance s.choice (record { goal = s.goal; steps = steps }) × (length steps < 2 ^ 32)
-trimmed_of s steps start end known are none begins advances known_is steps_is closed =
-    let done = closes_of s.instance (bare s.choice) are.instance (IsChoice-keeping s.instance s.choice [] are.choice) s.goal steps start end known begins advances known_is steps_is closed in
+pub trimmed_of : (s : Facts) (steps : List Step) (end : Journal) (known : Facts) → AreFacts s → bare s.choice ≡ s.choice → FollowsFrom s.instance (bare s.choice) s.goal end → known ≡ end.facts → steps ≡ end.steps → IsTrue known.known.closed → ClosesLeaf s.instance s.choice (record { goal = s.goal; steps = steps }) × (length steps < 2 ^ 32)
+trimmed_of s steps end known are none follows known_is steps_is closed =
+    let done = closes_of s.instance (bare s.choice) are.instance (IsChoice-keeping s.instance s.choice [] are.choice) s.goal steps (first_log s.instance (bare s.choice) s.goal) end known refl follows known_is steps_is closed in
     (subst (λ (x : Choice). ClosesLeaf s.instance x (record { goal = s.goal; steps = steps })) none done.0, done.1)
 
 pub closes_at : (p : Propagator) (s : Facts) (steps : List Step) → IsPropagation p → s ≡ p.current.facts → steps ≡ p.current.steps → IsTrue p.current.facts.known.closed → ClosesLeaf s.instance s.choice (record { goal = s.goal; steps = steps }) × (length steps < 2 ^ 32)

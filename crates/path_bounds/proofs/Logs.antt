@@ -13,10 +13,11 @@ use Rattle.tt_infer.specs.declared.fault.StepFault.{StepFault}
 use Rattle.tt_infer.specs.Answers.{IsStepFault}
 use Rattle.tt_infer.proofs.Sound.{step_is_about}
 use Rattle.tt_infer.proofs.Determined.{fault-not_lawful, IsLawful-determined}
-use Rattle.step_facts.specs.Targets.{target, known_value}
+use Rattle.tt_infer.specs.Targets.{target, known_value}
 use Rattle.path_bounds.specs.Propagation.{LeadSharply}
 use Rattle.path_bounds.specs.Journal.{Journal, Advances, Sharpens, SharpensNothing, slack, slack_of}
-use Rattle.path_bounds.proofs.Targets.{target_is, stays, lowers}
+use Rattle.tt_infer.proofs.Targets.{target_is, stays}
+use Rattle.path_bounds.proofs.Targets.{lowers}
 
 -- Steps that sharpen, in two parts.
 pub LeadSharply-append : (i : Instance) (c : Choice) (goal : ℕ) (f : Known) (steps others : List Step) (g h : Known) → LeadSharply i c goal f steps g → LeadSharply i c goal g others h → LeadSharply i c goal f (steps ++ others) h

@@ -1,5 +1,5 @@
 -- What propagation appends to a list of steps, and what it answers.
-use Rattle.std.specs.Prelude.{◌≡◌, ◌≢◌, ℕ, ◌<◌, List, [], ◌∷◌, ◌++◌, length, Result, IfOk, IsTrue, IsFalse}
+use Rattle.std.specs.Prelude.{◌≡◌, ℕ, ◌<◌, List, ◌++◌, length, Result, IfOk, IsTrue, IsFalse}
 use Rattle.ttp_model.specs.declared.plan.Plan.{Plan}
 use Rattle.ttp_model.specs.declared.error.MemoryFault.{MemoryFault}
 use Rattle.ttp_model.specs.declared.step.Step.{Step}
@@ -8,17 +8,10 @@ use Rattle.ttp_model.specs.Plans.{IsValid}
 use Rattle.ttp_model.specs.Delays.{delay}
 use Rattle.tt_choice.specs.Choice.{Choice, IsIn}
 use Rattle.tt_infer.specs.Known.{Known, first_facts}
-use Rattle.tt_infer.specs.Table.{IsLawful}
 use Rattle.tt_infer.specs.Leaves.{Lead}
+pub use Rattle.tt_infer.specs.Leaves.{LeadSharply}
 use Rattle.path_bounds.specs.declared.reached.Reached.{Reached}
 use Rattle.path_bounds.specs.declared.reached.Reached.TheVariants.{Closed, At}
-
--- lawful steps lead from what is known to what is known after them; none follows a closer, and each
--- sharpens what is known
-abbrev pub LeadSharply : Instance → Choice → ℕ → Known → List Step → Known → Type 0
-LeadSharply i c goal f [] g = g ≡ f
-LeadSharply i c goal f (step ∷ steps) g =
-    IsFalse f.closed × ((next : Known) × IsLawful i c goal f step next × (next ≢ f) × LeadSharply i c goal next steps g)
 
 -- closed exactly where no plan is left; else the facts reached, of that instance, choice and goal
 abbrev pub IsReached : Instance → Choice → ℕ → Known → Reached → Type 0

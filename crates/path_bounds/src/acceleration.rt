@@ -6,9 +6,8 @@ use crate::journal::Journal;
 use crate::opening::{add_slot_steps, opening_steps};
 use std::alloc::Global;
 use step_agenda::Agenda;
-use step_facts::target;
 use tt_choice::Decision;
-use tt_infer::Facts;
+use tt_infer::{Facts, target};
 use ttp_model::{MemoryFault, Step};
 
 /// More turns than there can be steps.

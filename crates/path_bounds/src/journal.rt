@@ -1,6 +1,6 @@
 //! What is known, and by which steps?
 
-ghost use Rattle.std.specs.Prelude.{◌≡◌, ◌<◌, ◌++◌, [], All, IfOk, IfSome, IsTrue, IsFalse};
+ghost use Rattle.std.specs.Prelude.{◌≡◌, ◌<◌, ◌++◌, [], All, IfOk, OnOk, IfSome, IsTrue, IsFalse};
 ghost use Rattle.tt_choice.specs.Choice.{IsChoice};
 ghost use Rattle.tt_choice.specs.Branches.{IsUnorderedPair, order_pair};
 ghost use Rattle.tt_choice.specs.Decisions.{choice_after, IsOpenDecision};
@@ -12,9 +12,8 @@ ghost use Rattle.path_bounds.specs.Journal.{Advances, Sharpens, SharpensNothing,
 use crate::copies::{push_copies, push_copy};
 use std::alloc::Global;
 use std::marker::Model;
-use step_facts::{target, value};
 use tt_choice::{Choice, Decision};
-use tt_infer::Facts;
+use tt_infer::{Facts, target, value};
 use ttp_model::{Instance, MemoryFault, Step};
 
 /// What is known of the plans that are sought, with a log of the steps that sharpened it.
@@ -139,19 +138,22 @@ impl<'a> Journal<'a> {
           steps = level.now.steps;
         }) }
     {
-        let facts = self.facts.supposing(alloc, level.facts(), p, q)?;
-        let mut steps = self.steps;
-        steps.clear();
-        steps.reserve(level.steps.len())?;
-        push_copies(alloc, &mut steps, level.steps())?;
-        let mut before = self.before;
-        before.clear();
-        before.extend_from_slice(level.before.as_slice())?;
-        Ok(Journal {
-            facts,
-            steps,
-            before,
-        })
+        let mut log = self.supposing(alloc, level, p, q)?;
+        log.take_steps(alloc, level)?;
+        Ok(log)
+    }
+
+    /// Puts the steps of another log in place of its own, whether they lead to what is known or not.
+    fn take_steps(&mut self, alloc: Global, level: &Journal<'a>) -> Result<(), MemoryFault>
+        ensures facts { self.new.facts ≡ self.old.facts }
+        ensures steps { OnOk result (self.new.steps ≡ level.now.steps) }
+    {
+        self.steps.clear();
+        self.steps.reserve(level.steps.len())?;
+        push_copies(alloc, &mut self.steps, level.steps())?;
+        self.before.clear();
+        self.before.extend_from_slice(level.before.as_slice())?;
+        Ok(())
     }
 
     /// What is known, and the steps.

@@ -110,6 +110,7 @@ fn ask_for_wait(steps: &[Step], p: u32) -> bool
 {
     steps
         .iter()
+        // No other step asks for that.
         .any(|step| matches!(step, Step::UsSettled(x) if *x == p))
 }
 
@@ -126,6 +127,7 @@ fn carried_over<'a>(
     ensures { IfOk result (FollowsFrom level.now.facts.instance
         (choice_after level.now.facts.instance level.now.facts.choice decision) level.now.facts.goal) }
 {
+    // No other decision leaves all as it is but for an order.
     if let Decision::Before(p, q) = decision {
         let facts = level.facts();
         let _instance = facts.instance();

@@ -4,6 +4,7 @@ ghost use Rattle.std.specs.Prelude.{◌≡◌, ◌^◌, ◌<◌, IfOk, IfSome, l
 ghost use Rattle.tt_choice.specs.Choice.{IsChoice, bare};
 ghost use Rattle.tt_infer.specs.Leaves.{ClosesLeaf};
 ghost use Rattle.path_bounds.specs.Journal.{Advances};
+ghost use Rattle.path_bounds.specs.Propagator.{FollowsFrom, first_log};
 
 use crate::copies::all_copied;
 use crate::journal::Journal;
@@ -32,14 +33,45 @@ pub fn closed_leaf(
     ensures closes { IfOk result (ClosesLeaf instance.now choice.now) }
     ensures goal { IfOk result (λ leaf. leaf.goal ≡ goal) }
 {
-    let facts = reached(alloc, instance, choice, goal, steps.as_slice())?;
-    let mut marks = Marks::none(alloc, instance)?;
-    marks.set_to(&facts, steps.as_slice())?;
-    let trimmed = replayed(alloc, instance, choice, goal, steps.as_slice(), &marks)?;
+    let trimmed = needed_alone(alloc, instance, choice, goal, steps.as_slice())?;
     match trimmed {
         Some(short) => Ok(leaf_of(goal, short)),
         None => Ok(leaf_of(goal, steps)),
     }
+}
+
+/// Those of the steps that the closer needs, where they close the choice at the goal by themselves.
+fn needed_alone(
+    alloc: Global,
+    instance: &Instance,
+    choice: &Choice,
+    goal: u32,
+    steps: &[Step],
+) -> Result<Option<Vec<Step>>, MemoryFault>
+    requires { IsChoice instance.now choice.now }
+    ensures closes { IfOk result (λ found. IfSome found (λ steps.
+        ClosesLeaf instance.now choice.now (record { goal = goal; steps = steps.items }))) }
+    ensures few { IfOk result (λ found. IfSome found (λ steps. length steps.items < 2 ^ 32)) }
+{
+    let marks = needed(alloc, instance, choice, goal, steps)?;
+    let found = replayed(alloc, instance, choice, goal, steps, &marks)?;
+    Ok(found)
+}
+
+/// Marks at the steps that the closer needs.
+fn needed(
+    alloc: Global,
+    instance: &Instance,
+    choice: &Choice,
+    goal: u32,
+    steps: &[Step],
+) -> Result<Marks, MemoryFault>
+    requires { IsChoice instance.now choice.now }
+{
+    let facts = reached(alloc, instance, choice, goal, steps)?;
+    let mut marks = Marks::none(alloc, instance)?;
+    marks.set_to(&facts, steps)?;
+    Ok(marks)
 }
 
 /// A leaf of the steps that lead to what is known, where no plan is left, without those that the closer doesn't need that needs the
@@ -59,17 +91,46 @@ pub fn trimmed_leaf<'a>(
     ensures goal { IfOk result (λ trimmed. trimmed.0.goal ≡ facts.now.goal) }
 {
     let _choice = facts.choice();
-    let (count, closer) = fewest_needed(fewest, facts, steps, before)?;
-    let first = room.anew(facts)?;
-    let kept = Vec::with_capacity(alloc, count)?;
-    let mut journal = Journal::new(first, kept, Vec::new(alloc));
-    try_closing(alloc, &mut journal, steps, closer, fewest)?;
+    let journal = retried(alloc, room, fewest, facts, steps, before)?;
     let (known, kept) = journal.into_parts();
     if known.closed() {
         return Ok((leaf_of(facts.goal(), kept), known));
     }
     let all = all_copied(alloc, steps)?;
     Ok((leaf_of(facts.goal(), all), known))
+}
+
+/// What is known by the steps alone that the closer needs that needs the fewest, and by that closer; worked out in the room of
+/// other facts.
+fn retried<'a>(
+    alloc: Global,
+    room: Facts<'a>,
+    fewest: &mut Fewest,
+    facts: &Facts<'a>,
+    steps: &[Step],
+    before: &[u32],
+) -> Result<Journal<'a>, MemoryFault>
+    ensures { IfOk result (FollowsFrom facts.now.instance (bare facts.now.choice) facts.now.goal) }
+{
+    let (count, closer) = fewest_needed(fewest, facts, steps, before)?;
+    let mut journal = begun(alloc, room, facts, count)?;
+    try_closing(alloc, &mut journal, steps, closer, fewest)?;
+    Ok(journal)
+}
+
+/// The log without steps of what these facts are about, with room for so many, in the room of other facts.
+fn begun<'a>(
+    alloc: Global,
+    room: Facts<'a>,
+    facts: &Facts<'a>,
+    count: usize,
+) -> Result<Journal<'a>, MemoryFault>
+    ensures { IfOk result (λ log. log
+        ≡ first_log facts.now.instance (bare facts.now.choice) facts.now.goal) }
+{
+    let kept = Vec::with_capacity(alloc, count)?;
+    let first = room.anew(facts)?;
+    Ok(Journal::new(first, kept, Vec::new(alloc)))
 }
 
 /// Marks the steps that are needed by the closer that needs the fewest: the last one of these steps, or another. How many they are

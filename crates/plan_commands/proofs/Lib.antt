@@ -7,6 +7,7 @@ pub mod Traced
 pub mod Certificates
 pub mod Unread
 pub mod Streamed
+pub mod Accepted
 pub mod StoppedLines
 pub mod PlanLines
 pub mod Standings

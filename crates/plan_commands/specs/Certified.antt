@@ -15,7 +15,7 @@ use Rattle.command_streams.specs.declared.ending.Source.TheVariants as source
 use Rattle.command_streams.specs.declared.ending.Fault.{Fault}
 use Rattle.command_streams.specs.declared.ending.Fault.TheVariants.{InstanceText, Memory, CertificateText, Certificate, Unread}
 use Rattle.command_streams.specs.declared.ending.End.{End}
-use Rattle.command_streams.specs.Outcomes.{IsCommandAnswer, OnDone}
+use Rattle.command_streams.specs.Outcomes.{IsCommandAnswer, IsWritingUnlessStopped, OnDone}
 use Rattle.command_streams.specs.Instances.{HasInstance, IsInstanceFault}
 
 -- the bytes are within their limit, and spell this certificate
@@ -75,3 +75,10 @@ pub record IsBoundLine (instance certificate line : List ℕ) : Type 0 where
 -- what `check` answers of the bytes of an instance and of a certificate, and what it writes
 abbrev pub IsCheckAnswer : List ℕ → List ℕ → Option (List ℕ) → Option (List ℕ) → End → Type 0
 IsCheckAnswer instance certificate = IsCommandAnswer (OnDone (IsBoundLine instance certificate)) (IsUnproved instance certificate)
+
+-- what `check` does with a certificate that proves its bound of the instance: it writes the bound, unless a reader or the writer
+-- failed or memory was refused
+abbrev pub WritesProvedBound : (instance certificate : List ℕ) → Option (List ℕ) → Option (List ℕ) → End → Type 0
+WritesProvedBound instance certificate old new end =
+    (problem : Instance) (cert : Cert) → HasInstance instance problem → HasCertificate certificate cert → Proves problem cert
+    → IsWritingUnlessStopped (bound_line cert.low) old new end

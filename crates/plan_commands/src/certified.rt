@@ -1,8 +1,11 @@
 //! What `check` says of an instance and a certificate.
 
 ghost use Rattle.std.specs.Prelude.{◌≡◌, ◌+◌, string_bytes, IfErr, IfOk, IfSome, MatchResult};
-ghost use Rattle.plan_commands.specs.Certified.{HasBound, IsCertificateFault, IsCheckAnswer, bound_line, fault_of};
+ghost use Rattle.certificate.specs.Cert.{Cert};
+ghost use Rattle.cert_check.specs.Proofs.{Proves};
+ghost use Rattle.plan_commands.specs.Certified.{HasBound, HasCertificate, IsCertificateFault, IsCheckAnswer, WritesProvedBound, bound_line, fault_of};
 ghost use Rattle.std.specs.Io.KnownBytes.{Keeps};
+ghost use Rattle.command_streams.specs.Endings.{IsNotOfTexts};
 ghost use Rattle.command_streams.specs.Limits.{certificate_limit, instance_limit};
 ghost use Rattle.command_streams.specs.Streams.{TakesAtMost};
 ghost use Rattle.command_streams.specs.Instances.{IsOfInstance};
@@ -42,6 +45,8 @@ pub fn read_bound<R: Read>(
     ensures judged { IfSome (R.remaining certificate.old) (λ bytes. MatchResult result
         (HasBound instance.now bytes)
         (IsCertificateFault instance.now bytes)) }
+    ensures only { IfSome (R.remaining certificate.old) (λ bytes. (cert : Cert) → HasCertificate bytes cert → Proves instance.now cert
+        → MatchResult result (λ low. low ≡ cert.low) IsNotOfTexts) }
     ensures later { IfErr result (λ fault. ¬ IsOfInstance fault) }
     ensures last { IfErr result (λ fault. ¬ IsBeforeCertificate fault) }
     ensures most { TakesAtMost (certificate_limit + 1) (R.remaining certificate.old) (R.remaining certificate.new) }
@@ -83,6 +88,8 @@ pub fn check_run<I: Read, C: Read, W: Write>(
 ) -> End
     ensures answer { IfSome (I.remaining instance.old) (λ i. IfSome (C.remaining certificate.old) (λ c.
         IsCheckAnswer i c (W.contents out.old) (W.contents out.new) result)) }
+    ensures only { IfSome (I.remaining instance.old) (λ i. IfSome (C.remaining certificate.old) (λ c.
+        WritesProvedBound i c (W.contents out.old) (W.contents out.new) result)) }
     // Of a reader no more is taken than its limit and one byte, and of the certificate's nothing at a fault of the
     // instance.
     ensures instance { TakesAtMost (instance_limit + 1) (I.remaining instance.old) (I.remaining instance.new) }

@@ -55,8 +55,9 @@ fn in_turn(kind: Kind, tasks: Vec<Task>) -> Vec<Task>
     ensures { IsPermutation tasks.items result.items }
 {
     let mut tasks = tasks;
-    if let Kind::Place = kind {
-        tasks.reverse();
+    match kind {
+        Kind::Place => tasks.reverse(),
+        Kind::Cap(_) | Kind::Pair(_, _) | Kind::Round(_, _) => {}
     }
     tasks
 }

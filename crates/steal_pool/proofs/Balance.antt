@@ -1,19 +1,19 @@
 -- Each step keeps the rule of a deque.
 use Rattle.std.proofs.Common.{◌≡◌, ◌≢◌, ℕ, zero, suc, ◌+◌, ◌<◌, ◌≤◌, ⊎_elim, Bool, true, false, true≢false, List, [], ◌∷◌, ◌++◌, length, set, sym, refl, ap, ◌∙◌, subst, cond, All, arith, get_or, ◌-◌, append_assoc, length-append}
-use Rattle.std.specs.Prelude.{IsPermutation}
+use Rattle.std.specs.Prelude.{Contains, IsPermutation}
 use Rattle.std.specs.List.{flat_map}
 use Rattle.std.proofs.lemmas.List.{append-nil, get_or_append_left, get_or-append_right, set_comm}
-use Rattle.std.proofs.lemmas.List.Elements.{All-append, All-nil}
+use Rattle.std.proofs.lemmas.List.Elements.{All-append, All-nil, Contains-append_left}
 use Rattle.std.proofs.lemmas.Grind.{flat_map-append}
 use Rattle.std.proofs.lemmas.List.Sums.{sum_by-cons, sum_by_push}
-use Rattle.std.proofs.lemmas.List.Sorted.{IsPermutation-refl, IsPermutation-sym, IsPermutation-trans, IsPermutation-append_left, IsPermutation-append_right, IsPermutation-append_comm, length_permutation}
+use Rattle.std.proofs.lemmas.List.Sorted.{IsPermutation-refl, IsPermutation-sym, IsPermutation-trans, IsPermutation-append_left, IsPermutation-append_right, IsPermutation-append_comm, length_permutation, Contains-permutation}
 use mathlib.Core.Option.{some, some-injective, some-ne-none}
 use lib.ListN.{get_elem?}
 use Rattle.crossbeam_deque.specs.Tasks as deque
 use Rattle.crossbeam_deque.proofs.Lists.{at_set, at_snoc, set_here, set_else}
 use Rattle.branch_tree.specs.Task.{Task}
 use Rattle.steal_pool.specs.declared.account.Tally.{Tally}
-use Rattle.steal_pool.specs.Account.{Fits, FitsAt, FitsEach, Pushed, Took, IsEmptied, IsWithin, opened, newcomer, spent, one_more_out, taken_in, with_pushed, with_taken, live_count, all_pushed, all_taken}
+use Rattle.steal_pool.specs.Account.{Fits, FitsAt, FitsEach, HasSources, Pushed, Took, IsEmptied, IsWithin, opened, newcomer, spent, one_more_out, taken_in, with_pushed, with_taken, live_count, all_pushed, all_taken}
 use Rattle.steal_pool.proofs.Orders.{then_same, first_same, second_first, more_in_one, less_in_one, only_one, same_in_all}
 
 abbrev weight_of : Tally → ℕ
@@ -115,30 +115,52 @@ others_ended views port v at live one each j u apart there =
     let none : weight_of u ≡ 0 = omega arith in
     (each j u there).ended (weightless u.live none)
 
+-- and then all that was pushed and taken is this one's
+alone : (P : Task → Type 0) (port : ℕ) (v : Tally) (items : List Task) (views : List Tally) → Fits P items views → get_elem? views port ≡ some v → v.owner ≡ true → v.live ≡ true → v.out ≡ 0 → (all_pushed views ≡ v.pushed) × (all_taken views ≡ v.taken)
+alone P port v items views h at is_owner live none_out =
+    let one : live_count views ≡ 1 = ((h.each port v at).owner is_owner).1 ∙ ap (λ (k : ℕ). k + 1) none_out in
+    let ended = others_ended views port v at live one h.each in (
+      only_one (λ (u : Tally). u.pushed) views port v at (λ j u apart e. (ended j u apart e).0),
+      only_one (λ (u : Tally). u.taken) views port v at (λ j u apart e. (ended j u apart e).1),
+    )
+
 within : (P : Task → Type 0) (port : ℕ) (v : Tally) (items : List Task) (views : List Tally) → Fits P items views → get_elem? views port ≡ some v → IsWithin v
 within P port v items views h at is_owner live none_out =
-    let one : live_count views ≡ 1 = ((h.each port v at).owner is_owner).1 ∙ ap (λ (k : ℕ). k + 1) none_out in
-    let ended = others_ended views port v at live one h.each in
-    let pushed : all_pushed views ≡ v.pushed = only_one (λ (u : Tally). u.pushed) views port v at (λ j u apart e. (ended j u apart e).0) in
-    let taken : all_taken views ≡ v.taken = only_one (λ (u : Tally). u.taken) views port v at (λ j u apart e. (ended j u apart e).1) in
+    let mine = alone P port v items views h at is_owner live none_out in
+    let pushed : all_pushed views ≡ v.pushed = mine.0 in
+    let taken : all_taken views ≡ v.taken = mine.1 in
     let same : length (all_taken views ++ items) ≡ length (all_pushed views) = length_permutation _ _ h.balance in
     let p : length (all_pushed views) ≡ length v.pushed = ap length pushed in
     let t : length (all_taken views) ≡ length v.taken = ap length taken in
     omega (arith, length-append (all_taken views) items)
 
-pub learns : (P : Task → Type 0) (port : ℕ) (v : Tally) → deque.Learns (Fits P) port v (λ items. IsWithin v)
-learns P port v items views h at = within P port v items views h at
+sources : (P : Task → Type 0) (port : ℕ) (v : Tally) (items : List Task) (views : List Tally) → Fits P items views → get_elem? views port ≡ some v → HasSources v
+sources P port v items views h at is_owner live none_out =
+    let mine = alone P port v items views h at is_owner live none_out in
+    λ t there.
+    let among : Contains (all_taken views ++ items) t = Contains-append_left (all_taken views) items t (subst (λ (l : List Task). Contains l t) (sym mine.1) there) in
+    subst (λ (l : List Task). Contains l t) mine.0 (Contains-permutation (all_taken views ++ items) (all_pushed views) t (IsPermutation-sym _ _ h.balance) among)
+
+pub learns : (P : Task → Type 0) (port : ℕ) (v : Tally) → deque.Learns (Fits P) port v (λ items. IsWithin v × HasSources v)
+learns P port v items views h at = (within P port v items views h at, sources P port v items views h at)
+
+-- what is known of a pass that took these
+taken_of : (P : Task → Type 0) (port : ℕ) (v : Tally) (xs items : List Task) (views : List Tally) → Fits P items (set views port (with_taken v xs)) → get_elem? views port ≡ some v → All P xs → Took P v xs (with_taken v xs)
+taken_of P port v xs items views now at all =
+    let w = with_taken v xs in
+    let here : get_elem? (set views port w) port ≡ some w = set_here views port w (at_length views port v at) in
+    record { after = refl; within = within P port w items (set views port w) now here; sources = sources P port w items (set views port w) now here; tasks = all }
 
 pub takes : (P : Task → Type 0) (port : ℕ) (v : Tally) → v.live ≡ true → deque.Takes (Fits P) port v 1 (Took P v)
 takes P port v live xs items views _ _ h at =
     let w = with_taken v xs in let now = leaves P port v xs live items views (all_behind P xs items h.tasks) h.balance h.each at in
-    (w, now, record { after = refl; within = within P port w items (set views port w) now (set_here views port w (at_length views port v at)); tasks = all_before P xs items h.tasks })
+    (w, now, taken_of P port v xs items views now at (all_before P xs items h.tasks))
 
 pub pops : (P : Task → Type 0) (port : ℕ) (v : Tally) → v.live ≡ true → deque.Pops (Fits P) port v (Took P v)
 pops P port v live x items views h at =
     let xs = x ∷ [] in let w = with_taken v xs in
     let now = leaves P port v xs live items views (all_before P items xs h.tasks) (IsPermutation-trans _ _ _ h.balance (IsPermutation-append_right (all_taken views) _ _ (IsPermutation-append_comm items xs))) h.each at in
-    (w, now, record { after = refl; within = within P port w items (set views port w) now (set_here views port w (at_length views port v at)); tasks = all_behind P items xs h.tasks })
+    (w, now, taken_of P port v xs items views now at (all_behind P items xs h.tasks))
 
 newcomer_fits : (count port : ℕ) → FitsAt count port newcomer
 newcomer_fits count port = record { owner = λ o. absurd (true≢false (sym o)); others = λ _. refl; ended = λ dead. absurd (true≢false dead) }
@@ -168,11 +190,8 @@ forks P port v is_owner items views h at =
 
 pub settles : (P : Task → Type 0) (port : ℕ) (v : Tally) → deque.Finds (Fits P) port v (IsEmptied v)
 settles P port v views h at is_owner live none_out =
-    let one : live_count views ≡ 1 = ((h.each port v at).owner is_owner).1 ∙ ap (λ (k : ℕ). k + 1) none_out in
-    let ended = others_ended views port v at live one h.each in
-    let pushed : all_pushed views ≡ v.pushed = only_one (λ (u : Tally). u.pushed) views port v at (λ j u apart e. (ended j u apart e).0) in
-    let taken : all_taken views ≡ v.taken = only_one (λ (u : Tally). u.taken) views port v at (λ j u apart e. (ended j u apart e).1) in
-    first_same _ _ _ (sym pushed) (then_same _ _ _ h.balance (append-nil (all_taken views) ∙ taken))
+    let mine = alone P port v [] views h at is_owner live none_out in
+    first_same _ _ _ (sym mine.0) (then_same _ _ _ h.balance (append-nil (all_taken views) ∙ mine.1))
 
 pub merges : (P : Task → Type 0) (port : ℕ) (v : Tally) (other : ℕ) (w : Tally) → v.owner ≡ true → v.live ≡ true → w.owner ≡ false → w.live ≡ true → deque.Merges (Fits P) port v other w (taken_in v w) spent
 merges P port v other w is_owner live guest alive items views h at two at' =

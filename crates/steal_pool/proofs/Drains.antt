@@ -1,20 +1,23 @@
 -- All hands of a pool while its passes are joined, and while what is left is drained.
 use Rattle.std.proofs.Common.{◌≡◌, ℕ, suc, ◌<◌, ◌≤◌, ◌+◌, ◌-◌, List, [], ◌∷◌, ◌++◌, length, take, set, refl, sym, ap, ◌∙◌, subst, arith, append_assoc, ⊎_elim, length-append}
-use Rattle.std.specs.Prelude.{IsPermutation, Option, Some, None, IfSome}
+use Rattle.std.specs.Prelude.{Contains, IsPermutation, Option, Some, None, IfNone, IfSome}
 use Rattle.std.specs.List.{flat_map}
 use Rattle.std.proofs.lemmas.Grind.{flat_map-append}
 use Rattle.std.proofs.Math.Seq.{take-length}
 use Rattle.std.proofs.lemmas.List.{append-nil, set-set, length-map}
-use Rattle.std.proofs.lemmas.List.Sorted.{length_permutation}
+use Rattle.std.proofs.lemmas.List.Elements.{All-contains, Contains-append_cases}
+use Rattle.std.proofs.lemmas.List.Sorted.{length_permutation, Contains-permutation, IsPermutation-sym}
 use mathlib.Core.Option.{some, some-injective}
 use lib.ListN.{get_elem?}
 use Rattle.crossbeam_deque.proofs.Lists.{set_again, set_here}
+use Rattle.branch_tree.specs.Account.{IsSourced}
 use Rattle.branch_tree.specs.Task.{Task}
 use Rattle.steal_pool.specs.declared.door.Door.{Door}
 use Rattle.steal_pool.specs.declared.hand.Hand.{Hand}
 use Rattle.steal_pool.specs.Door.{DequeId, deque_of, deques_of, taken_by}
-use Rattle.steal_pool.specs.Hand.{pushed, taken, own_taken, own_deque, deques, out_count, ChangesAt, AddsDoor, ClosesDoor, PopsTask, PopsNone, CountsOwn, IsWithin, AllWithin, IsHandOf, IsClosed, all_pushed, all_taken}
-use Rattle.steal_pool.proofs.Orders.{then_same, first_same, second_first, more_in_one, same_in_all, more_by, each_balanced, nil_of_length, there_is, snoc_injective, at_length}
+use Rattle.steal_pool.specs.Hand.{pushed, taken, own_taken, own_deque, deques, out_count, ChangesAt, AddsDoor, ClosesDoor, PopsTask, PopsNone, CountsOwn, HasSources, IsWithin, AllWithin, IsHandOf, IsClosed, all_pushed, all_taken}
+use Rattle.steal_pool.proofs.Orders.{then_same, first_same, second_first, more_in_one, same_in_all, more_by, each_balanced, each_sourced, in_one, nil_of_length, there_is, snoc_injective, at_length}
+use Rattle.steal_pool.proofs.OneHand.{one_task}
 use Rattle.steal_pool.proofs.Pools.{Each, each_change, take_snoc, map_append, less_cases}
 
 -- a hand while the hand `from` gives its ways back: those from `outs` on are closed, and it has the first `ways` of them
@@ -178,6 +181,17 @@ pub next_taken : {J : Type 0} → (place : ℕ) (first old new : List (Hand J)) 
 next_taken place first old new t was change =
     first_same _ _ _ (ap all_taken change.3) (then_same _ _ _ (more_by taken old place change.0 change.1 (t ∷ []) change.2 change.4.taken) (ap (λ (l : List Task). t ∷ l) was.same_taken))
 
+-- and it was pushed
+pub next_source : {J : Type 0} → (place : ℕ) (first old new : List (Hand J)) (t : Task) → Emptied place first old → ChangesAt old place (λ g h. PopsTask g t h) new → Contains (all_pushed new) t
+next_source {J} place first old new t was change =
+    let g = change.0 in let h = change.1 in let at = change.2 in let p = change.4 in
+    let closed = was.closed place g at in
+    let there : get_elem? new place ≡ some h = ap (λ (l : List (Hand J)). get_elem? l place) change.3 ∙ set_here old place h (at_length old place g at) in
+    let first_of : Contains (t ∷ taken g) t = (0, omega arith, refl) in
+    let has : Contains (taken h) t = Contains-permutation (t ∷ taken g) (taken h) t (IsPermutation-sym _ _ p.taken) first_of in
+    let own : Contains (own_taken h) t = subst (λ (l : List Task). Contains l t) (own_alone h (ap length p.doors ∙ closed.0)) has in
+    in_one pushed new place h t there (p.sources (p.same.out ∙ closed.1) t own)
+
 pub all_balanced : {J : Type 0} → (place : ℕ) (first hands : List (Hand J)) → length hands ≤ place → Emptied place first hands → IsPermutation (all_pushed hands) (all_taken hands)
 all_balanced place first hands long was = each_balanced pushed taken hands (λ k h e. let small = at_length hands k h e in was.balance k h e (omega arith))
 
@@ -191,6 +205,7 @@ next_within place first old new t was change = each_change (λ k x. ClosedAt k x
 pub record Counted {J : Type 0} (place : ℕ) (hands : List (Hand J)) : Type 0 where
   pub closed : IsClosed hands
   pub within : (k : ℕ) (h : Hand J) → get_elem? hands k ≡ some h → k < place → IsWithin h
+  pub sources : (k : ℕ) (h : Hand J) → get_elem? hands k ≡ some h → k < place → HasSources h
 
 pub counts : {J : Type 0} → (place : ℕ) (old new : List (Hand J)) → Counted place old → ChangesAt old place CountsOwn new → Counted (place + 1) new × (all_pushed new ≡ all_pushed old) × (all_taken new ≡ all_taken old)
 counts {J} place old new was change =
@@ -201,6 +216,9 @@ counts {J} place old new was change =
         within = each_change (λ k x. ClosedAt k x × (k < place → IsWithin x)) G old place CountsOwn new (λ k x e. (was.closed k x e, was.within k x e)) change
             (λ k x apart f less. ⊎_elim f.1 (λ (is : k ≡ place). absurd (apart is)) (less_cases k place less))
             (λ g h f p less. p.within (p.same.out ∙ f.0.1));
+        sources = each_change (λ k x. ClosedAt k x × (k < place → HasSources x)) (λ k x. k < place + 1 → HasSources x) old place CountsOwn new (λ k x e. (was.closed k x e, was.sources k x e)) change
+            (λ k x apart f less. ⊎_elim f.1 (λ (is : k ≡ place). absurd (apart is)) (less_cases k place less))
+            (λ g h f p less. p.sources (p.same.out ∙ f.0.1));
       },
       ap all_pushed is ∙ same_in_all pushed old place g h at p.pushed,
       ap all_taken is ∙ same_in_all taken old place g h at p.taken,
@@ -224,3 +242,16 @@ fewer old new t closed within same more =
 pub fewer_after : {J : Type 0} → (old new : List (Hand J)) (r : Option Task) → IsClosed new → AllWithin new → all_pushed new ≡ all_pushed old → IfSome r (λ t. IsPermutation (all_taken new) (t ∷ all_taken old)) → IfSome r (λ _. length (all_pushed new) - length (all_taken new) < length (all_pushed old) - length (all_taken old))
 fewer_after old new None closed within same more = tt
 fewer_after old new (Some t) closed within same more = fewer old new t closed within same more
+
+-- what all hands took was pushed
+pub all_sourced : {J : Type 0} → (hands : List (Hand J)) → IsClosed hands → ((k : ℕ) (h : Hand J) → get_elem? hands k ≡ some h → HasSources h) → IsSourced Task (all_pushed hands) (all_taken hands)
+all_sourced {J} hands closed each = each_sourced pushed taken hands (λ k h e t there. each k h e t (subst (λ (l : List Task). Contains l t) (own_alone h (closed k h e).0) there))
+
+-- and so it stays where what was taken since was pushed
+pub sourced_still : (pushed_then pushed_now taken_then taken_now : List Task) (r : Option Task) → pushed_now ≡ pushed_then → IfSome r (Contains pushed_now) → IfSome r (λ t. IsPermutation taken_now (t ∷ taken_then)) → IfNone r (taken_now ≡ taken_then) → IsSourced Task pushed_then taken_then → IsSourced Task pushed_now taken_now
+sourced_still pushed_then pushed_now taken_then taken_now None same source more kept was = λ t there.
+    subst (λ (l : List Task). Contains l t) (sym same) (was t (subst (λ (l : List Task). Contains l t) kept there))
+sourced_still pushed_then pushed_now taken_then taken_now (Some x) same source more kept was = λ t there.
+    ⊎_elim (λ (here : Contains (x ∷ []) t). All-contains (Contains pushed_now) (x ∷ []) t (one_task (Contains pushed_now) x source) here)
+    (λ (before : Contains taken_then t). subst (λ (l : List Task). Contains l t) (sym same) (was t before))
+    (Contains-append_cases (x ∷ []) taken_then t (Contains-permutation taken_now (x ∷ taken_then) t more there))

@@ -1,5 +1,5 @@
 -- What a hand has taken, after one more take.
-use Rattle.std.proofs.Common.{All, arith, zero, suc, ◌≡◌, ℕ, List, [], ◌∷◌, ◌++◌, length, get_or, set, ◌<◌, ap, append_assoc}
+use Rattle.std.proofs.Common.{All, arith, true, sym, subst, ◌∙◌, zero, suc, ◌≡◌, ℕ, List, [], ◌∷◌, ◌++◌, length, get_or, set, ◌<◌, ap, append_assoc}
 use Rattle.std.specs.Prelude.{IsPermutation, Option, Some, None, MatchOption, IfSome, IfNone}
 use Rattle.std.specs.List.{flat_map}
 use Rattle.std.proofs.lemmas.List.Sorted.{IsPermutation-trans, IsPermutation-append_right, IsPermutation-middle}
@@ -7,7 +7,8 @@ use Rattle.crossbeam_deque.proofs.Lists.{at_index}
 use Rattle.branch_tree.specs.Task.{Task}
 use Rattle.steal_pool.specs.declared.door.Door.{Door}
 use Rattle.steal_pool.specs.declared.account.Tally.{Tally}
-use Rattle.steal_pool.specs.Account.{Took}
+use Rattle.branch_tree.specs.Account.{IsSourced}
+use Rattle.steal_pool.specs.Account.{HasSources, Took}
 use Rattle.steal_pool.specs.Door.{deque_of, deques_of, taken_by}
 use Rattle.steal_pool.proofs.Orders.{first_same, more_in_one, same_in_all, same_map}
 
@@ -39,6 +40,15 @@ module _ {J : Type 0} (own : List Task) (doors : List (Door J)) (place : ℕ) (d
 pub pop_some : (Q : Task → Type 0) (v w : Tally) (rest : List Task) (P : Type 0) (r : Option Task) → MatchOption r P (λ x. Took Q v (x ∷ []) w) → IfSome r (λ t. IsPermutation (w.taken ++ rest) (t ∷ (v.taken ++ rest)))
 pop_some Q v w rest P None h = tt
 pop_some Q v w rest P (Some t) h = first_same _ _ _ (ap (λ (u : Tally). u.taken ++ rest) h.after) (popped v.taken rest t)
+
+-- with no other pass out each task that was taken was pushed
+pub pop_sources : (Q : Task → Type 0) (v w : Tally) (P : Type 0) (r : Option Task) → v.owner ≡ true → v.live ≡ true → MatchOption r P (λ x. Took Q v (x ∷ []) w) → IfSome r (λ _. w.out ≡ 0 → IsSourced Task w.pushed w.taken)
+pop_sources Q v w P None is_owner live h = tt
+pop_sources Q v w P (Some t) is_owner live h = λ none_out. h.sources (ap (λ (u : Tally). u.owner) h.after ∙ is_owner) (ap (λ (u : Tally). u.live) h.after ∙ live) none_out
+
+-- and so it is where that was learned and nothing was taken
+pub counted_sources : (v w : Tally) → w ≡ v → v.owner ≡ true → v.live ≡ true → HasSources v → w.out ≡ 0 → IsSourced Task w.pushed w.taken
+counted_sources v w same is_owner live has none_out = subst (λ (u : Tally). IsSourced Task u.pushed u.taken) (sym same) (has is_owner live (sym (ap (λ (u : Tally). u.out) same) ∙ none_out))
 
 -- what is true of the one task that was taken
 pub pop_is : (Q : Task → Type 0) (v w : Tally) (P : Type 0) (r : Option Task) → MatchOption r P (λ x. Took Q v (x ∷ []) w) → IfSome r Q

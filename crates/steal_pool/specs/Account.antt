@@ -4,6 +4,7 @@ use Rattle.std.specs.List.{flat_map}
 use mathlib.Core.Option.{some}
 use lib.ListN.{get_elem?}
 use Rattle.ttp_model.specs.Instance.{Instance, instance_with}
+use Rattle.branch_tree.specs.Account.{IsSourced}
 use Rattle.branch_tree.specs.Task.{Task}
 use Rattle.steal_pool.specs.declared.account.Tally.{Tally}
 
@@ -76,10 +77,15 @@ Pushed v xs w = w ≡ with_pushed v xs
 abbrev pub IsWithin : Tally → Type 0
 IsWithin v = v.owner ≡ true → v.live ≡ true → v.out ≡ 0 → length v.taken ≤ length v.pushed
 
+-- with no other pass out, each task that was taken was pushed
+abbrev pub HasSources : Tally → Type 0
+HasSources v = v.owner ≡ true → v.live ≡ true → v.out ≡ 0 → IsSourced Task v.pushed v.taken
+
 -- some tasks were taken, of each of which P is true
 pub record Took (P : Task → Type 0) (v : Tally) (xs : List Task) (w : Tally) : Type 0 where
   pub after : w ≡ with_taken v xs
   pub within : IsWithin w
+  pub sources : HasSources w
   pub tasks : All P xs
 
 -- with no other pass out, what was pushed was taken

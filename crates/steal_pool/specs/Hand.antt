@@ -4,6 +4,7 @@ use Rattle.std.specs.List.{flat_map}
 use mathlib.Core.Option.{some}
 use lib.ListN.{get_elem?, set}
 use Rattle.crossbeam_deque.specs.Handles.{worker_view, worker_deque}
+use Rattle.branch_tree.specs.Account.{IsSourced}
 use Rattle.branch_tree.specs.Task.{Task}
 use Rattle.steal_pool.specs.declared.door.Door.{Door}
 use Rattle.steal_pool.specs.declared.hand.Hand.{Hand}
@@ -116,12 +117,17 @@ IsWithin h = length (own_taken h) ≤ length (pushed h)
 abbrev pub AllWithin : {J : Type 0} → List (Hand J) → Type 0
 AllWithin {J} hands = (place : ℕ) (h : Hand J) → get_elem? hands place ≡ some h → IsWithin h
 
+-- each task that the hand has popped was pushed by it
+abbrev pub HasSources : {J : Type 0} → Hand J → Type 0
+HasSources h = IsSourced Task (pushed h) (own_taken h)
+
 -- the hand has popped a task
 pub record PopsTask {J : Type 0} (old : Hand J) (t : Task) (new : Hand J) : Type 0 where
   pub same : IsSameHand old new
   pub doors : new.doors.items ≡ old.doors.items
   pub pushed : pushed new ≡ pushed old
   pub within : out_count new ≡ 0 → IsWithin new
+  pub sources : out_count new ≡ 0 → HasSources new
   pub taken : IsPermutation (taken new) (t ∷ taken old)
 
 -- the hand has found its deque empty
@@ -138,5 +144,6 @@ pub record CountsOwn {J : Type 0} (old new : Hand J) : Type 0 where
   pub same : IsSameHand old new
   pub doors : new.doors.items ≡ old.doors.items
   pub within : out_count new ≡ 0 → IsWithin new
+  pub sources : out_count new ≡ 0 → HasSources new
   pub pushed : pushed new ≡ pushed old
   pub taken : taken new ≡ taken old

@@ -74,9 +74,9 @@ impl<J: Searched> Outcome<Task, Tally> for Takes<J> {
 pub struct Counts;
 
 impl Lesson<Task, Tally> for Counts {
-    ghost use Rattle.steal_pool.specs.Account.{IsWithin};
+    ghost use Rattle.steal_pool.specs.Account.{HasSources, IsWithin};
 
-    ghost fact = { λ v _. IsWithin v };
+    ghost fact = { λ v _. IsWithin v × HasSources v };
 }
 
 /// Passes are made of the owner's, and joined to it.

@@ -17,17 +17,19 @@ pub struct Drained<J: Searched> {
 
 impl<J: Searched> Drained<J> {
     ghost use Rattle.std.specs.Prelude.{◌≡◌, ◌∷◌, ◌<◌, IfNone, IfSome, IsPermutation};
-    ghost use Rattle.branch_tree.specs.Task.{IsTask};
+    ghost use Rattle.branch_tree.specs.Account.{IsBalanced, IsSourced};
+    ghost use Rattle.branch_tree.specs.Task.{IsTask, Task};
     ghost use Rattle.steal_pool.specs.Drained.{left_there, pushed_there, taken_there};
 
-    /// A task that is still in a deque, by its owner's pop; none once all are empty. Then each task was taken as often as it
-    /// was pushed. Takes no memory.
+    /// A task that is still in a deque, by its owner's pop, which was pushed; none once all are empty. Then each task was taken as
+    /// often as it was pushed. Takes no memory.
     pub fn next(&mut self) -> Option<Task>
         ensures pushed { pushed_there self.new ≡ pushed_there self.old }
         ensures some { IfSome result (λ t. IsPermutation (taken_there self.new) (t ∷ taken_there self.old)) }
         ensures task { IfSome result (IsTask J.instance) }
         ensures fewer { IfSome result (λ _. left_there self.new < left_there self.old) }
-        ensures none { IfNone result (IsPermutation (pushed_there self.new) (taken_there self.new)) }
+        ensures sourced { IsSourced Task (pushed_there self.old) (taken_there self.old) → IsSourced Task (pushed_there self.new) (taken_there self.new) }
+        ensures none { IfNone result (IsBalanced Task (pushed_there self.new) (taken_there self.new)) }
         ensures same { IfNone result (taken_there self.new ≡ taken_there self.old) }
     {
         next_of(&mut self.hands)

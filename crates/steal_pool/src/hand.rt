@@ -22,7 +22,7 @@ pub struct Hand<J: Searched> {
 impl<J: Searched> Hand<J> {
     ghost use Rattle.std.specs.Prelude.{◌≡◌, ◌+◌, ◌-◌, [], ◌∷◌, ◌++◌, IfOk, OnOk, IfErr, IfSome, IfNone, OnErr, IsPermutation, vec_len, vec_capacity, ◌<◌, ◌≤◌};
     ghost use Rattle.branch_tree.specs.Task.{IsTask};
-    ghost use Rattle.steal_pool.specs.Hand.{pushed, taken, own_taken, own_deque, out_count, IsSameHand, IsFresh, OpensDoor, ClosesDoor, CountsOwn, IsWithin, BalancesAlone};
+    ghost use Rattle.steal_pool.specs.Hand.{pushed, taken, own_taken, own_deque, out_count, IsSameHand, IsFresh, OpensDoor, ClosesDoor, CountsOwn, HasSources, IsWithin, BalancesAlone};
     ghost use Rattle.steal_pool.specs.Door.{deque_of, taken_by, deques_of};
 
     /// The place of the hand in its pool.
@@ -86,6 +86,7 @@ impl<J: Searched> Hand<J> {
         ensures some { IfSome result (λ t. IsPermutation (taken self.new) (t ∷ taken self.old)) }
         ensures task { IfSome result (IsTask J.instance) }
         ensures within { IfSome result (λ _. out_count self.new ≡ 0 → IsWithin self.new) }
+        ensures sources { IfSome result (λ _. out_count self.new ≡ 0 → HasSources self.new) }
         ensures none { IfNone result ((taken self.new ≡ taken self.old) × (own_taken self.new ≡ own_taken self.old) × BalancesAlone self.new) }
     {
         self.own.pop_as::<Takes<J>>()

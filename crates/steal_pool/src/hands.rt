@@ -1,5 +1,5 @@
 //! How are the hands of a pool made, and what does each step on one of them change?
-ghost use Rattle.std.specs.Prelude.{◌≡◌, ℕ, ◌<◌, [], ◌∷◌, length, vec_len, IfOk, OnOk, IfSome, IfNone, MatchOption, IsPermutation};
+ghost use Rattle.std.specs.Prelude.{◌≡◌, ℕ, ◌<◌, [], ◌∷◌, length, vec_len, Contains, IfOk, OnOk, IfSome, IfNone, MatchOption, IsPermutation};
 ghost use mathlib.Core.Option.{some};
 ghost use lib.ListN.{get_elem?};
 ghost use Rattle.branch_tree.specs.Task.{IsTask};
@@ -125,6 +125,7 @@ pub(crate) fn next_of<J: Searched>(hands: &mut Vec<Hand<J>>) -> Option<Task>
     ensures within { AllWithin hands.new.items }
     ensures pushed { all_pushed hands.new.items ≡ all_pushed hands.old.items }
     ensures some { IfSome result (λ t. IsPermutation (all_taken hands.new.items) (t ∷ all_taken hands.old.items)) }
+    ensures source { IfSome result (Contains (all_pushed hands.new.items)) }
     ensures task { IfSome result (IsTask J.instance) }
     ensures none { IfNone result (IsPermutation (all_pushed hands.new.items) (all_taken hands.new.items)) }
     ensures same { IfNone result (all_taken hands.new.items ≡ all_taken hands.old.items) }

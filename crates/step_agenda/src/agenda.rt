@@ -9,9 +9,9 @@ use load_bounds::{frame_load, node_load};
 use std::alloc::Global;
 use std::collections::VecDeque;
 use std::mem;
-use step_facts::{Fact, FactSet, link_after, value};
+use step_facts::FactSet;
 use tt_choice::Decision;
-use tt_infer::Facts;
+use tt_infer::{Fact, Facts, link_after, value};
 use ttp_model::{Instance, MOST_NODES, MOST_PROCESSES, MemoryFault, Step};
 
 /// After so many facts for each process and message rings are looked for again.
@@ -101,13 +101,12 @@ impl Agenda {
         self.clear();
         self.note_processes(before, facts)?;
         self.note_messages(before, facts)?;
-        if let Decision::Before(p, q) = decision {
-            return self.note(facts, Fact::Order(p, q));
+        match decision {
+            Decision::Before(p, q) => return self.note(facts, Fact::Order(p, q)),
+            Decision::Place(_) | Decision::Cap(_, _) => self.raise_messages(facts.instance()),
+            Decision::AtMost(_, _) | Decision::AtLeast(_, _) => {}
         }
         self.until_ring = facts_between_rings(facts.instance());
-        if let Decision::Place(_) | Decision::Cap(_, _) = decision {
-            self.raise_messages(facts.instance());
-        }
         Ok(())
     }
 
@@ -200,7 +199,9 @@ impl Agenda {
     fn add(&mut self, fact: Fact) -> Result<(), MemoryFault> {
         let waits = match fact {
             Fact::Order(_, _) => false,
-            _ => self.waiting.insert(fact),
+            Fact::Start(_) | Fact::End(_) => self.waiting.insert(fact),
+            Fact::FirstRound(_) | Fact::LateRound(_) => self.waiting.insert(fact),
+            Fact::Closed => self.waiting.insert(fact),
         };
         if !waits {
             self.changed.push_back(fact)?;

@@ -2,8 +2,7 @@
 
 use crate::network::Network;
 use crate::parts::{node, receivers, wcet};
-use step_facts::{Fact, link_after, link_before, value};
-use tt_infer::Facts;
+use tt_infer::{Fact, Facts, link_after, link_before, value};
 use ttp_model::{MemoryFault, Step};
 
 /// Adds the steps that read a fact, the one to be tried first last. Those that plainly say nothing new are left out.

@@ -4,8 +4,7 @@ use crate::flags::{is_up, lower, raise};
 use crate::network::Network;
 use crate::parts::{node, receivers};
 use std::alloc::Global;
-use step_facts::link_after;
-use tt_infer::Facts;
+use tt_infer::{Facts, link_after};
 use ttp_model::{MOST_PROCESSES, MemoryFault, Ring, Step};
 
 /// A number for each process.

@@ -1,13 +1,11 @@
 //! What steps are about: the facts that they sharpen, and those that they read.
 #![tactic(auto)]
 
-mod fact;
 mod fact_set;
 mod marks;
 mod reads;
 mod values;
 
-pub use fact::{Fact, link_after, link_before, sender, target, value};
 pub use fact_set::FactSet;
 pub use marks::{Marked, Marks};
 pub use reads::{Reader, add_reads};

@@ -1,10 +1,9 @@
 //! Which steps does a closer need?
 
-use crate::fact::{Fact, target};
 use crate::fact_set::FactSet;
 use crate::reads::add_reads;
 use std::alloc::Global;
-use tt_infer::Facts;
+use tt_infer::{Fact, Facts, target};
 use ttp_model::{Instance, MemoryFault, Step};
 
 /// Steps one after another, of which some are marked.

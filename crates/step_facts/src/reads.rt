@@ -1,8 +1,7 @@
 //! Which facts does a step read?
 
-use crate::fact::{Fact, link_after, link_before, sender};
 use crate::fact_set::FactSet;
-use tt_infer::Facts;
+use tt_infer::{Fact, Facts, link_after, link_before, sender};
 use ttp_model::{Instance, Step};
 
 /// Something that is told which facts are read.
@@ -22,42 +21,31 @@ impl Reader for FactSet {
 pub fn add_reads<R: Reader>(wanted: &mut R, facts: &Facts, step: &Step) {
     let instance = facts.instance();
     match step {
+        Step::EsRelease(_) | Step::LeOwn(_) | Step::OrdTwin(_, _) => {}
+        Step::XFrame(_) | Step::XSilent(_, _) => {}
+        Step::EsLink(l) => wanted.read(Fact::Start(link_before(instance, *l))),
+        Step::EsBefore(p, q) => add_both(wanted, Fact::Start(*p), Fact::Order(*p, *q)),
+        Step::EsArrive(m, _) => wanted.read(Fact::FirstRound(*m)),
+        Step::EsMessage(m, _) | Step::LoSend(m) => wanted.read(Fact::Start(sender(instance, *m))),
+        Step::LeLink(l) => wanted.read(Fact::End(link_after(instance, *l))),
+        Step::LeBefore(p, q) => add_both(wanted, Fact::End(*q), Fact::Order(*p, *q)),
+        Step::LeMessage(_, q) | Step::HiArrive(_, q) => wanted.read(Fact::End(*q)),
+        Step::LeSend(m) => wanted.read(Fact::LateRound(*m)),
+        Step::OrdWindow(p, q) => add_both(wanted, Fact::End(*p), Fact::Start(*q)),
+        Step::UsSettled(p) => add_settled(wanted, facts, *p),
+        Step::XWindow(p) => add_both(wanted, Fact::Start(*p), Fact::End(*p)),
+        Step::XRound(m) => add_both(wanted, Fact::FirstRound(*m), Fact::LateRound(*m)),
         Step::XCycle(ring) => add_ring(wanted, ring.as_slice()),
         Step::XLoad(n, a, b) => add_load(wanted, facts, *n, *a, *b),
         Step::XFrames(n, a, b) => add_frames(wanted, facts, *n, *a, *b),
         Step::XLate(m, _) => add_late(wanted, instance, *m),
-        Step::UsSettled(p) => add_settled(wanted, facts, *p),
-        other => {
-            let (first, second) = plain_reads(instance, other);
-            add(wanted, first);
-            add(wanted, second);
-        }
     }
 }
 
-/// Adds a fact, where there is one.
-fn add<R: Reader>(wanted: &mut R, fact: Option<Fact>) {
-    if let Some(fact) = fact {
-        wanted.read(fact);
-    }
-}
-
-/// The facts that a step reads which reads two at most.
-fn plain_reads(instance: &Instance, step: &Step) -> (Option<Fact>, Option<Fact>) {
-    match step {
-        Step::EsLink(l) => (Some(Fact::Start(link_before(instance, *l))), None),
-        Step::EsBefore(p, q) => (Some(Fact::Start(*p)), Some(Fact::Order(*p, *q))),
-        Step::EsArrive(m, _) => (Some(Fact::FirstRound(*m)), None),
-        Step::EsMessage(m, _) | Step::LoSend(m) => (Some(Fact::Start(sender(instance, *m))), None),
-        Step::LeLink(l) => (Some(Fact::End(link_after(instance, *l))), None),
-        Step::LeBefore(p, q) => (Some(Fact::End(*q)), Some(Fact::Order(*p, *q))),
-        Step::LeMessage(_, q) | Step::HiArrive(_, q) => (Some(Fact::End(*q)), None),
-        Step::LeSend(m) => (Some(Fact::LateRound(*m)), None),
-        Step::OrdWindow(p, q) => (Some(Fact::End(*p)), Some(Fact::Start(*q))),
-        Step::XWindow(p) => (Some(Fact::Start(*p)), Some(Fact::End(*p))),
-        Step::XRound(m) => (Some(Fact::FirstRound(*m)), Some(Fact::LateRound(*m))),
-        _ => (None, None),
-    }
+/// Adds two facts.
+fn add_both<R: Reader>(wanted: &mut R, first: Fact, second: Fact) {
+    wanted.read(first);
+    wanted.read(second);
 }
 
 /// Adds the orders of a ring: of each process before the next, and of the last before the first.

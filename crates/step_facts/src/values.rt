@@ -1,7 +1,6 @@
 //! How far is what known of each process and message?
 
-use crate::fact::Fact;
-use tt_infer::Facts;
+use tt_infer::{Fact, Facts};
 use ttp_model::{MOST_MESSAGES, MOST_PROCESSES};
 
 /// A time in ticks for the start and the end of each process, and a round for the first one of each message and for the first one

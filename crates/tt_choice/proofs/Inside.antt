@@ -14,10 +14,10 @@ use Rattle.tt_choice.proofs.Extend.{first_part}
 use Rattle.tt_choice.proofs.Children.{turned}
 use Rattle.tt_choice.proofs.Exact.{start_least_is_least, start_most_is_most, end_least_is_least, end_most_is_most, cap_least_is_least, cap_most_is_most, dur_least_is_least}
 
-begins_too : (i : Instance) (inner outer : Choice) (order : List ℕ) → IsInside i inner outer → BeginsWith inner.prefix order → BeginsWith outer.prefix order
+pub begins_too : (i : Instance) (inner outer : Choice) (order : List ℕ) → IsInside i inner outer → BeginsWith inner.prefix order → BeginsWith outer.prefix order
 begins_too i inner outer order inside begins k h = begins k (omega (arith, h, inside.longer)) ∙ inside.prefix k h
 
-fixed_too : (one other : Option ℕ) (capacity : ℕ) → IsKeptBy one other → IsFixedTo other capacity → IsFixedTo one capacity
+pub fixed_too : (one other : Option ℕ) (capacity : ℕ) → IsKeptBy one other → IsFixedTo other capacity → IsFixedTo one capacity
 fixed_too None other capacity kept fixed = tt
 fixed_too (Some one) other capacity kept fixed = rw kept at fixed
 

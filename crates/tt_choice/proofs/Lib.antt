@@ -11,9 +11,11 @@ pub mod ChildLists
 pub mod Children
 pub mod Decisions
 pub mod Trail
+pub mod WorkedDecisions
 pub mod Smaller
 pub mod Bounds
 pub mod Extend
 pub mod Exact
 pub mod Inside
 pub mod Places
+pub mod kept

@@ -9,7 +9,7 @@ use Rattle.tt_choice.specs.declared.reversal.Reversal.TheVariants.{Unplace, Free
 use Rattle.tt_choice.specs.Precedence.{place_in, put_before, take_back}
 use Rattle.tt_choice.specs.Choice.{Choice, IsChoice, bare}
 use Rattle.tt_choice.specs.Branches.{IsUnplaced, IsUnorderedPair, CutsRange}
-use Rattle.tt_choice.specs.Decisions.{choice_after, choice_after_all, IsFreeOption, IsOpenDecision, reversal_of, kept_after, taken_back}
+use Rattle.tt_choice.specs.Decisions.{choice_after, choice_after_all, IsFreeOption, IsOpenDecision, reversal_of, kept_after, taken_back, IsUndone}
 use Rattle.tt_choice.proofs.Before.{test_of}
 use Rattle.tt_choice.proofs.Decisions.{IsChoice-after}
 
@@ -97,6 +97,9 @@ taken_back-kept_after i c (decided.Cap n k) ok is = λ j. record c { fixed = fre
 taken_back-kept_after i c (decided.Before p q) ok is = λ j. record c { before = taken_out i c p q ok is j }
 taken_back-kept_after i c (decided.AtMost m r) ok is = λ j. record c { hi = round_again c.hi m r j }
 taken_back-kept_after i c (decided.AtLeast m r) ok is = λ j. record c { lo = round_again c.lo m r j }
+
+pub undone-kept_after : (i : Instance) (c back : Choice) (d : Decision) → IsChoice i c → IsOpenDecision i c d → IsUndone (kept_after i c d) back → back ≡ c
+undone-kept_after i c back d ok is undone = undone c.kept (reversal_of c d) refl ∙ taken_back-kept_after i c d ok is
 
 -- What the last kept decision changed is changed back, whichever it is.
 taken_same : (c : Choice) (kept : List Reversal) (r : Reversal) → record (taken_back (record c { kept = kept }) r) { kept = kept } ≡ record (taken_back c r) { kept = kept }

@@ -1,5 +1,5 @@
 -- Decisions: what each makes of a choice, when one is open, and what takes one back. Own profile.
-use Rattle.std.specs.Prelude.{ℕ, zero, suc, ◌+◌, ◌-◌, ◌<◌, ◌≤◌, List, [], ◌∷◌, ◌++◌, length, slice_index, slice_set, take, map, None}
+use Rattle.std.specs.Prelude.{◌≡◌, ℕ, zero, suc, ◌+◌, ◌-◌, ◌<◌, ◌≤◌, List, [], ◌∷◌, ◌++◌, length, slice_index, slice_set, take, map, None}
 use Rattle.std.specs.List.{range_with_len}
 use Rattle.ttp_model.specs.declared.step.Kind.{Kind}
 use Rattle.ttp_model.specs.declared.step.Kind.TheVariants.{Place, Cap, Pair, Round}
@@ -72,6 +72,11 @@ taken_back c (Free n) = record c { fixed = slice_set c.fixed n None; kept = [] }
 taken_back c (Unorder p q unordered) = record c { before = take_back c.before p q; unordered = unordered; kept = [] }
 taken_back c (Most m r) = at_most c m r
 taken_back c (Least m r) = at_least c m r
+
+-- what takes the last kept decision back makes this of a choice: those before it are still kept
+abbrev pub IsUndone : Choice → Choice → Type 0
+IsUndone old new = (kept : List Reversal) (reversal : Reversal) → old.kept ≡ kept ++ reversal ∷ []
+    → new ≡ record (taken_back old reversal) { kept = kept }
 
 -- the decision that leads to a branch's child of a number
 abbrev pub decision_of : Instance → Choice → Kind → ℕ → Decision

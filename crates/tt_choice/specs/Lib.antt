@@ -6,6 +6,7 @@ pub mod Branches
 pub mod Decisions
 pub mod Sizes
 pub mod Inside
+pub mod Kept
 pub use Rattle.ttp_model.specs.Instance
 pub use Rattle.ttp_model.specs.Rules
 pub use Rattle.ttp_model.specs.Slots

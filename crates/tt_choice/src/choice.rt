@@ -1,6 +1,6 @@
 //! What of a plan is chosen so far?
 
-ghost use Rattle.std.specs.Prelude.{◌≡◌, ◌-◌, ◌<◌, ◌≤◌, length, IfOk, OnOk};
+ghost use Rattle.std.specs.Prelude.{◌≡◌, ◌-◌, ◌<◌, ◌≤◌, [], length, IfOk, OnOk};
 ghost use Rattle.ttp_model.specs.declared.limits.TheConstants.{MOST_PROCESSES};
 ghost use Rattle.ttp_model.specs.Plans.{IsValid};
 ghost use Rattle.ttp_model.specs.declared.plan.Plan.{Plan};
@@ -114,9 +114,19 @@ impl Choice {
         Ok(copy)
     }
 
+    /// The same in the same memory, with no decision kept. Takes no memory.
+    pub fn bare(self) -> Self
+        ensures { result ≡ bare self }
+    {
+        let mut choice = self;
+        choice.kept.clear();
+        choice
+    }
+
     /// Becomes the same choice as another, in the memory that it has where that suffices, with no decision kept. After a
     /// refusal it is of use no more.
     pub fn set_to(&mut self, other: &Choice) -> Result<(), MemoryFault>
+        requires { self.old.kept ≡ [] }
         ensures { OnOk result (self.new ≡ bare other.now) }
     {
         refill(&mut self.prefix, other.prefix.as_slice())?;
@@ -125,7 +135,6 @@ impl Choice {
         self.unordered = other.unordered;
         refill(&mut self.lo, other.lo.as_slice())?;
         refill(&mut self.hi, other.hi.as_slice())?;
-        self.kept.clear();
         Ok(())
     }
 

@@ -1,18 +1,20 @@
 //! What follows from the definitions alone? These functions do nothing: their contracts are laws.
 
-ghost use Rattle.std.specs.Prelude.{◌≡◌, ◌-◌, ◌<◌, ◌≤◌, ℕ, List, length};
+ghost use Rattle.std.specs.Prelude.{◌≡◌, ◌-◌, ◌<◌, ◌≤◌, ℕ, List, length, true, IsTrue};
 ghost use Rattle.ttp_model.specs.declared.plan.Plan.{Plan};
 ghost use Rattle.ttp_model.specs.declared.step.Kind.{Kind};
 ghost use Rattle.ttp_model.specs.declared.step.Kind.TheVariants.{Place};
 ghost use Rattle.ttp_model.specs.Instance.{Instance};
 ghost use Rattle.ttp_model.specs.Rules.{IsInstance};
 ghost use Rattle.ttp_model.specs.Plans.{IsValid};
-ghost use Rattle.tt_choice.specs.Choice.{Choice, IsChoice, IsIn};
-ghost use Rattle.tt_choice.specs.Branches.{IsOpen, children, child};
+ghost use Rattle.tt_choice.specs.Choice.{Choice, IsChoice, IsIn, is_before, least_round, greatest_round};
+ghost use Rattle.tt_choice.specs.Branches.{IsOpen, children, child, root_choice};
 ghost use Rattle.tt_choice.specs.declared.decision.Decision.{Decision};
-ghost use Rattle.tt_choice.specs.Decisions.{choice_after, IsOpenDecision, choice_after_all, AreOpenDecisions, decision_of, reversal_of, kept_after, taken_back};
+ghost use Rattle.tt_choice.specs.Decisions.{choice_after, IsOpenDecision, choice_after_all, AreOpenDecisions, chosen, decision_of, reversal_of, kept_after, taken_back, IsUndone};
 ghost use Rattle.tt_choice.specs.Sizes.{size_left, Halves};
-ghost use Rattle.tt_choice.specs.Extremes.{IsLeastOf, IsMostOf, start_at, end_at, start_least, start_most, end_least, end_most};
+ghost use Rattle.tt_choice.specs.Extremes.{IsLeastOf, IsMostOf, start_at, end_at, cap_least, cap_most, place_of, start_least, start_most, end_least, end_most};
+ghost use Rattle.tt_choice.specs.Inside.{IsInside};
+ghost use Rattle.tt_choice.specs.Kept.{Marked, all_of, kept_of, KeepsPlaces, last_kept, sets_least, sets_greatest, sets_order, fixes_above, fixes_below};
 
 /// The search rests on this: the children of an open branch have all the valid plans of the
 /// choice and no others, and each leaves less to choose. A round has to halve its range for that,
@@ -46,11 +48,15 @@ pub fn decisions_lead_to_the_children()
         → IsChoice i c → IsOpenDecision i c decision → IsIn i (choice_after i c decision) plan → IsIn i c plan }
 {}
 
-/// A decision that is kept is taken back by what is kept of it: the choice is what it was.
+/// A decision that is kept is taken back by what is kept of it: the choice is what it was. So whatever `undo` makes of a choice
+/// after `decide` is the choice that stood before, with the decisions that it kept.
 pub fn decisions_are_taken_back()
-    ensures { (i : Instance) (c : Choice) (decision : Decision)
+    ensures taken_back { (i : Instance) (c : Choice) (decision : Decision)
         → IsChoice i c → IsOpenDecision i c decision
         → record (taken_back (kept_after i c decision) (reversal_of c decision)) { kept = c.kept } ≡ c }
+    ensures undone { (i : Instance) (c back : Choice) (decision : Decision)
+        → IsChoice i c → IsOpenDecision i c decision
+        → IsUndone (kept_after i c decision) back → back ≡ c }
 {}
 
 /// A place has as many children as there are nodes beside the prefix.
@@ -73,4 +79,50 @@ pub fn sums_are_the_extremes()
     ensures end_most { (i : Instance) (c : Choice) (n r : ℕ)
         → IsInstance i → IsChoice i c → n < length i.nodes
         → IsMostOf i c (end_at i n r) (end_most i c n r) }
+{}
+
+/// Of decisions some are kept, of places the first. These are open by themselves, and what all make is inside of what they make; and a round,
+/// an order, a capacity or the times of a slot are the same by both where the last of the decisions on it is kept.
+pub fn kept_decisions_say_alike()
+    ensures are_open { (i : Instance) (ms : List Marked)
+        → IsInstance i → AreOpenDecisions i (root_choice i) (all_of ms) → KeepsPlaces true ms
+        → AreOpenDecisions i (root_choice i) (kept_of ms) }
+    ensures inside { (i : Instance) (ms : List Marked)
+        → IsInstance i → AreOpenDecisions i (root_choice i) (all_of ms) → KeepsPlaces true ms
+        → IsInside i (chosen i (all_of ms)) (chosen i (kept_of ms)) }
+    ensures least { (i : Instance) (ms : List Marked)
+        → IsInstance i → AreOpenDecisions i (root_choice i) (all_of ms) → KeepsPlaces true ms
+        → (m : ℕ) → IsTrue (last_kept (sets_least m) true ms)
+        → least_round (chosen i (all_of ms)) m ≡ least_round (chosen i (kept_of ms)) m }
+    ensures greatest { (i : Instance) (ms : List Marked)
+        → IsInstance i → AreOpenDecisions i (root_choice i) (all_of ms) → KeepsPlaces true ms
+        → (m : ℕ) → IsTrue (last_kept (sets_greatest m) true ms)
+        → greatest_round (chosen i (all_of ms)) m ≡ greatest_round (chosen i (kept_of ms)) m }
+    ensures orders { (i : Instance) (ms : List Marked)
+        → IsInstance i → AreOpenDecisions i (root_choice i) (all_of ms) → KeepsPlaces true ms
+        → (p q : ℕ) → IsTrue (last_kept (sets_order p q) true ms)
+        → is_before (chosen i (all_of ms)) p q ≡ is_before (chosen i (kept_of ms)) p q }
+    ensures least_frame { (i : Instance) (ms : List Marked)
+        → IsInstance i → AreOpenDecisions i (root_choice i) (all_of ms) → KeepsPlaces true ms
+        → (n : ℕ) → IsTrue (last_kept (fixes_above n) true ms)
+        → cap_least i (chosen i (all_of ms)) n ≡ cap_least i (chosen i (kept_of ms)) n }
+    ensures greatest_frame { (i : Instance) (ms : List Marked)
+        → IsInstance i → AreOpenDecisions i (root_choice i) (all_of ms) → KeepsPlaces true ms
+        → (n : ℕ) → IsTrue (last_kept (fixes_below i n) true ms)
+        → cap_most i (chosen i (all_of ms)) n ≡ cap_most i (chosen i (kept_of ms)) n }
+    ensures least_slot { (i : Instance) (ms : List Marked)
+        → IsInstance i → AreOpenDecisions i (root_choice i) (all_of ms) → KeepsPlaces true ms
+        → ((v : ℕ) → v < length i.nodes → IsTrue (last_kept (fixes_above v) true ms))
+        → (n : ℕ) → n < length i.nodes
+        → place_of n (chosen i (all_of ms)).prefix ≤ length (chosen i (kept_of ms)).prefix
+        → (r : ℕ) → (start_least i (chosen i (all_of ms)) n r ≡ start_least i (chosen i (kept_of ms)) n r)
+        × (end_least i (chosen i (all_of ms)) n r ≡ end_least i (chosen i (kept_of ms)) n r) }
+    ensures greatest_slot { (i : Instance) (ms : List Marked)
+        → IsInstance i → AreOpenDecisions i (root_choice i) (all_of ms) → KeepsPlaces true ms
+        → ((v : ℕ) → v < length i.nodes → IsTrue (last_kept (fixes_below i v) true ms))
+        → (n : ℕ) → n < length i.nodes
+        → (place_of n (chosen i (all_of ms)).prefix < length (chosen i (all_of ms)).prefix
+        → place_of n (chosen i (all_of ms)).prefix < length (chosen i (kept_of ms)).prefix)
+        → (r : ℕ) → (start_most i (chosen i (all_of ms)) n r ≡ start_most i (chosen i (kept_of ms)) n r)
+        × (end_most i (chosen i (all_of ms)) n r ≡ end_most i (chosen i (kept_of ms)) n r) }
 {}

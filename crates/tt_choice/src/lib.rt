@@ -6,12 +6,14 @@ mod decision;
 mod laws;
 mod precedence;
 mod reversal;
+mod worked;
 
 pub use choice::Choice;
 pub use decision::Decision;
 pub use laws::{
     children_share_the_plans, decisions_are_taken_back, decisions_lead_to_the_children,
-    sums_are_the_extremes, unplaced_nodes_are_the_rest,
+    kept_decisions_say_alike, sums_are_the_extremes, unplaced_nodes_are_the_rest,
 };
 pub use precedence::Precedence;
 pub use reversal::Reversal;
+pub use worked::{one_message_is_decided_and_undone, three_alike_may_be_ordered};

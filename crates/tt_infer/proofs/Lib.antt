@@ -32,3 +32,6 @@ pub mod InsideExample
 pub mod OneMessageRules
 pub mod CodeSlots
 pub mod monotone
+pub mod Targets
+pub mod alike
+pub mod shared

@@ -3,6 +3,11 @@ pub mod Conclusions
 pub mod Premises
 pub mod Dominance
 pub mod Table
+pub mod Targets
+pub mod Reads
+pub mod Shared
+pub mod Uses
+pub mod RuledOut
 pub mod Leaves
 pub mod Sharper
 pub mod Worked

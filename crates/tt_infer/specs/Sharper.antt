@@ -1,7 +1,7 @@
 -- When at least as much is known, and when steps lead on in the same way there. Own profile.
 use Rattle.std.specs.Prelude.{◌≡◌, ℕ, ◌≤◌, List, [], ◌∷◌, ◌++◌, IsTrue}
 use Rattle.ttp_model.specs.declared.step.Step.{Step}
-use Rattle.ttp_model.specs.declared.step.Step.TheVariants.{LeSend, UsSettled, XRound}
+use Rattle.ttp_model.specs.declared.step.Step.TheVariants.{EsRelease, EsLink, EsBefore, EsArrive, EsMessage, LoSend, LeOwn, LeLink, LeBefore, LeMessage, LeSend, HiArrive, OrdWindow, OrdTwin, UsSettled, XWindow, XRound, XCycle, XLoad, XFrame, XFrames, XLate, XSilent}
 use Rattle.ttp_model.specs.Instance.{Instance}
 use Rattle.tt_choice.specs.Choice.{Choice}
 use Rattle.tt_infer.specs.Known.{Known, es_of, le_of, lo_of, top_of, bef_of}
@@ -21,9 +21,29 @@ pub record IsSharper (f g : Known) : Type 0 where
 
 -- the steps that ask for a round in which a message can be sent
 abbrev pub AsksForRounds : Step → Type 0
+AsksForRounds (EsRelease p) = ⊥
+AsksForRounds (EsLink l) = ⊥
+AsksForRounds (EsBefore p q) = ⊥
+AsksForRounds (EsArrive m q) = ⊥
+AsksForRounds (EsMessage m q) = ⊥
+AsksForRounds (LoSend m) = ⊥
+AsksForRounds (LeOwn p) = ⊥
+AsksForRounds (LeLink l) = ⊥
+AsksForRounds (LeBefore p q) = ⊥
+AsksForRounds (LeMessage m q) = ⊥
 AsksForRounds (LeSend m) = Unit {0}
+AsksForRounds (HiArrive m q) = ⊥
+AsksForRounds (OrdWindow p q) = ⊥
+AsksForRounds (OrdTwin p q) = ⊥
 AsksForRounds (UsSettled p) = Unit {0}
-AsksForRounds other = ⊥
+AsksForRounds (XWindow p) = ⊥
+AsksForRounds (XRound m) = ⊥
+AsksForRounds (XCycle ps) = ⊥
+AsksForRounds (XLoad n a b) = ⊥
+AsksForRounds (XFrame m) = ⊥
+AsksForRounds (XFrames n a b) = ⊥
+AsksForRounds (XLate m r) = ⊥
+AsksForRounds (XSilent u v) = ⊥
 
 -- a step leads on to where at least as much is known as g tells
 pub record LeadsAsFar (i : Instance) (c : Choice) (goal : ℕ) (f : Known) (step : Step) (g : Known) : Type 0 where

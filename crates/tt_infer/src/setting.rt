@@ -99,7 +99,7 @@ impl<'a> Setting<'a> {
         }) }
     {
         let instance = before.instance();
-        let mut choice = self.choice;
+        let mut choice = self.choice.bare();
         choice.set_to(before.choice())?;
         choice.change(alloc, instance, decision)?;
         let slots = slots_after(self.slots, before, &choice, decision)?;
@@ -119,7 +119,7 @@ impl<'a> Setting<'a> {
           goal = before.now.goal;
         }) }
     {
-        let mut choice = self.choice;
+        let mut choice = self.choice.bare();
         choice.set_to(before.choice())?;
         let slots = refilled(self.slots, before.slots.as_slice())?;
         Ok(Setting {
@@ -140,7 +140,7 @@ impl<'a> Setting<'a> {
         }) }
     {
         let instance = self.instance;
-        let mut own = self.choice;
+        let mut own = self.choice.bare();
         own.set_to(choice)?;
         let slots = slots_of(self.slots, instance, &own)?;
         Ok(Setting {

@@ -154,10 +154,13 @@ impl<'a> Path<'a> {
     /// What a branch uses with what stands below it: how many children take a place depends on all places above.
     pub fn used_with(&self, kind: Kind, below: Levels) -> Levels {
         let mut used = below;
-        if let Kind::Place = kind {
-            for placed in self.order() {
-                used.insert(placed.level);
+        match kind {
+            Kind::Place => {
+                for placed in self.order() {
+                    used.insert(placed.level);
+                }
             }
+            Kind::Cap(_) | Kind::Pair(_, _) | Kind::Round(_, _) => {}
         }
         used
     }

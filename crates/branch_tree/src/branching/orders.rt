@@ -30,6 +30,7 @@ pub fn closing_pair(
     let pairs = overlapping_pairs(alloc, instance, facts.choice(), facts)?;
     let mut tried = [0u32; MOST_NODES];
     for pair in pairs.as_slice() {
+        // No other kind comes of pairs that overlap.
         if let Kind::Pair(q, p) = pair.kind {
             if is_one_more(instance, &mut tried, p)
                 && tries.is_new(alloc, reached.facts(), p, q)?

@@ -1,7 +1,7 @@
 //! What is known after decisions, and again once they are taken back.
 
 use super::fixed_points::expect_reached;
-use crate::decisions::{chosen, is_open, next, some_decision};
+use crate::decisions::{chosen, next, some_decision};
 use crate::instances::Small;
 use crate::kept_decisions::{expect_line, line};
 use path_bounds::Propagator;
@@ -105,7 +105,7 @@ pub fn decide(
     decision: Decision,
 ) -> Result<bool, MemoryFault> {
     let facts = propagator.facts();
-    if propagator.closed() || !is_open(facts.instance(), facts.choice(), decision) {
+    if propagator.closed() || !facts.choice().is_open_decision(facts.instance(), decision) {
         return Ok(false);
     }
     propagator.decide(alloc, decision)?;

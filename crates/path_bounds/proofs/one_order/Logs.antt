@@ -52,7 +52,7 @@ module _ (i : Instance) (c : Choice) (goal p q : ℕ) (w : IsInstance i) (pair :
         lead.0,
         (
           ordered next p q,
-          lawful_ordered i c goal f p q pair fits step next (not_first step (UsSettled p) steps none) lawful,
+          lawful_ordered i c goal f p q pair fits step next (not_first step (UsSettled p) steps none) before lawful,
           (λ same. lead.1.2 (same_unordered i f next p q pair fits fits_next before after same)),
           lead_ordered next steps g fits_next (not_later step (UsSettled p) steps none) lead.1.3 unknown,
         ),

@@ -4,10 +4,12 @@ ghost use Rattle.std.specs.Prelude.{◌≡◌, ℕ, ◌*◌, ◌<◌, ◌≤◌,
 ghost use Rattle.ttp_model.specs.declared.limits.TheConstants.{MOST_NODES, MOST_MESSAGES};
 ghost use Rattle.ttp_model.specs.Totals.{total};
 ghost use Rattle.tt_choice.specs.Choice.{IsChoice, IsComplete, fixed_cap, least_round, greatest_round};
-ghost use Rattle.tt_choice.specs.Branches.{IsOpen, IsUnorderedPair, CutsRange};
+ghost use Rattle.tt_choice.specs.Branches.{IsOpen, IsUnplaced, IsUnorderedPair, CutsRange};
+ghost use Rattle.tt_choice.specs.Decisions.{IsFreeOption, CutsFirst, IsOpenDecision};
 ghost use Rattle.tt_choice.specs.Sizes.{size_left, range_size, binary_digits};
 
 use crate::choice::Choice;
+use crate::decision::Decision;
 use ttp_model::{Instance, Kind};
 
 /// How many binary digits a number has.
@@ -31,6 +33,42 @@ impl Choice {
             Kind::Pair(p, q) => self.is_unordered_pair(instance, p, q),
             Kind::Round(m, r) => self.cuts_range(m, r),
         }
+    }
+
+    /// Whether a decision is open: what it decides is there and isn't decided yet. Costs the same for each choice, but for a
+    /// place, which takes a pass along the prefix.
+    pub fn is_open_decision(&self, instance: &Instance, decision: Decision) -> bool
+        requires of { IsChoice instance.now self.now }
+        ensures { IsTrue result ↔ IsOpenDecision instance.now self.now decision }
+    {
+        match decision {
+            Decision::Place(n) => self.is_unplaced(instance, n),
+            Decision::Cap(n, k) => self.is_free_option(instance, n, k),
+            Decision::Before(p, q) => self.is_unordered_pair(instance, p, q),
+            Decision::AtMost(m, r) => self.cuts_range(m, r),
+            Decision::AtLeast(m, r) => self.cuts_first(m, r),
+        }
+    }
+
+    /// Whether node `n` is there and isn't placed. One pass along the prefix.
+    fn is_unplaced(&self, instance: &Instance, n: u32) -> bool
+        ensures { IsTrue result ↔ IsUnplaced instance.now self.now n }
+    {
+        if (n as usize) >= instance.nodes().len() {
+            return false;
+        }
+        !self.prefix().contains(&n)
+    }
+
+    /// Whether the capacity of node `n` is free and has an option `k`.
+    fn is_free_option(&self, instance: &Instance, n: u32, k: u32) -> bool
+        requires of { IsChoice instance.now self.now }
+        ensures { IsTrue result ↔ IsFreeOption instance.now self.now n k }
+    {
+        if !self.is_free(n) {
+            return false;
+        }
+        (k as usize) < instance.nodes()[n as usize].capacities.as_slice().len()
     }
 
     /// Whether node `n` is there and its capacity is free.
@@ -62,6 +100,15 @@ impl Choice {
             ↔ ((m < length self.now.hi) × (least_round self.now m ≤ r) × (r < greatest_round self.now m)) }
     {
         (m as usize) < self.hi.len() && self.lo[m as usize] <= r && r < self.hi[m as usize]
+    }
+
+    /// Whether message `m` is there and round `r` takes the first rounds from its range, and leaves some.
+    fn cuts_first(&self, m: u32, r: u32) -> bool
+        requires { length self.now.lo ≡ length self.now.hi }
+        ensures { IsTrue result
+            ↔ ((m < length self.now.hi) × (least_round self.now m < r) × (r ≤ greatest_round self.now m)) }
+    {
+        (m as usize) < self.hi.len() && self.lo[m as usize] < r && r <= self.hi[m as usize]
     }
 
     /// Whether nothing but the starts is left to choose. One pass over the nodes and one over the

@@ -1,11 +1,10 @@
 //! How are decisions kept, and taken back?
 
-ghost use Rattle.std.specs.Prelude.{◌≡◌, ◌<◌, ◌++◌, ◌∷◌, [], List, length, slice_set, OnOk, OnErr};
+ghost use Rattle.std.specs.Prelude.{◌≡◌, ◌<◌, length, slice_set, OnOk, OnErr};
 ghost use Rattle.ttp_model.specs.Instance.{Instance};
 ghost use Rattle.tt_choice.specs.declared.decision.Decision.{Decision};
-ghost use Rattle.tt_choice.specs.declared.reversal.Reversal.{Reversal};
 ghost use Rattle.tt_choice.specs.Choice.{Choice, IsChoice};
-ghost use Rattle.tt_choice.specs.Decisions.{IsOpenDecision, reversal_of, kept_after, taken_back};
+ghost use Rattle.tt_choice.specs.Decisions.{IsOpenDecision, reversal_of, kept_after, taken_back, IsUndone};
 
 use crate::choice::Choice;
 use crate::decision::Decision;
@@ -24,6 +23,13 @@ fn write_at<T: Copy>(items: &mut Vec<T>, place: u32, item: T)
 }
 
 impl Choice {
+    /// How many decisions are kept: as often `undo` can be called.
+    pub fn kept(&self) -> usize
+        ensures { result ≡ length self.now.kept }
+    {
+        self.kept.len()
+    }
+
     /// Makes an open decision and keeps it, so that `undo` can take it back. Unchanged after a refusal.
     pub fn decide(
         &mut self,
@@ -52,9 +58,7 @@ impl Choice {
     /// Takes the last kept decision back. Takes no memory.
     pub fn undo(&mut self)
         requires { 0 < length self.old.kept }
-        ensures value { (kept : List Reversal) (reversal : Reversal)
-            → self.old.kept ≡ kept ++ reversal ∷ []
-            → self.new ≡ record (taken_back self.old reversal) { kept = kept } }
+        ensures value { IsUndone self.old self.new }
         ensures back { (i : Instance) (c : Choice) (decision : Decision)
             → IsChoice i c → IsOpenDecision i c decision
             → self.old ≡ kept_after i c decision → self.new ≡ c }

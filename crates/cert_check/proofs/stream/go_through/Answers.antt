@@ -1,4 +1,4 @@
-use Rattle.std.proofs.Common.{◌≡◌, ◌++◌, List, Err, ap, subst, sym, ◌∙◌}
+use Rattle.std.proofs.Common.{◌≡◌, ◌++◌, List, Err, arith, length, ap, subst, sym, ◌∙◌}
 use Rattle.std.proofs.lemmas.List.{append-nil}
 use Rattle.certificate.specs.Streams.{bytes_taken}
 use Rattle.cert_check.specs.declared.batch.HeldLeaf.{HeldLeaf}
@@ -12,16 +12,28 @@ use Rattle.cert_check.proofs.stream.go_through.Goals as goal
 pub batches-init : goal.batches-init
 batches-init g c =
     let first = c.args.stream.now in
-    rw (c.new-front.ensures.items, c.in-Ok.ensures.none)
-    (begins_under_way c.args.instance.now c.args.low g.R.Read.remaining first first c.in-Ok.going.walk c.requires.due c.requires.line c.in-Ok.ensures.walk)
+    let none : length c.in-Ok.going.held.items ≡ 0 = ap length c.in-Ok.ensures.none in
+    let empty : length c.new-front.result.items ≡ 0 = ap length c.new-front.ensures.items in
+    record {
+      under_way = rw (c.new-front.ensures.items, c.in-Ok.ensures.none)
+          (begins_under_way c.args.instance.now c.args.low g.R.Read.remaining first first c.in-Ok.going.walk c.requires.due c.requires.line c.in-Ok.ensures.walk);
+      together = omega arith;
+      room = omega (arith, c.requires.batch);
+    }
 
 pub judge_beside-judged-requires-clause-waits : goal.judge_beside-judged-requires-clause-waits
 judge_beside-judged-requires-clause-waits g c κs within =
-    rw c.as_slice.ensures.value (waits_in_front (Waits c.args.instance.now) c.batches.front.items c.batches.going.held.items c.batches.invariant.waits)
+    rw c.as_slice.ensures.value (waits_in_front (Waits c.args.instance.now) c.batches.front.items c.batches.going.held.items c.batches.invariant.under_way.waits)
 
 pub judge_beside-judged-requires-clause-under_way :
     goal.judge_beside-judged-requires-clause-under_way
-judge_beside-judged-requires-clause-under_way g c κs within = (c.args.low, c.args.stream.now, c.batches.front.items, c.batches.invariant)
+judge_beside-judged-requires-clause-under_way g c κs within = (c.args.low, c.args.stream.now, c.batches.front.items, c.batches.invariant.under_way)
+
+pub judge_beside-judged-requires-clause-together : goal.judge_beside-judged-requires-clause-together
+judge_beside-judged-requires-clause-together g c κs within = rw c.as_slice.ensures.value c.batches.invariant.together
+
+pub judge_beside-judged-requires-clause-room : goal.judge_beside-judged-requires-clause-room
+judge_beside-judged-requires-clause-room g c κs within = c.batches.invariant.room
 
 pub judge_behind-judged-requires-after_bounds : goal.judge_behind-judged-requires-after_bounds
 judge_behind-judged-requires-after_bounds g c κs within =
@@ -33,7 +45,7 @@ judge_behind-judged-requires-after_bounds g c κs within =
     let going = c.judge_beside-judged.new.going in
     let front = c.batches.front.items in
     let halts = rw c.in-Some.is at c.judge_beside-judged.ensures.stopped in
-    let stopped = halts c.args.low c.args.stream.now c.batches.front.items c.batches.invariant in
+    let stopped = halts c.args.low c.args.stream.now c.batches.front.items c.batches.invariant.under_way in
     let waits = stopped_waits i low remaining first next (bytes_taken next) (front ++ going.held.items) c.in-Some.stop stopped in
     rw c.held.ensures (waits_behind (Waits i) front going.held.items waits)
 
@@ -47,16 +59,16 @@ returns-in-Some-clause-answers g c =
     let going = c.judge_beside-judged.new.going in
     let front = c.batches.front.items in
     let halts = rw c.in-Some.is at c.judge_beside-judged.ensures.stopped in
-    let stopped = halts c.args.low c.args.stream.now c.batches.front.items c.batches.invariant in
+    let stopped = halts c.args.low c.args.stream.now c.batches.front.items c.batches.invariant.under_way in
     let judges = rw c.as_slice.ensures.value at c.judge_beside-judged.ensures.judges in
     let all = subst (λ (hs : List HeldLeaf). Judges i low (front ++ hs) c.judge_behind-judged.result) c.held.ensures (c.judge_behind-judged.ensures front judges) in
     c.end.ensures.answers i low first (front ++ going.held.items) all stopped
 
 pub returns-in-Some-clause-from : goal.returns-in-Some-clause-from
-returns-in-Some-clause-from g c = λ origin is. c.end.ensures.from origin (c.judge_beside-judged.ensures.from.from origin (c.batches.invariant.from origin is))
+returns-in-Some-clause-from g c = λ origin is. c.end.ensures.from origin (c.judge_beside-judged.ensures.from.from origin (c.batches.invariant.under_way.from origin is))
 
 pub returns-in-Err-hand_over-clause-from : goal.returns-in-Err-hand_over-clause-from
-returns-in-Err-hand_over-clause-from g c = λ origin is. c.judge_beside-judged.ensures.from.from origin (c.batches.invariant.from origin is)
+returns-in-Err-hand_over-clause-from g c = λ origin is. c.judge_beside-judged.ensures.from.from origin (c.batches.invariant.under_way.from origin is)
 
 pub batches-preserved : goal.batches-preserved
 batches-preserved g c =
@@ -68,7 +80,7 @@ batches-preserved g c =
     let going = c.judge_beside-judged.new.going in
     let front = c.batches.front.items in
     let goes_on = rw c.in-None.is at c.judge_beside-judged.ensures.full in
-    let on = goes_on c.args.low c.args.stream.now c.batches.front.items c.batches.invariant in
+    let on = goes_on c.args.low c.args.stream.now c.batches.front.items c.batches.invariant.under_way in
     let judges = rw c.as_slice.ensures.value at c.judge_beside-judged.ensures.judges in
     let closed = rw c.in-Ok-judged.is at judges in
     let dropped = front_judged i low remaining first next going.walk front going.held.items on closed in
@@ -76,7 +88,13 @@ batches-preserved g c =
     let whole : c.hand_over.new.front.items ++ c.hand_over.new.self.held.items ≡ c.judge_beside-judged.new.going.held.items =
     ap (λ (hs : List HeldLeaf). c.hand_over.new.front.items ++ hs) e.empty ∙ (append-nil c.hand_over.new.front.items ∙ e.front) in
     let handed = subst (λ (w : Walk). IsUnderWay i low remaining first next w going.held.items) (sym e.walk) dropped in
-    subst (IsUnderWay i low remaining first next c.hand_over.new.self.walk) (sym whole) handed
+    let none : length c.hand_over.new.self.held.items ≡ 0 = ap length e.empty in
+    let same : length c.hand_over.new.front.items ≡ length going.held.items = ap length e.front in
+    record {
+      under_way = subst (IsUnderWay i low remaining first next c.hand_over.new.self.walk) (sym whole) handed;
+      together = omega (arith, c.judge_beside-judged.ensures.few);
+      room = omega (arith, c.requires.batch);
+    }
 
 pub told_behind-fault-requires : goal.told_behind-fault-requires
 told_behind-fault-requires g c =
@@ -88,7 +106,7 @@ told_behind-fault-requires g c =
     let going = c.judge_beside-judged.new.going in
     let front = c.batches.front.items in
     let goes_on = rw c.in-None.is at c.judge_beside-judged.ensures.full in
-    let on = goes_on c.args.low c.args.stream.now c.batches.front.items c.batches.invariant in
+    let on = goes_on c.args.low c.args.stream.now c.batches.front.items c.batches.invariant.under_way in
     (c.args.instance.now, rw c.held-in-Err-judged.ensures (waits_behind (Waits i) front going.held.items on.waits))
 
 pub returns-in-Err-judged-clause-answers : goal.returns-in-Err-judged-clause-answers
@@ -101,7 +119,7 @@ returns-in-Err-judged-clause-answers g c =
     let going = c.judge_beside-judged.new.going in
     let front = c.batches.front.items in
     let goes_on = rw c.in-None.is at c.judge_beside-judged.ensures.full in
-    let on = goes_on c.args.low c.args.stream.now c.batches.front.items c.batches.invariant in
+    let on = goes_on c.args.low c.args.stream.now c.batches.front.items c.batches.invariant.under_way in
     let judges = rw c.as_slice.ensures.value at c.judge_beside-judged.ensures.judges in
     let fails = rw c.in-Err-judged.is at judges in
     let told = c.told_behind-fault.result in
@@ -109,4 +127,4 @@ returns-in-Err-judged-clause-answers g c =
     c.fail.ensures.answers i low first (under_way_fails i low remaining first next going.walk (front ++ going.held.items) told on all)
 
 pub returns-in-Err-judged-clause-from : goal.returns-in-Err-judged-clause-from
-returns-in-Err-judged-clause-from g c = λ origin is. c.fail.ensures.from origin (c.judge_beside-judged.ensures.from.from origin (c.batches.invariant.from origin is))
+returns-in-Err-judged-clause-from g c = λ origin is. c.fail.ensures.from origin (c.judge_beside-judged.ensures.from.from origin (c.batches.invariant.under_way.from origin is))

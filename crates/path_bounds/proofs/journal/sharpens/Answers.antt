@@ -1,6 +1,6 @@
 use Rattle.std.proofs.Common.{◌≡◌, ap, sym, ◌∙◌}
 use Rattle.tt_infer.specs.Facts.{after}
-use Rattle.step_facts.specs.Targets.{target, known_value}
+use Rattle.tt_infer.specs.Targets.{target, known_value}
 use Rattle.path_bounds.proofs.Logs.{sharpens_changed, stays_same, differ_from, same_from, idle_taken, idle_refused}
 use Rattle.path_bounds.proofs.journal.sharpens.Goals as goal
 

@@ -2,7 +2,7 @@ use Rattle.std.proofs.Common.{rules, arith, ◌≡◌, ℕ, ◌<◌, ◌+◌, �
 use Rattle.std.proofs.lemmas.List.Sorted.{IsPermutation-refl, IsPermutation-trans, IsPermutation-sym}
 use Rattle.steal_pool.specs.Hand.{all_taken}
 use Rattle.steal_pool.proofs.Pools.{Each}
-use Rattle.steal_pool.proofs.Drains.{Left, whole_pool, some_way, gives_back, leads, closes, turns_back, all_closed, given_back, taken_back, by_ways, counts}
+use Rattle.steal_pool.proofs.Drains.{Left, whole_pool, some_way, gives_back, leads, closes, turns_back, all_closed, given_back, taken_back, by_ways, counts, all_sourced}
 use Rattle.steal_pool.proofs.Orders.{first_same, at_length}
 use Rattle.steal_pool.proofs.draining.drain.Goals as goal
 
@@ -69,7 +69,7 @@ loop-place-init g c =
     let end : c.loop-from.from ≡ c.len-count.result = omega arith in
     let many : vec_len c.loop-from.hands ≡ length c.loop-from.hands.items = search rules in
     let closed = all_closed inv.0 c.len-count.result _ (sym inv.1) (sym inv.2 ∙ many) (subst (λ (f : ℕ). Each (Left inv.0 f c.len-count.result c.len-count.result) c.loop-from.hands.items) end inv.3) in
-    (inv.2, record { closed = closed; within = λ k h e less. absurd (omega arith) }, inv.4, inv.5)
+    (inv.2, record { closed = closed; within = λ k h e less. absurd (omega arith); sources = λ k h e less. absurd (omega arith) }, inv.4, inv.5)
 
 pub loop-place-preserved : goal.loop-place-preserved
 loop-place-preserved g c =
@@ -83,3 +83,10 @@ invariant_of-result g c =
     let many : vec_len c.loop-place.hands ≡ length c.loop-place.hands.items = search rules in
     let count : vec_len c.loop-place.hands ≡ c.len-count.result = inv.0 in
     record { closed = inv.1.closed; within = λ k h e. let small = at_length c.loop-place.hands.items k h e in inv.1.within k h e (omega arith) }
+
+pub returns-clause-sourced : goal.returns-clause-sourced
+returns-clause-sourced g c =
+    let inv = c.loop-place.invariant in
+    let many : vec_len c.loop-place.hands ≡ length c.loop-place.hands.items = search rules in
+    let count : vec_len c.loop-place.hands ≡ c.len-count.result = inv.0 in
+    all_sourced c.loop-place.hands.items inv.1.closed (λ k h e. let small = at_length c.loop-place.hands.items k h e in inv.1.sources k h e (omega arith))

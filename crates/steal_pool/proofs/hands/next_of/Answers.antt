@@ -1,5 +1,5 @@
 use Rattle.std.proofs.Common.{rules, arith, ◌≡◌, ◌≤◌, length, vec_len}
-use Rattle.steal_pool.proofs.Drains.{next_closed, next_within, next_pushed, next_taken, next_empty, all_balanced}
+use Rattle.steal_pool.proofs.Drains.{next_closed, next_within, next_pushed, next_source, next_taken, next_empty, all_balanced}
 use Rattle.steal_pool.proofs.hands.next_of.Goals as goal
 
 pub returns-in-Some-clause-closed : goal.returns-in-Some-clause-closed
@@ -23,3 +23,6 @@ returns-clause-none g c =
 
 pub returns-in-Some-clause-within : goal.returns-in-Some-clause-within
 returns-in-Some-clause-within g c = next_within _ _ _ _ _ c.loop-place.invariant.1 c.in-Some.ensures.some
+
+pub returns-in-Some-clause-source : goal.returns-in-Some-clause-source
+returns-in-Some-clause-source g c = next_source _ _ _ _ _ c.loop-place.invariant.1 c.in-Some.ensures.some

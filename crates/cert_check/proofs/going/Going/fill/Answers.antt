@@ -1,4 +1,4 @@
-use Rattle.std.proofs.Common.{◌++◌, arith}
+use Rattle.std.proofs.Common.{◌++◌, arith, rules}
 use Rattle.certificate.specs.Streams.{bytes_taken}
 use Rattle.cert_check.proofs.Streams.{under_way_fault, finishes}
 use Rattle.cert_check.proofs.Pieces.{is_piece, next_there, taken_on, not_taken}
@@ -32,7 +32,7 @@ take-requires-clause-walk g c =
     let e = c.in-Ok.ensures in
     let said = c.in-Some.said in
     let piece = is_piece remaining c.nodes.stream c.next_piece.new.self c.next_piece.new.steps.items c.in-Ok.next said c.in-Some.is e.next e.line e.low e.due e.passed e.from in
-    let s = c.requires in
+    let s = c.requires.under_way in
     let u = c.nodes.invariant.on s.0 s.1 s.2 s.3 in
     next_there c.args.instance.now s.0 remaining s.1 c.nodes.stream c.next_piece.new.self c.nodes.self.walk (s.2 ++ c.nodes.self.held.items) u said.0 said.1 c.next_piece.new.steps.items piece
 
@@ -71,5 +71,6 @@ nodes-preserved g c =
     record {
       on = λ low first front under_way. taken_on c.args.instance.now low remaining first c.nodes.stream next front c.nodes.self (c.nodes.invariant.on low first front under_way) c.take.new.self said.0 said.1 c.next_piece.new.steps piece c.in-Ok-take.ensures.takes;
       line = omega (arith, piece.passed, c.nodes.invariant.line);
+      room = search rules;
       from = λ origin is. e.from origin (c.nodes.invariant.from origin is);
     }

@@ -6,8 +6,8 @@ use Rattle.ttp_model.specs.Instance.{Instance, link_at}
 use Rattle.tt_infer.specs.Known.{Known, es_of, le_of, lo_of, top_of, bef_of}
 use Rattle.tt_infer.specs.Conclusions.{Conclusion, StartsFrom, EndsUntil, SentFrom, SentBefore, GoesFirst, NothingLeft}
 use Rattle.tt_infer.specs.Premises.{sender_of}
-use Rattle.step_facts.specs.declared.fact.Fact.{Fact}
-use Rattle.step_facts.specs.declared.fact.Fact.TheVariants.{Start, End, FirstRound, LateRound, Order, Closed}
+use Rattle.tt_infer.specs.declared.fact.Fact.{Fact}
+use Rattle.tt_infer.specs.declared.fact.Fact.TheVariants.{Start, End, FirstRound, LateRound, Order, Closed}
 
 -- the fact that a conclusion sharpens
 abbrev pub fact_of : Conclusion → Fact

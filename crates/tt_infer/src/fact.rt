@@ -1,10 +1,12 @@
 //! Which fact is a step about, and how far is it known?
 
 ghost use Rattle.std.specs.Prelude.{◌≡◌};
+ghost use Rattle.ttp_model.specs.Instance.{link_at};
 ghost use Rattle.tt_infer.specs.Known.{es_of, le_of, lo_of, top_of};
-ghost use Rattle.step_facts.specs.Targets.{target, known_value};
+ghost use Rattle.tt_infer.specs.Premises.{sender_of};
+ghost use Rattle.tt_infer.specs.Targets.{target, known_value};
 
-use tt_infer::Facts;
+use crate::facts::Facts;
 use ttp_model::{Instance, Step};
 
 /// Something that is known of the plans that are sought.
@@ -26,7 +28,7 @@ pub enum Fact {
 
 /// The second process of a link: 0 where the link isn't there.
 pub fn link_after(instance: &Instance, l: u32) -> u32
-    ensures { Fact.Start result ≡ target instance.now (Step.EsLink l) }
+    ensures { result ≡ (link_at instance.now l).after }
 {
     if (l as usize) < instance.links().len() {
         instance.link_at(l as usize).after
@@ -37,7 +39,7 @@ pub fn link_after(instance: &Instance, l: u32) -> u32
 
 /// The first process of a link: 0 where the link isn't there.
 pub fn link_before(instance: &Instance, l: u32) -> u32
-    ensures { Fact.End result ≡ target instance.now (Step.LeLink l) }
+    ensures { result ≡ (link_at instance.now l).before }
 {
     if (l as usize) < instance.links().len() {
         instance.link_at(l as usize).before
@@ -48,7 +50,7 @@ pub fn link_before(instance: &Instance, l: u32) -> u32
 
 /// The process that sends a message: 0 where the message isn't there.
 pub fn sender(instance: &Instance, m: u32) -> u32
-    ensures { Fact.End result ≡ target instance.now (Step.LeSend m) }
+    ensures { result ≡ sender_of instance.now m }
 {
     if (m as usize) < instance.messages().len() {
         instance.message_at(m as usize).sender

@@ -1,0 +1,5 @@
+pub mod Rings
+pub mod Waits
+pub mod Loads
+pub mod Late
+pub mod Steps
