@@ -6,10 +6,13 @@
     tools/second_check.py judge INSTANCE PLAN CERT writes `least D`, `none` or `between LOW BEST`
     tools/second_check.py schedule INSTANCE PLAN [--table processes|slots|messages]
                                                    writes the table
+    tools/second_check.py draw INSTANCE PLAN [--width PX] [--used]
+                                                   writes the picture
 
-Anything else is told in one line on standard error, with the words and the statuses of `ttplan verify`, `check`, `judge` and
-`schedule`.
-It was written from docs/FORMATS.md and docs/CERTIFICATES.md alone and is proved in no way: where it and ttplan differ, a
+Anything else is told in one line on standard error, with the words and the statuses of `ttplan verify`, `check`, `judge`,
+`schedule` and `draw`.
+It was written from docs/FORMATS.md and docs/CERTIFICATES.md alone, but for the elements and colours of a picture, which stand in
+crates/plan_picture/specs, and is proved in no way: where it and ttplan differ, a
 document is wrong, or one of the two programs is.
 
 Two things may differ: which circle of processes is told (M13), where there are several, and what Python's reader of TOML
@@ -516,6 +519,140 @@ def schedule(instance, plan_text, table):
     return "\n".join(",".join(str(cell) for cell in row) for row in rows)
 
 
+# A plan as a picture
+
+
+COLOURS = """#044763 #d7706c #007656 #c1acfe #704e01 #04b3cb #bd5983 #a9dc8e #044e80 #da825f #017f74 #edadf6 #656009 #16bcec #cd6372 #91ecb0""".split()
+WHITE_ON = (0, 2, 4, 6, 8, 10, 12)
+STYLE = ("text{font:12px sans-serif;fill:#222}text.mark{text-anchor:middle}"
+         "line{stroke:#555}line.mark{stroke:#ddd}line.delay{stroke:#c00;stroke-dasharray:4 3}.track{fill:#f4f4f4}"
+         + "".join(f".n{n}{{fill:{colour}}}" for n, colour in enumerate(COLOURS))
+         + ",".join(f"text.t{n}" for n in WHITE_ON) + "{fill:#fff}")
+MARK_STEPS = [first * 10**zeros for zeros in range(8) for first in (1, 2, 5)]
+WIDTHS, SLOTS_MOST = range(200, 10_001), 100_000
+
+
+class Canvas:
+    """Where things stand: rows and the scale in pixels, slots and processes in ticks."""
+
+    def __init__(self, instance, plan, width):
+        self.round, self.begins, self.durations = slot_times(instance, plan)
+        self.rounds = -(-plan.delay // self.round)
+        self.width, self.across = width, width - 152
+        self.height = 52 + 34 * (1 + len(instance.nodes)) + 8
+        self.cycle = self.rounds * self.round
+        self.figures = f"delay {plan.delay}, round {self.round}, cycle {self.cycle} ticks"
+
+    def place(self, tick):
+        tenths = tick * 10 * self.across // self.cycle + 1200
+        return f"{tenths // 10}.{tenths % 10}"
+
+    def line(self, before, start, top, end, bottom):
+        return f'<line{before} x1="{self.place(start)}" y1="{top}" x2="{self.place(end)}" y2="{bottom}"'
+
+    def rectangle(self, row, n, start, length):
+        return f'<rect class="n{n}" x="{start}" y="{top_of(row)}" width="{length}" height="24"/>'
+
+    def name(self, row, n, start, length, name, behind=""):
+        return (f'<svg x="{start}" y="{top_of(row)}" width="{length}" height="24">'
+                f'<svg width="{self.cycle}" height="24" viewBox="0 0 {self.across} 24" preserveAspectRatio="none">'
+                f'<text class="t{n}" x="4" y="16">{name}</text>{behind}</svg></svg>')
+
+
+def top_of(row):
+    return 57 + 34 * row
+
+
+def picture_rows(instance, canvas):
+    for row in range(1 + len(instance.nodes)):
+        top = top_of(row)
+        yield f'<rect class="track" x="120" y="{top}" width="{canvas.across}" height="24"/>'
+        if row == 0:
+            yield f'<svg y="{top}" width="116" height="24"><text x="8" y="16">channel 0</text></svg>'
+            continue
+        name = instance.nodes[row - 1].name
+        yield (f'<rect class="n{row - 1}" x="8" y="{top}" width="8" height="24"/><svg y="{top}" width="116" height="24">'
+               f'<title>{name}</title><text x="22" y="16">{name}</text></svg>')
+
+
+def scale(canvas, delay):
+    step = next(step for step in MARK_STEPS if 80 * canvas.cycle <= step * canvas.across)
+    for tick in range(0, canvas.cycle + 1, step):
+        yield (canvas.line(' class="mark"', tick, 46, tick, canvas.height - 8)
+               + f'/><text class="mark" x="{canvas.place(tick)}" y="42">{tick}</text>')
+    yield canvas.line(' class="delay"', delay, 46, delay, canvas.height - 8) + f"><title>delay {delay}</title></line>"
+
+
+def message_lines(instance, plan, canvas):
+    for m, message in enumerate(instance.messages):
+        n, sender = instance.sender_node(m), instance.processes[message.sender]
+        end = plan.starts[message.sender] + sender.wcet
+        slot = plan.rounds[m] * canvas.round + canvas.begins[n]
+        yield (canvas.line("", end, top_of(1 + n), slot, 81)
+               + f"><title>{message.name}: {sender.name} ends at {end}, slot at {slot}</title></line>")
+        slot += canvas.durations[n]
+        for q in message.to:
+            start, receiver = plan.starts[q], instance.processes[q]
+            yield (canvas.line("", slot, 81, start, top_of(1 + receiver.node))
+                   + f"><title>{message.name}: slot ends at {slot}, {receiver.name} starts at {start}</title></line>")
+
+
+def slot_boxes(instance, plan, canvas, are_used):
+    for n, r, frame in ((n, r, [message for m, message in enumerate(instance.messages)
+                                if (plan.rounds[m], instance.sender_node(m)) == (r, n)])
+                        for r in range(canvas.rounds) for n in plan.order):
+        if bool(frame) != are_used:
+            continue
+        start, length = r * canvas.round + canvas.begins[n], canvas.durations[n]
+        words = (f"{instance.nodes[n].name} in round {r}: {start} to {start + length},"
+                 f" {sum(message.bytes for message in frame)} of {plan.caps[n]} bytes")
+        box, names = canvas.rectangle(0, n, start, length), "".join(f" {message.name}" for message in frame)
+        if are_used:
+            yield f"<g><title>{words}:{names}</title>{box}{canvas.name(0, n, start, length, names)}</g>"
+        else:
+            yield f"<g><title>{words}</title>{box}</g>"
+
+
+def process_boxes(instance, plan, canvas):
+    for p, process in enumerate(instance.processes):
+        n, at = process.node, (1 + process.node, process.node, plan.starts[p], process.wcet)
+        yield (f"<g><title>{process.name} on {instance.nodes[n].name}: from {plan.starts[p]} for {process.wcet},"
+               f" released at {process.release}, due by {min(process.deadline, instance.horizon)}</title>"
+               + canvas.rectangle(*at) + canvas.name(*at, process.name, '<rect width="1" height="24"/>') + "</g>")
+
+
+def picture(instance, plan, canvas, used):
+    """The lines of a picture."""
+    yield (f'<svg xmlns="http://www.w3.org/2000/svg" width="{canvas.width}" height="{canvas.height}"'
+           f' viewBox="0 0 {canvas.width} {canvas.height}">')
+    yield f"<title>{canvas.figures}</title>"
+    yield f"<style>{STYLE}</style>"
+    yield f'<rect width="{canvas.width}" height="{canvas.height}" fill="#fff"/>'
+    yield f'<text x="8" y="18">{canvas.figures}</text>'
+    yield from picture_rows(instance, canvas)
+    yield from scale(canvas, plan.delay)
+    yield from message_lines(instance, plan, canvas)
+    yield (f'<svg x="120" width="{canvas.across}" height="{canvas.height}" viewBox="0 0 {canvas.cycle} {canvas.height}"'
+           ' preserveAspectRatio="none">')
+    if not used:
+        yield from slot_boxes(instance, plan, canvas, False)
+        yield f'<rect y="60" width="{canvas.cycle}" height="18" fill="#fff" pointer-events="none"/>'
+    yield from slot_boxes(instance, plan, canvas, True)
+    yield from process_boxes(instance, plan, canvas)
+    yield "</svg>"
+    yield "</svg>"
+
+
+def draw(instance, plan_text, width, used):
+    """The text of a picture of a valid plan; raises Refused."""
+    plan = verified(instance, plan_text)
+    canvas = Canvas(instance, plan, width)
+    slots = canvas.rounds * len(instance.nodes)
+    if slots > SLOTS_MOST and not used:
+        raise Refused(5, "draw slots", slots)
+    return "\n".join(picture(instance, plan, canvas, used))
+
+
 # What may stand in a plan's place
 
 
@@ -932,7 +1069,7 @@ def check(instance, certificate_text):
 
 
 USAGE = ("usage: second_check.py verify INSTANCE PLAN | check INSTANCE CERT | judge INSTANCE PLAN CERT"
-         " | schedule INSTANCE PLAN [--table TABLE]")
+         " | schedule INSTANCE PLAN [--table TABLE] | draw INSTANCE PLAN [--width PX] [--used]")
 COMMANDS = {"verify": (verify, "plan", PLAN_BYTES), "check": (check, "certificate", CERTIFICATE_BYTES)}
 
 
@@ -968,15 +1105,28 @@ def judge(paths):
 
 
 def command_of(words):
-    """What is judged by the words, without the table that they name."""
+    """What is judged by the words, without the table or the look of a picture that they name."""
     table = "processes"
     if len(words) == 5 and words[0] == "schedule" and words[3] == "--table" and words[4] in TABLES:
         words, table = words[:3], words[4]
     if len(words) == 3 and words[0] == "schedule":
         return (lambda instance, text: schedule(instance, text, table)), "plan", PLAN_BYTES
+    if len(words) >= 3 and words[0] == "draw":
+        return drawing_of(words[3:])
     if len(words) != 3 or words[0] not in COMMANDS:
         raise Refused(2, USAGE)
     return COMMANDS[words[0]]
+
+
+def drawing_of(words):
+    """How a picture is drawn, by the words behind the two files."""
+    used, width = words[-1:] == ["--used"], 1200
+    words = words[:len(words) - used]
+    if len(words) == 2 and words[0] == "--width" and words[1].isdecimal():
+        words, width = [], int(words[1])
+    if words or width not in WIDTHS:
+        raise Refused(2, USAGE)
+    return (lambda instance, text: draw(instance, text, width, used)), "plan", PLAN_BYTES
 
 
 def run(words):

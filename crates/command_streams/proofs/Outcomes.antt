@@ -3,7 +3,7 @@ use Rattle.std.proofs.Common.{ℕ, List, Option, None, Some, refl}
 use Rattle.std.specs.Io.KnownBytes.{Keeps}
 use Rattle.command_streams.specs.declared.ending.Sink.TheVariants as sink
 use Rattle.command_streams.specs.declared.ending.Fault.{Fault}
-use Rattle.command_streams.specs.declared.ending.Fault.TheVariants.{NoMark, LossForm, InstanceText, Memory, PlanText, Plan, StatedDelay, CertificateText, Certificate, TooFewNodes, WrongLoss, Search, Unread, Unwritten}
+use Rattle.command_streams.specs.declared.ending.Fault.TheVariants.{NoMark, LossForm, InstanceText, Memory, PlanText, Plan, StatedDelay, CertificateText, Certificate, TooFewNodes, WrongLoss, TooManySlots, Search, Unread, Unwritten}
 use Rattle.command_streams.specs.declared.ending.End.{End}
 use Rattle.command_streams.specs.declared.ending.End.TheVariants.{Done, Absent, Stopped, Refused}
 use Rattle.command_streams.specs.Instances.{IsOfInstance}
@@ -28,6 +28,7 @@ module _ (IsText : List ℕ → Type 0) (IsRefusedBy : Fault → Type 0) (text :
   written_outcome (Refused (Plan fault)) gains = absurd gains
   written_outcome (Refused (StatedDelay d)) gains = absurd gains
   written_outcome (Refused TooFewNodes) gains = absurd gains
+  written_outcome (Refused (TooManySlots count)) gains = absurd gains
   written_outcome (Refused (CertificateText error)) gains = absurd gains
   written_outcome (Refused (Certificate fault)) gains = absurd gains
   written_outcome (Refused (WrongLoss k)) gains = absurd gains
@@ -49,6 +50,7 @@ module _ (IsText : List ℕ → Type 0) (IsRefusedBy : Fault → Type 0) (text :
     made_outcome (Refused (Plan fault)) gains = absurd gains
     made_outcome (Refused (StatedDelay d)) gains = absurd gains
     made_outcome (Refused TooFewNodes) gains = absurd gains
+    made_outcome (Refused (TooManySlots count)) gains = absurd gains
     made_outcome (Refused (CertificateText error)) gains = absurd gains
     made_outcome (Refused (Certificate fault)) gains = absurd gains
     made_outcome (Refused (WrongLoss k)) gains = absurd gains
@@ -93,6 +95,7 @@ module _ (text : List ℕ) (old new : Option (List ℕ)) (Holds : Type 0) where
   written_later (Refused (Plan fault)) gains = absurd gains
   written_later (Refused (StatedDelay d)) gains = absurd gains
   written_later (Refused TooFewNodes) gains = absurd gains
+  written_later (Refused (TooManySlots count)) gains = absurd gains
   written_later (Refused (CertificateText error)) gains = absurd gains
   written_later (Refused (Certificate fault)) gains = absurd gains
   written_later (Refused (WrongLoss k)) gains = absurd gains
@@ -113,6 +116,7 @@ module _ (text : List ℕ) (old new : Option (List ℕ)) (Holds : Type 0) where
   ended_later (Refused (Plan fault)) gains = absurd gains
   ended_later (Refused (StatedDelay d)) gains = absurd gains
   ended_later (Refused TooFewNodes) gains = absurd gains
+  ended_later (Refused (TooManySlots count)) gains = absurd gains
   ended_later (Refused (CertificateText error)) gains = absurd gains
   ended_later (Refused (Certificate fault)) gains = absurd gains
   ended_later (Refused (WrongLoss k)) gains = absurd gains

@@ -35,7 +35,7 @@ use Rattle.command_streams.specs.declared.ending.Sink.TheVariants as sink
 use Rattle.command_streams.specs.declared.ending.SearchFault.{SearchFault}
 use Rattle.command_streams.specs.declared.ending.SearchFault.TheVariants as search
 use Rattle.command_streams.specs.declared.ending.Fault.{Fault}
-use Rattle.command_streams.specs.declared.ending.Fault.TheVariants.{NoMark, LossForm, InstanceText, Memory, PlanText, Plan, StatedDelay, CertificateText, Certificate, TooFewNodes, WrongLoss, Search, Unread, Unwritten}
+use Rattle.command_streams.specs.declared.ending.Fault.TheVariants.{NoMark, LossForm, InstanceText, Memory, PlanText, Plan, StatedDelay, CertificateText, Certificate, TooFewNodes, WrongLoss, TooManySlots, Search, Unread, Unwritten}
 use Rattle.command_streams.specs.declared.ending.End.{End}
 use Rattle.command_streams.specs.declared.ending.End.TheVariants.{Done, Absent, Stopped, Refused}
 
@@ -186,6 +186,7 @@ fault_line (StatedDelay delay) = codes "plan D1 " ++ decimal delay
 fault_line (CertificateText error) = certificate_text_line error
 fault_line (Certificate fault) = certificate_line fault
 fault_line TooFewNodes = codes "replay N1"
+fault_line (TooManySlots count) = codes "draw slots " ++ decimal count
 fault_line (WrongLoss k) = codes "replay N2 " ++ decimal k
 fault_line (Search fault) = search_line fault
 fault_line (Unread source) = codes "read " ++ source_word source

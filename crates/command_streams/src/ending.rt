@@ -61,6 +61,8 @@ pub enum Fault {
     /// When the loss word of this index stands for a loss that is outside the cycle, or at a node that isn't
     /// there or is the sender, and no word before it does.
     WrongLoss(usize),
+    /// When a picture would show this many slots, more than it may.
+    TooManySlots(u64),
     /// When the search has no answer.
     Search(SearchFault),
     /// When a reader failed, or had more bytes than its limit, or a file could not be opened.
@@ -127,6 +129,7 @@ fn status_of_fault(fault: &Fault) -> u8
         Fault::Certificate(_) => 5,
         Fault::TooFewNodes => 5,
         Fault::WrongLoss(_) => 5,
+        Fault::TooManySlots(_) => 5,
         Fault::Search(SearchFault::Memory) => 4,
         Fault::Search(_) => 7,
         Fault::Unread(_) => 6,

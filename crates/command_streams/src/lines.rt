@@ -324,6 +324,7 @@ impl fmt::Display for Fault {
             Fault::Certificate(fault) => write!(f, "{}", CertificateLine(*fault)),
             Fault::TooFewNodes => write!(f, "replay N1"),
             Fault::WrongLoss(k) => write!(f, "replay N2 {k}"),
+            Fault::TooManySlots(count) => write!(f, "draw slots {count}"),
             Fault::Search(fault) => write!(f, "{}", SearchLine(*fault)),
             Fault::Unread(source) => write!(f, "read {}", SourceWord(*source)),
             Fault::Unwritten(sink) => write!(f, "write {}", SinkWord(*sink)),

@@ -3,8 +3,8 @@
 ghost use Rattle.std.specs.Prelude.{◌≡◌};
 ghost use Rattle.command_words.specs.declared.misuse.Misuse.TheVariants.{Memory};
 
-use crate::numbers::NumberOption;
-use crate::words::solve_command;
+use crate::numbers::{NumberOption, NumberedCommand};
+use crate::words::{draw_command, solve_command};
 use clap::Error;
 use clap::error::ErrorKind;
 use std::alloc::{AllocError, Global};
@@ -41,12 +41,13 @@ impl Misuse<'_> {
             Misuse::Number(option, word) => {
                 let NumberOption {
                     name,
+                    value,
                     least,
                     most,
                     ..
                 } = option;
                 format!(in alloc;
-                    "invalid value '{word}' for '--{name} <N>': a whole number from {least} to {most} is expected"
+                    "invalid value '{word}' for '--{name} <{value}>': a whole number from {least} to {most} is expected"
                 )
             }
             Misuse::Overwriting(word) => format!(in alloc;
@@ -59,7 +60,16 @@ impl Misuse<'_> {
     /// It as an error of `clap`.
     pub fn error(&self, alloc: Global) -> Result<Error, AllocError> {
         let text = self.text(alloc)?;
-        let mut command = solve_command(alloc)?.bin_name("ttplan solve")?;
+        let mut command = match self {
+            Misuse::Number(
+                NumberOption {
+                    command: NumberedCommand::Draw,
+                    ..
+                },
+                _,
+            ) => draw_command(alloc)?.bin_name("ttplan draw")?,
+            _ => solve_command(alloc)?.bin_name("ttplan solve")?,
+        };
         command.error(ErrorKind::ValueValidation, text.as_str())
     }
 }

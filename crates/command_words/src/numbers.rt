@@ -2,10 +2,22 @@
 
 ghost use Rattle.std.specs.Prelude.{◌≡◌, ◌≤◌, IfSome};
 
+use plan_picture::{LEAST_WIDTH, MOST_WIDTH};
+
+/// A subcommand that has options with numbers.
+#[derive(Clone, Copy, Debug)]
+pub enum NumberedCommand {
+    Solve,
+    Draw,
+}
+
 /// An option that takes a whole number within bounds.
 #[derive(Clone, Copy, Debug)]
 pub struct NumberOption {
+    pub command: NumberedCommand,
     pub name: &'static str,
+    /// What its value is called.
+    pub value: &'static str,
     pub least: u64,
     pub most: u64,
     /// Its value where it isn't used.
@@ -14,7 +26,9 @@ pub struct NumberOption {
 
 /// How many workers search.
 pub const WORKERS: NumberOption = NumberOption {
+    command: NumberedCommand::Solve,
     name: "workers",
+    value: "N",
     least: 1,
     most: 16,
     default: "4",
@@ -22,10 +36,22 @@ pub const WORKERS: NumberOption = NumberOption {
 
 /// How many subtrees are searched at most.
 pub const BUDGET: NumberOption = NumberOption {
+    command: NumberedCommand::Solve,
     name: "budget",
+    value: "N",
     least: 0,
     most: u64::MAX,
     default: "1000000",
+};
+
+/// How wide a picture is, in pixels.
+pub const WIDTH: NumberOption = NumberOption {
+    command: NumberedCommand::Draw,
+    name: "width",
+    value: "PX",
+    least: LEAST_WIDTH as u64,
+    most: MOST_WIDTH as u64,
+    default: "1200",
 };
 
 impl NumberOption {

@@ -1,13 +1,14 @@
 //! What the words of the command line ask for.
 
 ghost use Rattle.std.specs.Prelude.{◌≤◌, IfOk, IfSome};
-ghost use Rattle.command_words.specs.Requests.{IsSound};
+ghost use Rattle.command_words.specs.Requests.{IsSound, IsSoundTask};
 
 use crate::misuse::Misuse;
 use crate::names::name_one_file;
-use crate::numbers::{BUDGET, NumberOption, WORKERS};
+use crate::numbers::{BUDGET, NumberOption, WIDTH, WORKERS};
 use clap::error::ErrorKind;
 use clap::{Arg, ArgAction, ArgMatches, Command, Error};
+use plan_picture::Shown;
 use plan_sheets::Table;
 use std::alloc::{AllocError, Global};
 use std::io;
@@ -24,6 +25,8 @@ pub enum Task<'a> {
     Replay(Vec<&'a str>),
     /// Write one of its tables.
     Schedule(Table),
+    /// Write a picture of its cycle, so many pixels wide, 200 to 10,000.
+    Draw { width: u32, shown: Shown },
 }
 
 /// A command, with the files that it names.
@@ -149,11 +152,26 @@ fn schedule_command<'a>(alloc: Global) -> Result<Command<'a>, AllocError> {
     .arg(table)
 }
 
+/// The subcommand that draws.
+pub(crate) fn draw_command<'a>(alloc: Global) -> Result<Command<'a>, AllocError> {
+    let width = number(alloc, WIDTH, "How many pixels it is wide, 200 to 10000");
+    let used = Arg::new(alloc, "used").long("used").action(ArgAction::SetTrue).help(
+        "Leaves out the slots that carry nothing; a picture that shows each slot of the cycle has 100,000 at most",
+    );
+    command_on_files(
+        alloc,
+        "draw",
+        "Prints a picture of a valid plan's cycle, as SVG",
+    )?
+    .arg(width)?
+    .arg(used)
+}
+
 /// An option `--name` that takes a number, and has a value where it isn't used.
 fn number<'a>(alloc: Global, option: NumberOption, help: &'a str) -> Arg<'a> {
     Arg::new(alloc, option.name)
         .long(option.name)
-        .value_name("N")
+        .value_name(option.value)
         .allow_negative_numbers(true)
         .default_value(option.default)
         .help(help)
@@ -230,7 +248,8 @@ fn command<'a>(alloc: Global) -> Result<Command<'a>, AllocError> {
         .subcommand(judge_command(alloc)?)?
         .subcommand(tables_command(alloc)?)?
         .subcommand(replay_command(alloc)?)?
-        .subcommand(schedule_command(alloc)?)
+        .subcommand(schedule_command(alloc)?)?
+        .subcommand(draw_command(alloc)?)
 }
 
 /// The number of an option.
@@ -293,6 +312,7 @@ fn judge_request<'a>(matches: &ArgMatches<'a>) -> Option<Request<'a>>
 
 /// A task on an instance and a plan.
 fn request_on_files<'a>(matches: &ArgMatches<'a>, task: Task<'a>) -> Option<Request<'a>>
+    requires { IsSoundTask task }
     ensures { IfSome result IsSound }
 {
     Some(Request::OnFiles {
@@ -303,19 +323,36 @@ fn request_on_files<'a>(matches: &ArgMatches<'a>, task: Task<'a>) -> Option<Requ
 }
 
 /// A replay with the frames that are lost, or with none.
-fn replay_task<'a>(alloc: Global, matches: &ArgMatches<'a>) -> Result<Task<'a>, AllocError> {
+fn replay_task<'a>(alloc: Global, matches: &ArgMatches<'a>) -> Result<Task<'a>, AllocError>
+    ensures { IfOk result IsSoundTask }
+{
     let losses = Vec::from_slice(alloc, matches.get_strs("LOSS").unwrap_or(&[]))?;
     Ok(Task::Replay(losses))
 }
 
 /// The task of writing the table that is named.
-fn schedule_task<'a>(matches: &ArgMatches<'a>) -> Result<Task<'a>, Misuse<'a>> {
+fn schedule_task<'a>(matches: &ArgMatches<'a>) -> Result<Task<'a>, Misuse<'a>>
+    ensures { IfOk result IsSoundTask }
+{
     match matches.get_str("table") {
         Some("processes") => Ok(Task::Schedule(Table::Processes)),
         Some("slots") => Ok(Task::Schedule(Table::Slots)),
         Some("messages") => Ok(Task::Schedule(Table::Messages)),
         _ => Err(Misuse::Missing),
     }
+}
+
+/// The task of drawing, with the width that is asked for.
+fn draw_task<'a>(matches: &ArgMatches<'a>) -> Result<Task<'a>, Misuse<'a>>
+    ensures { IfOk result IsSoundTask }
+{
+    let width = number_of(WIDTH, matches)? as u32;
+    let shown = if matches.get_flag("used") {
+        Shown::Used
+    } else {
+        Shown::All
+    };
+    Ok(Task::Draw { width, shown })
 }
 
 /// What the words of the subcommand of this name ask for.
@@ -334,6 +371,7 @@ fn request_of<'a>(
         "tables" => request_on_files(matches, Task::Tables),
         "replay" => request_on_files(matches, replay_task(alloc, matches)?),
         "schedule" => request_on_files(matches, schedule_task(matches)?),
+        "draw" => request_on_files(matches, draw_task(matches)?),
         _ => None,
     };
     match request {

@@ -2,11 +2,15 @@
 //! before the next is read. Serves tests alone.
 #![tactic(auto)]
 
+ghost use Rattle.std.specs.Prelude.{◌≤◌};
+ghost use Rattle.plan_picture.specs.Limits.{least_width, most_width};
+
 use command_streams::{End, report, status, take_input, write_text};
 use line_text::{NumberWord, cut, number_word, push_number, push_number_word};
 use plan_commands::{
-    check_run, judge_run, replay_run, schedule_run, tables, verify, verify_bundle,
+    check_run, draw_run, judge_run, replay_run, schedule_run, tables, verify, verify_bundle,
 };
+use plan_picture::{LEAST_WIDTH, MOST_WIDTH, Shown};
 use plan_sheets::Table;
 use std::alloc::{Alloc, AllocError, Global};
 use std::io::{Read, Write};
@@ -47,6 +51,7 @@ enum Command {
     Check,
     Judge,
     Schedule,
+    Draw,
 }
 
 /// What a case asks for, and the lengths of its texts. A bundle's second text isn't looked at.
@@ -76,6 +81,7 @@ fn command_of(word: &[u8]) -> Option<Command> {
         b"check" => Some(Command::Check),
         b"judge" => Some(Command::Judge),
         b"schedule" => Some(Command::Schedule),
+        b"draw" => Some(Command::Draw),
         _ => None,
     }
 }
@@ -89,7 +95,7 @@ fn length_of(word: &[u8]) -> Option<u32> {
 
 fn third_length(command: Command, rest: &[u8]) -> Option<u32> {
     match command {
-        Command::Replay | Command::Judge | Command::Schedule => {
+        Command::Replay | Command::Judge | Command::Schedule | Command::Draw => {
             let (third, _) = cut(b' ', rest)?;
             length_of(third)
         }
@@ -164,6 +170,27 @@ fn table_of(words: &[&str]) -> Table {
     }
 }
 
+/// The width that the first word names, brought into its range; 1,200 where it names none.
+fn width_of(words: &[&str]) -> u32
+    ensures { (least_width ≤ result) × (result ≤ most_width) }
+{
+    let Some(word) = words.first() else {
+        return 1_200;
+    };
+    match number_word(word.as_bytes()) {
+        NumberWord::Number(width) => width.clamp(LEAST_WIDTH, MOST_WIDTH),
+        _ => 1_200,
+    }
+}
+
+/// Whether the second word says that only slots in use are shown.
+fn shown_of(words: &[&str]) -> Shown {
+    match words {
+        [_, "used"] => Shown::Used,
+        _ => Shown::All,
+    }
+}
+
 /// How a command ends on its texts.
 fn end_of<W: Write>(
     rt: &(impl Threads + Sync),
@@ -184,6 +211,14 @@ fn end_of<W: Write>(
             judge_run(rt, alloc, &mut first, &mut second, &mut third, out)
         }
         Command::Schedule => { schedule_run(alloc, &mut first, &mut second, table_of(words), out) }
+        Command::Draw => draw_run(
+            alloc,
+            &mut first,
+            &mut second,
+            width_of(words),
+            shown_of(words),
+            out,
+        ),
     }
 }
 
@@ -210,7 +245,7 @@ fn answer_of(
 /// The words of a case.
 fn words_of<'a>(alloc: Global, case: &'a Case) -> Result<Vec<&'a str>, Stopped> {
     match case.command {
-        Command::Replay | Command::Schedule => {
+        Command::Replay | Command::Schedule | Command::Draw => {
             Ok(words_in(alloc, from_utf8(case.third.as_slice())?)?)
         }
         _ => Ok(Vec::new(alloc)),

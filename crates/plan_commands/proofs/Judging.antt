@@ -5,7 +5,7 @@ use Rattle.ttp_model.specs.Instance.{Instance}
 use Rattle.command_streams.specs.declared.ending.Source.TheVariants as source
 use Rattle.command_streams.specs.declared.ending.Sink.TheVariants as sink
 use Rattle.command_streams.specs.declared.ending.Fault.{Fault}
-use Rattle.command_streams.specs.declared.ending.Fault.TheVariants.{NoMark, LossForm, InstanceText, Memory, PlanText, Plan, StatedDelay, CertificateText, Certificate, TooFewNodes, WrongLoss, Search, Unread, Unwritten}
+use Rattle.command_streams.specs.declared.ending.Fault.TheVariants.{NoMark, LossForm, InstanceText, Memory, PlanText, Plan, StatedDelay, CertificateText, Certificate, TooFewNodes, WrongLoss, TooManySlots, Search, Unread, Unwritten}
 use Rattle.command_streams.specs.declared.ending.End.{End}
 use Rattle.command_streams.specs.declared.ending.End.TheVariants.{Refused}
 use Rattle.command_streams.specs.Instances.{HasInstance}
@@ -75,6 +75,7 @@ module _ (instance plan certificate : List ℕ) (old : Option (List ℕ)) where
   unstanding (CertificateText error) is = absurd is
   unstanding (Certificate fault) is = absurd is
   unstanding TooFewNodes is = absurd is
+  unstanding (TooManySlots count) is = absurd is
   unstanding (WrongLoss k) is = absurd is
   unstanding (Search fault) is = absurd is
   unstanding (Unwritten sink) is = absurd is
@@ -92,6 +93,7 @@ module _ (instance plan certificate : List ℕ) (old : Option (List ℕ)) where
   unbounded i best has stands (Plan fault) refused = absurd refused
   unbounded i best has stands (StatedDelay d) refused = absurd refused
   unbounded i best has stands TooFewNodes refused = absurd refused
+  unbounded i best has stands (TooManySlots count) refused = absurd refused
   unbounded i best has stands (WrongLoss k) refused = absurd refused
   unbounded i best has stands (Search fault) refused = absurd refused
   unbounded i best has stands (Unread source.Instance) refused = absurd refused

@@ -1,4 +1,5 @@
 pub mod Tellings
+pub mod Drawn
 pub mod Splits
 pub mod LossSpelling
 pub mod LossPlaces

@@ -6,7 +6,7 @@ use Rattle.ttp_model.specs.Delays.{delay}
 use Rattle.plan_commands.specs.declared.verdict.Verified.{Verified}
 use Rattle.command_streams.specs.declared.ending.Sink.TheVariants as sink
 use Rattle.command_streams.specs.declared.ending.Fault.{Fault}
-use Rattle.command_streams.specs.declared.ending.Fault.TheVariants.{NoMark, LossForm, InstanceText, Memory, PlanText, Plan, StatedDelay, CertificateText, Certificate, TooFewNodes, WrongLoss, Search, Unread, Unwritten}
+use Rattle.command_streams.specs.declared.ending.Fault.TheVariants.{NoMark, LossForm, InstanceText, Memory, PlanText, Plan, StatedDelay, CertificateText, Certificate, TooFewNodes, WrongLoss, TooManySlots, Search, Unread, Unwritten}
 use Rattle.command_streams.specs.declared.ending.End.{End}
 use Rattle.command_streams.specs.declared.ending.End.TheVariants.{Refused}
 use Rattle.command_streams.specs.Outcomes.{IsCommandAnswer, IsWriting, IsWritingUnlessMemory, OnDone}
@@ -28,6 +28,7 @@ module _ (instance plan : List ℕ) (i : Instance) (has_instance : HasInstance i
   refused_with (LossForm k) refused = absurd refused
   refused_with Memory refused = tt
   refused_with TooFewNodes refused = absurd refused
+  refused_with (TooManySlots count) refused = absurd refused
   refused_with (CertificateText error) refused = absurd refused
   refused_with (Certificate fault) refused = absurd refused
   refused_with (WrongLoss k) refused = absurd refused
@@ -76,6 +77,7 @@ module _ (IsTextAt : End → List ℕ → Type 0) (IsRefusedBy : Fault → Type 
   refused_outcome (CertificateText error) refused = (refused, keeps old)
   refused_outcome (Certificate fault) refused = (refused, keeps old)
   refused_outcome TooFewNodes refused = (refused, keeps old)
+  refused_outcome (TooManySlots count) refused = (refused, keeps old)
   refused_outcome (WrongLoss k) refused = (refused, keeps old)
   refused_outcome (Search fault) refused = (refused, keeps old)
   refused_outcome (Unread source) refused = (refused, keeps old)

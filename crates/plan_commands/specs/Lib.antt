@@ -2,6 +2,7 @@ pub mod Verdicts
 pub mod Bundles
 pub mod NodeTables
 pub mod Schedules
+pub mod Drawings
 pub mod LossWords
 pub mod Traces
 pub mod Certified

@@ -12,7 +12,7 @@ use Rattle.command_streams.specs.Limits.{plan_limit}
 use Rattle.plan_commands.specs.declared.verdict.Verified.{Verified}
 use Rattle.command_streams.specs.declared.ending.Source.TheVariants as source
 use Rattle.command_streams.specs.declared.ending.Fault.{Fault}
-use Rattle.command_streams.specs.declared.ending.Fault.TheVariants.{NoMark, LossForm, InstanceText, Memory, PlanText, Plan, StatedDelay, CertificateText, Certificate, TooFewNodes, WrongLoss, Search, Unread, Unwritten}
+use Rattle.command_streams.specs.declared.ending.Fault.TheVariants.{NoMark, LossForm, InstanceText, Memory, PlanText, Plan, StatedDelay, CertificateText, Certificate, TooFewNodes, WrongLoss, TooManySlots, Search, Unread, Unwritten}
 use Rattle.command_streams.specs.declared.ending.End.{End}
 use Rattle.command_streams.specs.Outcomes.{IsCommandAnswer, OnDone}
 use Rattle.command_streams.specs.Instances.{HasInstance, IsInstanceFault, StatesSome}
@@ -79,6 +79,7 @@ IsRefused instance plan (Unread source.Certificate) = ⊥
 IsRefused instance plan (CertificateText error) = ⊥
 IsRefused instance plan (Certificate fault) = ⊥
 IsRefused instance plan TooFewNodes = ⊥
+IsRefused instance plan (TooManySlots count) = ⊥
 IsRefused instance plan (WrongLoss k) = ⊥
 IsRefused instance plan (Search fault) = ⊥
 IsRefused instance plan (Unwritten sink) = ⊥

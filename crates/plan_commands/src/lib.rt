@@ -8,6 +8,7 @@ mod judge;
 mod laws;
 mod losses;
 mod node_tables;
+mod picture;
 mod replay;
 mod sheets;
 mod verdict;
@@ -21,6 +22,7 @@ pub use laws::{
     texts_are_judged_once,
 };
 pub use node_tables::tables;
+pub use picture::draw_run;
 pub use replay::replay_run;
 pub use sheets::schedule_run;
 pub use verdict::verify;

@@ -79,7 +79,7 @@ fn put_round(
 }
 
 /// The slot at position `k` of a round. Whether any message is sent in the round is known.
-fn slot_of(
+pub fn slot_of(
     alloc: Global,
     instance: &Instance,
     plan: &Plan,

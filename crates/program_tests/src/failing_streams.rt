@@ -2,13 +2,14 @@
 
 ghost use Rattle.std.specs.Prelude.{◌≤◌, IfOk};
 
-use crate::told::Asked::{Check, Replay, Schedule, Tables, Verify};
+use crate::told::Asked::{Check, Draw, Replay, Schedule, Tables, Verify};
 use crate::told::{
     Asked, CLUSTER, FIRST, FIRST_CERTIFICATE, FIRST_PARTS, FIRST_PLAN, THREE, THREE_PLAN, Told,
     joined,
 };
 use command_streams::End;
 use plan_commands::verify_bundle;
+use plan_picture::Shown::All;
 use plan_sheets::Table::Slots;
 use solve_command::{Options, solve_run};
 use std::alloc::{Alloc, AllocError, Global};
@@ -287,6 +288,7 @@ static ROWS: &[Row] = &[
     (Command::OfTwo(Replay(&["0/0/*"])), THREE, THREE_PLAN),
     (Command::OfTwo(Check), FIRST, FIRST_CERTIFICATE),
     (Command::OfTwo(Schedule(Slots)), FIRST, FIRST_PLAN),
+    (Command::OfTwo(Draw(All)), FIRST, FIRST_PLAN),
     (Command::OfBundle, &[CLUSTER, FIRST_PARTS, "%%\n", FIRST_PLAN], ""),
     (Command::Search, FIRST, ""),
 ];
@@ -312,10 +314,11 @@ fn wrong_row(
     Ok(None)
 }
 
-/// How many bytes a call moves at most. The search writes the long certificate, so it is asked with fewer, longer calls.
+/// How many bytes a call moves at most. A search writes the long certificate, and a picture is long, so these are asked with fewer,
+/// longer calls.
 fn sizes(command: Command) -> &'static [usize] {
     match command {
-        Command::Search => &[16, 64, usize::MAX],
+        Command::Search | Command::OfTwo(Draw(_)) => &[16, 64, usize::MAX],
         Command::OfTwo(_) | Command::OfBundle => &[1, 3, 64, usize::MAX],
     }
 }

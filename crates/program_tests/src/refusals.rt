@@ -1,12 +1,13 @@
 //! Commands in which memory is refused.
 
-use crate::told::Asked::{Check, Replay, Schedule, Tables, Verify};
+use crate::told::Asked::{Check, Draw, Replay, Schedule, Tables, Verify};
 use crate::told::{
-    ALL_RECEIVED, Asked, CLUSTER, FIRST, FIRST_CERTIFICATE, FIRST_PARTS, FIRST_PLAN,
+    ALL_RECEIVED, Asked, CLUSTER, FIRST, FIRST_CERTIFICATE, FIRST_PARTS, FIRST_PICTURE, FIRST_PLAN,
     FIRST_PROCESSES, FIRST_TABLES, THREE, THREE_PLAN, joined,
 };
 use command_streams::{End, report, status};
 use plan_commands::{judge_run, verify_bundle};
+use plan_picture::Shown::Used;
 use plan_sheets::Table::Processes;
 use solve_command::{Options, solve_run};
 use std::alloc::{Alloc, Global};
@@ -138,6 +139,7 @@ static ANSWERS: &[Row] = &[
     (Check, FIRST, &[FIRST_CERTIFICATE], "bound 9\n"),
     (Replay(&[]), THREE, &[THREE_PLAN], ALL_RECEIVED),
     (Schedule(Processes), FIRST, &[FIRST_PLAN], FIRST_PROCESSES),
+    (Draw(Used), FIRST, &[FIRST_PLAN], FIRST_PICTURE),
 ];
 
 /// Run with each allocation refused in turn: the answer is the same, or that memory was refused.

@@ -54,6 +54,7 @@ fn wrong_line(alloc: Global) -> Option<usize> {
         (Fault::StatedDelay(9), "plan D1 9\n", 5),
         (Fault::TooFewNodes, "replay N1\n", 5),
         (Fault::WrongLoss(0), "replay N2 0\n", 5),
+        (Fault::TooManySlots(100_001), "draw slots 100001\n", 5),
         (Fault::Unread(Source::Instance), "read instance\n", 6),
         (Fault::Unread(Source::Plan), "read plan\n", 6),
         (Fault::Unread(Source::Certificate), "read certificate\n", 6),

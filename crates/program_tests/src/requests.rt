@@ -37,6 +37,18 @@ static COMMANDS: &[Asking] = &[
         &["ttplan", "schedule", "--table=messages", "a", "b"],
         "OnFiles { instance: \"a\", plan: \"b\", task: Schedule(Messages) }",
     ),
+    (
+        &["ttplan", "draw", "a", "b"],
+        "OnFiles { instance: \"a\", plan: \"b\", task: Draw { width: 1200, shown: All } }",
+    ),
+    (
+        &["ttplan", "draw", "a", "--used", "b", "--width=200"],
+        "OnFiles { instance: \"a\", plan: \"b\", task: Draw { width: 200, shown: Used } }",
+    ),
+    (
+        &["ttplan", "draw", "a", "b", "--width", "10000"],
+        "OnFiles { instance: \"a\", plan: \"b\", task: Draw { width: 10000, shown: All } }",
+    ),
     (&["ttplan", "check", "a", "c"], "Check { instance: \"a\", certificate: \"c\" }"),
     (&["ttplan", "judge", "a", "b", "c"], "Judge { instance: \"a\", plan: \"b\", certificate: \"c\" }"),
     (
@@ -98,6 +110,8 @@ const NO_WORKERS: &str = "for '--workers <N>': a whole number from 1 to 16 is ex
 const NO_BUDGET: &str =
     "for '--budget <N>': a whole number from 0 to 18446744073709551615 is expected";
 
+const NO_WIDTH: &str = "for '--width <PX>': a whole number from 200 to 10000 is expected";
+
 const OVERWRITING: &str =
     "for '--cert <FILE>': that is the instance's file, which would be emptied";
 
@@ -111,6 +125,12 @@ static USAGE_FAULTS: &[Refused] = &[
     (&["ttplan", "tables", "a", "b", "c"], "unexpected argument 'c'"),
     (&["ttplan", "schedule", "a"], "<PLAN>"),
     (&["ttplan", "schedule", "a", "b", "--table", "x"], "invalid value 'x' for '--table <TABLE>'"),
+    (&["ttplan", "draw", "a"], "<PLAN>"),
+    (&["ttplan", "draw", "a", "b", "--width", "199"], NO_WIDTH),
+    (&["ttplan", "draw", "a", "b", "--width", "10001"], NO_WIDTH),
+    (&["ttplan", "draw", "a", "b", "--width", "4294967496"], NO_WIDTH),
+    (&["ttplan", "draw", "a", "b", "--width", "x"], NO_WIDTH),
+    (&["ttplan", "draw", "a", "b", "--width", "x"], "Usage: ttplan draw"),
     (&["ttplan", "--help"], "Usage: ttplan"),
     (&["ttplan", "solve", "a", "--version"], "unexpected argument '--version'"),
     (&["ttplan", "solve", "a", "--workers", "0"], NO_WORKERS),

@@ -8,7 +8,7 @@ use Rattle.planner.specs.Answers as answers
 use Rattle.solve_command.specs.declared.solve.Solved.{Solved}
 use Rattle.command_streams.specs.declared.ending.Sink.TheVariants as sink
 use Rattle.command_streams.specs.declared.ending.Fault.{Fault}
-use Rattle.command_streams.specs.declared.ending.Fault.TheVariants.{NoMark, LossForm, InstanceText, Memory, PlanText, Plan, StatedDelay, CertificateText, Certificate, TooFewNodes, WrongLoss, Search, Unread, Unwritten}
+use Rattle.command_streams.specs.declared.ending.Fault.TheVariants.{NoMark, LossForm, InstanceText, Memory, PlanText, Plan, StatedDelay, CertificateText, Certificate, TooFewNodes, WrongLoss, TooManySlots, Search, Unread, Unwritten}
 use Rattle.command_streams.specs.declared.ending.End.{End}
 use Rattle.command_streams.specs.declared.ending.End.TheVariants.{Refused}
 use Rattle.command_streams.specs.Outcomes.{IsCommandAnswer}
@@ -49,6 +49,7 @@ module _ (bytes : List ℕ) (options : Options) where
     uncertified (CertificateText error) never = absurd never
     uncertified (Certificate fault) never = absurd never
     uncertified TooFewNodes never = absurd never
+    uncertified (TooManySlots count) never = absurd never
     uncertified (WrongLoss k) never = absurd never
     uncertified (Search fault) never = absurd never
     uncertified (Unread source) never = absurd never

@@ -1,11 +1,13 @@
 //! The planner's program: which command the words ask for, and on which files it works.
 #![tactic(auto)]
 
+ghost use Rattle.command_words.specs.Requests.{IsSound, IsSoundTask};
+
 use command_streams::end_with;
 pub use command_streams::{End, Fault, SearchFault, Sink, Source, report, status};
 use command_words::{Request, Task, VERSION, refuse, request_in};
 pub use plan_commands::{
-    check_run, judge_run, replay_run, schedule_run, tables, verify, verify_bundle,
+    check_run, draw_run, judge_run, replay_run, schedule_run, tables, verify, verify_bundle,
 };
 pub use solve_command::{Options, solve_run};
 use solve_command::{Progress, solve_run_with};
@@ -32,7 +34,9 @@ fn open_both(
 }
 
 /// Does what is asked for on two files: both are open before either is read.
-fn run_on_files(rt: &HostRuntime, instance: &str, plan: &str, task: Task) -> End {
+fn run_on_files(rt: &HostRuntime, instance: &str, plan: &str, task: Task) -> End
+    requires { IsSoundTask task }
+{
     let (mut instance, mut plan) = match open_both(rt, instance, plan, Source::Plan) {
         Ok(files) => files,
         Err(source) => return End::Refused(Fault::Unread(source)),
@@ -51,6 +55,14 @@ fn run_on_files(rt: &HostRuntime, instance: &str, plan: &str, task: Task) -> End
         Task::Schedule(table) => {
             schedule_run(rt.alloc(), &mut instance, &mut plan, table, &mut out)
         }
+        Task::Draw { width, shown } => draw_run(
+            rt.alloc(),
+            &mut instance,
+            &mut plan,
+            width,
+            shown,
+            &mut out,
+        ),
     }
 }
 
@@ -163,7 +175,9 @@ fn run_solve_in_sight(
 }
 
 /// Does what is asked for. A search starts threads and waits for them, and so does the check of a certificate.
-fn run(rt: &HostRuntime, threads: &(impl Threads + Wait + Sync), request: Request) -> End {
+fn run(rt: &HostRuntime, threads: &(impl Threads + Wait + Sync), request: Request) -> End
+    requires { IsSound request }
+{
     match request {
         Request::OnFiles {
             instance,

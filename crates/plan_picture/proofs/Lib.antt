@@ -1,0 +1,5 @@
+pub mod Growing
+pub mod Places
+pub mod Pieces
+pub mod Steps
+pub mod Loads

@@ -1,0 +1,14 @@
+use Rattle.std.proofs.Common.{◌≡◌, arith}
+use Rattle.plan_picture.specs.Canvas.{channels}
+use Rattle.plan_picture.specs.Rows.{channel_text, channels_text}
+use Rattle.plan_picture.proofs.Growing.{range_grows}
+use Rattle.plan_picture.proofs.rows.put_channels.Goals as goal
+
+pub loop-channel-preserved : goal.loop-channel-preserved
+loop-channel-preserved c = range_grows _ _ _ (channel_text c.args.canvas.now) c.loop-channel.channel c.loop-channel.invariant c.in_ok-put_channel.ensures
+
+pub returns : goal.returns
+unfolding channels_text
+returns c =
+    let all : c.loop-channel.channel ≡ channels = omega arith in
+    rw all at c.loop-channel.invariant

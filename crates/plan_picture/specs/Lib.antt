@@ -1,0 +1,10 @@
+pub mod Limits
+pub mod Canvas
+pub mod Rectangles
+pub mod Slots
+pub mod Processes
+pub mod Lines
+pub mod Scale
+pub mod Rows
+pub mod Picture
+pub mod Shapes

@@ -1,0 +1,34 @@
+-- How processes are drawn. Own profile.
+use Rattle.std.specs.Prelude.{ℕ, ◌+◌, List, ◌++◌, codes, decimal, length, min}
+use Rattle.std.specs.List.{flat_map, range_with_len}
+use Rattle.ttp_model.specs.declared.parts.Process.{Process}
+use Rattle.ttp_model.specs.declared.plan.Plan.{Plan}
+use Rattle.ttp_model.specs.Instance.{Instance, node_at, node_of, process_at}
+use Rattle.ttp_model.specs.Plans.{start_of}
+use Rattle.plan_picture.specs.declared.canvas.Canvas.{Canvas}
+use Rattle.plan_picture.specs.declared.rectangle.Rectangle.{Rectangle}
+use Rattle.plan_picture.specs.Canvas.{channels}
+use Rattle.plan_picture.specs.Rectangles.{opening_text, rectangle_text}
+
+-- the rectangle of a process: in its node's row, at its start, as long as it runs
+abbrev pub process_rectangle : Instance → Plan → ℕ → Rectangle
+process_rectangle i plan p = record {
+  row = channels + node_of i p;
+  node = node_of i p;
+  start = start_of plan p;
+  length = (process_at i p).wcet;
+}
+
+-- a process in words, with the name of its node
+unfoldable pub process_words : List ℕ → Process → ℕ → ℕ → List ℕ
+process_words node p start due =
+    p.name ++ (codes " on " ++ (node ++ (codes ": from " ++ (decimal start ++ (codes " for " ++ (decimal p.wcet ++ (codes ", released at " ++ (decimal p.release ++ (codes ", due by " ++ decimal due)))))))))
+
+-- a process, with its name in it, and a line where it starts
+unfoldable pub process_text : Canvas → Instance → Plan → ℕ → List ℕ
+process_text c i plan p =
+    codes "<g><title>" ++ (process_words (node_at i (node_of i p)).name (process_at i p) (start_of plan p) (min (process_at i p).deadline i.cluster.horizon) ++ (codes "</title>" ++ (rectangle_text (process_rectangle i plan p) ++ (opening_text c (process_rectangle i plan p) ++ ((process_at i p).name ++ codes "</text><rect width=\"1\" height=\"24\"/></svg></svg></g>\n")))))
+
+-- all processes
+unfoldable pub processes_text : Canvas → Instance → Plan → List ℕ
+processes_text c i plan = flat_map (process_text c i plan) (range_with_len 0 (length i.processes))

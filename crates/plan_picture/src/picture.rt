@@ -1,0 +1,186 @@
+//! What is the whole picture?
+
+ghost use Rattle.std.specs.Prelude.{◌≡◌, ◌++◌, ◌*◌, ◌≤◌, ◌<◌, IfOk, OnOk, Some, length, string_bytes};
+ghost use Rattle.ttp_model.specs.Plans.{IsValid};
+ghost use Rattle.plan_picture.specs.Limits.{least_width, most_width};
+ghost use Rattle.plan_picture.specs.Canvas.{IsCanvas};
+ghost use Rattle.plan_picture.specs.Picture.{boxes_text, cycle_slots, figures_words, head_text, hollow_text, picture_text, too_many_slots};
+
+use crate::canvas::{Canvas, canvas_of};
+use crate::lines::put_lines;
+use crate::processes::put_processes;
+use crate::rows::put_rows;
+use crate::scale::{put_delay, put_scale};
+use crate::slots::{Load, put_slots};
+use std::alloc::{AllocError, Global};
+use std::fmt;
+use tt_layout::{Layout, cycle_rounds};
+use ttp_model::{Instance, MemoryFault, Plan, delay};
+
+/// Of how many slots a picture may be that shows each, at most.
+pub const MOST_SLOTS: u64 = 100_000;
+
+/// Which slots are shown.
+#[derive(Clone, Copy, Debug, PartialEq, Eq)]
+pub enum Shown {
+    /// Each of the cycle.
+    All,
+    /// Those that carry a message.
+    Used,
+}
+
+/// How many slots a cycle has, whatever channels there are.
+fn cycle_slots(instance: &Instance, plan: &Plan) -> u64
+    requires { IsValid instance.now plan.now }
+    ensures { result ≡ cycle_slots instance.now plan.now }
+{
+    u64::from(cycle_rounds(instance, plan)) * instance.nodes().len() as u64
+}
+
+/// How many slots the cycle has, where a picture would show each and these are too many.
+pub fn too_many_slots(instance: &Instance, plan: &Plan, shown: Shown) -> Option<u64>
+    requires { IsValid instance.now plan.now }
+    ensures { result ≡ too_many_slots instance.now plan.now shown }
+{
+    match shown {
+        Shown::Used => None,
+        Shown::All => {
+            let slots = cycle_slots(instance, plan);
+            if MOST_SLOTS < slots {
+                Some(slots)
+            } else {
+                None
+            }
+        }
+    }
+}
+
+/// How texts and shapes look. Colours of nodes differ in lightness too, of neighbours the most.
+const STYLE: &str =
+    "<style>text{font:12px sans-serif;fill:#222}text.mark{text-anchor:middle}line{stroke:#555}line.mark{stroke:#ddd}line.delay{stroke:#c00;stroke-dasharray:4 3}.track{fill:#f4f4f4}.n0{fill:#044763}.n1{fill:#d7706c}.n2{fill:#007656}.n3{fill:#c1acfe}.n4{fill:#704e01}.n5{fill:#04b3cb}.n6{fill:#bd5983}.n7{fill:#a9dc8e}.n8{fill:#044e80}.n9{fill:#da825f}.n10{fill:#017f74}.n11{fill:#edadf6}.n12{fill:#656009}.n13{fill:#16bcec}.n14{fill:#cd6372}.n15{fill:#91ecb0}text.t0,text.t2,text.t4,text.t6,text.t8,text.t10,text.t12{fill:#fff}</style>\n";
+
+/// The picture of a valid plan, so many pixels wide.
+#[tactic(auto, unfolding(crate::specs::Picture::whole_text))]
+pub fn print(
+    alloc: Global,
+    instance: &Instance,
+    plan: &Plan,
+    width: u32,
+    shown: Shown,
+) -> Result<String, MemoryFault>
+    requires valid { IsValid instance.now plan.now }
+    requires least { least_width ≤ width }
+    requires most { width ≤ most_width }
+    ensures { IfOk result (λ text. string_bytes text ≡ picture_text instance.now plan.now width shown) }
+{
+    let canvas = canvas_of(instance, plan, width);
+    let mut text = String::new(alloc);
+    put_head(&mut text, &canvas, instance, plan)?;
+    put_rows(&mut text, &canvas, instance)?;
+    put_scale(&mut text, &canvas)?;
+    put_delay(&mut text, &canvas, delay(instance, plan))?;
+    put_lines(&mut text, &canvas, instance, plan)?;
+    put_boxes(alloc, &mut text, &canvas, instance, plan, shown)?;
+    writeln!(text, "</svg>")?;
+    Ok(text)
+}
+
+/// The numbers of a plan, in words.
+#[derive(Clone, Copy, Debug)]
+struct Figures {
+    delay: u64,
+    round: u64,
+    cycle: u64,
+}
+
+impl fmt::Display for Figures {
+    ghost output = { λ x. Some (figures_words x.delay x.round x.cycle) };
+
+    #[tactic(auto, unfolding(crate::specs::Picture::figures_words))]
+    fn fmt<W: fmt::Write>(&self, f: &mut fmt::Formatter<W>) -> fmt::Result {
+        let (delay, round, cycle) = (self.delay, self.round, self.cycle);
+        write!(f, "delay {delay}, round {round}, cycle {cycle} ticks")
+    }
+}
+
+/// Adds what begins the picture, with the numbers of the plan.
+#[tactic(auto, unfolding(crate::specs::Picture::head_text, crate::specs::Picture::style_text))]
+fn put_head(
+    text: &mut String,
+    canvas: &Canvas,
+    instance: &Instance,
+    plan: &Plan,
+) -> Result<(), AllocError>
+    requires { IsValid instance.now plan.now }
+    ensures { OnOk result (string_bytes text.new ≡ string_bytes text.old ++ head_text canvas.now instance.now plan.now) }
+{
+    let layout = Layout::of(instance, plan.order.as_slice(), plan.caps.as_slice());
+    let (width, height, cycle) = (canvas.width, canvas.height, canvas.cycle);
+    let figures = Figures {
+        delay: delay(instance, plan),
+        round: layout.round_length(),
+        cycle,
+    };
+    writeln!(
+        text,
+        "<svg xmlns=\"http://www.w3.org/2000/svg\" width=\"{width}\" height=\"{height}\" viewBox=\"0 0 {width} {height}\">"
+    )?;
+    writeln!(text, "<title>{figures}</title>")?;
+    text.push_str(STYLE)?;
+    writeln!(
+        text,
+        "<rect width=\"{width}\" height=\"{height}\" fill=\"#fff\"/>"
+    )?;
+    writeln!(text, "<text x=\"8\" y=\"18\">{figures}</text>")
+}
+
+/// Draws the slots and the processes, at their ticks. What carries nothing has a white inside.
+#[tactic(auto, unfolding(crate::specs::Picture::boxes_text))]
+fn put_boxes(
+    alloc: Global,
+    text: &mut String,
+    canvas: &Canvas,
+    instance: &Instance,
+    plan: &Plan,
+    shown: Shown,
+) -> Result<(), MemoryFault>
+    requires { IsValid instance.now plan.now }
+    ensures { OnOk result (string_bytes text.new ≡ string_bytes text.old ++ boxes_text canvas.now instance.now plan.now shown) }
+{
+    let (across, height, cycle) = (canvas.across, canvas.height, canvas.cycle);
+    writeln!(
+        text,
+        "<svg x=\"120\" width=\"{across}\" height=\"{height}\" viewBox=\"0 0 {cycle} {height}\" preserveAspectRatio=\"none\">"
+    )?;
+    put_hollow_slots(alloc, text, canvas, instance, plan, shown)?;
+    put_slots(alloc, text, canvas, instance, plan, Load::Messages)?;
+    put_processes(text, canvas, instance, plan)?;
+    writeln!(text, "</svg>")?;
+    Ok(())
+}
+
+/// Draws the slots that carry nothing, with a white inside, where they are shown.
+fn put_hollow_slots(
+    alloc: Global,
+    text: &mut String,
+    canvas: &Canvas,
+    instance: &Instance,
+    plan: &Plan,
+    shown: Shown,
+) -> Result<(), MemoryFault>
+    requires { IsValid instance.now plan.now }
+    ensures { OnOk result (string_bytes text.new ≡ string_bytes text.old ++ hollow_text canvas.now instance.now plan.now shown) }
+{
+    match shown {
+        Shown::Used => Ok(()),
+        Shown::All => {
+            put_slots(alloc, text, canvas, instance, plan, Load::Nothing)?;
+            let cycle = canvas.cycle;
+            writeln!(
+                text,
+                "<rect y=\"60\" width=\"{cycle}\" height=\"18\" fill=\"#fff\" pointer-events=\"none\"/>"
+            )?;
+            Ok(())
+        }
+    }
+}

@@ -1,0 +1,96 @@
+//! How is a rectangle of a row written, and what is written into it?
+
+ghost use Rattle.std.specs.Prelude.{Some};
+ghost use Rattle.plan_picture.specs.Rectangles.{frame_text, opening_text, pixels_text, rectangle_text};
+
+use crate::canvas::{Canvas, top_of};
+use std::fmt;
+
+/// A rectangle of a row: a slot or a process.
+#[derive(Clone, Copy, Debug)]
+pub struct Rectangle {
+    /// The row: first the channels, then the nodes.
+    pub row: u32,
+    /// The node that it is of, which has a colour.
+    pub node: u32,
+    /// When it begins, in ticks.
+    pub start: u64,
+    /// How many ticks it takes.
+    pub length: u64,
+}
+
+impl fmt::Display for Rectangle {
+    ghost output = { λ x. Some (rectangle_text x) };
+
+    #[tactic(auto, unfolding(crate::specs::Rectangles::rectangle_text))]
+    fn fmt<W: fmt::Write>(&self, f: &mut fmt::Formatter<W>) -> fmt::Result {
+        let (node, start, top, length) = (self.node, self.start, top_of(self.row), self.length);
+        write!(
+            f,
+            "<rect class=\"n{node}\" x=\"{start}\" y=\"{top}\" width=\"{length}\" height=\"24\"/>"
+        )
+    }
+}
+
+/// What begins a text in a rectangle, which is cut off there. Ticks have no height: the inner `svg` gives the text its
+/// pixels again.
+#[derive(Clone, Copy, Debug)]
+pub struct Opening {
+    pub canvas: Canvas,
+    pub rectangle: Rectangle,
+}
+
+impl fmt::Display for Opening {
+    ghost output = { λ x. Some (opening_text x.canvas x.rectangle) };
+
+    #[tactic(auto, unfolding(crate::specs::Rectangles::opening_text))]
+    fn fmt<W: fmt::Write>(&self, f: &mut fmt::Formatter<W>) -> fmt::Result {
+        let (frame, pixels) = (
+            Frame(self.rectangle),
+            Pixels {
+                cycle: self.canvas.cycle,
+                across: self.canvas.across,
+                node: self.rectangle.node,
+            },
+        );
+        write!(f, "{frame}{pixels}")
+    }
+}
+
+/// An `svg` element at the ticks of a rectangle.
+#[derive(Clone, Copy, Debug)]
+struct Frame(Rectangle);
+
+impl fmt::Display for Frame {
+    ghost output = { λ x. Some (frame_text x.0) };
+
+    #[tactic(auto, unfolding(crate::specs::Rectangles::frame_text))]
+    fn fmt<W: fmt::Write>(&self, f: &mut fmt::Formatter<W>) -> fmt::Result {
+        let (start, top, length) = (self.0.start, top_of(self.0.row), self.0.length);
+        write!(
+            f,
+            "<svg x=\"{start}\" y=\"{top}\" width=\"{length}\" height=\"24\">"
+        )
+    }
+}
+
+/// One whose units are pixels, with the beginning of a text on the colour of a node.
+#[derive(Clone, Copy, Debug)]
+struct Pixels {
+    cycle: u64,
+    across: u64,
+    node: u32,
+}
+
+impl fmt::Display for Pixels {
+    ghost output = { λ x. Some (pixels_text x.cycle x.across x.node) };
+
+    #[tactic(auto, unfolding(crate::specs::Rectangles::pixels_text))]
+    fn fmt<W: fmt::Write>(&self, f: &mut fmt::Formatter<W>) -> fmt::Result {
+        let (cycle, across, node) = (self.cycle, self.across, self.node);
+        write!(
+            f,
+            "<svg width=\"{cycle}\" height=\"24\" viewBox=\"0 0 {across} 24\" preserveAspectRatio=\"none\"><text class=\"t{node}\" x=\"4\" y=\"16\">"
+        )
+    }
+}

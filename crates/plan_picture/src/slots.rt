@@ -1,0 +1,220 @@
+//! How are the slots of a channel drawn?
+
+ghost use Rattle.std.specs.Prelude.{◌≡◌, ◌≤◌, ◌++◌, ◌<◌, All, OnOk, Some, length, string_bytes};
+ghost use Rattle.ttp_model.specs.Plans.{IsValid};
+ghost use Rattle.plan_sheets.specs.Slots.{IsSlotRow};
+ghost use Rattle.plan_picture.specs.Slots.{has_load, hollow_slot_text, names_text, opened_text, round_slots, slot_box_text, slot_piece, slot_rectangle, slot_title_text, slot_words, slots_text, used_slot_text};
+
+use crate::canvas::Canvas;
+use crate::rectangle::{Opening, Rectangle};
+use plan_sheets::{Slot, slot_of};
+use std::alloc::{AllocError, Global};
+use std::fmt;
+use tt_layout::{Layout, cycle_rounds};
+use ttp_model::{Instance, MemoryFault, Plan};
+
+/// Which slots.
+#[derive(Clone, Copy, Debug, PartialEq, Eq)]
+pub enum Load {
+    /// Those that carry nothing.
+    Nothing,
+    /// Those that carry a message.
+    Messages,
+}
+
+impl Load {
+    /// Whether a slot has it.
+    fn is_of(self, slot: &Slot) -> bool
+        ensures { result ≡ has_load self slot.now }
+    {
+        match self {
+            Load::Nothing => slot.used == 0,
+            Load::Messages => slot.used != 0,
+        }
+    }
+}
+
+/// The rectangle of a slot.
+pub fn slot_rectangle(slot: &Slot) -> Rectangle
+    requires { slot.now.start ≤ slot.now.end }
+    ensures { result ≡ slot_rectangle slot.now }
+{
+    Rectangle {
+        row: slot.channel,
+        node: slot.node,
+        start: slot.start,
+        length: slot.end - slot.start,
+    }
+}
+
+/// A slot in words, with the name of its node.
+#[derive(Drop)]
+struct SlotWords<'a> {
+    name: &'a str,
+    slot: &'a Slot,
+}
+
+impl<'a> fmt::Display for SlotWords<'a> {
+    ghost output = { λ x. Some (slot_words x.name.now x.slot.now) };
+
+    #[tactic(auto, unfolding(crate::specs::Slots::slot_words))]
+    fn fmt<W: fmt::Write>(&self, f: &mut fmt::Formatter<W>) -> fmt::Result {
+        let (name, slot) = (self.name, self.slot);
+        let (round, start, end) = (slot.round, slot.start, slot.end);
+        let (used, capacity) = (slot.used, slot.capacity);
+        write!(
+            f,
+            "{name} in round {round}: {start} to {end}, {used} of {capacity} bytes"
+        )
+    }
+}
+
+/// Draws the slots with such a load, round by round.
+pub fn put_slots(
+    alloc: Global,
+    text: &mut String,
+    canvas: &Canvas,
+    instance: &Instance,
+    plan: &Plan,
+    load: Load,
+) -> Result<(), MemoryFault>
+    requires { IsValid instance.now plan.now }
+    ensures { OnOk result (string_bytes text.new ≡ string_bytes text.old ++ slots_text canvas.now instance.now plan.now load) }
+{
+    let rounds = cycle_rounds(instance, plan);
+    for round in 0..rounds {
+        put_round(alloc, text, canvas, instance, plan, load, round)?;
+    }
+    Ok(())
+}
+
+/// Draws those of a round.
+fn put_round(
+    alloc: Global,
+    text: &mut String,
+    canvas: &Canvas,
+    instance: &Instance,
+    plan: &Plan,
+    load: Load,
+    round: u32,
+) -> Result<(), MemoryFault>
+    requires { IsValid instance.now plan.now }
+    ensures { OnOk result (string_bytes text.new ≡ string_bytes text.old ++ round_slots canvas.now instance.now plan.now load round) }
+{
+    let layout = Layout::of(instance, plan.order.as_slice(), plan.caps.as_slice());
+    let count = instance.nodes().len();
+    let sends = plan.rounds.contains(round);
+    for k in 0..count {
+        let slot = slot_of(alloc, instance, plan, &layout, round, k, sends)?;
+        put_slot(text, canvas, instance, &slot, load)?;
+    }
+    Ok(())
+}
+
+/// Draws a slot with such a load, and no other.
+fn put_slot(
+    text: &mut String,
+    canvas: &Canvas,
+    instance: &Instance,
+    slot: &Slot,
+    load: Load,
+) -> Result<(), AllocError>
+    requires there { IsSlotRow instance.now slot.now }
+    requires order { slot.now.start ≤ slot.now.end }
+    ensures { OnOk result (string_bytes text.new ≡ string_bytes text.old ++ slot_piece canvas.now instance.now load slot.now) }
+{
+    if !load.is_of(slot) {
+        return Ok(());
+    }
+    match load {
+        Load::Nothing => put_hollow_slot(text, instance, slot),
+        Load::Messages => put_used_slot(text, canvas, instance, slot),
+    }
+}
+
+/// Draws a slot that carries nothing.
+#[tactic(auto, unfolding(crate::specs::Slots::hollow_slot_text))]
+fn put_hollow_slot(text: &mut String, instance: &Instance, slot: &Slot) -> Result<(), AllocError>
+    requires there { IsSlotRow instance.now slot.now }
+    requires order { slot.now.start ≤ slot.now.end }
+    ensures { OnOk result (string_bytes text.new ≡ string_bytes text.old ++ hollow_slot_text instance.now slot.now (slot_rectangle slot.now)) }
+{
+    let name = instance.nodes()[slot.node as usize].name.as_str();
+    let words = SlotWords { name, slot };
+    let rectangle = slot_rectangle(slot);
+    writeln!(text, "<g><title>{words}</title>{rectangle}</g>")
+}
+
+/// Draws a slot with the names of its messages.
+#[tactic(auto, unfolding(crate::specs::Slots::used_slot_text))]
+fn put_used_slot(
+    text: &mut String,
+    canvas: &Canvas,
+    instance: &Instance,
+    slot: &Slot,
+) -> Result<(), AllocError>
+    requires there { IsSlotRow instance.now slot.now }
+    requires order { slot.now.start ≤ slot.now.end }
+    ensures { OnOk result (string_bytes text.new ≡ string_bytes text.old ++ used_slot_text canvas.now instance.now slot.now (slot_rectangle slot.now)) }
+{
+    put_slot_title(text, instance, slot)?;
+    put_slot_box(text, canvas, instance, slot)
+}
+
+/// Adds the title of a slot that carries messages.
+#[tactic(auto, unfolding(crate::specs::Slots::slot_title_text))]
+fn put_slot_title(text: &mut String, instance: &Instance, slot: &Slot) -> Result<(), AllocError>
+    requires there { IsSlotRow instance.now slot.now }
+    ensures { OnOk result (string_bytes text.new ≡ string_bytes text.old ++ slot_title_text instance.now slot.now) }
+{
+    let name = instance.nodes()[slot.node as usize].name.as_str();
+    let words = SlotWords { name, slot };
+    write!(text, "<g><title>{words}:")?;
+    put_names(text, instance, slot.messages.as_slice())
+}
+
+/// Adds what is seen of it.
+#[tactic(auto, unfolding(crate::specs::Slots::slot_box_text))]
+fn put_slot_box(
+    text: &mut String,
+    canvas: &Canvas,
+    instance: &Instance,
+    slot: &Slot,
+) -> Result<(), AllocError>
+    requires there { IsSlotRow instance.now slot.now }
+    requires order { slot.now.start ≤ slot.now.end }
+    ensures { OnOk result (string_bytes text.new ≡ string_bytes text.old ++ slot_box_text canvas.now instance.now slot.now (slot_rectangle slot.now)) }
+{
+    let rectangle = slot_rectangle(slot);
+    put_opened(text, canvas, &rectangle)?;
+    put_names(text, instance, slot.messages.as_slice())?;
+    text.push_str("</text></svg></svg></g>\n")
+}
+
+/// Adds a rectangle behind a title, and the beginning of a text in it.
+#[tactic(auto, unfolding(crate::specs::Slots::opened_text))]
+fn put_opened(text: &mut String, canvas: &Canvas, rectangle: &Rectangle) -> Result<(), AllocError>
+    ensures { OnOk result (string_bytes text.new ≡ string_bytes text.old ++ opened_text canvas.now rectangle.now) }
+{
+    let (rectangle, opening) = (
+        *rectangle,
+        Opening {
+            canvas: *canvas,
+            rectangle: *rectangle,
+        },
+    );
+    write!(text, "</title>{rectangle}{opening}")
+}
+
+/// Adds the names of messages, each with a space before it.
+#[tactic(auto, unfolding(crate::specs::Slots::name_text))]
+fn put_names(text: &mut String, instance: &Instance, messages: &[u32]) -> Result<(), AllocError>
+    requires { All (λ m. m < length instance.now.messages) messages.now }
+    ensures { OnOk result (string_bytes text.new ≡ string_bytes text.old ++ names_text instance.now messages.now) }
+{
+    for m in messages {
+        let name = instance.message_at(*m as usize).name.as_str();
+        write!(text, " {name}")?;
+    }
+    Ok(())
+}
