@@ -100,6 +100,7 @@ impl<'a, R: Read> CertStream<'a, R> {
         ensures low { IfOk result (λ next. IfSome next (λ said. said.1 < 2 ^ 63)) }
         ensures due { IfOk result (λ next. IfSome next (λ said. (steps : List Step) → TakesChild (still_to_come self.old) (still_to_come self.new) (node_of_head said.0 steps))) }
         ensures passed { IfOk result (λ next. IfSome next (λ said. next_line self.new ≡ next_line self.old + 1 + count_of said.0)) }
+        ensures few { IfOk result (λ next. IfSome next (λ said. length (still_to_come self.new) ≤ most_branches_above + 2)) }
         ensures closed { IfOk result (λ next. IfNone next (still_due (reverse (still_to_come self.old)) ≡ [])) }
         ensures err { IfErr result (IsNodeFault (LeavesNodes R.remaining self.old) (bytes_taken self.new)) }
         ensures from { (origin : Origin) → StreamIsFrom R.remaining self.old origin → StreamIsFrom R.remaining self.new origin }

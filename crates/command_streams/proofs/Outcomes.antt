@@ -3,7 +3,7 @@ use Rattle.std.proofs.Common.{ℕ, List, Option, None, Some, refl}
 use Rattle.std.specs.Io.KnownBytes.{Keeps}
 use Rattle.command_streams.specs.declared.ending.Sink.TheVariants as sink
 use Rattle.command_streams.specs.declared.ending.Fault.{Fault}
-use Rattle.command_streams.specs.declared.ending.Fault.TheVariants.{NoMark, LossForm, InstanceText, Memory, PlanText, Plan, StatedDelay, CertificateText, Certificate, TooFewNodes, WrongLoss, TooManySlots, Search, Unread, Unwritten}
+use Rattle.command_streams.specs.declared.ending.Fault.TheVariants.{NoMark, LossForm, InstanceText, Memory, PlanText, Plan, StatedDelay, CertificateText, Certificate, TooFewNodes, WrongLoss, TooManySlots, Search, TooLong, Unread, Unwritten}
 use Rattle.command_streams.specs.declared.ending.End.{End}
 use Rattle.command_streams.specs.declared.ending.End.TheVariants.{Done, Absent, Stopped, Refused}
 use Rattle.command_streams.specs.Instances.{IsOfInstance}
@@ -34,6 +34,7 @@ module _ (IsText : List ℕ → Type 0) (IsRefusedBy : Fault → Type 0) (text :
   written_outcome (Refused (WrongLoss k)) gains = absurd gains
   written_outcome (Refused (Search fault)) gains = absurd gains
   written_outcome (Refused (Unread source)) gains = absurd gains
+  written_outcome (Refused (TooLong source)) gains = absurd gains
 
   module _ (memory : IsRefusedBy Memory) where
     pub made_outcome : (end : End) → IsWritingUnlessMemory text old new end → IsCommandAnswer (OnDone IsText) IsRefusedBy old new end
@@ -56,6 +57,7 @@ module _ (IsText : List ℕ → Type 0) (IsRefusedBy : Fault → Type 0) (text :
     made_outcome (Refused (WrongLoss k)) gains = absurd gains
     made_outcome (Refused (Search fault)) gains = absurd gains
     made_outcome (Refused (Unread source)) gains = absurd gains
+    made_outcome (Refused (TooLong source)) gains = absurd gains
 
 -- a text that is made and written is written unless something stops the command
 module _ (text : List ℕ) (old new : Option (List ℕ)) where
@@ -78,6 +80,7 @@ module _ (text : List ℕ) (old new : Option (List ℕ)) where
   made_unless_stopped (Refused (WrongLoss k)) gains = absurd gains
   made_unless_stopped (Refused (Search fault)) gains = absurd gains
   made_unless_stopped (Refused (Unread source)) gains = absurd gains
+  made_unless_stopped (Refused (TooLong source)) gains = absurd gains
 
 -- what is told once an instance is read is no fault of it
 module _ (text : List ℕ) (old new : Option (List ℕ)) (Holds : Type 0) where
@@ -101,6 +104,7 @@ module _ (text : List ℕ) (old new : Option (List ℕ)) (Holds : Type 0) where
   written_later (Refused (WrongLoss k)) gains = absurd gains
   written_later (Refused (Search fault)) gains = absurd gains
   written_later (Refused (Unread source)) gains = absurd gains
+  written_later (Refused (TooLong source)) gains = absurd gains
 
   pub ended_later : (end : End) → IsWriting text old new end → IfRefused end (λ fault. IsOfInstance fault → Holds)
   ended_later Done gains = tt
@@ -122,3 +126,4 @@ module _ (text : List ℕ) (old new : Option (List ℕ)) (Holds : Type 0) where
   ended_later (Refused (WrongLoss k)) gains = absurd gains
   ended_later (Refused (Search fault)) gains = absurd gains
   ended_later (Refused (Unread source)) gains = absurd gains
+  ended_later (Refused (TooLong source)) gains = absurd gains

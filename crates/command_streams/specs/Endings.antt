@@ -7,7 +7,7 @@ use Rattle.certificate.specs.declared.fault.CertTextError.TheVariants as certifi
 use Rattle.cert_check.specs.declared.fault.CertFault.TheVariants as certificate
 use Rattle.command_streams.specs.declared.ending.SearchFault.TheVariants as search
 use Rattle.command_streams.specs.declared.ending.Fault.{Fault}
-use Rattle.command_streams.specs.declared.ending.Fault.TheVariants.{NoMark, LossForm, InstanceText, Memory, PlanText, Plan, StatedDelay, CertificateText, Certificate, TooFewNodes, WrongLoss, TooManySlots, Search, Unread, Unwritten}
+use Rattle.command_streams.specs.declared.ending.Fault.TheVariants.{NoMark, LossForm, InstanceText, Memory, PlanText, Plan, StatedDelay, CertificateText, Certificate, TooFewNodes, WrongLoss, TooManySlots, Search, TooLong, Unread, Unwritten}
 use Rattle.command_streams.specs.declared.ending.End.{End}
 use Rattle.command_streams.specs.declared.ending.End.TheVariants.{Done, Absent, Stopped, Refused}
 
@@ -33,6 +33,7 @@ fault_status (WrongLoss k) = 5
 fault_status (Search search.Memory) = 4
 fault_status (Search _) = 7
 fault_status (Unread source) = 6
+fault_status (TooLong source) = 6
 fault_status (Unwritten sink) = 6
 
 -- the fault isn't one of what is given: a reader or a writer failed, or memory was refused

@@ -1,12 +1,12 @@
 -- Which instance the bytes of a reader state, and why they give none.
-use Rattle.std.specs.Prelude.{ℕ, ◌≤◌, List, length, Ok}
+use Rattle.std.specs.Prelude.{ℕ, ◌<◌, ◌≤◌, List, length, Ok}
 use Rattle.ttp_model.specs.Instance.{Instance}
 use Rattle.ttp_model.specs.Rules.{IsInstance}
 use Rattle.instance_text.specs.Faults as text_faults
 use Rattle.command_streams.specs.Limits.{instance_limit}
 use Rattle.command_streams.specs.declared.ending.Source.TheVariants as source
 use Rattle.command_streams.specs.declared.ending.Fault.{Fault}
-use Rattle.command_streams.specs.declared.ending.Fault.TheVariants.{InstanceText, Memory, Unread}
+use Rattle.command_streams.specs.declared.ending.Fault.TheVariants.{InstanceText, Memory, TooLong, Unread}
 
 -- the bytes are within their limit, and state this instance
 pub record HasInstance (bytes : List ℕ) (i : Instance) : Type 0 where
@@ -23,6 +23,7 @@ pub record StatesSome (instance : List ℕ) : Type 0 where
 abbrev pub IsInstanceFault : List ℕ → Fault → Type 0
 IsInstanceFault bytes Memory = Unit {0}
 IsInstanceFault bytes (Unread source.Instance) = Unit {0}
+IsInstanceFault bytes (TooLong source.Instance) = instance_limit < length bytes
 IsInstanceFault bytes (InstanceText error) = (length bytes ≤ instance_limit) × text_faults.IsFirstTextFault bytes error
 IsInstanceFault bytes _ = ⊥
 
@@ -30,4 +31,5 @@ IsInstanceFault bytes _ = ⊥
 abbrev pub IsOfInstance : Fault → Type 0
 IsOfInstance (InstanceText error) = Unit {0}
 IsOfInstance (Unread source.Instance) = Unit {0}
+IsOfInstance (TooLong source.Instance) = Unit {0}
 IsOfInstance _ = ⊥

@@ -65,8 +65,10 @@ pub enum Fault {
     TooManySlots(u64),
     /// When the search has no answer.
     Search(SearchFault),
-    /// When a reader failed, or had more bytes than its limit, or a file could not be opened.
+    /// When a reader failed, or a file could not be opened. Of a bundle also where one of its parts has more bytes than its limit.
     Unread(Source),
+    /// When a reader had more bytes than its limit.
+    TooLong(Source),
     /// When a writer failed, or took no byte.
     Unwritten(Sink),
 }
@@ -133,6 +135,7 @@ fn status_of_fault(fault: &Fault) -> u8
         Fault::Search(SearchFault::Memory) => 4,
         Fault::Search(_) => 7,
         Fault::Unread(_) => 6,
+        Fault::TooLong(_) => 6,
         Fault::Unwritten(_) => 6,
     }
 }

@@ -74,14 +74,15 @@ pub fn read_all<R: Read>(
     requires { limit < 2 ^ 40 }
     ensures read { IfOk result (λ read. IfSome (R.remaining reader.old) (λ bytes. read.items ≡ bytes)) }
     ensures within { IfOk result (λ read. length read.items ≤ limit) }
-    ensures err { IfErr result (IsReadFault source) }
+    ensures err { IfErr result (IsReadFault source limit (R.remaining reader.old)) }
     ensures most { TakesAtMost (limit + 1) (R.remaining reader.old) (R.remaining reader.new) }
 {
     match take_input(alloc, reader, limit) {
         Err(_) => Err(Fault::Memory),
         Ok(taken) => match taken.stop {
             Stop::AtEnd => Ok(taken.bytes),
-            Stop::OverLimit | Stop::Failed => Err(Fault::Unread(source)),
+            Stop::OverLimit => Err(Fault::TooLong(source)),
+            Stop::Failed => Err(Fault::Unread(source)),
         },
     }
 }

@@ -326,7 +326,9 @@ impl fmt::Display for Fault {
             Fault::WrongLoss(k) => write!(f, "replay N2 {k}"),
             Fault::TooManySlots(count) => write!(f, "draw slots {count}"),
             Fault::Search(fault) => write!(f, "{}", SearchLine(*fault)),
-            Fault::Unread(source) => write!(f, "read {}", SourceWord(*source)),
+            Fault::Unread(source) | Fault::TooLong(source) => {
+                write!(f, "read {}", SourceWord(*source))
+            }
             Fault::Unwritten(sink) => write!(f, "write {}", SinkWord(*sink)),
         }
     }

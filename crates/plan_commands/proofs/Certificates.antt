@@ -3,7 +3,7 @@ use Rattle.std.proofs.Common.{ℕ, List, Option, None, Some, IfSome, refl}
 use Rattle.ttp_model.specs.Instance.{Instance}
 use Rattle.command_streams.specs.declared.ending.Source.TheVariants as source
 use Rattle.command_streams.specs.declared.ending.Fault.{Fault}
-use Rattle.command_streams.specs.declared.ending.Fault.TheVariants.{NoMark, LossForm, InstanceText, Memory, PlanText, Plan, StatedDelay, CertificateText, Certificate, TooFewNodes, WrongLoss, TooManySlots, Search, Unread, Unwritten}
+use Rattle.command_streams.specs.declared.ending.Fault.TheVariants.{NoMark, LossForm, InstanceText, Memory, PlanText, Plan, StatedDelay, CertificateText, Certificate, TooFewNodes, WrongLoss, TooManySlots, Search, TooLong, Unread, Unwritten}
 use Rattle.command_streams.specs.declared.ending.End.{End}
 use Rattle.command_streams.specs.declared.ending.End.TheVariants.{Refused}
 use Rattle.command_streams.specs.Outcomes.{IsWritingUnlessMemory}
@@ -23,6 +23,7 @@ module _ (instance certificate : List ℕ) (i : Instance) (has : HasInstance ins
   refused_here : (fault : Fault) → IsCertificateFault i certificate fault → IsCheckAnswer instance certificate old old (Refused fault)
   refused_here Memory refused = (tt, keeps old)
   refused_here (Unread source.Certificate) refused = (record { problem = i; has_instance = has; refused = refused }, keeps old)
+  refused_here (TooLong source.Certificate) refused = (record { problem = i; has_instance = has; refused = refused }, keeps old)
   refused_here (CertificateText error) refused = (record { problem = i; has_instance = has; refused = refused }, keeps old)
   refused_here (Certificate fault) refused = (record { problem = i; has_instance = has; refused = refused }, keeps old)
   refused_here NoMark refused = absurd refused
@@ -37,6 +38,8 @@ module _ (instance certificate : List ℕ) (i : Instance) (has : HasInstance ins
   refused_here (Search fault) refused = absurd refused
   refused_here (Unread source.Instance) refused = absurd refused
   refused_here (Unread source.Plan) refused = absurd refused
+  refused_here (TooLong source.Instance) refused = absurd refused
+  refused_here (TooLong source.Plan) refused = absurd refused
   refused_here (Unwritten sink) refused = absurd refused
 
 pub refused_of_readers : (a b : Option (List ℕ)) (i : Instance) (old : Option (List ℕ)) (fault : Fault) → IfSome a (λ instance. HasInstance instance i) → IfSome b (λ certificate. IsCertificateFault i certificate fault) → IfSome a (λ instance. IfSome b (λ certificate. IsCheckAnswer instance certificate old old (Refused fault)))

@@ -5,7 +5,7 @@ use Rattle.ttp_model.specs.Instance.{Instance}
 use Rattle.command_streams.specs.declared.ending.Source.TheVariants as source
 use Rattle.command_streams.specs.declared.ending.Sink.TheVariants as sink
 use Rattle.command_streams.specs.declared.ending.Fault.{Fault}
-use Rattle.command_streams.specs.declared.ending.Fault.TheVariants.{NoMark, LossForm, InstanceText, Memory, PlanText, Plan, StatedDelay, CertificateText, Certificate, TooFewNodes, WrongLoss, TooManySlots, Search, Unread, Unwritten}
+use Rattle.command_streams.specs.declared.ending.Fault.TheVariants.{NoMark, LossForm, InstanceText, Memory, PlanText, Plan, StatedDelay, CertificateText, Certificate, TooFewNodes, WrongLoss, TooManySlots, Search, TooLong, Unread, Unwritten}
 use Rattle.command_streams.specs.declared.ending.End.{End}
 use Rattle.command_streams.specs.declared.ending.End.TheVariants.{Refused}
 use Rattle.command_streams.specs.Instances.{HasInstance}
@@ -67,6 +67,9 @@ module _ (instance plan certificate : List ℕ) (old : Option (List ℕ)) where
   unstanding (Unread source.Instance) is = (tt, keeps old)
   unstanding (Unread source.Plan) is = (is, keeps old)
   unstanding (Unread source.Certificate) is = absurd is
+  unstanding (TooLong source.Instance) is = (is, keeps old)
+  unstanding (TooLong source.Plan) is = (is, keeps old)
+  unstanding (TooLong source.Certificate) is = absurd is
   unstanding (PlanText error) is = (is, keeps old)
   unstanding (Plan fault) is = (is, keeps old)
   unstanding (StatedDelay d) is = (is, keeps old)
@@ -84,6 +87,7 @@ module _ (instance plan certificate : List ℕ) (old : Option (List ℕ)) where
       → IsJudgeAnswer instance plan certificate old old (Refused fault)
   unbounded i best has stands Memory refused = (tt, keeps old)
   unbounded i best has stands (Unread source.Certificate) refused = (record { problem = i; has_instance = has; best = best; stands = stands; refused = refused }, keeps old)
+  unbounded i best has stands (TooLong source.Certificate) refused = (record { problem = i; has_instance = has; best = best; stands = stands; refused = refused }, keeps old)
   unbounded i best has stands (CertificateText error) refused = (record { problem = i; has_instance = has; best = best; stands = stands; refused = refused }, keeps old)
   unbounded i best has stands (Certificate fault) refused = (record { problem = i; has_instance = has; best = best; stands = stands; refused = refused }, keeps old)
   unbounded i best has stands NoMark refused = absurd refused
@@ -98,6 +102,8 @@ module _ (instance plan certificate : List ℕ) (old : Option (List ℕ)) where
   unbounded i best has stands (Search fault) refused = absurd refused
   unbounded i best has stands (Unread source.Instance) refused = absurd refused
   unbounded i best has stands (Unread source.Plan) refused = absurd refused
+  unbounded i best has stands (TooLong source.Instance) refused = absurd refused
+  unbounded i best has stands (TooLong source.Plan) refused = absurd refused
   unbounded i best has stands (Unwritten sink) refused = absurd refused
 
 -- ---- what three readers tell

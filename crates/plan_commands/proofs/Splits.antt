@@ -4,7 +4,7 @@ use Rattle.std.proofs.lemmas.List.{get_or_append_left, take-append-le, drop-appe
 use Rattle.command_streams.specs.declared.input.Taken.{Taken}
 use Rattle.command_streams.specs.declared.input.Stop.TheVariants.{AtEnd}
 use Rattle.command_streams.specs.declared.ending.Fault.{Fault}
-use Rattle.command_streams.specs.declared.ending.Fault.TheVariants.{NoMark, LossForm, InstanceText, Memory, PlanText, Plan, StatedDelay, CertificateText, Certificate, TooFewNodes, WrongLoss, TooManySlots, Search, Unread, Unwritten}
+use Rattle.command_streams.specs.declared.ending.Fault.TheVariants.{NoMark, LossForm, InstanceText, Memory, PlanText, Plan, StatedDelay, CertificateText, Certificate, TooFewNodes, WrongLoss, TooManySlots, Search, TooLong, Unread, Unwritten}
 use Rattle.command_streams.specs.declared.ending.Source.TheVariants as source
 use Rattle.ttp_model.specs.Instance.{Instance}
 use Rattle.command_streams.specs.Streams.{IsTaken}
@@ -72,6 +72,14 @@ module _ (limit : ℕ) (taken : Taken) (all : List ℕ) (at : ℕ) (is_taken : I
   refused_front (Unread source.Instance) refused = tt
   refused_front (Unread source.Plan) refused = absurd refused
   refused_front (Unread source.Certificate) refused = absurd refused
+  refused_front (TooLong source.Instance) refused = record {
+    instance = take at taken.bytes.items;
+    plan = drop (at + 3) all;
+    split = split_at taken.bytes.items is_taken.rest all at is_taken.first first;
+    refused = refused;
+  }
+  refused_front (TooLong source.Plan) refused = absurd refused
+  refused_front (TooLong source.Certificate) refused = absurd refused
   refused_front (Unwritten sink) refused = absurd refused
   refused_front (PlanText error) refused = absurd refused
   refused_front (Plan fault) refused = absurd refused
@@ -128,6 +136,7 @@ module _ (limit : ℕ) (taken : Taken) (all : List ℕ) (at : ℕ) (is_taken : I
     refused_all (Unread source.Instance) refused = absurd refused
     refused_all (Unread source.Plan) refused = absurd refused
     refused_all (Unread source.Certificate) refused = absurd refused
+    refused_all (TooLong source) refused = absurd refused
     refused_all (Unwritten sink) refused = absurd refused
     refused_all (InstanceText error) refused = absurd refused
     refused_all (PlanText error) refused = record {

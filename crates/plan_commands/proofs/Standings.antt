@@ -1,5 +1,5 @@
 -- What the bytes in a plan's place stand for, behind how they begin; and which faults are told of it.
-use Rattle.std.proofs.Common.{◌≡◌, ℕ, List, Option, None, Some, Result, Ok, Err, IfSome, MatchResult, sym, subst, inl, inr}
+use Rattle.std.proofs.Common.{◌≡◌, ℕ, ◌<◌, ◌≤◌, List, [], ◌∷◌, ◌++◌, length, Option, None, Some, Result, Ok, Err, IfSome, MatchResult, arith, ap, sym, subst, inl, inr, length-append}
 use Rattle.ttp_model.specs.Instance.{Instance}
 use Rattle.ttp_model.specs.Rules.{IsInstance}
 use Rattle.ttp_model.specs.declared.fault.PlanFault.{PlanFault}
@@ -7,13 +7,17 @@ use Rattle.plan_format.specs.declared.fault.PlanTextError.{PlanTextError}
 use Rattle.plan_format.specs.declared.fault.PlanTextError.TheVariants.{At, OutOfMemory}
 use Rattle.command_streams.specs.declared.ending.Source.TheVariants as source
 use Rattle.command_streams.specs.declared.ending.Fault.{Fault}
-use Rattle.command_streams.specs.declared.ending.Fault.TheVariants.{NoMark, LossForm, InstanceText, Memory, PlanText, Plan, StatedDelay, CertificateText, Certificate, TooFewNodes, WrongLoss, TooManySlots, Search, Unread, Unwritten}
-use Rattle.command_streams.specs.Instances.{HasInstance}
+use Rattle.command_streams.specs.declared.ending.Fault.TheVariants.{NoMark, LossForm, InstanceText, Memory, PlanText, Plan, StatedDelay, CertificateText, Certificate, TooFewNodes, WrongLoss, TooManySlots, Search, TooLong, Unread, Unwritten}
+use Rattle.command_streams.specs.Limits.{plan_limit}
+use Rattle.command_streams.specs.Streams.{IsReadFault}
+use Rattle.command_streams.specs.Instances.{HasInstance, StatesSome}
 use Rattle.plan_commands.specs.declared.front.Front.{Front}
 use Rattle.plan_commands.specs.declared.front.Front.TheVariants as front
 use Rattle.plan_commands.specs.declared.judge.Standing.{Standing}
+use Rattle.plan_commands.specs.Fronts.{BeginsStopped, BeginsWith}
 use Rattle.plan_commands.specs.Verdicts.{IsPlanFault}
-use Rattle.plan_commands.specs.Judged.{CanBeBehind, HasLineBehind, HasNoStanding, IsPlanFaultBehind, IsRefusedBehind, IsRefusedOrLong, IsRefusedPlace, IsStanding, StandsFor, told_behind}
+use Rattle.plan_commands.specs.Judged.{CanBeBehind, HasLineBehind, HasNoStanding, IsPlanFaultBehind, IsRefusedBehind, IsRefusedOrLong, IsRefusedPlace, IsStanding, IsTooLong, StandsFor, place_limit, told_behind}
+use Rattle.command_streams.proofs.StatedOnce.{by_read_fault}
 use Rattle.plan_commands.proofs.PlanLines.{line_behind}
 
 -- the fault is one of a plan or of its text
@@ -41,6 +45,7 @@ by_kind Holds text broken misstated (TooManySlots count) is = absurd is
 by_kind Holds text broken misstated (WrongLoss k) is = absurd is
 by_kind Holds text broken misstated (Search fault) is = absurd is
 by_kind Holds text broken misstated (Unread source) is = absurd is
+by_kind Holds text broken misstated (TooLong source) is = absurd is
 by_kind Holds text broken misstated (Unwritten sink) is = absurd is
 
 module _ (i : Instance) (text : List ℕ) where
@@ -59,6 +64,7 @@ module _ (i : Instance) (text : List ℕ) where
   plan_kind (WrongLoss k) refused = refused
   plan_kind (Search fault) refused = refused
   plan_kind (Unread source) refused = refused
+  plan_kind (TooLong source) refused = refused
   plan_kind (Unwritten sink) refused = refused
 
   text_can_be : IsInstance i → (error : PlanTextError) → IsPlanFault i text (PlanText error) → HasLineBehind error
@@ -82,6 +88,23 @@ refused_kind i front.Plan rest fault is = behind_kind i front.Plan rest fault is
 refused_kind i front.Stopped rest fault is = behind_kind i front.Stopped rest fault is
 refused_kind i front.NoPlan rest fault is = subst IsOfPlan (sym is.1.1) tt
 
+-- ---- more than a plan's limit
+
+-- what stands behind a front is no more than all
+behind_stopped : (bytes : List ℕ) (begun : Front) (rest : List ℕ) → BeginsStopped bytes begun rest → length rest ≤ length bytes
+behind_stopped bytes begun rest is = omega (arith, ap length is.bytes_are, length-append is.line (10 ∷ rest))
+
+behind_front : (bytes : List ℕ) (begun : Front) (rest : List ℕ) → BeginsWith bytes begun rest → length rest ≤ length bytes
+behind_front bytes front.Plan rest is = omega (arith, ap length is.0)
+behind_front bytes front.Stopped rest is = behind_stopped bytes front.Stopped rest is
+behind_front bytes front.NoPlan rest is = elim is [
+  | inl word ↦ omega (arith, ap length word.1)
+  | inr line ↦ behind_stopped bytes front.NoPlan rest line
+]
+
+too_long : (bytes : List ℕ) → IsTooLong bytes → plan_limit < length bytes
+too_long bytes is = omega (arith, is.long, behind_front bytes is.begun is.rest is.begins)
+
 -- ---- what readers give
 
 module _ (instance plan : List ℕ) (i : Instance) (has : HasInstance instance i) where
@@ -98,7 +121,7 @@ module _ (instance plan : List ℕ) (i : Instance) (has : HasInstance instance i
   unstanding_with : (fault : Fault) → IsRefusedOrLong i plan fault → HasNoStanding instance plan fault
   unstanding_with fault refused = elim refused [
     | inl at ↦ no_standing fault (refused_kind i at.begun at.rest fault at.refused) at
-    | inr long ↦ subst (HasNoStanding instance plan) (sym long.0) (record { problem = i; has_instance = has })
+    | inr long ↦ subst (HasNoStanding instance plan) (sym long.0) (record { problem = i; has_instance = has }, too_long plan long.1)
   ]
 
   judged_with : (result : Result Standing Fault) → MatchResult result (λ s. (s.instance ≡ i) × StandsFor i plan s.best) (IsRefusedOrLong i plan) → MatchResult result (IsStanding instance plan) (HasNoStanding instance plan)
@@ -111,3 +134,15 @@ pub standing_of_readers : (a b : Option (List ℕ)) (i : Instance) (bytes : List
 standing_of_readers None b i bytes result has is judged = tt
 standing_of_readers (Some instance) None i bytes result has is judged = tt
 standing_of_readers (Some instance) (Some plan) i bytes result has is judged = judged_with instance plan i has result (rw is at judged)
+
+-- ---- what stands in a plan's place isn't read
+
+enough : (plan : List ℕ) → place_limit < length plan → plan_limit < length plan
+enough plan long = omega (arith, long)
+
+pub unread_standing : (a b : Option (List ℕ)) (i : Instance) (fault : Fault) → IfSome a (λ instance. HasInstance instance i) → IsReadFault source.Plan place_limit b fault → IfSome a (λ instance. IfSome b (λ plan. HasNoStanding instance plan fault))
+unread_standing None b i fault has is = tt
+unread_standing (Some instance) None i fault has is = tt
+unread_standing (Some instance) (Some plan) i fault has is =
+    let states : StatesSome instance = record { problem = i; has_instance = has } in
+    by_read_fault (HasNoStanding instance plan) source.Plan place_limit (Some plan) tt states (λ long. (states, enough plan long)) fault is

@@ -1,5 +1,5 @@
 -- What the check of a reader's bytes answers is what those bytes are judged to be.
-use Rattle.std.proofs.Common.{◌≡◌, ℕ, ◌≤◌, List, ◌++◌, length, Option, None, Some, IfSome, Ok, Err, arith, ap, sym, subst, ◌∙◌}
+use Rattle.std.proofs.Common.{◌≡◌, ℕ, ◌+◌, ◌<◌, ◌≤◌, List, ◌++◌, length, Option, None, Some, IfSome, Ok, Err, arith, ap, sym, subst, ◌∙◌}
 use Rattle.std.proofs.lemmas.List.{append-nil}
 use Rattle.std.specs.Io.KnownBytes.{Consumes, IsAtEnd}
 use Rattle.ttp_model.specs.Instance.{Instance}
@@ -13,6 +13,7 @@ use Rattle.certificate.proofs.WholeText.{takes}
 use Rattle.cert_check.specs.declared.fault.StreamFault.{StreamFault}
 use Rattle.cert_check.specs.declared.fault.StreamFault.TheVariants.{Read, TooLong, Text, Cert as InCert}
 use Rattle.cert_check.specs.Streams.{IsStreamJudged, IsTakenFrom}
+use Rattle.cert_check.proofs.Accepted.{few_taken}
 use Rattle.command_streams.specs.Limits.{certificate_limit}
 use Rattle.plan_commands.specs.Certified.{HasBound, IsCertificateFault, fault_of}
 
@@ -46,7 +47,10 @@ bound_of_stream i (Some bytes) next low judged taken bound = record {
 pub fault_of_stream : (i : Instance) (known next : Option (List ℕ)) (fault : StreamFault) → IsStreamJudged i known (Err fault) → IsTakenFrom known next (Err fault) → IfSome known (λ bytes. IsCertificateFault i bytes (fault_of fault))
 fault_of_stream i None next fault judged taken = tt
 fault_of_stream i (Some bytes) next Read judged taken = tt
-fault_of_stream i (Some bytes) next TooLong judged taken = tt
+fault_of_stream i (Some bytes) next TooLong judged taken =
+    let over : taken.taken ≡ certificate_limit + 1 = taken.all in
+    let long : certificate_limit < length bytes = omega (arith, over, taken.from.count, few_taken bytes taken.from.bytes next taken.from.consumes) in
+    long
 fault_of_stream i (Some bytes) next (Text text.OutOfMemory) judged taken = tt
 fault_of_stream i (Some bytes) next (Text (text.At line fault)) judged taken = (
   all_within bytes taken.from.bytes next taken.from.consumes (omega (arith, taken.from.count, taken.all.0)) taken.all.1,

@@ -5,13 +5,17 @@ use Rattle.ttp_model.specs.Instance.{Instance}
 use Rattle.ttp_model.specs.Delays.{delay}
 use Rattle.plan_commands.specs.declared.verdict.Verified.{Verified}
 use Rattle.command_streams.specs.declared.ending.Sink.TheVariants as sink
+use Rattle.command_streams.specs.declared.ending.Source.TheVariants as source
 use Rattle.command_streams.specs.declared.ending.Fault.{Fault}
-use Rattle.command_streams.specs.declared.ending.Fault.TheVariants.{NoMark, LossForm, InstanceText, Memory, PlanText, Plan, StatedDelay, CertificateText, Certificate, TooFewNodes, WrongLoss, TooManySlots, Search, Unread, Unwritten}
+use Rattle.command_streams.specs.declared.ending.Fault.TheVariants.{NoMark, LossForm, InstanceText, Memory, PlanText, Plan, StatedDelay, CertificateText, Certificate, TooFewNodes, WrongLoss, TooManySlots, Search, TooLong, Unread, Unwritten}
 use Rattle.command_streams.specs.declared.ending.End.{End}
 use Rattle.command_streams.specs.declared.ending.End.TheVariants.{Refused}
 use Rattle.command_streams.specs.Outcomes.{IsCommandAnswer, IsWriting, IsWritingUnlessMemory, OnDone}
-use Rattle.command_streams.specs.Instances.{HasInstance}
+use Rattle.command_streams.specs.Limits.{plan_limit}
+use Rattle.command_streams.specs.Streams.{IsReadFault}
+use Rattle.command_streams.specs.Instances.{HasInstance, StatesSome}
 use Rattle.command_streams.proofs.Outcomes.{keeps, made_outcome, written_outcome}
+use Rattle.command_streams.proofs.StatedOnce.{by_read_fault}
 use Rattle.plan_commands.specs.Verdicts.{IsPlanFault, IsRefused, IsTold, IsValidLine, IsVerdict, IsVerified, IsVerifiedPlan, valid_line}
 
 -- the line of a delay is told of the plan that has it
@@ -34,6 +38,7 @@ module _ (instance plan : List ℕ) (i : Instance) (has_instance : HasInstance i
   refused_with (WrongLoss k) refused = absurd refused
   refused_with (Search fault) refused = absurd refused
   refused_with (Unread source) refused = absurd refused
+  refused_with (TooLong source) refused = absurd refused
   refused_with (Unwritten sink) refused = absurd refused
   refused_with (InstanceText error) refused = absurd refused
   refused_with (PlanText error) refused = record { problem = i; has_instance = has_instance; refused = refused }
@@ -49,6 +54,14 @@ pub judged_of_readers : (a b : Option (List ℕ)) (i : Instance) (bytes : List �
 judged_of_readers None b i bytes result has_instance is judged = tt
 judged_of_readers (Some instance) None i bytes result has_instance is judged = tt
 judged_of_readers (Some instance) (Some plan) i bytes result has_instance is judged = judged_with instance plan i has_instance result (rw is at judged)
+
+-- the second reader gave no text
+pub unread_of_readers : (a b : Option (List ℕ)) (i : Instance) (fault : Fault) → IfSome a (λ instance. HasInstance instance i) → IsReadFault source.Plan plan_limit b fault → IfSome a (λ instance. IfSome b (λ plan. IsRefused instance plan fault))
+unread_of_readers None b i fault has is = tt
+unread_of_readers (Some instance) None i fault has is = tt
+unread_of_readers (Some instance) (Some plan) i fault has is =
+    let states : StatesSome instance = record { problem = i; has_instance = has } in
+    by_read_fault (IsRefused instance plan) source.Plan plan_limit (Some plan) tt states (λ long. (states, long)) fault is
 
 pub verdict_of_readers : (a b : Option (List ℕ)) (v : Verified) (old new : Option (List ℕ)) (end : End) → IfSome a (λ instance. IfSome b (λ plan. IsVerified instance plan v)) → IsWritingUnlessMemory (valid_line v.delay) old new end → IfSome a (λ instance. IfSome b (λ plan. IsVerdict instance plan old new end))
 verdict_of_readers None b v old new end is writing = tt
@@ -81,6 +94,7 @@ module _ (IsTextAt : End → List ℕ → Type 0) (IsRefusedBy : Fault → Type 
   refused_outcome (WrongLoss k) refused = (refused, keeps old)
   refused_outcome (Search fault) refused = (refused, keeps old)
   refused_outcome (Unread source) refused = (refused, keeps old)
+  refused_outcome (TooLong source) refused = (refused, keeps old)
   refused_outcome (Unwritten sink.Certificate) refused = (refused, keeps old)
 
 pub refused_of_readers : (IsTextAt : List ℕ → List ℕ → End → List ℕ → Type 0) (a b old : Option (List ℕ)) (fault : Fault) → IfSome a (λ instance. IfSome b (λ plan. IsRefused instance plan fault)) → IfSome a (λ instance. IfSome b (λ plan. IsCommandAnswer (IsTextAt instance plan) (IsRefused instance plan) old old (Refused fault)))

@@ -12,7 +12,7 @@ use Rattle.plan_commands.specs.declared.losses.LossWord.{LossWord}
 use Rattle.plan_commands.specs.declared.verdict.Verified.{Verified}
 use Rattle.command_streams.specs.declared.ending.Source.TheVariants as source
 use Rattle.command_streams.specs.declared.ending.Fault.{Fault}
-use Rattle.command_streams.specs.declared.ending.Fault.TheVariants.{NoMark, LossForm, InstanceText, Memory, PlanText, Plan, StatedDelay, CertificateText, Certificate, TooFewNodes, WrongLoss, TooManySlots, Search, Unread, Unwritten}
+use Rattle.command_streams.specs.declared.ending.Fault.TheVariants.{NoMark, LossForm, InstanceText, Memory, PlanText, Plan, StatedDelay, CertificateText, Certificate, TooFewNodes, WrongLoss, TooManySlots, Search, TooLong, Unread, Unwritten}
 use Rattle.command_streams.specs.declared.ending.End.TheVariants.{Refused}
 use Rattle.plan_commands.specs.LossWords.{AllSpell, AreLossWords, HasNodes, IsWordOfLoss, losses_of_words}
 use Rattle.plan_commands.specs.Traces.{IsReplayAnswer, IsTraceFault}
@@ -49,6 +49,9 @@ module _ (words : List (List ℕ)) (instance plan : List ℕ) (old : Option (Lis
   as_verdict (Unread source.Instance) are refused = ((are, refused), keeps old)
   as_verdict (Unread source.Plan) are refused = ((are, refused), keeps old)
   as_verdict (Unread source.Certificate) are refused = absurd refused
+  as_verdict (TooLong source.Instance) are refused = ((are, refused), keeps old)
+  as_verdict (TooLong source.Plan) are refused = ((are, refused), keeps old)
+  as_verdict (TooLong source.Certificate) are refused = absurd refused
   as_verdict (InstanceText error) are refused = ((are, refused), keeps old)
   as_verdict (PlanText error) are refused = ((are, refused), keeps old)
   as_verdict (Plan fault) are refused = ((are, refused), keeps old)
@@ -61,6 +64,7 @@ module _ (words : List (List ℕ)) (instance plan : List ℕ) (old : Option (Lis
   as_trace losses v (Search fault) all is refused = absurd refused
   as_trace losses v (Unwritten sink) all is refused = absurd refused
   as_trace losses v (Unread source) all is refused = absurd refused
+  as_trace losses v (TooLong source) all is refused = absurd refused
   as_trace losses v (InstanceText error) all is refused = absurd refused
   as_trace losses v (PlanText error) all is refused = absurd refused
   as_trace losses v (Plan fault) all is refused = absurd refused

@@ -1,5 +1,5 @@
 -- What the bytes of an instance and of a certificate are judged to be, and what `check` writes of them.
-use Rattle.std.specs.Prelude.{◌≡◌, ℕ, ◌≤◌, List, [], ◌∷◌, ◌++◌, length, codes, decimal, Option, Err}
+use Rattle.std.specs.Prelude.{◌≡◌, ℕ, ◌<◌, ◌≤◌, List, [], ◌∷◌, ◌++◌, length, codes, decimal, Option, Err}
 use Rattle.ttp_model.specs.Instance.{Instance}
 use Rattle.ttp_model.specs.Delays.{IsLowerBound}
 use Rattle.certificate.specs.Cert.{Cert}
@@ -10,10 +10,10 @@ use Rattle.cert_check.specs.declared.fault.StreamFault.{StreamFault}
 use Rattle.cert_check.specs.declared.fault.StreamFault.TheVariants as stream
 use Rattle.cert_check.specs.Proofs.{Proves}
 use Rattle.cert_check.specs.Faults as checking
-use Rattle.command_streams.specs.Limits.{certificate_limit}
+use Rattle.command_streams.specs.Limits.{certificate_limit, instance_limit}
 use Rattle.command_streams.specs.declared.ending.Source.TheVariants as source
 use Rattle.command_streams.specs.declared.ending.Fault.{Fault}
-use Rattle.command_streams.specs.declared.ending.Fault.TheVariants.{InstanceText, Memory, CertificateText, Certificate, Unread}
+use Rattle.command_streams.specs.declared.ending.Fault.TheVariants.{InstanceText, Memory, CertificateText, Certificate, TooLong, Unread}
 use Rattle.command_streams.specs.declared.ending.End.{End}
 use Rattle.command_streams.specs.Outcomes.{IsCommandAnswer, IsWritingUnlessStopped, OnDone}
 use Rattle.command_streams.specs.Instances.{HasInstance, IsInstanceFault}
@@ -34,15 +34,16 @@ pub record HasBound (i : Instance) (bytes : List ℕ) (low : ℕ) : Type 0 where
 -- the fault of a certificate's bytes, as it is told
 abbrev pub fault_of : StreamFault → Fault
 fault_of stream.Read = Unread source.Certificate
-fault_of stream.TooLong = Unread source.Certificate
+fault_of stream.TooLong = TooLong source.Certificate
 fault_of (stream.Text text.OutOfMemory) = Memory
 fault_of (stream.Text (text.At line fault)) = CertificateText (text.At line fault)
 fault_of (stream.Cert fault) = Certificate fault
 
--- why bytes within their limit give no certificate that proves its bound
+-- why bytes give no certificate that proves its bound
 abbrev pub IsCertificateFault : Instance → List ℕ → Fault → Type 0
 IsCertificateFault i bytes Memory = Unit {0}
 IsCertificateFault i bytes (Unread source.Certificate) = Unit {0}
+IsCertificateFault i bytes (TooLong source.Certificate) = certificate_limit < length bytes
 IsCertificateFault i bytes (CertificateText error) = (length bytes ≤ certificate_limit) × reading.IsFaultIn (reading.HasLow bytes) error (reading.Reads bytes)
 IsCertificateFault i bytes (Certificate fault) = (cert : Cert) × HasCertificate bytes cert × checking.IsJudged i cert (Err fault)
 IsCertificateFault i bytes _ = ⊥
@@ -58,6 +59,7 @@ abbrev pub IsUnproved : List ℕ → List ℕ → Fault → Type 0
 IsUnproved instance certificate (InstanceText error) = IsInstanceFault instance (InstanceText error)
 IsUnproved instance certificate Memory = Unit {0}
 IsUnproved instance certificate (Unread source.Instance) = Unit {0}
+IsUnproved instance certificate (TooLong source.Instance) = instance_limit < length instance
 IsUnproved instance certificate fault = IsUncertified instance certificate fault
 
 -- the line of a bound that is proved

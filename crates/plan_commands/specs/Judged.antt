@@ -8,12 +8,12 @@ use Rattle.ttp_model.specs.Delays.{delay}
 use Rattle.plan_format.specs.declared.fault.LineFault.TheVariants.{Trailing}
 use Rattle.plan_format.specs.declared.fault.PlanTextError.{PlanTextError}
 use Rattle.plan_format.specs.declared.fault.PlanTextError.TheVariants.{At, OutOfMemory}
-use Rattle.command_streams.specs.Limits.{plan_limit}
+use Rattle.command_streams.specs.Limits.{instance_limit, plan_limit}
 use Rattle.command_streams.specs.Streams.{AppendsPart}
 use Rattle.command_streams.specs.declared.ending.Source.TheVariants as source
 use Rattle.command_streams.specs.declared.ending.Sink.TheVariants as sink
 use Rattle.command_streams.specs.declared.ending.Fault.{Fault}
-use Rattle.command_streams.specs.declared.ending.Fault.TheVariants.{InstanceText, Memory, PlanText, Plan, StatedDelay, CertificateText, Certificate, Unread, Unwritten}
+use Rattle.command_streams.specs.declared.ending.Fault.TheVariants.{InstanceText, Memory, PlanText, Plan, StatedDelay, CertificateText, Certificate, TooLong, Unread, Unwritten}
 use Rattle.command_streams.specs.declared.ending.End.{End}
 use Rattle.command_streams.specs.declared.ending.End.TheVariants.{Done, Absent, Stopped, Refused}
 use Rattle.command_streams.specs.Outcomes.{IsCommandAnswer}
@@ -152,6 +152,8 @@ HasNoStanding instance plan (InstanceText error) = IsInstanceFault instance (Ins
 HasNoStanding instance plan Memory = Unit {0}
 HasNoStanding instance plan (Unread source.Instance) = Unit {0}
 HasNoStanding instance plan (Unread source.Plan) = StatesSome instance
+HasNoStanding instance plan (TooLong source.Instance) = instance_limit < length instance
+HasNoStanding instance plan (TooLong source.Plan) = StatesSome instance × (plan_limit < length plan)
 HasNoStanding instance plan (PlanText error) = IsUnstanding instance plan (PlanText error)
 HasNoStanding instance plan (Plan fault) = IsUnstanding instance plan (Plan fault)
 HasNoStanding instance plan (StatedDelay d) = IsUnstanding instance plan (StatedDelay d)
@@ -162,6 +164,7 @@ abbrev pub IsUnjudged : List ℕ → List ℕ → List ℕ → Fault → Type 0
 IsUnjudged instance plan certificate (CertificateText error) = IsUnbounded instance plan certificate (CertificateText error)
 IsUnjudged instance plan certificate (Certificate fault) = IsUnbounded instance plan certificate (Certificate fault)
 IsUnjudged instance plan certificate (Unread source.Certificate) = IsUnbounded instance plan certificate (Unread source.Certificate)
+IsUnjudged instance plan certificate (TooLong source.Certificate) = IsUnbounded instance plan certificate (TooLong source.Certificate)
 IsUnjudged instance plan certificate fault = HasNoStanding instance plan fault
 
 -- what `judge` answers of the bytes of an instance, of a plan and of a certificate, and what it writes
@@ -184,7 +187,7 @@ pub record IsTooLong (bytes : List ℕ) : Type 0 where
 
 -- why bytes in a plan's place stand for nothing: they are at this fault, or are too many
 abbrev pub IsRefusedOrLong : Instance → List ℕ → Fault → Type 0
-IsRefusedOrLong i bytes fault = IsRefusedPlace i bytes fault ⊎ ((fault ≡ Unread source.Plan) × IsTooLong bytes)
+IsRefusedOrLong i bytes fault = IsRefusedPlace i bytes fault ⊎ ((fault ≡ TooLong source.Plan) × IsTooLong bytes)
 
 -- there is a number for the line behind
 abbrev pub HasLineBehind : PlanTextError → Type 0
@@ -209,6 +212,8 @@ IsBeforeCertificate (Plan fault) = Unit {0}
 IsBeforeCertificate (StatedDelay d) = Unit {0}
 IsBeforeCertificate (Unread source.Instance) = Unit {0}
 IsBeforeCertificate (Unread source.Plan) = Unit {0}
+IsBeforeCertificate (TooLong source.Instance) = Unit {0}
+IsBeforeCertificate (TooLong source.Plan) = Unit {0}
 IsBeforeCertificate _ = ⊥
 
 -- how the writing of a judgement ends: at its own end; or the writer failed and gained a prefix of its line; or memory was refused

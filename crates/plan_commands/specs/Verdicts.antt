@@ -1,5 +1,5 @@
 -- What the bytes of an instance and of a plan are judged to be, and what `verify` writes of them.
-use Rattle.std.specs.Prelude.{◌≡◌, ◌≢◌, ℕ, ◌≤◌, List, [], ◌∷◌, ◌++◌, length, codes, decimal, Option}
+use Rattle.std.specs.Prelude.{◌≡◌, ◌≢◌, ℕ, ◌<◌, ◌≤◌, List, [], ◌∷◌, ◌++◌, length, codes, decimal, Option}
 use Rattle.ttp_model.specs.Instance.{Instance}
 use Rattle.ttp_model.specs.Plans.{IsValid}
 use Rattle.ttp_model.specs.Delays.{delay}
@@ -8,11 +8,11 @@ use Rattle.ttp_model.specs.declared.fault.PlanFault.{PlanFault}
 use Rattle.ttp_model.specs.declared.plan.Plan.{Plan as Table}
 use Rattle.plan_format.specs.Spelling.{SpellsPlan}
 use Rattle.plan_format.specs.Reading.{HasFront, IsFaultOf, plan_at}
-use Rattle.command_streams.specs.Limits.{plan_limit}
+use Rattle.command_streams.specs.Limits.{instance_limit, plan_limit}
 use Rattle.plan_commands.specs.declared.verdict.Verified.{Verified}
 use Rattle.command_streams.specs.declared.ending.Source.TheVariants as source
 use Rattle.command_streams.specs.declared.ending.Fault.{Fault}
-use Rattle.command_streams.specs.declared.ending.Fault.TheVariants.{NoMark, LossForm, InstanceText, Memory, PlanText, Plan, StatedDelay, CertificateText, Certificate, TooFewNodes, WrongLoss, TooManySlots, Search, Unread, Unwritten}
+use Rattle.command_streams.specs.declared.ending.Fault.TheVariants.{NoMark, LossForm, InstanceText, Memory, PlanText, Plan, StatedDelay, CertificateText, Certificate, TooFewNodes, WrongLoss, TooManySlots, Search, TooLong, Unread, Unwritten}
 use Rattle.command_streams.specs.declared.ending.End.{End}
 use Rattle.command_streams.specs.Outcomes.{IsCommandAnswer, OnDone}
 use Rattle.command_streams.specs.Instances.{HasInstance, IsInstanceFault, StatesSome}
@@ -76,6 +76,9 @@ IsRefused instance plan Memory = Unit {0}
 IsRefused instance plan (Unread source.Instance) = Unit {0}
 IsRefused instance plan (Unread source.Plan) = StatesSome instance
 IsRefused instance plan (Unread source.Certificate) = ⊥
+IsRefused instance plan (TooLong source.Instance) = instance_limit < length instance
+IsRefused instance plan (TooLong source.Plan) = StatesSome instance × (plan_limit < length plan)
+IsRefused instance plan (TooLong source.Certificate) = ⊥
 IsRefused instance plan (CertificateText error) = ⊥
 IsRefused instance plan (Certificate fault) = ⊥
 IsRefused instance plan TooFewNodes = ⊥

@@ -28,7 +28,8 @@ fn fault_of(fault: StreamFault) -> Fault
     ensures { result ≡ fault_of fault }
 {
     match fault {
-        StreamFault::Read | StreamFault::TooLong => Fault::Unread(Source::Certificate),
+        StreamFault::Read => Fault::Unread(Source::Certificate),
+        StreamFault::TooLong => Fault::TooLong(Source::Certificate),
         StreamFault::Text(CertTextError::OutOfMemory) => Fault::Memory,
         StreamFault::Text(error) => Fault::CertificateText(error),
         StreamFault::Cert(fault) => Fault::Certificate(fault),

@@ -143,7 +143,7 @@ fn standing_of_text(alloc: Global, instance: Instance, bytes: &[u8]) -> Result<S
 {
     let (front, rest) = front_of(bytes);
     if rest.len() > PLAN_LIMIT {
-        return Err(Fault::Unread(Source::Plan));
+        return Err(Fault::TooLong(Source::Plan));
     }
     standing_behind(alloc, instance, front, rest)
 }

@@ -58,6 +58,7 @@ fn wrong_line(alloc: Global) -> Option<usize> {
         (Fault::Unread(Source::Instance), "read instance\n", 6),
         (Fault::Unread(Source::Plan), "read plan\n", 6),
         (Fault::Unread(Source::Certificate), "read certificate\n", 6),
+        (Fault::TooLong(Source::Certificate), "read certificate\n", 6),
         (Fault::Unwritten(Sink::Out), "write out\n", 6),
         (
             Fault::Unwritten(Sink::Certificate),

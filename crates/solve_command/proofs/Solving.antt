@@ -8,7 +8,7 @@ use Rattle.planner.specs.Answers as answers
 use Rattle.solve_command.specs.declared.solve.Solved.{Solved}
 use Rattle.command_streams.specs.declared.ending.Sink.TheVariants as sink
 use Rattle.command_streams.specs.declared.ending.Fault.{Fault}
-use Rattle.command_streams.specs.declared.ending.Fault.TheVariants.{NoMark, LossForm, InstanceText, Memory, PlanText, Plan, StatedDelay, CertificateText, Certificate, TooFewNodes, WrongLoss, TooManySlots, Search, Unread, Unwritten}
+use Rattle.command_streams.specs.declared.ending.Fault.TheVariants.{NoMark, LossForm, InstanceText, Memory, PlanText, Plan, StatedDelay, CertificateText, Certificate, TooFewNodes, WrongLoss, TooManySlots, Search, TooLong, Unread, Unwritten}
 use Rattle.command_streams.specs.declared.ending.End.{End}
 use Rattle.command_streams.specs.declared.ending.End.TheVariants.{Refused}
 use Rattle.command_streams.specs.Outcomes.{IsCommandAnswer}
@@ -53,6 +53,7 @@ module _ (bytes : List ℕ) (options : Options) where
     uncertified (WrongLoss k) never = absurd never
     uncertified (Search fault) never = absurd never
     uncertified (Unread source) never = absurd never
+    uncertified (TooLong source) never = absurd never
 
 -- so it is of what a reader gives, where it tells
 pub told_of_reader : (a : Option (List ℕ)) (options : Options) (wanted : Bool) (from to old : Option (List ℕ)) (solved : Solved) → IfSome a (λ bytes. IsSolved bytes options solved) → IsCertified (answers.cert_of solved.outcome) from to → (new : Option (List ℕ)) (end : End) → IsWritingTo (end_told solved.outcome) solved.text.items old new end → IfSome a (λ bytes. IsSolveAnswer bytes options wanted from to old new end)

@@ -1,5 +1,5 @@
 -- What the bytes of an instance are answered by a search, and what `solve` writes of the answer.
-use Rattle.std.specs.Prelude.{◌≡◌, ℕ, List, [], ◌∷◌, ◌++◌, codes, decimal, ◌⊎◌, Bool, IsTrue, Option, None, Some, IfSome, Result, Ok, Err}
+use Rattle.std.specs.Prelude.{◌≡◌, ℕ, ◌<◌, List, [], ◌∷◌, ◌++◌, length, codes, decimal, ◌⊎◌, Bool, IsTrue, Option, None, Some, IfSome, Result, Ok, Err}
 use Rattle.std.proofs.Common.{inl, inr}
 use Rattle.std.specs.Borrow.{MutBor}
 use Rattle.std.specs.Io.KnownBytes.{Appends, Keeps}
@@ -22,9 +22,10 @@ use Rattle.command_streams.specs.declared.ending.Sink.TheVariants as sink
 use Rattle.command_streams.specs.declared.ending.SearchFault.{SearchFault}
 use Rattle.command_streams.specs.declared.ending.SearchFault.TheVariants as search
 use Rattle.command_streams.specs.declared.ending.Fault.{Fault}
-use Rattle.command_streams.specs.declared.ending.Fault.TheVariants.{InstanceText, Memory, Search, Unread, Unwritten}
+use Rattle.command_streams.specs.declared.ending.Fault.TheVariants.{InstanceText, Memory, Search, TooLong, Unread, Unwritten}
 use Rattle.command_streams.specs.declared.ending.End.{End}
 use Rattle.command_streams.specs.declared.ending.End.TheVariants.{Done, Absent, Stopped, Refused}
+use Rattle.command_streams.specs.Limits.{instance_limit}
 use Rattle.command_streams.specs.Streams.{AppendsPart}
 use Rattle.command_streams.specs.Outcomes.{IsCommandAnswer, IsWritten}
 use Rattle.command_streams.specs.Instances.{HasInstance, IsInstanceFault, StatesSome}
@@ -78,6 +79,7 @@ pub record IsSolved (bytes : List ℕ) (options : Options) (solved : Solved) : T
 abbrev pub IsUnsolved : List ℕ → Fault → Type 0
 IsUnsolved bytes Memory = Unit {0}
 IsUnsolved bytes (Unread source.Instance) = Unit {0}
+IsUnsolved bytes (TooLong source.Instance) = instance_limit < length bytes
 IsUnsolved bytes (InstanceText error) = IsInstanceFault bytes (InstanceText error)
 IsUnsolved bytes (Search search.Memory) = StatesSome bytes
 IsUnsolved bytes (Search search.Thread) = StatesSome bytes
