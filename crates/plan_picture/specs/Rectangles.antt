@@ -22,3 +22,7 @@ pixels_text cycle across node =
 -- what begins a text that is cut off at the rectangle: the second in the first
 unfoldable pub opening_text : Canvas → Rectangle → List ℕ
 opening_text c r = frame_text r ++ pixels_text c.cycle c.across r.node
+
+-- a rectangle behind a title, and the beginning of a text in it
+unfoldable pub opened_text : Canvas → Rectangle → List ℕ
+opened_text c r = codes "</title>" ++ (rectangle_text r ++ opening_text c r)

@@ -1,9 +1,10 @@
 //! How is a rectangle of a row written, and what is written into it?
 
-ghost use Rattle.std.specs.Prelude.{Some};
-ghost use Rattle.plan_picture.specs.Rectangles.{frame_text, opening_text, pixels_text, rectangle_text};
+ghost use Rattle.std.specs.Prelude.{◌≡◌, ◌++◌, OnOk, Some, string_bytes};
+ghost use Rattle.plan_picture.specs.Rectangles.{frame_text, opened_text, opening_text, pixels_text, rectangle_text};
 
 use crate::canvas::{Canvas, top_of};
+use std::alloc::AllocError;
 use std::fmt;
 
 /// A rectangle of a row: a slot or a process.
@@ -93,4 +94,23 @@ impl fmt::Display for Pixels {
             "<svg width=\"{cycle}\" height=\"24\" viewBox=\"0 0 {across} 24\" preserveAspectRatio=\"none\"><text class=\"t{node}\" x=\"4\" y=\"16\">"
         )
     }
+}
+
+/// Adds a rectangle behind a title, and the beginning of a text in it.
+#[tactic(auto, unfolding(crate::specs::Rectangles::opened_text))]
+pub fn put_opened(
+    text: &mut String,
+    canvas: &Canvas,
+    rectangle: &Rectangle,
+) -> Result<(), AllocError>
+    ensures { OnOk result (string_bytes text.new ≡ string_bytes text.old ++ opened_text canvas.now rectangle.now) }
+{
+    let (rectangle, opening) = (
+        *rectangle,
+        Opening {
+            canvas: *canvas,
+            rectangle: *rectangle,
+        },
+    );
+    write!(text, "</title>{rectangle}{opening}")
 }
