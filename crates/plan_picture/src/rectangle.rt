@@ -36,9 +36,9 @@ impl fmt::Display for Rectangle {
 /// What begins a text in a rectangle, which is cut off there. Ticks have no height: the inner `svg` gives the text its
 /// pixels again.
 #[derive(Clone, Copy, Debug)]
-pub struct Opening {
-    pub canvas: Canvas,
-    pub rectangle: Rectangle,
+struct Opening {
+    canvas: Canvas,
+    rectangle: Rectangle,
 }
 
 impl fmt::Display for Opening {
@@ -47,7 +47,11 @@ impl fmt::Display for Opening {
     #[tactic(auto, unfolding(crate::specs::Rectangles::opening_text))]
     fn fmt<W: fmt::Write>(&self, f: &mut fmt::Formatter<W>) -> fmt::Result {
         let (frame, pixels) = (
-            Frame(self.rectangle),
+            Frame {
+                start: self.rectangle.start,
+                top: top_of(self.rectangle.row),
+                length: self.rectangle.length,
+            },
             Pixels {
                 cycle: self.canvas.cycle,
                 across: self.canvas.across,
@@ -60,14 +64,18 @@ impl fmt::Display for Opening {
 
 /// An `svg` element at the ticks of a rectangle.
 #[derive(Clone, Copy, Debug)]
-struct Frame(Rectangle);
+struct Frame {
+    start: u64,
+    top: u64,
+    length: u64,
+}
 
 impl fmt::Display for Frame {
-    ghost output = { λ x. Some (frame_text x.0) };
+    ghost output = { λ x. Some (frame_text x.start x.top x.length) };
 
     #[tactic(auto, unfolding(crate::specs::Rectangles::frame_text))]
     fn fmt<W: fmt::Write>(&self, f: &mut fmt::Formatter<W>) -> fmt::Result {
-        let (start, top, length) = (self.0.start, top_of(self.0.row), self.0.length);
+        let (start, top, length) = (self.start, self.top, self.length);
         write!(
             f,
             "<svg x=\"{start}\" y=\"{top}\" width=\"{length}\" height=\"24\">"
