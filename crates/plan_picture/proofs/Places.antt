@@ -1,5 +1,5 @@
 -- Where lines end is within any horizon, and a later tick is not more to the left.
-use Rattle.std.proofs.Common.{◌≡◌, ℕ, ◌+◌, ◌*◌, ◌/◌, ◌<◌, ◌≤◌, length, slice_index, arith}
+use Rattle.std.proofs.Common.{ℕ, ◌+◌, ◌*◌, ◌/◌, ◌<◌, ◌≤◌, length, slice_index, arith}
 use Rattle.std.proofs.lemmas.Grind.{div_ceil_times}
 use Rattle.std.proofs.lemmas.Nat.{div-add-mod', le-div, mul-le}
 use Rattle.ttp_model.specs.declared.limits.TheConstants.{MOST_TICKS}

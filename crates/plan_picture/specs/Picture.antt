@@ -40,10 +40,27 @@ figures_words delay round cycle =
 abbrev pub figures_text : Canvas → Instance → Plan → List ℕ
 figures_text c i plan = figures_words (delay i plan) (round_length i.cluster plan.caps) c.cycle
 
+-- what opens the picture, with its size
+unfoldable pub front_text : Canvas → List ℕ
+front_text c =
+    codes "<svg xmlns=\"http://www.w3.org/2000/svg\" width=\"" ++ (decimal c.width ++ (codes "\" height=\"" ++ (decimal c.height ++ (codes "\" viewBox=\"0 0 " ++ (decimal c.width ++ (codes " " ++ (decimal c.height ++ codes "\">\n")))))))
+
+-- these words as its title
+unfoldable pub title_text : List ℕ → List ℕ
+title_text words = codes "<title>" ++ (words ++ codes "</title>\n")
+
+-- its white ground
+unfoldable pub ground_text : Canvas → List ℕ
+ground_text c = codes "<rect width=\"" ++ (decimal c.width ++ (codes "\" height=\"" ++ (decimal c.height ++ codes "\" fill=\"#fff\"/>\n")))
+
+-- these words at the top
+unfoldable pub caption_text : List ℕ → List ℕ
+caption_text words = codes "<text x=\"8\" y=\"18\">" ++ (words ++ codes "</text>\n")
+
 -- what begins the picture
 unfoldable pub head_text : Canvas → Instance → Plan → List ℕ
 head_text c i plan =
-    codes "<svg xmlns=\"http://www.w3.org/2000/svg\" width=\"" ++ (decimal c.width ++ (codes "\" height=\"" ++ (decimal c.height ++ (codes "\" viewBox=\"0 0 " ++ (decimal c.width ++ (codes " " ++ (decimal c.height ++ (codes "\">\n" ++ (codes "<title>" ++ (figures_text c i plan ++ (codes "</title>\n" ++ (style_text ++ (codes "<rect width=\"" ++ (decimal c.width ++ (codes "\" height=\"" ++ (decimal c.height ++ (codes "\" fill=\"#fff\"/>\n" ++ (codes "<text x=\"8\" y=\"18\">" ++ (figures_text c i plan ++ codes "</text>\n")))))))))))))))))))
+    front_text c ++ (title_text (figures_text c i plan) ++ (style_text ++ (ground_text c ++ caption_text (figures_text c i plan))))
 
 -- the slots that carry nothing, with a white inside
 abbrev pub hollow_text : Canvas → Instance → Plan → Shown → List ℕ
@@ -51,10 +68,15 @@ hollow_text c i plan All =
     slots_text c i plan Nothing ++ (codes "<rect y=\"60\" width=\"" ++ (decimal c.cycle ++ codes "\" height=\"18\" fill=\"#fff\" pointer-events=\"none\"/>\n"))
 hollow_text c i plan Used = []
 
+-- what opens the part whose units are ticks, from left to right
+unfoldable pub ticks_text : Canvas → List ℕ
+ticks_text c =
+    codes "<svg x=\"120\" width=\"" ++ (decimal c.across ++ (codes "\" height=\"" ++ (decimal c.height ++ (codes "\" viewBox=\"0 0 " ++ (decimal c.cycle ++ (codes " " ++ (decimal c.height ++ codes "\" preserveAspectRatio=\"none\">\n")))))))
+
 -- slots and processes, at their ticks
 unfoldable pub boxes_text : Canvas → Instance → Plan → Shown → List ℕ
 boxes_text c i plan shown =
-    codes "<svg x=\"120\" width=\"" ++ (decimal c.across ++ (codes "\" height=\"" ++ (decimal c.height ++ (codes "\" viewBox=\"0 0 " ++ (decimal c.cycle ++ (codes " " ++ (decimal c.height ++ (codes "\" preserveAspectRatio=\"none\">\n" ++ (hollow_text c i plan shown ++ (slots_text c i plan Messages ++ (processes_text c i plan ++ codes "</svg>\n")))))))))))
+    ticks_text c ++ (hollow_text c i plan shown ++ (slots_text c i plan Messages ++ (processes_text c i plan ++ codes "</svg>\n")))
 
 -- the whole of it, on these measures
 unfoldable pub whole_text : Canvas → Instance → Plan → Shown → List ℕ

@@ -8,7 +8,7 @@ use Rattle.ttp_model.specs.Plans.{start_of}
 use Rattle.plan_picture.specs.declared.canvas.Canvas.{Canvas}
 use Rattle.plan_picture.specs.declared.rectangle.Rectangle.{Rectangle}
 use Rattle.plan_picture.specs.Canvas.{channels}
-use Rattle.plan_picture.specs.Rectangles.{opening_text, rectangle_text}
+use Rattle.plan_picture.specs.Rectangles.{opened_text}
 
 -- the rectangle of a process: in its node's row, at its start, as long as it runs
 abbrev pub process_rectangle : Instance → Plan → ℕ → Rectangle
@@ -24,10 +24,19 @@ unfoldable pub process_words : List ℕ → Process → ℕ → ℕ → List ℕ
 process_words node p start due =
     p.name ++ (codes " on " ++ (node ++ (codes ": from " ++ (decimal start ++ (codes " for " ++ (decimal p.wcet ++ (codes ", released at " ++ (decimal p.release ++ (codes ", due by " ++ decimal due)))))))))
 
--- a process, with its name in it, and a line where it starts
+-- the title of a process
+unfoldable pub process_title_text : Instance → Plan → ℕ → List ℕ
+process_title_text i plan p =
+    codes "<g><title>" ++ process_words (node_at i (node_of i p)).name (process_at i p) (start_of plan p) (min (process_at i p).deadline i.cluster.horizon)
+
+-- its name in its rectangle, and a line where it starts
+unfoldable pub process_name_text : List ℕ → List ℕ
+process_name_text name = name ++ codes "</text><rect width=\"1\" height=\"24\"/></svg></svg></g>\n"
+
+-- a process, with its name in it
 unfoldable pub process_text : Canvas → Instance → Plan → ℕ → List ℕ
 process_text c i plan p =
-    codes "<g><title>" ++ (process_words (node_at i (node_of i p)).name (process_at i p) (start_of plan p) (min (process_at i p).deadline i.cluster.horizon) ++ (codes "</title>" ++ (rectangle_text (process_rectangle i plan p) ++ (opening_text c (process_rectangle i plan p) ++ ((process_at i p).name ++ codes "</text><rect width=\"1\" height=\"24\"/></svg></svg></g>\n")))))
+    process_title_text i plan p ++ (opened_text c (process_rectangle i plan p) ++ process_name_text (process_at i p).name)
 
 -- all processes
 unfoldable pub processes_text : Canvas → Instance → Plan → List ℕ

@@ -10,9 +10,9 @@ rectangle_text r =
     codes "<rect class=\"n" ++ (decimal r.node ++ (codes "\" x=\"" ++ (decimal r.start ++ (codes "\" y=\"" ++ (decimal (top_of r.row) ++ (codes "\" width=\"" ++ (decimal r.length ++ codes "\" height=\"24\"/>")))))))
 
 -- an svg element at its ticks
-unfoldable pub frame_text : Rectangle → List ℕ
-frame_text r =
-    codes "<svg x=\"" ++ (decimal r.start ++ (codes "\" y=\"" ++ (decimal (top_of r.row) ++ (codes "\" width=\"" ++ (decimal r.length ++ codes "\" height=\"24\">")))))
+unfoldable pub frame_text : ℕ → ℕ → ℕ → List ℕ
+frame_text start top length =
+    codes "<svg x=\"" ++ (decimal start ++ (codes "\" y=\"" ++ (decimal top ++ (codes "\" width=\"" ++ (decimal length ++ codes "\" height=\"24\">")))))
 
 -- one whose units are pixels, with the beginning of a text on the colour of a node
 unfoldable pub pixels_text : ℕ → ℕ → ℕ → List ℕ
@@ -21,4 +21,8 @@ pixels_text cycle across node =
 
 -- what begins a text that is cut off at the rectangle: the second in the first
 unfoldable pub opening_text : Canvas → Rectangle → List ℕ
-opening_text c r = frame_text r ++ pixels_text c.cycle c.across r.node
+opening_text c r = frame_text r.start (top_of r.row) r.length ++ pixels_text c.cycle c.across r.node
+
+-- a rectangle behind a title, and the beginning of a text in it
+unfoldable pub opened_text : Canvas → Rectangle → List ℕ
+opened_text c r = codes "</title>" ++ (rectangle_text r ++ opening_text c r)

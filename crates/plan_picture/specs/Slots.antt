@@ -10,7 +10,7 @@ use Rattle.plan_picture.specs.declared.canvas.Canvas.{Canvas}
 use Rattle.plan_picture.specs.declared.rectangle.Rectangle.{Rectangle}
 use Rattle.plan_picture.specs.declared.slots.Load.{Load}
 use Rattle.plan_picture.specs.declared.slots.Load.TheVariants.{Messages, Nothing}
-use Rattle.plan_picture.specs.Rectangles.{opening_text, rectangle_text}
+use Rattle.plan_picture.specs.Rectangles.{opened_text, rectangle_text}
 
 -- the rectangle of a slot
 abbrev pub slot_rectangle : Slot → Rectangle
@@ -46,10 +46,6 @@ hollow_slot_text i s r =
 -- the title of a slot that carries messages
 unfoldable pub slot_title_text : Instance → Slot → List ℕ
 slot_title_text i s = codes "<g><title>" ++ (slot_words (node_at i s.node).name s ++ (codes ":" ++ names_text i s.messages))
-
--- a rectangle behind a title, and the beginning of a text in it
-unfoldable pub opened_text : Canvas → Rectangle → List ℕ
-opened_text c r = codes "</title>" ++ (rectangle_text r ++ opening_text c r)
 
 -- and what is seen of it
 unfoldable pub slot_box_text : Canvas → Instance → Slot → Rectangle → List ℕ

@@ -1,10 +1,12 @@
 //! What is the whole picture?
 
 ghost use Rattle.std.specs.Prelude.{◌≡◌, ◌++◌, ◌*◌, ◌≤◌, ◌<◌, IfOk, OnOk, Some, length, string_bytes};
+ghost use Rattle.ttp_model.specs.Delays.{delay};
 ghost use Rattle.ttp_model.specs.Plans.{IsValid};
+ghost use Rattle.ttp_model.specs.Slots.{round_length};
 ghost use Rattle.plan_picture.specs.Limits.{least_width, most_width};
 ghost use Rattle.plan_picture.specs.Canvas.{IsCanvas};
-ghost use Rattle.plan_picture.specs.Picture.{boxes_text, cycle_slots, figures_words, head_text, hollow_text, picture_text, too_many_slots};
+ghost use Rattle.plan_picture.specs.Picture.{boxes_text, caption_text, cycle_slots, figures_words, front_text, ground_text, head_text, hollow_text, picture_text, style_text, ticks_text, title_text, too_many_slots};
 
 use crate::canvas::{Canvas, canvas_of};
 use crate::lines::put_lines;
@@ -103,8 +105,23 @@ impl fmt::Display for Figures {
     }
 }
 
+/// Those of this plan.
+fn figures_of(canvas: &Canvas, instance: &Instance, plan: &Plan) -> Figures
+    requires { IsValid instance.now plan.now }
+    ensures delay { result.delay ≡ delay instance.now plan.now }
+    ensures round { result.round ≡ round_length instance.now.cluster plan.now.caps }
+    ensures cycle { result.cycle ≡ canvas.now.cycle }
+{
+    let layout = Layout::of(instance, plan.order.as_slice(), plan.caps.as_slice());
+    Figures {
+        delay: delay(instance, plan),
+        round: layout.round_length(),
+        cycle: canvas.cycle,
+    }
+}
+
 /// Adds what begins the picture, with the numbers of the plan.
-#[tactic(auto, unfolding(crate::specs::Picture::head_text, crate::specs::Picture::style_text))]
+#[tactic(auto, unfolding(crate::specs::Picture::head_text))]
 fn put_head(
     text: &mut String,
     canvas: &Canvas,
@@ -114,23 +131,61 @@ fn put_head(
     requires { IsValid instance.now plan.now }
     ensures { OnOk result (string_bytes text.new ≡ string_bytes text.old ++ head_text canvas.now instance.now plan.now) }
 {
-    let layout = Layout::of(instance, plan.order.as_slice(), plan.caps.as_slice());
-    let (width, height, cycle) = (canvas.width, canvas.height, canvas.cycle);
-    let figures = Figures {
-        delay: delay(instance, plan),
-        round: layout.round_length(),
-        cycle,
-    };
+    let figures = figures_of(canvas, instance, plan);
+    put_front(text, canvas)?;
+    put_title(text, figures)?;
+    put_style(text)?;
+    put_ground(text, canvas)?;
+    put_caption(text, figures)
+}
+
+/// Adds what opens the picture, with its size.
+#[tactic(auto, unfolding(crate::specs::Picture::front_text))]
+fn put_front(text: &mut String, canvas: &Canvas) -> Result<(), AllocError>
+    ensures { OnOk result (string_bytes text.new ≡ string_bytes text.old ++ front_text canvas.now) }
+{
+    let (width, height) = (canvas.width, canvas.height);
     writeln!(
         text,
         "<svg xmlns=\"http://www.w3.org/2000/svg\" width=\"{width}\" height=\"{height}\" viewBox=\"0 0 {width} {height}\">"
-    )?;
-    writeln!(text, "<title>{figures}</title>")?;
-    text.push_str(STYLE)?;
+    )
+}
+
+/// Adds its title.
+#[tactic(auto, unfolding(crate::specs::Picture::title_text))]
+fn put_title(text: &mut String, figures: Figures) -> Result<(), AllocError>
+    ensures { let words = figures_words figures.delay figures.round figures.cycle in
+        OnOk result (string_bytes text.new ≡ string_bytes text.old ++ title_text words) }
+{
+    writeln!(text, "<title>{figures}</title>")
+}
+
+/// Adds how texts and shapes look.
+#[tactic(auto, unfolding(crate::specs::Picture::style_text))]
+fn put_style(text: &mut String) -> Result<(), AllocError>
+    ensures { OnOk result (string_bytes text.new ≡ string_bytes text.old ++ style_text) }
+{
+    text.push_str(STYLE)
+}
+
+/// Adds its white ground.
+#[tactic(auto, unfolding(crate::specs::Picture::ground_text))]
+fn put_ground(text: &mut String, canvas: &Canvas) -> Result<(), AllocError>
+    ensures { OnOk result (string_bytes text.new ≡ string_bytes text.old ++ ground_text canvas.now) }
+{
+    let (width, height) = (canvas.width, canvas.height);
     writeln!(
         text,
         "<rect width=\"{width}\" height=\"{height}\" fill=\"#fff\"/>"
-    )?;
+    )
+}
+
+/// Writes the numbers of the plan at the top.
+#[tactic(auto, unfolding(crate::specs::Picture::caption_text))]
+fn put_caption(text: &mut String, figures: Figures) -> Result<(), AllocError>
+    ensures { let words = figures_words figures.delay figures.round figures.cycle in
+        OnOk result (string_bytes text.new ≡ string_bytes text.old ++ caption_text words) }
+{
     writeln!(text, "<text x=\"8\" y=\"18\">{figures}</text>")
 }
 
@@ -147,16 +202,24 @@ fn put_boxes(
     requires { IsValid instance.now plan.now }
     ensures { OnOk result (string_bytes text.new ≡ string_bytes text.old ++ boxes_text canvas.now instance.now plan.now shown) }
 {
+    put_ticks(text, canvas)?;
+    put_hollow_slots(alloc, text, canvas, instance, plan, shown)?;
+    put_slots(alloc, text, canvas, instance, plan, Load::Messages)?;
+    put_processes(text, canvas, instance, plan)?;
+    text.push_str("</svg>\n")?;
+    Ok(())
+}
+
+/// Opens the part whose units are ticks, from left to right.
+#[tactic(auto, unfolding(crate::specs::Picture::ticks_text))]
+fn put_ticks(text: &mut String, canvas: &Canvas) -> Result<(), AllocError>
+    ensures { OnOk result (string_bytes text.new ≡ string_bytes text.old ++ ticks_text canvas.now) }
+{
     let (across, height, cycle) = (canvas.across, canvas.height, canvas.cycle);
     writeln!(
         text,
         "<svg x=\"120\" width=\"{across}\" height=\"{height}\" viewBox=\"0 0 {cycle} {height}\" preserveAspectRatio=\"none\">"
-    )?;
-    put_hollow_slots(alloc, text, canvas, instance, plan, shown)?;
-    put_slots(alloc, text, canvas, instance, plan, Load::Messages)?;
-    put_processes(text, canvas, instance, plan)?;
-    writeln!(text, "</svg>")?;
-    Ok(())
+    )
 }
 
 /// Draws the slots that carry nothing, with a white inside, where they are shown.

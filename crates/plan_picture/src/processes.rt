@@ -2,10 +2,10 @@
 
 ghost use Rattle.std.specs.Prelude.{◌≡◌, ◌++◌, ◌<◌, OnOk, Some, length, string_bytes};
 ghost use Rattle.ttp_model.specs.Plans.{IsValid};
-ghost use Rattle.plan_picture.specs.Processes.{process_rectangle, process_text, process_words, processes_text};
+ghost use Rattle.plan_picture.specs.Processes.{process_name_text, process_rectangle, process_text, process_title_text, process_words, processes_text};
 
 use crate::canvas::{CHANNELS, Canvas};
-use crate::rectangle::{Opening, Rectangle};
+use crate::rectangle::{Rectangle, put_opened};
 use std::alloc::AllocError;
 use std::fmt;
 use ttp_model::{Instance, Plan, Process};
@@ -81,19 +81,42 @@ fn put_process(
     requires inside { p < length instance.now.processes }
     ensures { OnOk result (string_bytes text.new ≡ string_bytes text.old ++ process_text canvas.now instance.now plan.now p) }
 {
-    let process = instance.process_at(p);
     let rectangle = process_rectangle(instance, plan, p);
-    let opening = Opening {
-        canvas: *canvas,
-        rectangle,
-    };
+    let name = instance.process_at(p).name.as_str();
+    put_process_title(text, instance, plan, p)?;
+    put_opened(text, canvas, &rectangle)?;
+    put_process_name(text, name)
+}
+
+/// Adds the title of a process.
+#[tactic(auto, unfolding(crate::specs::Processes::process_title_text))]
+fn put_process_title(
+    text: &mut String,
+    instance: &Instance,
+    plan: &Plan,
+    p: usize,
+) -> Result<(), AllocError>
+    requires valid { IsValid instance.now plan.now }
+    requires inside { p < length instance.now.processes }
+    ensures { OnOk result (string_bytes text.new ≡ string_bytes text.old ++ process_title_text instance.now plan.now p) }
+{
+    let process = instance.process_at(p);
     let words = ProcessWords {
         node: instance.nodes()[process.node as usize].name.as_str(),
         process,
-        start: rectangle.start,
+        start: plan.starts.as_slice()[p] as u64,
         due: process.deadline.min(instance.cluster().horizon),
     };
-    let name = process.name.as_str();
-    write!(text, "<g><title>{words}</title>{rectangle}{opening}{name}")?;
-    text.push_str("</text><rect width=\"1\" height=\"24\"/></svg></svg></g>\n")
+    write!(text, "<g><title>{words}")
+}
+
+/// Adds its name in its rectangle, and a line where it starts.
+#[tactic(auto, unfolding(crate::specs::Processes::process_name_text))]
+fn put_process_name(text: &mut String, name: &str) -> Result<(), AllocError>
+    ensures { OnOk result (string_bytes text.new ≡ string_bytes text.old ++ process_name_text name.now) }
+{
+    writeln!(
+        text,
+        "{name}</text><rect width=\"1\" height=\"24\"/></svg></svg></g>"
+    )
 }

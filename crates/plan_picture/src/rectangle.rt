@@ -1,9 +1,10 @@
 //! How is a rectangle of a row written, and what is written into it?
 
-ghost use Rattle.std.specs.Prelude.{Some};
-ghost use Rattle.plan_picture.specs.Rectangles.{frame_text, opening_text, pixels_text, rectangle_text};
+ghost use Rattle.std.specs.Prelude.{◌≡◌, ◌++◌, OnOk, Some, string_bytes};
+ghost use Rattle.plan_picture.specs.Rectangles.{frame_text, opened_text, opening_text, pixels_text, rectangle_text};
 
 use crate::canvas::{Canvas, top_of};
+use std::alloc::AllocError;
 use std::fmt;
 
 /// A rectangle of a row: a slot or a process.
@@ -35,9 +36,9 @@ impl fmt::Display for Rectangle {
 /// What begins a text in a rectangle, which is cut off there. Ticks have no height: the inner `svg` gives the text its
 /// pixels again.
 #[derive(Clone, Copy, Debug)]
-pub struct Opening {
-    pub canvas: Canvas,
-    pub rectangle: Rectangle,
+struct Opening {
+    canvas: Canvas,
+    rectangle: Rectangle,
 }
 
 impl fmt::Display for Opening {
@@ -46,7 +47,11 @@ impl fmt::Display for Opening {
     #[tactic(auto, unfolding(crate::specs::Rectangles::opening_text))]
     fn fmt<W: fmt::Write>(&self, f: &mut fmt::Formatter<W>) -> fmt::Result {
         let (frame, pixels) = (
-            Frame(self.rectangle),
+            Frame {
+                start: self.rectangle.start,
+                top: top_of(self.rectangle.row),
+                length: self.rectangle.length,
+            },
             Pixels {
                 cycle: self.canvas.cycle,
                 across: self.canvas.across,
@@ -59,14 +64,18 @@ impl fmt::Display for Opening {
 
 /// An `svg` element at the ticks of a rectangle.
 #[derive(Clone, Copy, Debug)]
-struct Frame(Rectangle);
+struct Frame {
+    start: u64,
+    top: u64,
+    length: u64,
+}
 
 impl fmt::Display for Frame {
-    ghost output = { λ x. Some (frame_text x.0) };
+    ghost output = { λ x. Some (frame_text x.start x.top x.length) };
 
     #[tactic(auto, unfolding(crate::specs::Rectangles::frame_text))]
     fn fmt<W: fmt::Write>(&self, f: &mut fmt::Formatter<W>) -> fmt::Result {
-        let (start, top, length) = (self.0.start, top_of(self.0.row), self.0.length);
+        let (start, top, length) = (self.start, self.top, self.length);
         write!(
             f,
             "<svg x=\"{start}\" y=\"{top}\" width=\"{length}\" height=\"24\">"
@@ -93,4 +102,23 @@ impl fmt::Display for Pixels {
             "<svg width=\"{cycle}\" height=\"24\" viewBox=\"0 0 {across} 24\" preserveAspectRatio=\"none\"><text class=\"t{node}\" x=\"4\" y=\"16\">"
         )
     }
+}
+
+/// Adds a rectangle behind a title, and the beginning of a text in it.
+#[tactic(auto, unfolding(crate::specs::Rectangles::opened_text))]
+pub fn put_opened(
+    text: &mut String,
+    canvas: &Canvas,
+    rectangle: &Rectangle,
+) -> Result<(), AllocError>
+    ensures { OnOk result (string_bytes text.new ≡ string_bytes text.old ++ opened_text canvas.now rectangle.now) }
+{
+    let (rectangle, opening) = (
+        *rectangle,
+        Opening {
+            canvas: *canvas,
+            rectangle: *rectangle,
+        },
+    );
+    write!(text, "</title>{rectangle}{opening}")
 }

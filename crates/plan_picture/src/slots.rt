@@ -3,10 +3,10 @@
 ghost use Rattle.std.specs.Prelude.{◌≡◌, ◌≤◌, ◌++◌, ◌<◌, All, OnOk, Some, length, string_bytes};
 ghost use Rattle.ttp_model.specs.Plans.{IsValid};
 ghost use Rattle.plan_sheets.specs.Slots.{IsSlotRow};
-ghost use Rattle.plan_picture.specs.Slots.{has_load, hollow_slot_text, names_text, opened_text, round_slots, slot_box_text, slot_piece, slot_rectangle, slot_title_text, slot_words, slots_text, used_slot_text};
+ghost use Rattle.plan_picture.specs.Slots.{has_load, hollow_slot_text, names_text, round_slots, slot_box_text, slot_piece, slot_rectangle, slot_title_text, slot_words, slots_text, used_slot_text};
 
 use crate::canvas::Canvas;
-use crate::rectangle::{Opening, Rectangle};
+use crate::rectangle::{Rectangle, put_opened};
 use plan_sheets::{Slot, slot_of};
 use std::alloc::{AllocError, Global};
 use std::fmt;
@@ -189,21 +189,6 @@ fn put_slot_box(
     put_opened(text, canvas, &rectangle)?;
     put_names(text, instance, slot.messages.as_slice())?;
     text.push_str("</text></svg></svg></g>\n")
-}
-
-/// Adds a rectangle behind a title, and the beginning of a text in it.
-#[tactic(auto, unfolding(crate::specs::Slots::opened_text))]
-fn put_opened(text: &mut String, canvas: &Canvas, rectangle: &Rectangle) -> Result<(), AllocError>
-    ensures { OnOk result (string_bytes text.new ≡ string_bytes text.old ++ opened_text canvas.now rectangle.now) }
-{
-    let (rectangle, opening) = (
-        *rectangle,
-        Opening {
-            canvas: *canvas,
-            rectangle: *rectangle,
-        },
-    );
-    write!(text, "</title>{rectangle}{opening}")
 }
 
 /// Adds the names of messages, each with a space before it.

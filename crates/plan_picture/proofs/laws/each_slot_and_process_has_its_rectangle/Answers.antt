@@ -1,4 +1,4 @@
-use Rattle.std.proofs.Common.{◌≡◌, ℕ, arith, inl, inr, refl}
+use Rattle.std.proofs.Common.{arith, inl, inr, refl}
 use Rattle.std.proofs.lemmas.Bool.Decides.{eqb_tells}
 use Rattle.plan_sheets.specs.Slots.{slot_of}
 use Rattle.plan_picture.proofs.laws.each_slot_and_process_has_its_rectangle.Goals as goal

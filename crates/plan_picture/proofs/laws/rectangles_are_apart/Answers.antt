@@ -1,4 +1,4 @@
-use Rattle.std.proofs.Common.{◌≡◌, ℕ, arith}
+use Rattle.std.proofs.Common.{◌≡◌, arith}
 use Rattle.ttp_model.specs.Instance.{node_of}
 use Rattle.ttp_model.proofs.ValidPlans.{two_apart}
 use Rattle.tt_layout.proofs.SlotTimes.{slot_end-le-slot_start}

@@ -1,7 +1,6 @@
 use Rattle.std.proofs.Common.{length, slice_index, arith, eq-eqb}
 use Rattle.std.proofs.lemmas.Bool.{eqb-true}
 use Rattle.ttp_model.specs.declared.error.Place.TheVariants.{AtMessage}
-use Rattle.plan_sheets.specs.Slots.{slot_of}
 use Rattle.plan_picture.proofs.Loads.{bytes-of_no_messages, messages-of_no_bytes}
 use Rattle.plan_picture.proofs.laws.slots_without_messages_are_hollow.Goals as goal
 

@@ -1,4 +1,4 @@
-use Rattle.std.proofs.Common.{get_or, arith, refl, sym, ◌∙◌}
+use Rattle.std.proofs.Common.{get_or, arith, sym}
 use Rattle.std.proofs.lemmas.Nat.{mul-le}
 use Rattle.plan_picture.proofs.Steps.{is_here, is_later}
 use Rattle.plan_picture.proofs.scale.first_wide.Goals as goal

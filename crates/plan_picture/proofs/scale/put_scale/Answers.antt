@@ -1,5 +1,5 @@
 use Rattle.std.proofs.Common.{◌≡◌, ◌+◌, ◌/◌, arith}
-use Rattle.plan_picture.specs.Scale.{mark_at, scale_text, step_of}
+use Rattle.plan_picture.specs.Scale.{mark_at, scale_text}
 use Rattle.plan_picture.proofs.Growing.{range_grows}
 use Rattle.plan_picture.proofs.Places.{mark-inside}
 use Rattle.plan_picture.proofs.scale.put_scale.Goals as goal

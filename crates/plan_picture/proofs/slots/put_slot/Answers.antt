@@ -1,4 +1,4 @@
-use Rattle.std.proofs.Common.{◌∙◌, refl, sym}
+use Rattle.std.proofs.Common.{◌∙◌, sym}
 use Rattle.std.proofs.lemmas.List.{append-nil}
 use Rattle.plan_picture.proofs.Pieces.{drawn, left_out}
 use Rattle.plan_picture.proofs.slots.put_slot.Goals as goal

@@ -1,4 +1,4 @@
-use Rattle.std.proofs.Common.{◌≡◌, ap, arith, length}
+use Rattle.std.proofs.Common.{◌≡◌, arith}
 use Rattle.tt_layout.specs.Cycle.{cycle_rounds}
 use Rattle.plan_picture.specs.Slots.{round_slots, slots_text}
 use Rattle.plan_picture.proofs.Growing.{range_grows}
