@@ -10,7 +10,7 @@ use Rattle.plan_commands.proofs.picture.draw_run.Goals as goal
 pub returns-in-Ok-print-clause-answer : goal.returns-in-Ok-print-clause-answer
 returns-in-Ok-print-clause-answer g c =
     told_of_readers (IsPictureText c.args.width c.args.shown) (IsDrawRefused c.args.shown) _ _ c.in-Ok.verified _ _ _ _ c.in-Ok.ensures.judged
-    (record { few = sym c.in-None.ensures; is = c.in-Ok-print.ensures }) (rw c.as_bytes.ensures at c.end_with.ensures)
+    (record { few = sym c.in-None.ensures; is = c.in-Ok-print.ensures }) (rw c.as_bytes.ensures.value at c.end_with.ensures)
 
 pub returns-in-Ok-print-clause-order : goal.returns-in-Ok-print-clause-order
 returns-in-Ok-print-clause-order g c = ended_later _ _ _ _ _ c.end_with.ensures
