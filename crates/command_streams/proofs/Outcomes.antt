@@ -75,6 +75,7 @@ module _ (text : List ℕ) (old new : Option (List ℕ)) where
   made_unless_stopped (Refused (Plan fault)) gains = absurd gains
   made_unless_stopped (Refused (StatedDelay d)) gains = absurd gains
   made_unless_stopped (Refused TooFewNodes) gains = absurd gains
+  made_unless_stopped (Refused (TooManySlots count)) gains = absurd gains
   made_unless_stopped (Refused (CertificateText error)) gains = absurd gains
   made_unless_stopped (Refused (Certificate fault)) gains = absurd gains
   made_unless_stopped (Refused (WrongLoss k)) gains = absurd gains

@@ -4,7 +4,7 @@ use Rattle.plan_picture.specs.declared.picture.Shown.{Shown}
 use Rattle.plan_picture.specs.Picture.{too_many_slots}
 use Rattle.plan_commands.specs.declared.verdict.Verified.{Verified}
 use Rattle.command_streams.specs.declared.ending.Fault.{Fault}
-use Rattle.command_streams.specs.declared.ending.Fault.TheVariants.{NoMark, LossForm, InstanceText, Memory, PlanText, Plan, StatedDelay, CertificateText, Certificate, TooFewNodes, WrongLoss, TooManySlots, Search, Unread, Unwritten}
+use Rattle.command_streams.specs.declared.ending.Fault.TheVariants.{NoMark, LossForm, InstanceText, Memory, PlanText, Plan, StatedDelay, CertificateText, Certificate, TooFewNodes, WrongLoss, TooManySlots, Search, TooLong, Unread, Unwritten}
 use Rattle.command_streams.specs.declared.ending.End.{End}
 use Rattle.command_streams.specs.declared.ending.End.TheVariants.{Refused}
 use Rattle.command_streams.specs.Outcomes.{IsCommandAnswer}
@@ -29,6 +29,7 @@ module _ (shown : Shown) (instance plan : List ℕ) where
   as_drawn (TooManySlots count) refused = absurd refused
   as_drawn (Search fault) refused = refused
   as_drawn (Unread source) refused = refused
+  as_drawn (TooLong source) refused = refused
   as_drawn (Unwritten sink) refused = refused
 
 -- so it is of what two readers tell, where they do

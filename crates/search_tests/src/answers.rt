@@ -1,8 +1,9 @@
 //! What does a search answer, in numbers?
 
+use crate::books::Books;
 use crate::instances::Sample;
 use cert_check::check;
-use planner::{FreeGate, Manner, Options, Outcome, SolveFault, Why, solve, solve_in};
+use planner::{Manner, Options, Outcome, SolveFault, Why, solve, solve_in, solve_with};
 use std::alloc::Global;
 use std::sync::Wait;
 use std::test::Fail;
@@ -94,8 +95,33 @@ pub fn read(alloc: Global, instance: &Instance, outcome: &Outcome) -> Result<Ans
 /// Both manners of a search.
 pub const MANNERS: &[Manner] = &[Manner::Plain, Manner::Sparing];
 
-/// What is answered for an instance by a search in this manner, or why there is no answer. The instances of these tests are
-/// small, so that a plain search is what is made of them by itself.
+/// What a search in this manner comes to, by whichever call; an error where its workers tell a gate of anything out of turn, or
+/// where they work something and tell of nothing. The instances of these tests are small, so that a plain search is what is
+/// made of them by itself.
+fn searched<R: Threads + Wait + Sync>(
+    rt: &R,
+    alloc: Global,
+    instance: &Instance,
+    options: Options,
+    manner: Manner,
+) -> Result<Result<Outcome, SolveFault>, Fail> {
+    let books = Books::new(alloc, options.workers as usize)?;
+    let outcome = match manner {
+        Manner::Plain if options.workers == 1 => return Ok(solve(rt, alloc, instance, options)),
+        Manner::Plain => solve_with(rt, alloc, instance, options, &books),
+        Manner::Sparing => solve_in(rt, alloc, instance, options, manner, &books),
+    };
+    let is_whole = matches!(
+        &outcome,
+        Ok(Outcome::Optimal { .. } | Outcome::Infeasible { .. })
+    );
+    if !books.are_right() || is_whole && books.left() == 0 {
+        return Err("a gate was told out of turn, or of nothing".into());
+    }
+    Ok(outcome)
+}
+
+/// What is answered for an instance by a search in this manner, or why there is no answer.
 pub fn solved<R: Threads + Wait + Sync>(
     rt: &R,
     alloc: Global,
@@ -103,11 +129,7 @@ pub fn solved<R: Threads + Wait + Sync>(
     options: Options,
     manner: Manner,
 ) -> Result<Result<Answer, SolveFault>, Fail> {
-    let searched = match manner {
-        Manner::Plain => solve(rt, alloc, instance, options),
-        Manner::Sparing => solve_in(rt, alloc, instance, options, manner, &FreeGate),
-    };
-    match searched {
+    match searched(rt, alloc, instance, options, manner)? {
         Ok(outcome) => Ok(Ok(read(alloc, instance, &outcome)?)),
         Err(fault) => Ok(Err(fault)),
     }

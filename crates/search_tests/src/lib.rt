@@ -4,6 +4,8 @@
 #[cfg(test)]
 mod answers;
 #[cfg(test)]
+mod books;
+#[cfg(test)]
 mod core_events;
 #[cfg(test)]
 mod dropped_branches;

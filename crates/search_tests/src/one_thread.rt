@@ -3,12 +3,13 @@
 ghost use Rattle.std.specs.Prelude.{◌≡◌, All, IfOk};
 ghost use Rattle.branch_tree.specs.Task.{IsTask};
 
+use crate::books::Books;
 use crate::instances::{ONE_MESSAGE, ONE_OF_THREE, Sample};
 use branch_tree::{Piece, Task, Worked, work};
 use certificate::Node;
 use incumbent::Incumbent;
 use planner::Manner;
-use pool_worker::{FreeGate, Report, run_worker, run_worker_in};
+use pool_worker::{Ending, Report, run_worker, run_worker_in};
 use std::alloc::Global;
 use std::marker::Brand;
 use std::test::Fail;
@@ -138,6 +139,12 @@ pub fn lone_hand<J: Searched>(alloc: Global, instance: &Instance) -> Result<Hand
     }
 }
 
+/// Whether a gate was told of so many tasks as were worked, and at most of one more, whose work was refused memory.
+fn tells_of_work<J: Searched>(left: u64, report: &Report<J>) -> bool {
+    let is_refused = report.ending == Ending::Memory;
+    left == report.worked || is_refused && left == report.worked.saturating_add(1)
+}
+
 /// What a worker alone comes to in this manner, where another watch has offered this. The instance is small, so that it works
 /// plainly by itself.
 pub fn lone_report<J: Searched>(
@@ -154,12 +161,17 @@ pub fn lone_report<J: Searched>(
     let second = word.split(alloc, &mut first)?;
     word.offer(&mut first, offer);
     let budget = 1_000_000;
-    Ok(match manner {
-        Manner::Plain => run_worker(alloc, instance, hand, &word, second, budget, 1, &FreeGate),
+    let books = Books::new(alloc, 1)?;
+    let report = match manner {
+        Manner::Plain => run_worker(alloc, instance, hand, &word, second, budget, 1, &books),
         Manner::Sparing => run_worker_in(
-            alloc, instance, hand, &word, second, budget, 1, manner, &FreeGate,
+            alloc, instance, hand, &word, second, budget, 1, manner, &books,
         ),
-    })
+    };
+    if !books.are_right() || !tells_of_work(books.left(), &report) {
+        return Err("a gate was told out of turn, or of other than what was worked".into());
+    }
+    Ok(report)
 }
 
 /// Whether there are leaves among these pieces, each at this goal.
