@@ -2,7 +2,9 @@ pub mod Refused
 pub mod Earliest
 pub mod FirstFault
 pub mod Listed
+pub mod Parts
 pub mod Told
+pub mod Drawn
 pub mod Lost
 pub mod Named
 pub mod Intervals

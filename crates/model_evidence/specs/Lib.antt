@@ -1,4 +1,6 @@
 pub mod Answers
+pub mod Parts
 pub mod NodeTables
+pub mod Pictures
 pub mod Membership
 pub mod Edges

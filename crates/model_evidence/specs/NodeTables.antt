@@ -14,10 +14,6 @@ EachEntry t node P = All (λ (row : Row). All (P row) row.messages) (slice_index
 abbrev pub Concerns : Instance → ℕ → ℕ → Type 0
 Concerns i node m = (source_of i m ≡ node) ⊎ Any (λ q. node_of i q ≡ node) (message_at i m).receivers
 
--- this text is a part of that one
-abbrev pub IsPartOf : List ℕ → List ℕ → Type 0
-IsPartOf part text = (front : List ℕ) × (behind : List ℕ) × (text ≡ front ++ part ++ behind)
-
 -- how the line of a row begins: its round, its position, its sender and the capacity
 abbrev pub row_front : Instance → Row → List ℕ
 row_front i row =

@@ -10,6 +10,7 @@ mod lines;
 mod loads;
 mod membership;
 mod node_tables;
+mod pictures;
 mod plans;
 mod rules;
 mod slots;
@@ -29,6 +30,9 @@ pub use lines::{lengths_of_parts, number_past_the_last};
 pub use loads::{fact_of_link, interval_that_is_not_full, interval_that_is_too_short};
 pub use membership::{lost_at_sender, lost_everywhere, without_agreement};
 pub use node_tables::{tables_of_frames, tables_of_own_messages, text_with_rows};
+pub use pictures::{
+    picture_with_deliveries, picture_with_empty_slots, picture_with_processes, slots_just_too_many,
+};
 pub use plans::{
     end_past_the_horizon, first_node_once_more, frame_that_is_full, link_without_a_gap,
     processes_that_touch, start_before_the_message, start_past_its_release,

@@ -5,7 +5,8 @@ ghost use Rattle.ttp_model.specs.Plans.{bytes_in};
 ghost use Rattle.ttp_model.specs.Totals.{total};
 ghost use Rattle.medl_tables.specs.declared.row.Row.{Row};
 ghost use Rattle.medl_tables.specs.Medl.{AreTables};
-ghost use Rattle.model_evidence.specs.NodeTables.{Concerns, EachEntry, IsPartOf, row_front};
+ghost use Rattle.model_evidence.specs.NodeTables.{Concerns, EachEntry, row_front};
+ghost use Rattle.model_evidence.specs.Parts.{IsPartOf};
 
 use medl_tables::{Medl, print};
 use plan_check::check;

@@ -1,0 +1,5 @@
+use Rattle.model_evidence.proofs.Drawn.{slot-drawn}
+use Rattle.model_evidence.proofs.pictures.picture_with_empty_slots.Goals as goal
+
+pub returns : goal.returns
+returns c = λ r k round inside none. rw c.in_ok-text.ensures (slot-drawn c.args.instance.now c.args.plan.now c.args.width r k round inside none)
