@@ -43,7 +43,8 @@ figures_text c i plan = figures_words (delay i plan) (round_length i.cluster pla
 -- what opens the picture, with its size
 unfoldable pub front_text : Canvas → List ℕ
 front_text c =
-    codes "<svg xmlns=\"http://www.w3.org/2000/svg\" width=\"" ++ (decimal c.width ++ (codes "\" height=\"" ++ (decimal c.height ++ (codes "\" viewBox=\"0 0 " ++ (decimal c.width ++ (codes " " ++ (decimal c.height ++ codes "\">\n")))))))
+    codes "<svg xmlns=\"http://www.w3.org/2000/svg\" width=\"" ++ (decimal c.width ++ (codes "\" height=\"" ++ (decimal c.height
+    ++ (codes "\" viewBox=\"0 0 " ++ (decimal c.width ++ (codes " " ++ (decimal c.height ++ codes "\">\n")))))))
 
 -- these words as its title
 unfoldable pub title_text : List ℕ → List ℕ
@@ -71,7 +72,8 @@ hollow_text c i plan Used = []
 -- what opens the part whose units are ticks, from left to right
 unfoldable pub ticks_text : Canvas → List ℕ
 ticks_text c =
-    codes "<svg x=\"120\" width=\"" ++ (decimal c.across ++ (codes "\" height=\"" ++ (decimal c.height ++ (codes "\" viewBox=\"0 0 " ++ (decimal c.cycle ++ (codes " " ++ (decimal c.height ++ codes "\" preserveAspectRatio=\"none\">\n")))))))
+    codes "<svg x=\"120\" width=\"" ++ (decimal c.across ++ (codes "\" height=\"" ++ (decimal c.height
+    ++ (codes "\" viewBox=\"0 0 " ++ (decimal c.cycle ++ (codes " " ++ (decimal c.height ++ codes "\" preserveAspectRatio=\"none\">\n")))))))
 
 -- slots and processes, at their ticks
 unfoldable pub boxes_text : Canvas → Instance → Plan → Shown → List ℕ
