@@ -1,4 +1,5 @@
-//! Commands in which memory is refused.
+//! Commands in which memory is refused: each test is run with each allocation refused in turn. A command that says so ends its test
+//! with that, so a run that meets no refusal passes by the answers alone.
 
 use crate::told::Asked::{Check, Draw, Replay, Schedule, Tables, Verify};
 use crate::told::{
@@ -15,6 +16,7 @@ use std::io::Cursor;
 use std::sync::Wait;
 use std::test::Fail;
 use std::thread::Threads;
+use ttp_model::MemoryFault;
 
 /// A page that takes no memory.
 type Page = Cursor<[u8; 4096]>;
@@ -34,15 +36,14 @@ fn begins(page: &Page, text: &str) -> bool {
     page.get_ref().starts_with(text.as_bytes())
 }
 
-/// Whether a command that ended so has written this, or nothing and says that there is no memory.
+/// Whether a command that ended so has written this. One that has written nothing and says that there is no memory ends the test.
 fn is_told(end: &End, out: &Page, text: &str) -> Result<bool, Fail> {
     let mut error = page();
     report(end, &mut error)?;
-    Ok(match status(end) {
-        0 => has(out, text) && has(&error, ""),
-        4 => has(out, "") && has(&error, "memory\n"),
-        _ => false,
-    })
+    if status(end) == 4 && has(out, "") && has(&error, "memory\n") {
+        return Err(MemoryFault.into());
+    }
+    Ok(status(end) == 0 && has(out, text) && has(&error, ""))
 }
 
 /// A command, an instance and a second text, each in parts, and what is written of them.
@@ -53,8 +54,8 @@ type Row = (
     &'static str,
 );
 
-/// Whether a command tells what it does where there is memory, or has written nothing and says that there is none.
-fn survives_refusals(
+/// Whether a command tells what it does where there is memory.
+fn tells(
     rt: &(impl Alloc<A = Global> + Threads + Sync),
     (command, instance, second, text): Row,
 ) -> Result<bool, Fail> {
@@ -71,7 +72,7 @@ fn survives_refusals(
 }
 
 /// The same of a bundle.
-fn bundle_survives(alloc: Global) -> Result<bool, Fail> {
+fn bundle_tells(alloc: Global) -> Result<bool, Fail> {
     let bundle = joined(alloc, &[CLUSTER, FIRST_PARTS, "%%\n", FIRST_PLAN])?;
     let mut out = page();
     let end = verify_bundle(alloc, &mut bundle.as_bytes(), &mut out);
@@ -79,7 +80,7 @@ fn bundle_survives(alloc: Global) -> Result<bool, Fail> {
 }
 
 /// The same of a judgement, in which the plan stands behind the line of a search that was stopped.
-fn judgement_survives(rt: &(impl Alloc<A = Global> + Threads + Sync)) -> Result<bool, Fail> {
+fn judgement_tells(rt: &(impl Alloc<A = Global> + Threads + Sync)) -> Result<bool, Fail> {
     let instance = joined(rt.alloc(), FIRST)?;
     let plan = joined(rt.alloc(), &["stopped memory 8 9\n", FIRST_PLAN])?;
     let mut out = page();
@@ -94,23 +95,31 @@ fn judgement_survives(rt: &(impl Alloc<A = Global> + Threads + Sync)) -> Result<
     is_told(&end, &out, "least 9\n")
 }
 
-/// Whether a search that ended so has written what it writes where there is memory, bounds and a certificate, or nothing.
+/// Whether a search with this status says that memory was refused: it has written nothing, or bounds and a certificate.
+fn is_refused(status: u8, out: &Page, certificate: &Page, error: &Page) -> bool {
+    match status {
+        4 => has(out, "") && has(error, "memory\n"),
+        7 => has(out, "") && has(error, "solve thread\n"),
+        11 => begins(out, "stopped memory ")
+            && begins(certificate, "ttcert 1\nlow ")
+            && has(error, ""),
+        _ => false,
+    }
+}
+
+/// Whether a search that ended so has written the plan and a certificate. One that says that memory was refused ends the test.
 fn is_found(end: &End, out: &Page, certificate: &Page) -> Result<bool, Fail> {
     let mut error = page();
     report(end, &mut error)?;
-    Ok(match status(end) {
-        0 => has(out, FIRST_PLAN) && begins(certificate, "ttcert 1\nlow 9\n") && has(&error, ""),
-        4 => has(out, "") && has(&error, "memory\n"),
-        7 => has(out, "") && has(&error, "solve thread\n"),
-        11 => begins(out, "stopped memory ")
-            && begins(certificate, "ttcert 1\nlow ")
-            && has(&error, ""),
-        _ => false,
-    })
+    if is_refused(status(end), out, certificate, &error) {
+        return Err(MemoryFault.into());
+    }
+    let is_whole = has(out, FIRST_PLAN) && begins(certificate, "ttcert 1\nlow 9\n");
+    Ok(status(end) == 0 && is_whole && has(&error, ""))
 }
 
 /// Whether a search with so many workers does so.
-fn search_survives<R: Threads + Wait + Sync>(
+fn search_finds<R: Threads + Wait + Sync>(
     rt: &R,
     alloc: Global,
     workers: u32,
@@ -142,31 +151,30 @@ static ANSWERS: &[Row] = &[
     (Draw(Used), FIRST, &[FIRST_PLAN], FIRST_PICTURE),
 ];
 
-/// Run with each allocation refused in turn: the answer is the same, or that memory was refused.
 #[test]
 fn refused_in_turn(rt: HostRuntime) -> Result<(), Fail> {
     for (k, row) in ANSWERS.iter().enumerate() {
-        assert!(rt; survives_refusals(&rt, *row)?, "row {k}");
+        assert!(rt; tells(&rt, *row)?, "row {k}");
     }
     Ok(())
 }
 
 #[test]
 fn bundle_refused_in_turn(rt: HostRuntime) -> Result<(), Fail> {
-    assert!(rt; bundle_survives(rt.alloc())?);
+    assert!(rt; bundle_tells(rt.alloc())?);
     Ok(())
 }
 
 #[test]
 fn judgement_refused_in_turn(rt: HostRuntime) -> Result<(), Fail> {
-    assert!(rt; judgement_survives(&rt)?);
+    assert!(rt; judgement_tells(&rt)?);
     Ok(())
 }
 
 #[test]
 fn search_refused_in_turn(rt: HostRuntime) -> Result<(), Fail> {
     for workers in [1, 2] {
-        assert!(rt; search_survives(&rt, rt.alloc(), workers)?, "{workers}");
+        assert!(rt; search_finds(&rt, rt.alloc(), workers)?, "{workers}");
     }
     Ok(())
 }

@@ -6,11 +6,15 @@ use instance_text::{Key, Place, TextError, read};
 use std::alloc::{AllocError, Global};
 use std::process::Abort;
 use std::test::Fail;
-use ttp_model::{ModelError, Part};
+use ttp_model::{MemoryFault, ModelError, Part};
 
-/// The first fault of a text.
-fn fault(alloc: Global, text: &str) -> Option<TextError> {
-    read(alloc, text.as_bytes()).err()
+/// The first fault of a text, or that memory was refused.
+fn fault(alloc: Global, text: &str) -> Result<Option<TextError>, MemoryFault> {
+    match read(alloc, text.as_bytes()) {
+        Ok(_) => Ok(None),
+        Err(TextError::OutOfMemory) => Err(MemoryFault),
+        Err(error) => Ok(Some(error)),
+    }
 }
 
 /// The text with a message that has no receiver, and 30,000 links from p to q.
@@ -29,28 +33,29 @@ fn too_many_links_are_counted_once_all_are_read(rt: HostRuntime) -> Result<(), F
     let alloc = rt.alloc();
     let mut text = linked(&rt, alloc)?;
     let wanted = TextError::Model(ModelError::Length(Part::Links));
-    same(&rt, "p and q", fault(alloc, text.as_str()), Some(wanted));
+    same(&rt, "p and q", fault(alloc, text.as_str())?, Some(wanted));
     text.push_str("[[link]]\nfrom = \"p\"\nto = \"s\"\n")?;
     let place = Place::Link(30_000);
     let wanted = TextError::UnknownName {
         place,
         key: Key::To,
     };
-    same(&rt, "p and s", fault(alloc, text.as_str()), Some(wanted));
+    same(&rt, "p and s", fault(alloc, text.as_str())?, Some(wanted));
     Ok(())
 }
 
-/// Holds in a run in which any one allocation is refused, as by `rt try --test --fail-alloc N`.
+/// Run with each allocation refused in turn: the fault is the same, or the test ends with that memory was refused. Where none is
+/// refused, a lawful text has none.
 #[test]
-fn a_refused_allocation_is_told_as_such(rt: HostRuntime) {
+fn a_refused_allocation_is_told_as_such(rt: HostRuntime) -> Result<(), Fail> {
     let alloc = rt.alloc();
-    let stated = fault(alloc, TEXT);
-    assert!(rt; stated.is_none() || stated == Some(TextError::OutOfMemory));
-    let faulty = fault(alloc, "[cluster]\n[[node]]\n[[process]]\n");
+    same(&rt, "a lawful text", fault(alloc, TEXT)?, None);
+    let text = "[cluster]\n[[node]]\n[[process]]\n";
     let place = Place::Cluster;
-    let wanted = Some(TextError::MissingKey {
+    let wanted = TextError::MissingKey {
         place,
         key: Key::Precision,
-    });
-    assert!(rt; faulty == wanted || faulty == Some(TextError::OutOfMemory));
+    };
+    same(&rt, text, fault(alloc, text)?, Some(wanted));
+    Ok(())
 }
