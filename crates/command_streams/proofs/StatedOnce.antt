@@ -1,5 +1,5 @@
 -- Bytes that state an instance are read as that one, unless the reader failed or memory was refused.
-use Rattle.std.proofs.Common.{◌≡◌, ℕ, ◌<◌, List, ◌++◌, length, Option, None, Some, IfSome, Result, Ok, MatchResult, arith, refl, sym, ap, subst, length-append}
+use Rattle.std.proofs.Common.{◌≡◌, ℕ, ◌<◌, List, length, Option, None, Some, IfSome, Result, Ok, MatchResult, arith, refl, sym, ap, subst, length-append}
 use Rattle.ttp_model.specs.Instance.{Instance}
 use Rattle.instance_text.specs.Faults.{States}
 use Rattle.instance_text.specs.declared.error.TextError.{TextError}

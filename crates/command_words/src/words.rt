@@ -155,9 +155,12 @@ fn schedule_command<'a>(alloc: Global) -> Result<Command<'a>, AllocError> {
 /// The subcommand that draws.
 pub(crate) fn draw_command<'a>(alloc: Global) -> Result<Command<'a>, AllocError> {
     let width = number(alloc, WIDTH, "How many pixels it is wide, 200 to 10000");
-    let used = Arg::new(alloc, "used").long("used").action(ArgAction::SetTrue).help(
-        "Leaves out the slots that carry nothing; a picture that shows each slot of the cycle has 100,000 at most",
-    );
+    let used = Arg::new(alloc, "used")
+        .long("used")
+        .action(ArgAction::SetTrue)
+        .help(
+            "Leaves out the slots that carry nothing; a picture that shows each slot of the cycle has 100,000 at most",
+        );
     command_on_files(
         alloc,
         "draw",

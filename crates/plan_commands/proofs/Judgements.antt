@@ -4,7 +4,7 @@ use Rattle.std.proofs.lemmas.Bool.{cases_lt}
 use Rattle.ttp_model.specs.declared.plan.Plan.{Plan as Table}
 use Rattle.ttp_model.specs.Instance.{Instance}
 use Rattle.ttp_model.specs.Rules.{IsInstance}
-use Rattle.ttp_model.specs.Delays.{HasNoPlan, IsLeastDelay, IsLowerBound, delay}
+use Rattle.ttp_model.specs.Delays.{HasNoPlan, IsLeastDelay, IsLowerBound}
 use Rattle.ttp_model.proofs.ValidPlans.{bound_is_none}
 use Rattle.plan_format.proofs.WholeText as plan_text
 use Rattle.certificate.specs.Cert.{Cert}

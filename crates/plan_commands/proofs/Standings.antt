@@ -1,5 +1,5 @@
 -- What the bytes in a plan's place stand for, behind how they begin; and which faults are told of it.
-use Rattle.std.proofs.Common.{◌≡◌, ℕ, ◌<◌, ◌≤◌, List, [], ◌∷◌, ◌++◌, length, Option, None, Some, Result, Ok, Err, IfSome, MatchResult, arith, ap, sym, subst, inl, inr, length-append}
+use Rattle.std.proofs.Common.{◌≡◌, ℕ, ◌<◌, ◌≤◌, List, ◌∷◌, length, Option, None, Some, Result, Ok, Err, IfSome, MatchResult, arith, ap, sym, subst, inl, inr, length-append}
 use Rattle.ttp_model.specs.Instance.{Instance}
 use Rattle.ttp_model.specs.Rules.{IsInstance}
 use Rattle.ttp_model.specs.declared.fault.PlanFault.{PlanFault}

@@ -1,6 +1,6 @@
 -- An answer that is found, certified and written is the outcome of `solve`.
-use Rattle.std.proofs.Common.{◌≡◌, ℕ, Bool, true, List, Option, None, Some, Result, Ok, Err, IfSome, MatchResult, ◌⊎◌, inl, inr, refl}
-use Rattle.std.specs.Io.KnownBytes.{Appends, Keeps}
+use Rattle.std.proofs.Common.{ℕ, Bool, true, List, Option, None, Some, Err, IfSome, inl, inr, refl}
+use Rattle.std.specs.Io.KnownBytes.{Appends}
 use Rattle.planner.specs.declared.outcome.Options.{Options}
 use Rattle.planner.specs.declared.outcome.Outcome.{Outcome}
 use Rattle.planner.specs.declared.outcome.Outcome.TheVariants as answer

@@ -1,6 +1,6 @@
 -- A lawful step is lawful with one order more, and gives the same with that order, where it doesn't read it; and of an order that isn't
 -- known only the step reads it that asks how long its first process may have to wait.
-use Rattle.std.proofs.Common.{◌≡◌, ◌≢◌, ℕ, ◌+◌, ◌-◌, List, length, slice_index, Bool, true, false, IsTrue, IsFalse, arith, inl, inr, refl, ap, ap₂, subst, sym, ◌∙◌}
+use Rattle.std.proofs.Common.{◌≡◌, ◌≢◌, ℕ, ◌-◌, List, length, slice_index, Bool, true, false, IsTrue, IsFalse, arith, inl, inr, refl, ap, ap₂, subst, sym, ◌∙◌}
 use Rattle.std.proofs.lemmas.Bool.{cases_eq, both_ways, false≢true}
 use Rattle.ttp_model.specs.declared.step.Step.{Step}
 use Rattle.ttp_model.specs.declared.step.Step.TheVariants.{EsRelease, EsLink, EsBefore, EsArrive, EsMessage, LoSend, LeOwn, LeLink, LeBefore, LeMessage, LeSend, HiArrive, OrdWindow, OrdTwin, UsSettled, XWindow, XRound, XCycle, XLoad, XFrame, XFrames, XLate, XSilent}
@@ -13,7 +13,6 @@ use Rattle.tt_infer.specs.declared.fact.Fact.TheVariants.{Start, End, FirstRound
 use Rattle.tt_infer.specs.declared.limit.Limit.{Limit}
 use Rattle.tt_infer.specs.declared.limit.Limit.TheVariants.{Goal, LeastSlot, GreatestSlot, LeastFrame, GreatestFrame, Place}
 use Rattle.tt_infer.specs.Known.{Known, Fits, bef_of}
-use Rattle.tt_infer.specs.Conclusions.{Conclusion}
 use Rattle.tt_infer.specs.Premises.{IsAhead, IsRing}
 use Rattle.tt_infer.specs.Table.{rule, IsLawful}
 use Rattle.tt_infer.specs.Reads.{AgreeOn, AgreeOnReads, AreNeighbours, BoundsRun, BoundsSending, GivesAlike, IsKnownPair, KeepsOut, ReadsFact, TellsWait}

@@ -1,5 +1,5 @@
 -- What a decision sets is the same by all decisions and by the kept ones, where the last one that sets it is kept.
-use Rattle.std.proofs.Common.{◌≡◌, ℕ, ◌&&◌, ◌||◌, not, List, [], ◌∷◌, Bool, true, false, IsTrue, IsFalse, inl, inr, refl, sym}
+use Rattle.std.proofs.Common.{◌&&◌, ◌||◌, not, List, [], ◌∷◌, Bool, true, false, IsTrue, IsFalse, inl, inr, refl, sym}
 use Rattle.std.proofs.lemmas.Bool.{cases_Bool, and_parts}
 use Rattle.ttp_model.specs.Instance.{Instance}
 use Rattle.tt_choice.specs.declared.decision.Decision.{Decision}
@@ -7,7 +7,7 @@ use Rattle.tt_choice.specs.Choice.{Choice, IsChoice}
 use Rattle.tt_choice.specs.Decisions.{choice_after, choice_after_all, IsOpenDecision, AreOpenDecisions}
 use Rattle.tt_choice.specs.Inside.{IsInside}
 use Rattle.tt_choice.specs.Kept.{Marked, keep, drop, all_of, kept_of, takes_place, KeepsPlaces, last_kept}
-use Rattle.tt_choice.proofs.kept.Wider.{IsWider, open_wider, wider_kept, wider_dropped}
+use Rattle.tt_choice.proofs.kept.Wider.{IsWider, wider_kept, wider_dropped}
 
 -- what is the same in two choices: a decision that is made in both sets it, or it is left by it, made in both or in the first alone
 pub record IsSetBy (i : Instance) (Same : Choice → Choice → Type 0) (picks : Decision → Bool) : Type 0 where

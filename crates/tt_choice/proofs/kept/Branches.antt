@@ -1,5 +1,5 @@
 -- A branch that is open by all decisions is open by the kept ones, with the same children; and one more decision, kept or not.
-use Rattle.std.proofs.Common.{◌≡◌, ℕ, ◌<◌, ◌==◌, ◌&&◌, not, List, [], ◌∷◌, ◌++◌, length, slice_index, filter, Bool, true, false, IsTrue, zero, suc, refl, ap, sym, subst, ◌∙◌}
+use Rattle.std.proofs.Common.{◌≡◌, ℕ, ◌<◌, ◌==◌, ◌&&◌, not, List, [], ◌∷◌, ◌++◌, length, slice_index, filter, Bool, false, IsTrue, zero, suc, refl, ap, sym, subst}
 use Rattle.std.specs.List.{list_any, range_with_len}
 use Rattle.std.proofs.lemmas.Bool.{false≢true}
 use Rattle.ttp_model.specs.declared.step.Kind.{Kind}

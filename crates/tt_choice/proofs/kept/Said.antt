@@ -1,13 +1,13 @@
 -- Rounds, orders and capacities are set by decisions.
-use Rattle.std.proofs.Common.{◌≡◌, ◌≢◌, ℕ, ◌+◌, ◌-◌, ◌*◌, ◌<◌, ◌≤◌, ◌==◌, ◌&&◌, nat_lt, length, slice_index, slice_index_or, slice_set, Option, None, Some, Bool, true, false, IsTrue, IsFalse, arith, inl, inr, refl, ap, sym, ◌∙◌, ◌⊎◌, get_or-set_other, get_or-set_same}
-use Rattle.std.proofs.lemmas.Bool.{cases_Bool, cases_eq, cases_lt, both_ways, false≢true, and_from, and_parts, eq-eqb, eqb-true, lt-ltb}
+use Rattle.std.proofs.Common.{◌≡◌, ◌≢◌, ℕ, ◌+◌, ◌-◌, ◌<◌, ◌==◌, ◌&&◌, nat_lt, length, slice_index, None, Some, false, IsTrue, IsFalse, arith, inl, inr, ap, sym, ◌∙◌, ◌⊎◌, get_or-set_other, get_or-set_same}
+use Rattle.std.proofs.lemmas.Bool.{cases_eq, cases_lt, both_ways, false≢true, and_from, and_parts, eq-eqb, eqb-true, lt-ltb}
 use Rattle.ttp_model.specs.Instance.{Instance, node_at}
 use Rattle.tt_choice.specs.declared.decision.Decision.{Decision}
 use Rattle.tt_choice.specs.declared.decision.Decision.TheVariants as decided
 use Rattle.tt_choice.specs.Choice.{Choice, IsChoice, fixed_cap, is_before, least_round, greatest_round}
 use Rattle.tt_choice.specs.Decisions.{choice_after, IsOpenDecision}
 use Rattle.tt_choice.specs.Extremes.{cap_least, cap_most, least_option, most_option}
-use Rattle.tt_choice.specs.Inside.{IsInside, IsKeptBy}
+use Rattle.tt_choice.specs.Inside.{IsInside}
 use Rattle.tt_choice.specs.Kept.{sets_least, sets_greatest, sets_order, fixes_above, fixes_below}
 use Rattle.tt_choice.proofs.Before.{put_other, put_same}
 use Rattle.tt_choice.proofs.kept.Alike.{IsSetBy}

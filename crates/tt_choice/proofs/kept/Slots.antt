@@ -1,5 +1,5 @@
 -- Slots stand at the same times by all decisions and by the kept ones, where those are kept that they rest on.
-use Rattle.std.proofs.Common.{◌≡◌, ◌≢◌, ℕ, ◌+◌, ◌-◌, ◌*◌, ◌<◌, ◌≤◌, ◌==◌, ◌++◌, if◌then◌else◌, nat_lt, List, length, length-append, slice_index, take, sum_by, true, false, arith, inl, inr, refl, ap, ap₂, sym, ◌∙◌}
+use Rattle.std.proofs.Common.{◌≡◌, ℕ, ◌+◌, ◌-◌, ◌*◌, ◌<◌, ◌≤◌, ◌==◌, ◌++◌, List, length, length-append, slice_index, take, sum_by, arith, inl, inr, ap, ap₂, sym, ◌∙◌}
 use Rattle.std.proofs.lemmas.List.{take-append-le, get_or-take, length-take}
 use Rattle.std.proofs.lemmas.List.Sums.{position_or_len_is, fails_before_first, passes_at_first}
 use Rattle.std.proofs.lemmas.Bool.{cases_lt, lt-ltb, le-ltb, both_ways}
@@ -8,7 +8,7 @@ use Rattle.ttp_model.specs.Slots.{slot_duration, nodes_before}
 use Rattle.ttp_model.specs.Totals.{total}
 use Rattle.ttp_model.proofs.Totals.{list_total, total_same}
 use Rattle.tt_choice.specs.Choice.{Choice, IsChoice}
-use Rattle.tt_choice.specs.Extremes.{cap_least, cap_most, dur_least, dur_most, place_of, offset_least, offset_most, start_least, start_most, end_least, end_most}
+use Rattle.tt_choice.specs.Extremes.{cap_least, cap_most, dur_least, dur_most, place_of, offset_most, start_least, start_most, end_least, end_most}
 use Rattle.tt_choice.proofs.Extend.{first_part}
 
 -- a node stands where it stood, in the first part of an order

@@ -1,5 +1,5 @@
 -- What some of the decisions make is wider than what all of them make, and they are open there too.
-use Rattle.std.proofs.Common.{◌≡◌, ◌≢◌, ℕ, ◌+◌, ◌*◌, ◌<◌, ◌≤◌, ◌==◌, ◌&&◌, ◌||◌, not, if◌then◌else◌, List, [], ◌∷◌, ◌++◌, length, slice_index, Option, None, Some, Bool, true, false, IsTrue, IsFalse, arith, inl, inr, refl, ap, sym, subst, ◌∙◌, append_assoc, length-append, get_or-set_other, get_or-set_same}
+use Rattle.std.proofs.Common.{◌≡◌, ◌≢◌, ℕ, ◌*◌, ◌<◌, ◌==◌, ◌&&◌, not, List, [], ◌∷◌, ◌++◌, length, slice_index, Option, None, Some, Bool, true, false, IsTrue, IsFalse, arith, inl, inr, refl, ap, sym, subst, ◌∙◌, append_assoc, get_or-set_other, get_or-set_same}
 use Rattle.std.specs.List.{list_any}
 use Rattle.std.proofs.lemmas.List.{append-nil}
 use Rattle.std.proofs.lemmas.Bool.{cases_Bool, cases_eq, both_ways}
@@ -7,8 +7,8 @@ use Rattle.ttp_model.specs.Instance.{Instance, node_at}
 use Rattle.tt_choice.specs.declared.decision.Decision.{Decision}
 use Rattle.tt_choice.specs.declared.decision.Decision.TheVariants as decided
 use Rattle.ttp_model.specs.declared.plan.Plan.{Plan}
-use Rattle.tt_choice.specs.Choice.{Choice, IsChoice, IsIn, ArePair, fixed_cap, is_before, least_round, greatest_round}
-use Rattle.tt_choice.specs.Branches.{is_placed, order_pair, IsUnplaced}
+use Rattle.tt_choice.specs.Choice.{Choice, IsChoice, IsIn, ArePair, fixed_cap, is_before}
+use Rattle.tt_choice.specs.Branches.{order_pair}
 use Rattle.tt_choice.specs.Decisions.{choice_after, choice_after_all, IsOpenDecision, AreOpenDecisions}
 use Rattle.tt_choice.specs.Inside.{IsInside, IsKeptBy}
 use Rattle.tt_choice.specs.Kept.{Marked, keep, drop, all_of, kept_of, takes_place, KeepsPlaces, places_kept}

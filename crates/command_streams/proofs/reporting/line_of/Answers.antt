@@ -1,7 +1,5 @@
 use Rattle.std.proofs.Common.{◌≡◌, ◌∙◌, ◌++◌, refl}
 use Rattle.std.proofs.lemmas.Fmt.{contents_after_writes}
-use Rattle.arrayvec.specs.ArrayString.{ArrayString}
-use Rattle.command_streams.specs.Lines.{fault_line}
 use Rattle.command_streams.proofs.reporting.line_of.Goals as goal
 
 pub returns : goal.returns
