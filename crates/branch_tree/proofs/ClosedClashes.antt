@@ -15,11 +15,11 @@ use Rattle.ttp_model.proofs.Totals.{total_same}
 use Rattle.ttp_model.proofs.ValidPlans.{greatest_reached}
 use Rattle.tt_choice.specs.Choice.{Choice, IsChoice, IsComplete, least_round}
 use Rattle.tt_choice.specs.Extremes.{start_most, end_least, cap_most, dur_most}
-use Rattle.tt_infer.specs.Known.{first_facts, top_of}
-use Rattle.tt_infer.specs.Conclusions.{SentFrom, SentBefore, sharpened, capped}
-use Rattle.tt_infer.specs.Premises.{Receives, IsAhead, IsFirstChance, AreChances, least_ready, bytes_within}
+use Rattle.sought_plans.specs.Known.{first_facts, top_of}
+use Rattle.sought_plans.specs.Conclusions.{SentFrom, SentBefore, sharpened, capped}
+use Rattle.sought_plans.specs.Premises.{Receives, IsAhead, IsFirstChance, AreChances, least_ready, bytes_within}
 use Rattle.tt_infer.proofs.Chances.{concludes_some}
-use Rattle.path_bounds.proofs.Complete.{start_exact, end_exact, cap_exact, one_round}
+use Rattle.step_logs.proofs.Complete.{start_exact, end_exact, cap_exact, one_round}
 use Rattle.earliest_starts.specs.declared.clash.Clash.{Clash}
 use Rattle.earliest_starts.specs.declared.clash.Clash.TheVariants.{Cycle, Round, Window, Frame}
 use Rattle.earliest_starts.specs.Fixed.{GoesAhead, fixed_bytes}

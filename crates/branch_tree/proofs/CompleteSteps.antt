@@ -8,12 +8,12 @@ use Rattle.ttp_model.specs.declared.step.Step.TheVariants.{EsRelease, EsLink, Es
 use Rattle.ttp_model.specs.Instance.{Instance, process_at, message_at, link_at, source_of}
 use Rattle.ttp_model.specs.Rules.{IsInstance, IsProcess}
 use Rattle.tt_choice.specs.Choice.{Choice, IsChoice, IsComplete, least_round}
-use Rattle.tt_infer.specs.Known.{Known, first_facts}
-use Rattle.tt_infer.specs.Conclusions.{StartsFrom, EndsUntil, NothingLeft, sharpened, capped}
+use Rattle.sought_plans.specs.Known.{Known, first_facts}
+use Rattle.sought_plans.specs.Conclusions.{StartsFrom, EndsUntil, NothingLeft, sharpened, capped}
 use Rattle.tt_infer.specs.Table.{rule, IsLawful}
 use Rattle.tt_infer.specs.Leaves.{Lead}
 use Rattle.tt_infer.proofs.Leaves.{Lead-append}
-use Rattle.path_bounds.proofs.Complete.{end_exact}
+use Rattle.step_logs.proofs.Complete.{end_exact}
 use Rattle.earliest_starts.specs.Clashes.{WaitsUntil, released, arrived, after}
 use Rattle.branch_tree.specs.Closers.{IsDominance, IsClosedBy}
 

@@ -1,15 +1,7 @@
-pub mod RootSize
 pub mod EarliestDelays
 pub mod Incomplete
-pub mod Chosen
-pub mod DecisionLists
 pub mod Splits
-pub mod Trials
-pub mod ChildTasks
 pub mod Workbenches
 pub mod CompleteSteps
 pub mod ClosedClashes
 pub mod OneMessageChoices
-pub mod Weights
-pub mod Once
-pub mod OneChoice

@@ -10,10 +10,9 @@ use Rattle.tt_choice.specs.Decisions.{IsOpenDecision, AreOpenDecisions, chosen}
 use Rattle.tt_infer.specs.Facts.{Facts}
 use Rattle.tt_infer.specs.Leaves.{ClosesLeaf}
 use Rattle.path_bounds.specs.Propagator.{Propagator, IsPropagation, IsLog}
-use Rattle.branch_tree.specs.Trials.{IsLeft}
-use Rattle.branch_tree.specs.Work.{ClosesAt}
+use Rattle.subtree_tasks.specs.Trials.{IsLeft, ClosesAt}
 use Rattle.branch_tree.specs.Workbench.{ComesTo}
-use Rattle.branch_tree.proofs.Chosen.{open_at}
+use Rattle.subtree_tasks.proofs.Chosen.{open_at}
 
 -- the first of a list are no more than all
 pub no_more : (xs ds : List Decision) → xs ≡ take (length xs) ds → length xs ≤ length ds

@@ -1,11 +1,5 @@
-pub mod Name
-pub mod Task
-pub mod Pieces
-pub mod Account
-pub mod Once
 pub mod Work
 pub mod Workbench
 pub mod Branching
-pub mod Trials
 pub mod Closers
 pub mod Examples

@@ -9,30 +9,22 @@ use Rattle.ttp_model.specs.Plans.{IsValid}
 use Rattle.ttp_model.specs.Delays.{delay}
 use Rattle.ttp_model.specs.Chains.{IsPathBound}
 use Rattle.ttp_model.specs.Moves.{IsSettled, MovesLead}
-use Rattle.tt_choice.specs.declared.decision.Decision.{Decision}
 use Rattle.tt_choice.specs.Choice.{Choice, IsIn, IsComplete}
-use Rattle.tt_choice.specs.Decisions.{decisions_of}
 use Rattle.tt_choice.specs.Branches.{IsBranch}
 use Rattle.tt_choice.specs.Sizes.{size_left}
 use Rattle.tt_infer.specs.Leaves.{ClosesLeaf}
 use Rattle.earliest_starts.specs.Answers.{IsEarliest}
 use Rattle.certificate.specs.declared.node.Node.TheVariants.{Leaf as AsLeaf}
-use Rattle.branch_tree.specs.declared.piece.Piece.{Piece}
+use Rattle.subtree_tasks.specs.declared.piece.Piece.{Piece}
 use Rattle.branch_tree.specs.declared.worked.Worked.{Worked}
 use Rattle.branch_tree.specs.declared.worked.Worked.TheVariants.{Split, Closed, Found}
-use Rattle.branch_tree.specs.Name.{child_names}
-use Rattle.branch_tree.specs.Task.{Task, choice_of, root_task, IsTask}
+use Rattle.subtree_tasks.specs.Task.{Task, choice_of, root_task, IsTask, AreChildren}
+pub use Rattle.subtree_tasks.specs.Trials.{ClosesAt}
 
 -- each valid plan of the task is in a child
 abbrev pub Cover : Instance → Task → List Task → Type 0
 Cover i t tasks = (plan : Plan) → IsValid i plan → IsIn i (choice_of i t) plan
     → (k : ℕ) × (k < length tasks) × IsIn i (choice_of i (slice_index_or tasks k t)) plan
-
--- a task for each child of a branch, in order: each has one decision more
-pub record AreChildren (i : Instance) (t : Task) (kind : Kind) (tasks : List Task) : Type 0 where
-  pub names : map (λ (task : Task). task.name) tasks ≡ child_names t.name (length tasks)
-  pub decisions : map (λ (task : Task). task.decisions) tasks
-      ≡ map (λ (d : Decision). t.decisions ++ d ∷ []) (decisions_of i (choice_of i t) kind)
 
 -- An open branch of a choice that leaves something to choose, at a goal above the path bound, and a
 -- task for each of its children, in order. The root's branch places a node, where there are several.
@@ -58,11 +50,6 @@ pub record IsFind (i : Instance) (c : Choice) (goal : ℕ) (plan : Plan) (ticks 
   pub settled : IsSettled i plan
   pub delay_is : ticks ≡ delay i plan
   pub no_later : ticks ≤ leaf.goal
-  pub closes : ClosesLeaf i c leaf
-
--- a leaf closes the choice at this goal
-pub record ClosesAt (i : Instance) (c : Choice) (goal : ℕ) (leaf : Leaf) : Type 0 where
-  pub at : leaf.goal ≡ goal
   pub closes : ClosesLeaf i c leaf
 
 -- what is answered for a task at a goal

@@ -6,14 +6,15 @@ ghost use Rattle.ttp_model.specs.Plans.{IsValid};
 ghost use Rattle.ttp_model.specs.Delays.{delay};
 ghost use Rattle.ttp_model.specs.Moves.{IsSettled, MovesLead};
 ghost use Rattle.tt_choice.specs.Choice.{IsChoice, IsIn, IsComplete};
-ghost use Rattle.path_bounds.specs.Propagation.{IsPlanBelow};
+ghost use Rattle.step_logs.specs.PlansBelow.{IsPlanBelow};
 ghost use Rattle.earliest_starts.specs.Answers.{IsEarliest};
-ghost use Rattle.branch_tree.specs.Work.{ClosesAt, IsWorkedFind};
+ghost use Rattle.subtree_tasks.specs.Trials.{ClosesAt};
+ghost use Rattle.branch_tree.specs.Work.{IsWorkedFind};
 
-use crate::trial::{Trial, tried};
 use crate::worked::Worked;
 use earliest_starts::{Earliest, earliest};
 use std::alloc::Global;
+use subtree_tasks::{Trial, tried};
 use tt_choice::Choice;
 use tt_settle::settle;
 use ttp_model::{Instance, Leaf, MemoryFault, Plan, delay};

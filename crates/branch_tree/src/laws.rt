@@ -1,6 +1,6 @@
 //! What follows from the definitions alone? These functions do nothing: their contracts are laws.
 
-ghost use Rattle.std.specs.Prelude.{◌≡◌, ◌<◌, ◌≤◌, ◌++◌, ℕ, List, length, Contains};
+ghost use Rattle.std.specs.Prelude.{◌<◌, ◌≤◌, ℕ, length};
 ghost use Rattle.ttp_model.specs.declared.plan.Plan.{Plan};
 ghost use Rattle.ttp_model.specs.declared.step.Step.TheVariants.{XWindow};
 ghost use Rattle.ttp_model.specs.Instance.{Instance};
@@ -10,11 +10,6 @@ ghost use Rattle.tt_choice.specs.Choice.{Choice, IsChoice, IsComplete};
 ghost use Rattle.earliest_starts.specs.declared.clash.Clash.{Clash};
 ghost use Rattle.earliest_starts.specs.Clashes.{IsClash};
 ghost use Rattle.earliest_starts.specs.Answers.{IsEarliest};
-ghost use Rattle.branch_tree.specs.declared.piece.Piece.{Piece};
-ghost use Rattle.branch_tree.specs.Name.{Name};
-ghost use Rattle.branch_tree.specs.Pieces.{names_of, StandsAt};
-ghost use Rattle.branch_tree.specs.Account.{IsWholeTree};
-ghost use Rattle.branch_tree.specs.Once.{NoneTwice};
 ghost use Rattle.branch_tree.specs.Closers.{IsClosedBy, closer_of};
 
 /// A complete choice with a clash is closed at every goal by the clash's own closer, after steps
@@ -31,19 +26,4 @@ pub fn plans_are_closed_up_to_their_delay()
     ensures { (i : Instance) (c : Choice) (goal : ℕ) (plan : Plan)
         → IsInstance i → IsChoice i c → IsComplete i c → IsEarliest i c plan → goal ≤ delay i plan
         → (p : ℕ) × (p < length i.processes) × IsClosedBy i c goal (XWindow p) }
-{}
-
-/// In a tree no name stands twice, of pieces or open.
-pub fn names_stand_once()
-    ensures { (pieces : List Piece) (unworked : List Name)
-        → IsWholeTree pieces unworked → NoneTwice (names_of pieces ++ unworked) }
-{}
-
-/// In a tree just one choice stands at each name, by the branches of its pieces.
-pub fn one_choice_stands()
-    ensures some { (i : Instance) (pieces : List Piece) (unworked : List Name) (name : Name)
-        → IsWholeTree pieces unworked → Contains (names_of pieces ++ unworked) name
-        → (c : Choice) × StandsAt i pieces name c }
-    ensures one { (i : Instance) (pieces : List Piece) (unworked : List Name) (name : Name) (c d : Choice)
-        → IsWholeTree pieces unworked → StandsAt i pieces name c → StandsAt i pieces name d → c ≡ d }
 {}

@@ -2,29 +2,19 @@
 #![tactic(auto)]
 
 mod branching;
-mod children;
 mod examples;
 mod failures;
 mod finding;
 mod laws;
 mod lessons;
-mod name;
-mod piece;
-mod task;
-mod trial;
 mod tries;
 mod workbench;
 mod worked;
 mod working;
 
 pub use examples::{one_message_in_round_0, one_message_in_round_1};
-pub use laws::{
-    clashes_are_closed_by_their_closers, names_stand_once, one_choice_stands,
-    plans_are_closed_up_to_their_delay,
-};
-pub use name::Name;
-pub use piece::Piece;
-pub use task::Task;
+pub use laws::{clashes_are_closed_by_their_closers, plans_are_closed_up_to_their_delay};
+pub use subtree_tasks::{Name, Piece, Task, names_stand_once, one_choice_stands};
 pub use workbench::Workbench;
 pub use worked::Worked;
 pub use working::{close_left, work, work_on};

@@ -1,6 +1,6 @@
 //! What became of a task?
 
-use crate::task::Task;
+use subtree_tasks::Task;
 use ttp_model::{Kind, Leaf, Plan};
 
 /// What a task was worked into.

@@ -5,25 +5,22 @@ ghost use Rattle.ttp_model.specs.declared.plan.Plan.{Plan};
 ghost use Rattle.ttp_model.specs.declared.step.Kind.TheVariants.{Place};
 ghost use Rattle.ttp_model.specs.Chains.{IsPathBound};
 ghost use Rattle.tt_choice.specs.Choice.{IsChoice, IsComplete};
-ghost use Rattle.path_bounds.specs.Propagation.{IsPlanBelow};
+ghost use Rattle.step_logs.specs.PlansBelow.{IsPlanBelow};
 ghost use Rattle.branch_tree.specs.Branching.{Branches};
-ghost use Rattle.branch_tree.specs.Task.{choice_of, root_task, IsTask};
+ghost use Rattle.subtree_tasks.specs.Task.{choice_of, root_task, IsTask};
 ghost use Rattle.branch_tree.specs.Work.{IsWorked, IsLeftClosed};
 ghost use Rattle.branch_tree.specs.Workbench.{IsWorkbenchOf, ComesTo};
 
 use crate::branching::{branch, branch_on};
-use crate::children::child_tasks;
 use crate::failures::Failures;
 use crate::finding::found;
 use crate::lessons::Lessons;
-use crate::piece::Piece;
-use crate::task::Task;
-use crate::trial::{Trial, tried};
 use crate::workbench::Workbench;
 use crate::worked::Worked;
 use certificate::Node;
 use path_bounds::{Propagator, best_goal};
 use std::alloc::Global;
+use subtree_tasks::{Piece, Task, Trial, child_tasks, tried};
 use tt_choice::Choice;
 use ttp_model::{Instance, Kind, MemoryFault};
 

@@ -1,23 +1,33 @@
 -- Bytes of a certificate that proves its bound are answered with that bound, unless the reader failed or memory was refused.
-use Rattle.std.proofs.Common.{◌≡◌, ℕ, ◌+◌, ◌≤◌, List, ◌++◌, length, Option, None, Some, IfSome, Result, Ok, Err, arith, refl, sym, ap, subst, ◌∙◌, length-append}
+use Rattle.std.proofs.Common.{◌≡◌, ℕ, ◌+◌, ◌≤◌, ◌<◌, List, ◌++◌, length, Option, None, Some, IfSome, Result, Ok, Err, arith, refl, sym, ap, subst, ◌∙◌, length-append}
 use Rattle.std.specs.Io.KnownBytes.{Consumes}
 use Rattle.ttp_model.specs.Instance.{Instance}
+use Rattle.ttp_model.specs.Rules.{IsInstance}
+use Rattle.ttp_model.specs.Delays.{IsLowerBound, HasNoPlan}
 use Rattle.certificate.specs.declared.fault.CertTextError.{CertTextError}
 use Rattle.certificate.specs.declared.fault.CertTextError.TheVariants as text
+use Rattle.certificate.specs.declared.fault.SourceFault.{SourceFault}
+use Rattle.certificate.specs.declared.fault.SourceFault.TheVariants as source
+use Rattle.certificate.specs.declared.node.Node.{Node}
+use Rattle.certificate.specs.declared.stream.CertStream.{CertStream}
 use Rattle.certificate.specs.Cert.{Cert}
 use Rattle.certificate.specs.Limits.{most_text_bytes}
 use Rattle.certificate.specs.Reading.{Reading, Reads}
 use Rattle.certificate.specs.Spelling.{SpellsCert}
-use Rattle.certificate.specs.Streams.{BytesRead}
+use Rattle.certificate.specs.Opened.{certificate_with}
+use Rattle.certificate.specs.Streams.{BytesRead, IsCertFault, LeavesNodes}
+use Rattle.certificate.specs.Trees.{trees_of}
 use Rattle.certificate.proofs.WholeText.{again, one_answer}
-use Rattle.cert_check.specs.declared.fault.CertFault.{CertFault}
-use Rattle.cert_check.specs.declared.fault.CertFault.TheVariants.{LowTooGreat, At, OutOfMemory}
+use Rattle.tree_check.specs.declared.fault.CertFault.{CertFault}
+use Rattle.tree_check.specs.declared.fault.CertFault.TheVariants.{LowTooGreat, At, OutOfMemory}
 use Rattle.cert_check.specs.declared.fault.StreamFault.{StreamFault}
 use Rattle.cert_check.specs.declared.fault.StreamFault.TheVariants.{Read, TooLong, Text, Cert as InCert}
-use Rattle.cert_check.specs.Proofs.{Proves}
-use Rattle.cert_check.specs.Faults.{IsJudged}
-use Rattle.cert_check.specs.Streams.{IsAnswerOf, IsBoundUnlessStopped, IsStreamJudged, IsTakenFrom}
-use Rattle.cert_check.proofs.NoFaults.{only_memory}
+use Rattle.tree_check.specs.Proofs.{Proves}
+use Rattle.tree_check.specs.Faults.{IsJudged}
+use Rattle.cert_check.specs.Streams.{IsAnswerOf, IsBoundUnlessStopped, IsStreamJudged, IsTakenFrom, fault_of_source}
+use Rattle.cert_check.specs.UnderWay.{AnswersAll, IsLinesFault, StopsAt}
+use Rattle.tree_check.proofs.Bounds.{proved_bound, proved_none}
+use Rattle.tree_check.proofs.NoFaults.{only_memory}
 
 -- what is answered of a text in some way is answered of it in every way that tells as much
 pub answer_by : (i : Instance) (Tells Others : Reading Cert → Type 0) (answer : Result ℕ StreamFault) → ((reading : Reading Cert) → Tells reading → Others reading) → IsAnswerOf i Tells answer → IsAnswerOf i Others answer
@@ -64,3 +74,49 @@ bound_of_proof i (Some bytes) next (Err (Text text.OutOfMemory)) judged taken = 
 bound_of_proof i (Some bytes) next (Err (Text (text.At line fault))) judged taken = λ cert within spelled proves. absurd (reads_no_fault bytes cert spelled (text.At line fault) judged)
 bound_of_proof i (Some bytes) next (Err (InCert fault)) judged taken = λ cert within spelled proves.
     judged_memory i cert fault proves (subst (λ (c : Cert). IsJudged i c (Err fault)) (reads_cert bytes cert spelled judged.0 judged.1) judged.2)
+
+-- ---- what is answered of a whole text by what is told of its nodes
+
+pub answer_of_lines : (i : Instance) (Tells : Reading Cert → Type 0) (taken : ℕ) (fault : SourceFault) → IsCertFault Tells taken fault → IsAnswerOf i Tells (Err (fault_of_source fault)) × StopsAt taken (Err (fault_of_source fault))
+answer_of_lines i Tells taken source.Read is = (tt, tt)
+answer_of_lines i Tells taken source.TooLong is = (tt, is)
+answer_of_lines i Tells taken (source.Text text.OutOfMemory) is = (tt, tt)
+answer_of_lines i Tells taken (source.Text (text.At line fault)) is = (is, tt)
+
+module _ {R : Type 0} (i : Instance) (low : ℕ) (remaining : R → Option (List ℕ)) (s : CertStream R) (Tells : Reading Cert → Type 0) (whole : (read : Reading (List Node)) → LeavesNodes remaining s read → Tells (certificate_with low read)) (taken : ℕ) where
+  pub answer_of_rest : (fault : StreamFault) → IsLinesFault (LeavesNodes remaining s) taken fault → IsAnswerOf i Tells (Err fault) × StopsAt taken (Err fault)
+  answer_of_rest Read is = (tt, tt)
+  answer_of_rest TooLong is = (tt, is)
+  answer_of_rest (Text text.OutOfMemory) is = (tt, tt)
+  answer_of_rest (Text (text.At line fault)) is = (whole (Err (text.At line fault)) is, tt)
+  answer_of_rest (InCert fault) is = absurd is
+
+  pub too_great : (nodes : List Node) → LeavesNodes remaining s (Ok nodes) → i.cluster.horizon + 1 < low → IsAnswerOf i Tells (Err (InCert LowTooGreat))
+  too_great nodes l past = (record { low = low; tree = trees_of nodes }, whole (Ok nodes) l, past)
+
+  module _ (within : low ≤ i.cluster.horizon + 1) where
+    pub answer_of_fault : (fault : StreamFault) → AnswersAll i low remaining s taken (Err fault) → IsAnswerOf i Tells (Err fault) × StopsAt taken (Err fault)
+    answer_of_fault Read is = (tt, tt)
+    answer_of_fault TooLong is = (tt, is)
+    answer_of_fault (Text text.OutOfMemory) is = (tt, tt)
+    answer_of_fault (Text (text.At line fault)) is = (whole (Err (text.At line fault)) is, tt)
+    answer_of_fault (InCert LowTooGreat) is = absurd is.1.1
+    answer_of_fault (InCert (At line fault)) is = ((record { low = low; tree = trees_of is.0 }, whole (Ok is.0) is.1.0, (within, is.1.1)), tt)
+    answer_of_fault (InCert OutOfMemory) is = ((record { low = low; tree = trees_of is.0 }, whole (Ok is.0) is.1.0, within), tt)
+
+    pub proof_of_all : AnswersAll i low remaining s taken (Ok tt) → IsAnswerOf i Tells (Ok low)
+    proof_of_all is = (record { low = low; tree = trees_of is.0 }, whole (Ok is.0) is.1.0, (refl, record { low = within; tree = is.1.1 }))
+
+    pub bound_of_all : IsInstance i → AnswersAll i low remaining s taken (Ok tt) → IsLowerBound i low
+    bound_of_all instance is = proved_bound i (record { low = low; tree = trees_of is.0 }) instance (record { low = within; tree = is.1.1 })
+
+    pub none_of_all : IsInstance i → AnswersAll i low remaining s taken (Ok tt) → low ≡ i.cluster.horizon + 1 → HasNoPlan i
+    none_of_all instance is past = proved_none i (record { low = low; tree = trees_of is.0 }) instance (record { low = within; tree = is.1.1 }) past
+
+-- what is wrong with lines that are read alone
+pub passing_fails : {R : Type 0} (i : Instance) (low : ℕ) (remaining : R → Option (List ℕ)) (s : CertStream R) (taken : ℕ) (fault : StreamFault) → IsLinesFault (LeavesNodes remaining s) taken fault → AnswersAll i low remaining s taken (Err fault)
+passing_fails i low remaining s taken Read is = tt
+passing_fails i low remaining s taken TooLong is = is
+passing_fails i low remaining s taken (Text text.OutOfMemory) is = tt
+passing_fails i low remaining s taken (Text (text.At line fault)) is = is
+passing_fails i low remaining s taken (InCert fault) is = absurd is

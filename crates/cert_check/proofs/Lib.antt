@@ -1,16 +1,9 @@
-pub mod Bare
-pub mod Bounds
-pub mod Turns
-pub mod Trees
-pub mod Seen
-pub mod Nodes
 pub mod NextNodes
 pub mod Runs
 pub mod ClosedRuns
 pub mod Waiting
-pub mod LeafSteps
-pub mod NoFaults
 pub mod Streams
+pub mod Taking
 pub mod Accepted
 pub mod Failing
 pub mod Pieces

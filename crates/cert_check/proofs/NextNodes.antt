@@ -1,5 +1,5 @@
 -- One node after another of those that a stream gives.
-use Rattle.std.proofs.Common.{◌≡◌, ℕ, zero, suc, ◌+◌, ◌<◌, List, [], ◌∷◌, ◌++◌, length, reverse, Some, Result, Ok, Err, OnOk, arith, refl, sym, ap, subst, ◌∙◌}
+use Rattle.std.proofs.Common.{◌≡◌, ℕ, zero, suc, ◌+◌, ◌<◌, List, [], ◌∷◌, length, reverse, arith, refl, sym, ap, subst, ◌∙◌}
 use Rattle.std.proofs.lemmas.List.{append-nil}
 use Rattle.tt_choice.specs.Choice.{Choice}
 use Rattle.tt_choice.specs.Branches.{IsBranch, child_choices, root_choice}
@@ -9,11 +9,11 @@ use Rattle.certificate.specs.declared.branch.Branch.{Branch}
 use Rattle.certificate.specs.declared.node.Node.{Node}
 use Rattle.certificate.specs.Trees.{children, trees_of}
 use Rattle.certificate.specs.Opened.{still_due, TakesChild}
-use Rattle.cert_check.specs.declared.fault.CertFault.{CertFault}
-use Rattle.cert_check.specs.declared.fault.CertFault.TheVariants.{LowTooGreat, At, OutOfMemory}
-use Rattle.cert_check.specs.Proofs.{AreProofs}
-use Rattle.cert_check.specs.Seen.{ReadLeaf, AllClose, IsSeen, TellsFirst, TellsHeld, TellsSeen}
-use Rattle.cert_check.specs.Going.{total_due, IsFoundIn}
+use Rattle.tree_check.specs.declared.fault.CertFault.{CertFault}
+use Rattle.tree_check.specs.declared.fault.CertFault.TheVariants.{LowTooGreat, At, OutOfMemory}
+use Rattle.tree_check.specs.Proofs.{AreProofs}
+use Rattle.tree_check.specs.Seen.{ReadLeaf, AllClose, IsSeen, TellsHeld, TellsSeen}
+use Rattle.cert_check.specs.UnderWay.{total_due}
 
 -- ---- children that are still to come
 
@@ -60,16 +60,3 @@ pub held_tells : (i : Instance) (low : ℕ) (seen : List Node) (rs : List ReadLe
 held_tells i low seen rs left LowTooGreat s tells = absurd tells
 held_tells i low seen rs left (At at fault) s tells = λ rest. (tells.0, tells.1, s.waits rest tells.0 fault tells.2)
 held_tells i low seen rs left OutOfMemory s tells = λ rest. tt
-
--- a fault of what was seen is one of all nodes
-pub found_in : (i : Instance) (low : ℕ) (seen rest : List Node) (fault : CertFault) → TellsSeen i low seen fault → IsFoundIn i low (seen ++ rest) (Some fault)
-found_in i low seen rest fault tells = tells rest
-
-pub found_at_end : (i : Instance) (low : ℕ) (seen : List Node) (fault : CertFault) → TellsSeen i low seen fault → IsFoundIn i low seen (Some fault)
-found_at_end i low seen fault tells = subst (λ (ns : List Node). TellsFirst i low (trees_of ns) fault) (append-nil seen) (tells [])
-
--- ---- two facts of an `Ok`
-
-pub both_ok : {T E P Q S : Type 0} (r : Result T E) → OnOk r P → OnOk r Q → (P → Q → S) → OnOk r S
-both_ok (Ok x) p q f = f p q
-both_ok (Err e) p q f = tt

@@ -1,11 +1,11 @@
 -- What taking the next node of a stream comes to, where a leaf's steps aren't read yet.
-use Rattle.std.proofs.Common.{◌≡◌, ℕ, ◌+◌, ◌^◌, ◌<◌, List, [], ◌∷◌, ◌++◌, Option, Some, IfSome, arith, inl, inr, sym, subst, ◌∙◌}
+use Rattle.std.proofs.Common.{◌≡◌, ℕ, ◌+◌, ◌^◌, ◌<◌, List, [], ◌∷◌, ◌++◌, Option, Some, IfSome, Ok, reverse, arith, refl, sym, ap, subst, ◌∙◌}
 use Rattle.std.specs.Global.{Vec}
 use Rattle.std.proofs.lemmas.List.{append_assoc}
 use Rattle.ttp_model.specs.declared.step.Step.{Step}
 use Rattle.ttp_model.specs.Instance.{Instance}
 use Rattle.tt_choice.specs.Choice.{Choice}
-use Rattle.tt_choice.specs.Branches.{IsBranch, child_choices}
+use Rattle.tt_choice.specs.Branches.{child_choices}
 use Rattle.certificate.specs.declared.branch.Branch.{Branch}
 use Rattle.certificate.specs.declared.fault.CertTextError.TheVariants as text
 use Rattle.certificate.specs.declared.fault.SourceFault.{SourceFault}
@@ -17,22 +17,21 @@ use Rattle.certificate.specs.declared.stream.CertStream.{CertStream}
 use Rattle.certificate.specs.Words.{count_of, node_of_head}
 use Rattle.certificate.specs.Reading.{steps_at}
 use Rattle.certificate.specs.Sources.{Origin}
-use Rattle.certificate.specs.Opened.{in_front, TakesChild}
-use Rattle.certificate.specs.Streams.{next_line, still_to_come, LeavesNodes, LeavesNext, LeavesPiece, StreamIsFrom, IsNodeFault}
-use Rattle.cert_check.specs.declared.batch.HeldLeaf.{HeldLeaf}
-use Rattle.cert_check.specs.declared.fault.CertFault.{CertFault}
-use Rattle.cert_check.specs.declared.going.Going.{Going}
-use Rattle.cert_check.specs.declared.going.Stop.{Stop}
-use Rattle.cert_check.specs.declared.going.Stop.TheVariants.{End, Lines, Branch as OfStop}
-use Rattle.cert_check.specs.declared.walk.Walk.{Walk}
-use Rattle.cert_check.specs.Faults.{told_line}
-use Rattle.cert_check.specs.Seen.{IsSeen, TellsBranch, TellsSeen, line_behind}
-use Rattle.cert_check.specs.Turns.{IsWalk}
-use Rattle.cert_check.specs.UnderWay.{IsStopped, IsStuck, IsUnderWay}
-use Rattle.cert_check.specs.Waiting.{TakeFails, Takes, TellsText, Waits, held_leaf}
-use Rattle.cert_check.proofs.NextNodes.{one_due, first_left, held_tells}
-use Rattle.cert_check.proofs.Seen.{later_told, node_fails, branch_tells}
-use Rattle.cert_check.proofs.Streams.{behind_more, branch_taken, leaf_waits}
+use Rattle.certificate.specs.Opened.{still_due, TakesChild}
+use Rattle.certificate.specs.Streams.{next_line, still_to_come, bytes_taken, LeavesNodes, LeavesNext, LeavesPiece, StreamIsFrom, IsNodeFault}
+use Rattle.tree_check.specs.declared.walk.Walk.{Walk}
+use Rattle.tree_check.specs.Seen.{TellsBranch}
+use Rattle.tree_check.specs.Turns.{IsWalk}
+use Rattle.held_leaves.specs.declared.leaves.HeldLeaf.{HeldLeaf}
+use Rattle.cert_check.specs.declared.ahead.Ahead.{Ahead}
+use Rattle.cert_check.specs.declared.ahead.Ahead.TheVariants.{More, End, Fault}
+use Rattle.cert_check.specs.declared.fault.StreamFault.{StreamFault}
+use Rattle.cert_check.specs.declared.fault.StreamFault.TheVariants.{Read, TooLong, Text, Cert as InCert}
+use Rattle.cert_check.specs.Streams.{fault_of_source}
+use Rattle.cert_check.specs.UnderWay.{IsAhead, IsUnderWay, Stands, to_come}
+use Rattle.cert_check.specs.Waiting.{TakeFails, Takes, held_leaf}
+use Rattle.cert_check.proofs.NextNodes.{one_due, first_left}
+use Rattle.cert_check.proofs.Taking.{branch_taken, leaf_waits}
 
 -- The next node's line says this, and the lines of its steps were passed.
 pub record IsPiece {R : Type 0} (remaining : R → Option (List ℕ)) (now next : CertStream R) (head : Head) (line : ℕ) (steps : List ℕ) : Type 0 where
@@ -59,82 +58,111 @@ branch_said : {R : Type 0} (remaining : R → Option (List ℕ)) (now next : Cer
 unfolding steps_at
 branch_said remaining now next branch line steps leaves = λ read l. leaves read l
 
-module _ {R : Type 0} (i : Instance) (low : ℕ) (remaining : R → Option (List ℕ)) (first now next : CertStream R) (w : Walk) (hs : List HeldLeaf) (u : IsUnderWay i low remaining first now w hs) where
-  -- the choice that the node stands at
-  stands : (head : Head) (line : ℕ) (steps : List ℕ) → IsPiece remaining now next head line steps → (c : Choice) × (left : List Choice) × (u.left ≡ c ∷ left)
-  stands head line steps p = first_left u.left (omega (arith, u.count, one_due (still_to_come now) (still_to_come next) (node_of_head head []) (p.due [])))
+-- what is wrong with the next lines
+lines_ahead : {R : Type 0} (i : Instance) (remaining : R → Option (List ℕ)) (at now : CertStream R) (w : Walk) (left : List Choice) (fault : SourceFault) → IsNodeFault (LeavesNodes remaining at) (bytes_taken now) fault → IsAhead i remaining at now w left (Fault (fault_of_source fault))
+lines_ahead i remaining at now w left source.Read is = tt
+lines_ahead i remaining at now w left source.TooLong is = is
+lines_ahead i remaining at now w left (source.Text text.OutOfMemory) is = tt
+lines_ahead i remaining at now w left (source.Text (text.At line fault)) is = is
 
-  pub next_there : (head : Head) (line : ℕ) (steps : List ℕ) → IsPiece remaining now next head line steps → (c : Choice) × (left : List Choice) × (IsWalk i w (c ∷ left))
-  next_there head line steps p =
-      let there = stands head line steps p in
-      (there.0, there.1, subst (IsWalk i w) there.2 u.walk)
+module _ {R : Type 0} (i : Instance) (low : ℕ) (remaining : R → Option (List ℕ)) (first now : CertStream R) (w : Walk) (hs : List HeldLeaf) (s : Stands i low remaining first now w hs More) where
+  under_way_here : IsUnderWay i low remaining first now s.left hs
+  under_way_here = subst (λ (at : CertStream R). IsUnderWay i low remaining first at s.left hs) s.is_ahead.0 s.under_way
 
-  branch_on : (taken : Walk) (branch : Branch) (line : ℕ) (steps : Vec ℕ) → IsPiece remaining now next (OfBranch branch) line steps.items → (c : Choice) (left : List Choice) → u.left ≡ c ∷ left → IsBranch i c branch.kind branch.children → IsWalk i taken (child_choices i c branch.kind ++ left)
-      → IsUnderWay i low remaining first next taken hs
-  branch_on taken branch line steps p c left there suits walk =
-      branch_taken i low remaining first now next w hs u p.from c left there taken branch (branch_said remaining now next branch line steps.items p.leaves) (p.due []) (omega (arith, p.passed)) suits walk
+  module _ (next : CertStream R) (from : (origin : Origin) → StreamIsFrom remaining now origin → StreamIsFrom remaining next origin) where
+    -- the lines are at fault, or end
+    pub lines_fail : (other : Walk) (fault : SourceFault) → IsNodeFault (LeavesNodes remaining now) (bytes_taken next) fault → Stands i low remaining first next other hs (Fault (fault_of_source fault))
+    lines_fail other fault is = record {
+      at = now;
+      left = s.left;
+      under_way = under_way_here;
+      is_ahead = lines_ahead i remaining now next other s.left fault is;
+      from = λ origin is. from origin (s.from origin is);
+    }
 
-  leaf_on : (taken : Walk) (goal count line : ℕ) (steps : Vec ℕ) → IsPiece remaining now next (OfLeaf goal count) line steps.items → (c : Choice) (left : List Choice) → u.left ≡ c ∷ left → Waits i (held_leaf c goal count line steps) → IsWalk i taken left
-      → IsUnderWay i low remaining first next taken (hs ++ held_leaf c goal count line steps ∷ [])
-  leaf_on taken goal count line steps p c left there waits walk =
-      leaf_waits i low remaining first now next w hs u p.from c left there goal count line steps p.leaves p.here p.passed taken waits (p.due []) walk
+    pub lines_end : (other : Walk) → LeavesNodes remaining now (Ok []) → still_due (reverse (still_to_come now)) ≡ [] → Stands i low remaining first next other hs End
+    lines_end other ends closed = record {
+      at = now;
+      left = s.left;
+      under_way = under_way_here;
+      is_ahead = (ends, closed);
+      from = λ origin is. from origin (s.from origin is);
+    }
 
-  -- a branch is at fault
-  branch_stuck : (branch : Branch) (line : ℕ) (steps : Vec ℕ) (c : Choice) (left : List Choice) (own : CertFault) → IsPiece remaining now next (OfBranch branch) line steps.items → u.left ≡ c ∷ left → TellsBranch i c branch line own → IsStuck i low remaining first next hs own
-  branch_stuck branch line steps c left own p there tells =
-      let n = node.Branch branch in
+  module _ (next : CertStream R) (head : Head) (line : ℕ) (steps : Vec ℕ) (p : IsPiece remaining now next head line steps.items) where
+    -- the choice that the node stands at
+    there : (c : Choice) × (left : List Choice) × (s.left ≡ c ∷ left)
+    there = first_left s.left (omega (arith, under_way_here.count, one_due (still_to_come now) (still_to_come next) (node_of_head head []) (p.due [])))
+
+    pub next_there : (c : Choice) × (left : List Choice) × (IsWalk i w (c ∷ left))
+    next_there = (there.0, there.1, subst (IsWalk i w) there.2 s.is_ahead.1)
+
+    at_choice : IsUnderWay i low remaining first now (there.0 ∷ there.1) hs
+    at_choice = subst (λ (left : List Choice). IsUnderWay i low remaining first now left hs) there.2 under_way_here
+
+    arrives : (taken : Walk) (more : List HeldLeaf) (left : List Choice) → IsUnderWay i low remaining first next left more → IsWalk i taken left → Stands i low remaining first next taken more More
+    arrives taken more left u walk = record {
+      at = next;
+      left = left;
+      under_way = u;
+      is_ahead = (refl, walk);
+      from = λ origin is. p.from origin (s.from origin is);
+    }
+
+    stops : (other : Walk) (fault : StreamFault) → IsAhead i remaining now next other (there.0 ∷ there.1) (Fault fault) → Stands i low remaining first next other hs (Fault fault)
+    stops other fault is = record {
+      at = now;
+      left = there.0 ∷ there.1;
+      under_way = at_choice;
+      is_ahead = is;
+      from = λ origin is. p.from origin (s.from origin is);
+    }
+
+module _ {R : Type 0} (i : Instance) (low : ℕ) (remaining : R → Option (List ℕ)) (first now : CertStream R) (w : Walk) (front old : List HeldLeaf) (s : Stands i low remaining first now w (front ++ old) More) (next : CertStream R) where
+  -- it is taken
+  taken_at : (taken : Walk) (more : List HeldLeaf) (head : Head) (line : ℕ) (steps : Vec ℕ) (p : IsPiece remaining now next head line steps.items)
+      → (c : Choice) (left : List Choice) → IsUnderWay i low remaining first now (c ∷ left) (front ++ old) → Takes i taken old more head line steps c left → Stands i low remaining first next taken (front ++ more) More
+  taken_at taken more (OfBranch branch) line steps p c left u takes =
       let leaves = branch_said remaining now next branch line steps.items p.leaves in
-      record {
-        waits = u.waits;
-        unread = λ fault is read l. u.unread fault is (in_front n read) (leaves read l);
-        fails = λ rs are fault either.
-            let s = u.so_far rs are in
-            let told : line ≡ told_line (line_behind s.seen) = omega (arith, p.here, p.small, s.line) in
-            record {
-              seen = s.seen ++ n ∷ [];
-              behind_them = behind_more remaining first now next (n, next_line now) leaves s.seen s.behind_them;
-              tells = elim either [
-                | inl held ↦ later_told i low s.seen n fault (held_tells i low s.seen rs u.left fault s.so_far held)
-                | inr closed ↦ subst (TellsSeen i low (s.seen ++ n ∷ [])) (sym closed.1) (node_fails i low s.seen rs c left n line own closed.0 (subst (IsSeen i low s.seen rs) there s.so_far) told (branch_tells i low c branch line own tells))
-              ];
-            };
-      }
+      let on = branch_taken i low remaining first now next c left (front ++ old) u branch leaves (p.due []) (omega (arith, p.passed)) takes.0 in
+      rw takes.1.1 (arrives i low remaining first now w (front ++ old) s next (OfBranch branch) line steps p taken (front ++ old) (child_choices i c branch.kind ++ left) on takes.1.0)
+  taken_at taken more (OfLeaf goal count) line steps p c left u takes =
+      let on = leaf_waits i low remaining first now next c left (front ++ old) u goal count line steps p.leaves p.here p.passed takes.0 (p.due []) in
+      let whole : front ++ more ≡ (front ++ old) ++ held_leaf c goal count line steps ∷ [] = ap (λ (hs : List HeldLeaf). front ++ hs) takes.1.1 ∙ sym (append_assoc front old (held_leaf c goal count line steps ∷ [])) in
+      rw whole (arrives i low remaining first now w (front ++ old) s next (OfLeaf goal count) line steps p taken ((front ++ old) ++ held_leaf c goal count line steps ∷ []) left on takes.1.0)
 
--- where memory was refused, that is told
-memory_told : {R : Type 0} (remaining : R → Option (List ℕ)) (first : CertStream R) (taken : ℕ) (hs : List HeldLeaf) (found told : SourceFault) → found ≡ source.Text text.OutOfMemory → TellsText hs found told → IsNodeFault (LeavesNodes remaining first) taken told
-memory_told remaining first taken hs found source.Read memory tells = tt
-memory_told remaining first taken hs found source.TooLong memory tells = let apart : source.TooLong ≡ source.Text text.OutOfMemory = sym tells ∙ memory in absurd cc
-memory_told remaining first taken hs found (source.Text text.OutOfMemory) memory tells = tt
-memory_told remaining first taken hs found (source.Text (text.At line fault)) memory tells = elim tells [
-  | inl earlier ↦ let apart : source.Text (text.At earlier.0 earlier.1) ≡ source.Text text.OutOfMemory = sym earlier.2.0 ∙ memory in absurd cc
-  | inr own ↦ let apart : source.Text (text.At line fault) ≡ source.Text text.OutOfMemory = sym own.0 ∙ memory in absurd cc
-]
+  pub taken_on : (taken : Walk) (more : List HeldLeaf) (head : Head) (line : ℕ) (steps : Vec ℕ) (p : IsPiece remaining now next head line steps.items) → ((c : Choice) (left : List Choice) → IsWalk i w (c ∷ left) → Takes i taken old more head line steps c left)
+      → Stands i low remaining first next taken (front ++ more) More
+  unfolding next_there there
+  taken_on taken more head line steps p takes =
+      let here = next_there i low remaining first now w (front ++ old) s next head line steps p in
+      taken_at taken more head line steps p here.0 here.1 (at_choice i low remaining first now w (front ++ old) s next head line steps p) (takes here.0 here.1 here.2)
 
-module _ {R : Type 0} (i : Instance) (low : ℕ) (remaining : R → Option (List ℕ)) (first now next : CertStream R) (front : List HeldLeaf) (g : Going) (u : IsUnderWay i low remaining first now g.walk (front ++ g.held.items)) where
-  taken_at : (taken : Going) (head : Head) (line : ℕ) (steps : Vec ℕ) (c : Choice) (left : List Choice) → IsPiece remaining now next head line steps.items → u.left ≡ c ∷ left → Takes i g taken head line steps c left
-      → IsUnderWay i low remaining first next taken.walk (front ++ taken.held.items)
-  taken_at taken (OfBranch branch) line steps c left p there takes =
-      rw takes.1.1 (branch_on i low remaining first now next g.walk (front ++ g.held.items) u taken.walk branch line steps p c left there takes.0 takes.1.0)
-  taken_at taken (OfLeaf goal count) line steps c left p there takes =
-      let all = leaf_on i low remaining first now next g.walk (front ++ g.held.items) u taken.walk goal count line steps p c left there takes.0 takes.1.0 in
-      rw takes.1.1 (subst (IsUnderWay i low remaining first next taken.walk) (append_assoc front g.held.items (held_leaf c goal count line steps ∷ [])) all)
+  -- or it is not
+  stopped_at : (other : Walk) (head : Head) (line : ℕ) (steps : Vec ℕ) (p : IsPiece remaining now next head line steps.items) (c : Choice) (left : List Choice) (fault : StreamFault) → TakeFails i head line c fault → IsAhead i remaining now next other (c ∷ left) (Fault fault)
+  stopped_at other head line steps p c left Read fails = absurd fails
+  stopped_at other head line steps p c left TooLong fails = absurd fails
+  stopped_at other head line steps p c left (Text error) fails = rw fails tt
+  stopped_at other (OfBranch branch) line steps p c left (InCert own) fails = record {
+    branch = branch;
+    choice = c;
+    others = left;
+    left_is = refl;
+    leaves = branch_said remaining now next branch line steps.items p.leaves;
+    low_line = omega (arith, p.here, p.small);
+    tells = subst (λ (l : ℕ). TellsBranch i c branch l own) p.here fails;
+  }
+  stopped_at other (OfLeaf goal count) line steps p c left (InCert own) fails = absurd fails
 
-  pub taken_on : (taken : Going) (head : Head) (line : ℕ) (steps : Vec ℕ) → IsPiece remaining now next head line steps.items → ((c : Choice) (left : List Choice) → IsWalk i g.walk (c ∷ left) → Takes i g taken head line steps c left)
-      → IsUnderWay i low remaining first next taken.walk (front ++ taken.held.items)
-  taken_on taken head line steps p takes =
-      let there = stands i low remaining first now next g.walk (front ++ g.held.items) u head line steps.items p in
-      taken_at taken head line steps there.0 there.1 p there.2 (takes there.0 there.1 (subst (IsWalk i g.walk) there.2 u.walk))
+  pub not_taken : (other : Walk) (kept : List HeldLeaf) (head : Head) (line : ℕ) (steps : Vec ℕ) (p : IsPiece remaining now next head line steps.items) (fault : StreamFault) → kept ≡ old
+      → ((c : Choice) (left : List Choice) → IsWalk i w (c ∷ left) → TakeFails i head line c fault) → Stands i low remaining first next other (front ++ kept) (Fault fault)
+  unfolding next_there there
+  not_taken other kept head line steps p fault same fails =
+      let here = next_there i low remaining first now w (front ++ old) s next head line steps p in
+      rw same (stops i low remaining first now w (front ++ old) s next head line steps p other fault (stopped_at other head line steps p here.0 here.1 fault (fails here.0 here.1 here.2)))
 
-  stopped_at : (taken : ℕ) (head : Head) (line : ℕ) (steps : Vec ℕ) (c : Choice) (left : List Choice) (stop : Stop) → IsPiece remaining now next head line steps.items → u.left ≡ c ∷ left → TakeFails i head line c stop
-      → IsStopped i low remaining first next taken (front ++ g.held.items) stop
-  stopped_at taken head line steps c left End p there fails = absurd fails
-  stopped_at taken head line steps c left (Lines found) p there fails = (u.waits, λ told tells. memory_told remaining first taken (front ++ g.held.items) found told fails tells)
-  stopped_at taken (OfBranch branch) line steps c left (OfStop own) p there fails =
-      branch_stuck i low remaining first now next g.walk (front ++ g.held.items) u branch line steps c left own p there fails
-  stopped_at taken (OfLeaf goal count) line steps c left (OfStop own) p there fails = absurd fails
-
-  pub not_taken : (taken : ℕ) (left_over : Going) (head : Head) (line : ℕ) (steps : Vec ℕ) (stop : Stop) → IsPiece remaining now next head line steps.items → left_over.held.items ≡ g.held.items
-      → ((c : Choice) (left : List Choice) → IsWalk i g.walk (c ∷ left) → TakeFails i head line c stop) → IsStopped i low remaining first next taken (front ++ left_over.held.items) stop
-  not_taken taken left_over head line steps stop p kept fails =
-      let there = stands i low remaining first now next g.walk (front ++ g.held.items) u head line steps.items p in
-      rw kept (stopped_at taken head line steps there.0 there.1 stop p there.2 (fails there.0 there.1 (subst (IsWalk i g.walk) there.2 u.walk)))
+-- where nothing more is ahead, no step is to come
+pub nothing_to_come : {R : Type 0} (ahead : Ahead) (s : CertStream R) → ¬ (ahead ≡ More) → to_come ahead s ≡ 0
+nothing_to_come More s closed = absurd (closed refl)
+nothing_to_come End s closed = refl
+nothing_to_come (Fault fault) s closed = refl

@@ -1,11 +1,6 @@
-pub mod Proofs
-pub mod Faults
 pub mod Streams
-pub mod Turns
-pub mod Seen
 pub mod Waiting
-pub mod Going
 pub mod UnderWay
 pub use Rattle.ttp_model.specs.Delays
-pub use Rattle.tt_infer.specs.Leaves
 pub use Rattle.certificate.specs.Cert
+pub use Rattle.tree_check.specs.Proofs

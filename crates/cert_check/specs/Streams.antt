@@ -13,12 +13,12 @@ use Rattle.certificate.specs.declared.fault.CertTextError.{CertTextError}
 use Rattle.certificate.specs.declared.node.Node.{Node}
 use Rattle.certificate.specs.declared.stream.CertStream.{CertStream}
 use Rattle.certificate.specs.Blocks.{IsFrom, Stops}
-use Rattle.cert_check.specs.declared.fault.CertFault.{CertFault}
-use Rattle.cert_check.specs.declared.fault.CertFault.TheVariants.{OutOfMemory}
+use Rattle.tree_check.specs.declared.fault.CertFault.{CertFault}
+use Rattle.tree_check.specs.declared.fault.CertFault.TheVariants.{OutOfMemory}
 use Rattle.cert_check.specs.declared.fault.StreamFault.{StreamFault}
 use Rattle.cert_check.specs.declared.fault.StreamFault.TheVariants.{Read, TooLong, Text, Cert as InCert}
-use Rattle.cert_check.specs.Proofs.{Proves}
-use Rattle.cert_check.specs.Faults.{IsJudged}
+use Rattle.tree_check.specs.Proofs.{Proves}
+use Rattle.tree_check.specs.Faults.{IsJudged}
 
 -- a fault of the lines, as a fault of the stream
 abbrev pub fault_of_source : SourceFault → StreamFault

@@ -1,30 +1,25 @@
 -- Leaves that wait with steps that aren't read yet. Only private contracts ask for it.
-use Rattle.std.specs.Prelude.{◌≡◌, ℕ, ◌+◌, ◌^◌, ◌<◌, List, [], ◌∷◌, ◌++◌, ◌*◌, take, drop, slice_index_or, Bool, false, IsTrue, Contains, ◌⊎◌, Option, None, Some, Result, Ok, Err}
+use Rattle.std.specs.Prelude.{◌≡◌, ℕ, ◌+◌, ◌^◌, ◌<◌, List, [], ◌∷◌, ◌++◌, ◌*◌, take, drop, slice_index_or, Bool, false, IsTrue, Contains, ◌⊎◌, Result, Ok, Err}
 use Rattle.std.specs.Global.{Vec}
 use Rattle.ttp_model.specs.declared.step.Step.{Step}
 use Rattle.ttp_model.specs.Instance.{Instance}
 use Rattle.tt_choice.specs.Choice.{Choice, IsChoice, bare}
 use Rattle.tt_choice.specs.Branches.{IsBranch, child_choices}
-use Rattle.certificate.specs.declared.fault.LineFault.{LineFault}
 use Rattle.certificate.specs.declared.fault.CertTextError.{CertTextError}
 use Rattle.certificate.specs.declared.fault.CertTextError.TheVariants as text
-use Rattle.certificate.specs.declared.fault.SourceFault.{SourceFault}
-use Rattle.certificate.specs.declared.fault.SourceFault.TheVariants as source
 use Rattle.certificate.specs.declared.head.Head.{Head}
 use Rattle.certificate.specs.declared.head.Head.TheVariants.{OfBranch, OfLeaf}
 use Rattle.certificate.specs.declared.node.Node.TheVariants as node
 use Rattle.certificate.specs.Reading.{Reading}
 use Rattle.certificate.specs.RawLines.{steps_in}
-use Rattle.cert_check.specs.declared.fault.CertFault.{CertFault}
-use Rattle.cert_check.specs.declared.fault.HeldFault.{HeldFault}
-use Rattle.cert_check.specs.declared.fault.HeldFault.TheVariants.{InText, InCert}
-use Rattle.cert_check.specs.declared.batch.HeldLeaf.{HeldLeaf}
-use Rattle.cert_check.specs.declared.going.Going.{Going}
+use Rattle.tree_check.specs.declared.fault.CertFault.{CertFault}
+use Rattle.cert_check.specs.declared.fault.StreamFault.{StreamFault}
+use Rattle.cert_check.specs.declared.fault.StreamFault.TheVariants.{Read, TooLong, Text, Cert as InCert}
+use Rattle.held_leaves.specs.declared.leaves.HeldLeaf.{HeldLeaf}
 use Rattle.cert_check.specs.declared.shares.TheConstants.{RUN}
-use Rattle.cert_check.specs.declared.going.Stop.{Stop}
-use Rattle.cert_check.specs.declared.going.Stop.TheVariants.{End, Lines, Branch}
-use Rattle.cert_check.specs.Turns.{IsWalk}
-use Rattle.cert_check.specs.Seen.{ReadLeaf, TellsNode, TellsBranch, Closes, AllClose, TellsHeld}
+use Rattle.tree_check.specs.declared.walk.Walk.{Walk}
+use Rattle.tree_check.specs.Turns.{IsWalk}
+use Rattle.tree_check.specs.Seen.{ReadLeaf, TellsNode, TellsBranch, Closes, AllClose, TellsHeld}
 
 -- a leaf waits at a choice of the instance that keeps no decision, and its line is far below those that are told as the last
 pub record Waits (i : Instance) (h : HeldLeaf) : Type 0 where
@@ -54,26 +49,49 @@ IsUnread [] fault = ⊥
 IsUnread (h ∷ hs) fault = (steps_of h ≡ Err fault) ⊎ (((steps : List Step) × (steps_of h ≡ Ok steps)) × IsUnread hs fault)
 
 -- what judging one of them answers
-abbrev pub IsLeafAnswer : Instance → ℕ → HeldLeaf → Result (Unit {0}) HeldFault → Type 0
+abbrev pub IsLeafAnswer : Instance → ℕ → HeldLeaf → Result (Unit {0}) StreamFault → Type 0
 IsLeafAnswer i low h (Ok _) = (steps : List Step) × ((steps_of h ≡ Ok steps) × Closes i low (leaf_with h steps))
-IsLeafAnswer i low h (Err (InText text.OutOfMemory)) = Unit {0}
-IsLeafAnswer i low h (Err (InText (text.At line fault))) = steps_of h ≡ Err (text.At line fault)
+IsLeafAnswer i low h (Err Read) = ⊥
+IsLeafAnswer i low h (Err TooLong) = ⊥
+IsLeafAnswer i low h (Err (Text text.OutOfMemory)) = Unit {0}
+IsLeafAnswer i low h (Err (Text (text.At line fault))) = steps_of h ≡ Err (text.At line fault)
 IsLeafAnswer i low h (Err (InCert fault)) =
     (steps : List Step) × ((steps_of h ≡ Ok steps) × TellsNode i low h.choice (node.Leaf (record { goal = h.goal; steps = steps })) h.line fault)
 
--- What is told where a leaf is at fault and these wait behind it: the first fault of their text goes before that.
-abbrev pub TellsBefore : List HeldLeaf → CertFault → HeldFault → Type 0
-TellsBefore hs own (InText text.OutOfMemory) = Unit {0}
-TellsBefore hs own (InText (text.At line fault)) = IsUnread hs (text.At line fault)
-TellsBefore hs own (InCert fault) = (fault ≡ own) × ((rs : List ReadLeaf) × AreRead hs rs)
-
--- What judging all of them answers: each is read and closes; or the first fault of their text; or where there is none, the first
--- fault of the leaves.
-abbrev pub Judges : Instance → ℕ → List HeldLeaf → Result (Unit {0}) HeldFault → Type 0
+-- What judging them one after another answers: each is read and closes; or the first fault of their text; or a fault that is the first
+-- of the leaves where each is read.
+abbrev pub Judges : Instance → ℕ → List HeldLeaf → Result (Unit {0}) StreamFault → Type 0
 Judges i low hs (Ok _) = (rs : List ReadLeaf) × (AreRead hs rs × AllClose i low rs)
-Judges i low hs (Err (InText text.OutOfMemory)) = Unit {0}
-Judges i low hs (Err (InText (text.At line fault))) = IsUnread hs (text.At line fault)
-Judges i low hs (Err (InCert fault)) = (rs : List ReadLeaf) × (AreRead hs rs × TellsHeld i low rs fault)
+Judges i low hs (Err Read) = ⊥
+Judges i low hs (Err TooLong) = ⊥
+Judges i low hs (Err (Text text.OutOfMemory)) = Unit {0}
+Judges i low hs (Err (Text (text.At line fault))) = IsUnread hs (text.At line fault)
+Judges i low hs (Err (InCert fault)) = (rs : List ReadLeaf) → AreRead hs rs → TellsHeld i low rs fault
+
+-- What is told of all that wait: each is read and closes; or the first fault of their text; or where there is none, the first of the
+-- leaves.
+abbrev pub Finishes : Instance → ℕ → List HeldLeaf → Result (Unit {0}) StreamFault → Type 0
+Finishes i low hs (Ok _) = (rs : List ReadLeaf) × (AreRead hs rs × AllClose i low rs)
+Finishes i low hs (Err Read) = ⊥
+Finishes i low hs (Err TooLong) = ⊥
+Finishes i low hs (Err (Text text.OutOfMemory)) = Unit {0}
+Finishes i low hs (Err (Text (text.At line fault))) = IsUnread hs (text.At line fault)
+Finishes i low hs (Err (InCert fault)) = (rs : List ReadLeaf) × (AreRead hs rs × TellsHeld i low rs fault)
+
+-- a fault of a leaf, unless these leaves have one of their text
+abbrev pub TellsOrUnread : List HeldLeaf → CertFault → StreamFault → Type 0
+TellsOrUnread hs own Read = ⊥
+TellsOrUnread hs own TooLong = ⊥
+TellsOrUnread hs own (Text text.OutOfMemory) = Unit {0}
+TellsOrUnread hs own (Text (text.At line fault)) = IsUnread hs (text.At line fault)
+TellsOrUnread hs own (InCert fault) = (fault ≡ own) × ((rs : List ReadLeaf) × AreRead hs rs)
+
+-- What is told where this is wrong with a leaf among these or in front of them: a fault of their text goes before one of a leaf.
+abbrev pub TellsBefore : List HeldLeaf → (fault told : StreamFault) → Type 0
+TellsBefore hs Read told = told ≡ Read
+TellsBefore hs TooLong told = told ≡ TooLong
+TellsBefore hs (Text error) told = told ≡ Text error
+TellsBefore hs (InCert own) told = TellsOrUnread hs own told
 
 -- the leaves of the run at a place, or of the last one those that there are
 abbrev pub run_at : ℕ → List HeldLeaf → List HeldLeaf
@@ -87,25 +105,6 @@ RunCloses i low hs place = Judges i low (run_at place hs) (Ok tt)
 abbrev pub MarksOnly : List ℕ → ℕ → List Bool → Type 0
 MarksOnly places count marks = (place : ℕ) → place < count → IsTrue (slice_index_or marks place false) → Contains places place
 
--- what is told behind the last node
-abbrev pub Finishes : Instance → ℕ → List HeldLeaf → Result (Option CertFault) SourceFault → Type 0
-Finishes i low hs (Ok None) = (rs : List ReadLeaf) × (AreRead hs rs × AllClose i low rs)
-Finishes i low hs (Ok (Some fault)) = (rs : List ReadLeaf) × (AreRead hs rs × TellsHeld i low rs fault)
-Finishes i low hs (Err source.Read) = ⊥
-Finishes i low hs (Err source.TooLong) = ⊥
-Finishes i low hs (Err (source.Text text.OutOfMemory)) = Unit {0}
-Finishes i low hs (Err (source.Text (text.At line fault))) = IsUnread hs (text.At line fault)
-
--- Where this fault was found behind them, that one is told: a fault of the text that is the first of theirs, or where they have none
--- the one that was found.
-abbrev pub TellsText : List HeldLeaf → SourceFault → SourceFault → Type 0
-TellsText hs found source.Read = found ≡ source.Read
-TellsText hs found source.TooLong = found ≡ source.TooLong
-TellsText hs found (source.Text text.OutOfMemory) = Unit {0}
-TellsText hs found (source.Text (text.At line fault)) =
-    ((at : ℕ) × (other : LineFault) × ((found ≡ source.Text (text.At at other)) × IsUnread hs (text.At line fault)))
-    ⊎ ((found ≡ source.Text (text.At line fault)) × ((rs : List ReadLeaf) × AreRead hs rs))
-
 -- ---- one node more
 
 -- the leaf of a line that waits at a choice
@@ -113,15 +112,16 @@ abbrev pub held_leaf : Choice → (goal count line : ℕ) → Vec ℕ → HeldLe
 held_leaf c goal count line steps = record { choice = c; goal = goal; count = count; line = line; steps = steps }
 
 -- a node was taken at a choice, in front of these others
-abbrev pub Takes : Instance → (old new : Going) → Head → ℕ → Vec ℕ → Choice → List Choice → Type 0
-Takes i old new (OfBranch branch) line steps c left =
-    IsBranch i c branch.kind branch.children × (IsWalk i new.walk (child_choices i c branch.kind ++ left) × (new.held.items ≡ old.held.items))
-Takes i old new (OfLeaf goal count) line steps c left =
-    Waits i (held_leaf c goal count line steps) × (IsWalk i new.walk left × (new.held.items ≡ old.held.items ++ held_leaf c goal count line steps ∷ []))
+abbrev pub Takes : Instance → Walk → (old new : List HeldLeaf) → Head → ℕ → Vec ℕ → Choice → List Choice → Type 0
+Takes i w old new (OfBranch branch) line steps c left =
+    IsBranch i c branch.kind branch.children × (IsWalk i w (child_choices i c branch.kind ++ left) × (new ≡ old))
+Takes i w old new (OfLeaf goal count) line steps c left =
+    Waits i (held_leaf c goal count line steps) × (IsWalk i w left × (new ≡ old ++ held_leaf c goal count line steps ∷ []))
 
 -- why a node isn't taken
-abbrev pub TakeFails : Instance → Head → ℕ → Choice → Stop → Type 0
-TakeFails i head line c End = ⊥
-TakeFails i head line c (Lines found) = found ≡ source.Text text.OutOfMemory
-TakeFails i (OfBranch branch) line c (Branch own) = TellsBranch i c branch line own
-TakeFails i (OfLeaf goal count) line c (Branch own) = ⊥
+abbrev pub TakeFails : Instance → Head → ℕ → Choice → StreamFault → Type 0
+TakeFails i head line c Read = ⊥
+TakeFails i head line c TooLong = ⊥
+TakeFails i head line c (Text error) = error ≡ text.OutOfMemory
+TakeFails i (OfBranch branch) line c (InCert own) = TellsBranch i c branch line own
+TakeFails i (OfLeaf goal count) line c (InCert own) = ⊥

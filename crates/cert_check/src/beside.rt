@@ -1,108 +1,122 @@
 //! How are leaves judged while the next ones are read?
 
-ghost use Rattle.std.specs.Prelude.{◌<◌, ◌≤◌, All, IfNone, IfSome, length};
-ghost use Rattle.certificate.specs.Streams.{next_line};
+ghost use Rattle.std.specs.Prelude.{◌<◌, ◌≤◌, ◌++◌, All, Err, IfErr, Ok, OnErr, OnOk, length};
+ghost use Rattle.certificate.specs.declared.stream.CertStream.{CertStream};
+ghost use Rattle.certificate.specs.Sources.{Origin};
+ghost use Rattle.certificate.specs.Streams.{StreamIsFrom, bytes_taken};
 ghost use Rattle.cert_check.specs.Waiting.{Judges, RunCloses, Waits};
-ghost use Rattle.cert_check.specs.UnderWay.{ComesFrom, GoesOn, Halts, IsSomewhere};
+ghost use Rattle.cert_check.specs.UnderWay.{AnswersAll, GoesOn, IsBegun, IsSomewhere, Stands};
 
-use crate::batch::{HeldLeaf, judge_alone};
-use crate::fault::HeldFault;
-use crate::going::{Going, Stop};
-use crate::shares::{are_many, closed_runs, judge_rest, places_of_both};
+use crate::batches::Batches;
+use crate::fault::StreamFault;
+use crate::judge::Judge;
+use crate::shares::{are_many, places_of_both};
 use certificate::CertStream;
+use held_leaves::HeldLeaf;
 use rayon::join_mut;
-use std::alloc::Global;
 use std::io::Read;
 use std::sync::atomic::AtomicUsize;
 use std::thread::Threads;
-use ttp_model::Instance;
 
-/// Judges leaves, and reads on meanwhile in this thread where they are worth others.
-pub fn judge_beside<T: Threads + Sync, R: Read>(
-    rt: &T,
-    alloc: Global,
-    instance: &Instance,
-    low: u32,
-    others: usize,
-    batch: usize,
-    front: &[HeldLeaf],
-    going: &mut Going,
-    stream: &mut CertStream<R>,
-    steps: &mut Vec<u8>,
-) -> (Result<(), HeldFault>, Option<Stop>)
-    requires waits { All (Waits instance.now) front.now }
-    requires under_way { IsSomewhere instance.now R.remaining stream.old going.old.walk going.old.held.items }
-    requires together { length front.now ≤ batch }
-    requires room { length going.old.held.items < batch }
-    ensures few { length going.new.held.items ≤ batch }
-    ensures judges { Judges instance.now low front.now result.0 }
-    ensures full { IfNone result.1 (GoesOn instance.now R.remaining stream.old stream.new going.old.walk going.new.walk going.old.held.items going.new.held.items) }
-    ensures on { IfNone result.1 (next_line stream.old < next_line stream.new) }
-    ensures stopped { IfSome result.1 (Halts instance.now R.remaining stream.old stream.new going.old.walk going.old.held.items going.new.held.items) }
-    ensures from { ComesFrom R.remaining stream.old stream.new }
-{
-    if !are_many(front) {
-        let judged = judge_alone(alloc, instance, low, front);
-        let stop = going.fill(alloc, instance, batch, stream, steps);
-        return (judged, stop);
-    }
-    let next = AtomicUsize::new(0);
-    let (closed, stop) = read_and_share(
-        rt, alloc, instance, low, others, batch, front, &next, going, stream, steps,
-    );
-    (
-        judge_rest(alloc, instance, low, front, closed.as_slice()),
-        stop,
-    )
-}
-
-/// Judges leaves in so many other threads, and in this one once it has read on. The places of runs that close.
-#[cycle(threads)]
-fn read_and_share<T: Threads + Sync, R: Read>(
-    rt: &T,
-    alloc: Global,
-    instance: &Instance,
-    low: u32,
-    others: usize,
-    batch: usize,
-    front: &[HeldLeaf],
-    next: &AtomicUsize,
-    going: &mut Going,
-    stream: &mut CertStream<R>,
-    steps: &mut Vec<u8>,
-) -> (Vec<usize>, Option<Stop>)
-    requires waits { All (Waits instance.now) front.now }
-    requires under_way { IsSomewhere instance.now R.remaining stream.old going.old.walk going.old.held.items }
-    requires room { length going.old.held.items < batch }
-    ensures few { length going.new.held.items ≤ batch }
-    ensures closed { All (RunCloses instance.now low front.now) result.0.items }
-    ensures full { IfNone result.1 (GoesOn instance.now R.remaining stream.old stream.new going.old.walk going.new.walk going.old.held.items going.new.held.items) }
-    ensures on { IfNone result.1 (next_line stream.old < next_line stream.new) }
-    ensures stopped { IfSome result.1 (Halts instance.now R.remaining stream.old stream.new going.old.walk going.old.held.items going.new.held.items) }
-    ensures from { ComesFrom R.remaining stream.old stream.new }
-{
-    if others == 0 {
-        let stop = going.fill(alloc, instance, batch, stream, steps);
-        return (closed_runs(alloc, instance, low, front, next), stop);
-    }
-    let mut share = || -> Vec<usize>
-        requires { All (Waits instance.now) front.now }
-        ensures { All (RunCloses instance.entry.now low front.entry.now) result.items }
-    { closed_runs(alloc, instance, low, front, next) };
-    let mut go_on = || -> (Vec<usize>, Option<Stop>)
-        requires { (0 < others) × All (Waits instance.now) front.now × IsSomewhere instance.now R.remaining stream.now going.now.walk going.now.held.items × (length going.now.held.items < batch) }
-        ensures few { length going.exit.now.held.items ≤ batch }
-        ensures closed { All (RunCloses instance.entry.now low front.entry.now) result.0.items }
-        ensures full { IfNone result.1 (GoesOn instance.entry.now R.remaining stream.entry.now stream.exit.now going.entry.now.walk going.exit.now.walk going.entry.now.held.items going.exit.now.held.items) }
-        ensures on { IfNone result.1 (next_line stream.entry.now < next_line stream.exit.now) }
-        ensures stopped { IfSome result.1 (Halts instance.entry.now R.remaining stream.entry.now stream.exit.now going.entry.now.walk going.entry.now.held.items going.exit.now.held.items) }
-        ensures from { ComesFrom R.remaining stream.entry.now stream.exit.now }
+impl<'a, T: Threads + Sync> Judge<'a, T> {
+    /// Judges leaves in so many other threads, and in this one once it has read the next batch. The places of runs that close.
+    #[cycle(threads)]
+    fn share<R: Read>(
+        &self,
+        others: usize,
+        leaves: &[HeldLeaf],
+        next: &AtomicUsize,
+        batches: &mut Batches,
+        stream: &mut CertStream<R>,
+    ) -> Vec<usize>
+        requires waits { All (Waits self.now.instance.now) leaves.now }
+        requires somewhere { IsSomewhere self.now.instance.now R.remaining stream.old batches.old }
+        requires room { length batches.old.held.leaves.items < batches.old.held.most }
+        ensures closed { All (RunCloses self.now.instance.now self.now.low leaves.now) result.items }
+        ensures on { GoesOn self.now.instance.now R.remaining stream.old stream.new batches.old batches.new }
     {
-        let fewer = others - 1;
-        read_and_share(
-            rt, alloc, instance, low, fewer, batch, front, next, going, stream, steps,
-        )
-    };
-    let (places, (more, stop)) = join_mut(rt, &mut share, &mut go_on);
-    (places_of_both(places, more), stop)
+        if others == 0 {
+            batches.read_on(self.alloc, self.instance, stream);
+            return self.closed_runs(leaves, next);
+        }
+        let mut run = || -> Vec<usize>
+            requires { All (Waits self.now.instance.now) leaves.now }
+            ensures { All (RunCloses self.entry.now.instance.now self.entry.now.low leaves.entry.now) result.items }
+        { self.closed_runs(leaves, next) };
+        let mut go_on = || -> Vec<usize>
+            requires { (0 < others) × All (Waits self.now.instance.now) leaves.now × IsSomewhere self.now.instance.now R.remaining stream.now batches.now × (length batches.now.held.leaves.items < batches.now.held.most) }
+            ensures closed { All (RunCloses self.entry.now.instance.now self.entry.now.low leaves.entry.now) result.items }
+            ensures on { GoesOn self.entry.now.instance.now R.remaining stream.entry.now stream.exit.now batches.entry.now batches.exit.now }
+        { self.share(others - 1, leaves, next, batches, stream) };
+        let (places, more) = join_mut(self.rt, &mut run, &mut go_on);
+        places_of_both(places, more)
+    }
+
+    /// Judges leaves, and reads the next batch meanwhile in this thread where they are worth others.
+    fn beside<R: Read>(
+        &self,
+        leaves: &[HeldLeaf],
+        batches: &mut Batches,
+        stream: &mut CertStream<R>,
+    ) -> Result<(), StreamFault>
+        requires waits { All (Waits self.now.instance.now) leaves.now }
+        requires together { length leaves.now ≤ batches.old.held.most }
+        requires somewhere { IsSomewhere self.now.instance.now R.remaining stream.old batches.old }
+        requires room { length batches.old.held.leaves.items < batches.old.held.most }
+        ensures judges { Judges self.now.instance.now self.now.low leaves.now result }
+        ensures on { GoesOn self.now.instance.now R.remaining stream.old stream.new batches.old batches.new }
+    {
+        if !are_many(leaves) {
+            let judged = self.alone(leaves);
+            batches.read_on(self.alloc, self.instance, stream);
+            return judged;
+        }
+        let next = AtomicUsize::new(0);
+        let closed = self.share(self.others, leaves, &next, batches, stream);
+        self.rest(leaves, closed.as_slice())
+    }
+
+    /// The same; and where one is at fault the rest is read, and what is told then is told.
+    fn next_batch<R: Read>(
+        &self,
+        leaves: &[HeldLeaf],
+        batches: &mut Batches,
+        stream: &mut CertStream<R>,
+    ) -> Result<(), StreamFault>
+        requires together { length leaves.now ≤ batches.old.held.most }
+        requires somewhere { (first : CertStream R) × Stands self.now.instance.now self.now.low R.remaining first stream.old batches.old.walk (leaves.now ++ batches.old.held.leaves.items) batches.old.ahead }
+        requires room { length batches.old.held.leaves.items < batches.old.held.most }
+        ensures judges { OnOk result (Judges self.now.instance.now self.now.low leaves.now (Ok tt)) }
+        ensures on { OnOk result (GoesOn self.now.instance.now R.remaining stream.old stream.new batches.old batches.new) }
+        ensures answers { IfErr result (λ fault. (first : CertStream R)
+            → Stands self.now.instance.now self.now.low R.remaining first stream.old batches.old.walk (leaves.now ++ batches.old.held.leaves.items) batches.old.ahead
+            → AnswersAll self.now.instance.now self.now.low R.remaining first (bytes_taken stream.new) (Err fault)) }
+        ensures from { OnErr result ((first : CertStream R)
+            → Stands self.now.instance.now self.now.low R.remaining first stream.old batches.old.walk (leaves.now ++ batches.old.held.leaves.items) batches.old.ahead
+            → (origin : Origin) → StreamIsFrom R.remaining first origin → StreamIsFrom R.remaining stream.new origin) }
+    {
+        match self.beside(leaves, batches, stream) {
+            Ok(()) => Ok(()),
+            Err(fault) => Err(batches.told(self.alloc, leaves, fault, stream)),
+        }
+    }
+
+    /// Judges all leaves of a certificate, a batch after the other. The first fault of its tree.
+    pub fn through<R: Read>(
+        &self,
+        batches: &mut Batches,
+        stream: &mut CertStream<R>,
+    ) -> Result<(), StreamFault>
+        requires begun { IsBegun self.now.instance.now stream.old batches.old }
+        ensures answers { AnswersAll self.now.instance.now self.now.low R.remaining stream.old (bytes_taken stream.new) result }
+        ensures from { (origin : Origin) → StreamIsFrom R.remaining stream.old origin → StreamIsFrom R.remaining stream.new origin }
+    {
+        let mut front = Vec::new(self.alloc);
+        'batches: while batches.is_open() {
+            self.next_batch(front.as_slice(), batches, stream)?;
+            batches.hand_over(&mut front)?;
+        }
+        self.next_batch(front.as_slice(), batches, stream)?;
+        batches.end(self.alloc, stream)
+    }
 }

@@ -1,18 +1,16 @@
-//! Does a certificate prove its bound?
+//! Does a certificate prove its bound: one that was read, or the bytes of a reader?
 #![tactic(auto)]
 
-mod batch;
+mod ahead;
+mod batches;
 mod beside;
 mod fault;
-mod going;
-mod laws;
-mod leaf;
+mod judge;
 mod shares;
 mod stream;
-mod tree;
-mod walk;
 
-pub use fault::{CertFault, NodeFault, StreamFault};
-pub use laws::{bounds_are_proved, plans_at_the_bound_are_least};
-pub use stream::{MOST_LEAVES_HELD, check_stream};
-pub use tree::check;
+pub use fault::StreamFault;
+pub use stream::check_stream;
+pub use tree_check::{
+    CertFault, NodeFault, bounds_are_proved, check, plans_at_the_bound_are_least,
+};

@@ -38,7 +38,7 @@ fn bound_processes(rt: &impl Abort, facts: &mut Facts) {
             facts.apply(&Step::EsRelease(p)),
             facts.apply(&Step::LeOwn(p)),
         );
-        assert_eq!(rt; steps, (Ok(()), Ok(())));
+        assert!(rt; steps == (Ok(()), Ok(())), "{steps:?}");
     }
 }
 

@@ -20,7 +20,7 @@ use ttp_model::{Cluster, Instance, Leaf, MOST_TICKS, MemoryFault, Step};
 use worked_instances::PLAIN;
 
 /// What is asked of the choice of some decisions, and the answer.
-#[derive(Clone, Copy, Debug)]
+#[derive(Clone, Copy)]
 enum Asked {
     /// The path bound of the instance is this one.
     PathBound(u32),
@@ -176,9 +176,9 @@ fn expect_all(
 ) -> Result<(), MemoryFault>
     requires { IsChoice i.now choice.now }
 {
-    for asked in row.asked {
+    for (k, asked) in row.asked.iter().enumerate() {
         let holds = holds(rt, alloc, i, choice, *asked)?;
-        assert!(rt; holds, "{}: {asked:?}", row.label);
+        assert!(rt; holds, "{}: question {k}", row.label);
     }
     Ok(())
 }

@@ -4,15 +4,15 @@ use Rattle.ttp_model.specs.declared.step.Leaf.{Leaf}
 use Rattle.ttp_model.specs.declared.step.Step.{Step}
 use Rattle.ttp_model.specs.Instance.{Instance}
 use Rattle.tt_choice.specs.Branches.{root_choice}
-use Rattle.tt_infer.specs.Known.{Known, first_facts}
+use Rattle.sought_plans.specs.Known.{Known, first_facts}
 use Rattle.tt_infer.specs.Leaves.{Lead}
 use Rattle.tt_infer.specs.Table.{IsLawful}
 use Rattle.certificate.specs.declared.node.Node.TheVariants as node
 use Rattle.certificate.specs.Cert.{Cert}
 use Rattle.certificate.specs.Trees.{grow, none}
-use Rattle.cert_check.specs.declared.fault.CertFault.{CertFault}
-use Rattle.cert_check.specs.Faults.{IsJudged}
-use Rattle.cert_check.specs.Proofs.{AreProofs}
+use Rattle.tree_check.specs.declared.fault.CertFault.{CertFault}
+use Rattle.tree_check.specs.Faults.{IsJudged}
+use Rattle.tree_check.specs.Proofs.{AreProofs}
 
 module _ (i : Instance) (cert : Cert) (leaf : Leaf) (step : Step) (steps : List Step) where
   pub unlawful_first : (result : Result ℕ CertFault) → IsJudged i cert result → cert.tree ≡ grow (node.Leaf leaf) none none → leaf.steps ≡ step ∷ steps

@@ -4,7 +4,7 @@ use Rattle.ttp_model.specs.declared.plan.Plan.{Plan as Table}
 use Rattle.ttp_model.specs.Instance.{Instance}
 use Rattle.certificate.specs.Cert.{Cert}
 use Rattle.certificate.specs.Spelling.{SpellsCert}
-use Rattle.cert_check.specs.Proofs.{Proves}
+use Rattle.tree_check.specs.Proofs.{Proves}
 use Rattle.medl_tables.specs.Medl.{medl_of}
 use Rattle.membership_replay.specs.Losses.{IsLossOf}
 use Rattle.membership_replay.specs.Text.{replay_text}

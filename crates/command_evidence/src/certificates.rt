@@ -3,8 +3,8 @@
 ghost use Rattle.std.specs.Prelude.{IfOk};
 ghost use Rattle.certificate.specs.Spelling.{SpellsCert};
 ghost use Rattle.certificate.specs.Trees.{IsTree};
-ghost use Rattle.planner.specs.Gathering.{AreShallow, HaveGoals};
-ghost use Rattle.planner.specs.Trees.{IsTreeOf};
+ghost use Rattle.tree_gathering.specs.Gathering.{AreShallow, HaveGoals};
+ghost use Rattle.tree_gathering.specs.Trees.{IsTreeOf};
 
 use branch_tree::Piece;
 use certificate::{Cert, CertTextError, print, read};

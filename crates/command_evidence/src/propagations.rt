@@ -8,7 +8,7 @@ ghost use Rattle.tt_choice.specs.declared.decision.Decision.TheVariants.{Before}
 ghost use Rattle.tt_choice.specs.Branches.{IsUnorderedPair};
 ghost use Rattle.tt_choice.specs.Choice.{IsChoice};
 ghost use Rattle.tt_choice.specs.Decisions.{IsOpenDecision, chosen};
-ghost use Rattle.tt_infer.specs.Known.{first_facts};
+ghost use Rattle.sought_plans.specs.Known.{first_facts};
 ghost use Rattle.tt_infer.specs.Leaves.{ClosesLeaf};
 ghost use Rattle.path_bounds.specs.Propagation.{LeadSharply};
 

@@ -6,7 +6,7 @@ ghost use Rattle.ttp_model.specs.Chains.{IsPathBound};
 ghost use Rattle.ttp_model.specs.Delays.{IsLeastDelay};
 ghost use Rattle.ttp_model.specs.Moves.{IsSettled};
 ghost use Rattle.certificate.specs.declared.node.Node.TheVariants.{Leaf as AsLeaf};
-ghost use Rattle.branch_tree.specs.Task.{IsTask};
+ghost use Rattle.subtree_tasks.specs.Task.{IsTask};
 
 use branch_tree::{Piece, Task, Worked, close_left, work};
 use planner::{Options, Outcome, SolveFault, solve};

@@ -1,7 +1,7 @@
 //! What does a certificate prove that was made smaller?
 
 ghost use Rattle.std.specs.Prelude.{◌≡◌, ◌≤◌, IfOk, IfSome};
-ghost use Rattle.cert_check.specs.Proofs.{Proves};
+ghost use Rattle.tree_check.specs.Proofs.{Proves};
 
 use certificate::{Cert, Node};
 use dropped_decisions::{Standing, accepted, branches_among, proof_of, without_unused};

@@ -4,7 +4,7 @@ use Rattle.ttp_model.specs.declared.error.ModelError.TheVariants as model
 use Rattle.instance_text.specs.declared.error.TextError.TheVariants as text
 use Rattle.plan_format.specs.declared.fault.PlanTextError.TheVariants as plan_text
 use Rattle.certificate.specs.declared.fault.CertTextError.TheVariants as certificate_text
-use Rattle.cert_check.specs.declared.fault.CertFault.TheVariants as certificate
+use Rattle.tree_check.specs.declared.fault.CertFault.TheVariants as certificate
 use Rattle.command_streams.specs.declared.ending.SearchFault.TheVariants as search
 use Rattle.command_streams.specs.declared.ending.Fault.{Fault}
 use Rattle.command_streams.specs.declared.ending.Fault.TheVariants.{NoMark, LossForm, InstanceText, Memory, PlanText, Plan, StatedDelay, CertificateText, Certificate, TooFewNodes, WrongLoss, TooManySlots, Search, TooLong, Unread, Unwritten}

@@ -24,10 +24,10 @@ use Rattle.certificate.specs.declared.fault.LineFault as certificate_lines
 use Rattle.certificate.specs.declared.fault.LineFault.TheVariants as spelt
 use Rattle.certificate.specs.declared.fault.CertTextError.{CertTextError}
 use Rattle.certificate.specs.declared.fault.CertTextError.TheVariants as certificate_text
-use Rattle.cert_check.specs.declared.fault.NodeFault.{NodeFault}
-use Rattle.cert_check.specs.declared.fault.NodeFault.TheVariants.{ChildCount, NotOpen, LowGoal, RefusedStep, NotClosed}
-use Rattle.cert_check.specs.declared.fault.CertFault.{CertFault}
-use Rattle.cert_check.specs.declared.fault.CertFault.TheVariants as certificate
+use Rattle.tree_check.specs.declared.fault.NodeFault.{NodeFault}
+use Rattle.tree_check.specs.declared.fault.NodeFault.TheVariants.{ChildCount, NotOpen, LowGoal, RefusedStep, NotClosed}
+use Rattle.tree_check.specs.declared.fault.CertFault.{CertFault}
+use Rattle.tree_check.specs.declared.fault.CertFault.TheVariants as certificate
 use Rattle.command_streams.specs.declared.ending.Source.{Source}
 use Rattle.command_streams.specs.declared.ending.Source.TheVariants as source
 use Rattle.command_streams.specs.declared.ending.Sink.{Sink}

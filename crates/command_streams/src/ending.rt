@@ -4,11 +4,11 @@ ghost use Rattle.std.specs.Prelude.{◌≡◌};
 ghost use Rattle.command_streams.specs.Endings.{fault_status, status_of};
 ghost use Rattle.command_streams.specs.declared.ending.Fault.TheVariants.{Memory};
 
-use cert_check::CertFault;
 use certificate::CertTextError;
 use instance_text::TextError;
 use plan_format::PlanTextError;
 use std::alloc::{AllocError, AllocFailed};
+use tree_check::CertFault;
 use ttp_model::{MemoryFault, ModelError, PlanFault};
 
 /// Where a command reads from.

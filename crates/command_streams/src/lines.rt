@@ -5,11 +5,11 @@ ghost use Rattle.std.specs.List.{flat_map};
 ghost use Rattle.command_streams.specs.Lines.{spaced, plan_list_number, part_word, place_words, table_words, line_code, certificate_line_code, certificate_text_line, node_code, certificate_line, model_line, text_line, plan_text_line, plan_line, search_line, source_word, sink_word, fault_line};
 
 use crate::ending::{Fault, SearchFault, Sink, Source};
-use cert_check::{CertFault, NodeFault};
 use certificate::CertTextError;
 use instance_text::TextError;
 use plan_format::{LineFault, PlanTextError};
 use std::fmt;
+use tree_check::{CertFault, NodeFault};
 use ttp_model::{ModelError, Part, Place, PlanFault, PlanPart};
 
 #[derive(Drop)]

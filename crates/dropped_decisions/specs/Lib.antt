@@ -1,4 +1,4 @@
 pub mod Branches
 pub mod Heights
 pub use Rattle.certificate.specs.Trees
-pub use Rattle.cert_check.specs.Proofs
+pub use Rattle.tree_check.specs.Proofs

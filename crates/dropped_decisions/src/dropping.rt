@@ -2,7 +2,7 @@
 
 ghost use Rattle.std.specs.Prelude.{◌≡◌, ◌≤◌, IfOk, IfSome};
 ghost use Rattle.certificate.specs.Trees.{preorder};
-ghost use Rattle.cert_check.specs.Proofs.{Proves};
+ghost use Rattle.tree_check.specs.Proofs.{Proves};
 ghost use Rattle.dropped_decisions.specs.Branches.{branches};
 
 use crate::branches::branches_among;
@@ -10,9 +10,9 @@ use crate::copies::copies;
 use crate::heights::is_tree;
 use crate::pass::what_stays;
 use crate::standing::{Standing, sort_by_name};
-use cert_check::check;
 use certificate::{Cert, Node};
 use std::alloc::Global;
+use tree_check::check;
 use ttp_model::{Instance, MemoryFault};
 
 /// A certificate of a bound, in ticks, with these nodes in preorder, where they are a tree that proves it.

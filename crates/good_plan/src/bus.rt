@@ -73,10 +73,10 @@ impl Bus {
         m: usize,
         first: u64,
     ) -> u64 {
-        let begin = network.sources.begin(node).saturating_mul(2);
+        let begin = network.earlier.place_at(node).saturating_mul(2);
         let end = network
-            .sources
-            .begin(node.saturating_add(1))
+            .earlier
+            .place_at(node.saturating_add(1))
             .saturating_mul(2);
         let mut passes = draft.holds.at(m);
         let mut next = first;

@@ -34,8 +34,7 @@ impl Choice<'_> {
             return Some(self.urge_message(before, chance));
         }
         let next = self.draft.neighbour_after(self.network, before) == Some(after);
-        let is_linked = self.network.followers.row(before).contains(&(after as u64));
-        if next && !is_linked {
+        if next && !self.network.is_linked(before, after) {
             let place = self.draft.places.place_at(before);
             Some(Change::Line(place, place.saturating_add(1)))
         } else {
@@ -96,7 +95,7 @@ impl Choice<'_> {
     fn in_front(&self, message: usize, node: usize, chance: &mut Chance) -> Option<usize> {
         let mut found = None;
         let mut count = 0usize;
-        for m in self.network.sources.row(node) {
+        for m in self.network.messages_of(node) {
             let other = *m as usize;
             if other != message && self.path.is_in_front(other, message) {
                 count = count.saturating_add(1);
@@ -110,7 +109,7 @@ impl Choice<'_> {
 
     /// A message of this node waits for a later frame or, mostly, for none.
     fn hold(&self, node: usize, chance: &mut Chance) -> Change {
-        let messages = self.network.sources.row(node);
+        let messages = self.network.messages_of(node);
         let place = chance.below(messages.len());
         let message = messages.get(place).copied().unwrap_or(0);
         Change::Hold(message as usize, u64::from(chance.below(4) == 0))

@@ -43,7 +43,7 @@ impl Rows {
     }
 
     /// Where a row begins among all places.
-    pub fn begin(&self, row: usize) -> usize {
+    fn begin(&self, row: usize) -> usize {
         if row == 0 {
             0
         } else {

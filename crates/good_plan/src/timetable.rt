@@ -93,8 +93,14 @@ impl Timetable {
         if let Some(q) = draft.neighbour_after(network, p) {
             self.arrive(network, q, end, p);
         }
-        for q in network.followers.row(p) {
-            self.arrive(network, *q as usize, end, p);
+        let instance = network.instance;
+        for l in network.links_from(p) {
+            self.arrive(
+                network,
+                instance.link_at(*l as usize).after as usize,
+                end,
+                p,
+            );
         }
         self.send(network, draft, p, end);
     }

@@ -2,9 +2,9 @@
 use Rattle.std.proofs.Common.{ℕ, ◌<◌, List, length, arith, refl}
 use Rattle.ttp_model.specs.declared.step.Step.TheVariants.{XLoad, XFrames}
 use Rattle.tt_choice.specs.Extremes.{cap_most}
-use Rattle.tt_infer.specs.Conclusions.{NothingLeft, sharpened}
+use Rattle.sought_plans.specs.Conclusions.{NothingLeft, sharpened}
 use Rattle.tt_infer.specs.Facts.{Facts, AreFacts}
-use Rattle.tt_infer.specs.Known.{IsSought}
+use Rattle.sought_plans.specs.Known.{IsSought}
 use Rattle.tt_infer.proofs.Sound.{step_is_true}
 use Rattle.ttp_model.specs.declared.plan.Plan.{Plan}
 use Rattle.load_bounds.specs.declared.demands.Demand.{Demand}

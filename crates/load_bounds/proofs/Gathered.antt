@@ -5,8 +5,8 @@ use Rattle.std.proofs.lemmas.Bool.Decides.{eqb_tells}
 use Rattle.std.proofs.lemmas.List.Sums.{sum_by_push}
 use Rattle.ttp_model.specs.Instance.{Instance, message_at, node_of, source_of}
 use Rattle.ttp_model.proofs.Totals.{total_next}
-use Rattle.tt_infer.specs.Known.{Known, es_of, le_of, lo_of, top_of}
-use Rattle.tt_infer.specs.Premises.{wcet_of, load_within, bytes_within}
+use Rattle.sought_plans.specs.Known.{Known, es_of, le_of, lo_of, top_of}
+use Rattle.sought_plans.specs.Premises.{wcet_of, load_within, bytes_within}
 use Rattle.load_bounds.specs.declared.demands.Demand.{Demand}
 use Rattle.load_bounds.specs.Within.{part_within}
 use Rattle.load_bounds.specs.Gathered.{AreRuns, AreSendings}

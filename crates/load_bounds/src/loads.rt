@@ -2,7 +2,7 @@
 
 ghost use Rattle.std.specs.Prelude.{IsSome, length};
 ghost use Rattle.ttp_model.specs.declared.plan.Plan.{Plan};
-ghost use Rattle.tt_infer.specs.Known.{IsSought};
+ghost use Rattle.sought_plans.specs.Known.{IsSought};
 ghost use Rattle.load_bounds.specs.Gathered.{AreRuns, AreSendings};
 ghost use Rattle.load_bounds.specs.Loads.{IsNodeLoad, IsFrameLoad};
 

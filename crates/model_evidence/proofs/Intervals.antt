@@ -3,9 +3,9 @@ use Rattle.std.proofs.Common.{◌≡◌, ◌≢◌, ℕ, ◌-◌, ◌<◌, ◌�
 use Rattle.ttp_model.specs.declared.step.Step.{Step}
 use Rattle.ttp_model.specs.declared.step.Step.TheVariants.{XLoad}
 use Rattle.ttp_model.specs.Totals.{total}
-use Rattle.tt_infer.specs.Conclusions.{NothingLeft, sharpened}
+use Rattle.sought_plans.specs.Conclusions.{NothingLeft, sharpened}
 use Rattle.tt_infer.specs.Facts.{Facts}
-use Rattle.tt_infer.specs.Premises.{load_within}
+use Rattle.sought_plans.specs.Premises.{load_within}
 use Rattle.load_bounds.specs.Loads.{IsNodeLoad, IsLawfulNow}
 
 module _ (s : Facts) (n a b : ℕ) where

@@ -10,3 +10,4 @@ pub mod Named
 pub mod Intervals
 pub mod Judged
 pub mod JustValid
+pub mod Allowed

@@ -13,6 +13,7 @@ mod node_tables;
 mod pictures;
 mod plans;
 mod rules;
+mod schedules;
 mod slots;
 mod starts;
 mod steps;
@@ -40,6 +41,10 @@ pub use plans::{
 pub use rules::{
     Tables, linked_both_ways, received_at_home, received_by_nobody, sixty_five_processes,
     with_short_lead,
+};
+pub use schedules::{
+    processes_by_rising_starts, slack_up_to_a_linked_start, slack_up_to_a_slot,
+    slack_up_to_the_last_end,
 };
 pub use slots::{begins_at_or_after, cycle_past_delay, first_slot_of_round};
 pub use starts::{plan_of_choice_with_plans, plan_that_ends_first, plan_with_room_in_frames};

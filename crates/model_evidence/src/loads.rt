@@ -3,10 +3,11 @@
 ghost use Rattle.std.specs.Prelude.{◌≡◌, ◌≢◌, ℕ, ◌-◌, ◌<◌, ◌≤◌, IsSome, Some, length};
 ghost use Rattle.ttp_model.specs.Instance.{link_at};
 ghost use Rattle.ttp_model.specs.Totals.{total};
-ghost use Rattle.tt_infer.specs.Premises.{load_within};
+ghost use Rattle.sought_plans.specs.Premises.{load_within};
 
 use load_bounds::node_load;
-use tt_infer::{Fact, Facts, target};
+use step_reads::{Fact, target};
+use tt_infer::Facts;
 use ttp_model::{Instance, Step};
 
 /// An interval that the node's processes just fill is never told as too short for them.

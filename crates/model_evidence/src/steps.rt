@@ -7,10 +7,10 @@ ghost use Rattle.ttp_model.specs.Totals.{total};
 ghost use Rattle.tt_choice.specs.Branches.{IsUnorderedPair};
 ghost use Rattle.tt_choice.specs.Choice.{IsChoice};
 ghost use Rattle.tt_choice.specs.Extremes.{end_least, start_most};
-ghost use Rattle.tt_infer.specs.Conclusions.{EndsUntil, GoesFirst, SentBefore, StartsFrom, sharpened};
-ghost use Rattle.tt_infer.specs.Dominance.{IsGreatestWait, StandsFirst};
-ghost use Rattle.tt_infer.specs.Known.{bef_of, le_of, lo_of, top_of};
-ghost use Rattle.tt_infer.specs.Premises.{AreChances, IsAhead, least_end, load_within, sender_of, wcet_of};
+ghost use Rattle.sought_plans.specs.Conclusions.{EndsUntil, GoesFirst, SentBefore, StartsFrom, sharpened};
+ghost use Rattle.sought_plans.specs.Dominance.{IsGreatestWait, StandsFirst};
+ghost use Rattle.sought_plans.specs.Known.{bef_of, le_of, lo_of, top_of};
+ghost use Rattle.sought_plans.specs.Premises.{AreChances, IsAhead, least_end, load_within, sender_of, wcet_of};
 
 use std::alloc::Global;
 use tt_choice::Choice;

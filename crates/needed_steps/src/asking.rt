@@ -7,7 +7,7 @@ use crate::ends::{
 use crate::moment::Moment;
 use crate::needs::Needs;
 use crate::starts::{ask_arrival, ask_end, ask_first_end, ask_passage, ask_ready};
-use tt_infer::{link_after, link_before};
+use step_reads::{link_after, link_before};
 use ttp_model::Step;
 
 /// Asks for what a step reads: so sharp that it can be taken, and that it says of its own fact what is needed.

@@ -1,9 +1,12 @@
 //! What does a step read that compares what is known?
 
+ghost use Rattle.std.specs.Prelude.{◌<◌, length};
+
 use crate::moment::Moment;
 use crate::needs::Needs;
 use crate::slots::{begin_least, copy_out};
-use tt_infer::{Facts, sender};
+use step_reads::sender;
+use tt_infer::Facts;
 use ttp_model::Instance;
 
 /// Asks that process `p` has to end before `q` can have started and both have run, or `p` alone where it is `q`.
@@ -53,22 +56,17 @@ pub fn ask_ring(needs: &mut Needs, ring: &[u32]) {
     }
 }
 
-/// Whether process `p` is of node `n` and runs from `a` to `b`.
-fn runs_within(moment: &Moment, n: u32, a: u32, b: u32, p: u32) -> bool {
-    let instance = moment.instance();
-    (p as usize) < instance.processes().len()
-        && instance.node_of(p as usize) == n
-        && moment.now.start(p) >= a
-        && moment.now.end(p) <= b
+/// Whether process `p` runs from `a` to `b`.
+fn runs_within(moment: &Moment, a: u32, b: u32, p: u32) -> bool {
+    moment.now.start(p) >= a && moment.now.end(p) <= b
 }
 
 /// How long the processes of node `n` run that run from `a` to `b`, in ticks.
 fn ticks_within(moment: &Moment, n: u32, a: u32, b: u32) -> u64 {
-    let count = moment.instance().processes().len() as u32;
     let mut ticks = 0u64;
-    for p in 0..count {
-        if runs_within(moment, n, a, b, p) {
-            ticks = ticks.saturating_add(moment.wcet(p));
+    for p in moment.instance().processes_on(n) {
+        if runs_within(moment, a, b, *p) {
+            ticks = ticks.saturating_add(moment.wcet(*p));
         }
     }
     ticks
@@ -79,46 +77,36 @@ pub fn ask_load(needs: &mut Needs, moment: &Moment, n: u32, a: u32, b: u32) {
     let room = u64::from(b.saturating_sub(a));
     let ticks = ticks_within(moment, n, a, b);
     let mut spare = ticks.saturating_sub(room).saturating_sub(1);
-    let count = moment.instance().processes().len() as u32;
-    for p in 0..count {
-        if runs_within(moment, n, a, b, p) {
-            let free = moment.first.start(p) >= a && moment.first.end(p) <= b;
-            if !free && moment.wcet(p) <= spare {
-                spare = spare.saturating_sub(moment.wcet(p));
+    for p in moment.instance().processes_on(n) {
+        if runs_within(moment, a, b, *p) {
+            let free = moment.first.start(*p) >= a && moment.first.end(*p) <= b;
+            if !free && moment.wcet(*p) <= spare {
+                spare = spare.saturating_sub(moment.wcet(*p));
             } else {
-                needs.start_from(p, u64::from(a));
-                needs.end_until(p, u64::from(b));
+                needs.start_from(*p, u64::from(a));
+                needs.end_until(*p, u64::from(b));
             }
         }
     }
 }
 
-/// The bytes of a message: 0 where it isn't there.
-fn bytes_of(instance: &Instance, m: u32) -> u64 {
-    if (m as usize) < instance.messages().len() {
-        u64::from(instance.message_at(m as usize).bytes)
-    } else {
-        0
-    }
+/// The bytes of a message.
+fn bytes_of(instance: &Instance, m: u32) -> u64
+    requires { m < length instance.now.messages }
+{
+    u64::from(instance.message_at(m as usize).bytes)
 }
 
-/// Whether message `m` is of node `n`.
-fn is_of(instance: &Instance, n: u32, m: u32) -> bool {
-    (m as usize) < instance.messages().len() && instance.source_of(m as usize) == n
-}
-
-/// Whether message `m` is of node `n` and is sent from round `a` on and before `b`.
-fn sent_within(moment: &Moment, n: u32, a: u32, b: u32, m: u32) -> bool {
-    is_of(moment.instance(), n, m)
-        && moment.now.first_round(m) >= a
-        && moment.now.late_round(m) <= b
+/// Whether message `m` is sent from round `a` on and before `b`.
+fn sent_within(moment: &Moment, a: u32, b: u32, m: u32) -> bool {
+    moment.now.first_round(m) >= a && moment.now.late_round(m) <= b
 }
 
 /// The bytes that frames of node `n` carry at most in so many rounds.
 pub fn most_carried(facts: &Facts, n: u32, rounds: u32) -> u64 {
     let instance = facts.instance();
     if (n as usize) < instance.nodes().len() {
-        u64::from(facts.choice().cap_most(instance, n)).saturating_mul(u64::from(rounds))
+        u64::from(facts.setting().cap_most(n)).saturating_mul(u64::from(rounds))
     } else {
         0
     }
@@ -128,7 +116,7 @@ pub fn most_carried(facts: &Facts, n: u32, rounds: u32) -> u64 {
 fn least_carried(facts: &Facts, n: u32) -> u64 {
     let instance = facts.instance();
     if (n as usize) < instance.nodes().len() {
-        u64::from(facts.choice().cap_least(instance, n))
+        u64::from(facts.setting().cap_least(n))
     } else {
         0
     }
@@ -137,11 +125,10 @@ fn least_carried(facts: &Facts, n: u32) -> u64 {
 /// How many bytes the messages of node `n` have that are sent from round `a` on and before `b`.
 fn bytes_within(moment: &Moment, n: u32, a: u32, b: u32) -> u64 {
     let instance = moment.instance();
-    let count = instance.messages().len() as u32;
     let mut bytes = 0u64;
-    for m in 0..count {
-        if sent_within(moment, n, a, b, m) {
-            bytes = bytes.saturating_add(bytes_of(instance, m));
+    for m in instance.messages_of(n) {
+        if sent_within(moment, a, b, *m) {
+            bytes = bytes.saturating_add(bytes_of(instance, *m));
         }
     }
     bytes
@@ -151,36 +138,34 @@ fn bytes_within(moment: &Moment, n: u32, a: u32, b: u32) -> u64 {
 /// be among them.
 pub fn ask_frames(needs: &mut Needs, moment: &Moment, n: u32, a: u32, b: u32) {
     let instance = moment.instance();
-    let count = instance.messages().len() as u32;
     let bytes = bytes_within(moment, n, a, b);
     let room = most_carried(moment.facts, n, b.saturating_sub(a));
     let mut spare = bytes.saturating_sub(room).saturating_sub(1);
-    for m in 0..count {
-        if sent_within(moment, n, a, b, m) {
-            let free = moment.first.first_round(m) >= a && moment.first.late_round(m) <= b;
-            if !free && bytes_of(instance, m) <= spare {
-                spare = spare.saturating_sub(bytes_of(instance, m));
+    for m in instance.messages_of(n) {
+        if sent_within(moment, a, b, *m) {
+            let free = moment.first.first_round(*m) >= a && moment.first.late_round(*m) <= b;
+            if !free && bytes_of(instance, *m) <= spare {
+                spare = spare.saturating_sub(bytes_of(instance, *m));
             } else {
-                needs.sent_from(m, u64::from(a));
-                needs.sent_before(m, u64::from(b));
+                needs.sent_from(*m, u64::from(a));
+                needs.sent_before(*m, u64::from(b));
             }
         }
     }
 }
 
-/// Whether message `k` may be in the frame of round `r` in which another one of node `n` would be.
-fn may_be_beside(moment: &Moment, n: u32, r: u32, k: u32) -> bool {
-    is_of(moment.instance(), n, k) && moment.now.first_round(k) <= r && r < moment.now.late_round(k)
+/// Whether message `k` may be in the frame of round `r` in which another one of its node would be.
+fn may_be_beside(moment: &Moment, r: u32, k: u32) -> bool {
+    moment.now.first_round(k) <= r && r < moment.now.late_round(k)
 }
 
 /// How many bytes beside message `m` of node `n` may be in the frame of round `r` in which it would be.
 fn bytes_beside(moment: &Moment, n: u32, m: u32, r: u32) -> u64 {
     let instance = moment.instance();
-    let count = instance.messages().len() as u32;
     let mut bytes = 0u64;
-    for k in 0..count {
-        if k != m && may_be_beside(moment, n, r, k) {
-            bytes = bytes.saturating_add(bytes_of(instance, k));
+    for k in instance.messages_of(n) {
+        if *k != m && may_be_beside(moment, r, *k) {
+            bytes = bytes.saturating_add(bytes_of(instance, *k));
         }
     }
     bytes
@@ -202,24 +187,22 @@ pub fn ask_earlier(needs: &mut Needs, moment: &Moment, m: u32, r: u32) {
     );
     let bytes = bytes_of(instance, m).saturating_add(bytes_beside(moment, n, m, r));
     let mut spare = least_carried(moment.facts, n).saturating_sub(bytes);
-    let count = instance.messages().len() as u32;
-    for k in 0..count {
-        if k != m && went_elsewhere(moment, n, r, k) {
-            if bytes_of(instance, k) <= spare {
-                spare = spare.saturating_sub(bytes_of(instance, k));
+    for k in instance.messages_of(n) {
+        if *k != m && went_elsewhere(moment, r, *k) {
+            if bytes_of(instance, *k) <= spare {
+                spare = spare.saturating_sub(bytes_of(instance, *k));
             } else {
-                ask_elsewhere(needs, moment, r, k);
+                ask_elsewhere(needs, moment, r, *k);
             }
         }
     }
 }
 
-/// Whether message `k` of node `n` could be sent in round `r` at first, and can't be.
-fn went_elsewhere(moment: &Moment, n: u32, r: u32, k: u32) -> bool {
-    is_of(moment.instance(), n, k)
-        && moment.first.first_round(k) <= r
+/// Whether message `k` could be sent in round `r` at first, and can't be.
+fn went_elsewhere(moment: &Moment, r: u32, k: u32) -> bool {
+    moment.first.first_round(k) <= r
         && r < moment.first.late_round(k)
-        && !may_be_beside(moment, n, r, k)
+        && !may_be_beside(moment, r, k)
 }
 
 /// Asks that message `k` isn't sent in round `r`.

@@ -3,7 +3,7 @@
 use crate::closers::most_carried;
 use crate::spans::Spans;
 use std::alloc::Global;
-use tt_infer::{Fact, Facts, value};
+use tt_infer::Facts;
 use ttp_model::{MemoryFault, Step};
 
 /// The most closers that are found.
@@ -41,7 +41,7 @@ fn add_windows(facts: &Facts, found: &mut Vec<Step>) -> Result<(), MemoryFault> 
 fn add_rounds(facts: &Facts, found: &mut Vec<Step>) -> Result<(), MemoryFault> {
     let count = facts.instance().messages().len() as u32;
     for m in 0..count {
-        if value(facts, Fact::FirstRound(m)) >= value(facts, Fact::LateRound(m)) {
+        if facts.lo(m) >= facts.top(m) {
             add(found, Step::XRound(m))?;
         }
     }
@@ -51,26 +51,20 @@ fn add_rounds(facts: &Facts, found: &mut Vec<Step>) -> Result<(), MemoryFault> {
 /// The processes of node `n`, each from its earliest start until its latest end.
 fn set_to_processes(spans: &mut Spans, facts: &Facts, n: u32) {
     let instance = facts.instance();
-    let count = instance.processes().len() as u32;
     spans.clear();
-    for p in 0..count {
-        let process = instance.process_at(p as usize);
-        if process.node == n {
-            spans.add(facts.es(p), facts.le(p), process.wcet);
-        }
+    for p in instance.processes_on(n) {
+        let wcet = instance.process_at(*p as usize).wcet;
+        spans.add(facts.es(*p), facts.le(*p), wcet);
     }
 }
 
 /// The messages of node `n`, each from its least round until the first that is too late.
 fn set_to_messages(spans: &mut Spans, facts: &Facts, n: u32) {
     let instance = facts.instance();
-    let count = instance.messages().len() as u32;
     spans.clear();
-    for m in 0..count {
-        if instance.source_of(m as usize) == n {
-            let message = instance.message_at(m as usize);
-            spans.add(facts.lo(m), facts.top(m), message.bytes);
-        }
+    for m in instance.messages_of(n) {
+        let bytes = instance.message_at(*m as usize).bytes;
+        spans.add(facts.lo(*m), facts.top(*m), bytes);
     }
 }
 

@@ -44,38 +44,30 @@ pub fn ask_missed(needs: &mut Needs, moment: &Moment, m: u32, q: u32, round: u64
 
 /// Asks that process `p` has nothing to wait for that would let it end later.
 pub fn ask_settled(needs: &mut Needs, moment: &Moment, p: u32, end: u64) {
+    let instance = moment.instance();
+    if p as usize >= instance.processes().len() {
+        return;
+    }
     let start = end.saturating_sub(moment.wcet(p));
-    let count = moment.instance().processes().len() as u32;
-    for x in 0..count {
-        ask_ended(needs, moment, p, x, start);
+    for x in instance.processes_on(instance.node_of(p as usize)) {
+        if *x != p {
+            ask_ended(needs, moment, p, *x, start);
+        }
     }
     ask_arrived(needs, moment, p, start);
 }
 
 /// Asks that the messages to process `p` have arrived by a time.
 fn ask_arrived(needs: &mut Needs, moment: &Moment, p: u32, start: u64) {
-    let count = moment.instance().messages().len() as u32;
-    for m in 0..count {
-        if is_sent_to(moment, m, p) {
-            let rounds = rounds_arrived(moment.facts, m, start);
-            ask_rounds(needs, moment, m, rounds);
-        }
+    for m in moment.instance().received_by(p) {
+        let rounds = rounds_arrived(moment.facts, *m, start);
+        ask_rounds(needs, moment, *m, rounds);
     }
 }
 
-/// Whether a process receives a message.
-fn is_sent_to(moment: &Moment, m: u32, p: u32) -> bool {
-    let instance = moment.instance();
-    if m as usize >= instance.messages().len() {
-        return false;
-    }
-    let message = instance.message_at(m as usize);
-    message.receivers.as_slice().contains(&p)
-}
-
-/// Asks that process `x` doesn't keep process `p` from starting by a time: it ends by then, or goes after it.
+/// Asks that process `x` of its node doesn't keep process `p` from starting by a time: it ends by then, or goes after it.
 fn ask_ended(needs: &mut Needs, moment: &Moment, p: u32, x: u32, time: u64) {
-    if !share_a_node(moment, p, x) || u64::from(moment.first.end(x)) <= time {
+    if u64::from(moment.first.end(x)) <= time {
         return;
     }
     if moment.facts.choice().is_before(p, x) || has_link(moment.instance(), p, x) {
@@ -86,14 +78,4 @@ fn ask_ended(needs: &mut Needs, moment: &Moment, p: u32, x: u32, time: u64) {
     } else {
         needs.go_first(p, x);
     }
-}
-
-/// Whether they are two processes of one node.
-fn share_a_node(moment: &Moment, p: u32, x: u32) -> bool {
-    let instance = moment.instance();
-    let count = instance.processes().len();
-    p != x
-        && (p as usize) < count
-        && (x as usize) < count
-        && instance.node_of(p as usize) == instance.node_of(x as usize)
 }

@@ -2,12 +2,14 @@
 
 use crate::asking::ask;
 use crate::closings::Closings;
+use crate::marks::Marked;
 use crate::moment::Moment;
 use crate::needs::Needs;
+use crate::values::Values;
 use crate::weights::Weights;
 use std::alloc::Global;
-use step_facts::{Marked, Values};
-use tt_infer::{Fact, Facts, target};
+use step_reads::{Fact, target};
+use tt_infer::Facts;
 use ttp_model::{Instance, MemoryFault, Step};
 
 /// Steps each of which sharpened its fact, how far that was known before it, and what is known after them.
@@ -101,16 +103,16 @@ impl Fewest {
     fn weigh(&mut self, log: Log, given: Option<&Step>, most: usize) -> Result<(), MemoryFault> {
         let are_many = self.closings.as_slice().len() >= most;
         if are_many {
-            self.weights.look_at(log.facts, log.steps);
+            self.weights.look_at(log.facts, log.steps)?;
         }
         self.light.clear();
         if let Some(closer) = given {
-            self.light
-                .push((self.weights.of_step(log.facts, closer), None))?;
+            let weight = self.weights.of_step(log.facts, closer)?;
+            self.light.push((weight, None))?;
         }
         for (place, closer) in self.closings.as_slice().iter().enumerate() {
-            self.light
-                .push((self.weights.of_step(log.facts, closer), Some(place)))?;
+            let weight = self.weights.of_step(log.facts, closer)?;
+            self.light.push((weight, Some(place)))?;
         }
         if are_many {
             self.light
@@ -153,6 +155,9 @@ impl Fewest {
         last: Moment,
         given: Option<&Step>,
     ) -> Option<Option<usize>> {
+        if let [only] = self.light.as_slice() {
+            return Some(only.1);
+        }
         let mut fewest = usize::MAX;
         let mut found = None;
         for k in 0..self.light.len() {

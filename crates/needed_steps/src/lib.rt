@@ -4,13 +4,17 @@
 mod asking;
 mod closers;
 mod closings;
+mod counted;
 mod ends;
 mod fewest;
+mod marks;
 mod moment;
 mod needs;
 mod slots;
 mod spans;
 mod starts;
+mod values;
 mod weights;
 
 pub use fewest::{Fewest, Found, Log};
+pub use marks::{Marked, Marks};

@@ -1,7 +1,8 @@
 //! What is known before a step of a log?
 
-use step_facts::Values;
-use tt_infer::{Fact, Facts};
+use crate::values::Values;
+use step_reads::Fact;
+use tt_infer::Facts;
 use ttp_model::Instance;
 
 /// What is known before a step of a log, and what at first.

@@ -1,8 +1,8 @@
 //! How sharp has each fact to be?
 
+use crate::values::Values;
 use std::alloc::Global;
-use step_facts::{FactSet, Values};
-use tt_infer::Fact;
+use step_reads::{Fact, FactSet};
 use ttp_model::{Instance, MemoryFault};
 
 /// How sharp facts have to be, so that steps say enough which were looked at.

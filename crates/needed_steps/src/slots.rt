@@ -37,7 +37,7 @@ fn source(facts: &Facts, m: u32) -> Option<u32>
 /// message isn't there.
 pub fn least_passage(facts: &Facts, m: u32) -> u64 {
     let duration = match source(facts, m) {
-        Some(n) => facts.choice().dur_least(facts.instance(), n),
+        Some(n) => facts.setting().dur_least(n),
         None => 0,
     };
     duration
@@ -48,7 +48,7 @@ pub fn least_passage(facts: &Facts, m: u32) -> u64 {
 /// When the slot of a message begins in a round at most, in ticks: 0 where the message isn't there.
 pub fn begin_most(facts: &Facts, m: u32, round: u32) -> u64 {
     match source(facts, m) {
-        Some(n) => facts.choice().start_most(facts.instance(), n, round),
+        Some(n) => facts.setting().start_most(n, round),
         None => 0,
     }
 }
@@ -56,7 +56,7 @@ pub fn begin_most(facts: &Facts, m: u32, round: u32) -> u64 {
 /// When the slot of a message begins in a round at least, in ticks: 0 where the message isn't there.
 pub fn begin_least(facts: &Facts, m: u32, round: u32) -> u64 {
     match source(facts, m) {
-        Some(n) => facts.choice().start_least(facts.instance(), n, round),
+        Some(n) => facts.setting().start_least(n, round),
         None => 0,
     }
 }
@@ -64,7 +64,7 @@ pub fn begin_least(facts: &Facts, m: u32, round: u32) -> u64 {
 /// When the slot of a message ends in a round at least, in ticks: 0 where the message isn't there.
 pub fn end_least(facts: &Facts, m: u32, round: u32) -> u64 {
     match source(facts, m) {
-        Some(n) => facts.choice().end_least(facts.instance(), n, round),
+        Some(n) => facts.setting().end_least(n, round),
         None => 0,
     }
 }
@@ -72,7 +72,7 @@ pub fn end_least(facts: &Facts, m: u32, round: u32) -> u64 {
 /// When the slot of a message ends in a round at most, in ticks: 0 where the message isn't there.
 fn end_most(facts: &Facts, m: u32, round: u32) -> u64 {
     match source(facts, m) {
-        Some(n) => facts.choice().end_most(facts.instance(), n, round),
+        Some(n) => facts.setting().end_most(n, round),
         None => 0,
     }
 }

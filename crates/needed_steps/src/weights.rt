@@ -1,8 +1,9 @@
 //! How many steps does each fact rest on?
 
+use crate::counted::add_counted;
 use std::alloc::Global;
-use step_facts::{Reader, add_reads};
-use tt_infer::{Fact, Facts, target};
+use step_reads::{Fact, target};
+use tt_infer::Facts;
 use ttp_model::{Instance, MOST_MESSAGES, MOST_PROCESSES, MemoryFault, Step};
 
 /// By fact, how many steps of a log it rests on: a step that several others read counts once for each. Of what no step has sharpened
@@ -17,8 +18,8 @@ pub struct Weights {
     processes: u32,
     /// A row for each process, one after another.
     orders: Vec<u32>,
-    /// The weight of what was read so far.
-    sum: u32,
+    /// What one step rests on, in room that is used again.
+    counted: Vec<Fact>,
 }
 
 /// Writes a weight, where there is a place for it.
@@ -33,13 +34,6 @@ fn at(weights: &[u32], at: usize) -> u32 {
     if at < weights.len() { weights[at] } else { 0 }
 }
 
-impl Reader for Weights {
-    /// Adds the weight of a fact.
-    fn read(&mut self, fact: Fact) {
-        self.sum = self.sum.saturating_add(self.of(fact));
-    }
-}
-
 impl Weights {
     /// Nothing rests on any step.
     pub fn none(alloc: Global, instance: &Instance) -> Result<Self, MemoryFault> {
@@ -52,24 +46,29 @@ impl Weights {
             late_rounds: [0; MOST_MESSAGES],
             processes,
             orders: vec![in alloc; 0u32; count]?,
-            sum: 0,
+            counted: Vec::new(alloc),
         })
     }
 
     /// Looks at the steps of a log after which this is known.
-    pub fn look_at(&mut self, facts: &Facts, steps: &[Step]) {
+    pub fn look_at(&mut self, facts: &Facts, steps: &[Step]) -> Result<(), MemoryFault> {
         self.clear();
         for step in steps {
-            let weight = self.of_step(facts, step).saturating_add(1);
+            let weight = self.of_step(facts, step)?.saturating_add(1);
             self.set(target(facts.instance(), step), weight);
         }
+        Ok(())
     }
 
-    /// The weight of what a step reads.
-    pub fn of_step(&mut self, facts: &Facts, step: &Step) -> u32 {
-        self.sum = 0;
-        add_reads(self, facts, step);
-        self.sum
+    /// The weight of what a step rests on.
+    pub fn of_step(&mut self, facts: &Facts, step: &Step) -> Result<u32, MemoryFault> {
+        self.counted.clear();
+        add_counted(facts, step, &mut self.counted)?;
+        let mut sum = 0u32;
+        for fact in self.counted.as_slice() {
+            sum = sum.saturating_add(self.of(*fact));
+        }
+        Ok(sum)
     }
 
     /// Forgets all weights.

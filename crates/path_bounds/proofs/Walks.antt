@@ -13,7 +13,7 @@ use Rattle.ttp_model.specs.Graph.{HasLink, HasMessage}
 use Rattle.ttp_model.specs.Chains.{ChainEnds, one, by_link, by_message, least_transfer, least_duration, IsPathBound}
 use Rattle.ttp_model.specs.Walks.{Chain, first, on_link, on_message}
 use Rattle.ttp_model.proofs.Walks.{link_inside, message_inside, chain_some, chain_few, chain_inside, to_chain}
-use Rattle.tt_infer.specs.Premises.{Receives}
+use Rattle.sought_plans.specs.Premises.{Receives}
 use Rattle.path_bounds.specs.Walks.{AreChainEnds, AreEnds, AreKept}
 
 -- the least time of a transfer: a slot between two copies

@@ -4,12 +4,11 @@ use Rattle.ttp_model.specs.declared.plan.Plan.{Plan}
 use Rattle.ttp_model.specs.declared.error.MemoryFault.{MemoryFault}
 use Rattle.ttp_model.specs.declared.step.Step.{Step}
 use Rattle.ttp_model.specs.Instance.{Instance}
-use Rattle.ttp_model.specs.Plans.{IsValid}
-use Rattle.ttp_model.specs.Delays.{delay}
-use Rattle.tt_choice.specs.Choice.{Choice, IsIn}
-use Rattle.tt_infer.specs.Known.{Known, first_facts}
+use Rattle.tt_choice.specs.Choice.{Choice}
+use Rattle.sought_plans.specs.Known.{Known, first_facts}
 use Rattle.tt_infer.specs.Leaves.{Lead}
 pub use Rattle.tt_infer.specs.Leaves.{LeadSharply}
+pub use Rattle.step_logs.specs.PlansBelow.{IsPlanBelow}
 use Rattle.path_bounds.specs.declared.reached.Reached.{Reached}
 use Rattle.path_bounds.specs.declared.reached.Reached.TheVariants.{Closed, At}
 
@@ -34,12 +33,6 @@ pub record Propagates (i : Instance) (c : Choice) (goal : ℕ) (old new : List S
 abbrev pub IsClosed : Reached → Type 0
 IsClosed Closed = Unit {0}
 IsClosed (At facts) = ⊥
-
--- a valid plan of the choice with a delay below the goal
-pub record IsPlanBelow (i : Instance) (c : Choice) (goal : ℕ) (plan : Plan) : Type 0 where
-  pub valid : IsValid i plan
-  pub chosen : IsIn i c plan
-  pub better : delay i plan < goal
 
 -- where plans may be left, there is such a plan
 abbrev pub FindsPlan : Instance → Choice → ℕ → Reached → Type 0

@@ -4,7 +4,7 @@ ghost use Rattle.std.specs.Prelude.{◌≡◌, ℕ, ◌+◌, ◌^◌, ◌<◌, �
 ghost use Rattle.ttp_model.specs.Instance.{process_at, message_at, source_of};
 ghost use Rattle.ttp_model.specs.Graph.{HasLink, HasMessage};
 ghost use Rattle.ttp_model.specs.Chains.{IsPathBound, least_transfer};
-ghost use Rattle.tt_infer.specs.Premises.{Receives};
+ghost use Rattle.sought_plans.specs.Premises.{Receives};
 ghost use Rattle.path_bounds.specs.Walks.{AreChainEnds, AreEnds, AreKept};
 
 use std::alloc::Global;

@@ -8,8 +8,8 @@ ghost use Rattle.tt_infer.specs.Leaves.{ClosesLeaf};
 use crate::chains::path_bound;
 use crate::propagation::propagate;
 use crate::reached::Reached;
-use crate::trim::closed_leaf;
 use std::alloc::Global;
+use step_logs::closed_leaf;
 use tt_choice::Choice;
 use ttp_model::{Instance, Leaf, MemoryFault, Step};
 

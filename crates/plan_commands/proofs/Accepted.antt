@@ -5,10 +5,10 @@ use Rattle.certificate.specs.Cert.{Cert}
 use Rattle.certificate.specs.Limits.{most_text_bytes}
 use Rattle.certificate.specs.Spelling.{SpellsCert}
 use Rattle.certificate.specs.declared.fault.CertTextError.{CertTextError}
-use Rattle.cert_check.specs.declared.fault.CertFault.{CertFault}
+use Rattle.tree_check.specs.declared.fault.CertFault.{CertFault}
 use Rattle.cert_check.specs.declared.fault.StreamFault.{StreamFault}
 use Rattle.cert_check.specs.declared.fault.StreamFault.TheVariants.{Read, TooLong, Text, Cert as InCert}
-use Rattle.cert_check.specs.Proofs.{Proves}
+use Rattle.tree_check.specs.Proofs.{Proves}
 use Rattle.cert_check.specs.Streams.{IsBoundUnlessStopped}
 use Rattle.command_streams.specs.declared.ending.Fault.{Fault}
 use Rattle.command_streams.specs.declared.ending.End.{End}

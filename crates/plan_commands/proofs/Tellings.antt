@@ -101,3 +101,9 @@ pub refused_of_readers : (IsTextAt : List ℕ → List ℕ → End → List ℕ 
 refused_of_readers IsTextAt None b old fault refused = tt
 refused_of_readers IsTextAt (Some instance) None old fault refused = tt
 refused_of_readers IsTextAt (Some instance) (Some plan) old fault refused = refused_outcome (IsTextAt instance plan) (IsRefused instance plan) (λ never. never) old fault refused
+
+-- where memory is refused, nothing is written, whatever the readers gave
+pub memory_of_readers : (IsTextAt : List ℕ → List ℕ → End → List ℕ → Type 0) (RefusedBy : List ℕ → List ℕ → Fault → Type 0) → ((instance plan : List ℕ) → RefusedBy instance plan Memory) → (a b old : Option (List ℕ)) → IfSome a (λ instance. IfSome b (λ plan. IsCommandAnswer (IsTextAt instance plan) (RefusedBy instance plan) old old (Refused Memory)))
+memory_of_readers IsTextAt RefusedBy may None b old = tt
+memory_of_readers IsTextAt RefusedBy may (Some instance) None old = tt
+memory_of_readers IsTextAt RefusedBy may (Some instance) (Some plan) old = (may instance plan, keeps old)

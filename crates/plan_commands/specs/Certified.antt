@@ -8,8 +8,8 @@ use Rattle.certificate.specs.Reading as reading
 use Rattle.certificate.specs.declared.fault.CertTextError.TheVariants as text
 use Rattle.cert_check.specs.declared.fault.StreamFault.{StreamFault}
 use Rattle.cert_check.specs.declared.fault.StreamFault.TheVariants as stream
-use Rattle.cert_check.specs.Proofs.{Proves}
-use Rattle.cert_check.specs.Faults as checking
+use Rattle.tree_check.specs.Proofs.{Proves}
+use Rattle.tree_check.specs.Faults as checking
 use Rattle.command_streams.specs.Limits.{certificate_limit, instance_limit}
 use Rattle.command_streams.specs.declared.ending.Source.TheVariants as source
 use Rattle.command_streams.specs.declared.ending.Fault.{Fault}

@@ -2,7 +2,7 @@
 
 ghost use Rattle.std.specs.Prelude.{◌≡◌, ◌+◌, string_bytes, IfErr, IfOk, IfSome, MatchResult};
 ghost use Rattle.certificate.specs.Cert.{Cert};
-ghost use Rattle.cert_check.specs.Proofs.{Proves};
+ghost use Rattle.tree_check.specs.Proofs.{Proves};
 ghost use Rattle.plan_commands.specs.Certified.{HasBound, HasCertificate, IsCertificateFault, IsCheckAnswer, WritesProvedBound, bound_line, fault_of};
 ghost use Rattle.std.specs.Io.KnownBytes.{Keeps};
 ghost use Rattle.command_streams.specs.Endings.{IsNotOfTexts};
@@ -20,8 +20,10 @@ use std::io::{Read, Write};
 use std::thread::Threads;
 use ttp_model::Instance;
 
-/// How many leaves of a certificate are judged together.
-const BATCH: usize = 2_048;
+/// How many leaves of a certificate wait to be judged together. Where there is one processor, more of them would leave its own memory before
+/// they are judged; where there are more, each batch costs a meeting of all threads, but a small certificate would spend its time on memory
+/// that is touched for the first time.
+const BATCH: usize = 512;
 
 /// A fault of a certificate's bytes, as it is told.
 fn fault_of(fault: StreamFault) -> Fault

@@ -25,13 +25,13 @@ module _ (i : Instance) (plan : Plan) (p : ℕ) where
   abbrev of_links : ℕ
   of_links = least (limit_of_link i plan p) of_processes (length i.links)
 
-  latest-allowed : (time : ℕ) → AllAllow i plan p time → time ≤ latest_end i plan p
+  pub latest-allowed : (time : ℕ) → AllAllow i plan p time → time ≤ latest_end i plan p
   latest-allowed time all =
       let first = le-least (limit_of_process i plan p) (last_end i p) (length i.processes) time all.last all.processes in
       let second = le-least (limit_of_link i plan p) of_processes (length i.links) time first all.links in
       le-least (limit_of_message i plan p) of_links (length i.messages) time second all.messages
 
-  allowed-latest : (time : ℕ) → time ≤ latest_end i plan p → AllAllow i plan p time
+  pub allowed-latest : (time : ℕ) → time ≤ latest_end i plan p → AllAllow i plan p time
   allowed-latest time le =
       let third = least-le-top (limit_of_message i plan p) of_links (length i.messages) in
       let second = least-le-top (limit_of_link i plan p) of_processes (length i.links) in
@@ -45,7 +45,7 @@ module _ (i : Instance) (plan : Plan) (p : ℕ) where
 
 -- a limit from what it stands for, and back
 module _ (i : Instance) (plan : Plan) (p time : ℕ) (horizon : time ≤ i.cluster.horizon) where
-  process-allows : (q : ℕ) → (node_of i q ≡ node_of i p → end_of i plan p ≤ start_of plan q → time ≤ start_of plan q) → time ≤ limit_of_process i plan p q
+  pub process-allows : (q : ℕ) → (node_of i q ≡ node_of i p → end_of i plan p ≤ start_of plan q → time ≤ start_of plan q) → time ≤ limit_of_process i plan p q
   process-allows q holds = elim (eqb_tells (node_of i q) (node_of i p)) [
     | inr other ↦ rw other.0 horizon
     | inl same ↦ elim (leb_tells (end_of i plan p) (start_of plan q)) [
@@ -54,13 +54,13 @@ module _ (i : Instance) (plan : Plan) (p time : ℕ) (horizon : time ≤ i.clust
     ]
   ]
 
-  link-allows : (l : ℕ) → ((link_at i l).before ≡ p → time ≤ start_of plan (link_at i l).after) → time ≤ limit_of_link i plan p l
+  pub link-allows : (l : ℕ) → ((link_at i l).before ≡ p → time ≤ start_of plan (link_at i l).after) → time ≤ limit_of_link i plan p l
   link-allows l holds = elim (eqb_tells (link_at i l).before p) [
     | inl same ↦ rw same.0 (holds same.1)
     | inr other ↦ rw other.0 horizon
   ]
 
-  message-allows : (m : ℕ) → ((message_at i m).sender ≡ p → time + i.cluster.copy_out ≤ sent_from i plan m) → time ≤ limit_of_message i plan p m
+  pub message-allows : (m : ℕ) → ((message_at i m).sender ≡ p → time + i.cluster.copy_out ≤ sent_from i plan m) → time ≤ limit_of_message i plan p m
   message-allows m holds = elim (eqb_tells (message_at i m).sender p) [
     | inl same ↦ rw same.0 (omega (arith, holds same.1))
     | inr other ↦ rw other.0 horizon
@@ -76,13 +76,13 @@ module _ (i : Instance) (plan : Plan) (p time : ℕ) where
     ]
   ]
 
-  link-allowed : (l : ℕ) → time ≤ limit_of_link i plan p l → (link_at i l).before ≡ p → time ≤ start_of plan (link_at i l).after
+  pub link-allowed : (l : ℕ) → time ≤ limit_of_link i plan p l → (link_at i l).before ≡ p → time ≤ start_of plan (link_at i l).after
   link-allowed l le same = elim (eqb_tells (link_at i l).before p) [
     | inl is ↦ rw is.0 at le
     | inr other ↦ absurd (other.1 same)
   ]
 
-  message-allowed : (m : ℕ) → i.cluster.copy_out ≤ sent_from i plan m → time ≤ limit_of_message i plan p m → (message_at i m).sender ≡ p → time + i.cluster.copy_out ≤ sent_from i plan m
+  pub message-allowed : (m : ℕ) → i.cluster.copy_out ≤ sent_from i plan m → time ≤ limit_of_message i plan p m → (message_at i m).sender ≡ p → time + i.cluster.copy_out ≤ sent_from i plan m
   message-allowed m room le same = elim (eqb_tells (message_at i m).sender p) [
     | inl is ↦ (let at : time ≤ sent_from i plan m - i.cluster.copy_out = rw is.0 at le in omega (arith, at, room))
     | inr other ↦ absurd (other.1 same)

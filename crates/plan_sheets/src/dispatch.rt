@@ -7,7 +7,7 @@ ghost use Rattle.plan_sheets.specs.Lines.{IsLineStart, IsSheet, text_of};
 
 use crate::order::order_of;
 use crate::sheet::Sheet;
-use crate::slack::{last_end, slack};
+use crate::slack::{last_end, slack_of};
 use std::alloc::Global;
 use ttp_model::{Instance, MemoryFault, Plan, end_of};
 
@@ -79,7 +79,7 @@ fn dispatch_of(instance: &Instance, plan: &Plan, p: u32) -> Dispatch
         end: end_of(instance, plan, p as usize),
         release: process.release,
         deadline: last_end(instance, p as usize),
-        slack: slack(instance, plan, p as usize),
+        slack: slack_of(instance, plan, p as usize),
     }
 }
 

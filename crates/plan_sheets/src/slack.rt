@@ -11,7 +11,7 @@ use ttp_model::{Instance, Plan, end_of};
 
 /// By how many ticks process `p` may run longer while a valid plan, as it stands, stays valid, whatever delay it then
 /// has. A step for each process, link and message.
-pub fn slack(instance: &Instance, plan: &Plan, p: usize) -> u64
+pub fn slack_of(instance: &Instance, plan: &Plan, p: usize) -> u64
     requires valid { IsValid instance.now plan.now }
     requires inside { p < length instance.now.processes }
     ensures { result ≡ slack instance.now plan.now p }

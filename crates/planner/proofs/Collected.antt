@@ -7,19 +7,18 @@ use Rattle.ttp_model.specs.Instance.{Instance}
 use Rattle.ttp_model.specs.Rules.{IsInstance}
 use Rattle.certificate.specs.declared.node.Node.{Node}
 use Rattle.certificate.specs.declared.node.Node.TheVariants as node
-use Rattle.branch_tree.specs.declared.piece.Piece.{Piece}
-use Rattle.branch_tree.specs.Task.{Task, IsTask}
+use Rattle.subtree_tasks.specs.declared.piece.Piece.{Piece}
+use Rattle.subtree_tasks.specs.Task.{Task, IsTask}
 use Rattle.incumbent.specs.declared.word.Incumbent.{Incumbent}
 use Rattle.incumbent.specs.Watch.{first_value, seen, offers, IsLeast}
 use Rattle.steal_pool.specs.Hand.{all_pushed, all_taken}
 use Rattle.pool_worker.specs.Goals.{goals_of, goals_at, IsReached}
 use Rattle.pool_worker.specs.Tasks.{tasks_of, all_born}
 use Rattle.planner.specs.declared.crew.Crew.{Crew}
-use Rattle.planner.specs.Answers.{limit_of}
-use Rattle.planner.specs.Gathering.{HasGoal, HaveGoals}
-use Rattle.planner.specs.Searching.{IsSearching}
+use Rattle.search_turns.specs.Searching.{limit_of, IsSearching}
+use Rattle.tree_gathering.specs.Gathering.{HasGoal, HaveGoals}
 use Rattle.planner.specs.Crew.{HasLeft, HaveEnded}
-use Rattle.planner.proofs.Searching.{first_is, then_is}
+use Rattle.search_turns.proofs.Searching.{first_is, then_is}
 use Rattle.planner.proofs.Crews.{none_below}
 
 -- one task more is drained

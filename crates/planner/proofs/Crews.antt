@@ -9,8 +9,8 @@ use Rattle.std.proofs.lemmas.List.Sorted.{IsPermutation-refl, IsPermutation-sym,
 use Rattle.ttp_model.specs.declared.plan.Plan.{Plan}
 use Rattle.ttp_model.specs.Instance.{Instance}
 use Rattle.ttp_model.specs.Rules.{IsInstance}
-use Rattle.branch_tree.specs.declared.piece.Piece.{Piece}
-use Rattle.branch_tree.specs.Task.{Task, IsTask}
+use Rattle.subtree_tasks.specs.declared.piece.Piece.{Piece}
+use Rattle.subtree_tasks.specs.Task.{Task, IsTask}
 use Rattle.incumbent.specs.declared.word.Incumbent.{Incumbent}
 use Rattle.incumbent.specs.Watch.{seen, offers, out_count, IsOpening}
 use Rattle.steal_pool.specs.declared.hand.Hand.{Hand}
@@ -22,10 +22,9 @@ use Rattle.pool_worker.specs.Best.{IsBestOf}
 use Rattle.pool_worker.specs.Report.{held, unpushed}
 use Rattle.planner.specs.declared.crew.Job.{Job}
 use Rattle.planner.specs.declared.crew.Crew.{Crew}
-use Rattle.planner.specs.Answers.{limit_of}
-use Rattle.planner.specs.Searched.{IsFound}
+use Rattle.search_turns.specs.Searching.{limit_of, IsFound}
 use Rattle.planner.specs.Crew.{AreSameHands, AreTogether, Gathers, IsBetter, IsJob, IsReportOfJob, tasks_in, told}
-use Rattle.planner.proofs.Searching.{first_is, then_is, found_small, one_only}
+use Rattle.search_turns.proofs.Searching.{first_is, then_is, found_small, one_only}
 
 -- ---- lists
 

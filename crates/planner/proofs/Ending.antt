@@ -9,22 +9,22 @@ use Rattle.ttp_model.specs.Chains.{IsPathBound}
 use Rattle.tt_choice.specs.Choice.{Choice}
 use Rattle.certificate.specs.declared.limits.TheConstants.{MOST_BRANCHES_ABOVE}
 use Rattle.certificate.specs.declared.node.Node.TheVariants as node
-use Rattle.branch_tree.specs.declared.piece.Piece.{Piece}
-use Rattle.branch_tree.specs.Name.{Name}
-use Rattle.branch_tree.specs.Task.{Task, choice_of, IsTask}
-use Rattle.branch_tree.specs.Pieces.{IsRight, StandsAt, AreRight}
-use Rattle.branch_tree.specs.Account.{IsWholeTree}
+use Rattle.subtree_tasks.specs.declared.piece.Piece.{Piece}
+use Rattle.subtree_tasks.specs.Name.{Name}
+use Rattle.subtree_tasks.specs.Task.{Task, choice_of, IsTask}
+use Rattle.subtree_tasks.specs.Pieces.{IsRight, StandsAt, AreRight}
+use Rattle.subtree_tasks.specs.Account.{IsWholeTree}
 use Rattle.branch_tree.specs.Work.{IsLeftClosed}
-use Rattle.branch_tree.proofs.OneChoice.{stands_alone}
+use Rattle.subtree_tasks.proofs.OneChoice.{stands_alone}
 use Rattle.pool_worker.specs.Tasks.{tasks_of}
-use Rattle.planner.specs.Answers.{limit_of}
-use Rattle.planner.specs.Gathering.{HasGoal, HaveGoals, AreShallow}
-use Rattle.planner.specs.Searched.{IsSearched, IsClosedLeaf, IsLeafPiece, IsWorkedOut, ReachesGoal}
-use Rattle.planner.specs.Searching.{task_names, IsSearching, ClosesOne, AreClosed}
-use Rattle.planner.specs.declared.outcome.Why.{Why}
-use Rattle.planner.proofs.Searching.{last_there, one_only, weaker_goal}
+use Rattle.search_turns.specs.Searching.{limit_of, IsWorkedOut, task_names, IsSearching}
+use Rattle.tree_gathering.specs.Gathering.{HasGoal, HaveGoals, AreShallow, IsLeafPiece}
+use Rattle.planner.specs.Searched.{IsSearched, IsClosedLeaf, ReachesGoal}
+use Rattle.planner.specs.Closing.{ClosesOne, AreClosed}
+use Rattle.search_turns.specs.declared.outcome.Why.{Why}
+use Rattle.search_turns.proofs.Searching.{last_there, one_only, weaker_goal}
 use Rattle.planner.proofs.Standing.{whole, right, shallow, stands}
-use Rattle.planner.proofs.Leaves.{closed_whole, closed_right}
+use Rattle.tree_gathering.proofs.Leaves.{closed_whole, closed_right}
 
 pub end_low : (low limit : ℕ) (closed : List Piece) → (low ≡ limit) ⊎ ((low < limit) × ReachesGoal low closed) → low ≤ limit
 end_low low limit closed (inl e) = omega (arith, e)

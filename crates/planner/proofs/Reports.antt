@@ -7,7 +7,7 @@ use Rattle.incumbent.specs.Watch.{IsWatchOf}
 use Rattle.pool_worker.specs.declared.report.Report.{Report}
 use Rattle.planner.specs.declared.crew.Job.{Job}
 use Rattle.planner.specs.Crew.{AreReportsOf, IsJob, IsReportOfJob}
-use Rattle.planner.proofs.Searching.{front_of, last_there}
+use Rattle.search_turns.proofs.Searching.{front_of, last_there}
 
 module _ {J : Type 0} (i : Instance) where
   pub one_more_report : (jobs : List (Job J)) (rs : List (Report J)) (job : Job J) (r : Report J) → AreReportsOf i jobs rs → IsReportOfJob i job r → AreReportsOf i (jobs ++ job ∷ []) (rs ++ r ∷ [])

@@ -16,21 +16,23 @@ use Rattle.certificate.specs.declared.node.Node.{Node}
 use Rattle.certificate.specs.declared.node.Node.TheVariants as node
 use Rattle.certificate.specs.Trees.{Trees, preorder}
 use Rattle.certificate.specs.Cert.{Cert}
-use Rattle.cert_check.specs.Proofs.{Proves}
-use Rattle.branch_tree.specs.declared.piece.Piece.{Piece}
-use Rattle.planner.specs.declared.outcome.Options.{Options}
-use Rattle.planner.specs.declared.outcome.Outcome.{Outcome}
-use Rattle.planner.specs.declared.outcome.Outcome.TheVariants.{Optimal, Infeasible, Stopped}
-use Rattle.planner.specs.declared.outcome.Why.{Why}
-use Rattle.planner.specs.declared.outcome.Why.TheVariants.{Budget, Memory}
-use Rattle.planner.specs.Trees.{IsTreeOf, pieces_of}
-use Rattle.planner.specs.Gathering.{HasGoal, HaveGoals, IsGathered}
+use Rattle.tree_check.specs.Proofs.{Proves}
+use Rattle.subtree_tasks.specs.declared.piece.Piece.{Piece}
+use Rattle.search_turns.specs.declared.outcome.Options.{Options}
+use Rattle.search_turns.specs.declared.outcome.Outcome.{Outcome}
+use Rattle.search_turns.specs.declared.outcome.Outcome.TheVariants.{Optimal, Infeasible, Stopped}
+use Rattle.search_turns.specs.declared.outcome.Why.{Why}
+use Rattle.search_turns.specs.declared.outcome.Why.TheVariants.{Budget, Memory}
+use Rattle.tree_gathering.specs.Trees.{IsTreeOf, pieces_of}
+use Rattle.tree_gathering.specs.Gathering.{HasGoal, HaveGoals, IsGathered}
 use Rattle.dropped_decisions.specs.Branches.{is_branch, branches}
-use Rattle.planner.specs.Answers.{is_closed_at, worked_at, limit_of, IsBestAbove, IsLeastGoal, IsCause, IsOutcome}
-use Rattle.planner.specs.Searched.{IsFound, IsClosedLeaf, ReachesGoal, IsWorkedOut, IsSearched, IsAnswerOf}
-use Rattle.planner.proofs.Has.{has_map, has_from_contains, contains_from_has}
-use Rattle.planner.proofs.Existence.{tree_nodes}
-use Rattle.planner.proofs.Proving.{gathered_proves}
+use Rattle.planner.specs.Answers.{is_closed_at, worked_at, IsBestAbove, IsLeastGoal, IsCause, IsOutcome}
+use Rattle.search_turns.specs.Searching.{limit_of, IsFound, IsWorkedOut}
+use Rattle.planner.specs.Searched.{IsClosedLeaf, ReachesGoal, IsSearched}
+use Rattle.search_turns.specs.Ends.{IsAnswerOf}
+use Rattle.tree_gathering.proofs.Has.{has_map, has_from_contains, contains_from_has}
+use Rattle.tree_gathering.proofs.Existence.{tree_nodes}
+use Rattle.tree_gathering.proofs.Proving.{gathered_proves}
 
 abbrev nodes_of : List Piece → List Node
 nodes_of pieces = map (λ (p : Piece). p.node) pieces

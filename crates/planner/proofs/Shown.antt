@@ -4,10 +4,10 @@ use Rattle.ttp_model.specs.declared.plan.Plan.{Plan}
 use Rattle.ttp_model.specs.Instance.{Instance}
 use Rattle.ttp_model.specs.Rules.{IsInstance}
 use Rattle.ttp_model.specs.Delays.{IsLeastDelay, IsLowerBound}
-use Rattle.cert_check.proofs.Bounds.{proved_bound, proved_none, proved_least}
-use Rattle.planner.specs.declared.outcome.Options.{Options}
-use Rattle.planner.specs.declared.outcome.Outcome.{Outcome}
-use Rattle.planner.specs.declared.outcome.Outcome.TheVariants.{Optimal, Infeasible, Stopped}
+use Rattle.tree_check.proofs.Bounds.{proved_bound, proved_none, proved_least}
+use Rattle.search_turns.specs.declared.outcome.Options.{Options}
+use Rattle.search_turns.specs.declared.outcome.Outcome.{Outcome}
+use Rattle.search_turns.specs.declared.outcome.Outcome.TheVariants.{Optimal, Infeasible, Stopped}
 use Rattle.planner.specs.Answers.{IsOutcome, IsBestAbove, IsBestPlan, Shows}
 
 best_is_plan : (i : Instance) (low : ℕ) (best : Option (Plan × ℕ)) → IsBestAbove i low best → IsBestPlan i best

@@ -10,15 +10,16 @@ use Rattle.ttp_model.specs.declared.step.Leaf.{Leaf}
 use Rattle.certificate.specs.declared.node.Node.TheVariants as node
 use Rattle.certificate.specs.Trees.{Trees, preorder}
 use Rattle.certificate.specs.Cert.{Cert}
-use Rattle.cert_check.specs.Proofs.{Proves}
+use Rattle.tree_check.specs.Proofs.{Proves}
 use Rattle.dropped_decisions.specs.Branches.{branches}
 use Rattle.pool_worker.specs.Best.{IsPlanFound}
-use Rattle.planner.specs.declared.outcome.Options.{Options}
-use Rattle.planner.specs.declared.outcome.Outcome.{Outcome}
-use Rattle.planner.specs.declared.outcome.Outcome.TheVariants.{Optimal, Infeasible, Stopped}
-use Rattle.planner.specs.declared.outcome.Why.{Why}
-use Rattle.planner.specs.declared.outcome.Why.TheVariants.{Budget, Memory}
-use Rattle.planner.specs.Gathering.{HasGoal}
+use Rattle.search_turns.specs.declared.outcome.Options.{Options}
+use Rattle.search_turns.specs.declared.outcome.Outcome.{Outcome}
+use Rattle.search_turns.specs.declared.outcome.Outcome.TheVariants.{Optimal, Infeasible, Stopped}
+use Rattle.search_turns.specs.declared.outcome.Why.{Why}
+use Rattle.search_turns.specs.declared.outcome.Why.TheVariants.{Budget, Memory}
+use Rattle.search_turns.specs.Searching.{limit_of}
+use Rattle.tree_gathering.specs.Gathering.{HasGoal}
 
 -- a leaf at the limit or past it
 abbrev pub is_closed_at : ℕ → Node → Bool
@@ -28,11 +29,6 @@ is_closed_at limit _ = false
 -- how many of its nodes are branches or leaves at the limit
 abbrev pub worked_at : ℕ → Trees → ℕ
 worked_at limit tree = branches tree + count_by (is_closed_at limit) (preorder tree)
-
--- the delay that the search had to beat: that of the best plan found, or one tick past the horizon
-abbrev pub limit_of : Instance → Option (Plan × ℕ) → ℕ
-limit_of i None = i.cluster.horizon + 1
-limit_of i (Some best) = best.1
 
 -- the best plan found, where there is one, is a settled plan with its delay, which is above the bound
 abbrev pub IsBestAbove : Instance → ℕ → Option (Plan × ℕ) → Type 0

@@ -2,7 +2,7 @@
 use Rattle.std.specs.Prelude.{◌≡◌, ◌⊎◌, ℕ, ◌+◌, ◌-◌, ◌≤◌, List, [], ◌∷◌, ◌++◌, map, length, sum_by, All, Option, None, Some, IsPermutation}
 use Rattle.ttp_model.specs.declared.plan.Plan.{Plan}
 use Rattle.ttp_model.specs.Instance.{Instance}
-use Rattle.branch_tree.specs.Task.{Task, IsTask, root_task}
+use Rattle.subtree_tasks.specs.Task.{Task, IsTask, root_task}
 use Rattle.incumbent.specs.declared.word.Incumbent.{Incumbent}
 use Rattle.incumbent.specs.Watch.{first_value, offers, out_count, IsOpening, IsOther, IsSameWatch}
 use Rattle.steal_pool.specs.declared.hand.Hand.{Hand}
@@ -15,8 +15,7 @@ use Rattle.pool_worker.specs.declared.report.Rest.{Rest}
 use Rattle.pool_worker.specs.Report.{HasAccount, held, unpushed}
 use Rattle.planner.specs.declared.crew.Job.{Job}
 use Rattle.planner.specs.declared.crew.Crew.{Crew}
-use Rattle.planner.specs.Answers.{limit_of}
-use Rattle.planner.specs.Searched.{IsFound}
+use Rattle.search_turns.specs.Searching.{limit_of, IsFound}
 
 -- the report of a run that began with this job
 pub record IsReportOfJob {J : Type 0} (i : Instance) (job : Job J) (report : Report J) : Type 0 where

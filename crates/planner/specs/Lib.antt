@@ -1,7 +1,4 @@
-pub mod Trees
-pub mod Gathering
-pub mod Order
 pub mod Answers
 pub mod Searched
-pub mod Searching
+pub mod Closing
 pub mod Crew

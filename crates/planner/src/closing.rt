@@ -3,9 +3,9 @@
 ghost use Rattle.std.specs.Prelude.{◌≡◌, IfOk, All, min};
 ghost use Rattle.ttp_model.specs.declared.step.Leaf.{Leaf};
 ghost use Rattle.certificate.specs.declared.node.Node.TheVariants as node;
-ghost use Rattle.branch_tree.specs.Task.{IsTask};
+ghost use Rattle.subtree_tasks.specs.Task.{IsTask};
 ghost use Rattle.branch_tree.specs.Work.{IsLeftClosed};
-ghost use Rattle.planner.specs.Searching.{AreClosed};
+ghost use Rattle.planner.specs.Closing.{AreClosed};
 
 use branch_tree::{Piece, Task, close_left};
 use certificate::Node;

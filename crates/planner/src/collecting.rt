@@ -2,21 +2,18 @@
 
 ghost use Rattle.std.specs.Prelude.{◌≡◌, ◌≤◌, ◌+◌, [], ◌∷◌, IfOk, OnOk, IfErr, IsPermutation, length, All};
 ghost use Rattle.ttp_model.specs.Rules.{IsInstance};
-ghost use Rattle.branch_tree.specs.Task.{root_task, IsTask};
+ghost use Rattle.subtree_tasks.specs.Task.{root_task, IsTask};
 ghost use Rattle.incumbent.specs.Watch.{first_value, offers, out_count, IsOpening, IsWatchOf};
 ghost use Rattle.steal_pool.specs.Hand.{all_pushed, all_taken, IsPool};
-ghost use Rattle.planner.specs.Answers.{limit_of};
-ghost use Rattle.planner.specs.Searched.{IsFound};
-ghost use Rattle.planner.specs.Searching.{IsSearching};
+ghost use Rattle.search_turns.specs.Searching.{limit_of, IsFound, IsSearching};
 ghost use Rattle.planner.specs.Crew.{budget_of, hands_of, told, Gathers, HasLeft, HaveEnded, IsJob};
 
 use crate::crew::{Crew, Job, run_all};
-use crate::outcome::{Options, SolveFault};
 use crate::reserve::Reserve;
-use crate::search::Search;
 use branch_tree::Task;
 use incumbent::{Incumbent, Watch};
 use pool_worker::Gate;
+use search_turns::{Options, Search, SolveFault};
 use std::alloc::Global;
 use std::marker::{Send, Sync};
 use std::sync::Wait;

@@ -2,16 +2,15 @@
 
 ghost use Rattle.std.specs.Prelude.{◌≡◌, ◌≤◌, IfOk, IfSome, length};
 ghost use Rattle.certificate.specs.Cert.{Cert};
-ghost use Rattle.cert_check.specs.Proofs.{Proves};
+ghost use Rattle.tree_check.specs.Proofs.{Proves};
 ghost use Rattle.dropped_decisions.specs.Branches.{branches};
-ghost use Rattle.planner.specs.declared.outcome.Options.{Options};
-ghost use Rattle.planner.specs.Answers.{certified_by, IsOutcome, limit_of};
-ghost use Rattle.planner.specs.Searched.{IsFound};
+ghost use Rattle.search_turns.specs.declared.outcome.Options.{Options};
+ghost use Rattle.planner.specs.Answers.{certified_by, IsOutcome};
+ghost use Rattle.search_turns.specs.Searching.{limit_of, IsFound};
 
-use crate::outcome::Outcome;
-use crate::search::{Search, limit};
 use certificate::Cert;
 use dropped_decisions::{Standing, proof_of, without_unused};
+use search_turns::{Outcome, Search, limit};
 use std::alloc::Global;
 use ttp_model::{Instance, MemoryFault};
 use used_decisions::Manner;

@@ -2,31 +2,29 @@
 
 ghost use Rattle.std.specs.Prelude.{◌≡◌, ◌≤◌, ◌+◌, ◌++◌, ℕ, IfOk, IfErr, IfSome, length, []};
 ghost use Rattle.ttp_model.specs.Instance.{Instance};
-ghost use Rattle.branch_tree.specs.Account.{IsWholeTree};
-ghost use Rattle.cert_check.specs.Proofs.{Proves};
+ghost use Rattle.subtree_tasks.specs.Account.{IsWholeTree};
+ghost use Rattle.tree_check.specs.Proofs.{Proves};
 ghost use Rattle.dropped_decisions.specs.Branches.{branches};
-ghost use Rattle.planner.specs.declared.outcome.SolveFault.TheVariants as fault;
-ghost use Rattle.planner.specs.Answers.{IsOutcome, Shows, limit_of};
-ghost use Rattle.planner.specs.Gathering.{AreShallow, HaveGoals, IsGathered};
-ghost use Rattle.planner.specs.Searched.{IsFound, IsWorkedOut, IsAnswerOf};
-ghost use Rattle.planner.specs.Searching.{IsSearching};
+ghost use Rattle.tree_gathering.specs.Gathering.{AreShallow, HaveGoals, IsGathered};
+ghost use Rattle.search_turns.specs.declared.outcome.SolveFault.TheVariants as fault;
+ghost use Rattle.planner.specs.Answers.{IsOutcome, Shows};
+ghost use Rattle.search_turns.specs.Searching.{limit_of, IsFound, IsWorkedOut, IsSearching};
 
 use crate::closing::close_all;
 use crate::collecting::searched;
-use crate::gathering::gather_whole;
 use crate::joining::joined;
 use crate::leaner::{lean_proof, leaner};
-use crate::outcome::{Options, Outcome, SolveFault, Why};
 use crate::reserve::Reserve;
-use crate::search::{Search, limit};
 use branch_tree::Piece;
 use certificate::{Cert, Node};
 use good_plan::good_plan;
 use pool_worker::{FreeGate, Gate};
+use search_turns::{Options, Outcome, Search, SolveFault, Why, answer, limit};
 use std::alloc::Global;
 use std::marker::{Brand, Sync};
 use std::sync::Wait;
 use std::thread::Threads;
+use tree_gathering::gather_whole;
 use ttp_model::{Instance, MemoryFault, Plan};
 use used_decisions::{Manner, usual_manner};
 
@@ -66,25 +64,6 @@ fn certified(room: Vec<Node>, pieces: Vec<Piece>, low: u32) -> Result<Cert, Solv
     match gather_whole(room, pieces, low) {
         Ok(cert) => Ok(cert),
         Err(_) => Err(SolveFault::Memory),
-    }
-}
-
-/// What a bound says, where the best plan has a delay of `limit` ticks.
-fn answer(why: Why, best: Option<(Plan, u64)>, limit: u32, low: u32, cert: Cert) -> Outcome
-    ensures { (i : Instance) → limit ≡ limit_of i best → low ≤ limit
-        → IsAnswerOf i why best low cert result }
-{
-    if low < limit {
-        return Outcome::Stopped {
-            why,
-            low,
-            best,
-            cert,
-        };
-    }
-    match best {
-        Some((plan, delay)) => Outcome::Optimal { plan, delay, cert },
-        None => Outcome::Infeasible { cert },
     }
 }
 

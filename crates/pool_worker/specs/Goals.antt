@@ -3,7 +3,7 @@ use Rattle.std.specs.Prelude.{ℕ, ◌≤◌, ◌⊎◌, List, [], ◌∷◌, Al
 use Rattle.std.specs.List.{flat_map}
 use Rattle.certificate.specs.declared.node.Node.{Node}
 use Rattle.certificate.specs.declared.node.Node.TheVariants as node
-use Rattle.branch_tree.specs.declared.piece.Piece.{Piece}
+use Rattle.subtree_tasks.specs.declared.piece.Piece.{Piece}
 use Rattle.incumbent.specs.declared.word.Watch.{Watch}
 use Rattle.incumbent.specs.Watch.{seen, offers, IsBelowView, IsSameWatch}
 

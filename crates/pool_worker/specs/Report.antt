@@ -1,9 +1,9 @@
 -- What a worker reports, and when it accounts for all tasks that it took.
 use Rattle.std.specs.Prelude.{◌≡◌, List, [], ◌∷◌, ◌++◌, All, IsPermutation}
 use Rattle.ttp_model.specs.Instance.{Instance}
-use Rattle.branch_tree.specs.declared.piece.Piece.{Piece}
-use Rattle.branch_tree.specs.Task.{Task, IsTask}
-use Rattle.branch_tree.specs.Account.{IsReportOf}
+use Rattle.subtree_tasks.specs.declared.piece.Piece.{Piece}
+use Rattle.subtree_tasks.specs.Task.{Task, IsTask}
+use Rattle.subtree_tasks.specs.Account.{IsReportOf}
 use Rattle.steal_pool.specs.declared.hand.Hand.{Hand}
 use Rattle.steal_pool.specs.Hand.{pushed, taken}
 use Rattle.pool_worker.specs.declared.report.Rest.{Rest}

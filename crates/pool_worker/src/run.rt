@@ -1,7 +1,7 @@
 //! What does a worker do in one turn?
 
 ghost use Rattle.std.specs.Prelude.{◌≡◌, ◌≢◌, false, ◌<◌, ◌≤◌, ◌+◌, ◌++◌, All, IfOk, OnOk, IfErr, IsPermutation, length, vec_len, vec_capacity};
-ghost use Rattle.branch_tree.specs.Task.{IsTask};
+ghost use Rattle.subtree_tasks.specs.Task.{IsTask};
 ghost use Rattle.branch_tree.specs.Workbench.{IsWorkbenchOf};
 ghost use Rattle.incumbent.specs.Watch.{IsOther};
 ghost use Rattle.steal_pool.specs.Hand.{pushed, taken, IsSameHand};

@@ -8,7 +8,7 @@ use std::test::Fail;
 use std::thread::Threads;
 
 /// A stream of a judgement.
-#[derive(Clone, Copy, Debug, PartialEq, Eq)]
+#[derive(Clone, Copy, PartialEq, Eq)]
 enum Stream {
     Instance,
     Plan,
@@ -91,7 +91,7 @@ fn failing_streams_are_told_and_leave_a_prefix_of_the_judgement(
     ];
     for stream in streams {
         let wrong = wrong_failure(&rt, instance.as_str(), stream);
-        assert!(rt; wrong.is_none(), "{wrong:?} of {stream:?}");
+        assert!(rt; wrong.is_none(), "{}: {wrong:?}", stream.2.trim_end());
     }
     Ok(())
 }

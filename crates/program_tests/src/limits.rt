@@ -9,7 +9,7 @@ use std::thread::Threads;
 
 /// A text of so many bytes: an instance or a bundle that is a comment, or the first example's bundle, whose two parts are
 /// filled up by a comment, and by bytes behind the plan.
-#[derive(Clone, Copy, Debug)]
+#[derive(Clone, Copy)]
 enum Filled {
     Instance(usize),
     Bundle(usize),
@@ -82,8 +82,8 @@ fn told(
 
 #[test]
 fn a_text_over_its_limit_is_not_read(rt: HostRuntime) -> Result<(), Fail> {
-    for (filled, line, status) in ROWS {
-        assert!(rt; told(&rt, *filled)?.is(line, *status), "{filled:?}");
+    for (k, (filled, line, status)) in ROWS.iter().enumerate() {
+        assert!(rt; told(&rt, *filled)?.is(line, *status), "row {k}");
     }
     Ok(())
 }

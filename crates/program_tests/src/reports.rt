@@ -1,13 +1,14 @@
 //! Which line and status does a refusal have, and what stands on standard error where it isn't written in full?
 
 use crate::streams::FullWriter;
-use cert_check::CertFault;
 use certificate::CertTextError;
+use command_streams::End::Refused;
 use command_streams::{End, Fault, SearchFault, Sink, Source, report, status};
 use instance_text::TextError;
 use plan_format::PlanTextError;
 use std::alloc::Global;
 use std::test::Fail;
+use tree_check::CertFault;
 use ttp_model::{ModelError, Place, PlanFault, PlanPart};
 
 /// The first room on standard error, up to that for the whole line, with which it hasn't just a prefix of the line, or a
@@ -26,7 +27,7 @@ fn wrong_room(alloc: Global, end: &End, line: &[u8]) -> Option<usize> {
 
 #[test]
 fn a_full_standard_error_has_a_prefix_of_the_line(rt: HostRuntime) -> Result<(), Fail> {
-    let end = End::Refused(Fault::WrongLoss(12));
+    let end = Refused(Fault::WrongLoss(12));
     assert_eq!(rt; wrong_room(rt.alloc(), &end, b"replay N2 12\n"), None);
     Ok(())
 }
@@ -38,52 +39,79 @@ fn nothing_is_told_of_an_end_without_a_fault(rt: HostRuntime) -> Result<(), Fail
     Ok(())
 }
 
-/// Whether a fault has this status and this line, which is written in full where the writer takes it.
-fn is_told(alloc: Global, fault: Fault, line: &str, code: u8) -> bool {
-    let end = End::Refused(fault);
+/// Whether an end has this status and this line, which is written in full where the writer takes it.
+fn is_told(alloc: Global, end: &End, line: &str, code: u8) -> bool {
     let mut error: Vec<u8> = Vec::new(alloc);
-    report(&end, &mut error).is_ok() && error.as_slice() == line.as_bytes() && status(&end) == code
+    report(end, &mut error).is_ok() && error.as_slice() == line.as_bytes() && status(end) == code
 }
 
-/// The first of these faults that has another line or another status.
-fn wrong_line(alloc: Global) -> Option<usize> {
-    let rows = [
-        (Fault::NoMark, "usage bundle\n", 2),
-        (Fault::LossForm(3), "usage loss 3\n", 2),
-        (Fault::Memory, "memory\n", 4),
-        (Fault::StatedDelay(9), "plan D1 9\n", 5),
-        (Fault::TooFewNodes, "replay N1\n", 5),
-        (Fault::WrongLoss(0), "replay N2 0\n", 5),
-        (Fault::TooManySlots(100_001), "draw slots 100001\n", 5),
-        (Fault::Unread(Source::Instance), "read instance\n", 6),
-        (Fault::Unread(Source::Plan), "read plan\n", 6),
-        (Fault::Unread(Source::Certificate), "read certificate\n", 6),
-        (Fault::TooLong(Source::Certificate), "read certificate\n", 6),
-        (Fault::Unwritten(Sink::Out), "write out\n", 6),
-        (
-            Fault::Unwritten(Sink::Certificate),
-            "write certificate\n",
-            6,
-        ),
-        (Fault::Search(SearchFault::Thread), "solve thread\n", 7),
-    ];
-    for (k, (fault, line, status)) in rows.into_iter().enumerate() {
-        if !is_told(alloc, fault, line, status) {
+/// An end by a fault, with its line and its status.
+type Row = (End, &'static str, u8);
+
+/// The first of these ends that has another line or another status.
+fn wrong_row(alloc: Global, rows: &[Row]) -> Option<usize> {
+    for (k, (end, line, status)) in rows.iter().enumerate() {
+        if !is_told(alloc, end, line, *status) {
             return Some(k);
         }
     }
     None
 }
 
-/// A fault of the model.
-fn of_model(error: ModelError) -> Fault {
-    Fault::InstanceText(TextError::Model(error))
+/// The first of these faults that has another line or another status.
+fn wrong_line(alloc: Global) -> Option<usize> {
+    let rows: &[Row] = &[
+        (Refused(Fault::NoMark), "usage bundle\n", 2),
+        (Refused(Fault::LossForm(3)), "usage loss 3\n", 2),
+        (Refused(Fault::Memory), "memory\n", 4),
+        (Refused(Fault::StatedDelay(9)), "plan D1 9\n", 5),
+        (Refused(Fault::TooFewNodes), "replay N1\n", 5),
+        (Refused(Fault::WrongLoss(0)), "replay N2 0\n", 5),
+        (
+            Refused(Fault::TooManySlots(100_001)),
+            "draw slots 100001\n",
+            5,
+        ),
+        (
+            Refused(Fault::Unread(Source::Instance)),
+            "read instance\n",
+            6,
+        ),
+        (Refused(Fault::Unread(Source::Plan)), "read plan\n", 6),
+        (
+            Refused(Fault::Unread(Source::Certificate)),
+            "read certificate\n",
+            6,
+        ),
+        (
+            Refused(Fault::TooLong(Source::Certificate)),
+            "read certificate\n",
+            6,
+        ),
+        (Refused(Fault::Unwritten(Sink::Out)), "write out\n", 6),
+        (
+            Refused(Fault::Unwritten(Sink::Certificate)),
+            "write certificate\n",
+            6,
+        ),
+        (
+            Refused(Fault::Search(SearchFault::Thread)),
+            "solve thread\n",
+            7,
+        ),
+    ];
+    wrong_row(alloc, rows)
+}
+
+/// The end by a fault of the model.
+fn of_model(error: ModelError) -> End {
+    Refused(Fault::InstanceText(TextError::Model(error)))
 }
 
 /// The first of these faults that has another line or another status: no text has them, only tables and plans that are made
 /// otherwise, and want of memory.
 fn wrong_line_of_no_text(alloc: Global) -> Option<usize> {
-    let rows = [
+    let rows: &[Row] = &[
         (
             of_model(ModelError::NoSuchIndex(Place::AtProcess(1))),
             "instance M4 process 1\n",
@@ -100,43 +128,54 @@ fn wrong_line_of_no_text(alloc: Global) -> Option<usize> {
             3,
         ),
         (
-            Fault::Plan(PlanFault::WrongLength(PlanPart::Order)),
+            Refused(Fault::Plan(PlanFault::WrongLength(PlanPart::Order))),
             "plan V1 0\n",
             5,
         ),
         (
-            Fault::Plan(PlanFault::WrongLength(PlanPart::Capacities)),
+            Refused(Fault::Plan(PlanFault::WrongLength(PlanPart::Capacities))),
             "plan V1 1\n",
             5,
         ),
         (
-            Fault::Plan(PlanFault::WrongLength(PlanPart::Starts)),
+            Refused(Fault::Plan(PlanFault::WrongLength(PlanPart::Starts))),
             "plan V1 2\n",
             5,
         ),
         (
-            Fault::Plan(PlanFault::WrongLength(PlanPart::Rounds)),
+            Refused(Fault::Plan(PlanFault::WrongLength(PlanPart::Rounds))),
             "plan V1 3\n",
             5,
         ),
-        (Fault::Plan(PlanFault::WrongOrder(1)), "plan V2 1\n", 5),
-        (of_model(ModelError::OutOfMemory), "memory\n", 4),
-        (Fault::InstanceText(TextError::OutOfMemory), "memory\n", 4),
-        (Fault::PlanText(PlanTextError::OutOfMemory), "memory\n", 4),
         (
-            Fault::CertificateText(CertTextError::OutOfMemory),
+            Refused(Fault::Plan(PlanFault::WrongOrder(1))),
+            "plan V2 1\n",
+            5,
+        ),
+        (of_model(ModelError::OutOfMemory), "memory\n", 4),
+        (
+            Refused(Fault::InstanceText(TextError::OutOfMemory)),
             "memory\n",
             4,
         ),
-        (Fault::Certificate(CertFault::OutOfMemory), "memory\n", 4),
-        (Fault::Search(SearchFault::Memory), "memory\n", 4),
+        (
+            Refused(Fault::PlanText(PlanTextError::OutOfMemory)),
+            "memory\n",
+            4,
+        ),
+        (
+            Refused(Fault::CertificateText(CertTextError::OutOfMemory)),
+            "memory\n",
+            4,
+        ),
+        (
+            Refused(Fault::Certificate(CertFault::OutOfMemory)),
+            "memory\n",
+            4,
+        ),
+        (Refused(Fault::Search(SearchFault::Memory)), "memory\n", 4),
     ];
-    for (k, (fault, line, status)) in rows.into_iter().enumerate() {
-        if !is_told(alloc, fault, line, status) {
-            return Some(k);
-        }
-    }
-    None
+    wrong_row(alloc, rows)
 }
 
 #[test]

@@ -2,12 +2,12 @@
 
 use crate::books::Books;
 use crate::instances::Sample;
-use cert_check::check;
 use planner::{Manner, Options, Outcome, SolveFault, Why, solve, solve_in, solve_with};
 use std::alloc::Global;
 use std::sync::Wait;
 use std::test::Fail;
 use std::thread::Threads;
+use tree_check::check;
 use ttp_model::{Instance, Plan};
 
 /// An answer in ticks. Its plan has the delay that is stated, and its certificate proves the bound.

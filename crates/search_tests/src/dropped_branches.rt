@@ -1,10 +1,10 @@
 //! Which branches go where nothing below a child uses what leads to it?
 
-use cert_check::check;
 use certificate::{print, read};
 use dropped_decisions::{Standing, proof_of, without_unused};
 use std::alloc::Global;
 use std::test::Fail;
+use tree_check::check;
 use ttp_model::Instance;
 use worked_instances::{PLAIN, one_message};
 

@@ -1,7 +1,7 @@
 //! What workers share, by steps on one thread: each sees what the other did.
 
 ghost use Rattle.std.specs.Prelude.{◌≡◌, All, IfOk};
-ghost use Rattle.branch_tree.specs.Task.{IsTask};
+ghost use Rattle.subtree_tasks.specs.Task.{IsTask};
 
 use crate::books::Books;
 use crate::instances::{ONE_MESSAGE, ONE_OF_THREE, Sample};

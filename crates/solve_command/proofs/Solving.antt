@@ -1,9 +1,9 @@
 -- An answer that is found, certified and written is the outcome of `solve`.
 use Rattle.std.proofs.Common.{ℕ, Bool, true, List, Option, None, Some, Err, IfSome, inl, inr, refl}
 use Rattle.std.specs.Io.KnownBytes.{Appends}
-use Rattle.planner.specs.declared.outcome.Options.{Options}
-use Rattle.planner.specs.declared.outcome.Outcome.{Outcome}
-use Rattle.planner.specs.declared.outcome.Outcome.TheVariants as answer
+use Rattle.search_turns.specs.declared.outcome.Options.{Options}
+use Rattle.search_turns.specs.declared.outcome.Outcome.{Outcome}
+use Rattle.search_turns.specs.declared.outcome.Outcome.TheVariants as answer
 use Rattle.planner.specs.Answers as answers
 use Rattle.solve_command.specs.declared.solve.Solved.{Solved}
 use Rattle.command_streams.specs.declared.ending.Sink.TheVariants as sink
@@ -12,7 +12,8 @@ use Rattle.command_streams.specs.declared.ending.Fault.TheVariants.{NoMark, Loss
 use Rattle.command_streams.specs.declared.ending.End.{End}
 use Rattle.command_streams.specs.declared.ending.End.TheVariants.{Refused}
 use Rattle.command_streams.specs.Outcomes.{IsCommandAnswer}
-use Rattle.solve_command.specs.Solved.{IsCertified, IsCertifying, IsSolveAnswer, IsSolved, IsToldAnswer, IsUntold, IsWritingTo, end_told}
+use Rattle.command_streams.specs.Instances.{HasInstance}
+use Rattle.solve_command.specs.Solved.{IsAnswerText, IsCertified, IsCertifying, IsSolveAnswer, IsSolved, IsToldAnswer, IsUnsolved, IsUntold, IsWritingTo, end_told}
 use Rattle.command_streams.proofs.Outcomes.{keeps}
 
 -- an answer's text at the end of that answer
@@ -63,3 +64,14 @@ told_of_reader (Some bytes) options wanted from to old solved is certified new e
 pub uncertified_of_reader : (a : Option (List ℕ)) (options : Options) (from to old : Option (List ℕ)) (solved : Solved) (fault : Fault) → IfSome a (λ bytes. IsSolved bytes options solved) → IsCertifying (answers.cert_of solved.outcome) from to (Err fault) → IfSome a (λ bytes. IsSolveAnswer bytes options true from to old old (Refused fault))
 uncertified_of_reader None options from to old solved fault is certifying = tt
 uncertified_of_reader (Some bytes) options from to old solved fault is certifying = uncertified bytes options from to solved is old fault certifying
+
+-- an answer to the instance that a reader's bytes state, with its text
+pub solved_of_bytes : (a : Option (List ℕ)) (options : Options) (solved : Solved) → IfSome a (λ bytes. HasInstance bytes solved.instance) → answers.IsOutcome solved.instance options solved.outcome → answers.Shows solved.instance solved.outcome → IsAnswerText solved.instance solved.outcome solved.text.items → IfSome a (λ bytes. IsSolved bytes options solved)
+solved_of_bytes None options solved has_instance is shows tells = tt
+solved_of_bytes (Some bytes) options solved has_instance is shows tells =
+    record { has_instance = has_instance; is_answer = is; shows = shows; tells = tells }
+
+-- none, where memory was refused
+pub unsolved_of_bytes : (a : Option (List ℕ)) → IfSome a (λ bytes. IsUnsolved bytes Memory)
+unsolved_of_bytes None = tt
+unsolved_of_bytes (Some bytes) = tt

@@ -9,8 +9,8 @@ mod hand;
 mod hands;
 
 pub use account::Searched;
-pub use branch_tree::Task;
 pub use drained::Drained;
 pub use draining::drain;
 pub use hand::Hand;
 pub use hands::pool;
+pub use subtree_tasks::Task;

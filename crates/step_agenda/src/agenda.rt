@@ -1,18 +1,18 @@
 //! Which steps are tried next?
 
+ghost use Rattle.std.specs.Prelude.{◌<◌, length};
+
 use crate::consequences::add_consequences;
 use crate::flags::{lower, raise};
-use crate::network::Network;
-use crate::parts::{node, receivers, source, wcet};
 use crate::rings::ring_step;
 use load_bounds::{frame_load, node_load};
 use std::alloc::Global;
 use std::collections::VecDeque;
 use std::mem;
-use step_facts::FactSet;
+use step_reads::{Fact, FactSet};
 use tt_choice::Decision;
-use tt_infer::{Fact, Facts, link_after, value};
-use ttp_model::{Instance, MOST_NODES, MOST_PROCESSES, MemoryFault, Step};
+use tt_infer::Facts;
+use ttp_model::{Instance, MOST_NODES, MOST_PROCESSES, MemoryFault, Step, has_link};
 
 /// After so many facts for each process and message rings are looked for again.
 const FACTS_BETWEEN_RINGS: u32 = 4;
@@ -21,7 +21,6 @@ const FACTS_BETWEEN_RINGS: u32 = 4;
 /// weren't.
 #[derive(Drop)]
 pub struct Agenda {
-    network: Network,
     /// The facts in the order in which they were sharpened.
     changed: VecDeque<Fact>,
     /// The same facts, to have each of them once.
@@ -55,7 +54,6 @@ impl Agenda {
     /// Nothing that waits.
     pub fn of(alloc: Global, instance: &Instance) -> Result<Self, MemoryFault> {
         Ok(Agenda {
-            network: Network::of(alloc, instance)?,
             changed: VecDeque::new(alloc),
             waiting: FactSet::none(alloc, instance)?,
             unsettled: [false; MOST_PROCESSES],
@@ -213,9 +211,9 @@ impl Agenda {
     pub fn note(&mut self, facts: &Facts, fact: Fact) -> Result<(), MemoryFault> {
         let instance = facts.instance();
         match fact {
-            Fact::Start(p) => raise(&mut self.runs, node(instance, p)),
+            Fact::Start(p) => self.note_start(instance, p),
             Fact::End(p) => self.note_end(facts, p),
-            Fact::FirstRound(m) => raise(&mut self.sendings, source(instance, m)),
+            Fact::FirstRound(m) => self.note_first_round(instance, m),
             Fact::LateRound(m) => self.note_late_round(instance, m),
             Fact::Order(p, _) => raise(&mut self.unsettled, p),
             Fact::Closed => {}
@@ -223,24 +221,45 @@ impl Agenda {
         self.add(fact)
     }
 
+    /// Takes note of a later start of process `p`: its node may be too full.
+    fn note_start(&mut self, instance: &Instance, p: u32) {
+        if (p as usize) < instance.processes().len() {
+            raise(&mut self.runs, instance.node_of(p as usize));
+        }
+    }
+
     /// Takes note of an earlier end of process `p`: its node may be too full, the others there that it
     /// may go before may wait less long, and its messages may go out earlier.
     fn note_end(&mut self, facts: &Facts, p: u32) {
-        let host = node(facts.instance(), p);
+        let instance = facts.instance();
+        if p as usize >= instance.processes().len() {
+            return;
+        }
+        let host = instance.node_of(p as usize);
         raise(&mut self.runs, host);
         raise(&mut self.sendings, host);
-        for q in self.network.hosted(host) {
+        for q in instance.processes_on(host) {
             if *q != p && !facts.bef(*q, p) {
                 raise(&mut self.unsettled, *q);
             }
         }
     }
 
+    /// Takes note of a later first round of message `m`: its frames may be too full.
+    fn note_first_round(&mut self, instance: &Instance, m: u32) {
+        if (m as usize) < instance.messages().len() {
+            raise(&mut self.sendings, instance.source_of(m as usize));
+        }
+    }
+
     /// Takes note of an earlier last round of message `m`: its frames may be too full, and its
     /// receivers may wait less long.
     fn note_late_round(&mut self, instance: &Instance, m: u32) {
-        raise(&mut self.sendings, source(instance, m));
-        for q in receivers(instance, m) {
+        if m as usize >= instance.messages().len() {
+            return;
+        }
+        raise(&mut self.sendings, instance.source_of(m as usize));
+        for q in instance.message_at(m as usize).receivers.as_slice() {
             raise(&mut self.unsettled, *q);
         }
     }
@@ -257,7 +276,7 @@ impl Agenda {
         match self.changed.pop_front() {
             Some(fact) => {
                 self.waiting.remove(fact);
-                add_consequences(&self.network, facts, fact, steps)?;
+                add_consequences(facts, fact, steps)?;
                 self.add_ring(alloc, facts, steps)?;
                 Ok(true)
             }
@@ -283,7 +302,7 @@ impl Agenda {
             return Ok(());
         }
         self.until_ring = facts_between_rings(facts.instance());
-        if let Some(step) = ring_step(alloc, &self.network, facts)? {
+        if let Some(step) = ring_step(alloc, facts)? {
             steps.push(step)?;
         }
         Ok(())
@@ -293,36 +312,11 @@ impl Agenda {
     fn add_settled(&mut self, facts: &Facts, steps: &mut Vec<Step>) -> Result<(), MemoryFault> {
         let count = facts.instance().processes().len() as u32;
         for p in 0..count {
-            if lower(&mut self.unsettled, p) && !self.may_end_last(facts, p) {
+            if lower(&mut self.unsettled, p) && !may_end_last(facts, p) {
                 steps.push(Step::UsSettled(p))?;
             }
         }
         Ok(())
-    }
-
-    /// Whether process `p` may have to wait for another of its node until it can't end earlier than is known: then the rule on
-    /// settled plans says nothing of it.
-    fn may_end_last(&self, facts: &Facts, p: u32) -> bool {
-        for x in self.network.hosted(node(facts.instance(), p)) {
-            if *x != p
-                && !facts.bef(p, *x)
-                && fills(facts, *x, p)
-                && !self.is_linked(facts, p, *x)
-            {
-                return true;
-            }
-        }
-        false
-    }
-
-    /// Whether a link leads from process `p` to `x`.
-    fn is_linked(&self, facts: &Facts, p: u32, x: u32) -> bool {
-        for l in self.network.links_from(p) {
-            if link_after(facts.instance(), *l) == x {
-                return true;
-            }
-        }
-        false
     }
 
     /// Adds the closers of loads, and of messages that could go out earlier, for each node of which
@@ -349,13 +343,9 @@ impl Agenda {
     /// Finds the rounds just before the first ones of the messages of node `n`, each once.
     fn find_rounds(&mut self, facts: &Facts, n: u32) -> Result<(), MemoryFault> {
         self.rounds.clear();
-        let count = facts.instance().messages().len() as u32;
-        for m in 0..count {
-            let first = value(facts, Fact::FirstRound(m));
-            if first > 0
-                && source(facts.instance(), m) == n
-                && !self.rounds.contains(&(first - 1))
-            {
+        for m in facts.instance().messages_of(n) {
+            let first = facts.lo(*m);
+            if first > 0 && !self.rounds.contains(&(first - 1)) {
                 self.rounds.push(first - 1)?;
             }
         }
@@ -363,10 +353,27 @@ impl Agenda {
     }
 }
 
+/// Whether process `p` may have to wait for another of its node until it can't end earlier than is known: then the rule on
+/// settled plans says nothing of it.
+fn may_end_last(facts: &Facts, p: u32) -> bool
+    requires { p < length facts.now.instance.processes }
+{
+    let instance = facts.instance();
+    for x in instance.processes_on(instance.node_of(p as usize)) {
+        if *x != p && !facts.bef(p, *x) && fills(facts, *x, p) && !has_link(instance, p, *x) {
+            return true;
+        }
+    }
+    false
+}
+
 /// Whether process `p` behind the latest end of `x` ends as late as is known of it, or later.
-fn fills(facts: &Facts, x: u32, p: u32) -> bool {
-    let end = u64::from(value(facts, Fact::End(x))) + u64::from(wcet(facts.instance(), p));
-    end >= u64::from(value(facts, Fact::End(p)))
+fn fills(facts: &Facts, x: u32, p: u32) -> bool
+    requires first { x < length facts.now.instance.processes }
+    requires second { p < length facts.now.instance.processes }
+{
+    let process = facts.instance().process_at(p as usize);
+    u64::from(facts.le(x)) + u64::from(process.wcet) >= u64::from(facts.le(p))
 }
 
 /// Adds the closers of the messages of node `n` that could go out earlier than they may. A message
@@ -377,11 +384,8 @@ fn add_late(
     rounds: &[u32],
     steps: &mut Vec<Step>,
 ) -> Result<(), MemoryFault> {
-    let count = facts.instance().messages().len() as u32;
-    for m in 0..count {
-        if source(facts.instance(), m) == n {
-            add_late_of(facts, m, rounds, steps)?;
-        }
+    for m in facts.instance().messages_of(n) {
+        add_late_of(facts, *m, rounds, steps)?;
     }
     Ok(())
 }
@@ -392,8 +396,10 @@ fn add_late_of(
     m: u32,
     rounds: &[u32],
     steps: &mut Vec<Step>,
-) -> Result<(), MemoryFault> {
-    let first = value(facts, Fact::FirstRound(m));
+) -> Result<(), MemoryFault>
+    requires { m < length facts.now.instance.messages }
+{
+    let first = facts.lo(m);
     for round in rounds {
         if *round < first {
             steps.push(Step::XLate(m, *round))?;

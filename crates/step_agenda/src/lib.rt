@@ -4,11 +4,8 @@
 mod agenda;
 mod consequences;
 mod flags;
-mod groups;
-mod network;
-mod parts;
+mod opening;
 mod rings;
 
 pub use agenda::Agenda;
-pub use flags::{is_up, raise};
-pub use parts::{receivers, source};
+pub use opening::{add_slot_steps, opening_steps};

@@ -1,27 +1,23 @@
 //! Do processes wait for each other?
 
+ghost use Rattle.std.specs.Prelude.{◌<◌, length};
+
 use crate::flags::{is_up, lower, raise};
-use crate::network::Network;
-use crate::parts::{node, receivers};
 use std::alloc::Global;
-use tt_infer::{Facts, link_after};
-use ttp_model::{MOST_PROCESSES, MemoryFault, Ring, Step};
+use tt_infer::Facts;
+use ttp_model::{Instance, MOST_PROCESSES, MemoryFault, Ring, Step};
 
 /// A number for each process.
 type Numbers = [u32; MOST_PROCESSES];
 
 /// A step that closes a ring of processes each of which goes before the next, where there is one. A
 /// look at each pair of processes of one node, at each link and at each message.
-pub fn ring_step(
-    alloc: Global,
-    network: &Network,
-    facts: &Facts,
-) -> Result<Option<Step>, MemoryFault> {
-    let waiting = waiting(network, facts);
+pub fn ring_step(alloc: Global, facts: &Facts) -> Result<Option<Step>, MemoryFault> {
+    let waiting = waiting(facts);
     let Some(first) = waiting.iter().position(|waits| *waits) else {
         return Ok(None);
     };
-    let before = before(network, facts, &waiting);
+    let before = before(facts, &waiting);
     let ring = ring_from(alloc, &before, entry(&before, first as u32))?;
     if ring.len() < 2 {
         return Ok(None);
@@ -30,16 +26,16 @@ pub fn ring_step(
 }
 
 /// By process, whether it is left when again and again those are taken away that wait for none.
-fn waiting(network: &Network, facts: &Facts) -> [bool; MOST_PROCESSES] {
+fn waiting(facts: &Facts) -> [bool; MOST_PROCESSES] {
     let count = facts.instance().processes().len() as u32;
     let mut waiting = [false; MOST_PROCESSES];
     let mut times = [0; MOST_PROCESSES];
     for p in 0..count {
         raise(&mut waiting, p);
-        count_later(network, facts, p, true, &mut times);
+        count_later(facts, p, true, &mut times);
     }
     for _ in 0..count {
-        if !take_free(network, facts, &mut waiting, &mut times) {
+        if !take_free(facts, &mut waiting, &mut times) {
             return waiting;
         }
     }
@@ -48,17 +44,12 @@ fn waiting(network: &Network, facts: &Facts) -> [bool; MOST_PROCESSES] {
 
 /// Takes away the processes that wait for none. Whether there was one. By process it is kept how many
 /// times it stands after one that is left.
-fn take_free(
-    network: &Network,
-    facts: &Facts,
-    waiting: &mut [bool; MOST_PROCESSES],
-    times: &mut Numbers,
-) -> bool {
+fn take_free(facts: &Facts, waiting: &mut [bool; MOST_PROCESSES], times: &mut Numbers) -> bool {
     let mut taken = false;
     let count = facts.instance().processes().len() as u32;
     for p in 0..count {
         if number(times, p) == 0 && lower(waiting, p) {
-            count_later(network, facts, p, false, times);
+            count_later(facts, p, false, times);
             taken = true;
         }
     }
@@ -66,17 +57,20 @@ fn take_free(
 }
 
 /// Counts each process that `p` goes before, as often as it does: one more or one less.
-fn count_later(network: &Network, facts: &Facts, p: u32, more: bool, times: &mut Numbers) {
-    count_mates(network, facts, p, more, times);
-    count_linked(network, facts, p, more, times);
-    for m in network.sent(p) {
-        count_all(times, receivers(facts.instance(), *m), more);
-    }
+fn count_later(facts: &Facts, p: u32, more: bool, times: &mut Numbers)
+    requires { p < length facts.now.instance.processes }
+{
+    count_mates(facts, p, more, times);
+    count_linked(facts.instance(), p, more, times);
+    count_receivers(facts.instance(), p, more, times);
 }
 
 /// Counts the processes of its node that `p` goes before.
-fn count_mates(network: &Network, facts: &Facts, p: u32, more: bool, times: &mut Numbers) {
-    for q in network.hosted(node(facts.instance(), p)) {
+fn count_mates(facts: &Facts, p: u32, more: bool, times: &mut Numbers)
+    requires { p < length facts.now.instance.processes }
+{
+    let instance = facts.instance();
+    for q in instance.processes_on(instance.node_of(p as usize)) {
         if facts.bef(p, *q) {
             count(times, *q, more);
         }
@@ -84,9 +78,20 @@ fn count_mates(network: &Network, facts: &Facts, p: u32, more: bool, times: &mut
 }
 
 /// Counts the processes that links lead to from `p`.
-fn count_linked(network: &Network, facts: &Facts, p: u32, more: bool, times: &mut Numbers) {
-    for l in network.links_from(p) {
-        count(times, link_after(facts.instance(), *l), more);
+fn count_linked(instance: &Instance, p: u32, more: bool, times: &mut Numbers) {
+    for l in instance.links_from(p) {
+        count(times, instance.link_at(*l as usize).after, more);
+    }
+}
+
+/// Counts the receivers of the messages of `p`.
+fn count_receivers(instance: &Instance, p: u32, more: bool, times: &mut Numbers) {
+    for m in instance.sent_by(p) {
+        count_all(
+            times,
+            instance.message_at(*m as usize).receivers.as_slice(),
+            more,
+        );
     }
 }
 
@@ -119,19 +124,19 @@ fn number(numbers: &Numbers, p: u32) -> u32 {
 }
 
 /// By process, one that waits and goes before it.
-fn before(network: &Network, facts: &Facts, waiting: &[bool; MOST_PROCESSES]) -> Numbers {
+fn before(facts: &Facts, waiting: &[bool; MOST_PROCESSES]) -> Numbers {
     let mut before = [0; MOST_PROCESSES];
     for q in 0..MOST_PROCESSES {
-        before[q] = one_before(network, facts, waiting, q as u32);
+        before[q] = one_before(facts, waiting, q as u32);
     }
     before
 }
 
 /// The first process that waits and goes before `q`: 0 where there is none.
-fn one_before(network: &Network, facts: &Facts, waiting: &[bool; MOST_PROCESSES], q: u32) -> u32 {
+fn one_before(facts: &Facts, waiting: &[bool; MOST_PROCESSES], q: u32) -> u32 {
     let count = facts.instance().processes().len() as u32;
     for p in 0..count {
-        if is_up(waiting, p) && goes_before(network, facts, p, q) {
+        if is_up(waiting, p) && goes_before(facts, p, q) {
             return p;
         }
     }
@@ -139,9 +144,11 @@ fn one_before(network: &Network, facts: &Facts, waiting: &[bool; MOST_PROCESSES]
 }
 
 /// Whether process `p` goes before `q`.
-fn goes_before(network: &Network, facts: &Facts, p: u32, q: u32) -> bool {
+fn goes_before(facts: &Facts, p: u32, q: u32) -> bool
+    requires { p < length facts.now.instance.processes }
+{
     let mut times = [0; MOST_PROCESSES];
-    count_later(network, facts, p, true, &mut times);
+    count_later(facts, p, true, &mut times);
     number(&times, q) > 0
 }
 

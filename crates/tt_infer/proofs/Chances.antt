@@ -13,11 +13,11 @@ use Rattle.ttp_model.proofs.Totals.{term_in_total}
 use Rattle.tt_choice.specs.Choice.{Choice}
 use Rattle.tt_choice.specs.Extremes.{start_most, end_least, dur_least, dur_most}
 use Rattle.tt_choice.proofs.Bounds.{end_least_later}
-use Rattle.tt_infer.specs.Known.{Known, le_of}
-use Rattle.tt_infer.specs.Conclusions.{Conclusion}
-use Rattle.tt_infer.specs.Premises.{IsFirstChance, AreChances, least_ready, wcet_of}
+use Rattle.sought_plans.specs.Known.{Known, le_of}
+use Rattle.sought_plans.specs.Conclusions.{Conclusion}
+use Rattle.sought_plans.specs.Premises.{IsFirstChance, AreChances, least_ready, wcet_of}
 use Rattle.tt_infer.specs.Table.{rule}
-use Rattle.tt_infer.proofs.GreatestWaits.{greatest_wait}
+use Rattle.sought_plans.proofs.GreatestWaits.{greatest_wait}
 
 -- the least number that passes a test, where one does
 pub record LeastOf (test : ℕ → Bool) : Type 0 where

@@ -9,8 +9,8 @@ use Rattle.ttp_model.specs.Lists.{EachBelow}
 use Rattle.ttp_model.specs.Plans.{IsValid, start_of, round_of, load_of, bytes_in}
 use Rattle.tt_choice.specs.Choice.{Choice}
 use Rattle.tt_choice.proofs.Bounds.{capacity_between}
-use Rattle.tt_infer.specs.Known.{Known, IsSought, AreTrueOf}
-use Rattle.tt_infer.specs.Premises.{IsRing}
+use Rattle.sought_plans.specs.Known.{Known, IsSought, AreTrueOf}
+use Rattle.sought_plans.specs.Premises.{IsRing}
 use Rattle.tt_infer.specs.Table.{IsProcess}
 use Rattle.ttp_model.specs.declared.step.Step.TheVariants.{XWindow, XRound, XCycle, XLoad, XFrame, XFrames}
 use Rattle.ttp_model.proofs.Totals.{term_in_total}

@@ -6,10 +6,10 @@ use Rattle.ttp_model.specs.declared.step.Step.{Step}
 use Rattle.ttp_model.specs.declared.step.Step.TheVariants.{EsRelease, EsLink, EsBefore, EsArrive, EsMessage, LoSend, LeOwn, LeLink, LeBefore, LeMessage, LeSend, HiArrive, OrdWindow, OrdTwin, UsSettled, XWindow, XRound, XCycle, XLoad, XFrame, XFrames, XLate, XSilent}
 use Rattle.ttp_model.specs.Instance.{Instance}
 use Rattle.tt_choice.specs.Choice.{Choice}
-use Rattle.tt_infer.specs.Known.{Known}
-use Rattle.tt_infer.specs.Conclusions.{Conclusion, EndsUntil, SentFrom, SentBefore, sharpened}
-use Rattle.tt_infer.specs.Premises.{IsFirstChance, AreChances, wcet_of}
-use Rattle.tt_infer.specs.Dominance.{IsGreatestWait}
+use Rattle.sought_plans.specs.Known.{Known}
+use Rattle.sought_plans.specs.Conclusions.{Conclusion, EndsUntil, SentFrom, SentBefore, sharpened}
+use Rattle.sought_plans.specs.Premises.{IsFirstChance, AreChances, wcet_of}
+use Rattle.sought_plans.specs.Dominance.{IsGreatestWait}
 use Rattle.tt_infer.specs.Table.{rule, IsLawful}
 use Rattle.tt_infer.specs.Leaves.{Lead}
 use Rattle.tt_infer.specs.declared.fault.StepFault.{StepFault}

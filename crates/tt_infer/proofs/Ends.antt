@@ -9,7 +9,7 @@ use Rattle.ttp_model.specs.Plans.{IsValid, end_of, round_of}
 use Rattle.ttp_model.proofs.ValidPlans.{greatest_each}
 use Rattle.tt_choice.specs.Choice.{Choice, IsChoice}
 use Rattle.tt_choice.proofs.Bounds.{start_most_later}
-use Rattle.tt_infer.specs.Known.{Known, IsSought, AreTrueOf, top_of}
+use Rattle.sought_plans.specs.Known.{Known, IsSought, AreTrueOf, top_of}
 use Rattle.tt_infer.proofs.Soundness.{IsSoundFor}
 use Rattle.tt_infer.proofs.Sending.{receiver_is, comes, sent_for_least, sent_from_most}
 

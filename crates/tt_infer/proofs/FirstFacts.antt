@@ -4,7 +4,7 @@ use Rattle.std.proofs.lemmas.List.{length-map, length-replicate, get_or-replicat
 use Rattle.ttp_model.specs.Instance.{Instance}
 use Rattle.ttp_model.specs.Rules.{IsInstance}
 use Rattle.tt_choice.specs.Choice.{Choice, IsChoice}
-use Rattle.tt_infer.specs.Known.{Fits, Hold, first_facts}
+use Rattle.sought_plans.specs.Known.{Fits, Hold, first_facts}
 use Rattle.tt_infer.specs.Facts.{AreFacts}
 
 pub first_facts_fit : (i : Instance) (c : Choice) → IsChoice i c → Fits i (first_facts i c)

@@ -7,9 +7,9 @@ use Rattle.tt_choice.specs.Branches.{root_choice, place_next}
 use Rattle.tt_choice.specs.Extremes.{start_most}
 use Rattle.tt_infer.specs.declared.fault.StepFault.TheVariants.{NoPremise}
 use Rattle.tt_infer.specs.Answers.{IsStepFault}
-use Rattle.tt_infer.specs.Known.{Known, first_facts}
-use Rattle.tt_infer.specs.Conclusions.{StartsFrom, SentFrom, SentBefore, EndsUntil, NothingLeft, sharpened}
-use Rattle.tt_infer.specs.Premises.{IsFirstChance, AreChances}
+use Rattle.sought_plans.specs.Known.{Known, first_facts}
+use Rattle.sought_plans.specs.Conclusions.{StartsFrom, SentFrom, SentBefore, EndsUntil, NothingLeft, sharpened}
+use Rattle.sought_plans.specs.Premises.{IsFirstChance, AreChances}
 use Rattle.tt_infer.specs.Table.{IsLawful}
 use Rattle.tt_infer.specs.Leaves.{Lead, ClosesLeaf}
 

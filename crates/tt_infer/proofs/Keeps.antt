@@ -6,8 +6,8 @@ use Rattle.ttp_model.specs.declared.plan.Plan.{Plan}
 use Rattle.ttp_model.specs.Instance.{Instance}
 use Rattle.ttp_model.specs.Plans.{start_of, end_of, round_of}
 use Rattle.tt_choice.proofs.Before.{put_only}
-use Rattle.tt_infer.specs.Known.{Known, Fits, AreTrueOf}
-use Rattle.tt_infer.specs.Conclusions.{Conclusion, StartsFrom, EndsUntil, SentFrom, SentBefore, GoesFirst, NothingLeft, IsTrueOf, IsAbout, sharpened, capped}
+use Rattle.sought_plans.specs.Known.{Known, Fits, AreTrueOf}
+use Rattle.sought_plans.specs.Conclusions.{Conclusion, StartsFrom, EndsUntil, SentFrom, SentBefore, GoesFirst, NothingLeft, IsTrueOf, IsAbout, sharpened, capped}
 
 pub changed_here : (xs : List ℕ) (k j x : ℕ) → k < length xs → j ≡ k → slice_index (slice_set xs k x) j ≡ x
 changed_here xs k j x h same = grind (arith, common_steps)

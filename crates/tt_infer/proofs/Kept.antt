@@ -4,7 +4,7 @@ use Rattle.std.proofs.lemmas.Bool.{both_ways}
 use Rattle.ttp_model.specs.declared.plan.Plan.{Plan}
 use Rattle.ttp_model.specs.declared.step.Step.{Step}
 use Rattle.tt_infer.specs.declared.fault.StepFault.{StepFault}
-use Rattle.tt_infer.specs.Known.{Known, IsSought}
+use Rattle.sought_plans.specs.Known.{Known, IsSought}
 use Rattle.tt_infer.specs.Answers.{Takes}
 use Rattle.tt_infer.specs.Facts.{Facts, AreFacts, after}
 use Rattle.tt_infer.proofs.Sound.{Fits-step, Hold-step}

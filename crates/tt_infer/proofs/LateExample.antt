@@ -4,10 +4,10 @@ use Rattle.ttp_model.specs.declared.step.Step.TheVariants.{UsSettled, XLate}
 use Rattle.ttp_model.specs.Worked.{one_message}
 use Rattle.tt_choice.specs.Choice.{Choice}
 use Rattle.tt_choice.specs.Branches.{root_choice, at_least}
-use Rattle.tt_infer.specs.Known.{Known, first_facts, le_of}
-use Rattle.tt_infer.specs.Conclusions.{EndsUntil, NothingLeft, sharpened}
-use Rattle.tt_infer.specs.Premises.{Receives}
-use Rattle.tt_infer.specs.Dominance.{MayGoBefore, IsGreatestWait, CouldBeEarlier}
+use Rattle.sought_plans.specs.Known.{Known, first_facts, le_of}
+use Rattle.sought_plans.specs.Conclusions.{EndsUntil, NothingLeft, sharpened}
+use Rattle.sought_plans.specs.Premises.{Receives}
+use Rattle.sought_plans.specs.Dominance.{MayGoBefore, IsGreatestWait, CouldBeEarlier}
 use Rattle.tt_infer.specs.Table.{IsLawful}
 use Rattle.tt_infer.specs.Leaves.{ClosesLeaf}
 

@@ -12,9 +12,9 @@ use Rattle.tt_moves.specs.Earlier.{CanBeSent}
 use Rattle.tt_moves.proofs.EarlierRounds.{sent_valid, there}
 use Rattle.tt_choice.specs.Choice.{Choice, IsChoice, IsIn}
 use Rattle.tt_choice.proofs.Bounds.{start_between, capacity_between}
-use Rattle.tt_infer.specs.Known.{Known, IsSought, AreTrueOf, lo_of, top_of}
-use Rattle.tt_infer.specs.Premises.{sender_of}
-use Rattle.tt_infer.specs.Dominance.{may_be_beside, bytes_beside, CouldBeEarlier}
+use Rattle.sought_plans.specs.Known.{Known, IsSought, AreTrueOf, lo_of, top_of}
+use Rattle.sought_plans.specs.Premises.{sender_of}
+use Rattle.sought_plans.specs.Dominance.{may_be_beside, bytes_beside, CouldBeEarlier}
 use Rattle.tt_infer.proofs.Soundness.{IsSoundFor}
 use Rattle.tt_infer.proofs.Selected.{selected_le}
 use Rattle.tt_infer.proofs.Sending.{agrees, source_is, sender_is}

@@ -7,7 +7,7 @@ use Rattle.ttp_model.specs.declared.step.Leaf.{Leaf}
 use Rattle.ttp_model.specs.Instance.{Instance}
 use Rattle.ttp_model.specs.Rules.{IsInstance}
 use Rattle.tt_choice.specs.Choice.{Choice, IsChoice}
-use Rattle.tt_infer.specs.Known.{Known, Fits, IsSought, Hold, first_facts}
+use Rattle.sought_plans.specs.Known.{Known, Fits, IsSought, Hold, first_facts}
 use Rattle.tt_infer.specs.Leaves.{Lead, ClosesLeaf}
 use Rattle.tt_infer.specs.declared.fault.StepFault.{StepFault}
 use Rattle.tt_infer.specs.Answers.{IsStepFault}

@@ -7,7 +7,6 @@ pub mod Ends
 pub mod Rounds
 pub mod Orders
 pub mod Closers
-pub mod Copies
 pub mod Twins
 pub mod Waits
 pub mod LateMessages
@@ -15,13 +14,11 @@ pub mod SilentTwins
 pub mod Keeps
 pub mod Sound
 pub mod Sharper
-pub mod SlotsAfter
 pub mod Kept
 pub mod FirstFacts
 pub mod Supposed
 pub mod Leaves
 pub mod Determined
-pub mod GreatestWaits
 pub mod Chances
 pub mod OneMessage
 pub mod ThreeAlike
@@ -30,8 +27,4 @@ pub mod LateExample
 pub mod TwoSilent
 pub mod InsideExample
 pub mod OneMessageRules
-pub mod CodeSlots
 pub mod monotone
-pub mod Targets
-pub mod alike
-pub mod shared

@@ -7,8 +7,8 @@ use Rattle.ttp_model.specs.Plans.{IsValid, start_of, end_of, round_of, bytes_in}
 use Rattle.ttp_model.specs.Totals.{total}
 use Rattle.ttp_model.proofs.ValidPlans.{frames_fit_lem, two_apart}
 use Rattle.ttp_model.proofs.Totals.{total_more, total_le, total_shared, total_none}
-use Rattle.tt_infer.specs.Known.{Known, AreTrueOf, es_of, le_of, lo_of, top_of}
-use Rattle.tt_infer.specs.Premises.{wcet_of, runs_within, load_within, sent_within, bytes_within}
+use Rattle.sought_plans.specs.Known.{Known, AreTrueOf, es_of, le_of, lo_of, top_of}
+use Rattle.sought_plans.specs.Premises.{wcet_of, runs_within, load_within, sent_within, bytes_within}
 use Rattle.tt_infer.proofs.Selected.{selected_le, selected_split, span_tells}
 
 -- the wcet of a process of n that really runs from a to b

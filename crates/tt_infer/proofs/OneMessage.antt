@@ -11,9 +11,9 @@ use Rattle.tt_choice.specs.Branches.{root_choice}
 use Rattle.tt_choice.specs.Extremes.{start_most, end_least}
 use Rattle.tt_choice.proofs.Bounds.{start_between, end_between, end_least_later}
 use Rattle.tt_choice.proofs.Root.{IsChoice-root, IsIn-root}
-use Rattle.tt_infer.specs.Known.{Known, first_facts, le_of}
-use Rattle.tt_infer.specs.Conclusions.{StartsFrom, SentFrom, EndsUntil, NothingLeft, sharpened}
-use Rattle.tt_infer.specs.Premises.{IsFirstChance, least_end}
+use Rattle.sought_plans.specs.Known.{Known, first_facts, le_of}
+use Rattle.sought_plans.specs.Conclusions.{StartsFrom, SentFrom, EndsUntil, NothingLeft, sharpened}
+use Rattle.sought_plans.specs.Premises.{IsFirstChance, least_end}
 use Rattle.tt_infer.specs.Table.{IsLawful}
 use Rattle.tt_infer.specs.Leaves.{Lead, ClosesLeaf}
 use Rattle.tt_infer.proofs.OneMessageRules.{one_message_is_instance}

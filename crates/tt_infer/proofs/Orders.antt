@@ -8,8 +8,8 @@ use Rattle.ttp_model.specs.Rules.{IsInstance}
 use Rattle.ttp_model.specs.Plans.{IsValid, start_of, end_of}
 use Rattle.ttp_model.proofs.ValidPlans.{link_kept, two_apart}
 use Rattle.tt_choice.specs.Choice.{Choice}
-use Rattle.tt_infer.specs.Known.{Known, AreTrueOf}
-use Rattle.tt_infer.specs.Premises.{IsAhead}
+use Rattle.sought_plans.specs.Known.{Known, AreTrueOf}
+use Rattle.sought_plans.specs.Premises.{IsAhead}
 use Rattle.tt_infer.proofs.Soundness.{IsSoundFor}
 use Rattle.tt_infer.proofs.Sending.{comes}
 

@@ -6,8 +6,8 @@ use Rattle.ttp_model.specs.Instance.{Instance}
 use Rattle.ttp_model.specs.Rules.{IsInstance}
 use Rattle.ttp_model.specs.Plans.{round_of}
 use Rattle.tt_choice.specs.Choice.{Choice, IsChoice}
-use Rattle.tt_infer.specs.Known.{Known, IsSought, AreTrueOf}
-use Rattle.tt_infer.specs.Premises.{sender_of}
+use Rattle.sought_plans.specs.Known.{Known, IsSought, AreTrueOf}
+use Rattle.sought_plans.specs.Premises.{sender_of}
 use Rattle.tt_infer.proofs.Soundness.{IsSoundFor}
 use Rattle.tt_infer.proofs.Sending.{sender_is, receiver_is, comes, sent_from_most, sent_until_least}
 

@@ -10,8 +10,8 @@ use Rattle.ttp_model.specs.Plans.{IsValid, HasArrived, start_of, round_of, sent_
 use Rattle.tt_choice.specs.Choice.{Choice, IsChoice, IsIn, Agrees}
 use Rattle.tt_choice.specs.Extremes.{start_most, end_least, dur_least, cap_most}
 use Rattle.tt_choice.proofs.Bounds.{start_between, end_between, duration_between, capacity_between}
-use Rattle.tt_infer.specs.Known.{IsSought}
-use Rattle.tt_infer.specs.Premises.{Receives, sender_of}
+use Rattle.sought_plans.specs.Known.{IsSought}
+use Rattle.sought_plans.specs.Premises.{Receives, sender_of}
 
 pub sender_is : (i : Instance) (m : ℕ) → IsInstance i → m < length i.messages → sender_of i m < length i.processes
 sender_is i m w h = (w.indices (AtMessage m) h).0

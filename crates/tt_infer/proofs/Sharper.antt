@@ -6,8 +6,8 @@ use Rattle.ttp_model.specs.Instance.{Instance}
 use Rattle.ttp_model.specs.Rules.{IsInstance}
 use Rattle.tt_choice.specs.Choice.{Choice}
 use Rattle.tt_choice.proofs.Before.{put_kept}
-use Rattle.tt_infer.specs.Known.{Known, Fits}
-use Rattle.tt_infer.specs.Conclusions.{Conclusion, StartsFrom, EndsUntil, SentFrom, SentBefore, GoesFirst, NothingLeft, IsAbout, sharpened, capped}
+use Rattle.sought_plans.specs.Known.{Known, Fits}
+use Rattle.sought_plans.specs.Conclusions.{Conclusion, StartsFrom, EndsUntil, SentFrom, SentBefore, GoesFirst, NothingLeft, IsAbout, sharpened, capped}
 use Rattle.tt_infer.specs.Table.{IsLawful}
 pub use Rattle.tt_infer.specs.Sharper.{IsSharper}
 use Rattle.tt_infer.proofs.Keeps.{changed_here, changed_there}

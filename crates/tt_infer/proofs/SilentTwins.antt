@@ -8,8 +8,8 @@ use Rattle.ttp_model.specs.Moves.{IsSettled, SwapsSilentTwins, exchanged, positi
 use Rattle.ttp_model.proofs.Positions.{position_is, position_inside}
 use Rattle.tt_moves.proofs.ExchangedSilentTwins.{exchanged_valid}
 use Rattle.tt_choice.specs.Choice.{Choice, IsChoice, IsIn}
-use Rattle.tt_infer.specs.Known.{Known, IsSought}
-use Rattle.tt_infer.specs.Dominance.{StandTurned}
+use Rattle.sought_plans.specs.Known.{Known, IsSought}
+use Rattle.sought_plans.specs.Dominance.{StandTurned}
 use Rattle.tt_infer.proofs.Soundness.{IsSoundFor}
 
 -- the order of a settled plan begins with the prefix, so they don't stand turned there

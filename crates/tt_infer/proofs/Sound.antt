@@ -7,8 +7,8 @@ use Rattle.ttp_model.specs.declared.error.Place.TheVariants.{AtLink}
 use Rattle.ttp_model.specs.Instance.{Instance}
 use Rattle.ttp_model.specs.Rules.{IsInstance}
 use Rattle.tt_choice.specs.Choice.{Choice, IsChoice}
-use Rattle.tt_infer.specs.Known.{Known, Fits, IsSought, AreTrueOf, Hold}
-use Rattle.tt_infer.specs.Conclusions.{Conclusion, IsAbout}
+use Rattle.sought_plans.specs.Known.{Known, Fits, IsSought, AreTrueOf, Hold}
+use Rattle.sought_plans.specs.Conclusions.{Conclusion, IsAbout}
 use Rattle.tt_infer.specs.Table.{rule, IsLawful}
 use Rattle.tt_infer.proofs.Soundness.{IsSoundFor}
 use Rattle.tt_infer.proofs.Sending.{sender_is, receiver_is}

@@ -4,8 +4,8 @@ use Rattle.ttp_model.specs.declared.plan.Plan.{Plan}
 use Rattle.ttp_model.specs.declared.step.Step.{Step}
 use Rattle.ttp_model.specs.Instance.{Instance}
 use Rattle.tt_choice.specs.Choice.{Choice}
-use Rattle.tt_infer.specs.Known.{Known}
-use Rattle.tt_infer.specs.Conclusions.{Conclusion, IsTrueOf}
+use Rattle.sought_plans.specs.Known.{Known}
+use Rattle.sought_plans.specs.Conclusions.{Conclusion, IsTrueOf}
 use Rattle.tt_infer.specs.Table.{rule}
 
 -- where what the step names is there and its premise holds, all that it concludes is true of the plan

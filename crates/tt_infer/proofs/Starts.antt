@@ -8,8 +8,8 @@ use Rattle.ttp_model.specs.Rules.{IsInstance}
 use Rattle.ttp_model.specs.Plans.{IsValid, round_of}
 use Rattle.tt_choice.specs.Choice.{Choice, IsChoice}
 use Rattle.tt_choice.proofs.Bounds.{end_least_later}
-use Rattle.tt_infer.specs.Known.{Known, IsSought, AreTrueOf, lo_of}
-use Rattle.tt_infer.specs.Premises.{sender_of}
+use Rattle.sought_plans.specs.Known.{Known, IsSought, AreTrueOf, lo_of}
+use Rattle.sought_plans.specs.Premises.{sender_of}
 use Rattle.tt_infer.proofs.Soundness.{IsSoundFor}
 use Rattle.tt_infer.proofs.Sending.{sender_is, comes, sent_for_least, sent_until_least}
 

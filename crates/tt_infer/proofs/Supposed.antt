@@ -3,8 +3,8 @@ use Rattle.std.proofs.Common.{ℕ}
 use Rattle.tt_choice.specs.Choice.{IsChoice}
 use Rattle.tt_choice.specs.Branches.{order_pair, IsUnorderedPair}
 use Rattle.tt_choice.proofs.Members.{IsIn-order}
-use Rattle.tt_infer.specs.Known.{Hold, IsSought}
-use Rattle.tt_infer.specs.Conclusions.{GoesFirst, sharpened}
+use Rattle.sought_plans.specs.Known.{Hold, IsSought}
+use Rattle.sought_plans.specs.Conclusions.{GoesFirst, sharpened}
 use Rattle.tt_infer.specs.Facts.{Facts, AreFacts}
 use Rattle.tt_infer.proofs.Keeps.{AreTrueOf-sharpened, Fits-sharpened}
 

@@ -6,9 +6,9 @@ use Rattle.ttp_model.specs.Instance.{process_at}
 use Rattle.ttp_model.specs.Worked.{three_alike}
 use Rattle.ttp_model.specs.Totals.{total}
 use Rattle.tt_choice.specs.Branches.{root_choice}
-use Rattle.tt_infer.specs.Known.{Known, first_facts}
-use Rattle.tt_infer.specs.Conclusions.{EndsUntil, NothingLeft, sharpened}
-use Rattle.tt_infer.specs.Premises.{load_within}
+use Rattle.sought_plans.specs.Known.{Known, first_facts}
+use Rattle.sought_plans.specs.Conclusions.{EndsUntil, NothingLeft, sharpened}
+use Rattle.sought_plans.specs.Premises.{load_within}
 use Rattle.tt_infer.specs.Table.{IsLawful}
 use Rattle.tt_infer.specs.Leaves.{Lead, ClosesLeaf}
 use Rattle.tt_infer.proofs.Determined.{Lead-determined}

@@ -10,9 +10,9 @@ use Rattle.ttp_model.specs.Twins.{AreTwins}
 use Rattle.tt_choice.specs.Branches.{root_choice}
 use Rattle.tt_infer.specs.declared.fault.StepFault.TheVariants.{NoPremise}
 use Rattle.tt_infer.specs.Answers.{IsStepFault}
-use Rattle.tt_infer.specs.Known.{Known, first_facts, le_of}
-use Rattle.tt_infer.specs.Conclusions.{EndsUntil, GoesFirst, sharpened}
-use Rattle.tt_infer.specs.Dominance.{MayGoBefore, IsGreatestWait}
+use Rattle.sought_plans.specs.Known.{Known, first_facts, le_of}
+use Rattle.sought_plans.specs.Conclusions.{EndsUntil, GoesFirst, sharpened}
+use Rattle.sought_plans.specs.Dominance.{MayGoBefore, IsGreatestWait}
 use Rattle.tt_infer.specs.Table.{IsLawful}
 use Rattle.tt_infer.specs.Leaves.{Lead}
 

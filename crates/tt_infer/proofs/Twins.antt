@@ -11,7 +11,7 @@ use Rattle.ttp_model.specs.Moves.{IsSettled, SwapsTwins, swapped}
 use Rattle.ttp_model.proofs.ValidPlans.{two_apart}
 use Rattle.tt_moves.proofs.ExchangedTwins.{swapped_valid}
 use Rattle.tt_choice.specs.Choice.{Choice}
-use Rattle.tt_infer.specs.Known.{Known, IsSought}
+use Rattle.sought_plans.specs.Known.{Known, IsSought}
 use Rattle.tt_infer.proofs.Soundness.{IsSoundFor}
 
 twins_in_order : (i : Instance) (plan : Plan) (p q : ℕ) → IsInstance i → IsSettled i plan → AreTwins i p q → p < q → EndsBefore i plan p q

@@ -6,9 +6,9 @@ use Rattle.tt_choice.specs.Choice.{Choice}
 use Rattle.tt_choice.specs.Branches.{root_choice, place_next}
 use Rattle.tt_infer.specs.declared.fault.StepFault.TheVariants.{NoPremise}
 use Rattle.tt_infer.specs.Answers.{IsStepFault}
-use Rattle.tt_infer.specs.Known.{Known, first_facts}
-use Rattle.tt_infer.specs.Conclusions.{NothingLeft, sharpened}
-use Rattle.tt_infer.specs.Dominance.{StandTurned}
+use Rattle.sought_plans.specs.Known.{Known, first_facts}
+use Rattle.sought_plans.specs.Conclusions.{NothingLeft, sharpened}
+use Rattle.sought_plans.specs.Dominance.{StandTurned}
 use Rattle.tt_infer.specs.Leaves.{ClosesLeaf}
 use Rattle.tt_infer.specs.Table.{IsLawful}
 use Rattle.tt_infer.specs.Worked.{two_silent}

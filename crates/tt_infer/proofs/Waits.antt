@@ -13,8 +13,8 @@ use Rattle.tt_moves.specs.Earlier.{CanStart}
 use Rattle.tt_moves.proofs.EarlierStarts.{started_valid}
 use Rattle.tt_choice.specs.Choice.{Choice, IsChoice, IsIn}
 use Rattle.tt_choice.proofs.Bounds.{end_between, end_most_later}
-use Rattle.tt_infer.specs.Known.{Known, IsSought, AreTrueOf, top_of, bef_of}
-use Rattle.tt_infer.specs.Dominance.{MayGoBefore, MayWaitUntil}
+use Rattle.sought_plans.specs.Known.{Known, IsSought, AreTrueOf, top_of, bef_of}
+use Rattle.sought_plans.specs.Dominance.{MayGoBefore, MayWaitUntil}
 use Rattle.tt_infer.proofs.Soundness.{IsSoundFor}
 use Rattle.tt_infer.proofs.Sending.{agrees, source_is}
 

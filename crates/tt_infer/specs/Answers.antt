@@ -5,7 +5,7 @@ use Rattle.ttp_model.specs.Instance.{Instance}
 use Rattle.tt_choice.specs.Choice.{Choice}
 use Rattle.tt_infer.specs.declared.fault.StepFault.{StepFault}
 use Rattle.tt_infer.specs.declared.fault.StepFault.TheVariants.{NoSuchIndex, NoPremise, AlreadyClosed}
-use Rattle.tt_infer.specs.Known.{Known}
+use Rattle.sought_plans.specs.Known.{Known}
 use Rattle.tt_infer.specs.Table.{rule, IsLawful}
 
 -- why a step is refused: after a closer each, then where what it names isn't there, then where its

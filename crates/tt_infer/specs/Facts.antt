@@ -3,7 +3,7 @@ use Rattle.std.specs.Prelude.{ℕ}
 use Rattle.ttp_model.specs.Instance.{Instance}
 use Rattle.ttp_model.specs.Rules.{IsInstance}
 use Rattle.tt_choice.specs.Choice.{Choice, IsChoice}
-use Rattle.tt_infer.specs.Known.{Known, Fits, Hold}
+use Rattle.sought_plans.specs.Known.{Known, Fits, Hold}
 
 -- an instance, a choice of it, a goal in ticks, and what is known of the settled plans of the choice
 -- with a delay below the goal

@@ -1,13 +1,4 @@
-pub mod Known
-pub mod Conclusions
-pub mod Premises
-pub mod Dominance
 pub mod Table
-pub mod Targets
-pub mod Reads
-pub mod Shared
-pub mod Uses
-pub mod RuledOut
 pub mod Leaves
 pub mod Sharper
 pub mod Worked
@@ -19,3 +10,7 @@ pub use Rattle.ttp_model.specs.Rules
 pub use Rattle.ttp_model.specs.Plans
 pub use Rattle.tt_choice.specs.Choice
 pub use Rattle.tt_choice.specs.Extremes
+pub use Rattle.sought_plans.specs.Known
+pub use Rattle.sought_plans.specs.Conclusions
+pub use Rattle.sought_plans.specs.Premises
+pub use Rattle.sought_plans.specs.Dominance

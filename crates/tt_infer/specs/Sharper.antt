@@ -4,8 +4,8 @@ use Rattle.ttp_model.specs.declared.step.Step.{Step}
 use Rattle.ttp_model.specs.declared.step.Step.TheVariants.{EsRelease, EsLink, EsBefore, EsArrive, EsMessage, LoSend, LeOwn, LeLink, LeBefore, LeMessage, LeSend, HiArrive, OrdWindow, OrdTwin, UsSettled, XWindow, XRound, XCycle, XLoad, XFrame, XFrames, XLate, XSilent}
 use Rattle.ttp_model.specs.Instance.{Instance}
 use Rattle.tt_choice.specs.Choice.{Choice}
-use Rattle.tt_infer.specs.Known.{Known, es_of, le_of, lo_of, top_of, bef_of}
-use Rattle.tt_infer.specs.Conclusions.{NothingLeft, sharpened}
+use Rattle.sought_plans.specs.Known.{Known, es_of, le_of, lo_of, top_of, bef_of}
+use Rattle.sought_plans.specs.Conclusions.{NothingLeft, sharpened}
 use Rattle.tt_infer.specs.Table.{IsLawful}
 use Rattle.tt_infer.specs.Leaves.{Lead}
 

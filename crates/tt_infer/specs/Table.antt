@@ -6,10 +6,10 @@ use Rattle.ttp_model.specs.Lists.{EachBelow}
 use Rattle.ttp_model.specs.Instance.{Instance, process_at, message_at, link_at, source_of}
 use Rattle.tt_choice.specs.Choice.{Choice, ArePair}
 use Rattle.tt_choice.specs.Extremes.{start_most, end_least, cap_most, dur_least}
-use Rattle.tt_infer.specs.Known.{Known, le_of, lo_of, top_of, bef_of}
-use Rattle.tt_infer.specs.Conclusions.{Conclusion, StartsFrom, EndsUntil, SentFrom, SentBefore, GoesFirst, NothingLeft, sharpened}
-use Rattle.tt_infer.specs.Dominance.{AreTwinsInOrder, HasRounds, IsGreatestWait, CouldBeEarlier, StandTurned}
-use Rattle.tt_infer.specs.Premises.{Receives, wcet_of, sender_of, least_end, most_start, least_ready, IsFirstChance, AreChances, IsRing, IsOverloaded, AreOverfull}
+use Rattle.sought_plans.specs.Known.{Known, le_of, lo_of, top_of, bef_of}
+use Rattle.sought_plans.specs.Conclusions.{Conclusion, StartsFrom, EndsUntil, SentFrom, SentBefore, GoesFirst, NothingLeft, sharpened}
+use Rattle.sought_plans.specs.Dominance.{AreTwinsInOrder, HasRounds, IsGreatestWait, CouldBeEarlier, StandTurned}
+use Rattle.sought_plans.specs.Premises.{Receives, wcet_of, sender_of, least_end, most_start, least_ready, IsFirstChance, AreChances, IsRing, IsOverloaded, AreOverfull}
 
 -- a row: what the step names is there, its premise, and what it concludes
 pub record StepRow : Type 1 where

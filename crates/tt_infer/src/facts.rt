@@ -4,16 +4,16 @@ ghost use Rattle.std.specs.Prelude.{◌≡◌, ◌<◌, IfOk, IsTrue, length};
 ghost use Rattle.ttp_model.specs.declared.plan.Plan.{Plan};
 ghost use Rattle.tt_choice.specs.Choice.{IsChoice, bare};
 ghost use Rattle.tt_choice.specs.Decisions.{choice_after, IsOpenDecision};
-ghost use Rattle.tt_infer.specs.Known.{IsSought, es_of, le_of, lo_of, top_of, bef_of, first_facts};
+ghost use Rattle.sought_plans.specs.Known.{IsSought, es_of, le_of, lo_of, top_of, bef_of, first_facts};
 ghost use Rattle.tt_choice.specs.Branches.{IsUnorderedPair, order_pair};
-ghost use Rattle.tt_infer.specs.Conclusions.{GoesFirst, sharpened};
+ghost use Rattle.sought_plans.specs.Conclusions.{GoesFirst, sharpened};
 ghost use Rattle.tt_infer.specs.Facts.{AreFacts, after};
+ghost use Rattle.tt_infer.specs.Setting.{inference};
 ghost use Rattle.tt_infer.specs.Answers.{Takes};
 
 use crate::fault::StepFault;
-use crate::known::Known;
 use crate::rules;
-use crate::setting::Setting;
+use sought_plans::{Known, Setting};
 use std::alloc::Global;
 use std::marker::Model;
 use tt_choice::{Choice, Decision};
@@ -240,6 +240,13 @@ impl<'a> Facts<'a> {
         ensures inference { AreFacts self.now }
     {
         self.setting.choice()
+    }
+
+    /// Which plans are sought, with how far their slots move: its questions take one step, where those of a choice go over all nodes.
+    pub fn setting(&self) -> &Setting<'a>
+        ensures { inference result.now self.now.known ≡ self.now }
+    {
+        &self.setting
     }
 
     /// Their delays are below this tick.

@@ -2,7 +2,7 @@
 
 ghost use Rattle.std.specs.Prelude.{ℕ, ◌<◌, ◌↔◌, length, IsTrue};
 ghost use Rattle.tt_choice.specs.Choice.{ArePair};
-ghost use Rattle.tt_infer.specs.Premises.{Receives};
+ghost use Rattle.sought_plans.specs.Premises.{Receives};
 
 use ttp_model::Instance;
 

@@ -1,32 +1,20 @@
 //! Inference: steps that sharpen what is known of the plans that are sought.
 #![tactic(auto)]
 
-mod ahead;
-mod fact;
 mod facts;
 mod fault;
 mod indices;
-mod known;
-mod late;
 mod laws;
-mod limit;
-mod rooms;
 mod rules;
-mod setting;
-mod slots;
-mod times;
-mod wait;
 mod worked;
 
-pub use fact::{Fact, link_after, link_before, sender, target, value};
 pub use facts::Facts;
 pub use fault::StepFault;
+pub use indices::receives;
 pub use laws::{
-    first_facts_hold, leaves_rule_out, needed_decisions_rule_out, rules_are_sound, rules_conclude,
-    steps_are_determined, steps_are_sound, steps_lead_as_far_inside, steps_only_sharpen,
-    steps_rest_on_what_they_read,
+    first_facts_hold, leaves_rule_out, rules_are_sound, rules_conclude, steps_are_determined,
+    steps_are_sound, steps_lead_as_far_inside, steps_only_sharpen,
 };
-pub use limit::Limit;
 pub use worked::{
     one_message_closes_at_9, one_message_closes_inside, one_message_is_not_sent_late,
     silent_twins_stand_in_order, three_alike_close_at_6, three_alike_end_by_2_4_6,

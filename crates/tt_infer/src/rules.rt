@@ -1,6 +1,6 @@
 //! Which rule does a step stand for?
 
-ghost use Rattle.tt_infer.specs.Known.{Fits};
+ghost use Rattle.sought_plans.specs.Known.{Fits};
 ghost use Rattle.tt_infer.specs.Setting.{TakesOf};
 
 mod closers;
@@ -12,8 +12,7 @@ mod rounds;
 mod starts;
 
 use crate::fault::StepFault;
-use crate::known::Known;
-use crate::setting::Setting;
+use sought_plans::{Known, Setting};
 use ttp_model::Step;
 
 /// Takes a step of the table, or refuses it.

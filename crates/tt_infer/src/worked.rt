@@ -7,7 +7,7 @@ ghost use Rattle.ttp_model.specs.Worked.{one_message, three_alike};
 ghost use Rattle.tt_choice.specs.Branches.{root_choice, at_least, place_next};
 ghost use Rattle.tt_choice.specs.Inside.{IsInside};
 ghost use Rattle.tt_infer.specs.declared.fault.StepFault.TheVariants.{NoPremise};
-ghost use Rattle.tt_infer.specs.Known.{Known, first_facts};
+ghost use Rattle.sought_plans.specs.Known.{Known, first_facts};
 ghost use Rattle.tt_infer.specs.Leaves.{Lead, ClosesLeaf};
 ghost use Rattle.tt_infer.specs.Answers.{IsStepFault};
 ghost use Rattle.tt_infer.specs.Worked.{two_silent};

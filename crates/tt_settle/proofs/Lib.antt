@@ -4,3 +4,4 @@ pub mod EarlierStarts
 pub mod EarlierRounds
 pub mod Swapping
 pub mod Passing
+pub mod Listed

@@ -39,34 +39,33 @@ fn wait_of(instance: &Instance, plan: &Plan, p: usize) -> u64
     after_others(instance, plan, p, arrived)
 }
 
-/// A time raised to the ends of all processes that are linked to process `p`.
+/// A time raised to the ends of all processes that are linked to process `p`. One pass over those links.
 fn after_links(instance: &Instance, plan: &Plan, p: usize, floor: u64) -> u64
-    requires { HasLengths instance.now plan.now }
+    requires lengths { HasLengths instance.now plan.now }
+    requires inside { p < length instance.now.processes }
     ensures { IsRaised (length instance.now.links) (LeadsTo instance.now p)
         (link_end instance.now plan.now) floor result }
 {
+    let _processes = instance.processes();
     let mut time = floor;
-    for l in 0..instance.links().len() {
-        let link = instance.link_at(l);
-        if link.after as usize == p {
-            time = time.max(end_of(instance, plan, link.before as usize));
-        }
+    for l in instance.links_to(p as u32) {
+        let link = instance.link_at(*l as usize);
+        time = time.max(end_of(instance, plan, link.before as usize));
     }
     time
 }
 
-/// A time raised to the arrivals of all messages to process `p`.
+/// A time raised to the arrivals of all messages to process `p`. One pass over those messages.
 fn after_messages(instance: &Instance, plan: &Plan, p: usize, floor: u64) -> u64
     requires valid { IsValid instance.now plan.now }
     requires inside { p < length instance.now.processes }
     ensures { IsRaised (length instance.now.messages) (Receives instance.now p)
         (arrival instance.now plan.now) floor result }
 {
+    let _processes = instance.processes();
     let mut time = floor;
-    for m in 0..instance.messages().len() {
-        if instance.message_at(m).receivers.contains(p as u32) {
-            time = time.max(arrival_of(instance, plan, m));
-        }
+    for m in instance.received_by(p as u32) {
+        time = time.max(arrival_of(instance, plan, *m as usize));
     }
     time
 }
@@ -82,19 +81,18 @@ fn arrival_of(instance: &Instance, plan: &Plan, m: usize) -> u64
     layout.slot_end(instance.source_of(m), round) + u64::from(instance.cluster().copy_in)
 }
 
-/// A time raised to the ends of all processes of the node of process `p` that go before it.
+/// A time raised to the ends of all processes of the node of process `p` that go before it. One pass over the processes of the node.
 fn after_others(instance: &Instance, plan: &Plan, p: usize, floor: u64) -> u64
     requires lengths { HasLengths instance.now plan.now }
     requires inside { p < length instance.now.processes }
     ensures { IsRaised (length instance.now.processes) (GoesBefore instance.now plan.now p)
         (end_of instance.now plan.now) floor result }
 {
-    let node = instance.node_of(p);
     let start = u64::from(plan.starts.as_slice()[p]);
     let mut time = floor;
-    for q in 0..instance.processes().len() {
-        let end = end_of(instance, plan, q);
-        if instance.node_of(q) == node && end <= start {
+    for q in instance.processes_on(instance.node_of(p)) {
+        let end = end_of(instance, plan, *q as usize);
+        if end <= start {
             time = time.max(end);
         }
     }

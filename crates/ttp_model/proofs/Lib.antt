@@ -5,6 +5,10 @@ pub mod Paths
 pub mod ClosedWalks
 pub mod RuleOrder
 pub mod Elements
+pub mod KeyedNumbers
+pub mod Indices
+pub mod NetworkLists
+pub mod LinkLists
 pub mod ValidPlans
 pub mod Times
 pub mod PlanNumbers

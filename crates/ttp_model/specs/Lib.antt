@@ -3,10 +3,13 @@ pub mod Limits
 pub mod Totals
 pub mod Raising
 pub mod Instance
+pub mod Groups
+pub mod Network
 pub mod Graph
 pub mod Rules
 pub mod Refusals
 pub mod Parts
+pub mod Networks
 pub mod Searches
 pub mod Turns
 pub mod Slots

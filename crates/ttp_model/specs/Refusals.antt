@@ -73,8 +73,8 @@ IsFirstWrongLength i part.Messages = HasLength 1 most_nodes i.nodes × HasLength
 abbrev pub BreaksRule : Instance → Rule → Type 0 → Type 0
 BreaksRule i rule Failure = KeepsRulesBefore i rule × Failure
 
--- The refusal that an instance earns, rule by rule. Which cycle is told, of several, is free. The search for one alone
--- takes memory, so want of it comes only where every rule before that one is kept.
+-- The refusal that an instance earns, rule by rule. Which cycle is told, of several, is free. The search for one, and the
+-- lists of what hangs on what behind it, alone take memory, so want of it comes only where every rule before that one is kept.
 abbrev pub IsRefusal : Instance → ModelError → Type 0
 IsRefusal i (Length list) = BreaksRule i Lengths (IsFirstWrongLength i list)
 IsRefusal i (NoReceiver m) = BreaksRule i Receivers (IsFirstFailure (length i.messages) (HasReceiver i) m)

@@ -1,13 +1,15 @@
 //! What an instance is: tables that keep all rules.
 
 ghost use Rattle.std.specs.Prelude.{◌≡◌, ◌+◌, ◌<◌, ◌≤◌, All, IfOk, IfErr, IsOkUnless, length};
-ghost use Rattle.ttp_model.specs.declared.limits.TheConstants.{MOST_BYTES};
+ghost use Rattle.ttp_model.specs.declared.limits.TheConstants.{MOST_BYTES, MOST_LINKS, MOST_MESSAGES, MOST_PROCESSES};
 ghost use Rattle.ttp_model.specs.Instance.{instance_with, process_at, link_at, message_at, node_of, source_of};
+ghost use Rattle.ttp_model.specs.Network.{links_from, links_to, sent_by, received_by, processes_on, messages_of};
 ghost use Rattle.ttp_model.specs.Rules.{IsInstance, IsProcessInRange};
 ghost use Rattle.ttp_model.specs.Refusals.{IsRefusal};
 ghost use Rattle.ttp_model.specs.declared.error.ModelError.TheVariants.{OutOfMemory};
 
 use crate::error::ModelError;
+use crate::network::Network;
 use crate::parts::{Cluster, Link, Message, Node, Parts, Process};
 use crate::rules;
 use std::alloc::Global;
@@ -18,24 +20,25 @@ use std::marker::Model;
 #[derive(Debug, Drop)]
 pub struct Instance {
     parts: Parts,
+    network: Network,
 }
 
 impl Model for Instance {
     ghost use Rattle.ttp_model.specs.Instance.{Instance};
     ghost use Rattle.ttp_model.specs.Parts.{instance_of};
-    ghost use Rattle.ttp_model.specs.Rules.{IsInstance};
+    ghost use Rattle.ttp_model.specs.Networks.{AreKept};
 
     ghost Value = { Instance };
 
     ghost view = { λ s. instance_of s.parts };
 
-    ghost invariant = { λ s. IsInstance (instance_of s.parts) };
+    ghost invariant = { λ s. AreKept s.parts s.network };
 }
 
 impl Instance {
     /// The instance that the tables are, or the first rule that they break, at its first place: lengths, then
     /// receivers, names, indices, ranges, capacities, the bus, deadlines, links, and cycles last. Memory is taken
-    /// for the search for cycles alone.
+    /// for the search for cycles and for the lists of what hangs on what alone, behind all other rules.
     pub fn build(
         alloc: Global,
         cluster: Cluster,
@@ -59,7 +62,8 @@ impl Instance {
             messages,
         };
         rules::judge(alloc, &parts)?;
-        Ok(Instance { parts })
+        let network = Network::of(alloc, &parts)?;
+        Ok(Instance { parts, network })
     }
 
     pub fn cluster(&self) -> &Cluster
@@ -103,6 +107,60 @@ impl Instance {
         ensures instance { IsInstance self.now }
     {
         self.parts.messages.as_slice()
+    }
+
+    /// The links that lead from process `p`, rising: none where it isn't there. One step.
+    pub fn links_from(&self, p: u32) -> &[u32]
+        ensures value { result.now ≡ links_from self.now p }
+        ensures inside { All (λ l. l < length self.now.links) result.now }
+        ensures few { length result.now ≤ MOST_LINKS }
+    {
+        self.network.links.before.of_key(p)
+    }
+
+    /// The links that lead to process `p`, rising: none where it isn't there. One step.
+    pub fn links_to(&self, p: u32) -> &[u32]
+        ensures value { result.now ≡ links_to self.now p }
+        ensures inside { All (λ l. l < length self.now.links) result.now }
+        ensures few { length result.now ≤ MOST_LINKS }
+    {
+        self.network.links.after.of_key(p)
+    }
+
+    /// The messages that process `p` sends, rising: none where it isn't there. One step.
+    pub fn sent_by(&self, p: u32) -> &[u32]
+        ensures value { result.now ≡ sent_by self.now p }
+        ensures inside { All (λ m. m < length self.now.messages) result.now }
+        ensures few { length result.now ≤ MOST_MESSAGES }
+    {
+        self.network.messages.sender.of_key(p)
+    }
+
+    /// The messages that process `q` receives, rising: none where it isn't there. One step.
+    pub fn received_by(&self, q: u32) -> &[u32]
+        ensures value { result.now ≡ received_by self.now q }
+        ensures inside { All (λ m. m < length self.now.messages) result.now }
+        ensures few { length result.now ≤ MOST_MESSAGES }
+    {
+        self.network.messages.receiver.of_key(q)
+    }
+
+    /// The processes on node `n`, rising: none where it isn't there. One step.
+    pub fn processes_on(&self, n: u32) -> &[u32]
+        ensures value { result.now ≡ processes_on self.now n }
+        ensures inside { All (λ p. p < length self.now.processes) result.now }
+        ensures few { length result.now ≤ MOST_PROCESSES }
+    {
+        self.network.processes.of_key(n)
+    }
+
+    /// The messages that node `n` sends, rising: none where it isn't there. One step.
+    pub fn messages_of(&self, n: u32) -> &[u32]
+        ensures value { result.now ≡ messages_of self.now n }
+        ensures inside { All (λ m. m < length self.now.messages) result.now }
+        ensures few { length result.now ≤ MOST_MESSAGES }
+    {
+        self.network.messages.source.of_key(n)
     }
 
     /// The process of an index.

@@ -6,13 +6,12 @@ ghost use Rattle.ttp_model.specs.Graph.{HasLink};
 use crate::instance::Instance;
 
 /// Whether a link leads from process `p` to process `q`: not so where one isn't there. One pass over
-/// the links.
+/// the links from `p`.
 pub fn has_link(instance: &Instance, p: u32, q: u32) -> bool
     ensures { IsTrue result ↔ HasLink instance.now p q }
 {
-    for l in 0..instance.links().len() {
-        let link = instance.link_at(l);
-        if link.before == p && link.after == q {
+    for l in instance.links_from(p) {
+        if instance.link_at(*l as usize).after == q {
             return true;
         }
     }

@@ -17,9 +17,8 @@ pub struct Reader<'a> {
 
 /// Whether a process sends a message to another.
 fn has_message(instance: &Instance, p: u32, q: u32) -> bool {
-    for m in 0..instance.messages().len() {
-        let message = instance.message_at(m);
-        if message.sender == p && message.receivers.contains(q) {
+    for m in instance.sent_by(p) {
+        if instance.message_at(*m as usize).receivers.contains(q) {
             return true;
         }
     }
@@ -159,12 +158,11 @@ impl<'a> Reader<'a> {
     /// That a node's messages of some rounds are too many for its frames.
     fn frames(&self, path: &Path, n: u32, a: u32, b: u32, uses: &mut Uses) {
         uses.branch(path.below_most(n));
-        for m in 0..self.instance.messages().len() {
-            let message = m as u32;
-            if self.instance.source_of(m) == n && self.may_count(path, message, a, b) {
-                self.greatest(path, message, uses);
+        for m in self.instance.messages_of(n) {
+            if self.may_count(path, *m, a, b) {
+                self.greatest(path, *m, uses);
                 if a > 0 {
-                    self.least(path, message, uses);
+                    self.least(path, *m, uses);
                 }
             }
         }
@@ -202,10 +200,9 @@ impl<'a> Reader<'a> {
 
     /// That other messages of the node of one can't be sent in round `r`.
     fn others_in_frame(&self, path: &Path, m: u32, n: u32, r: u32, uses: &mut Uses) {
-        for k in 0..self.instance.messages().len() {
-            let other = k as u32;
-            if other != m && self.instance.source_of(k) == n {
-                self.not_in_round(path, other, r, uses);
+        for k in self.instance.messages_of(n) {
+            if *k != m {
+                self.not_in_round(path, *k, r, uses);
             }
         }
     }
@@ -230,20 +227,23 @@ impl<'a> Reader<'a> {
     /// What a process may have to wait for.
     fn settled(&self, path: &Path, p: u32, uses: &mut Uses) {
         self.last_ends(path, p, uses);
-        for m in 0..self.instance.messages().len() {
-            if self.instance.message_at(m).receivers.contains(p) {
-                uses.greatest_slot(path, self.instance.source_of(m));
-                self.greatest(path, m as u32, uses);
-            }
+        for m in self.instance.received_by(p) {
+            uses.greatest_slot(path, self.instance.source_of(*m as usize));
+            self.greatest(path, *m, uses);
         }
     }
 
-    /// Which processes go behind one that no link leads to.
+    /// Which processes of its node go behind one that no link leads to.
     fn last_ends(&self, path: &Path, p: u32, uses: &mut Uses) {
-        let count = self.instance.processes().len() as u32;
-        for x in 0..count {
-            if path.before(p, x).is_some() && !has_link(self.instance, p, x) {
-                self.order(path, p, x, uses);
+        if p as usize >= self.instance.processes().len() {
+            return;
+        }
+        for x in self
+            .instance
+            .processes_on(self.instance.node_of(p as usize))
+        {
+            if path.before(p, *x).is_some() && !has_link(self.instance, p, *x) {
+                self.order(path, p, *x, uses);
             }
         }
     }

@@ -101,11 +101,10 @@ fn crowded(
 fn load(instance: &Instance, facts: &Facts, n: u32, r: u32) -> u32
     requires { facts.now.instance ≡ instance.now }
 {
-    let count = instance.messages().len();
     let mut bytes = 0;
-    for m in 0..count {
-        if instance.source_of(m) == n && facts.lo(m as u32) == r {
-            bytes += instance.message_at(m).bytes;
+    for m in instance.messages_of(n) {
+        if facts.lo(*m) == r {
+            bytes += instance.message_at(*m as usize).bytes;
         }
     }
     bytes

@@ -55,12 +55,10 @@ fn may_crowd(instance: &Instance, choice: &Choice, facts: &Facts, m: u32) -> boo
     requires message { m < length instance.now.messages }
 {
     let node = instance.source_of(m as usize);
-    let count = instance.messages().len();
     let mut bytes = 0;
-    for k in 0..count {
-        let meets = facts.lo(k as u32) <= facts.top(m) && facts.lo(m) <= facts.top(k as u32);
-        if meets && instance.source_of(k) == node {
-            bytes += instance.message_at(k).bytes;
+    for k in instance.messages_of(node) {
+        if facts.lo(*k) <= facts.top(m) && facts.lo(m) <= facts.top(*k) {
+            bytes += instance.message_at(*k as usize).bytes;
         }
     }
     bytes > choice.cap_most(instance, node)

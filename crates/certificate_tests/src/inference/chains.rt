@@ -18,7 +18,10 @@ fn expect_first(rt: &impl Abort, alloc: Global, facts: &Facts) -> Result<(), All
     let subject = (facts.goal(), is_before, facts.instance().links().len());
     let known = line(alloc, facts)?;
     let wanted = "0..100 0..100 0..100 2<1 open";
-    assert_eq!(rt; (subject, known.as_str()), ((7, true, 1), wanted));
+    assert!(rt;
+        subject == (7, true, 1) && known.as_str() == wanted,
+        "{subject:?}: {known}"
+    );
     Ok(())
 }
 

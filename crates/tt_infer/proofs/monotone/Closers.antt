@@ -1,9 +1,9 @@
 -- The steps that leave no plan outside leave none inside.
 use Rattle.std.proofs.Common.{ℕ, ◌+◌, ◌-◌, List, length, slice_index, arith, inl, inr, refl}
 use Rattle.ttp_model.specs.declared.step.Step.TheVariants.{XWindow, XRound, XCycle, XFrame}
-use Rattle.tt_infer.specs.Known.{Known}
-use Rattle.tt_infer.specs.Conclusions.{NothingLeft}
-use Rattle.tt_infer.specs.Premises.{IsAhead, IsRing}
+use Rattle.sought_plans.specs.Known.{Known}
+use Rattle.sought_plans.specs.Conclusions.{NothingLeft}
+use Rattle.sought_plans.specs.Premises.{IsAhead, IsRing}
 use Rattle.tt_infer.proofs.monotone.Nested.{Nested, AreKnown, IsKept}
 use Rattle.tt_infer.proofs.monotone.Slots.{cap_most_down}
 

@@ -5,10 +5,10 @@ use Rattle.ttp_model.specs.declared.step.Step.TheVariants.{XLate, XSilent}
 use Rattle.ttp_model.specs.Instance.{message_at, source_of}
 use Rattle.ttp_model.specs.Totals.{total}
 use Rattle.ttp_model.proofs.Totals.{total_le}
-use Rattle.tt_infer.specs.Known.{Known, lo_of, top_of}
-use Rattle.tt_infer.specs.Conclusions.{NothingLeft}
-use Rattle.tt_infer.specs.Premises.{sender_of}
-use Rattle.tt_infer.specs.Dominance.{may_be_beside, bytes_beside, CouldBeEarlier, StandTurned}
+use Rattle.sought_plans.specs.Known.{Known, lo_of, top_of}
+use Rattle.sought_plans.specs.Conclusions.{NothingLeft}
+use Rattle.sought_plans.specs.Premises.{sender_of}
+use Rattle.sought_plans.specs.Dominance.{may_be_beside, bytes_beside, CouldBeEarlier, StandTurned}
 use Rattle.tt_infer.specs.Table.{IsMessage}
 use Rattle.tt_infer.proofs.Selected.{selected_le}
 use Rattle.tt_infer.proofs.monotone.Nested.{Nested, AreKnown, IsKept}

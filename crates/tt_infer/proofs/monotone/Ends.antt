@@ -3,9 +3,9 @@ use Rattle.std.proofs.Common.{ℕ, ◌-◌, ◌≤◌, min, arith, refl}
 use Rattle.ttp_model.specs.declared.step.Step.TheVariants.{LeOwn, LeLink, LeBefore, LeMessage, LeSend}
 use Rattle.ttp_model.specs.Instance.{process_at, link_at, source_of}
 use Rattle.tt_choice.specs.Extremes.{start_most, dur_least}
-use Rattle.tt_infer.specs.Known.{Known, top_of}
-use Rattle.tt_infer.specs.Conclusions.{EndsUntil}
-use Rattle.tt_infer.specs.Premises.{sender_of, most_start}
+use Rattle.sought_plans.specs.Known.{Known, top_of}
+use Rattle.sought_plans.specs.Conclusions.{EndsUntil}
+use Rattle.sought_plans.specs.Premises.{sender_of, most_start}
 use Rattle.tt_infer.proofs.monotone.Nested.{Nested, AreKnown, IsKept}
 use Rattle.tt_infer.proofs.monotone.Slots.{start_most_down, dur_least_up}
 

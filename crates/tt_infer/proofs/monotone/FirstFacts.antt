@@ -5,7 +5,7 @@ use Rattle.std.proofs.lemmas.List.{get_or-map, get_or_past, length-map}
 use Rattle.ttp_model.specs.Instance.{Instance}
 use Rattle.tt_choice.specs.Choice.{Choice, IsChoice, least_round}
 use Rattle.tt_choice.specs.Inside.{IsInside}
-use Rattle.tt_infer.specs.Known.{first_facts, top_of}
+use Rattle.sought_plans.specs.Known.{first_facts, top_of}
 use Rattle.tt_infer.specs.Sharper.{IsSharper}
 
 least_rounds_rise : (i : Instance) (inner outer : Choice) → IsChoice i outer → IsInside i inner outer → (m : ℕ) → least_round outer m ≤ least_round inner m

@@ -7,7 +7,7 @@ use Rattle.ttp_model.specs.Instance.{Instance}
 use Rattle.ttp_model.specs.Rules.{IsInstance}
 use Rattle.tt_choice.specs.Choice.{Choice, IsChoice}
 use Rattle.tt_choice.specs.Inside.{IsInside}
-use Rattle.tt_infer.specs.Known.{Known, Fits, first_facts}
+use Rattle.sought_plans.specs.Known.{Known, Fits, first_facts}
 use Rattle.tt_infer.specs.Leaves.{Lead, ClosesLeaf}
 use Rattle.tt_infer.specs.Sharper.{IsSharper, LeadsAsFar, MissesRound, LeadAsFar, LeadToClose}
 use Rattle.tt_infer.specs.Table.{IsLawful}

@@ -7,9 +7,9 @@ use Rattle.ttp_model.specs.Instance.{message_at, node_of, source_of}
 use Rattle.ttp_model.specs.Totals.{total}
 use Rattle.ttp_model.proofs.Totals.{total_le}
 use Rattle.tt_choice.proofs.Inside.{cap_most_falls}
-use Rattle.tt_infer.specs.Known.{Known, es_of, le_of, lo_of, top_of}
-use Rattle.tt_infer.specs.Conclusions.{NothingLeft}
-use Rattle.tt_infer.specs.Premises.{wcet_of, runs_within, load_within, sent_within, bytes_within}
+use Rattle.sought_plans.specs.Known.{Known, es_of, le_of, lo_of, top_of}
+use Rattle.sought_plans.specs.Conclusions.{NothingLeft}
+use Rattle.sought_plans.specs.Premises.{wcet_of, runs_within, load_within, sent_within, bytes_within}
 use Rattle.tt_infer.proofs.Selected.{selected_le, span_tells}
 use Rattle.tt_infer.proofs.monotone.Nested.{Nested, AreKnown, IsKept}
 

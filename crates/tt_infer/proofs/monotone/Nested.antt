@@ -5,8 +5,8 @@ use Rattle.ttp_model.specs.Instance.{Instance}
 use Rattle.ttp_model.specs.Rules.{IsInstance}
 use Rattle.tt_choice.specs.Choice.{Choice, IsChoice}
 use Rattle.tt_choice.specs.Inside.{IsInside}
-use Rattle.tt_infer.specs.Known.{Known, Fits}
-use Rattle.tt_infer.specs.Conclusions.{Conclusion, StartsFrom, EndsUntil, SentFrom, SentBefore, GoesFirst, NothingLeft}
+use Rattle.sought_plans.specs.Known.{Known, Fits}
+use Rattle.sought_plans.specs.Conclusions.{Conclusion, StartsFrom, EndsUntil, SentFrom, SentBefore, GoesFirst, NothingLeft}
 use Rattle.tt_infer.specs.Table.{rule}
 use Rattle.tt_infer.specs.Sharper.{IsSharper}
 

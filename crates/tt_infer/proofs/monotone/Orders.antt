@@ -1,8 +1,8 @@
 -- The steps that tell which of two processes goes first tell it inside too.
 use Rattle.std.proofs.Common.{ℕ, arith, refl}
 use Rattle.ttp_model.specs.declared.step.Step.TheVariants.{OrdWindow, OrdTwin}
-use Rattle.tt_infer.specs.Known.{Known}
-use Rattle.tt_infer.specs.Conclusions.{GoesFirst}
+use Rattle.sought_plans.specs.Known.{Known}
+use Rattle.sought_plans.specs.Conclusions.{GoesFirst}
 use Rattle.tt_infer.proofs.monotone.Nested.{Nested, AreKnown, IsKept}
 
 pub ord_window_kept : (s : Nested) (f h : Known) (p q : ℕ) → AreKnown s f h → IsKept s f h (OrdWindow p q)

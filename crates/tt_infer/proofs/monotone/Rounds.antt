@@ -2,14 +2,14 @@
 use Rattle.std.proofs.Common.{ℕ, ◌≤◌, arith, inl, inr, refl}
 use Rattle.std.proofs.lemmas.Bool.{cases_lt}
 use Rattle.ttp_model.specs.declared.step.Step.TheVariants.{LoSend, HiArrive}
-use Rattle.tt_infer.specs.Known.{Known}
-use Rattle.tt_infer.specs.Conclusions.{SentFrom, SentBefore}
-use Rattle.tt_infer.specs.Premises.{IsFirstChance, AreChances, sender_of}
+use Rattle.sought_plans.specs.Known.{Known}
+use Rattle.sought_plans.specs.Conclusions.{SentFrom, SentBefore}
+use Rattle.sought_plans.specs.Premises.{IsFirstChance, AreChances, sender_of}
 use Rattle.tt_infer.proofs.Chances.{first_chance, chances}
 use Rattle.tt_infer.proofs.monotone.Nested.{Nested, AreKnown, IsKept}
 use Rattle.tt_infer.proofs.monotone.Slots.{start_most_down, end_least_up}
 use Rattle.tt_infer.specs.Table.{IsMessage}
-use Rattle.tt_infer.specs.Premises.{Receives}
+use Rattle.sought_plans.specs.Premises.{Receives}
 
 -- the first chance comes no earlier
 first_chance_later : (s : Nested) (f h : Known) (m early late : ℕ) → AreKnown s f h → IsMessage s.instance m → IsFirstChance s.instance s.outer f m early → IsFirstChance s.instance s.inner h m late → early ≤ late

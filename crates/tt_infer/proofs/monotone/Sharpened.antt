@@ -4,8 +4,8 @@ use Rattle.std.proofs.lemmas.Bool.{cases_eq}
 use Rattle.ttp_model.specs.Instance.{Instance}
 use Rattle.tt_choice.specs.Precedence.{Precedence, goes_before, put_before}
 use Rattle.tt_choice.proofs.Before.{put_kept, put_only, put_same}
-use Rattle.tt_infer.specs.Known.{Known, Fits}
-use Rattle.tt_infer.specs.Conclusions.{Conclusion, StartsFrom, EndsUntil, SentFrom, SentBefore, GoesFirst, NothingLeft, IsAbout, sharpened, capped}
+use Rattle.sought_plans.specs.Known.{Known, Fits}
+use Rattle.sought_plans.specs.Conclusions.{Conclusion, StartsFrom, EndsUntil, SentFrom, SentBefore, GoesFirst, NothingLeft, IsAbout, sharpened, capped}
 use Rattle.tt_infer.specs.Sharper.{IsSharper}
 use Rattle.tt_infer.proofs.Keeps.{changed_here, changed_there}
 use Rattle.tt_infer.proofs.monotone.Nested.{IsStronger}

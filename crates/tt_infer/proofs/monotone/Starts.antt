@@ -2,9 +2,9 @@
 use Rattle.std.proofs.Common.{ℕ, ◌+◌, arith, refl}
 use Rattle.ttp_model.specs.declared.step.Step.TheVariants.{EsRelease, EsLink, EsBefore, EsArrive, EsMessage}
 use Rattle.ttp_model.specs.Instance.{process_at, link_at, source_of}
-use Rattle.tt_infer.specs.Known.{Known, lo_of}
-use Rattle.tt_infer.specs.Conclusions.{StartsFrom}
-use Rattle.tt_infer.specs.Premises.{sender_of, least_end, least_ready}
+use Rattle.sought_plans.specs.Known.{Known, lo_of}
+use Rattle.sought_plans.specs.Conclusions.{StartsFrom}
+use Rattle.sought_plans.specs.Premises.{sender_of, least_end, least_ready}
 use Rattle.tt_choice.specs.Extremes.{end_least, dur_least}
 use Rattle.tt_infer.proofs.monotone.Nested.{Nested, AreKnown, IsKept}
 use Rattle.tt_infer.proofs.monotone.Slots.{end_least_up, dur_least_up}

@@ -3,8 +3,8 @@ use Rattle.std.proofs.Common.{◌≡◌, ℕ, ◌<◌, ◌≤◌, ◌⊎◌, Lis
 use Rattle.ttp_model.specs.declared.step.Step.{Step}
 use Rattle.ttp_model.specs.declared.step.Step.TheVariants.{EsRelease, EsLink, EsBefore, EsArrive, EsMessage, LoSend, LeOwn, LeLink, LeBefore, LeMessage, LeSend, HiArrive, OrdWindow, OrdTwin, UsSettled, XWindow, XRound, XCycle, XLoad, XFrame, XFrames, XLate, XSilent}
 use Rattle.ttp_model.proofs.Decide.{equal, some_below}
-use Rattle.tt_infer.specs.Known.{Known, top_of}
-use Rattle.tt_infer.specs.Conclusions.{NothingLeft, sharpened}
+use Rattle.sought_plans.specs.Known.{Known, top_of}
+use Rattle.sought_plans.specs.Conclusions.{NothingLeft, sharpened}
 use Rattle.tt_infer.specs.Table.{IsLawful}
 use Rattle.tt_infer.specs.Sharper.{AsksForRounds, LeadsAsFar, MissesRound, LeadAsFar, LeadToClose}
 use Rattle.tt_infer.specs.Leaves.{Lead}

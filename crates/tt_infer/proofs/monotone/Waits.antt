@@ -2,11 +2,11 @@
 use Rattle.std.proofs.Common.{ℕ, ◌+◌, ◌-◌, ◌≤◌, arith, inl, inr, refl, IsFalse}
 use Rattle.std.proofs.lemmas.Bool.{cases_Bool, both_ways}
 use Rattle.ttp_model.specs.declared.step.Step.TheVariants.{UsSettled}
-use Rattle.tt_infer.specs.Known.{Known, top_of, bef_of}
-use Rattle.tt_infer.specs.Conclusions.{EndsUntil}
-use Rattle.tt_infer.specs.Premises.{wcet_of}
-use Rattle.tt_infer.specs.Dominance.{MayGoBefore, MayWaitUntil, HasRounds}
-use Rattle.tt_infer.proofs.GreatestWaits.{greatest_wait}
+use Rattle.sought_plans.specs.Known.{Known, top_of, bef_of}
+use Rattle.sought_plans.specs.Conclusions.{EndsUntil}
+use Rattle.sought_plans.specs.Premises.{wcet_of}
+use Rattle.sought_plans.specs.Dominance.{MayGoBefore, MayWaitUntil, HasRounds}
+use Rattle.sought_plans.proofs.GreatestWaits.{greatest_wait}
 use Rattle.tt_infer.proofs.monotone.Nested.{Nested, AreKnown, IsKept}
 use Rattle.tt_infer.proofs.monotone.Slots.{end_most_down}
 

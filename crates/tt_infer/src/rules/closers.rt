@@ -3,16 +3,13 @@
 ghost use Rattle.std.specs.Prelude.{◌<◌, ◌≤◌, ◌↔◌, length, slice_index, IsTrue, IsFalse};
 ghost use Rattle.ttp_model.specs.declared.step.Step.TheVariants.{XWindow, XRound, XCycle, XFrame};
 ghost use Rattle.ttp_model.specs.Lists.{EachBelow};
-ghost use Rattle.tt_infer.specs.Premises.{IsRing};
+ghost use Rattle.sought_plans.specs.Premises.{IsRing};
 ghost use Rattle.tt_infer.specs.Table.{IsProcess};
 ghost use Rattle.tt_infer.specs.Setting.{TakesOf};
-ghost use Rattle.tt_infer.specs.Known.{Fits};
+ghost use Rattle.sought_plans.specs.Known.{Fits};
 
-use crate::ahead::is_ahead;
 use crate::fault::StepFault;
-use crate::known::Known;
-use crate::setting::Setting;
-use crate::times::least_end;
+use sought_plans::{Known, Setting, is_ahead, least_end};
 use ttp_model::{Instance, Ring};
 
 /// A process can't end in time.

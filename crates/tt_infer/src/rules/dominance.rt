@@ -2,16 +2,13 @@
 
 ghost use Rattle.std.specs.Prelude.{◌↔◌, IsFalse, IsTrue};
 ghost use Rattle.ttp_model.specs.declared.step.Step.TheVariants.{OrdTwin, UsSettled, XLate, XSilent};
-ghost use Rattle.tt_infer.specs.Dominance.{StandsFirst};
+ghost use Rattle.sought_plans.specs.Dominance.{StandsFirst};
 ghost use Rattle.tt_infer.specs.Setting.{TakesOf};
-ghost use Rattle.tt_infer.specs.Known.{Fits};
+ghost use Rattle.sought_plans.specs.Known.{Fits};
 
 use crate::fault::StepFault;
 use crate::indices::are_pair;
-use crate::known::Known;
-use crate::late::could_be_earlier;
-use crate::setting::Setting;
-use crate::wait::greatest_wait;
+use sought_plans::{Known, Setting, could_be_earlier, greatest_wait};
 use tt_moves::{silent_twins, twins};
 
 /// Of twins the first goes first: else they would exchange their starts.

@@ -3,13 +3,11 @@
 ghost use Rattle.std.specs.Prelude.{IsFalse};
 ghost use Rattle.ttp_model.specs.declared.step.Step.TheVariants.{LeOwn, LeLink, LeBefore, LeMessage, LeSend};
 ghost use Rattle.tt_infer.specs.Setting.{TakesOf};
-ghost use Rattle.tt_infer.specs.Known.{Fits};
+ghost use Rattle.sought_plans.specs.Known.{Fits};
 
 use crate::fault::StepFault;
 use crate::indices::{are_pair, receives};
-use crate::known::Known;
-use crate::setting::Setting;
-use crate::times::most_start;
+use sought_plans::{Known, Setting, most_start};
 
 /// A process ends by its deadline, within the horizon and before the goal.
 pub fn le_own(known: &mut Known, setting: &Setting, p: u32) -> Result<(), StepFault>

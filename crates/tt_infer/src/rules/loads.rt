@@ -4,13 +4,12 @@ ghost use Rattle.std.specs.Prelude.{◌≡◌, ◌≤◌, ◌<◌, length, IsFal
 ghost use Rattle.ttp_model.specs.declared.step.Step.TheVariants.{XLoad, XFrames};
 ghost use Rattle.ttp_model.specs.declared.limits.TheConstants.{MOST_TICKS, MOST_BYTES};
 ghost use Rattle.ttp_model.specs.Totals.{total};
-ghost use Rattle.tt_infer.specs.Premises.{load_within, bytes_within};
+ghost use Rattle.sought_plans.specs.Premises.{load_within, bytes_within};
 ghost use Rattle.tt_infer.specs.Setting.{TakesOf};
-ghost use Rattle.tt_infer.specs.Known.{Fits};
+ghost use Rattle.sought_plans.specs.Known.{Fits};
 
 use crate::fault::StepFault;
-use crate::known::Known;
-use crate::setting::Setting;
+use sought_plans::{Known, Setting};
 use ttp_model::Instance;
 
 /// How long process `p` runs on node `n` from `a` to `b`: 0 where it is another's, starts earlier or
@@ -29,15 +28,14 @@ fn load_within(known: &Known, instance: &Instance, n: u32, a: u32, b: u32, p: u3
     }
 }
 
-/// How long processes run on node `n` from `a` to `b`. One pass over the processes.
+/// How long processes run on node `n` from `a` to `b`. One pass over its processes.
 fn load_of(known: &Known, instance: &Instance, n: u32, a: u32, b: u32) -> u64
     requires { Fits instance.now known.now }
     ensures { result ≡ total (load_within instance.now known.now n a b) (length instance.now.processes) }
 {
-    let count = instance.processes().len() as u32;
     let mut sum = 0;
-    for p in 0..count {
-        sum += load_within(known, instance, n, a, b, p);
+    for p in instance.processes_on(n) {
+        sum += load_within(known, instance, n, a, b, *p);
     }
     sum
 }
@@ -73,16 +71,15 @@ fn bytes_within(known: &Known, instance: &Instance, n: u32, a: u32, b: u32, m: u
     }
 }
 
-/// How many bytes go into frames of node `n` from round `a` on and before `b`. One pass over the
+/// How many bytes go into frames of node `n` from round `a` on and before `b`. One pass over its
 /// messages.
 fn bytes_of(known: &Known, instance: &Instance, n: u32, a: u32, b: u32) -> u64
     requires { Fits instance.now known.now }
     ensures { result ≡ total (bytes_within instance.now known.now n a b) (length instance.now.messages) }
 {
-    let count = instance.messages().len() as u32;
     let mut sum = 0;
-    for m in 0..count {
-        sum += bytes_within(known, instance, n, a, b, m);
+    for m in instance.messages_of(n) {
+        sum += bytes_within(known, instance, n, a, b, *m);
     }
     sum
 }

@@ -3,13 +3,11 @@
 ghost use Rattle.std.specs.Prelude.{IsFalse};
 ghost use Rattle.ttp_model.specs.declared.step.Step.TheVariants.{OrdWindow};
 ghost use Rattle.tt_infer.specs.Setting.{TakesOf};
-ghost use Rattle.tt_infer.specs.Known.{Fits};
+ghost use Rattle.sought_plans.specs.Known.{Fits};
 
 use crate::fault::StepFault;
 use crate::indices::are_pair;
-use crate::known::Known;
-use crate::setting::Setting;
-use crate::times::least_end;
+use sought_plans::{Known, Setting, least_end};
 
 /// A process goes before another of its node where the two together would end too late the other
 /// way round.

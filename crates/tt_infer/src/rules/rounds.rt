@@ -3,13 +3,11 @@
 ghost use Rattle.std.specs.Prelude.{IsFalse};
 ghost use Rattle.ttp_model.specs.declared.step.Step.TheVariants.{LoSend, HiArrive};
 ghost use Rattle.tt_infer.specs.Setting.{TakesOf};
-ghost use Rattle.tt_infer.specs.Known.{Fits};
+ghost use Rattle.sought_plans.specs.Known.{Fits};
 
 use crate::fault::StepFault;
 use crate::indices::receives;
-use crate::known::Known;
-use crate::setting::Setting;
-use crate::times::least_ready;
+use sought_plans::{Known, Setting, least_ready};
 
 /// A message is sent in the first round whose slot may begin once it can be copied out, or later.
 pub fn lo_send(known: &mut Known, setting: &Setting, m: u32) -> Result<(), StepFault>

@@ -3,13 +3,11 @@
 ghost use Rattle.std.specs.Prelude.{IsFalse};
 ghost use Rattle.ttp_model.specs.declared.step.Step.TheVariants.{EsRelease, EsLink, EsBefore, EsArrive, EsMessage};
 ghost use Rattle.tt_infer.specs.Setting.{TakesOf};
-ghost use Rattle.tt_infer.specs.Known.{Fits};
+ghost use Rattle.sought_plans.specs.Known.{Fits};
 
 use crate::fault::StepFault;
 use crate::indices::{are_pair, receives};
-use crate::known::Known;
-use crate::setting::Setting;
-use crate::times::{least_end, least_ready};
+use sought_plans::{Known, Setting, least_end, least_ready};
 
 /// A process starts at its release or later.
 pub fn es_release(known: &mut Known, setting: &Setting, p: u32) -> Result<(), StepFault>

@@ -2,8 +2,8 @@ use Rattle.std.proofs.Common.{arith, refl, ap, sym, ◌∙◌, Ok, IsFalse}
 use Rattle.std.proofs.lemmas.Result.{err_from_is_err_and}
 use Rattle.tt_infer.specs.Facts.{Facts}
 use Rattle.path_bounds.specs.declared.reached.Reached.TheVariants.{Closed, At}
-use Rattle.path_bounds.specs.Journal.{Journal}
-use Rattle.path_bounds.proofs.Counts.{appended_of, about_of}
+use Rattle.step_logs.specs.Journal.{Journal}
+use Rattle.path_bounds.proofs.Appended.{appended_of, about_of}
 use Rattle.path_bounds.proofs.propagation.propagate.Goals as goal
 
 pub reach-done-requires-clause-begins : goal.reach-done-requires-clause-begins

@@ -1,4 +1,4 @@
-use Rattle.std.proofs.Common.{◌≡◌, ◌+◌, ◌∙◌, Bool, true, false, not, ap, drop, refl, sym, rules, arith}
+use Rattle.std.proofs.Common.{◌≡◌, ◌+◌, ◌∙◌, Bool, true, false, not, ap, drop, length, refl, sym, rules, arith}
 use Rattle.std.proofs.lemmas.List.{drop-drop}
 use Rattle.command_streams.specs.declared.input.Stop.TheVariants.{AtEnd}
 use Rattle.std.proofs.lemmas.Bool.{false≢true}
@@ -7,6 +7,7 @@ use denote.Enum.Bare.{same_true}
 use Rattle.plan_commands.proofs.Splits.{mark_within, refused_front, unread_plan, outcome_all}
 use Rattle.plan_commands.proofs.Unread.{not_unread}
 use Rattle.plan_commands.proofs.bundle.verified_of_taken.Goals as goal
+use Rattle.plan_commands.proofs.bundle.verified_of_taken.Goals.{then-ne-via-then-ne, then-ne-via-else-ne+then-plan-gt-PLAN_LIMIT}
 
 not_false : (b : Bool) → false ≡ not b → b ≡ true
 not_false true is = refl
@@ -40,3 +41,14 @@ returns-clause-judged c = λ bundle is_taken.
 
 pub returns-clause-unread : goal.returns-clause-unread
 returns-clause-unread c = not_unread _ _ c.verified_of_text.ensures.later
+
+pub returns-then-ne-clause-whole : goal.returns-then-ne-clause-whole
+returns-then-ne-clause-whole c = λ whole.
+    let first = rw c.as_slice-bytes.ensures.value at c.in-Some.ensures in
+    let rest : c.split_at.result.1.now ≡ drop c.in-Some.at c.args.taken.now.bytes.items = c.split_at.ensures.back ∙ ap (drop c.in-Some.at) c.as_slice-bytes.ensures.value in
+    let plan : c.split_at-2.result.1.now ≡ drop (c.in-Some.at + 3) c.args.taken.now.bytes.items = c.split_at-2.ensures.back ∙ ap (drop 3) rest ∙ drop-drop 3 c.in-Some.at c.args.taken.now.bytes.items in
+    let few = whole.plan c.in-Some.at first in
+    elim c.then-ne.branch [
+      | then-ne-via-then-ne w ↦ false≢true (sym (rw whole.ended at c.ne.ensures) ∙ w.if-ne.true)
+      | then-ne-via-else-ne+then-plan-gt-PLAN_LIMIT w ↦ absurd (omega (arith, few, ap length plan, w.if-plan-gt-PLAN_LIMIT.true))
+    ]

@@ -1,6 +1,6 @@
 use Rattle.std.proofs.Common.{IfSome, sym, subst}
 use Rattle.certificate.specs.Cert.{Cert}
-use Rattle.cert_check.specs.Proofs.{Proves}
+use Rattle.tree_check.specs.Proofs.{Proves}
 use Rattle.command_streams.specs.declared.ending.Fault.{Fault}
 use Rattle.command_streams.specs.Endings.{IsNotOfTexts}
 use Rattle.plan_commands.specs.Certified.{HasCertificate, IsCertificateFault}

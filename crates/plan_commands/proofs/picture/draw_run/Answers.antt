@@ -4,7 +4,7 @@ use Rattle.command_streams.specs.Outcomes.{OnDone}
 use Rattle.plan_commands.specs.Drawings.{IsDrawRefused, IsPictureText}
 use Rattle.plan_commands.specs.Verdicts.{IsTold, IsVerified}
 use Rattle.plan_commands.proofs.Drawn.{too_large, undrawn}
-use Rattle.plan_commands.proofs.Tellings.{told_of_readers}
+use Rattle.plan_commands.proofs.Tellings.{memory_of_readers, told_of_readers}
 use Rattle.plan_commands.proofs.picture.draw_run.Goals as goal
 
 pub returns-in-Ok-print-clause-answer : goal.returns-in-Ok-print-clause-answer
@@ -23,3 +23,7 @@ returns-in-Some-clause-answer g c =
 pub returns-in-Err-clause-answer : goal.returns-in-Err-clause-answer
 returns-in-Err-clause-answer g c =
     undrawn c.args.shown (λ instance plan. OnDone (IsTold (IsVerified instance plan) (IsPictureText c.args.width c.args.shown))) _ _ _ c.in-Err.fault c.in-Err.ensures.judged
+
+pub returns-clause-answer : goal.returns-clause-answer
+returns-clause-answer g c =
+    memory_of_readers (λ instance plan. OnDone (IsTold (IsVerified instance plan) (IsPictureText c.args.width c.args.shown))) (IsDrawRefused c.args.shown) (λ _ _. tt) _ _ _

@@ -1,4 +1,4 @@
-use Rattle.planner.specs.Searching.{AreClosed}
+use Rattle.planner.specs.Closing.{AreClosed}
 use Rattle.planner.proofs.closing.close_all.Given as goal
 
 abbrev pub invariant-loop-task : goal.invariant-loop-task

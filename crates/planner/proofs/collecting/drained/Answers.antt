@@ -2,9 +2,9 @@ use Rattle.std.proofs.Common.{◌++◌, ◌∷◌, [], List, All, refl, sym, ap,
 use Rattle.std.proofs.lemmas.List.{append-nil}
 use Rattle.std.proofs.lemmas.List.Elements.{All-push}
 use Rattle.std.proofs.lemmas.List.Sorted.{IsPermutation-refl, IsPermutation-trans, IsPermutation-append_right}
-use Rattle.branch_tree.specs.Task.{Task, IsTask}
+use Rattle.subtree_tasks.specs.Task.{Task, IsTask}
 use Rattle.steal_pool.specs.Drained.{taken_there}
-use Rattle.planner.proofs.Searching.{first_is}
+use Rattle.search_turns.proofs.Searching.{first_is}
 use Rattle.planner.proofs.Collected.{one_drained}
 use Rattle.planner.proofs.collecting.drained.Goals as goal
 

@@ -1,6 +1,6 @@
 use Rattle.std.proofs.Common.{◌≡◌, ◌++◌, List}
 use Rattle.std.specs.Prelude.{All, IsPermutation}
-use Rattle.branch_tree.specs.Task.{Task, IsTask}
+use Rattle.subtree_tasks.specs.Task.{Task, IsTask}
 use Rattle.steal_pool.specs.Drained.{left_there, pushed_there, taken_there}
 use Rattle.planner.proofs.collecting.drained.Given as goal
 

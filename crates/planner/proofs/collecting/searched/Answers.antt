@@ -3,12 +3,12 @@ use Rattle.std.specs.List.Sorted.{IsPermutation}
 use Rattle.std.proofs.lemmas.List.{length-map}
 use Rattle.ttp_model.specs.Instance.{Instance}
 use Rattle.ttp_model.specs.Rules.{IsInstance}
-use Rattle.branch_tree.specs.Task.{root_task}
+use Rattle.subtree_tasks.specs.Task.{root_task}
 use Rattle.incumbent.specs.Watch.{offers, out_count, IsOpening}
 use Rattle.steal_pool.specs.declared.hand.Hand.{Hand}
 use Rattle.steal_pool.specs.Hand.{all_pushed, all_taken, IsPool}
 use Rattle.planner.specs.declared.crew.Job.{Job}
-use Rattle.planner.specs.Searched.{IsFound}
+use Rattle.search_turns.specs.Searching.{IsFound}
 use Rattle.planner.specs.Crew.{hands_of, told}
 use Rattle.planner.proofs.Crews.{nobody_yet}
 use Rattle.planner.proofs.Reports.{watches_of}

@@ -1,7 +1,7 @@
 use Rattle.std.proofs.Common.{List, [], sym, subst}
-use Rattle.branch_tree.specs.declared.piece.Piece.{Piece}
-use Rattle.branch_tree.specs.Account.{IsWholeTree}
-use Rattle.planner.specs.Gathering.{AreShallow, HaveGoals, IsGathered}
+use Rattle.subtree_tasks.specs.declared.piece.Piece.{Piece}
+use Rattle.subtree_tasks.specs.Account.{IsWholeTree}
+use Rattle.tree_gathering.specs.Gathering.{AreShallow, HaveGoals, IsGathered}
 use Rattle.planner.proofs.Ending.{end_shallow, end_whole, end_goals, end_low, ended}
 use Rattle.planner.proofs.Searched.{search_answers}
 use Rattle.planner.proofs.solving.concluded.Goals as goal

@@ -1,5 +1,5 @@
 use Rattle.std.proofs.Common.{subst}
-use Rattle.planner.specs.Gathering.{AreShallow}
+use Rattle.tree_gathering.specs.Gathering.{AreShallow}
 use Rattle.search_tests.proofs.gathering.gathers.Goals as goal
 
 pub gather-requires : goal.gather-requires

@@ -1,4 +1,4 @@
-use Rattle.tt_infer.specs.Known.{first_facts}
+use Rattle.sought_plans.specs.Known.{first_facts}
 use Rattle.tt_infer.proofs.Leaves.{leaf_leaves_none, fault-no_Lead}
 use Rattle.tt_infer.proofs.laws.leaves_rule_out.Goals as goal
 

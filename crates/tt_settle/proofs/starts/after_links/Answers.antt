@@ -1,22 +1,27 @@
-use Rattle.std.proofs.Common.{◌∙◌, arith, length, ap, sym}
+use Rattle.std.proofs.Common.{ℕ, length, slice_index, arith}
+use Rattle.ttp_model.specs.Network.{leads_to}
+use Rattle.ttp_model.proofs.Raising.{raised_none, raised_more}
+use Rattle.ttp_model.proofs.Indices.{raised_listed}
 use Rattle.tt_settle.specs.Reasons.{LeadsTo, link_end}
-use Rattle.ttp_model.proofs.Raising.{raised_same, raised_more, raised_all}
-use Rattle.ttp_model.specs.declared.parts.Link.{Link}
+use Rattle.tt_settle.proofs.Listed.{listed_leads, leads_is_listed}
 use Rattle.tt_settle.proofs.starts.after_links.Goals as goal
-use Rattle.tt_settle.proofs.starts.after_links.Goals.{then-link-p, else-link-p}
+
+pub loop-l-init : goal.loop-l-init
+loop-l-init c = record { within = omega arith; raised = raised_none _ _ _ }
 
 pub loop-l-preserved : goal.loop-l-preserved
 loop-l-preserved c =
-    let P = LeadsTo c.args.instance.now c.args.p in
-    let f = link_end c.args.instance.now c.args.plan.now in
-    elim c.if-link-p.branch [
-      | then-link-p w ↦
-          let leads : P c.loop-l.l = ap (λ (k : Link). k.after) (sym c.link_at-link.ensures.value) ∙ w.if-link-p.true in
-          rw w.time-is (rw w.max-time.ensures (rw (w.end_of.ensures.value, c.link_at-link.ensures.value) (raised_more P f c.args.floor c.loop-l.l c.loop-l.time c.loop-l.invariant leads)))
-      | else-link-p w ↦
-          rw w.time-is (raised_same P f c.args.floor c.loop-l.l c.loop-l.time c.loop-l.invariant (λ leads. absurd (w.if-link-p.false (ap (λ (k : Link). k.after) c.link_at-link.ensures.value ∙ leads))))
-    ]
+    let i = c.args.instance.now in
+    let xs = c.links_to-l-items.result.now in
+    let P = λ (j : ℕ). LeadsTo i c.args.p (slice_index xs j) in
+    let f = λ (j : ℕ). link_end i c.args.plan.now (slice_index xs j) in
+    let leads = listed_leads i c.args.p c.loop-l.l-index xs c.links_to-l-items.ensures.value c.loop-l-test.true in
+    record {
+      within = omega (arith, c.loop-l-test.true);
+      raised = rw (c.max-time.ensures, c.end_of.ensures.value, c.link_at-link.ensures.value) (raised_more P f c.args.floor c.loop-l.l-index c.loop-l.time c.loop-l.invariant.raised leads);
+    }
 
 pub returns : goal.returns
 returns c =
-    raised_all (LeadsTo c.args.instance.now c.args.p) (link_end c.args.instance.now c.args.plan.now) c.args.floor (length c.args.instance.now.links) c.loop-l.l c.loop-l.time (omega (arith, c.loop-l.auto.l-end, c.loop-l-test.false, ap length c.links-l-end.ensures.value)) c.loop-l.invariant
+    let i = c.args.instance.now in
+    raised_listed (LeadsTo i c.args.p) (link_end i c.args.plan.now) c.args.floor (leads_to i c.args.p) (length i.links) c.loop-l.time c.loop-l.l-index _ (λ l _. leads_is_listed i c.args.p l) c.links_to-l-items.ensures.value c.loop-l.invariant.within c.loop-l-test.false c.loop-l.invariant.raised

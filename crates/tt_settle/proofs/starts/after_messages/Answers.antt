@@ -1,20 +1,27 @@
-use Rattle.std.proofs.Common.{ap, subst, sym, Contains}
-use Rattle.ttp_model.specs.declared.parts.Message.{Message}
+use Rattle.std.proofs.Common.{ℕ, length, slice_index, arith}
+use Rattle.ttp_model.specs.Network.{is_received_by}
+use Rattle.ttp_model.proofs.Raising.{raised_none, raised_more}
+use Rattle.ttp_model.proofs.Indices.{raised_listed}
 use Rattle.tt_settle.specs.Reasons.{Receives, arrival}
-use Rattle.ttp_model.proofs.Raising.{raised_same, raised_more}
-use Rattle.std.proofs.lemmas.Bool.{both_ways}
+use Rattle.tt_settle.proofs.Listed.{listed_is_received, received_is_listed}
 use Rattle.tt_settle.proofs.starts.after_messages.Goals as goal
-use Rattle.tt_settle.proofs.starts.after_messages.Goals.{then-contains, else-contains}
+
+pub loop-m-init : goal.loop-m-init
+loop-m-init c = record { within = omega arith; raised = raised_none _ _ _ }
 
 pub loop-m-preserved : goal.loop-m-preserved
 loop-m-preserved c =
-    let P = Receives c.args.instance.now c.args.p in
-    let f = arrival c.args.instance.now c.args.plan.now in
-    let list = ap (λ (k : Message). k.receivers) c.message_at.ensures.value in
-    elim c.if-contains.branch [
-      | then-contains w ↦
-          let receives : P c.loop-m.m = subst (λ xs. Contains xs c.args.p) list (c.contains.ensures.0 w.if-contains.true) in
-          rw w.time-is (rw w.max-time.ensures (rw w.arrival_of.ensures (raised_more P f c.args.floor c.loop-m.m c.loop-m.time c.loop-m.invariant receives)))
-      | else-contains w ↦
-          rw w.time-is (raised_same P f c.args.floor c.loop-m.m c.loop-m.time c.loop-m.invariant (λ receives. absurd (both_ways _ w.if-contains.false (c.contains.ensures.1 (subst (λ xs. Contains xs c.args.p) (sym list) receives)))))
-    ]
+    let i = c.args.instance.now in
+    let xs = c.received_by-m-items.result.now in
+    let P = λ (j : ℕ). Receives i c.args.p (slice_index xs j) in
+    let f = λ (j : ℕ). arrival i c.args.plan.now (slice_index xs j) in
+    let receives = listed_is_received i c.args.p c.loop-m.m-index xs c.received_by-m-items.ensures.value c.loop-m-test.true in
+    record {
+      within = omega (arith, c.loop-m-test.true);
+      raised = rw (c.max-time.ensures, c.arrival_of.ensures) (raised_more P f c.args.floor c.loop-m.m-index c.loop-m.time c.loop-m.invariant.raised receives);
+    }
+
+pub returns : goal.returns
+returns c =
+    let i = c.args.instance.now in
+    raised_listed (Receives i c.args.p) (arrival i c.args.plan.now) c.args.floor (is_received_by i c.args.p) (length i.messages) c.loop-m.time c.loop-m.m-index _ (λ m _. received_is_listed i c.args.p m) c.received_by-m-items.ensures.value c.loop-m.invariant.within c.loop-m-test.false c.loop-m.invariant.raised

@@ -1,6 +1,7 @@
 use Rattle.std.proofs.Common.{subst, ◌∙◌}
 use Rattle.tt_choice.specs.Choice.{IsChoice}
-use Rattle.tt_infer.specs.Setting.{Setting, inference}
+use Rattle.sought_plans.specs.Setting.{Setting}
+use Rattle.tt_infer.specs.Setting.{inference}
 use Rattle.tt_infer.proofs.Supposed.{supposed_inference}
 use Rattle.tt_infer.proofs.facts.Facts.supposing.Goals as goal
 

@@ -1,5 +1,5 @@
 use Rattle.std.proofs.Common.{ℕ, ◌+◌, ◌<◌, slice_index}
-use Rattle.tt_infer.specs.Premises.{IsAhead}
+use Rattle.sought_plans.specs.Premises.{IsAhead}
 use Rattle.tt_infer.proofs.rules.closers.is_ring.Given as goal
 
 abbrev pub invariant-loop-k : goal.invariant-loop-k

@@ -1,7 +1,7 @@
 use Rattle.std.proofs.Common.{◌≡◌, ◌+◌, length, arith, ap, ◌∙◌}
 use Rattle.ttp_model.specs.declared.parts.Process.{Process}
-use Rattle.tt_infer.specs.Conclusions.{EndsUntil}
-use Rattle.tt_infer.specs.Premises.{wcet_of}
+use Rattle.sought_plans.specs.Conclusions.{EndsUntil}
+use Rattle.sought_plans.specs.Premises.{wcet_of}
 use Rattle.tt_infer.proofs.rules.dominance.us_settled.Goals as goal
 
 pub returns : goal.returns

@@ -1,5 +1,5 @@
 use Rattle.std.proofs.Common.{refl}
-use Rattle.tt_infer.specs.Conclusions.{NothingLeft}
+use Rattle.sought_plans.specs.Conclusions.{NothingLeft}
 use Rattle.tt_infer.proofs.rules.dominance.x_silent.Goals as goal
 
 pub returns : goal.returns

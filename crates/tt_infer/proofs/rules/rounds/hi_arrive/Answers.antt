@@ -1,8 +1,8 @@
 use Rattle.std.proofs.Common.{arith, ap, refl}
 use Rattle.ttp_model.specs.declared.parts.Cluster.{Cluster}
 use Rattle.ttp_model.specs.declared.parts.Process.{Process}
-use Rattle.tt_infer.specs.Conclusions.{SentBefore}
-use Rattle.tt_infer.specs.Premises.{AreChances}
+use Rattle.sought_plans.specs.Conclusions.{SentBefore}
+use Rattle.sought_plans.specs.Premises.{AreChances}
 use Rattle.tt_infer.proofs.rules.rounds.hi_arrive.Goals as goal
 
 pub returns : goal.returns

@@ -1,6 +1,6 @@
 use Rattle.std.proofs.Common.{arith, ap, length, refl}
-use Rattle.tt_infer.specs.Conclusions.{SentFrom}
-use Rattle.tt_infer.specs.Premises.{IsFirstChance}
+use Rattle.sought_plans.specs.Conclusions.{SentFrom}
+use Rattle.sought_plans.specs.Premises.{IsFirstChance}
 use Rattle.tt_infer.proofs.rules.rounds.lo_send.Goals as goal
 
 pub returns : goal.returns

@@ -1,0 +1,23 @@
+use Rattle.std.proofs.Common.{List, Ok, subst}
+use Rattle.std.proofs.lemmas.List.Elements.{All-push}
+use Rattle.held_leaves.specs.declared.leaves.HeldLeaf.{HeldLeaf}
+use Rattle.cert_check.specs.Waiting.{Judges, RunCloses, Waits}
+use Rattle.cert_check.proofs.Runs.{run_of}
+use Rattle.cert_check.proofs.judge.Judge.closed_runs.Goals as goal
+
+pub run-requires-clause-waits : goal.run-requires-clause-waits
+run-requires-clause-waits g c = rw c.run_at.ensures (run_of (Waits c.args.self.now.instance.now) c.fetch_add-place.result c.args.leaves.now c.requires)
+
+pub returns-in-Err : goal.returns-in-Err
+returns-in-Err g c = rw c.reserve.ensures.items c.loop.invariant.closed
+
+pub loop-preserved : goal.loop-preserved
+loop-preserved g c =
+    let i = c.args.self.now.instance.now in
+    let low = c.args.self.now.low in
+    let place = c.fetch_add-place.result in
+    let closes : RunCloses i low c.args.leaves.now place = subst (λ (run : List HeldLeaf). Judges i low run (Ok tt)) c.run_at.ensures c.in-Ok-run.ensures.ok in
+    record {
+      of = c.in-Ok-run.ensures.of;
+      closed = rw (c.push_reserved.ensures.items, c.reserve.ensures.items) (All-push (RunCloses i low c.args.leaves.now) c.loop.closed.items place c.loop.invariant.closed closes);
+    }

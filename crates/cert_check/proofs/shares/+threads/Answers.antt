@@ -1,8 +1,0 @@
-use Rattle.std.proofs.Common.{rules}
-use Rattle.cert_check.specs.Waiting.{RunCloses}
-use Rattle.cert_check.proofs.ClosedRuns.{all_of_both}
-use Rattle.cert_check.proofs.shares.+threads.Goals as goal
-
-pub returns : goal.returns
-returns g t c =
-    all_of_both (RunCloses c.args.instance.now c.args.low c.args.held.now) c.join_mut-places.result.0.items c.join_mut-places.result.1.items c.places_of_both.result.items (search rules) (search rules) c.places_of_both.ensures

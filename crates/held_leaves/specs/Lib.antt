@@ -1,0 +1,1 @@
+pub use Rattle.tt_choice.specs.Choice

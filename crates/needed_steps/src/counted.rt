@@ -1,0 +1,115 @@
+//! Which facts count as what a step rests on?
+
+use step_reads::{Fact, add_reads, sender};
+use tt_infer::Facts;
+use ttp_model::{Instance, MemoryFault, Step};
+
+/// Adds the facts that a step rests on, where these facts are known when the last step is taken: those that it reads, and of rings,
+/// frames, messages that could go out earlier and settled plans more, by which closers are weighed.
+pub fn add_counted(facts: &Facts, step: &Step, counted: &mut Vec<Fact>) -> Result<(), MemoryFault> {
+    match step {
+        Step::XCycle(ring) => add_orders(ring.as_slice(), counted),
+        Step::XFrames(n, a, b) => add_frames(facts, *n, *a, *b, counted),
+        Step::XLate(m, _) => add_late(facts.instance(), *m, counted),
+        Step::UsSettled(p) => add_settled(facts, *p, counted),
+        Step::EsRelease(_)
+        | Step::EsLink(_)
+        | Step::EsBefore(_, _)
+        | Step::EsArrive(_, _)
+        | Step::EsMessage(_, _)
+        | Step::LoSend(_)
+        | Step::LeOwn(_)
+        | Step::LeLink(_)
+        | Step::LeBefore(_, _)
+        | Step::LeMessage(_, _)
+        | Step::LeSend(_)
+        | Step::HiArrive(_, _)
+        | Step::OrdWindow(_, _)
+        | Step::OrdTwin(_, _)
+        | Step::XWindow(_)
+        | Step::XRound(_)
+        | Step::XLoad(_, _, _)
+        | Step::XFrame(_)
+        | Step::XSilent(_, _) => add_reads(facts, step, counted),
+    }
+}
+
+/// Adds both rounds of message `m`.
+fn add_rounds(m: u32, counted: &mut Vec<Fact>) -> Result<(), MemoryFault> {
+    counted.push(Fact::FirstRound(m))?;
+    counted.push(Fact::LateRound(m))?;
+    Ok(())
+}
+
+/// Adds the orders of a ring: of each process before the next, and of the last before the first.
+fn add_orders(ring: &[u32], counted: &mut Vec<Fact>) -> Result<(), MemoryFault> {
+    let Some(last) = ring.last() else {
+        return Ok(());
+    };
+    let mut before = *last;
+    for p in ring {
+        counted.push(Fact::Order(before, *p))?;
+        before = *p;
+    }
+    Ok(())
+}
+
+/// Adds the rounds of the messages of node `n` that are sent from round `a` on and before `b`.
+fn add_frames(
+    facts: &Facts,
+    n: u32,
+    a: u32,
+    b: u32,
+    counted: &mut Vec<Fact>,
+) -> Result<(), MemoryFault> {
+    for m in facts.instance().messages_of(n) {
+        if facts.lo(*m) >= a && facts.top(*m) <= b {
+            add_rounds(*m, counted)?;
+        }
+    }
+    Ok(())
+}
+
+/// Adds when the sender of message `m` ends at most, and the rounds of all messages of its node.
+fn add_late(instance: &Instance, m: u32, counted: &mut Vec<Fact>) -> Result<(), MemoryFault> {
+    counted.push(Fact::End(sender(instance, m)))?;
+    if m as usize >= instance.messages().len() {
+        return Ok(());
+    }
+    for other in instance.messages_of(instance.source_of(m as usize)) {
+        add_rounds(*other, counted)?;
+    }
+    Ok(())
+}
+
+/// Adds what keeps process `p` from running later: the ends of the other processes of its node, or
+/// that it goes before them, and the rounds of its messages.
+fn add_settled(facts: &Facts, p: u32, counted: &mut Vec<Fact>) -> Result<(), MemoryFault> {
+    let instance = facts.instance();
+    if p as usize >= instance.processes().len() {
+        return Ok(());
+    }
+    for x in instance.processes_on(instance.node_of(p as usize)) {
+        if *x != p {
+            counted.push(kept_back(facts, p, *x))?;
+        }
+    }
+    add_received(instance, p, counted)
+}
+
+/// That process `p` goes before `x` where this is known, and else when `x` ends at most.
+fn kept_back(facts: &Facts, p: u32, x: u32) -> Fact {
+    if facts.bef(p, x) {
+        Fact::Order(p, x)
+    } else {
+        Fact::End(x)
+    }
+}
+
+/// Adds the first rounds that are too late for the messages to process `p`.
+fn add_received(instance: &Instance, p: u32, counted: &mut Vec<Fact>) -> Result<(), MemoryFault> {
+    for m in instance.received_by(p) {
+        counted.push(Fact::LateRound(*m))?;
+    }
+    Ok(())
+}

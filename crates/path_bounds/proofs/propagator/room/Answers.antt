@@ -1,4 +1,0 @@
-use Rattle.path_bounds.proofs.propagator.room.Goals as goal
-
-pub new-requires : goal.new-requires
-new-requires c = rw (c.instance.ensures.value, c.choice.ensures.value) c.choice.ensures.inference.choice

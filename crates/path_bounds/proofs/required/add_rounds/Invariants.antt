@@ -1,9 +1,0 @@
-use Rattle.std.proofs.Common.{ℕ, ◌<◌}
-use Rattle.path_bounds.specs.Required.{KeepsSteps, HasRoundSteps}
-use Rattle.path_bounds.proofs.required.add_rounds.Given as goal
-
-abbrev pub invariant-loop-m : goal.invariant-loop-m
-invariant-loop-m l = record {
-  kept : KeepsSteps l.initial.steps.items l.steps.items;
-  added : (k : ℕ) → k < l.m → HasRoundSteps l.instance l.choice l.steps.items k;
-}

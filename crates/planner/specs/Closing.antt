@@ -1,0 +1,23 @@
+-- What closes the tasks that a search leaves. Only private contracts ask for it.
+use Rattle.std.specs.Prelude.{◌≡◌, ℕ, ◌<◌, ◌⊎◌, List, All, Contains}
+use Rattle.ttp_model.specs.Instance.{Instance}
+use Rattle.subtree_tasks.specs.declared.piece.Piece.{Piece}
+use Rattle.subtree_tasks.specs.Task.{Task}
+use Rattle.subtree_tasks.specs.Pieces.{names_of}
+use Rattle.branch_tree.specs.Work.{IsLeftClosed}
+use Rattle.tree_gathering.specs.Gathering.{HaveGoals}
+use Rattle.search_turns.specs.Searching.{task_names}
+use Rattle.planner.specs.Searched.{ReachesGoal}
+
+-- a piece closes one of these tasks
+pub record ClosesOne (i : Instance) (tasks : List Task) (top : ℕ) (piece : Piece) : Type 0 where
+  pub task : Task
+  pub there : Contains tasks task
+  pub is : IsLeftClosed i task top piece
+
+-- leaves close these tasks, in order; the least of the top and their goals
+pub record AreClosed (i : Instance) (tasks : List Task) (top : ℕ) (closed : List Piece) (low : ℕ) : Type 0 where
+  pub names : names_of closed ≡ task_names tasks
+  pub each : All (ClosesOne i tasks top) closed
+  pub goals : HaveGoals low closed
+  pub least : (low ≡ top) ⊎ ((low < top) × ReachesGoal low closed)

@@ -1,0 +1,29 @@
+//! What does the end of a search say?
+
+ghost use Rattle.std.specs.Prelude.{◌≡◌, ◌≤◌};
+ghost use Rattle.ttp_model.specs.Instance.{Instance};
+ghost use Rattle.search_turns.specs.Searching.{limit_of};
+ghost use Rattle.search_turns.specs.Ends.{IsAnswerOf};
+
+use crate::outcome::{Outcome, Why};
+use certificate::Cert;
+use ttp_model::Plan;
+
+/// What a bound says, where the best plan has a delay of `limit` ticks.
+pub fn answer(why: Why, best: Option<(Plan, u64)>, limit: u32, low: u32, cert: Cert) -> Outcome
+    ensures { (i : Instance) → limit ≡ limit_of i best → low ≤ limit
+        → IsAnswerOf i why best low cert result }
+{
+    if low < limit {
+        return Outcome::Stopped {
+            why,
+            low,
+            best,
+            cert,
+        };
+    }
+    match best {
+        Some((plan, delay)) => Outcome::Optimal { plan, delay, cert },
+        None => Outcome::Infeasible { cert },
+    }
+}

@@ -1,0 +1,10 @@
+//! A search as it stands, the turns that one thread makes of what is open in it, and what its end says.
+#![tactic(auto)]
+
+mod ends;
+mod outcome;
+mod search;
+
+pub use ends::answer;
+pub use outcome::{Options, Outcome, SolveFault, Why};
+pub use search::{Search, limit};

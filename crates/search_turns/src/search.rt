@@ -1,0 +1,129 @@
+//! The caller's part of a search: it works what is left of the tree.
+
+ghost use Rattle.std.specs.Prelude.{◌≡◌, ◌≤◌, ◌<◌, ◌+◌, ◌++◌, OnOk, cond, length, vec_len, vec_capacity};
+ghost use Rattle.ttp_model.specs.declared.limits.TheConstants.{MOST_NODES};
+ghost use Rattle.branch_tree.specs.Workbench.{IsWorkbenchOf};
+ghost use Rattle.search_turns.specs.Searching.{limit_of, IsFound, IsWorkedOut, IsSearching};
+
+use crate::outcome::Why;
+use branch_tree::{Piece, Task, Workbench, Worked, work_on};
+use certificate::{Branch, Node};
+use std::alloc::Global;
+use ttp_model::{Instance, MOST_NODES, MemoryFault, Plan};
+
+/// What is worked, room for its nodes, and what is still open; the best plan that was found, settled, with its delay in ticks.
+#[derive(Debug, Drop)]
+pub struct Search {
+    pub pieces: Vec<Piece>,
+    pub room: Vec<Node>,
+    pub tasks: Vec<Task>,
+    /// How many of them needn't be worked, as far as was seen.
+    pub spared: usize,
+    pub best: Option<(Plan, u64)>,
+}
+
+/// The delay that has to be beaten.
+pub fn limit(instance: &Instance, best: &Option<(Plan, u64)>) -> u32
+    requires { IsFound instance.now best.now }
+    ensures { result ≡ limit_of instance.now best.now }
+{
+    let _nodes = instance.nodes();
+    match best {
+        Some((_, delay)) => *delay as u32,
+        None => instance.past_horizon(),
+    }
+}
+
+/// Puts tasks behind those that are open, in the room that there is.
+fn open_all(pending: &mut Vec<Task>, tasks: Vec<Task>)
+    requires { vec_len pending.old + vec_len tasks ≤ vec_capacity pending.old }
+    ensures { pending.new.items ≡ pending.old.items ++ tasks.items }
+{
+    let mut tasks = tasks;
+    match pending.append(&mut tasks) {
+        Ok(()) => {}
+        Err(_) => unreachable!(),
+    }
+}
+
+impl Search {
+    /// Asks for room: in the list of pieces for one more, and for leaves of all that is open once it is made; beside it for the
+    /// nodes of all these; and in that of tasks for all that one of them can be split into.
+    fn make_room(&mut self) -> Result<(), MemoryFault>
+        ensures pieces { self.new.pieces.items ≡ self.old.pieces.items }
+        ensures tasks { self.new.tasks.items ≡ self.old.tasks.items }
+        ensures best { self.new.best ≡ self.old.best }
+        ensures one { OnOk result (vec_len self.new.pieces < vec_capacity self.new.pieces) }
+        ensures split { OnOk result (vec_len self.new.tasks + MOST_NODES ≤ vec_capacity self.new.tasks) }
+    {
+        let made = self.pieces.len();
+        let more = self.tasks.len() + MOST_NODES + 1;
+        self.pieces.reserve(more)?;
+        self.room.reserve(made + more)?;
+        self.tasks.reserve(MOST_NODES)?;
+        Ok(())
+    }
+
+    /// Works the newest task, where there is one, on from the last one: whether it was worked. Where memory is refused, it is
+    /// left.
+    fn turn<'a>(&mut self, alloc: Global, instance: &'a Instance, bench: &mut Workbench<'a>) -> bool
+        requires searching { IsSearching instance.now self.old.pieces.items self.old.tasks.items self.old.best }
+        requires bench { IsWorkbenchOf instance.now bench.old }
+        ensures searching { IsSearching instance.now self.new.pieces.items self.new.tasks.items self.new.best }
+        ensures one { length self.new.pieces.items ≡ length self.old.pieces.items + cond result 1 0 }
+        ensures bench { IsWorkbenchOf instance.now bench.new }
+    {
+        let _nodes = instance.nodes();
+        if self.make_room().is_err() {
+            return false;
+        }
+        let Some(task) = self.tasks.pop() else {
+            return false;
+        };
+        let goal = limit(instance, &self.best);
+        let Ok(name) = task.name().copy(alloc) else {
+            self.tasks.push_reserved(task);
+            return false;
+        };
+        match work_on(alloc, instance, bench, task, goal) {
+            Ok(Worked::Split(kind, tasks)) => {
+                let node = Node::Branch(Branch::new(kind, tasks.len() as u32));
+                open_all(&mut self.tasks, tasks);
+                self.pieces.push_reserved(Piece { name, node });
+                true
+            }
+            Ok(Worked::Closed(leaf)) => {
+                let node = Node::Leaf(leaf);
+                self.pieces.push_reserved(Piece { name, node });
+                true
+            }
+            Ok(Worked::Found(plan, delay, leaf)) => {
+                let node = Node::Leaf(leaf);
+                self.best = Some((plan, delay));
+                self.pieces.push_reserved(Piece { name, node });
+                true
+            }
+            Err((task, _)) => {
+                self.tasks.push_reserved(task);
+                false
+            }
+        }
+    }
+
+    /// Works tasks until `budget` pieces are made, or memory is refused. Why it ended, where tasks are left.
+    pub fn go(&mut self, alloc: Global, instance: &Instance, budget: u64) -> Why
+        requires searching { IsSearching instance.now self.old.pieces.items self.old.tasks.items self.old.best }
+        requires within { length self.old.pieces.items ≤ budget }
+        ensures searching { IsSearching instance.now self.new.pieces.items self.new.tasks.items self.new.best }
+        ensures within { length self.new.pieces.items ≤ budget }
+        ensures cause { IsWorkedOut budget self.new.pieces.items result }
+    {
+        let mut bench = Workbench::new();
+        for _turn in 0..budget - self.pieces.len() as u64 {
+            if !self.turn(alloc, instance, &mut bench) {
+                return Why::Memory;
+            }
+        }
+        Why::Budget
+    }
+}

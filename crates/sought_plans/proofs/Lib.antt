@@ -1,0 +1,5 @@
+pub mod Copies
+pub mod CodeSlots
+pub mod SlotsAfter
+pub mod Elsewhere
+pub mod GreatestWaits

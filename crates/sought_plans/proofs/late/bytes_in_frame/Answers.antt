@@ -1,0 +1,20 @@
+use Rattle.std.proofs.Common.{length, arith}
+use Rattle.std.proofs.lemmas.List.Sums.{sum_by_more}
+use Rattle.ttp_model.specs.Instance.{source_of}
+use Rattle.ttp_model.specs.Network.{is_message_of}
+use Rattle.ttp_model.proofs.Indices.{total_listed}
+use Rattle.sought_plans.specs.Dominance.{bytes_beside}
+use Rattle.sought_plans.proofs.Elsewhere.{bytes_beside_elsewhere}
+use Rattle.sought_plans.proofs.late.bytes_in_frame.Goals as goal
+
+pub loop-k-preserved : goal.loop-k-preserved
+loop-k-preserved c =
+    let more = sum_by_more (bytes_beside c.args.instance.now c.args.known.now c.args.m c.args.r) c.messages_of-k-items.result.now c.loop-k.k-index 0 c.loop-k-test.true in
+    (omega (arith, more, c.loop-k.invariant.0, c.bytes_beside-sum.ensures.value), omega (arith, c.loop-k.invariant.1, c.bytes_beside-sum.ensures.bound))
+
+pub returns : goal.returns
+returns c =
+    let i = c.args.instance.now in
+    let f = c.args.known.now in
+    let list = rw c.source_of.ensures.value at c.messages_of-k-items.ensures.value in
+    total_listed (bytes_beside i f c.args.m c.args.r) (is_message_of i (source_of c.args.instance.now c.args.m)) (length i.messages) _ c.loop-k.k-index c.loop-k.sum (bytes_beside_elsewhere i f c.args.m c.args.r) list c.loop-k-test.false c.loop-k.invariant.0

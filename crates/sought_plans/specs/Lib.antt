@@ -1,0 +1,10 @@
+pub mod Known
+pub mod Conclusions
+pub mod Premises
+pub mod Dominance
+pub mod Setting
+pub use Rattle.ttp_model.specs.Instance
+pub use Rattle.ttp_model.specs.Rules
+pub use Rattle.ttp_model.specs.Plans
+pub use Rattle.tt_choice.specs.Choice
+pub use Rattle.tt_choice.specs.Extremes

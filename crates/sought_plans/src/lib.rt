@@ -1,0 +1,18 @@
+//! Which plans are sought, what is known of them, and when their slots can be.
+#![tactic(auto)]
+
+mod ahead;
+mod known;
+mod late;
+mod rooms;
+mod setting;
+mod slots;
+mod times;
+mod wait;
+
+pub use ahead::{is_ahead, leads};
+pub use known::Known;
+pub use late::could_be_earlier;
+pub use setting::Setting;
+pub use times::{least_end, least_ready, most_start};
+pub use wait::greatest_wait;

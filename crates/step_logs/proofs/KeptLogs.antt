@@ -1,0 +1,167 @@
+-- Logs that go on after decisions.
+use Rattle.std.proofs.Common.{◌≡◌, ℕ, ◌<◌, ◌^◌, List, [], ◌∷◌, ◌++◌, length, slice_index_or, take, Option, None, Some, IsSome, option_to_list, IsTrue, IsFalse, arith, inl, inr, refl, ap, sym, subst, ◌∙◌}
+use Rattle.std.proofs.lemmas.Bool.{cases_lt, false≢true}
+use Rattle.std.proofs.lemmas.List.{length-append, take-append-le, get_or_append_left, get_or_push, take_all}
+use Rattle.ttp_model.specs.declared.plan.Plan.{Plan}
+use Rattle.ttp_model.specs.declared.step.Step.{Step}
+use Rattle.ttp_model.specs.Instance.{Instance}
+use Rattle.ttp_model.specs.Rules.{IsInstance}
+use Rattle.ttp_model.specs.Chains.{IsPathBound}
+use Rattle.tt_choice.specs.declared.decision.Decision.{Decision}
+use Rattle.tt_choice.specs.Choice.{Choice, IsChoice, IsComplete, bare}
+use Rattle.tt_choice.specs.Branches.{root_choice}
+use Rattle.tt_choice.specs.Decisions.{choice_after, IsOpenDecision, chosen}
+use Rattle.tt_choice.proofs.Decisions.{after_all-more, open-more, open-front}
+use Rattle.tt_choice.proofs.Trail.{IsChoice-keeping, bare-same, none_kept-after_all}
+use Rattle.sought_plans.specs.Known.{first_facts}
+use Rattle.tt_infer.specs.Facts.{Facts, AreFacts, after}
+use Rattle.tt_infer.specs.Leaves.{LeadSharply, ClosesLeaf}
+use Rattle.step_logs.specs.Journal.{Journal, Advances}
+use Rattle.step_logs.specs.PlansBelow.{IsPlanBelow}
+use Rattle.step_logs.specs.Propagator.{IsLog, first_log, FollowsFrom, Propagator, IsPropagation, Undoes}
+use Rattle.step_logs.proofs.Counts.{closes_log, closes_of}
+
+-- where a log that began without steps leads
+pub log_of : (i : Instance) (c : Choice) (goal : ℕ) (start end : Journal) → start ≡ record { facts = record { instance = i; choice = c; goal = goal; known = first_facts i c }; steps = [] } → Advances start end → IsChoice i c → (IsFalse end.facts.known.closed → (bound : ℕ) → IsPathBound i bound → bound < goal) → (IsComplete i c → IsFalse end.facts.known.closed → (plan : Plan) × IsPlanBelow i c goal plan) → IsLog i c goal end
+log_of i c goal start end begins advances ok above finds = record {
+  facts = advances.facts ∙ ap (λ (log : Journal). after log.facts end.facts.known) begins;
+  choice = ok;
+  lead = subst (λ (steps : List Step). LeadSharply i c goal (first_facts i c) steps end.facts.known) (sym steps) (rw begins at advances.lead);
+  above = above;
+  finds = finds;
+}
+  where
+    steps : end.steps ≡ advances.more
+    steps = advances.steps ∙ ap (λ (log : Journal). log.steps ++ advances.more) begins
+
+-- so after a decision on what these facts are about
+pub level_of : (s : Facts) (d : Decision) (i : Instance) (chosen_so_far c : Choice) (goal : ℕ) (first : Facts) (room : List Step) (start end : Journal) → i ≡ s.instance → chosen_so_far ≡ s.choice → c ≡ choice_after i chosen_so_far d → goal ≡ s.goal → start ≡ record { facts = first; steps = room } → first ≡ record { instance = i; choice = c; goal = goal; known = first_facts i c } → room ≡ [] → Advances start end → IsChoice i c → ((bound : ℕ) → IsPathBound s.instance bound → bound < s.goal) → (IsComplete i c → IsFalse end.facts.known.closed → (plan : Plan) × IsPlanBelow i c goal plan) → IsLog s.instance (choice_after s.instance s.choice d) s.goal end
+level_of s d i chosen_so_far c goal first room start end i_is chosen_is c_is goal_is start_is first_is room_is advances ok above finds =
+    let begins : start ≡ record { facts = record { instance = i; choice = c; goal = goal; known = first_facts i c }; steps = [] } = start_is ∙ (λ j. record { facts = first_is j; steps = room_is j }) in
+    let here : IsLog i c goal end = log_of i c goal start end begins advances ok (λ left bound is. omega (arith, above bound (subst (λ (k : Instance). IsPathBound k bound) i_is is), goal_is)) finds in
+    let same : c ≡ choice_after s.instance s.choice d = c_is ∙ (λ j. choice_after (i_is j) (chosen_is j) d) in
+    subst (λ (g : ℕ). IsLog s.instance (choice_after s.instance s.choice d) g end) goal_is
+    (subst (λ (x : Choice). IsLog s.instance x goal end) same
+    (subst (λ (k : Instance). IsLog k c goal end) i_is here))
+
+-- before any decision
+pub started : (i : Instance) (goal : ℕ) (log : Journal) → IsInstance i → IsLog i (root_choice i) goal log → IsPropagation (record { instance = i; goal = goal; decisions = []; earlier = []; current = log })
+started i goal log w is = record {
+  instance = w;
+  decisions = tt;
+  current = is;
+  count = refl;
+  earlier = λ k d h. absurd (omega (arith, h));
+}
+
+-- one decision more
+pub decides : (p : Propagator) (d : Decision) (log : Journal) → IsPropagation p → IsOpenDecision p.instance (chosen p.instance p.decisions) d → IsLog p.instance (choice_after p.instance (chosen p.instance p.decisions) d) p.goal log → IsPropagation (record p { decisions = p.decisions ++ d ∷ []; earlier = p.earlier ++ p.current ∷ []; current = log })
+decides p d log is fresh next = record {
+  instance = is.instance;
+  decisions = open-more p.instance (root_choice p.instance) p.decisions d is.decisions fresh;
+  current = rw (after_all-more p.instance (root_choice p.instance) p.decisions d) next;
+  count = omega (arith, length-append p.earlier (p.current ∷ []), length-append p.decisions (d ∷ []), is.count);
+  earlier = earlier;
+}
+  where
+    earlier : (k : ℕ) (other : Journal) → k < length (p.earlier ++ p.current ∷ []) → IsLog p.instance (chosen p.instance (take k (p.decisions ++ d ∷ []))) p.goal (slice_index_or (p.earlier ++ p.current ∷ []) k other)
+    earlier k other h = elim (cases_lt k (length p.earlier)) [
+      | inl below ↦
+          rw (get_or_append_left p.earlier (p.current ∷ []) other k below, take-append-le k p.decisions (d ∷ []) (omega (arith, below, is.count))) (is.earlier k other below)
+      | inr over ↦
+          let last : length p.earlier ≡ k = omega (arith, over, h, length-append p.earlier (p.current ∷ [])) in
+          rw (get_or_push p.earlier p.current other k last, take-append-le k p.decisions (d ∷ []) (omega (arith, last, is.count)), take_all k p.decisions (omega (arith, last, is.count))) is.current
+    ]
+
+-- one decision less
+pub undone : (p : Propagator) (ds : List Decision) (d : Decision) (logs : List Journal) (log : Journal) → IsPropagation p → p.decisions ≡ ds ++ d ∷ [] → p.earlier ≡ logs ++ log ∷ [] → IsPropagation (record p { decisions = ds; earlier = logs; current = log })
+undone p ds d logs log is all kept = record {
+  instance = is.instance;
+  decisions = open-front p.instance (root_choice p.instance) ds (d ∷ []) (rw all at is.decisions);
+  current = current;
+  count = count;
+  earlier = earlier;
+}
+  where
+    count : length logs ≡ length ds
+    count = omega (arith, is.count, ap length all, ap length kept, length-append logs (log ∷ []), length-append ds (d ∷ []))
+
+    logged : (k : ℕ) (other : Journal) → k < length (logs ++ log ∷ []) → IsLog p.instance (chosen p.instance (take k (ds ++ d ∷ []))) p.goal (slice_index_or (logs ++ log ∷ []) k other)
+    logged k other h = rw (kept, all) at is.earlier k other h
+
+    current : IsLog p.instance (chosen p.instance ds) p.goal log
+    current =
+        let taken : take (length logs) (ds ++ d ∷ []) ≡ ds = take-append-le (length logs) ds (d ∷ []) (omega (arith, count)) ∙ take_all (length logs) ds (omega (arith, count)) in
+        let last = logged (length logs) log (omega (arith, length-append logs (log ∷ []))) in
+        subst (λ (l : Journal). IsLog p.instance (chosen p.instance ds) p.goal l) (get_or_push logs log log (length logs) refl)
+        (subst (λ (xs : List Decision). IsLog p.instance (chosen p.instance xs) p.goal (slice_index_or (logs ++ log ∷ []) (length logs) log)) taken last)
+
+    earlier : (k : ℕ) (other : Journal) → k < length logs → IsLog p.instance (chosen p.instance (take k ds)) p.goal (slice_index_or logs k other)
+    earlier k other h =
+        let taken : take k (ds ++ d ∷ []) ≡ take k ds = take-append-le k ds (d ∷ []) (omega (arith, h, count)) in
+        let kept_at = logged k other (omega (arith, h, length-append logs (log ∷ []))) in
+        subst (λ (l : Journal). IsLog p.instance (chosen p.instance (take k ds)) p.goal l) (get_or_append_left logs (log ∷ []) other k h)
+        (subst (λ (xs : List Decision). IsLog p.instance (chosen p.instance xs) p.goal (slice_index_or (logs ++ log ∷ []) k other)) taken kept_at)
+
+pub undone_of : (p : Propagator) (ds : List Decision) (last : Option Decision) (logs : List Journal) (log : Journal) → IsPropagation p → IsSome last → p.decisions ≡ ds ++ option_to_list last → p.earlier ≡ logs ++ log ∷ [] → IsPropagation (record p { decisions = ds; earlier = logs; current = log })
+undone_of p ds None logs log is some all kept = absurd (false≢true some)
+undone_of p ds (Some d) logs log is some all kept = undone p ds d logs log is all kept
+
+pub undoes_of : (p q : Propagator) (last : Option Decision) → IsSome last → q.instance ≡ p.instance → q.goal ≡ p.goal → p.decisions ≡ q.decisions ++ option_to_list last → p.earlier ≡ q.earlier ++ q.current ∷ [] → Undoes p q
+undoes_of p q None some instance goal decisions earlier = absurd (false≢true some)
+undoes_of p q (Some d) some instance goal decisions earlier = record { instance = instance; goal = goal; last = d; decisions = decisions; earlier = earlier }
+
+-- what closes
+pub closes : (i : Instance) (c : Choice) (goal : ℕ) (log : Journal) → IsInstance i → IsLog i c goal log → IsTrue log.facts.known.closed → ClosesLeaf i c (record { goal = goal; steps = log.steps }) × (length log.steps < 2 ^ 32)
+closes i c goal log w is closed = closes_log i c w is.choice goal log.steps log.facts.known is.lead closed
+
+-- The same, as a body makes it.
+pub decides_of : (p : Propagator) (d : Decision) (ds : List Decision) (logs : List Journal) (before next current : Journal) → IsPropagation p → IsOpenDecision p.instance p.current.facts.choice d → ds ≡ p.decisions ++ d ∷ [] → logs ≡ p.earlier ++ before ∷ [] → before ≡ p.current → current ≡ next → IsLog p.current.facts.instance (choice_after p.current.facts.instance p.current.facts.choice d) p.current.facts.goal next → IsPropagation (record p { decisions = ds; earlier = logs; current = current })
+decides_of p d ds logs before next current is fresh ds_is logs_is before_is current_is log =
+    let at = is.current.facts in
+    let is_open : IsOpenDecision p.instance (chosen p.instance p.decisions) d = subst (λ (s : Facts). IsOpenDecision p.instance s.choice d) at fresh in
+    let here : IsLog p.instance (choice_after p.instance (chosen p.instance p.decisions) d) p.goal next = subst (λ (s : Facts). IsLog s.instance (choice_after s.instance s.choice d) s.goal next) at log in
+    let logged : logs ≡ p.earlier ++ p.current ∷ [] = logs_is ∙ ap (λ (l : Journal). p.earlier ++ l ∷ []) before_is in
+    subst (λ (xs : List Decision). IsPropagation (record p { decisions = xs; earlier = logs; current = current })) (sym ds_is)
+    (subst (λ (ls : List Journal). IsPropagation (record p { decisions = p.decisions ++ d ∷ []; earlier = ls; current = current })) (sym logged)
+    (subst (λ (l : Journal). IsPropagation (record p { decisions = p.decisions ++ d ∷ []; earlier = p.earlier ++ p.current ∷ []; current = l })) (sym current_is) (decides p d next is is_open here)))
+
+pub above_at : (p : Propagator) → IsPropagation p → IsFalse p.current.facts.known.closed → (bound : ℕ) → IsPathBound p.current.facts.instance bound → bound < p.current.facts.goal
+above_at p is left bound at =
+    let same = is.current.facts in
+    let here : bound < p.goal = is.current.above left bound (subst (λ (s : Facts). IsPathBound s.instance bound) same at) in
+    omega (arith, here, ap (λ (s : Facts). s.goal) same)
+
+pub started_of : (i : Instance) (goal : ℕ) (c : Choice) (first : Facts) (room : List Step) (start end : Journal) (ds : List Decision) (logs : List Journal) → IsInstance i → c ≡ root_choice i → start ≡ record { facts = first; steps = room } → first ≡ record { instance = i; choice = c; goal = goal; known = first_facts i c } → room ≡ [] → Advances start end → IsChoice i c → (IsFalse end.facts.known.closed → (bound : ℕ) → IsPathBound i bound → bound < start.facts.goal) → (IsComplete i c → IsFalse end.facts.known.closed → (plan : Plan) × IsPlanBelow i c start.facts.goal plan) → ds ≡ [] → logs ≡ [] → IsPropagation (record { instance = i; goal = goal; decisions = ds; earlier = logs; current = end })
+started_of i goal c first room start end ds logs w c_is start_is first_is room_is advances ok above finds ds_is logs_is =
+    let begins : start ≡ record { facts = record { instance = i; choice = c; goal = goal; known = first_facts i c }; steps = [] } = start_is ∙ (λ j. record { facts = first_is j; steps = room_is j }) in
+    let at : start.facts.goal ≡ goal = ap (λ (log : Journal). log.facts.goal) begins in
+    let here : IsLog i c goal end = log_of i c goal start end begins advances ok (λ left bound is. omega (arith, above left bound is, at)) (λ done left. subst (λ (g : ℕ). (plan : Plan) × IsPlanBelow i c g plan) at (finds done left)) in
+    subst (λ (xs : List Decision). IsPropagation (record { instance = i; goal = goal; decisions = xs; earlier = logs; current = end })) (sym ds_is)
+    (subst (λ (ls : List Journal). IsPropagation (record { instance = i; goal = goal; decisions = []; earlier = ls; current = end })) (sym logs_is)
+    (started i goal end w (subst (λ (x : Choice). IsLog i x goal end) c_is here)))
+
+-- a log that is kept follows from the first facts
+pub follows_at : (p : Propagator) → IsPropagation p → FollowsFrom p.current.facts.instance p.current.facts.choice p.current.facts.goal p.current
+follows_at p is =
+    let about : p.current.facts ≡ record { instance = p.instance; choice = chosen p.instance p.decisions; goal = p.goal; known = p.current.facts.known } = is.current.facts in
+    rw about (record { more = p.current.steps; facts = refl; steps = refl; lead = is.current.lead })
+
+-- What is known after decisions is of a choice that keeps none.
+pub bare_at : (p : Propagator) (s : Facts) → IsPropagation p → s ≡ p.current.facts → bare s.choice ≡ s.choice
+bare_at p s is s_is =
+    let about : s ≡ record { instance = p.instance; choice = chosen p.instance p.decisions; goal = p.goal; known = p.current.facts.known } = s_is ∙ is.current.facts in
+    subst (λ (t : Facts). bare t.choice ≡ t.choice) (sym about) (bare-same (chosen p.instance p.decisions) (none_kept-after_all p.instance (root_choice p.instance) p.decisions refl))
+
+-- Steps that are taken again from the first facts on, and leave no plan.
+pub trimmed_of : (s : Facts) (steps : List Step) (end : Journal) (known : Facts) → AreFacts s → bare s.choice ≡ s.choice → FollowsFrom s.instance (bare s.choice) s.goal end → known ≡ end.facts → steps ≡ end.steps → IsTrue known.known.closed → ClosesLeaf s.instance s.choice (record { goal = s.goal; steps = steps }) × (length steps < 2 ^ 32)
+trimmed_of s steps end known are none follows known_is steps_is closed =
+    let done = closes_of s.instance (bare s.choice) are.instance (IsChoice-keeping s.instance s.choice [] are.choice) s.goal steps (first_log s.instance (bare s.choice) s.goal) end known refl follows known_is steps_is closed in
+    (subst (λ (x : Choice). ClosesLeaf s.instance x (record { goal = s.goal; steps = steps })) none done.0, done.1)
+
+pub closes_at : (p : Propagator) (s : Facts) (steps : List Step) → IsPropagation p → s ≡ p.current.facts → steps ≡ p.current.steps → IsTrue p.current.facts.known.closed → ClosesLeaf s.instance s.choice (record { goal = s.goal; steps = steps }) × (length steps < 2 ^ 32)
+closes_at p s steps is s_is steps_is closed =
+    let all = closes p.instance (chosen p.instance p.decisions) p.goal p.current is.instance is.current closed in
+    let about : s ≡ record { instance = p.instance; choice = chosen p.instance p.decisions; goal = p.goal; known = p.current.facts.known } = s_is ∙ is.current.facts in
+    subst (λ (xs : List Step). ClosesLeaf s.instance s.choice (record { goal = s.goal; steps = xs }) × (length xs < 2 ^ 32)) (sym steps_is)
+    (subst (λ (t : Facts). ClosesLeaf t.instance t.choice (record { goal = t.goal; steps = p.current.steps }) × (length p.current.steps < 2 ^ 32)) (sym about) all)

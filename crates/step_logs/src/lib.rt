@@ -1,0 +1,17 @@
+//! Logs of steps by which more is known of the plans of a choice.
+#![tactic(auto)]
+
+mod acceleration;
+mod copies;
+mod journal;
+mod propagator;
+mod required;
+mod standstill;
+mod supposition;
+mod trim;
+
+pub use journal::Journal;
+pub use propagator::Propagator;
+pub use standstill::reach;
+pub use supposition::Supposition;
+pub use trim::closed_leaf;

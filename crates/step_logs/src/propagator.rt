@@ -1,0 +1,314 @@
+//! How does propagation go on after a decision?
+
+ghost use Rattle.std.specs.Prelude.{◌≡◌, ◌≢◌, ◌<◌, ◌≤◌, ℕ, [], IfOk, OnOk, OnErr, IsTrue, IsFalse, length, Contains};
+ghost use Rattle.ttp_model.specs.declared.plan.Plan.{Plan};
+ghost use Rattle.ttp_model.specs.declared.step.Step.TheVariants.{UsSettled};
+ghost use Rattle.ttp_model.specs.Chains.{IsPathBound};
+ghost use Rattle.tt_choice.specs.Choice.{IsComplete};
+ghost use Rattle.tt_choice.specs.Branches.{IsUnorderedPair};
+ghost use Rattle.tt_choice.specs.Decisions.{choice_after, IsOpenDecision};
+ghost use Rattle.tt_infer.specs.Leaves.{ClosesLeaf};
+ghost use Rattle.step_logs.specs.Journal.{Journal, Advances};
+ghost use Rattle.step_logs.specs.PlansBelow.{IsPlanBelow};
+ghost use Rattle.step_logs.specs.Propagator.{Begins, FollowsFrom, IsPropagation, IsStarted, Decides, Undoes, IsLog, IsSupposition};
+
+use crate::acceleration::{go_on, suppose};
+use crate::journal::Journal;
+use crate::standstill::{complete, reach};
+use crate::supposition::Supposition;
+use crate::trim::trimmed_leaf;
+use needed_steps::Fewest;
+use std::alloc::Global;
+use std::marker::Model;
+use std::mem;
+use step_agenda::Agenda;
+use tt_choice::{Choice, Decision};
+use tt_infer::Facts;
+use ttp_model::{Instance, Leaf, MemoryFault, Step};
+
+/// What is known of the plans below a goal, after decisions that can be taken back one by one: what was known before each
+/// is kept.
+#[derive(Drop)]
+pub struct Propagator<'a> {
+    instance: &'a Instance,
+    /// In ticks.
+    goal: u32,
+    decisions: Vec<Decision>,
+    /// What was known before each decision.
+    earlier: Vec<Journal<'a>>,
+    current: Journal<'a>,
+    /// What was known after decisions that were taken back, for its memory.
+    spare: Vec<Journal<'a>>,
+    agenda: Agenda,
+    fewest: Fewest,
+}
+
+impl<'a> Model for Propagator<'a> {
+    ghost use Rattle.step_logs.specs.Propagator.{Propagator, IsPropagation};
+
+    ghost Value = { Propagator };
+
+    ghost view = { λ s. record {
+      instance = s.instance.now;
+      goal = s.goal;
+      decisions = s.decisions.items;
+      earlier = s.earlier.items;
+      current = s.current;
+    } };
+
+    ghost invariant = { λ s. IsPropagation (record {
+      instance = s.instance.now;
+      goal = s.goal;
+      decisions = s.decisions.items;
+      earlier = s.earlier.items;
+      current = s.current;
+    }) };
+}
+
+/// Memory for what is known after a decision: that of a decision that was taken back, where there is one.
+fn room<'a>(
+    alloc: Global,
+    spare: &mut Vec<Journal<'a>>,
+    level: &Journal<'a>,
+) -> Result<Journal<'a>, MemoryFault> {
+    match spare.pop() {
+        Some(room) => Ok(room),
+        None => like(alloc, level.facts()),
+    }
+}
+
+/// A log without steps of what is known at first of what these facts are about.
+fn like<'a>(alloc: Global, facts: &Facts<'a>) -> Result<Journal<'a>, MemoryFault> {
+    let first = Facts::new(alloc, facts.instance(), facts.choice(), facts.goal())?;
+    Ok(Journal::new(first, Vec::new(alloc), Vec::new(alloc)))
+}
+
+/// Keeps memory to be used again, where there is a place for it.
+fn keep<'a>(spare: &mut Vec<Journal<'a>>, room: Journal<'a>) {
+    if spare.len() < spare.capacity() {
+        spare.push_reserved(room);
+    }
+}
+
+/// Where nothing is left to choose, sharpens what is known until the steps that decide that sharpen no more.
+fn finish(alloc: Global, journal: &mut Journal) -> Result<(), MemoryFault>
+    ensures advances { Advances journal.old journal.new }
+    ensures found { OnOk result ((goal : ℕ) (start : Journal)
+        → Begins journal.old.facts.instance journal.old.facts.choice goal start
+        → Advances start journal.old → IsComplete journal.old.facts.instance journal.old.facts.choice
+        → IsFalse journal.new.facts.known.closed
+        → (plan : Plan) × IsPlanBelow journal.old.facts.instance journal.old.facts.choice goal plan) }
+{
+    let facts = journal.facts();
+    let instance = facts.instance();
+    if !facts.choice().is_complete(instance) {
+        return Ok(());
+    }
+    let choice = facts.choice().whole_copy(alloc)?;
+    complete(alloc, instance, &choice, journal)
+}
+
+/// Whether one of the steps asks how long process `p` may have to wait.
+fn ask_for_wait(steps: &[Step], p: u32) -> bool
+    ensures { IsFalse result → ¬ Contains steps.now (UsSettled p) }
+{
+    steps.iter().any(|step| asks_for_wait(step, p))
+}
+
+/// Whether a step asks how long process `p` may have to wait.
+fn asks_for_wait(step: &Step, p: u32) -> bool
+    ensures { IsFalse result → step.now ≢ UsSettled p }
+{
+    // No other step asks for that.
+    matches!(step, Step::UsSettled(q) if *q == p)
+}
+
+/// What the steps so far say after a decision. They are tried once more, but for an order that isn't known, where none of them
+/// asks how long its first process may have to wait: with that order they say what they say without it.
+fn carried_over<'a>(
+    alloc: Global,
+    room: Journal<'a>,
+    level: &Journal<'a>,
+    decision: Decision,
+) -> Result<Journal<'a>, MemoryFault>
+    requires is_open { IsOpenDecision level.now.facts.instance level.now.facts.choice decision }
+    requires follows { FollowsFrom level.now.facts.instance level.now.facts.choice level.now.facts.goal level.now }
+    ensures { IfOk result (FollowsFrom level.now.facts.instance
+        (choice_after level.now.facts.instance level.now.facts.choice decision) level.now.facts.goal) }
+{
+    // No other decision leaves all as it is but for an order.
+    if let Decision::Before(p, q) = decision {
+        let facts = level.facts();
+        let _instance = facts.instance();
+        if !facts.bef(p, q) && !ask_for_wait(level.steps(), p) {
+            return room.ordering(alloc, level, p, q);
+        }
+    }
+    let mut next = room.after(alloc, level, decision)?;
+    next.sweep(alloc, level.steps())?;
+    Ok(next)
+}
+
+/// What is known after a decision: first what the steps so far say of the choice that it makes, then what comes of that.
+fn next_level<'a>(
+    alloc: Global,
+    agenda: &mut Agenda,
+    room: Journal<'a>,
+    level: &Journal<'a>,
+    decision: Decision,
+) -> Result<Journal<'a>, MemoryFault>
+    requires is_open { IsOpenDecision level.now.facts.instance level.now.facts.choice decision }
+    requires follows { FollowsFrom level.now.facts.instance level.now.facts.choice level.now.facts.goal level.now }
+    requires above { (bound : ℕ) → IsPathBound level.now.facts.instance bound → bound < level.now.facts.goal }
+    ensures { IfOk result (IsLog level.now.facts.instance
+        (choice_after level.now.facts.instance level.now.facts.choice decision) level.now.facts.goal) }
+{
+    let mut next = carried_over(alloc, room, level, decision)?;
+    let _choice = next.facts().choice();
+    go_on(alloc, agenda, level.facts(), decision, &mut next)?;
+    finish(alloc, &mut next)?;
+    Ok(next)
+}
+
+impl<'a> Propagator<'a> {
+    /// What is known of all plans with a delay below `goal` ticks, before any decision.
+    pub fn start(
+        alloc: Global,
+        instance: &'a Instance,
+        goal: u32,
+    ) -> Result<Propagator<'a>, MemoryFault>
+        ensures { IfOk result (IsStarted instance.now goal) }
+    {
+        let _nodes = instance.nodes();
+        let root = Choice::root(alloc, instance)?;
+        let first = Facts::new(alloc, instance, &root, goal)?;
+        let fewest = Fewest::none(alloc, instance)?;
+        let mut current = Journal::new(first, Vec::new(alloc), Vec::new(alloc));
+        let agenda = reach(alloc, instance, &root, &mut current)?;
+        Ok(Propagator {
+            instance,
+            goal,
+            decisions: Vec::new(alloc),
+            earlier: Vec::new(alloc),
+            current,
+            spare: Vec::new(alloc),
+            agenda,
+            fewest,
+        })
+    }
+
+    /// Whether no plan is left: always so at a goal of at most the path bound.
+    pub fn closed(&self) -> bool
+        ensures value { result ≡ self.now.current.facts.known.closed }
+        ensures bound { (bound : ℕ) → IsPathBound self.now.instance bound → self.now.goal ≤ bound → IsTrue result }
+    {
+        self.current.facts().closed()
+    }
+
+    /// Makes an open decision, where a plan may be left. Unchanged after a refusal.
+    pub fn decide(&mut self, alloc: Global, decision: Decision) -> Result<(), MemoryFault>
+        requires left { IsFalse self.old.current.facts.known.closed }
+        requires is_open { IsOpenDecision self.old.instance self.old.current.facts.choice decision }
+        ensures ok { OnOk result (Decides decision self.old self.new) }
+        ensures err { OnErr result (self.new ≡ self.old) }
+    {
+        self.decisions.reserve(1)?;
+        self.earlier.reserve(1)?;
+        self.spare.reserve(self.earlier.len() + 1)?;
+        let room = room(alloc, &mut self.spare, &self.current)?;
+        let next = next_level(alloc, &mut self.agenda, room, &self.current, decision)?;
+        let before = mem::replace(&mut self.current, next);
+        self.earlier.push_reserved(before);
+        self.decisions.push_reserved(decision);
+        Ok(())
+    }
+
+    /// Takes the last decision back. Takes no memory.
+    pub fn undo(&mut self)
+        requires { 0 < length self.old.decisions }
+        ensures { Undoes self.old self.new }
+    {
+        let _last = self.decisions.pop();
+        let before = self.earlier.pop();
+        if let Some(before) = before {
+            let room = mem::replace(&mut self.current, before);
+            keep(&mut self.spare, room);
+        }
+    }
+
+    /// What would be known, as far as that is found at once, if process `p` went before `q`: what is known is copied and that
+    /// order set, and propagation goes on from there. For the choice of a branch alone.
+    pub fn suppose(&mut self, alloc: Global, p: u32, q: u32) -> Result<Supposition<'a>, MemoryFault>
+        requires { IsUnorderedPair self.old.instance self.old.current.facts.choice p q }
+        ensures same { self.new ≡ self.old }
+        ensures about { IfOk result (IsSupposition self.old p q) }
+    {
+        self.spare.reserve(2)?;
+        let room = room(alloc, &mut self.spare, &self.current)?;
+        let mut journal = room.supposing(alloc, &self.current, p, q)?;
+        suppose(alloc, &mut self.agenda, p, q, &mut journal)?;
+        Ok(Supposition { journal })
+    }
+
+    /// Keeps the memory of what was supposed, to be used again.
+    pub fn release(&mut self, supposition: Supposition<'a>)
+        ensures { self.new ≡ self.old }
+    {
+        keep(&mut self.spare, supposition.journal);
+    }
+
+    /// The decisions that were made and not taken back, the first first.
+    pub fn decisions(&self) -> &[Decision]
+        ensures value { result.now ≡ self.now.decisions }
+        ensures is { IsPropagation self.now }
+    {
+        self.decisions.as_slice()
+    }
+
+    /// The plans that are sought have delays below this tick.
+    pub fn goal(&self) -> u32
+        ensures { result ≡ self.now.goal }
+    {
+        self.goal
+    }
+
+    /// What is known.
+    pub fn facts(&self) -> &Facts<'a>
+        ensures value { result.now ≡ self.now.current.facts }
+        ensures is { IsPropagation self.now }
+    {
+        self.current.facts()
+    }
+
+    /// The steps that lead to it from what is known at first of the choice that the decisions make.
+    pub fn log(&self) -> &[Step]
+        ensures value { result.now ≡ self.now.current.steps }
+        ensures is { IsPropagation self.now }
+    {
+        self.current.steps()
+    }
+
+    /// A leaf of that choice at the goal, where no plan is left. Once a decision was taken back it takes memory for its steps, and for
+    /// lists that are used again where they grow.
+    pub fn leaf(&mut self, alloc: Global) -> Result<Leaf, MemoryFault>
+        requires { IsTrue self.old.current.facts.known.closed }
+        ensures same { self.new ≡ self.old }
+        ensures closes { IfOk result (ClosesLeaf self.old.instance self.old.current.facts.choice) }
+        ensures goal { IfOk result (λ leaf. leaf.goal ≡ self.old.goal) }
+    {
+        self.spare.reserve(1)?;
+        let room = room(alloc, &mut self.spare, &self.current)?;
+        let (facts, steps, before) = room.into_memory();
+        let level = &self.current;
+        let (leaf, facts) = trimmed_leaf(
+            alloc,
+            facts,
+            &mut self.fewest,
+            level.facts(),
+            level.steps(),
+            level.before(),
+        )?;
+        keep(&mut self.spare, Journal::new(facts, steps, before));
+        Ok(leaf)
+    }
+}

@@ -1,0 +1,5 @@
+pub mod OfItsNode
+pub mod Targets
+pub mod AddedFacts
+pub mod alike
+pub mod shared

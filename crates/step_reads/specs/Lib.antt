@@ -1,0 +1,11 @@
+pub mod Targets
+pub mod Reads
+pub mod Added
+pub mod Shared
+pub mod Uses
+pub mod RuledOut
+pub use Rattle.ttp_model.specs.Instance
+pub use Rattle.tt_choice.specs.Choice
+pub use Rattle.sought_plans.specs.Known
+pub use Rattle.tt_infer.specs.Facts
+pub use Rattle.tt_infer.specs.Table

@@ -1,0 +1,154 @@
+-- What each step reads: of what is known, and of the choice and its goal beside it. Own profile.
+use Rattle.std.specs.Prelude.{◌≡◌, ◌≢◌, ℕ, ◌+◌, ◌-◌, ◌<◌, ◌≤◌, ◌⊎◌, List, length, slice_index, IsTrue, IsFalse}
+use Rattle.ttp_model.specs.declared.step.Step.{Step}
+use Rattle.ttp_model.specs.declared.step.Step.TheVariants.{EsRelease, EsLink, EsBefore, EsArrive, EsMessage, LoSend, LeOwn, LeLink, LeBefore, LeMessage, LeSend, HiArrive, OrdWindow, OrdTwin, UsSettled, XWindow, XRound, XCycle, XLoad, XFrame, XFrames, XLate, XSilent}
+use Rattle.ttp_model.specs.Instance.{Instance, link_at, node_of, source_of}
+use Rattle.ttp_model.specs.Graph.{HasLink, Leads}
+use Rattle.tt_choice.specs.Choice.{Choice}
+use Rattle.tt_choice.specs.Extremes.{start_least, start_most, end_least, end_most, cap_least, cap_most}
+use Rattle.sought_plans.specs.Known.{Known, es_of, le_of, lo_of, top_of, bef_of}
+use Rattle.sought_plans.specs.Premises.{sender_of, runs_within, sent_within}
+use Rattle.sought_plans.specs.Dominance.{IsSentTo, StandsFirst}
+use Rattle.sought_plans.specs.Conclusions.{Conclusion}
+use Rattle.tt_infer.specs.Table.{rule}
+use Rattle.step_reads.specs.declared.fact.Fact.{Fact}
+use Rattle.step_reads.specs.declared.fact.Fact.TheVariants.{Start, End, FirstRound, LateRound, Order, Closed}
+use Rattle.step_reads.specs.declared.limit.Limit.{Limit}
+use Rattle.step_reads.specs.declared.limit.Limit.TheVariants.{Goal, LeastSlot, GreatestSlot, LeastFrame, GreatestFrame, Place}
+
+-- the same of a fact is known in two states
+abbrev pub AgreeOn : Known → Known → Fact → Type 0
+AgreeOn f g (Start p) = es_of f p ≡ es_of g p
+AgreeOn f g (End p) = le_of f p ≡ le_of g p
+AgreeOn f g (FirstRound m) = lo_of f m ≡ lo_of g m
+AgreeOn f g (LateRound m) = top_of f m ≡ top_of g m
+AgreeOn f g (Order p q) = bef_of f p q ≡ bef_of g p q
+AgreeOn f g Closed = f.closed ≡ g.closed
+
+-- a slot begins and ends at least, or at most, at the same times in each round
+abbrev pub IsSameSlot : (ℕ → ℕ) → (ℕ → ℕ) → (ℕ → ℕ) → (ℕ → ℕ) → Type 0
+IsSameSlot start end start' end' = (r : ℕ) → (start r ≡ start' r) × (end r ≡ end' r)
+
+-- a choice with its goal gives a limit as another does; of a place: who doesn't stand in front of a node doesn't so there
+abbrev pub GivesAlike : Instance → Choice → ℕ → Choice → ℕ → Limit → Type 0
+GivesAlike i c goal d aim Goal = goal ≡ aim
+GivesAlike i c goal d aim (LeastSlot n) = IsSameSlot (start_least i c n) (end_least i c n) (start_least i d n) (end_least i d n)
+GivesAlike i c goal d aim (GreatestSlot n) = IsSameSlot (start_most i c n) (end_most i c n) (start_most i d n) (end_most i d n)
+GivesAlike i c goal d aim (LeastFrame n) = cap_least i c n ≡ cap_least i d n
+GivesAlike i c goal d aim (GreatestFrame n) = cap_most i c n ≡ cap_most i d n
+GivesAlike i c goal d aim (Place v) = (u : ℕ) → StandsFirst c.prefix v u → StandsFirst d.prefix v u
+
+-- a fact is so of something that is numbered below a count
+abbrev pub OfSome : ℕ → (ℕ → Fact → Type 0) → Fact → Type 0
+OfSome count IsOf fact = (k : ℕ) × (k < count) × IsOf k fact
+
+-- another process of p's node, to which no link leads from p: p may have to wait for it
+pub record IsRival (i : Instance) (p x : ℕ) : Type 0 where
+  pub other : x ≢ p
+  pub one_node : node_of i x ≡ node_of i p
+  pub no_link : ¬ HasLink i p x
+
+-- what tells how long p may have to wait for a rival: whether p goes first, and where that isn't known when the rival ends
+abbrev pub TellsWait : Known → ℕ → ℕ → Fact → Type 0
+TellsWait f p x fact = (fact ≡ Order p x) ⊎ (IsFalse (bef_of f p x) × (fact ≡ End x))
+
+-- one process stands in front of another in a ring, the last in front of the first
+abbrev pub AreNeighbours : List ℕ → ℕ → ℕ → Type 0
+AreNeighbours ps p q =
+    ((k : ℕ) × (k + 1 < length ps) × (slice_index ps k ≡ p) × (slice_index ps (k + 1) ≡ q))
+    ⊎ ((slice_index ps (length ps - 1) ≡ p) × (slice_index ps 0 ≡ q))
+
+-- neighbours of a ring of which the first goes before the second by nothing but what is known
+pub record IsKnownPair (i : Instance) (ps : List ℕ) (fact : Fact) : Type 0 where
+  pub first : ℕ
+  pub second : ℕ
+  pub neighbours : AreNeighbours ps first second
+  pub no_lead : ¬ Leads i first second
+  pub order : fact ≡ Order first second
+
+-- the bounds of a process that runs in a span from a on: one from 0 on asks for no start
+abbrev pub BoundsRun : ℕ → ℕ → Fact → Type 0
+BoundsRun a p fact = (fact ≡ End p) ⊎ ((1 ≤ a) × (fact ≡ Start p))
+
+-- and those of a message that is sent in rounds from a on
+abbrev pub BoundsSending : ℕ → ℕ → Fact → Type 0
+BoundsSending a m fact = (fact ≡ LateRound m) ⊎ ((1 ≤ a) × (fact ≡ FirstRound m))
+
+-- what keeps a message out of the frame of round r: it is sent later, or else earlier
+abbrev pub KeepsOut : Known → ℕ → ℕ → Fact → Type 0
+KeepsOut f r k fact =
+    ((r < lo_of f k) × (fact ≡ FirstRound k)) ⊎ ((lo_of f k ≤ r) × (top_of f k ≤ r) × (fact ≡ LateRound k))
+
+-- another message of m's node
+pub record IsOtherOf (i : Instance) (m k : ℕ) : Type 0 where
+  pub other : k ≢ m
+  pub one_node : source_of i k ≡ source_of i m
+
+-- The facts that a step reads, where this is known before it.
+abbrev pub ReadsFact : Instance → Known → Step → Fact → Type 0
+ReadsFact i f (EsRelease p) fact = ⊥
+ReadsFact i f (EsLink l) fact = fact ≡ Start (link_at i l).before
+ReadsFact i f (EsBefore p q) fact = (fact ≡ Start p) ⊎ (fact ≡ Order p q)
+ReadsFact i f (EsArrive m q) fact = fact ≡ FirstRound m
+ReadsFact i f (EsMessage m q) fact = fact ≡ Start (sender_of i m)
+ReadsFact i f (LoSend m) fact = fact ≡ Start (sender_of i m)
+ReadsFact i f (LeOwn p) fact = ⊥
+ReadsFact i f (LeLink l) fact = fact ≡ End (link_at i l).after
+ReadsFact i f (LeBefore p q) fact = (fact ≡ End q) ⊎ (fact ≡ Order p q)
+ReadsFact i f (LeMessage m q) fact = fact ≡ End q
+ReadsFact i f (LeSend m) fact = fact ≡ LateRound m
+ReadsFact i f (HiArrive m q) fact = fact ≡ End q
+ReadsFact i f (OrdWindow p q) fact = (fact ≡ End p) ⊎ (fact ≡ Start q)
+ReadsFact i f (OrdTwin p q) fact = ⊥
+ReadsFact i f (UsSettled p) fact =
+    OfSome (length i.processes) (λ x told. IsRival i p x × TellsWait f p x told) fact
+    ⊎ OfSome (length i.messages) (λ m told. IsSentTo i p m × (told ≡ LateRound m)) fact
+ReadsFact i f (XWindow p) fact = (fact ≡ Start p) ⊎ (fact ≡ End p)
+ReadsFact i f (XRound m) fact = (fact ≡ FirstRound m) ⊎ (fact ≡ LateRound m)
+ReadsFact i f (XCycle ps) fact = IsKnownPair i ps fact
+ReadsFact i f (XLoad n a b) fact =
+    OfSome (length i.processes) (λ p told. IsTrue (runs_within i f n a b p) × BoundsRun a p told) fact
+ReadsFact i f (XFrame m) fact = ⊥
+ReadsFact i f (XFrames n a b) fact =
+    OfSome (length i.messages) (λ m told. IsTrue (sent_within i f n a b m) × BoundsSending a m told) fact
+ReadsFact i f (XLate m r) fact =
+    ((fact ≡ FirstRound m) ⊎ (fact ≡ End (sender_of i m)))
+    ⊎ OfSome (length i.messages) (λ k told. IsOtherOf i m k × KeepsOut f r k told) fact
+ReadsFact i f (XSilent u v) fact = ⊥
+
+-- The limits that a step reads.
+abbrev pub ReadsLimit : Instance → Step → Limit → Type 0
+ReadsLimit i (EsRelease p) limit = ⊥
+ReadsLimit i (EsLink l) limit = ⊥
+ReadsLimit i (EsBefore p q) limit = ⊥
+ReadsLimit i (EsArrive m q) limit = limit ≡ LeastSlot (source_of i m)
+ReadsLimit i (EsMessage m q) limit = limit ≡ LeastFrame (source_of i m)
+ReadsLimit i (LoSend m) limit = limit ≡ GreatestSlot (source_of i m)
+ReadsLimit i (LeOwn p) limit = limit ≡ Goal
+ReadsLimit i (LeLink l) limit = ⊥
+ReadsLimit i (LeBefore p q) limit = ⊥
+ReadsLimit i (LeMessage m q) limit = limit ≡ LeastFrame (source_of i m)
+ReadsLimit i (LeSend m) limit = limit ≡ GreatestSlot (source_of i m)
+ReadsLimit i (HiArrive m q) limit = limit ≡ LeastSlot (source_of i m)
+ReadsLimit i (OrdWindow p q) limit = ⊥
+ReadsLimit i (OrdTwin p q) limit = ⊥
+ReadsLimit i (UsSettled p) limit = (m : ℕ) × IsSentTo i p m × (limit ≡ GreatestSlot (source_of i m))
+ReadsLimit i (XWindow p) limit = ⊥
+ReadsLimit i (XRound m) limit = ⊥
+ReadsLimit i (XCycle ps) limit = ⊥
+ReadsLimit i (XLoad n a b) limit = ⊥
+ReadsLimit i (XFrame m) limit = limit ≡ GreatestFrame (source_of i m)
+ReadsLimit i (XFrames n a b) limit = limit ≡ GreatestFrame n
+ReadsLimit i (XLate m r) limit = (limit ≡ LeastSlot (source_of i m)) ⊎ (limit ≡ LeastFrame (source_of i m))
+ReadsLimit i (XSilent u v) limit = limit ≡ Place v
+
+-- two choices with their goals, and what is known at each, agree on all that a step reads at the first
+pub record AgreeOnReads (i : Instance) (c : Choice) (goal : ℕ) (f : Known) (d : Choice) (aim : ℕ) (g : Known) (step : Step) : Type 0 where
+  pub facts : (fact : Fact) → ReadsFact i f step fact → AgreeOn f g fact
+  pub limits : (limit : Limit) → ReadsLimit i step limit → GivesAlike i c goal d aim limit
+
+-- a step can be taken, and concludes this
+pub record Gives (i : Instance) (c : Choice) (goal : ℕ) (f : Known) (step : Step) (k : Conclusion) : Type 0 where
+  pub there : (rule i c goal f step).there
+  pub premise : (rule i c goal f step).premise
+  pub concludes : (rule i c goal f step).concludes k

@@ -1,0 +1,55 @@
+//! Which facts does a step read?
+
+ghost use Rattle.std.specs.Prelude.{OnOk};
+ghost use Rattle.tt_infer.specs.Table.{rule};
+ghost use Rattle.step_reads.specs.Reads.{ReadsFact};
+ghost use Rattle.step_reads.specs.Added.{AddsFacts};
+
+mod added;
+mod kept_out;
+mod rings;
+mod spans;
+mod waits;
+
+use crate::fact::{Fact, link_after, link_before, sender};
+use added::{add, add_two};
+use kept_out::add_late;
+use rings::add_ring;
+use spans::{add_frames, add_load};
+use tt_infer::Facts;
+use ttp_model::{MemoryFault, Step};
+use waits::add_settled;
+
+/// Adds the facts that a step reads, where this is known before it and what it names is there.
+pub fn add_reads(facts: &Facts, step: &Step, reads: &mut Vec<Fact>) -> Result<(), MemoryFault>
+    ensures { (rule facts.now.instance facts.now.choice facts.now.goal facts.now.known step.now).there
+        → OnOk result (AddsFacts (ReadsFact facts.now.instance facts.now.known step.now)
+        reads.old.items reads.new.items) }
+{
+    let instance = facts.instance();
+    match step {
+        Step::EsRelease(_) => Ok(()),
+        Step::EsLink(l) => add(reads, Fact::Start(link_before(instance, *l))),
+        Step::EsBefore(p, q) => add_two(reads, Fact::Start(*p), Fact::Order(*p, *q)),
+        Step::EsArrive(m, _) => add(reads, Fact::FirstRound(*m)),
+        Step::EsMessage(m, _) => add(reads, Fact::Start(sender(instance, *m))),
+        Step::LoSend(m) => add(reads, Fact::Start(sender(instance, *m))),
+        Step::LeOwn(_) => Ok(()),
+        Step::LeLink(l) => add(reads, Fact::End(link_after(instance, *l))),
+        Step::LeBefore(p, q) => add_two(reads, Fact::End(*q), Fact::Order(*p, *q)),
+        Step::LeMessage(_, q) => add(reads, Fact::End(*q)),
+        Step::LeSend(m) => add(reads, Fact::LateRound(*m)),
+        Step::HiArrive(_, q) => add(reads, Fact::End(*q)),
+        Step::OrdWindow(p, q) => add_two(reads, Fact::End(*p), Fact::Start(*q)),
+        Step::OrdTwin(_, _) => Ok(()),
+        Step::UsSettled(p) => add_settled(facts, *p, reads),
+        Step::XWindow(p) => add_two(reads, Fact::Start(*p), Fact::End(*p)),
+        Step::XRound(m) => add_two(reads, Fact::FirstRound(*m), Fact::LateRound(*m)),
+        Step::XCycle(ring) => add_ring(instance, ring.as_slice(), reads),
+        Step::XLoad(n, a, b) => add_load(facts, *n, *a, *b, reads),
+        Step::XFrame(_) => Ok(()),
+        Step::XFrames(n, a, b) => add_frames(facts, *n, *a, *b, reads),
+        Step::XLate(m, r) => add_late(facts, *m, *r, reads),
+        Step::XSilent(_, _) => Ok(()),
+    }
+}

@@ -1,0 +1,14 @@
+pub mod Has
+pub mod NameOrder
+pub mod Rising
+pub mod Closed
+pub mod Existence
+pub mod Counting
+pub mod Sorting
+pub mod Finding
+pub mod Moved
+pub mod Gathered
+pub mod Whole
+pub mod Proving
+pub mod Sound
+pub mod Leaves

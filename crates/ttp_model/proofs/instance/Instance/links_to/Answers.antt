@@ -1,0 +1,23 @@
+use Rattle.std.proofs.Common.{length, arith, ap}
+use Rattle.ttp_model.specs.Instance.{Instance}
+use Rattle.ttp_model.specs.Network.{links_to, leads_to}
+use Rattle.ttp_model.proofs.NetworkLists.{list_of, each_inside, few_listed}
+use Rattle.ttp_model.proofs.instance.Instance.links_to.Goals as goal
+
+pub of_key-requires : goal.of_key-requires
+of_key-requires c = c.self.invariant.lists.of_links.led.places
+
+pub returns-clause-value : goal.returns-clause-value
+returns-clause-value c =
+    list_of links_to _ c.args.self.now _ _ _ c.args.p c.self.invariant.lists.of_links.led c.self.view_is c.of_key.ensures
+
+pub returns-clause-inside : goal.returns-clause-inside
+returns-clause-inside c =
+    let is = list_of links_to _ c.args.self.now _ _ _ c.args.p c.self.invariant.lists.of_links.led c.self.view_is c.of_key.ensures in
+    each_inside (leads_to c.args.self.now c.args.p) (length c.args.self.now.links) _ is
+
+pub returns-clause-few : goal.returns-clause-few
+returns-clause-few c =
+    let is = list_of links_to _ c.args.self.now _ _ _ c.args.p c.self.invariant.lists.of_links.led c.self.view_is c.of_key.ensures in
+    let most = few_listed (leads_to c.args.self.now c.args.p) (length c.args.self.now.links) _ is in
+    omega (arith, most, c.self.invariant.instance.limits.links, ap (λ (i : Instance). length i.links) c.self.view_is)
