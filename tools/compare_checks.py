@@ -234,7 +234,7 @@ def tree_lines(dice, instance, choice, low, depth):
 
 def made_certificate(dice, instance):
     low = dice.choice([0, 1, 2, 3, 4, 5, 6, 8, 10, instance.horizon + 1, dice.randrange(instance.horizon + 3)])
-    lines = [b"ttcert 1", b"low %d" % low] + tree_lines(dice, instance, second_check.root(instance), low, 0)
+    lines = [dice.choice([b"ttcert 1", b"ttcert 2"]), b"low %d" % low] + tree_lines(dice, instance, second_check.root(instance), low, 0)
     return b"".join(line + b"\n" for line in lines)
 
 

@@ -735,7 +735,7 @@ def children_stated(word, numbers):
 def read_certificate(text):
     """The bound, and the nodes in the order of their lines: the number of the line, the word, the numbers and the steps' lines."""
     lines = Lines(text, certificate_fault, "G5", "G6")
-    if lines.next() != b"ttcert 1":
+    if lines.next() not in (b"ttcert 1", b"ttcert 2"):
         raise certificate_fault("G1", lines.count)
     _, (low,) = parts(stated_line(lines, lambda word, numbers: word == b"low" and len(numbers) == 1))
     nodes = []

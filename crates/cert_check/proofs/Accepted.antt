@@ -15,7 +15,7 @@ use Rattle.certificate.specs.Limits.{most_text_bytes}
 use Rattle.certificate.specs.Reading.{Reading, Reads}
 use Rattle.certificate.specs.Spelling.{SpellsCert}
 use Rattle.certificate.specs.Opened.{certificate_with}
-use Rattle.certificate.specs.Streams.{BytesRead, IsCertFault, LeavesNodes}
+use Rattle.certificate.specs.Streams.{stream_version, BytesRead, IsCertFault, LeavesNodes}
 use Rattle.certificate.specs.Trees.{trees_of}
 use Rattle.certificate.proofs.WholeText.{again, one_answer}
 use Rattle.tree_check.specs.declared.fault.CertFault.{CertFault}
@@ -83,7 +83,7 @@ answer_of_lines i Tells taken source.TooLong is = (tt, is)
 answer_of_lines i Tells taken (source.Text text.OutOfMemory) is = (tt, tt)
 answer_of_lines i Tells taken (source.Text (text.At line fault)) is = (is, tt)
 
-module _ {R : Type 0} (i : Instance) (low : ℕ) (remaining : R → Option (List ℕ)) (s : CertStream R) (Tells : Reading Cert → Type 0) (whole : (read : Reading (List Node)) → LeavesNodes remaining s read → Tells (certificate_with low read)) (taken : ℕ) where
+module _ {R : Type 0} (i : Instance) (low : ℕ) (remaining : R → Option (List ℕ)) (s : CertStream R) (Tells : Reading Cert → Type 0) (whole : (read : Reading (List Node)) → LeavesNodes remaining s read → Tells (certificate_with (stream_version s) low read)) (taken : ℕ) where
   pub answer_of_rest : (fault : StreamFault) → IsLinesFault (LeavesNodes remaining s) taken fault → IsAnswerOf i Tells (Err fault) × StopsAt taken (Err fault)
   answer_of_rest Read is = (tt, tt)
   answer_of_rest TooLong is = (tt, is)
@@ -92,7 +92,7 @@ module _ {R : Type 0} (i : Instance) (low : ℕ) (remaining : R → Option (List
   answer_of_rest (InCert fault) is = absurd is
 
   pub too_great : (nodes : List Node) → LeavesNodes remaining s (Ok nodes) → i.cluster.horizon + 1 < low → IsAnswerOf i Tells (Err (InCert LowTooGreat))
-  too_great nodes l past = (record { low = low; tree = trees_of nodes }, whole (Ok nodes) l, past)
+  too_great nodes l past = (record { version = stream_version s; low = low; tree = trees_of nodes }, whole (Ok nodes) l, past)
 
   module _ (within : low ≤ i.cluster.horizon + 1) where
     pub answer_of_fault : (fault : StreamFault) → AnswersAll i low remaining s taken (Err fault) → IsAnswerOf i Tells (Err fault) × StopsAt taken (Err fault)
@@ -101,17 +101,17 @@ module _ {R : Type 0} (i : Instance) (low : ℕ) (remaining : R → Option (List
     answer_of_fault (Text text.OutOfMemory) is = (tt, tt)
     answer_of_fault (Text (text.At line fault)) is = (whole (Err (text.At line fault)) is, tt)
     answer_of_fault (InCert LowTooGreat) is = absurd is.1.1
-    answer_of_fault (InCert (At line fault)) is = ((record { low = low; tree = trees_of is.0 }, whole (Ok is.0) is.1.0, (within, is.1.1)), tt)
-    answer_of_fault (InCert OutOfMemory) is = ((record { low = low; tree = trees_of is.0 }, whole (Ok is.0) is.1.0, within), tt)
+    answer_of_fault (InCert (At line fault)) is = ((record { version = stream_version s; low = low; tree = trees_of is.0 }, whole (Ok is.0) is.1.0, (within, is.1.1)), tt)
+    answer_of_fault (InCert OutOfMemory) is = ((record { version = stream_version s; low = low; tree = trees_of is.0 }, whole (Ok is.0) is.1.0, within), tt)
 
     pub proof_of_all : AnswersAll i low remaining s taken (Ok tt) → IsAnswerOf i Tells (Ok low)
-    proof_of_all is = (record { low = low; tree = trees_of is.0 }, whole (Ok is.0) is.1.0, (refl, record { low = within; tree = is.1.1 }))
+    proof_of_all is = (record { version = stream_version s; low = low; tree = trees_of is.0 }, whole (Ok is.0) is.1.0, (refl, record { low = within; tree = is.1.1 }))
 
     pub bound_of_all : IsInstance i → AnswersAll i low remaining s taken (Ok tt) → IsLowerBound i low
-    bound_of_all instance is = proved_bound i (record { low = low; tree = trees_of is.0 }) instance (record { low = within; tree = is.1.1 })
+    bound_of_all instance is = proved_bound i (record { version = stream_version s; low = low; tree = trees_of is.0 }) instance (record { low = within; tree = is.1.1 })
 
     pub none_of_all : IsInstance i → AnswersAll i low remaining s taken (Ok tt) → low ≡ i.cluster.horizon + 1 → HasNoPlan i
-    none_of_all instance is past = proved_none i (record { low = low; tree = trees_of is.0 }) instance (record { low = within; tree = is.1.1 }) past
+    none_of_all instance is past = proved_none i (record { version = stream_version s; low = low; tree = trees_of is.0 }) instance (record { low = within; tree = is.1.1 }) past
 
 -- what is wrong with lines that are read alone
 pub passing_fails : {R : Type 0} (i : Instance) (low : ℕ) (remaining : R → Option (List ℕ)) (s : CertStream R) (taken : ℕ) (fault : StreamFault) → IsLinesFault (LeavesNodes remaining s) taken fault → AnswersAll i low remaining s taken (Err fault)

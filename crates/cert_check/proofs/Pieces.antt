@@ -18,7 +18,7 @@ use Rattle.certificate.specs.Words.{count_of, node_of_head}
 use Rattle.certificate.specs.Reading.{steps_at}
 use Rattle.certificate.specs.Sources.{Origin}
 use Rattle.certificate.specs.Opened.{still_due, TakesChild}
-use Rattle.certificate.specs.Streams.{next_line, still_to_come, bytes_taken, LeavesNodes, LeavesNext, LeavesPiece, StreamIsFrom, IsNodeFault}
+use Rattle.certificate.specs.Streams.{stream_version, next_line, still_to_come, bytes_taken, LeavesNodes, LeavesNext, LeavesPiece, StreamIsFrom, IsNodeFault}
 use Rattle.tree_check.specs.declared.walk.Walk.{Walk}
 use Rattle.tree_check.specs.Seen.{TellsBranch}
 use Rattle.tree_check.specs.Turns.{IsWalk}
@@ -121,17 +121,17 @@ module _ {R : Type 0} (i : Instance) (low : ℕ) (remaining : R → Option (List
 module _ {R : Type 0} (i : Instance) (low : ℕ) (remaining : R → Option (List ℕ)) (first now : CertStream R) (w : Walk) (front old : List HeldLeaf) (s : Stands i low remaining first now w (front ++ old) More) (next : CertStream R) where
   -- it is taken
   taken_at : (taken : Walk) (more : List HeldLeaf) (head : Head) (line : ℕ) (steps : Vec ℕ) (p : IsPiece remaining now next head line steps.items)
-      → (c : Choice) (left : List Choice) → IsUnderWay i low remaining first now (c ∷ left) (front ++ old) → Takes i taken old more head line steps c left → Stands i low remaining first next taken (front ++ more) More
+      → (c : Choice) (left : List Choice) → IsUnderWay i low remaining first now (c ∷ left) (front ++ old) → Takes i (stream_version next) taken old more head line steps c left → Stands i low remaining first next taken (front ++ more) More
   taken_at taken more (OfBranch branch) line steps p c left u takes =
       let leaves = branch_said remaining now next branch line steps.items p.leaves in
       let on = branch_taken i low remaining first now next c left (front ++ old) u branch leaves (p.due []) (omega (arith, p.passed)) takes.0 in
       rw takes.1.1 (arrives i low remaining first now w (front ++ old) s next (OfBranch branch) line steps p taken (front ++ old) (child_choices i c branch.kind ++ left) on takes.1.0)
   taken_at taken more (OfLeaf goal count) line steps p c left u takes =
       let on = leaf_waits i low remaining first now next c left (front ++ old) u goal count line steps p.leaves p.here p.passed takes.0 (p.due []) in
-      let whole : front ++ more ≡ (front ++ old) ++ held_leaf c goal count line steps ∷ [] = ap (λ (hs : List HeldLeaf). front ++ hs) takes.1.1 ∙ sym (append_assoc front old (held_leaf c goal count line steps ∷ [])) in
-      rw whole (arrives i low remaining first now w (front ++ old) s next (OfLeaf goal count) line steps p taken ((front ++ old) ++ held_leaf c goal count line steps ∷ []) left on takes.1.0)
+      let whole : front ++ more ≡ (front ++ old) ++ held_leaf c (stream_version next) goal count line steps ∷ [] = ap (λ (hs : List HeldLeaf). front ++ hs) takes.1.1 ∙ sym (append_assoc front old (held_leaf c (stream_version next) goal count line steps ∷ [])) in
+      rw whole (arrives i low remaining first now w (front ++ old) s next (OfLeaf goal count) line steps p taken ((front ++ old) ++ held_leaf c (stream_version next) goal count line steps ∷ []) left on takes.1.0)
 
-  pub taken_on : (taken : Walk) (more : List HeldLeaf) (head : Head) (line : ℕ) (steps : Vec ℕ) (p : IsPiece remaining now next head line steps.items) → ((c : Choice) (left : List Choice) → IsWalk i w (c ∷ left) → Takes i taken old more head line steps c left)
+  pub taken_on : (taken : Walk) (more : List HeldLeaf) (head : Head) (line : ℕ) (steps : Vec ℕ) (p : IsPiece remaining now next head line steps.items) → ((c : Choice) (left : List Choice) → IsWalk i w (c ∷ left) → Takes i (stream_version next) taken old more head line steps c left)
       → Stands i low remaining first next taken (front ++ more) More
   unfolding next_there there
   taken_on taken more head line steps p takes =

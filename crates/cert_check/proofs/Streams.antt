@@ -7,7 +7,7 @@ use Rattle.certificate.specs.declared.node.Node.{Node}
 use Rattle.certificate.specs.declared.stream.CertStream.{CertStream}
 use Rattle.certificate.specs.Reading.{Reading}
 use Rattle.certificate.specs.Sources.{Origin}
-use Rattle.certificate.specs.Streams.{next_line, still_to_come, bytes_taken, StreamLeaves, LeavesNodes, LeavesNext, StreamIsFrom, IsNodeFault}
+use Rattle.certificate.specs.Streams.{stream_version, next_line, still_to_come, bytes_taken, StreamLeaves, LeavesNodes, LeavesNext, StreamIsFrom, IsNodeFault}
 use Rattle.certificate.proofs.Opened.{given_first, given_more, given_all}
 use Rattle.cert_check.specs.declared.fault.StreamFault.{StreamFault}
 use Rattle.cert_check.specs.declared.fault.StreamFault.TheVariants.{Read, TooLong, Text, Cert as InCert}
@@ -37,7 +37,7 @@ pub record IsPassed {R : Type 0} (remaining : R → Option (List ℕ)) (first no
 
 module _ {R : Type 0} (remaining : R → Option (List ℕ)) (first now : CertStream R) where
   pub behind_first : AreBehind remaining first first []
-  behind_first = given_first (StreamLeaves remaining first) (still_to_come first) (still_to_come first) (next_line first) refl
+  behind_first = given_first (stream_version first) (StreamLeaves remaining first) (still_to_come first) (still_to_come first) (next_line first) refl
 
   pub passed_none : IsPassed remaining first first
   passed_none = record { seen = []; behind_them = behind_first; from = λ origin is. is }
@@ -45,7 +45,7 @@ module _ {R : Type 0} (remaining : R → Option (List ℕ)) (first now : CertStr
   -- all that is left is what was passed
   pub behind_all : (seen : List Node) → AreBehind remaining first now seen → LeavesNodes remaining now (Ok []) → LeavesNodes remaining first (Ok seen)
   behind_all seen so_far ends =
-      given_all (StreamLeaves remaining first) (StreamLeaves remaining now) (still_to_come first) (still_to_come now) (next_line first) (next_line now) seen so_far ends
+      given_all (stream_version first) (StreamLeaves remaining first) (stream_version now) (StreamLeaves remaining now) (still_to_come first) (still_to_come now) (next_line first) (next_line now) seen so_far ends
 
   pub passed_all : IsPassed remaining first now → LeavesNodes remaining now (Ok []) → (rest : List Node) × LeavesNodes remaining first (Ok rest)
   passed_all p ends = (p.seen, behind_all p.seen p.behind_them ends)
@@ -68,7 +68,7 @@ module _ {R : Type 0} (remaining : R → Option (List ℕ)) (first now : CertStr
   module _ (next : CertStream R) (said : Node × ℕ) (leaves : LeavesNext remaining now next (Some said)) where
     pub behind_more : (seen : List Node) → AreBehind remaining first now seen → AreBehind remaining first next (seen ++ said.0 ∷ [])
     behind_more seen so_far =
-        given_more (StreamLeaves remaining first) (StreamLeaves remaining now) (StreamLeaves remaining next) (still_to_come first) (still_to_come now) (still_to_come next) (next_line first) (next_line now) (next_line next) seen said.0 so_far leaves
+        given_more (stream_version first) (StreamLeaves remaining first) (stream_version now) (StreamLeaves remaining now) (stream_version next) (StreamLeaves remaining next) (still_to_come first) (still_to_come now) (still_to_come next) (next_line first) (next_line now) (next_line next) seen said.0 so_far leaves
 
     pub passed_more : IsPassed remaining first now → ((origin : Origin) → StreamIsFrom remaining now origin → StreamIsFrom remaining next origin) → IsPassed remaining first next
     passed_more p from = record {

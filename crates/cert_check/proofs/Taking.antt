@@ -15,7 +15,7 @@ use Rattle.certificate.specs.declared.stream.CertStream.{CertStream}
 use Rattle.certificate.specs.RawLines.{node_said}
 use Rattle.certificate.specs.Reading.{Reading}
 use Rattle.certificate.specs.Opened.{in_front, TakesChild}
-use Rattle.certificate.specs.Streams.{next_line, still_to_come, LeavesNodes, LeavesNext, LeavesPiece, said_in_front}
+use Rattle.certificate.specs.Streams.{stream_version, next_line, still_to_come, LeavesNodes, LeavesNext, LeavesPiece, said_in_front}
 use Rattle.certificate.proofs.RawNodes.{steps_count}
 use Rattle.tree_check.specs.declared.walk.Walk.{Walk}
 use Rattle.tree_check.specs.Turns.{IsWalk}
@@ -97,14 +97,14 @@ module _ {R : Type 0} (i : Instance) (low : ℕ) (remaining : R → Option (List
         }
 
     module _ (goal count line : ℕ) (steps : Vec ℕ) (leaves : LeavesPiece remaining now next steps.items (Some (OfLeaf goal count, line))) (here : line ≡ next_line now) (passed : next_line next ≡ next_line now + 1 + count) where
-      pub leaf_read : (rs : List ReadLeaf) → AreRead (hs ++ held_leaf c goal count line steps ∷ []) rs → IsReadSoFar i low remaining first next left rs
+      pub leaf_read : (rs : List ReadLeaf) → AreRead (hs ++ held_leaf c (stream_version next) goal count line steps ∷ []) rs → IsReadSoFar i low remaining first next left rs
       leaf_read rs are =
-          let last = read_last hs (held_leaf c goal count line steps) rs are in
+          let last = read_last hs (held_leaf c (stream_version next) goal count line steps) rs are in
           let s = u.so_far last.0 last.2.1.0 in
-          let said : node_said (OfLeaf goal count) line steps.items ≡ Ok (node.Leaf (record { goal = goal; steps = last.1 })) = rw last.2.1.1 refl in
+          let said : node_said (stream_version next) (OfLeaf goal count) line steps.items ≡ Ok (node.Leaf (record { goal = goal; steps = last.1 })) = rw last.2.1.1 refl in
           let next_is : LeavesNext remaining now next (Some (node.Leaf (record { goal = goal; steps = last.1 }), line)) = λ read l. subst (λ (x : Reading Node). LeavesNodes remaining now (said_in_front x read)) said (leaves read l) in
-          let long = steps_count count (line + 1) steps.items last.1 last.2.1.1 in
-          let seen = seen_leaf i low s.seen last.0 (leaf_with (held_leaf c goal count line steps) last.1) left s.so_far (here ∙ s.line) in
+          let long = steps_count (stream_version next) count (line + 1) steps.items last.1 last.2.1.1 in
+          let seen = seen_leaf i low s.seen last.0 (leaf_with (held_leaf c (stream_version next) goal count line steps) last.1) left s.so_far (here ∙ s.line) in
           record {
             seen = s.seen ++ node.Leaf (record { goal = goal; steps = last.1 }) ∷ [];
             behind_them = behind_more remaining first now next (node.Leaf (record { goal = goal; steps = last.1 }), line) next_is s.seen s.behind_them;
@@ -112,20 +112,20 @@ module _ {R : Type 0} (i : Instance) (low : ℕ) (remaining : R → Option (List
             line = omega (arith, passed, s.line, long, line_more s.seen (node.Leaf (record { goal = goal; steps = last.1 })));
           }
 
-      pub leaf_unread : (fault : CertTextError) → IsUnread (hs ++ held_leaf c goal count line steps ∷ []) fault → (read : Reading (List Node)) → LeavesNodes remaining next read → LeavesNodes remaining first (Err fault)
-      leaf_unread fault is read l = elim (unread_last hs (held_leaf c goal count line steps) fault is) [
-        | inl before ↦ u.unread fault before (said_in_front (node_said (OfLeaf goal count) line steps.items) read) (leaves read l)
+      pub leaf_unread : (fault : CertTextError) → IsUnread (hs ++ held_leaf c (stream_version next) goal count line steps ∷ []) fault → (read : Reading (List Node)) → LeavesNodes remaining next read → LeavesNodes remaining first (Err fault)
+      leaf_unread fault is read l = elim (unread_last hs (held_leaf c (stream_version next) goal count line steps) fault is) [
+        | inl before ↦ u.unread fault before (said_in_front (node_said (stream_version next) (OfLeaf goal count) line steps.items) read) (leaves read l)
         | inr own ↦
-            let said : node_said (OfLeaf goal count) line steps.items ≡ Err fault = rw own.1 refl in
+            let said : node_said (stream_version next) (OfLeaf goal count) line steps.items ≡ Err fault = rw own.1 refl in
             let s = u.so_far own.0.0 own.0.1 in
             s.behind_them (Err fault) (subst (λ (x : Reading Node). LeavesNodes remaining now (said_in_front x read)) said (leaves read l))
       ]
 
       -- it waits with the others
-      pub leaf_waits : Waits i (held_leaf c goal count line steps) → TakesChild (still_to_come now) (still_to_come next) (node.Leaf (record { goal = goal; steps = [] })) → IsUnderWay i low remaining first next left (hs ++ held_leaf c goal count line steps ∷ [])
+      pub leaf_waits : Waits i (held_leaf c (stream_version next) goal count line steps) → TakesChild (still_to_come now) (still_to_come next) (node.Leaf (record { goal = goal; steps = [] })) → IsUnderWay i low remaining first next left (hs ++ held_leaf c (stream_version next) goal count line steps ∷ [])
       leaf_waits waits t = record {
         count = omega (arith, u.count, takes_one (still_to_come now) (still_to_come next) (node.Leaf (record { goal = goal; steps = [] })) t, leaves_more (still_to_come now) (still_to_come next) (node.Leaf (record { goal = goal; steps = [] })) t);
-        waits = All-push (Waits i) hs (held_leaf c goal count line steps) u.waits waits;
+        waits = All-push (Waits i) hs (held_leaf c (stream_version next) goal count line steps) u.waits waits;
         unread = λ fault is read l. leaf_unread fault is read l;
         so_far = λ rs are. leaf_read rs are;
       }

@@ -14,7 +14,7 @@ use Rattle.certificate.specs.Blocks.{Stops}
 use Rattle.certificate.specs.Opened.{still_due}
 use Rattle.certificate.specs.Reading.{Reading}
 use Rattle.certificate.specs.Sources.{Origin}
-use Rattle.certificate.specs.Streams.{next_line, still_to_come, bytes_taken, StreamLeaves, LeavesNodes, LeavesNext, StreamIsFrom}
+use Rattle.certificate.specs.Streams.{stream_version, next_line, still_to_come, bytes_taken, StreamLeaves, LeavesNodes, LeavesNext, StreamIsFrom}
 use Rattle.certificate.specs.Trees.{trees_of}
 use Rattle.certificate.proofs.Opened.{IsGivenSoFar}
 use Rattle.tree_check.specs.declared.fault.CertFault.{CertFault}
@@ -40,7 +40,7 @@ total_due (count ∷ above) = count + total_due above
 -- whatever nodes are left at a place, behind these ones they are what was left at first
 abbrev pub AreBehind : {R : Type 0} → (R → Option (List ℕ)) → (first at : CertStream R) → List Node → Type 0
 AreBehind remaining first at seen =
-    IsGivenSoFar (StreamLeaves remaining first) (StreamLeaves remaining at) (still_to_come first) (still_to_come at) (next_line first) (next_line at) seen
+    IsGivenSoFar (stream_version first) (StreamLeaves remaining first) (stream_version at) (StreamLeaves remaining at) (still_to_come first) (still_to_come at) (next_line first) (next_line at) seen
 
 -- Nodes were taken, of which these leaves wait, and trees for these choices are to follow.
 pub record IsReadSoFar {R : Type 0} (i : Instance) (low : ℕ) (remaining : R → Option (List ℕ)) (first at : CertStream R) (left : List Choice) (rs : List ReadLeaf) : Type 0 where

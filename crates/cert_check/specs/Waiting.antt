@@ -10,6 +10,7 @@ use Rattle.certificate.specs.declared.fault.CertTextError.TheVariants as text
 use Rattle.certificate.specs.declared.head.Head.{Head}
 use Rattle.certificate.specs.declared.head.Head.TheVariants.{OfBranch, OfLeaf}
 use Rattle.certificate.specs.declared.node.Node.TheVariants as node
+use Rattle.certificate.specs.declared.version.Version.{Version}
 use Rattle.certificate.specs.Reading.{Reading}
 use Rattle.certificate.specs.RawLines.{steps_in}
 use Rattle.tree_check.specs.declared.fault.CertFault.{CertFault}
@@ -30,7 +31,7 @@ pub record Waits (i : Instance) (h : HeldLeaf) : Type 0 where
 
 -- what reading its steps gives
 abbrev pub steps_of : HeldLeaf → Reading (List Step)
-steps_of h = steps_in h.count (h.line + 1) h.steps.items
+steps_of h = steps_in h.version h.count (h.line + 1) h.steps.items
 
 -- the leaf with these steps
 abbrev pub leaf_with : HeldLeaf → List Step → ReadLeaf
@@ -108,15 +109,15 @@ MarksOnly places count marks = (place : ℕ) → place < count → IsTrue (slice
 -- ---- one node more
 
 -- the leaf of a line that waits at a choice
-abbrev pub held_leaf : Choice → (goal count line : ℕ) → Vec ℕ → HeldLeaf
-held_leaf c goal count line steps = record { choice = c; goal = goal; count = count; line = line; steps = steps }
+abbrev pub held_leaf : Choice → Version → (goal count line : ℕ) → Vec ℕ → HeldLeaf
+held_leaf c version goal count line steps = record { choice = c; version = version; goal = goal; count = count; line = line; steps = steps }
 
 -- a node was taken at a choice, in front of these others
-abbrev pub Takes : Instance → Walk → (old new : List HeldLeaf) → Head → ℕ → Vec ℕ → Choice → List Choice → Type 0
-Takes i w old new (OfBranch branch) line steps c left =
+abbrev pub Takes : Instance → Version → Walk → (old new : List HeldLeaf) → Head → ℕ → Vec ℕ → Choice → List Choice → Type 0
+Takes i version w old new (OfBranch branch) line steps c left =
     IsBranch i c branch.kind branch.children × (IsWalk i w (child_choices i c branch.kind ++ left) × (new ≡ old))
-Takes i w old new (OfLeaf goal count) line steps c left =
-    Waits i (held_leaf c goal count line steps) × (IsWalk i w left × (new ≡ old ++ held_leaf c goal count line steps ∷ []))
+Takes i version w old new (OfLeaf goal count) line steps c left =
+    Waits i (held_leaf c version goal count line steps) × (IsWalk i w left × (new ≡ old ++ held_leaf c version goal count line steps ∷ []))
 
 -- why a node isn't taken
 abbrev pub TakeFails : Instance → Head → ℕ → Choice → StreamFault → Type 0

@@ -15,7 +15,7 @@ ghost use Rattle.cert_check.specs.UnderWay.{AnswersAll, GoesOn, IsFirst, IsSomew
 use crate::ahead::Ahead;
 use crate::fault::StreamFault;
 use crate::judge::told_before;
-use certificate::{CertStream, CertTextError, Head};
+use certificate::{CertStream, CertTextError, Head, Version};
 use held_leaves::{HeldLeaf, HeldLeaves};
 use std::alloc::Global;
 use std::io::Read;
@@ -59,18 +59,26 @@ impl Batches {
     }
 
     /// Lets a leaf wait whose line says this, and whose steps stand in the text.
-    fn hold(&mut self, alloc: Global, goal: u32, count: u32, line: u64) -> Result<(), MemoryFault>
+    fn hold(
+        &mut self,
+        alloc: Global,
+        version: Version,
+        goal: u32,
+        count: u32,
+        line: u64,
+    ) -> Result<(), MemoryFault>
         ensures walk { self.new.walk ≡ self.old.walk }
         ensures few { count < 2 ^ 32 }
         ensures most { self.new.held.most ≡ self.old.held.most }
         ensures kept { OnErr result (self.new.held.leaves.items ≡ self.old.held.leaves.items) }
         ensures held { OnOk result (self.new.held.leaves.items
-            ≡ self.old.held.leaves.items ++ held_leaf (bare self.old.walk.choice) goal count line self.old.text ∷ []) }
+            ≡ self.old.held.leaves.items ++ held_leaf (bare self.old.walk.choice) version goal count line self.old.text ∷ []) }
     {
         let choice = self.held.choice_like(alloc, self.walk.choice())?;
         let steps = self.held.text_of(alloc, &mut self.text);
         self.held.push(HeldLeaf {
             choice,
+            version,
             goal,
             count,
             line,
@@ -83,13 +91,14 @@ impl Batches {
         &mut self,
         alloc: Global,
         instance: &Instance,
+        version: Version,
         head: Head,
         line: u64,
     ) -> Result<(), StreamFault>
         requires walk { (c : Choice) × (left : List Choice) × IsWalk instance.now self.old.walk (c ∷ left) }
         requires line { line < 2 ^ 63 }
         ensures takes { OnOk result ((c : Choice) (left : List Choice) → IsWalk instance.now self.old.walk (c ∷ left)
-            → Takes instance.now self.new.walk self.old.held.leaves.items self.new.held.leaves.items head line self.old.text c left) }
+            → Takes instance.now version self.new.walk self.old.held.leaves.items self.new.held.leaves.items head line self.old.text c left) }
         ensures kept { OnErr result (self.new.held.leaves.items ≡ self.old.held.leaves.items) }
         ensures err { IfErr result (λ fault. (c : Choice) (left : List Choice) → IsWalk instance.now self.old.walk (c ∷ left)
             → TakeFails instance.now head line c fault) }
@@ -103,7 +112,9 @@ impl Batches {
                     Err(fault) => Err(StreamFault::Cert(fault)),
                 }
             }
-            (Ok(()), Head::OfLeaf(goal, count)) => match self.hold(alloc, goal, count, line) {
+            (Ok(()), Head::OfLeaf(goal, count)) => match self.hold(
+                alloc, version, goal, count, line,
+            ) {
                 Ok(()) => Ok(()),
                 Err(_) => Err(StreamFault::Text(CertTextError::OutOfMemory)),
             },
@@ -133,7 +144,7 @@ impl Batches {
                 let Some(said) = next else {
                     return Ahead::End;
                 };
-                match self.take(alloc, instance, said.0, said.1) {
+                match self.take(alloc, instance, stream.version(), said.0, said.1) {
                     Ok(()) => Ahead::More,
                     Err(fault) => Ahead::Fault(fault),
                 }

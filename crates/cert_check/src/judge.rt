@@ -65,6 +65,7 @@ impl<'a, T> Judge<'a, T> {
         let LeafRoom { facts, steps } = room;
         match read_steps(
             self.alloc,
+            held.version,
             steps,
             held.line,
             held.count,
@@ -144,7 +145,14 @@ pub fn told_before(alloc: Global, leaves: &[HeldLeaf], fault: StreamFault) -> St
     for k in 0..leaves.len() {
         let held = &leaves[k];
         let room = Vec::new(alloc);
-        if let Err(text) = read_steps(alloc, room, held.line, held.count, held.steps.as_slice()) {
+        if let Err(text) = read_steps(
+            alloc,
+            held.version,
+            room,
+            held.line,
+            held.count,
+            held.steps.as_slice(),
+        ) {
             return StreamFault::Text(text);
         }
     }

@@ -17,5 +17,6 @@ pub mod StreamLaws
 pub mod Tables
 pub mod TreeLaws
 pub mod TreeLists
+pub mod Versions
 pub mod WholeText
 pub mod WordLists

@@ -17,13 +17,14 @@ use Rattle.certificate.specs.Opened.{with_front, ReadsLevels, ended, ReadsRest, 
 use Rattle.certificate.proofs.NodeLoop.{closed, grown, snoc, begins}
 use Rattle.certificate.proofs.TreeLists.{trees_of-preorder}
 use Rattle.certificate.proofs.TreeLaws.{trees_take}
+use Rattle.certificate.specs.declared.version.Version.{Version}
 
 -- ---- branches without a child to come
 
-pub reopened : (due : List ℕ) (line : ℕ) (text : List ℕ) (nodes : Reading (List Node × List ℕ)) → ReadsLevels (still_due due) line text nodes → ReadsLevels due line text nodes
-reopened [] line text nodes h = h
-reopened (zero ∷ above) line text nodes h = closed above line text nodes (reopened above line text nodes h)
-reopened (suc k ∷ above) line text nodes h = h
+pub reopened : (version : Version) (due : List ℕ) (line : ℕ) (text : List ℕ) (nodes : Reading (List Node × List ℕ)) → ReadsLevels version (still_due due) line text nodes → ReadsLevels version due line text nodes
+reopened version [] line text nodes h = h
+reopened version (zero ∷ above) line text nodes h = closed version above line text nodes (reopened version above line text nodes h)
+reopened version (suc k ∷ above) line text nodes h = h
 
 -- the innermost branch is closed
 pub still_due-closed : (due above : List ℕ) (count : ℕ) → count ≤ 0 → due ≡ above ++ count ∷ [] → still_due (reverse due) ≡ still_due (reverse above)
@@ -42,20 +43,20 @@ still_due-none due e = ap (λ (ks : List ℕ). still_due (reverse ks)) e
 
 -- ---- the end
 
-pub no_more : (Before : List ℕ → Type 0) (due : List ℕ) (line : ℕ) → still_due (reverse due) ≡ [] → Before [] → Gives Before due line (Ok [])
-no_more Before due line e left =
-    let levels : ReadsLevels (still_due (reverse due)) line [] (Ok ([], [])) = rw e refl in
-    ([], (left, (Ok ([], []), (reopened (reverse due) line [] (Ok ([], [])) levels, refl))))
+pub no_more : (version : Version) (Before : List ℕ → Type 0) (due : List ℕ) (line : ℕ) → still_due (reverse due) ≡ [] → Before [] → Gives version Before due line (Ok [])
+no_more version Before due line e left =
+    let levels : ReadsLevels version (still_due (reverse due)) line [] (Ok ([], [])) = rw e refl in
+    ([], (left, (Ok ([], []), (reopened version (reverse due) line [] (Ok ([], [])) levels, refl))))
 
 trailing : (line : ℕ) (text : List ℕ) (fault : CertTextError) → end_at line text ≡ Err fault → Err fault ≡ ended line (Ok ([], text))
 trailing line text fault e =
     let here : end_at (line + 0) text ≡ Err fault = ap (λ (n : ℕ). end_at n text) (add-zero line) ∙ e in
     rw here refl
 
-pub more_fails : (Before : List ℕ → Type 0) (due : List ℕ) (line : ℕ) → still_due (reverse due) ≡ [] → (fault : CertTextError) → Fails Before (end_at line) fault → Gives Before due line (Err fault)
-more_fails Before due line e fault f =
-    let levels : ReadsLevels (still_due (reverse due)) line f.0 (Ok ([], f.0)) = rw e refl in
-    (f.0, (f.1.0, (Ok ([], f.0), (reopened (reverse due) line f.0 (Ok ([], f.0)) levels, trailing line f.0 fault f.1.1))))
+pub more_fails : (version : Version) (Before : List ℕ → Type 0) (due : List ℕ) (line : ℕ) → still_due (reverse due) ≡ [] → (fault : CertTextError) → Fails Before (end_at line) fault → Gives version Before due line (Err fault)
+more_fails version Before due line e fault f =
+    let levels : ReadsLevels version (still_due (reverse due)) line f.0 (Ok ([], f.0)) = rw e refl in
+    (f.0, (f.1.0, (Ok ([], f.0), (reopened version (reverse due) line f.0 (Ok ([], f.0)) levels, trailing line f.0 fault f.1.1))))
 
 -- ---- the next node
 
@@ -83,54 +84,54 @@ module _ (Before After : List ℕ → Type 0) (due mid new : List ℕ) (count li
   pub takes_child : TakesChild due new node
   takes_child = record { count = count - 1; above = reverse mid; was = opened; is = turned }
 
-  pub node_next : Says Before After (text_node (length mid) line) node → (read : Reading (List Node)) → Gives After new (line + node_lines node) read → Gives Before due line (in_front node read)
-  node_next said read g =
+  pub node_next : (version : Version) → Says Before After (text_node version (length mid) line) node → (read : Reading (List Node)) → Gives version After new (line + node_lines node) read → Gives version Before due line (in_front node read)
+  node_next version said read g =
       let t = said g.0 g.1.0 in
       let nodes = g.1.1.0 in
-      let here : text_node (length (reverse mid)) line t.0 ≡ Ok (node, g.0) = ap (λ (d : ℕ). text_node d line t.0) (length-reverse mid) ∙ t.1.1 in
-      let further : ReadsLevels (children node ∷ (count - 1) ∷ reverse mid) (line + node_lines node) g.0 g.1.1.0 = subst (λ (ks : List ℕ). ReadsLevels ks (line + node_lines node) g.0 g.1.1.0) turned g.1.1.1.0 in
-      let levels = grown (count - 1) (reverse mid) line t.0 node g.0 here g.1.1.0 further in
-      let all = reopened (reverse due) line t.0 (with_front (node ∷ []) g.1.1.0) (subst (λ (ks : List ℕ). ReadsLevels ks line t.0 (with_front (node ∷ []) g.1.1.0)) (sym opened) levels) in
+      let here : text_node version (length (reverse mid)) line t.0 ≡ Ok (node, g.0) = ap (λ (d : ℕ). text_node version d line t.0) (length-reverse mid) ∙ t.1.1 in
+      let further : ReadsLevels version (children node ∷ (count - 1) ∷ reverse mid) (line + node_lines node) g.0 g.1.1.0 = subst (λ (ks : List ℕ). ReadsLevels version ks (line + node_lines node) g.0 g.1.1.0) turned g.1.1.1.0 in
+      let levels = grown version (count - 1) (reverse mid) line t.0 node g.0 here g.1.1.0 further in
+      let all = reopened version (reverse due) line t.0 (with_front (node ∷ []) g.1.1.0) (subst (λ (ks : List ℕ). ReadsLevels version ks line t.0 (with_front (node ∷ []) g.1.1.0)) (sym opened) levels) in
       (t.0, (t.1.0, (with_front (node ∷ []) g.1.1.0, (all, ap (in_front node) g.1.1.1.1 ∙ sym (moved line node g.1.1.0)))))
 
-pub node_fails : (Before : List ℕ → Type 0) (due mid : List ℕ) (count line : ℕ) → 0 < count → still_due (reverse due) ≡ count ∷ reverse mid
-    → (fault : CertTextError) → Fails Before (text_node (length mid) line) fault → Gives Before due line (Err fault)
-node_fails Before due mid count line some was fault f =
+pub node_fails : (version : Version) (Before : List ℕ → Type 0) (due mid : List ℕ) (count line : ℕ) → 0 < count → still_due (reverse due) ≡ count ∷ reverse mid
+    → (fault : CertTextError) → Fails Before (text_node version (length mid) line) fault → Gives version Before due line (Err fault)
+node_fails version Before due mid count line some was fault f =
     let more : count ≡ suc (count - 1) = omega (arith, some) in
-    let here : text_node (length (reverse mid)) line f.0 ≡ Err fault = ap (λ (d : ℕ). text_node d line f.0) (length-reverse mid) ∙ f.1.1 in
-    let levels : ReadsLevels (suc (count - 1) ∷ reverse mid) line f.0 (Err fault) = (Err fault, (wrong_node (length (reverse mid)) (count - 1) line f.0 fault here, refl)) in
-    let all = reopened (reverse due) line f.0 (Err fault) (subst (λ (ks : List ℕ). ReadsLevels ks line f.0 (Err fault)) (sym (was ∙ ap (λ (k : ℕ). k ∷ reverse mid) more)) levels) in
+    let here : text_node version (length (reverse mid)) line f.0 ≡ Err fault = ap (λ (d : ℕ). text_node version d line f.0) (length-reverse mid) ∙ f.1.1 in
+    let levels : ReadsLevels version (suc (count - 1) ∷ reverse mid) line f.0 (Err fault) = (Err fault, (wrong_node (length (reverse mid)) (count - 1) line f.0 fault here, refl)) in
+    let all = reopened version (reverse due) line f.0 (Err fault) (subst (λ (ks : List ℕ). ReadsLevels version ks line f.0 (Err fault)) (sym (was ∙ ap (λ (k : ℕ). k ∷ reverse mid) more)) levels) in
     (f.0, (f.1.0, (Err fault, (all, refl))))
 
 -- a fault of a part is one of the rest
-pub rest_of_part : {A : Type 0} (e : SourceFault) (Stops Others : SourceFault → Type 0) (Before : List ℕ → Type 0) (at : List ℕ → Reading A) (due : List ℕ) (line : ℕ)
-    → ((x : SourceFault) → Stops x → Others x) → ((fault : CertTextError) → Fails Before at fault → Gives Before due line (Err fault))
-    → IsFaultOn Stops Before at e → IsRestFault Others Before due line e
-rest_of_part Read Stops Others Before at due line stop fails h = stop Read h
-rest_of_part TooLong Stops Others Before at due line stop fails h = stop TooLong h
-rest_of_part (Text OutOfMemory) Stops Others Before at due line stop fails h = stop (Text OutOfMemory) h
-rest_of_part (Text (At at-line fault)) Stops Others Before at due line stop fails h = fails (At at-line fault) h
+pub rest_of_part : (version : Version) {A : Type 0} (e : SourceFault) (Stops Others : SourceFault → Type 0) (Before : List ℕ → Type 0) (at : List ℕ → Reading A) (due : List ℕ) (line : ℕ)
+    → ((x : SourceFault) → Stops x → Others x) → ((fault : CertTextError) → Fails Before at fault → Gives version Before due line (Err fault))
+    → IsFaultOn Stops Before at e → IsRestFault version Others Before due line e
+rest_of_part version Read Stops Others Before at due line stop fails h = stop Read h
+rest_of_part version TooLong Stops Others Before at due line stop fails h = stop TooLong h
+rest_of_part version (Text OutOfMemory) Stops Others Before at due line stop fails h = stop (Text OutOfMemory) h
+rest_of_part version (Text (At at-line fault)) Stops Others Before at due line stop fails h = fails (At at-line fault) h
 
 -- ---- the whole text
 
-whole_nodes : (low : ℕ) (trees : Reading (Trees × List ℕ)) (body : List ℕ) → ReadsTrees 0 1 3 body trees → certificate_with low (ended 3 (nodes_in trees)) ≡ certificate_of low trees
-whole_nodes low (Err fault) body r = refl
-whole_nodes low (Ok t) body r =
-    let taken = trees_take r (omega arith) in
+whole_nodes : (version : Version) (low : ℕ) (trees : Reading (Trees × List ℕ)) (body : List ℕ) → ReadsTrees version 0 1 3 body trees → certificate_with version low (ended 3 (nodes_in trees)) ≡ certificate_of version low trees
+whole_nodes version low (Err fault) body r = refl
+whole_nodes version low (Ok t) body r =
+    let taken = trees_take version r (omega arith) in
     let same : trees_of (preorder t.0) ≡ t.0 = trees_of-preorder 1 t.0 taken.trees in
-    elim (end_at (3 + lines t.0) t.1) as (λ e. certificate_with low (e >>= λ _. Ok (preorder t.0)) ≡ (e >>= λ _. Ok (record { low = low; tree = t.0 })))
-    [ Ok u ↦ ap (λ (x : Trees). Ok (record { low = low; tree = x })) same | Err fault ↦ refl ]
+    elim (end_at (3 + lines t.0) t.1) as (λ e. certificate_with version low (e >>= λ _. Ok (preorder t.0)) ≡ (e >>= λ _. Ok (record { version = version; low = low; tree = t.0 })))
+    [ Ok u ↦ ap (λ (x : Trees). Ok (record { version = version; low = low; tree = x })) same | Err fault ↦ refl ]
 
 unfronted : (nodes : Reading (List Node × List ℕ)) → nodes ≡ with_front [] nodes
 unfronted (Ok x) = refl
 unfronted (Err fault) = refl
 
 -- the nodes from line 3 on make what the whole text gives
-pub whole_text : (text body : List ℕ) (low : ℕ) (read : Reading (List Node)) → low_at text ≡ Ok (low, body) → ReadsRest (1 ∷ []) 3 body read → Reads text (certificate_with low read)
-whole_text text body low read e rest =
-    let trees = begins body rest.0 rest.1.0 in
+pub whole_text : (version : Version) (text body : List ℕ) (low : ℕ) (read : Reading (List Node)) → low_at text ≡ Ok ((version, low), body) → ReadsRest version (1 ∷ []) 3 body read → Reads text (certificate_with version low read)
+whole_text version text body low read e rest =
+    let trees = begins version body rest.0 rest.1.0 in
     let nodes_are : rest.0 ≡ nodes_in trees.0 = unfronted rest.0 ∙ trees.1.1 in
-    let given : certificate_with low read ≡ certificate_of low trees.0 = ap (certificate_with low) (rest.1.1 ∙ ap (ended 3) nodes_are) ∙ whole_nodes low trees.0 body trees.1.0 in
+    let given : certificate_with version low read ≡ certificate_of version low trees.0 = ap (certificate_with version low) (rest.1.1 ∙ ap (ended 3) nodes_are) ∙ whole_nodes version low trees.0 body trees.1.0 in
     rw e (trees.0, (trees.1.0, given))
 
 -- ---- all nodes
@@ -140,37 +141,39 @@ abbrev pub behind : List Node → Reading (List Node) → Reading (List Node)
 behind front read = read >>= λ nodes. Ok (front ++ nodes)
 
 -- Whatever is left, with the nodes so far in front it is what was left at first.
-abbrev pub IsGivenSoFar : (Before Now : List ℕ → Type 0) (first due : List ℕ) (line line_now : ℕ) (front : List Node) → Type 0
-IsGivenSoFar Before Now first due line line_now front = (read : Reading (List Node)) → Gives Now due line_now read → Gives Before first line (behind front read)
+abbrev pub IsGivenSoFar : Version → (List ℕ → Type 0) → Version → (List ℕ → Type 0) → (first due : List ℕ) (line line_now : ℕ) (front : List Node) → Type 0
+IsGivenSoFar version Before version_now Now first due line line_now front =
+    (read : Reading (List Node)) → Gives version_now Now due line_now read → Gives version Before first line (behind front read)
 
 behind_none : (read : Reading (List Node)) → behind [] read ≡ read
 behind_none (Ok nodes) = refl
 behind_none (Err fault) = refl
 
-pub given_first : (Before : List ℕ → Type 0) (first due : List ℕ) (line : ℕ) → due ≡ first → IsGivenSoFar Before Before first due line line []
-given_first Before first due line e read g = rw behind_none (subst (λ (ks : List ℕ). Gives Before ks line read) e g)
+pub given_first : (version : Version) (Before : List ℕ → Type 0) (first due : List ℕ) (line : ℕ) → due ≡ first → IsGivenSoFar version Before version Before first due line line []
+given_first version Before first due line e read g = rw behind_none (subst (λ (ks : List ℕ). Gives version Before ks line read) e g)
 
 behind_more : (front : List Node) (node : Node) (read : Reading (List Node)) → behind front (in_front node read) ≡ behind (front ++ node ∷ []) read
 behind_more front node (Ok nodes) = ap Ok (sym (append_assoc front (node ∷ []) nodes))
 behind_more front node (Err fault) = refl
 
-pub given_more : (Before Now After : List ℕ → Type 0) (first due new : List ℕ) (line line_now line_new : ℕ) (front : List Node) (node : Node)
-    → IsGivenSoFar Before Now first due line line_now front → ((read : Reading (List Node)) → Gives After new line_new read → Gives Now due line_now (in_front node read))
-    → IsGivenSoFar Before After first new line line_new (front ++ node ∷ [])
-given_more Before Now After first due new line line_now line_new front node so_far next read g =
-    subst (λ (r : Reading (List Node)). Gives Before first line r) (behind_more front node read) (so_far (in_front node read) (next read g))
+pub given_more : (version : Version) (Before : List ℕ → Type 0) (version_now : Version) (Now : List ℕ → Type 0) (version_new : Version) (After : List ℕ → Type 0) (first due new : List ℕ) (line line_now line_new : ℕ) (front : List Node) (node : Node)
+    → IsGivenSoFar version Before version_now Now first due line line_now front → ((read : Reading (List Node)) → Gives version_new After new line_new read → Gives version_now Now due line_now (in_front node read))
+    → IsGivenSoFar version Before version_new After first new line line_new (front ++ node ∷ [])
+given_more version Before version_now Now version_new After first due new line line_now line_new front node so_far next read g =
+    subst (λ (r : Reading (List Node)). Gives version Before first line r) (behind_more front node read) (so_far (in_front node read) (next read g))
 
-pub given_all : (Before Now : List ℕ → Type 0) (first due : List ℕ) (line line_now : ℕ) (front : List Node) → IsGivenSoFar Before Now first due line line_now front → Gives Now due line_now (Ok [])
-    → Gives Before first line (Ok front)
-given_all Before Now first due line line_now front so_far g =
-    subst (λ (ns : List Node). Gives Before first line (Ok ns)) (append-nil front) (so_far (Ok []) g)
+pub given_all : (version : Version) (Before : List ℕ → Type 0) (version_now : Version) (Now : List ℕ → Type 0) (first due : List ℕ) (line line_now : ℕ) (front : List Node)
+    → IsGivenSoFar version Before version_now Now first due line line_now front → Gives version_now Now due line_now (Ok [])
+    → Gives version Before first line (Ok front)
+given_all version Before version_now Now first due line line_now front so_far g =
+    subst (λ (ns : List Node). Gives version Before first line (Ok ns)) (append-nil front) (so_far (Ok []) g)
 
-pub given_fault : (e : SourceFault) (Stops : SourceFault → Type 0) (Before Now : List ℕ → Type 0) (first due : List ℕ) (line line_now : ℕ) (front : List Node)
-    → IsGivenSoFar Before Now first due line line_now front → IsRestFault Stops Now due line_now e → IsRestFault Stops Before first line e
-given_fault Read Stops Before Now first due line line_now front so_far h = h
-given_fault TooLong Stops Before Now first due line line_now front so_far h = h
-given_fault (Text OutOfMemory) Stops Before Now first due line line_now front so_far h = h
-given_fault (Text (At at fault)) Stops Before Now first due line line_now front so_far h = so_far (Err (At at fault)) h
+pub given_fault : (e : SourceFault) (Stops : SourceFault → Type 0) (version : Version) (Before : List ℕ → Type 0) (version_now : Version) (Now : List ℕ → Type 0) (first due : List ℕ) (line line_now : ℕ) (front : List Node)
+    → IsGivenSoFar version Before version_now Now first due line line_now front → IsRestFault version_now Stops Now due line_now e → IsRestFault version Stops Before first line e
+given_fault Read Stops version Before version_now Now first due line line_now front so_far h = h
+given_fault TooLong Stops version Before version_now Now first due line line_now front so_far h = h
+given_fault (Text OutOfMemory) Stops version Before version_now Now first due line line_now front so_far h = h
+given_fault (Text (At at fault)) Stops version Before version_now Now first due line line_now front so_far h = so_far (Err (At at fault)) h
 
 pub some_line : (node : Node) → 0 < node_lines node
 some_line (Branch branch) = omega arith

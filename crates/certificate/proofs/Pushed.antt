@@ -1,7 +1,7 @@
 -- How a text grows in a loop over the elements of a list.
 use Rattle.std.proofs.Common.{◌≡◌, ℕ, ◌+◌, ◌^◌, ◌<◌, ◌≤◌, List, [], ◌∷◌, ◌++◌, length, get_or, take, All, sym, ap, subst, ◌∙◌, append_assoc}
 use Rattle.std.specs.List.{flat_map}
-use Rattle.std.specs.Prelude.{Result, OnOk, codes}
+use Rattle.std.specs.Prelude.{Result, OnOk}
 use Rattle.std.proofs.lemmas.List.{take_more, take_all, append-nil}
 use Rattle.std.proofs.lemmas.List.Elements.{All-more, All-from_get_or}
 use Rattle.std.proofs.lemmas.Grind.{flat_map-append}
@@ -32,9 +32,9 @@ pub all_fit : {X : Type 0} (P : X → Type 0) (xs : List X) (k : ℕ) → length
 all_fit {X} P xs k le all = subst (All P) (take_all k xs le) all
 
 -- the whole text, line by line
-pub text_pushed : (t0 t1 t2 t3 line nodes : List ℕ) → t0 ≡ [] → t1 ≡ t0 ++ codes "ttcert 1\n" → t2 ≡ t1 ++ (line ++ 10 ∷ []) → t3 ≡ t2 ++ nodes
-    → t3 ≡ codes "ttcert 1" ++ 10 ∷ (line ++ 10 ∷ nodes)
-text_pushed t0 t1 t2 t3 line nodes e0 e1 e2 e3 = rw (e3, e2, e1, e0) (simp append_assoc)
+pub text_pushed : (first t0 t1 t2 t3 t4 line nodes : List ℕ) → t0 ≡ [] → t1 ≡ t0 ++ first → t2 ≡ t1 ++ 10 ∷ [] → t3 ≡ t2 ++ (line ++ 10 ∷ []) → t4 ≡ t3 ++ nodes
+    → t4 ≡ first ++ 10 ∷ (line ++ 10 ∷ nodes)
+text_pushed first t0 t1 t2 t3 t4 line nodes e0 e1 e2 e3 e4 = rw (e4, e3, e2, e1, e0) (simp append_assoc)
 
 -- a whole line: the keyword, what stands behind it, and the end
 pub line_pushed : (f : ℕ → List ℕ) (xs : List ℕ) (k : ℕ) (start keyword t0 t1 t2 : List ℕ) → length xs ≤ k → t0 ≡ start ++ keyword → t1 ≡ t0 ++ flat_map f (take k xs) → t2 ≡ t1 ++ 10 ∷ []

@@ -18,6 +18,8 @@ use Rattle.certificate.specs.ManyLines.{AreLines, BeginLines}
 use Rattle.certificate.specs.RawLines.{PassesSome, PassesLines, steps_in}
 use Rattle.certificate.proofs.Heads.{line_again}
 use Rattle.certificate.proofs.Blocks.{consumes_more, consumes_none, early_end, held_behind, nothing_held}
+use Rattle.certificate.specs.declared.version.Version.{Version}
+use Rattle.certificate.specs.Versions.{allows_step}
 
 -- ---- lines behind lines
 
@@ -144,12 +146,12 @@ module _ (known now : Option (List ℕ)) (old here : Block) (text : List ℕ) (c
 
 -- ---- reading them
 
-step_there : (line : ℕ) (first rest : List ℕ) → Lacks 10 first → text_step line (first ++ 10 ∷ rest) ≡ (said_in step_words steps_with line first >>= λ step. Ok (step, rest))
+step_there : (version : Version) (line : ℕ) (first rest : List ℕ) → Lacks 10 first → text_step version line (first ++ 10 ∷ rest) ≡ (said_in step_words steps_with (allows_step version) line first >>= λ step. Ok (step, rest))
 unfolding text_step
-step_there line first rest lacks = rw (line_again line first rest lacks) refl
+step_there version line first rest lacks = rw (line_again line first rest lacks) refl
 
-abbrev steps_after : ℕ → ℕ → Reading (Step × List ℕ) → Reading (List Step × List ℕ)
-steps_after k line read = read >>= λ first. steps_at k line first.1 >>= λ others. Ok (first.0 ∷ others.0, others.1)
+abbrev steps_after : Version → ℕ → ℕ → Reading (Step × List ℕ) → Reading (List Step × List ℕ)
+steps_after version k line read = read >>= λ first. steps_at version k line first.1 >>= λ others. Ok (first.0 ∷ others.0, others.1)
 
 abbrev behind_all : List ℕ → Reading (List Step × List ℕ) → Reading (List Step × List ℕ)
 behind_all more read = (read >>= λ x. Ok x.0) >>= λ steps. Ok (steps, more)
@@ -158,44 +160,44 @@ one_more : (step : Step) (more : List ℕ) (read : Reading (List Step × List �
 one_more step more (Ok x) = refl
 one_more step more (Err fault) = refl
 
-all_behind : (said : Reading Step) (k line : ℕ) (rest more : List ℕ) → steps_at k line (rest ++ more) ≡ behind_all more (steps_at k line rest)
-    → steps_after k line (said >>= λ step. Ok (step, rest ++ more)) ≡ behind_all more (steps_after k line (said >>= λ step. Ok (step, rest)))
-all_behind (Ok step) k line rest more e = rw e (one_more step more (steps_at k line rest))
-all_behind (Err fault) k line rest more e = refl
+all_behind : (version : Version) (said : Reading Step) (k line : ℕ) (rest more : List ℕ) → steps_at version k line (rest ++ more) ≡ behind_all more (steps_at version k line rest)
+    → steps_after version k line (said >>= λ step. Ok (step, rest ++ more)) ≡ behind_all more (steps_after version k line (said >>= λ step. Ok (step, rest)))
+all_behind version (Ok step) k line rest more e = rw e (one_more step more (steps_at version k line rest))
+all_behind version (Err fault) k line rest more e = refl
 
 -- so many lines read as they do where other text follows
-pub steps_front : (k line : ℕ) (text more : List ℕ) → AreLines k text → steps_at k line (text ++ more) ≡ (steps_in k line text >>= λ steps. Ok (steps, more))
+pub steps_front : (version : Version) (k line : ℕ) (text more : List ℕ) → AreLines k text → steps_at version k line (text ++ more) ≡ (steps_in version k line text >>= λ steps. Ok (steps, more))
 unfolding steps_at
-steps_front zero line text more l = ap (λ (t : List ℕ). Ok ([], t ++ more)) l
-steps_front (suc k) line text more l =
+steps_front version zero line text more l = ap (λ (t : List ℕ). Ok ([], t ++ more)) l
+steps_front version (suc k) line text more l =
     let first = l.0 in
     let rest = l.1 in
-    let after = all_behind (said_in step_words steps_with line l.0) k (line + 1) l.1 more (steps_front k (line + 1) l.1 more l.2.1.1) in
-    ap (λ (t : List ℕ). steps_at (suc k) line (t ++ more)) l.2.0
-    ∙ ap (steps_at (suc k) line) (append_assoc l.0 (10 ∷ l.1) more)
-    ∙ ap (steps_after k (line + 1)) (step_there line l.0 (l.1 ++ more) l.2.1.0)
+    let after = all_behind version (said_in step_words steps_with (allows_step version) line l.0) k (line + 1) l.1 more (steps_front version k (line + 1) l.1 more l.2.1.1) in
+    ap (λ (t : List ℕ). steps_at version (suc k) line (t ++ more)) l.2.0
+    ∙ ap (steps_at version (suc k) line) (append_assoc l.0 (10 ∷ l.1) more)
+    ∙ ap (steps_after version k (line + 1)) (step_there version line l.0 (l.1 ++ more) l.2.1.0)
     ∙ after
-    ∙ ap (λ (read : Reading (Step × List ℕ)). behind_all more (steps_after k (line + 1) read)) (sym (step_there line l.0 l.1 l.2.1.0))
-    ∙ ap (λ (t : List ℕ). behind_all more (steps_at (suc k) line t)) (sym l.2.0)
+    ∙ ap (λ (read : Reading (Step × List ℕ)). behind_all more (steps_after version k (line + 1) read)) (sym (step_there version line l.0 l.1 l.2.1.0))
+    ∙ ap (λ (t : List ℕ). behind_all more (steps_at version (suc k) line t)) (sym l.2.0)
 
-others_read : (said : Reading Step) (c line : ℕ) (rest : List ℕ) (x : List Step × List ℕ) → steps_after c line (said >>= λ step. Ok (step, rest)) ≡ Ok x
-    → (others : List Step × List ℕ) × (steps_at c line rest ≡ Ok others)
-others_read (Ok step) c line rest x e = let b = bind_ok (steps_at c line rest) _ x e in (b.0, b.1)
-others_read (Err fault) c line rest x e = absurd cc
+others_read : (version : Version) (said : Reading Step) (c line : ℕ) (rest : List ℕ) (x : List Step × List ℕ) → steps_after version c line (said >>= λ step. Ok (step, rest)) ≡ Ok x
+    → (others : List Step × List ℕ) × (steps_at version c line rest ≡ Ok others)
+others_read version (Ok step) c line rest x e = let b = bind_ok (steps_at version c line rest) _ x e in (b.0, b.1)
+others_read version (Err fault) c line rest x e = absurd cc
 
-step_ends_early : (line : ℕ) (text : List ℕ) → Lacks 10 text → text_step line text ≡ Err (At line EarlyEnd)
+step_ends_early : (version : Version) (line : ℕ) (text : List ℕ) → Lacks 10 text → text_step version line text ≡ Err (At line EarlyEnd)
 unfolding text_step
-step_ends_early line text lacks = rw (early_end line text lacks) refl
+step_ends_early version line text lacks = rw (early_end line text lacks) refl
 
 -- fewer lines are at fault
-pub too_few : (k c line : ℕ) (text : List ℕ) (x : List Step × List ℕ) → k < c → BeginLines k text → steps_at c line text ≡ Ok x → ⊥
+pub too_few : (version : Version) (k c line : ℕ) (text : List ℕ) (x : List Step × List ℕ) → k < c → BeginLines k text → steps_at version c line text ≡ Ok x → ⊥
 unfolding steps_at
-too_few k zero line text x lt l e = absurd (omega (arith, lt))
-too_few zero (suc c) line text x lt l e =
-    let none : steps_at (suc c) line text ≡ Err (At line EarlyEnd) = ap (steps_after c (line + 1)) (step_ends_early line text l) in
+too_few version k zero line text x lt l e = absurd (omega (arith, lt))
+too_few version zero (suc c) line text x lt l e =
+    let none : steps_at version (suc c) line text ≡ Err (At line EarlyEnd) = ap (steps_after version c (line + 1)) (step_ends_early version line text l) in
     absurd (cc (none, e))
-too_few (suc k) (suc c) line text x lt l e =
-    let there : steps_at (suc c) line text ≡ steps_after c (line + 1) (said_in step_words steps_with line l.0 >>= λ step. Ok (step, l.1)) =
-    ap (steps_at (suc c) line) l.2.0 ∙ ap (steps_after c (line + 1)) (step_there line l.0 l.1 l.2.1.0) in
-    let others = others_read (said_in step_words steps_with line l.0) c (line + 1) l.1 x (sym there ∙ e) in
-    too_few k c (line + 1) l.1 others.0 (omega (arith, lt)) l.2.1.1 others.1
+too_few version (suc k) (suc c) line text x lt l e =
+    let there : steps_at version (suc c) line text ≡ steps_after version c (line + 1) (said_in step_words steps_with (allows_step version) line l.0 >>= λ step. Ok (step, l.1)) =
+    ap (steps_at version (suc c) line) l.2.0 ∙ ap (steps_after version c (line + 1)) (step_there version line l.0 l.1 l.2.1.0) in
+    let others = others_read version (said_in step_words steps_with (allows_step version) line l.0) c (line + 1) l.1 x (sym there ∙ e) in
+    too_few version k c (line + 1) l.1 others.0 (omega (arith, lt)) l.2.1.1 others.1

@@ -10,6 +10,8 @@ use Rattle.certificate.specs.declared.fault.LineFault.TheVariants.{Form, Number}
 use Rattle.certificate.specs.declared.fault.CertTextError.{CertTextError}
 use Rattle.certificate.specs.declared.fault.CertTextError.TheVariants.{At, OutOfMemory}
 use Rattle.certificate.specs.Words.{step_words, steps_with}
+use Rattle.certificate.specs.declared.version.Version.{Version}
+use Rattle.certificate.specs.Versions.{allows_step}
 use Rattle.certificate.specs.Reading.{numbers_of, is_number_word, fits, value_of, with_keyword, said_in, IsFaultOf}
 use Rattle.certificate.specs.Numbers.{ring_with, ring_at}
 
@@ -38,28 +40,30 @@ is_done line text processes fit rest word so_far last numeral =
 long : (a b : ℕ) (more : List ℕ) → nat_le 2 (length (a ∷ b ∷ more)) ≡ true
 long a b more = grind arith
 
-said_cycle : (line : ℕ) (ns : List ℕ) (form size : Bool)
-    → (check (At line Form) form >>= λ _. or_fault (At line Form) (with_keyword step_words (codes "x-cycle") (steps_with ns)) >>= λ step. check (At line Number) size >>= λ _. Ok step)
+said_cycle : (version : Version) (line : ℕ) (ns : List ℕ) (form size : Bool)
+    → (check (At line Form) form >>= λ _. or_fault (At line Form) (with_keyword step_words (codes "x-cycle") (steps_with ns)) >>= λ step. check (At line Form) (allows_step version step) >>= λ _. check (At line Number) size >>= λ _. Ok step)
     ≡ ((check (At line Form) form >>= λ _. ring_with line ns size) >>= λ ps. Ok (XCycle ps))
-said_cycle line ns false size = refl
-said_cycle line [] true size = refl
-said_cycle line (a ∷ []) true size = refl
-said_cycle line (a ∷ b ∷ []) true true = refl
-said_cycle line (a ∷ b ∷ []) true false = refl
-said_cycle line (a ∷ b ∷ c ∷ []) true true = refl
-said_cycle line (a ∷ b ∷ c ∷ []) true false = refl
-said_cycle line (a ∷ b ∷ c ∷ d ∷ ns) true true = rw (long a b (c ∷ d ∷ ns)) refl
-said_cycle line (a ∷ b ∷ c ∷ d ∷ ns) true false = rw (long a b (c ∷ d ∷ ns)) refl
+said_cycle version line ns false size = refl
+said_cycle version line [] true size = refl
+said_cycle version line (a ∷ []) true size = refl
+said_cycle version line (a ∷ b ∷ []) true true = refl
+said_cycle version line (a ∷ b ∷ []) true false = refl
+said_cycle version line (a ∷ b ∷ c ∷ []) true true = refl
+said_cycle version line (a ∷ b ∷ c ∷ []) true false = refl
+said_cycle version line (a ∷ b ∷ c ∷ d ∷ []) true true = refl
+said_cycle version line (a ∷ b ∷ c ∷ d ∷ []) true false = refl
+said_cycle version line (a ∷ b ∷ c ∷ d ∷ e ∷ ns) true true = rw (long a b (c ∷ d ∷ e ∷ ns)) refl
+said_cycle version line (a ∷ b ∷ c ∷ d ∷ e ∷ ns) true false = rw (long a b (c ∷ d ∷ e ∷ ns)) refl
 
-pub cycle_in : (line : ℕ) (text keyword rest : List ℕ) → cut 32 text ≡ Some (keyword, rest) → keyword ≡ codes "x-cycle"
-    → said_in step_words steps_with line text ≡ (ring_at line rest >>= λ ps. Ok (XCycle ps))
+pub cycle_in : (version : Version) (line : ℕ) (text keyword rest : List ℕ) → cut 32 text ≡ Some (keyword, rest) → keyword ≡ codes "x-cycle"
+    → said_in step_words steps_with (allows_step version) line text ≡ (ring_at line rest >>= λ ps. Ok (XCycle ps))
 unfolding said_in ring_at
-cycle_in line text keyword rest e k =
-    rw (e, k) (said_cycle line (map value_of (numbers_of rest)) (list_all is_number_word (numbers_of rest)) (list_all fits (numbers_of rest)))
+cycle_in version line text keyword rest e k =
+    rw (e, k) (said_cycle version line (map value_of (numbers_of rest)) (list_all is_number_word (numbers_of rest)) (list_all fits (numbers_of rest)))
 
-pub cycle_is : (line : ℕ) (text keyword rest ps : List ℕ) → cut 32 text ≡ Some (keyword, rest) → keyword ≡ codes "x-cycle" → ring_at line rest ≡ Ok ps → said_in step_words steps_with line text ≡ Ok (XCycle ps)
-cycle_is line text keyword rest ps e k r = cycle_in line text keyword rest e k ∙ rw r refl
+pub cycle_is : (version : Version) (line : ℕ) (text keyword rest ps : List ℕ) → cut 32 text ≡ Some (keyword, rest) → keyword ≡ codes "x-cycle" → ring_at line rest ≡ Ok ps → said_in step_words steps_with (allows_step version) line text ≡ Ok (XCycle ps)
+cycle_is version line text keyword rest ps e k r = cycle_in version line text keyword rest e k ∙ rw r refl
 
-pub cycle_fails : (fault : CertTextError) (line : ℕ) (text keyword rest : List ℕ) → cut 32 text ≡ Some (keyword, rest) → keyword ≡ codes "x-cycle" → IsFaultOf (Unit {0}) fault (ring_at line rest) → IsFaultOf (Unit {0}) fault (said_in step_words steps_with line text)
-cycle_fails OutOfMemory line text keyword rest e k r = tt
-cycle_fails (At at fault) line text keyword rest e k r = cycle_in line text keyword rest e k ∙ rw r refl
+pub cycle_fails : (version : Version) (fault : CertTextError) (line : ℕ) (text keyword rest : List ℕ) → cut 32 text ≡ Some (keyword, rest) → keyword ≡ codes "x-cycle" → IsFaultOf (Unit {0}) fault (ring_at line rest) → IsFaultOf (Unit {0}) fault (said_in step_words steps_with (allows_step version) line text)
+cycle_fails version OutOfMemory line text keyword rest e k r = tt
+cycle_fails version (At at fault) line text keyword rest e k r = cycle_in version line text keyword rest e k ∙ rw r refl

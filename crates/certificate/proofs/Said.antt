@@ -71,24 +71,27 @@ line_joined : (text keyword rest : List ℕ) (ns : List ℕ) (words : Words) →
 line_joined text keyword rest ns words a b c d = rw (a, b, c, d) refl
 
 -- what a line said, whatever is a fact of all that can be said
-pub said_takes : {A : Type 0} (words : A → Words) (all_with : List ℕ → List A) (P : A → Type 0) (each : (ns : List ℕ) → Each (λ x. ((words x).1 ≡ ns) × P x) (all_with ns))
-    (line : ℕ) (text : List ℕ) (x : A) → said_in words all_with line text ≡ Ok x → (text ≡ line_with (words x)) × Fit (words x).1 × P x
+pub said_takes : {A : Type 0} (words : A → Words) (all_with : List ℕ → List A) (allows : A → Bool) (P : A → Type 0) (each : (ns : List ℕ) → Each (λ x. ((words x).1 ≡ ns) × P x) (all_with ns))
+    (line : ℕ) (text : List ℕ) (x : A) → said_in words all_with allows line text ≡ Ok x
+    → (text ≡ line_with (words x)) × Fit (words x).1 × P x × (allows x ≡ true)
 unfolding said_in
-said_takes {A} words all_with P each line text x e =
+said_takes {A} words all_with allows P each line text x e =
     let parts = bind_ok (or_fault (At line Form) (cut 32 text)) _ x e in
     let form = bind_ok (check (At line Form) (list_all is_number_word (numbers_of parts.0.1))) _ x parts.2 in
     let ns = map value_of (numbers_of parts.0.1) in
     let said = bind_ok (or_fault (At line Form) (with_keyword words parts.0.0 (all_with (map value_of (numbers_of parts.0.1))))) _ x form.2 in
-    let size = bind_ok (check (At line Number) (list_all fits (numbers_of parts.0.1))) _ x said.2 in
+    let allowed = bind_ok (check (At line Form) (allows said.0)) _ x said.2 in
+    let size = bind_ok (check (At line Number) (list_all fits (numbers_of parts.0.1))) _ x allowed.2 in
     let is : said.0 ≡ x = ok_is said.0 x size.2 in
     let text_is : text ≡ parts.0.0 ++ 32 ∷ parts.0.1 = (cut_takes 32 text parts.0.0 parts.0.1 (or_fault_ok (At line Form) (cut 32 text) parts.0 parts.1)).0 in
     let numbers = numbers_take parts.0.1 (check_ok (At line Number) (list_all fits (numbers_of parts.0.1)) size.0 size.1) in
     let found = found_by words (λ y. ((words y).1 ≡ map value_of (numbers_of parts.0.1)) × P y) parts.0.0 (all_with (map value_of (numbers_of parts.0.1))) said.0 (each (map value_of (numbers_of parts.0.1)))
     (or_fault_ok (At line Form) (with_keyword words parts.0.0 (all_with (map value_of (numbers_of parts.0.1)))) said.0 said.1) in
-    subst (λ (y : A). (text ≡ line_with (words y)) × Fit (words y).1 × P y) is (
+    subst (λ (y : A). (text ≡ line_with (words y)) × Fit (words y).1 × P y × (allows y ≡ true)) is (
       line_joined text parts.0.0 parts.0.1 (map value_of (numbers_of parts.0.1)) (words said.0) text_is numbers.0 found.0 found.1.0,
       subst Fit (sym found.1.0) numbers.1,
       found.1.1,
+      check_ok (At line Form) (allows said.0) allowed.0 allowed.1,
     )
 
 -- ---- what is spelled so is read
@@ -125,10 +128,10 @@ values : (ns : List ℕ) → map value_of (as_words ns) ≡ ns
 values [] = refl
 values (n ∷ ns) = ap (λ (ks : List ℕ). n ∷ ks) (values ns)
 
-said_steps : {A : Type 0} (words : A → Words) (all_with : List ℕ → List A) (line : ℕ) (text keyword rest : List ℕ) (ns : List ℕ) (x : A) → cut 32 text ≡ Some (keyword, rest) → numbers_of rest ≡ as_words ns
-    → with_keyword words keyword (all_with ns) ≡ Some x → said_in words all_with line text ≡ Ok x
+said_steps : {A : Type 0} (words : A → Words) (all_with : List ℕ → List A) (allows : A → Bool) (line : ℕ) (text keyword rest : List ℕ) (ns : List ℕ) (x : A) → cut 32 text ≡ Some (keyword, rest) → numbers_of rest ≡ as_words ns
+    → with_keyword words keyword (all_with ns) ≡ Some x → allows x ≡ true → said_in words all_with allows line text ≡ Ok x
 unfolding said_in
-said_steps words all_with line text keyword rest ns x a b c = rw (a, b, all_numerals ns, values ns, c, all_fit ns) refl
+said_steps words all_with allows line text keyword rest ns x a b c d = rw (a, b, all_numerals ns, values ns, c, d, all_fit ns) refl
 
 lacks_of : (byte : ℕ) → byte < 33 → (c : ℕ) → nat_lt 32 c ≡ true → c ≢ byte
 lacks_of byte lt c e = grind arith
@@ -137,16 +140,17 @@ pub keyword_lacks : (byte : ℕ) (keyword : List ℕ) → byte < 33 → is_keywo
 keyword_lacks byte keyword lt e =
     All-weaker (λ c. nat_lt 32 c ≡ true) (λ c. c ≢ byte) (lacks_of byte lt) keyword (AllPass-from_list_all (λ c. nat_lt 32 c) keyword e)
 
-again : {A : Type 0} (words : A → Words) (all_with : List ℕ → List A) (line : ℕ) (keyword ns : List ℕ) (x : A) → 0 < length ns → Lacks 32 keyword → Fit ns → with_keyword words keyword (all_with ns) ≡ Some x
-    → said_in words all_with line (keyword ++ flat_map spaced ns) ≡ Ok x
+again : {A : Type 0} (words : A → Words) (all_with : List ℕ → List A) (allows : A → Bool) (line : ℕ) (keyword ns : List ℕ) (x : A) → 0 < length ns → Lacks 32 keyword → Fit ns → with_keyword words keyword (all_with ns) ≡ Some x → allows x ≡ true
+    → said_in words all_with allows line (keyword ++ flat_map spaced ns) ≡ Ok x
 unfolding spaced
-again words all_with line keyword [] x some lacks fit there = absurd (omega arith)
-again words all_with line keyword (n ∷ ns) x some lacks fit there =
-    said_steps words all_with line (keyword ++ flat_map spaced (n ∷ ns)) keyword (decimal n ++ flat_map spaced ns) (n ∷ ns) x
-    (cut_again 32 keyword (decimal n ++ flat_map spaced ns) lacks) (numbers_again n ns fit) there
+again words all_with allows line keyword [] x some lacks fit there may = absurd (omega arith)
+again words all_with allows line keyword (n ∷ ns) x some lacks fit there may =
+    said_steps words all_with allows line (keyword ++ flat_map spaced (n ∷ ns)) keyword (decimal n ++ flat_map spaced ns) (n ∷ ns) x
+    (cut_again 32 keyword (decimal n ++ flat_map spaced ns) lacks) (numbers_again n ns fit) there may
 
-pub said_again : {A : Type 0} (words : A → Words) (all_with : List ℕ → List A) (line : ℕ) (x : A) → IsSayable words all_with x → Fit (words x).1 → said_in words all_with line (line_with (words x)) ≡ Ok x
-said_again words all_with line x s fit = again words all_with line (words x).0 (words x).1 x s.some (keyword_lacks 32 (words x).0 (lit< tt) s.keyword) fit s.again
+pub said_again : {A : Type 0} (words : A → Words) (all_with : List ℕ → List A) (allows : A → Bool) (line : ℕ) (x : A) → IsSayable words all_with x → Fit (words x).1 → allows x ≡ true
+    → said_in words all_with allows line (line_with (words x)) ≡ Ok x
+said_again words all_with allows line x s fit may = again words all_with allows line (words x).0 (words x).1 x s.some (keyword_lacks 32 (words x).0 (lit< tt) s.keyword) fit s.again may
 
 -- ---- no line's end stands in a line
 

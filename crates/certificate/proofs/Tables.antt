@@ -88,7 +88,8 @@ steps_said (a ∷ []) = ((refl, tt), ((refl, tt), ((refl, tt), ((refl, tt), ((re
 steps_said (a ∷ b ∷ []) =
     ((refl, tt), ((refl, tt), ((refl, tt), ((refl, tt), ((refl, tt), ((refl, tt), ((refl, tt), ((refl, tt), ((refl, tt), ((refl, tt), ((refl, two a b []), tt)))))))))))
 steps_said (a ∷ b ∷ c ∷ []) = ((refl, tt), ((refl, tt), ((refl, two a b (c ∷ [])), tt)))
-steps_said (a ∷ b ∷ c ∷ d ∷ ns) = ((refl, two a b (c ∷ d ∷ ns)), tt)
+steps_said (a ∷ b ∷ c ∷ d ∷ []) = ((refl, two a b (c ∷ d ∷ [])), tt)
+steps_said (a ∷ b ∷ c ∷ d ∷ e ∷ ns) = ((refl, two a b (c ∷ d ∷ e ∷ ns)), tt)
 
 pub step_sayable : (step : Step) → IsLong step → IsSayable step_words steps_with step
 step_sayable (EsRelease p) long = record { keyword = refl; some = some_of p []; again = refl }
@@ -112,7 +113,8 @@ step_sayable (XCycle []) long = absurd (omega arith)
 step_sayable (XCycle (p ∷ [])) long = absurd (omega arith)
 step_sayable (XCycle (p ∷ q ∷ [])) long = record { keyword = refl; some = some_of p (q ∷ []); again = refl }
 step_sayable (XCycle (p ∷ q ∷ r ∷ [])) long = record { keyword = refl; some = some_of p (q ∷ r ∷ []); again = refl }
-step_sayable (XCycle (p ∷ q ∷ r ∷ s ∷ ps)) long = record { keyword = refl; some = some_of p (q ∷ r ∷ s ∷ ps); again = refl }
+step_sayable (XCycle (p ∷ q ∷ r ∷ s ∷ [])) long = record { keyword = refl; some = some_of p (q ∷ r ∷ s ∷ []); again = refl }
+step_sayable (XCycle (p ∷ q ∷ r ∷ s ∷ t ∷ ps)) long = record { keyword = refl; some = some_of p (q ∷ r ∷ s ∷ t ∷ ps); again = refl }
 step_sayable (XLoad n a b) long = record { keyword = refl; some = some_of n (a ∷ b ∷ []); again = refl }
 step_sayable (XFrame m) long = record { keyword = refl; some = some_of m []; again = refl }
 step_sayable (XFrames n a b) long = record { keyword = refl; some = some_of n (a ∷ b ∷ []); again = refl }

@@ -25,12 +25,14 @@ two_or_more : (word : NumberWord) (more : Option (Bor (List ℕ))) → is_some m
 two_or_more word None e = absurd cc
 two_or_more word (Some more) e = omega (arith, some_word more.now)
 
--- three words, and another behind them
-pub more_than_three : (text : List ℕ) (a b c : NumberWord) (o1 o2 o3 : Option (Bor (List ℕ))) (x1 x2 : Bor (List ℕ))
+-- four words, and another behind them
+pub more_than_four : (text : List ℕ) (a b c d : NumberWord) (o1 o2 o3 o4 : Option (Bor (List ℕ))) (x1 x2 x3 : Bor (List ℕ))
     → numbers_of text ≡ words_with a (seen_rest o1) → o1 ≡ Some x1
     → numbers_of x1.now ≡ words_with b (seen_rest o2) → o2 ≡ Some x2
-    → numbers_of x2.now ≡ words_with c (seen_rest o3) → is_some o3 ≡ true → 3 < length (numbers_of text)
-more_than_three text a b c o1 o2 o3 x1 x2 e1 i1 e2 i2 e3 i3 =
+    → numbers_of x2.now ≡ words_with c (seen_rest o3) → o3 ≡ Some x3
+    → numbers_of x3.now ≡ words_with d (seen_rest o4) → is_some o4 ≡ true → 4 < length (numbers_of text)
+more_than_four text a b c d o1 o2 o3 o4 x1 x2 x3 e1 i1 e2 i2 e3 i3 e4 i4 =
     let f1 : numbers_of text ≡ a ∷ numbers_of x1.now = e1 ∙ rw i1 refl in
     let f2 : numbers_of x1.now ≡ b ∷ numbers_of x2.now = e2 ∙ rw i2 refl in
-    omega (arith, ap length f1, ap length f2, ap length e3, two_or_more c o3 i3)
+    let f3 : numbers_of x2.now ≡ c ∷ numbers_of x3.now = e3 ∙ rw i3 refl in
+    omega (arith, ap length f1, ap length f2, ap length f3, ap length e4, two_or_more d o4 i4)

@@ -5,6 +5,7 @@ pub mod TreeCode
 pub mod Lines
 pub mod Cert
 pub mod Words
+pub mod Versions
 pub mod Spelling
 pub mod Reading
 pub mod Numbers

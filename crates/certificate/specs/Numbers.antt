@@ -1,4 +1,4 @@
--- The numbers of a line that has at most three, as private functions hold them. Own profile.
+-- The numbers of a line that has at most four, as private functions hold them. Own profile.
 use Rattle.std.specs.Prelude.{ℕ, List, [], ◌∷◌, length, map, Option, None, Some, Ok, Bool, nat_le}
 use Rattle.std.specs.List.{list_all}
 use Rattle.line_text.specs.declared.number.NumberWord.{NumberWord}
@@ -15,11 +15,13 @@ abbrev pub words_in : FewWords → List NumberWord
 words_in (words.One a) = a ∷ []
 words_in (words.Two a b) = a ∷ b ∷ []
 words_in (words.Three a b c) = a ∷ b ∷ c ∷ []
+words_in (words.Four a b c d) = a ∷ b ∷ c ∷ d ∷ []
 
 abbrev pub numbers_in : FewNumbers → List ℕ
 numbers_in (few.One a) = a ∷ []
 numbers_in (few.Two a b) = a ∷ b ∷ []
 numbers_in (few.Three a b c) = a ∷ b ∷ c ∷ []
+numbers_in (few.Four a b c d) = a ∷ b ∷ c ∷ d ∷ []
 
 -- a word in front, and the words of the text behind it, if there is one
 abbrev pub words_with : NumberWord → Option (List ℕ) → List NumberWord

@@ -5,6 +5,7 @@ use Rattle.certificate.specs.declared.fault.CertTextError.TheVariants.{At, OutOf
 use Rattle.certificate.specs.declared.fault.SourceFault.{SourceFault}
 use Rattle.certificate.specs.declared.fault.SourceFault.TheVariants.{Read, TooLong, Text}
 use Rattle.certificate.specs.declared.node.Node.{Node}
+use Rattle.certificate.specs.declared.version.Version.{Version}
 use Rattle.certificate.specs.Lines.{lines, total_lines}
 use Rattle.certificate.specs.Trees.{Trees, children, preorder, trees_of}
 use Rattle.certificate.specs.Cert.{Cert}
@@ -23,10 +24,10 @@ Then Others line (Ok first) read =
     (others : Reading (List Node × List ℕ)) × (Others (line + lines first.0) first.1 others × (read ≡ with_front (preorder first.0) others))
 
 -- what reading gives where branches are open, the innermost first, each with its children still to come
-abbrev pub ReadsLevels : List ℕ → ℕ → List ℕ → Reading (List Node × List ℕ) → Type 0
-ReadsLevels [] line text read = read ≡ Ok ([], text)
-ReadsLevels (k ∷ above) line text read =
-    (trees : Reading (Trees × List ℕ)) × (ReadsTrees (length above) k line text trees × Then (ReadsLevels above) line trees read)
+abbrev pub ReadsLevels : Version → List ℕ → ℕ → List ℕ → Reading (List Node × List ℕ) → Type 0
+ReadsLevels version [] line text read = read ≡ Ok ([], text)
+ReadsLevels version (k ∷ above) line text read =
+    (trees : Reading (Trees × List ℕ)) × (ReadsTrees version (length above) k line text trees × Then (ReadsLevels version above) line trees read)
 
 -- ---- the nodes that are left of a whole text
 
@@ -39,17 +40,17 @@ ended line read = do
 
 -- what reading the rest of a text gives where branches are open, the innermost first: the nodes that are left, or the
 -- first fault
-abbrev pub ReadsRest : List ℕ → ℕ → List ℕ → Reading (List Node) → Type 0
-ReadsRest due line text read =
-    (nodes : Reading (List Node × List ℕ)) × (ReadsLevels due line text nodes × (read ≡ ended line nodes))
+abbrev pub ReadsRest : Version → List ℕ → ℕ → List ℕ → Reading (List Node) → Type 0
+ReadsRest version due line text read =
+    (nodes : Reading (List Node × List ℕ)) × (ReadsLevels version due line text nodes × (read ≡ ended line nodes))
 
 -- a node in front of those that are left
 abbrev pub in_front : Node → Reading (List Node) → Reading (List Node)
 in_front node read = read >>= λ nodes. Ok (node ∷ nodes)
 
--- the certificate of a bound and its nodes
-abbrev pub certificate_with : ℕ → Reading (List Node) → Reading Cert
-certificate_with low read = read >>= λ nodes. Ok (record { low = low; tree = trees_of nodes })
+-- the certificate of a version, a bound and its nodes
+abbrev pub certificate_with : Version → ℕ → Reading (List Node) → Reading Cert
+certificate_with version low read = read >>= λ nodes. Ok (record { version = version; low = low; tree = trees_of nodes })
 
 -- ---- one node after another
 
@@ -59,9 +60,9 @@ still_due [] = []
 still_due (zero ∷ above) = still_due above
 still_due (suc k ∷ above) = suc k ∷ above
 
--- A text that may be left reads so, where branches are open, the innermost last.
-abbrev pub Gives : (Left : List ℕ → Type 0) → List ℕ → ℕ → Reading (List Node) → Type 0
-Gives Left due line read = (text : List ℕ) × (Left text × ReadsRest (reverse due) line text read)
+-- A text of this version that may be left reads so, where branches are open, the innermost last.
+abbrev pub Gives : Version → (Left : List ℕ → Type 0) → List ℕ → ℕ → Reading (List Node) → Type 0
+Gives version Left due line read = (text : List ℕ) × (Left text × ReadsRest version (reverse due) line text read)
 
 -- a child is taken of the innermost branch that has one to come, and the node is open
 pub record TakesChild (due_old due_new : List ℕ) (node : Node) : Type 0 where
@@ -71,17 +72,17 @@ pub record TakesChild (due_old due_new : List ℕ) (node : Node) : Type 0 where
   pub is : reverse due_new ≡ children node ∷ count ∷ above
 
 -- The next node stands in front of all that is read from then on; behind the last one nothing is left.
-abbrev pub IsNext : (Before After : List ℕ → Type 0) (due_old due_new : List ℕ) (line_old line_new : ℕ) → Option Node → Type 0
-IsNext Before After due_old due_new line_old line_new None = Gives Before due_old line_old (Ok [])
-IsNext Before After due_old due_new line_old line_new (Some node) =
-    (read : Reading (List Node)) → Gives After due_new line_new read → Gives Before due_old line_old (in_front node read)
+abbrev pub IsNext : Version → (Before After : List ℕ → Type 0) (due_old due_new : List ℕ) (line_old line_new : ℕ) → Option Node → Type 0
+IsNext version Before After due_old due_new line_old line_new None = Gives version Before due_old line_old (Ok [])
+IsNext version Before After due_old due_new line_old line_new (Some node) =
+    (read : Reading (List Node)) → Gives version After due_new line_new read → Gives version Before due_old line_old (in_front node read)
 
 -- what is wrong with the text is so by what reading its rest gives, and else the source stops
-abbrev pub IsRestFault : (Stops : SourceFault → Type 0) (Before : List ℕ → Type 0) (due : List ℕ) (line : ℕ) → SourceFault → Type 0
-IsRestFault Stops Before due line Read = Stops Read
-IsRestFault Stops Before due line TooLong = Stops TooLong
-IsRestFault Stops Before due line (Text OutOfMemory) = Stops (Text OutOfMemory)
-IsRestFault Stops Before due line (Text (At at fault)) = Gives Before due line (Err (At at fault))
+abbrev pub IsRestFault : Version → (Stops : SourceFault → Type 0) (Before : List ℕ → Type 0) (due : List ℕ) (line : ℕ) → SourceFault → Type 0
+IsRestFault version Stops Before due line Read = Stops Read
+IsRestFault version Stops Before due line TooLong = Stops TooLong
+IsRestFault version Stops Before due line (Text OutOfMemory) = Stops (Text OutOfMemory)
+IsRestFault version Stops Before due line (Text (At at fault)) = Gives version Before due line (Err (At at fault))
 
 -- what is wrong with a text that is all there: memory is taken once its first two lines are right
 abbrev pub IsTextFault : List ℕ → SourceFault → Type 0

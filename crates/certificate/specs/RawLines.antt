@@ -6,6 +6,7 @@ use Rattle.ttp_model.specs.declared.step.Step.{Step}
 use Rattle.certificate.specs.declared.block.Block.{Block}
 use Rattle.certificate.specs.declared.head.Head.{Head}
 use Rattle.certificate.specs.declared.node.Node.{Node}
+use Rattle.certificate.specs.declared.version.Version.{Version}
 use Rattle.certificate.specs.Words.{count_of, node_of_head}
 use Rattle.certificate.specs.Blocks.{held}
 use Rattle.certificate.specs.Reading.{Reading, steps_at, text_node}
@@ -28,14 +29,14 @@ PassesLines known next old new text count false =
     (bytes : List ℕ) × (k : ℕ) × (Consumes known next bytes × ((held old ++ bytes ≡ text) × ((k < count) × (BeginLines k text × IsAtEnd next))))
 
 -- the steps that stand in a text of their own
-abbrev pub steps_in : ℕ → ℕ → List ℕ → Reading (List Step)
-steps_in count line text = steps_at count line text >>= λ x. Ok x.0
+abbrev pub steps_in : Version → ℕ → ℕ → List ℕ → Reading (List Step)
+steps_in version count line text = steps_at version count line text >>= λ x. Ok x.0
 
 -- the node of a line, whose steps stand behind it in lines of their own
-abbrev pub node_said : Head → ℕ → List ℕ → Reading Node
-node_said head line text = steps_in (count_of head) (line + 1) text >>= λ steps. Ok (node_of_head head steps)
+abbrev pub node_said : Version → Head → ℕ → List ℕ → Reading Node
+node_said version head line text = steps_in version (count_of head) (line + 1) text >>= λ steps. Ok (node_of_head head steps)
 
 -- Whatever text is left behind a node, a text was left before that reads as that node and then as that text.
-abbrev pub SaysPiece : (Before After : List ℕ → Type 0) (above line : ℕ) → Head → List ℕ → Type 0
-SaysPiece Before After above line head steps =
-    (rest : List ℕ) → After rest → (text : List ℕ) × (Before text × (text_node above line text ≡ (node_said head line steps >>= λ node. Ok (node, rest))))
+abbrev pub SaysPiece : Version → (Before After : List ℕ → Type 0) (above line : ℕ) → Head → List ℕ → Type 0
+SaysPiece version Before After above line head steps =
+    (rest : List ℕ) → After rest → (text : List ℕ) × (Before text × (text_node version above line text ≡ (node_said version head line steps >>= λ node. Ok (node, rest))))

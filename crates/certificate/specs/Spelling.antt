@@ -1,11 +1,12 @@
 -- Which values have a certificate text, and the one spelling of each. Own profile.
-use Rattle.std.specs.Prelude.{◌≡◌, ℕ, ◌<◌, ◌≤◌, ◌^◌, List, ◌∷◌, ◌++◌, [], length, All, codes, decimal}
+use Rattle.std.specs.Prelude.{◌≡◌, ℕ, ◌<◌, ◌≤◌, ◌^◌, List, ◌∷◌, ◌++◌, [], length, All, decimal}
 use Rattle.std.specs.List.{flat_map}
 use Rattle.ttp_model.specs.declared.step.Step.{Step}
 use Rattle.ttp_model.specs.declared.step.Step.TheVariants.{EsRelease, EsLink, EsBefore, EsArrive, EsMessage, LoSend, LeOwn, LeLink, LeBefore, LeMessage, LeSend, HiArrive, OrdWindow, OrdTwin, UsSettled, XWindow, XRound, XCycle, XLoad, XFrame, XFrames, XLate, XSilent}
 use Rattle.certificate.specs.declared.node.Node.{Node}
 use Rattle.certificate.specs.Trees.{IsTree, preorder}
 use Rattle.certificate.specs.Cert.{Cert}
+use Rattle.certificate.specs.Versions.{version_line, Allows}
 use Rattle.certificate.specs.Words.{Words, low_words, head_words, head_of, step_words, steps_of}
 
 -- a number with the space before it
@@ -28,7 +29,7 @@ node_text node = line_with (head_words (head_of node)) ++ 10 ∷ flat_map step_t
 -- A line ends with one LF.
 abbrev pub cert_text : Cert → List ℕ
 cert_text c =
-    codes "ttcert 1" ++ 10 ∷ (line_with (low_words c.low) ++ 10 ∷ flat_map node_text (preorder c.tree))
+    version_line c.version ++ 10 ∷ (line_with (low_words c.low) ++ 10 ∷ flat_map node_text (preorder c.tree))
 
 -- each number is one that can be written
 abbrev pub Fit : List ℕ → Type 0
@@ -68,11 +69,12 @@ pub record NodeHasText (node : Node) : Type 0 where
   pub numbers : Fit (head_words (head_of node)).1
   pub steps : All StepHasText (steps_of node)
 
--- What has a text: a tree of the allowed depth, and numbers below 2 ^ 32.
+-- What has a text: a tree of the allowed depth, numbers below 2 ^ 32, and lines that its version allows.
 pub record CertHasText (c : Cert) : Type 0 where
   pub low : c.low < 2 ^ 32
   pub tree : IsTree c.tree
   pub nodes : All NodeHasText (preorder c.tree)
+  pub allowed : Allows c.version c.tree
 
 -- the text spells this certificate
 pub record SpellsCert (text : List ℕ) (c : Cert) : Type 0 where

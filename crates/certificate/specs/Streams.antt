@@ -8,6 +8,7 @@ use Rattle.certificate.specs.declared.fault.SourceFault.TheVariants.{Read, TooLo
 use Rattle.certificate.specs.declared.head.Head.{Head}
 use Rattle.certificate.specs.declared.node.Node.{Node}
 use Rattle.certificate.specs.declared.stream.CertStream.{CertStream}
+use Rattle.certificate.specs.declared.version.Version.{Version}
 use Rattle.certificate.specs.Cert.{Cert}
 use Rattle.certificate.specs.Reading.{Reading, Reads}
 use Rattle.certificate.specs.Sources.{Origin}
@@ -23,6 +24,10 @@ next_line s = s.lines.block.passed + 1
 abbrev pub still_to_come : {R : Type 0} → CertStream R → List ℕ
 still_to_come s = s.due.items
 
+-- the version of the text, once its first line is passed
+abbrev pub stream_version : {R : Type 0} → CertStream R → Version
+stream_version s = s.version
+
 -- how many bytes were taken of the reader
 abbrev pub bytes_taken : {R : Type 0} → CertStream R → ℕ
 bytes_taken s = s.lines.block.taken
@@ -37,7 +42,7 @@ StreamLeaves remaining s text = MayLeave (remaining s.lines.reader.now) (held s.
 
 -- such a text gives these nodes and ends, or this fault, from the next line on
 abbrev pub LeavesNodes : {R : Type 0} → (R → Option (List ℕ)) → CertStream R → Reading (List Node) → Type 0
-LeavesNodes remaining s read = Gives (StreamLeaves remaining s) (still_to_come s) (next_line s) read
+LeavesNodes remaining s read = Gives (stream_version s) (StreamLeaves remaining s) (still_to_come s) (next_line s) read
 
 -- such a text reads as a whole
 abbrev pub LeavesCert : {R : Type 0} → (R → Option (List ℕ)) → CertStream R → Reading Cert → Type 0
@@ -84,4 +89,4 @@ said_in_front said read = said >>= λ node. in_front node read
 abbrev pub LeavesPiece : {R : Type 0} → (R → Option (List ℕ)) → (old new : CertStream R) → (steps : List ℕ) → Option (Head × ℕ) → Type 0
 LeavesPiece remaining old new steps None = LeavesNodes remaining old (Ok [])
 LeavesPiece remaining old new steps (Some said) =
-    (read : Reading (List Node)) → LeavesNodes remaining new read → LeavesNodes remaining old (said_in_front (node_said said.0 said.1 steps) read)
+    (read : Reading (List Node)) → LeavesNodes remaining new read → LeavesNodes remaining old (said_in_front (node_said (stream_version new) said.0 said.1 steps) read)

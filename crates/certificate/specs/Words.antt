@@ -80,6 +80,7 @@ steps_with (a ∷ b ∷ []) =
     EsBefore a b ∷ EsArrive a b ∷ EsMessage a b ∷ LeBefore a b ∷ LeMessage a b ∷ HiArrive a b
     ∷ OrdWindow a b ∷ OrdTwin a b ∷ XLate a b ∷ XSilent a b ∷ XCycle (a ∷ b ∷ []) ∷ []
 steps_with (a ∷ b ∷ c ∷ []) = XLoad a b c ∷ XFrames a b c ∷ XCycle (a ∷ b ∷ c ∷ []) ∷ []
+steps_with (a ∷ b ∷ c ∷ d ∷ []) = XCycle (a ∷ b ∷ c ∷ d ∷ []) ∷ []
 steps_with more = XCycle more ∷ []
 
 -- ---- what a node is beside its steps

@@ -3,13 +3,15 @@
 ghost use Rattle.std.specs.Prelude.{◌≡◌};
 
 use crate::node::Node;
+use crate::version::Version;
 use std::marker::Model;
 
-/// A bound, and a tree that is to show that no plan has a delay below it. Contracts see the tree;
+/// The version of its text, a bound, and a tree that is to show that no plan has a delay below it. Contracts see the tree;
 /// its nodes stand in one list, each in front of those below it, so nothing here goes down the tree
 /// by calls.
 #[derive(Debug, Drop)]
 pub struct Cert {
+    version: Version,
     low: u32,
     nodes: Vec<Node>,
 }
@@ -23,7 +25,7 @@ impl Model for Cert {
 
     ghost use Rattle.certificate.specs.Trees.{IsTree, trees_of};
 
-    ghost view = { λ s. record { low = s.low; tree = trees_of s.nodes.items } };
+    ghost view = { λ s. record { version = s.version; low = s.low; tree = trees_of s.nodes.items } };
 
     ghost invariant = { λ s. IsTree (trees_of s.nodes.items) };
 }
@@ -33,11 +35,22 @@ impl Cert {
 
     /// The certificate of a tree, whose nodes are given each in front of those below it. Takes no
     /// memory.
-    pub fn new(low: u32, nodes: Vec<Node>) -> Self
+    pub fn new(version: Version, low: u32, nodes: Vec<Node>) -> Self
         requires { IsTree (trees_of nodes.items) }
-        ensures { result ≡ record { low = low; tree = trees_of nodes.items } }
+        ensures { result ≡ record { version = version; low = low; tree = trees_of nodes.items } }
     {
-        Cert { low, nodes }
+        Cert {
+            version,
+            low,
+            nodes,
+        }
+    }
+
+    /// The version of its text.
+    pub fn version(&self) -> Version
+        ensures { result ≡ self.now.version }
+    {
+        self.version
     }
 
     /// The bound, in ticks.

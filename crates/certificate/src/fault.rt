@@ -11,8 +11,8 @@ use thiserror::Error;
 /// then its place in the tree.
 #[derive(Clone, Copy, Debug, PartialEq, Eq, Error)]
 pub enum LineFault {
-    /// When the first line does not name this version of the text.
-    #[error("the first line is not `ttcert 1`")]
+    /// When the first line names no version of the text.
+    #[error("the first line is neither `ttcert 1` nor `ttcert 2`")]
     FirstLine,
     /// When its keyword, its count of words or the form of a number is another than may stand there.
     #[error("it has another form")]

@@ -2,12 +2,14 @@
 
 ghost use Rattle.std.specs.Prelude.{◌≡◌, ◌∷◌, []};
 ghost use Rattle.certificate.specs.Words.{head_words, heads_with, head_children};
+ghost use Rattle.certificate.specs.Versions.{allows_head};
 ghost use Rattle.certificate.specs.Reading.{IsAnswer, said_in, with_keyword};
 ghost use Rattle.certificate.specs.Numbers.{numbers_in};
 
 use crate::branch::Branch;
 use crate::fault::{CertTextError, LineFault};
 use crate::numbers::{FewNumbers, words_of};
+use crate::version::Version;
 use line_text::cut;
 use ttp_model::Kind;
 
@@ -60,10 +62,10 @@ fn with_few(keyword: &[u8], numbers: FewNumbers) -> Option<Head>
     }
 }
 
-/// What the line of a node says.
+/// What the line of a node says, in a text of this version.
 #[tactic(auto, unfolding(crate::specs::Reading::said_in))]
-pub fn head_in(line: u64, text: &[u8]) -> Result<Head, CertTextError>
-    ensures { IsAnswer ⊥ (λ x. x) result (said_in head_words heads_with line text.now) }
+pub fn head_in(version: Version, line: u64, text: &[u8]) -> Result<Head, CertTextError>
+    ensures { IsAnswer ⊥ (λ x. x) result (said_in head_words heads_with (allows_head version) line text.now) }
 {
     let Some((keyword, rest)) = cut(b' ', text) else {
         return Err(LineFault::Form.at(line));
@@ -72,6 +74,9 @@ pub fn head_in(line: u64, text: &[u8]) -> Result<Head, CertTextError>
     let Some(head) = with_few(keyword, words.numbers()) else {
         return Err(LineFault::Form.at(line));
     };
+    if !version.allows_head(head) {
+        return Err(LineFault::Form.at(line));
+    }
     if !words.fit() {
         return Err(LineFault::Number.at(line));
     }

@@ -22,6 +22,7 @@ mod slice_lines;
 mod source;
 mod steps;
 mod stream;
+mod version;
 
 pub use branch::Branch;
 pub use cert::Cert;
@@ -37,3 +38,4 @@ pub use printing::print;
 pub use reading::read;
 pub use stream::CertStream;
 pub use ttp_model::MemoryFault;
+pub use version::Version;

@@ -14,39 +14,45 @@ use crate::limits::MOST_BRANCHES_ABOVE;
 use crate::node::Node;
 use crate::source::LineSource;
 use crate::steps::step_in;
+use crate::version::Version;
 use std::alloc::Global;
 use ttp_model::{Leaf, Step, Steps};
 
-/// The step in the next line.
-fn step_of<L: LineSource>(alloc: Global, source: &mut L) -> Result<Step, SourceFault>
-    ensures said { IfOk result (Says (L.may_leave source.old) (L.may_leave source.new) (text_step (L.passed source.old + 1))) }
+/// The step in the next line of a text of this version.
+fn step_of<L: LineSource>(
+    alloc: Global,
+    version: Version,
+    source: &mut L,
+) -> Result<Step, SourceFault>
+    ensures said { IfOk result (Says (L.may_leave source.old) (L.may_leave source.new) (text_step version (L.passed source.old + 1))) }
     ensures passed { OnOk result (L.passed source.new ≡ L.passed source.old + 1) }
-    ensures err { IfErr result (IsFaultOn (OrMemory (L.may_stop source.new)) (L.may_leave source.old) (text_step (L.passed source.old + 1))) }
+    ensures err { IfErr result (IsFaultOn (OrMemory (L.may_stop source.new)) (L.may_leave source.old) (text_step version (L.passed source.old + 1))) }
     ensures from { (origin : Origin) → L.may_be_from source.old origin → L.may_be_from source.new origin }
 {
     let number = source.number();
     source.next_line()?;
-    let step = step_in(alloc, number, source.line())?;
+    let step = step_in(alloc, version, number, source.line())?;
     Ok(step)
 }
 
 /// So many steps, one in each of the next lines, in this room.
 pub fn steps_of<L: LineSource>(
     alloc: Global,
+    version: Version,
     room: Vec<Step>,
     count: u32,
     source: &mut L,
 ) -> Result<Vec<Step>, SourceFault>
-    ensures said { IfOk result (λ steps. Says (L.may_leave source.old) (L.may_leave source.new) (steps_at count (L.passed source.old + 1)) steps.items) }
+    ensures said { IfOk result (λ steps. Says (L.may_leave source.old) (L.may_leave source.new) (steps_at version count (L.passed source.old + 1)) steps.items) }
     ensures count { IfOk result (λ steps. length steps.items ≡ count) }
     ensures passed { OnOk result (L.passed source.new ≡ L.passed source.old + count) }
-    ensures err { IfErr result (IsFaultOn (OrMemory (L.may_stop source.new)) (L.may_leave source.old) (steps_at count (L.passed source.old + 1))) }
+    ensures err { IfErr result (IsFaultOn (OrMemory (L.may_stop source.new)) (L.may_leave source.old) (steps_at version count (L.passed source.old + 1))) }
     ensures from { (origin : Origin) → L.may_be_from source.old origin → L.may_be_from source.new origin }
 {
     let mut steps = room;
     steps.clear();
     for k in 0..count {
-        let step = step_of(alloc, source)?;
+        let step = step_of(alloc, version, source)?;
         steps.push(step)?;
     }
     Ok(steps)
@@ -76,21 +82,26 @@ fn node_with(head: Head, steps: Vec<Step>) -> Node
 }
 
 /// The node in the next lines, which stands below so many branches.
-fn node_of<L: LineSource>(alloc: Global, above: usize, source: &mut L) -> Result<Node, SourceFault>
-    ensures said { IfOk result (Says (L.may_leave source.old) (L.may_leave source.new) (text_node above (L.passed source.old + 1))) }
+fn node_of<L: LineSource>(
+    alloc: Global,
+    version: Version,
+    above: usize,
+    source: &mut L,
+) -> Result<Node, SourceFault>
+    ensures said { IfOk result (Says (L.may_leave source.old) (L.may_leave source.new) (text_node version above (L.passed source.old + 1))) }
     ensures place { OnOk result (above ≤ most_branches_above) }
     ensures passed { IfOk result (λ node. L.passed source.new ≡ L.passed source.old + node_lines node) }
-    ensures err { IfErr result (IsFaultOn (OrMemory (L.may_stop source.new)) (L.may_leave source.old) (text_node above (L.passed source.old + 1))) }
+    ensures err { IfErr result (IsFaultOn (OrMemory (L.may_stop source.new)) (L.may_leave source.old) (text_node version above (L.passed source.old + 1))) }
     ensures from { (origin : Origin) → L.may_be_from source.old origin → L.may_be_from source.new origin }
 {
     let number = source.number();
     source.next_line()?;
-    let head = head_in(number, source.line())?;
+    let head = head_in(version, number, source.line())?;
     if above > MOST_BRANCHES_ABOVE {
         return Err(SourceFault::Text(LineFault::Depth.at(number)));
     }
     let room = Vec::new(alloc);
-    let steps = steps_of(alloc, room, count_of(head), source)?;
+    let steps = steps_of(alloc, version, room, count_of(head), source)?;
     Ok(node_with(head, steps))
 }
 
@@ -112,22 +123,23 @@ pub fn take_due(due: &mut Vec<u32>) -> Option<u32>
 /// many of its children are still to come, and in front of them all whether the tree is.
 pub fn next_node<L: LineSource>(
     alloc: Global,
+    version: Version,
     source: &mut L,
     due: &mut Vec<u32>,
 ) -> Result<Option<Node>, SourceFault>
-    ensures next { IfOk result (IsNext (L.may_leave source.old) (L.may_leave source.new) due.old.items due.new.items (L.passed source.old + 1) (L.passed source.new + 1)) }
+    ensures next { IfOk result (IsNext version (L.may_leave source.old) (L.may_leave source.new) due.old.items due.new.items (L.passed source.old + 1) (L.passed source.new + 1)) }
     ensures due { IfOk result (λ next. IfSome next (TakesChild due.old.items due.new.items)) }
     ensures passed { IfOk result (λ next. IfSome next (λ node. L.passed source.new ≡ L.passed source.old + node_lines node)) }
     ensures few { IfOk result (λ next. IfSome next (λ _. length due.new.items ≤ most_branches_above + 2)) }
     ensures closed { IfOk result (λ next. IfNone next (still_due (reverse due.old.items) ≡ [])) }
-    ensures err { IfErr result (IsRestFault (OrMemory (L.may_stop source.new)) (L.may_leave source.old) due.old.items (L.passed source.old + 1)) }
+    ensures err { IfErr result (IsRestFault version (OrMemory (L.may_stop source.new)) (L.may_leave source.old) due.old.items (L.passed source.old + 1)) }
     ensures from { (origin : Origin) → L.may_be_from source.old origin → L.may_be_from source.new origin }
 {
     let Some(count) = take_due(due) else {
         source.end()?;
         return Ok(None);
     };
-    let node = node_of(alloc, due.as_slice().len(), source)?;
+    let node = node_of(alloc, version, due.as_slice().len(), source)?;
     due.push(count - 1)?;
     due.push(node.children())?;
     Ok(Some(node))

@@ -10,20 +10,22 @@ ghost use Rattle.certificate.specs.Numbers.{words_in, numbers_in, words_with};
 use crate::fault::{CertTextError, LineFault};
 use line_text::{NumberWord, cut, number_word};
 
-/// One to three words, as numbers.
+/// One to four words, as numbers.
 #[derive(Clone, Copy, Debug, PartialEq, Eq)]
 pub enum FewWords {
     One(NumberWord),
     Two(NumberWord, NumberWord),
     Three(NumberWord, NumberWord, NumberWord),
+    Four(NumberWord, NumberWord, NumberWord, NumberWord),
 }
 
-/// One to three numbers.
+/// One to four numbers.
 #[derive(Clone, Copy, Debug, PartialEq, Eq)]
 pub enum FewNumbers {
     One(u32),
     Two(u32, u32),
     Three(u32, u32, u32),
+    Four(u32, u32, u32, u32),
 }
 
 /// Whether the word has a number's form.
@@ -68,9 +70,9 @@ pub fn next_word(text: &[u8]) -> (NumberWord, Option<&[u8]>)
 }
 
 impl FewWords {
-    /// The words of a text, where there are at most three.
+    /// The words of a text, where there are at most four.
     fn of(text: &[u8]) -> Option<FewWords>
-        ensures { MatchOption result (3 < length (numbers_of text.now))
+        ensures { MatchOption result (4 < length (numbers_of text.now))
             (λ words. numbers_of text.now ≡ words_in words) }
     {
         let (a, more) = next_word(text);
@@ -82,10 +84,14 @@ impl FewWords {
             return Some(FewWords::Two(a, b));
         };
         let (c, more) = next_word(text);
+        let Some(text) = more else {
+            return Some(FewWords::Three(a, b, c));
+        };
+        let (d, more) = next_word(text);
         if more.is_some() {
             return None;
         }
-        Some(FewWords::Three(a, b, c))
+        Some(FewWords::Four(a, b, c, d))
     }
 
     fn are_numerals(self) -> bool
@@ -95,6 +101,9 @@ impl FewWords {
             FewWords::One(a) => is_numeral(a),
             FewWords::Two(a, b) => is_numeral(a) && is_numeral(b),
             FewWords::Three(a, b, c) => is_numeral(a) && is_numeral(b) && is_numeral(c),
+            FewWords::Four(a, b, c, d) => {
+                is_numeral(a) && is_numeral(b) && is_numeral(c) && is_numeral(d)
+            }
         }
     }
 
@@ -106,6 +115,7 @@ impl FewWords {
             FewWords::One(a) => fits(a),
             FewWords::Two(a, b) => fits(a) && fits(b),
             FewWords::Three(a, b, c) => fits(a) && fits(b) && fits(c),
+            FewWords::Four(a, b, c, d) => fits(a) && fits(b) && fits(c) && fits(d),
         }
     }
 
@@ -117,17 +127,20 @@ impl FewWords {
             FewWords::One(a) => FewNumbers::One(value_of(a)),
             FewWords::Two(a, b) => FewNumbers::Two(value_of(a), value_of(b)),
             FewWords::Three(a, b, c) => FewNumbers::Three(value_of(a), value_of(b), value_of(c)),
+            FewWords::Four(a, b, c, d) => {
+                FewNumbers::Four(value_of(a), value_of(b), value_of(c), value_of(d))
+            }
         }
     }
 }
 
-/// The words behind a keyword in this line: at most three, each with a number's form.
+/// The words behind a keyword in this line: at most four, each with a number's form.
 pub fn words_of(line: u64, text: &[u8]) -> Result<FewWords, CertTextError>
     ensures words { IfOk result (λ words. numbers_of text.now ≡ words_in words) }
     ensures numerals { IfOk result (λ _. list_all is_number_word (numbers_of text.now) ≡ true) }
     ensures fault { IfErr result (λ e. e ≡ CertTextError.At line Form) }
     ensures many { IfErr result (λ _. list_all is_number_word (numbers_of text.now) ≡ true →
-        3 < length (numbers_of text.now)) }
+        4 < length (numbers_of text.now)) }
 {
     let Some(words) = FewWords::of(text) else {
         return Err(LineFault::Form.at(line));

@@ -3,6 +3,7 @@
 ghost use Rattle.std.specs.Prelude.{◌≡◌, ◌++◌, ◌∷◌, [], All, IfOk, OnOk};
 ghost use Rattle.std.specs.List.{flat_map};
 ghost use Rattle.certificate.specs.Words.{step_words, branch_words, head_words, head_of};
+ghost use Rattle.certificate.specs.Versions.{Allows};
 ghost use Rattle.certificate.specs.Spelling.{Fit, spaced, line_with, step_text, node_text, StepHasText, NodeHasText, SpellsCert};
 
 use crate::branch::Branch;
@@ -115,12 +116,14 @@ fn push_nodes(text: &mut Vec<u8>, nodes: &[Node]) -> Result<(), AllocError>
     Ok(())
 }
 
-/// The text of a certificate. Linear in the text.
+/// The text of a certificate whose version allows all its lines. Linear in the text.
 pub fn print(alloc: Global, cert: &Cert) -> Result<Vec<u8>, MemoryFault>
+    requires { Allows cert.now.version cert.now.tree }
     ensures { IfOk result (λ text. SpellsCert text.items cert.now) }
 {
     let mut text = Vec::new(alloc);
-    text.extend_from_slice(b"ttcert 1\n")?;
+    text.extend_from_slice(cert.version().line())?;
+    text.push(b'\n')?;
     push_line(&mut text, b"low", &[cert.low()])?;
     push_nodes(&mut text, cert.nodes())?;
     Ok(text)

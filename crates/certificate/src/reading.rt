@@ -14,19 +14,24 @@ use crate::node::Node;
 use crate::nodes::next_node;
 use crate::slice_lines::SliceLines;
 use crate::source::LineSource;
+use crate::version::Version;
 use std::alloc::Global;
 
 /// All nodes of a tree, from the next line on.
-fn nodes_of<L: LineSource>(alloc: Global, source: &mut L) -> Result<Vec<Node>, SourceFault>
-    ensures nodes { IfOk result (λ nodes. Gives (L.may_leave source.old) (1 ∷ []) (L.passed source.old + 1) (Ok nodes.items)) }
-    ensures err { IfErr result (IsRestFault (OrMemory (L.may_stop source.new)) (L.may_leave source.old) (1 ∷ []) (L.passed source.old + 1)) }
+fn nodes_of<L: LineSource>(
+    alloc: Global,
+    version: Version,
+    source: &mut L,
+) -> Result<Vec<Node>, SourceFault>
+    ensures nodes { IfOk result (λ nodes. Gives version (L.may_leave source.old) (1 ∷ []) (L.passed source.old + 1) (Ok nodes.items)) }
+    ensures err { IfErr result (IsRestFault version (OrMemory (L.may_stop source.new)) (L.may_leave source.old) (1 ∷ []) (L.passed source.old + 1)) }
 {
     let mut due = Vec::new(alloc);
     due.push(1u32)?;
     let mut nodes = Vec::new(alloc);
     'nodes: loop {
         let _line = source.number();
-        match next_node(alloc, source, &mut due)? {
+        match next_node(alloc, version, source, &mut due)? {
             Some(node) => nodes.push(node)?,
             None => return Ok(nodes),
         }
@@ -39,9 +44,9 @@ fn cert_of(alloc: Global, text: &[u8]) -> Result<Cert, SourceFault>
     ensures fault { IfErr result (IsTextFault text.now) }
 {
     let mut source = SliceLines::new(text);
-    let low = low_from(&mut source)?;
-    let nodes = nodes_of(alloc, &mut source)?;
-    Ok(Cert::new(low, nodes))
+    let (version, low) = low_from(&mut source)?;
+    let nodes = nodes_of(alloc, version, &mut source)?;
+    Ok(Cert::new(version, low, nodes))
 }
 
 /// The certificate that a text spells. Lines are judged from the top, each as `LineFault` says. The

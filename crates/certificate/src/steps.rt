@@ -2,12 +2,14 @@
 
 ghost use Rattle.std.specs.Prelude.{◌≡◌, ◌≢◌, ◌∷◌, [], codes};
 ghost use Rattle.certificate.specs.Words.{step_words, steps_with};
+ghost use Rattle.certificate.specs.Versions.{allows_step};
 ghost use Rattle.certificate.specs.Reading.{IsAnswer, said_in, with_keyword};
 ghost use Rattle.certificate.specs.Numbers.{numbers_in};
 
 use crate::fault::{CertTextError, LineFault};
 use crate::numbers::{FewNumbers, words_of};
 use crate::ring::ring_of;
+use crate::version::Version;
 use line_text::cut;
 use std::alloc::Global;
 use ttp_model::Step;
@@ -106,13 +108,19 @@ fn with_few(keyword: &[u8], numbers: FewNumbers) -> Option<Step>
         FewNumbers::One(a) => with_one(keyword, a),
         FewNumbers::Two(a, b) => with_two(keyword, a, b),
         FewNumbers::Three(a, b, c) => with_three(keyword, a, b, c),
+        FewNumbers::Four(_, _, _, _) => None,
     }
 }
 
-/// The step that a line says. Takes memory for the processes of a cycle alone.
+/// The step that a line says, in a text of this version. Takes memory for the processes of a cycle alone.
 #[tactic(auto, unfolding(crate::specs::Reading::said_in))]
-pub fn step_in(alloc: Global, line: u64, text: &[u8]) -> Result<Step, CertTextError>
-    ensures { IsAnswer (Unit {0}) (λ x. x) result (said_in step_words steps_with line text.now) }
+pub fn step_in(
+    alloc: Global,
+    version: Version,
+    line: u64,
+    text: &[u8],
+) -> Result<Step, CertTextError>
+    ensures { IsAnswer (Unit {0}) (λ x. x) result (said_in step_words steps_with (allows_step version) line text.now) }
 {
     let Some((keyword, rest)) = cut(b' ', text) else {
         return Err(LineFault::Form.at(line));
@@ -125,6 +133,9 @@ pub fn step_in(alloc: Global, line: u64, text: &[u8]) -> Result<Step, CertTextEr
     let Some(step) = with_few(keyword, words.numbers()) else {
         return Err(LineFault::Form.at(line));
     };
+    if !version.allows_step(&step) {
+        return Err(LineFault::Form.at(line));
+    }
     if !words.fit() {
         return Err(LineFault::Number.at(line));
     }

@@ -11,7 +11,7 @@ ghost use Rattle.certificate.specs.Cert.{Cert};
 ghost use Rattle.certificate.specs.Reading.{Reading};
 ghost use Rattle.certificate.specs.Sources.{Origin};
 ghost use Rattle.certificate.specs.Opened.{TakesChild, certificate_with, still_due};
-ghost use Rattle.certificate.specs.Streams.{IsFresh, LeavesNodes, LeavesCert, LeavesNext, LeavesPiece, BytesRead, StreamIsFrom, IsCertFault, IsNodeFault, next_line, still_to_come, bytes_taken, stream_reader};
+ghost use Rattle.certificate.specs.Streams.{IsFresh, LeavesNodes, LeavesCert, LeavesNext, LeavesPiece, BytesRead, StreamIsFrom, IsCertFault, IsNodeFault, stream_version, next_line, still_to_come, bytes_taken, stream_reader};
 ghost use Rattle.certificate.specs.Blocks.{Stops};
 
 use crate::block::Block;
@@ -23,6 +23,7 @@ use crate::nodes::{next_node, take_due};
 use crate::pieces::piece_of;
 use crate::reader_lines::ReaderLines;
 use crate::source::LineSource;
+use crate::version::Version;
 use std::alloc::Global;
 use std::io::Read;
 
@@ -34,6 +35,7 @@ use std::io::Read;
 #[derive(Drop)]
 pub struct CertStream<'a, R> {
     lines: ReaderLines<'a, R>,
+    version: Version,
     due: Vec<u32>,
 }
 
@@ -47,6 +49,7 @@ impl<'a, R: Read> CertStream<'a, R> {
         let block = Block::new(alloc);
         CertStream {
             lines: ReaderLines { reader, block },
+            version: Version::One,
             due: Vec::new(alloc),
         }
     }
@@ -56,15 +59,23 @@ impl<'a, R: Read> CertStream<'a, R> {
         requires { IsFresh self.old }
         // Whatever nodes it leaves, with the bound they are what the whole text gives.
         ensures low { IfOk result (λ low. (read : Reading (List Node)) → LeavesNodes R.remaining self.new read
-            → LeavesCert R.remaining self.old (certificate_with low read)) }
+            → LeavesCert R.remaining self.old (certificate_with (stream_version self.new) low read)) }
         ensures due { OnOk result (still_to_come self.new ≡ 1 ∷ []) }
         ensures line { OnOk result (next_line self.new ≡ 3) }
         ensures err { IfErr result (IsCertFault (LeavesCert R.remaining self.old) (bytes_taken self.new)) }
         ensures from { (origin : Origin) → StreamIsFrom R.remaining self.old origin → StreamIsFrom R.remaining self.new origin }
     {
-        let low = low_from(&mut self.lines)?;
+        let (version, low) = low_from(&mut self.lines)?;
         self.due.push(1)?;
+        self.version = version;
         Ok(low)
+    }
+
+    /// The version of the text, once the bound is read.
+    pub fn version(&self) -> Version
+        ensures { result ≡ stream_version self.now }
+    {
+        self.version
     }
 
     /// The next node and its line, or none behind the last one, where the text has to end.
@@ -76,11 +87,12 @@ impl<'a, R: Read> CertStream<'a, R> {
         ensures passed { IfOk result (λ next. IfSome next (λ said. next_line self.new ≡ next_line self.old + node_lines said.0)) }
         ensures few { IfOk result (λ next. IfSome next (λ said. length (still_to_come self.new) ≤ most_branches_above + 2)) }
         ensures closed { IfOk result (λ next. IfNone next (still_due (reverse (still_to_come self.old)) ≡ [])) }
+        ensures version { stream_version self.new ≡ stream_version self.old }
         ensures err { IfErr result (IsNodeFault (LeavesNodes R.remaining self.old) (bytes_taken self.new)) }
         ensures from { (origin : Origin) → StreamIsFrom R.remaining self.old origin → StreamIsFrom R.remaining self.new origin }
     {
         let line = self.lines.number();
-        match next_node(alloc, &mut self.lines, &mut self.due)? {
+        match next_node(alloc, self.version, &mut self.lines, &mut self.due)? {
             Some(node) => Ok(Some((node, line))),
             None => Ok(None),
         }
@@ -102,6 +114,7 @@ impl<'a, R: Read> CertStream<'a, R> {
         ensures passed { IfOk result (λ next. IfSome next (λ said. next_line self.new ≡ next_line self.old + 1 + count_of said.0)) }
         ensures few { IfOk result (λ next. IfSome next (λ said. length (still_to_come self.new) ≤ most_branches_above + 2)) }
         ensures closed { IfOk result (λ next. IfNone next (still_due (reverse (still_to_come self.old)) ≡ [])) }
+        ensures version { stream_version self.new ≡ stream_version self.old }
         ensures err { IfErr result (IsNodeFault (LeavesNodes R.remaining self.old) (bytes_taken self.new)) }
         ensures from { (origin : Origin) → StreamIsFrom R.remaining self.old origin → StreamIsFrom R.remaining self.new origin }
     {
@@ -111,7 +124,7 @@ impl<'a, R: Read> CertStream<'a, R> {
             return Ok(None);
         };
         let above = self.due.as_slice().len();
-        let head = piece_of(alloc, above, &mut self.lines, steps)?;
+        let head = piece_of(alloc, self.version, above, &mut self.lines, steps)?;
         self.due.push(count - 1)?;
         self.due.push(head.children())?;
         Ok(Some((head, line)))

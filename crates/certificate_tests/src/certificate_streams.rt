@@ -90,6 +90,7 @@ const TEXTS: &[&str] = &[
     "ttcert 1\nlow 0\nplace 0\n",
     "ttcert 1\nlow 0\nplace 2\npair 1 0\nleaf 0 0\nleaf 1 0\ncap 3 1\nleaf 2 0\n",
     "ttcert 2\nlow 0\nplace 0\n",
+    "ttcert 3\nlow 0\nplace 0\n",
     "ttcert 1\nlow 4294967296\nplace 0\n",
     "ttcert 1\nhigh 0\nplace 0\n",
     "ttcert 1\nlow 0\nplace 1\n",
@@ -134,7 +135,7 @@ fn a_line_may_be_longer_than_a_block(rt: HostRuntime) -> Result<(), Fail> {
 fn a_failed_read_goes_before_a_fault_of_the_text(rt: HostRuntime) -> Result<(), Fail> {
     for text in [
         TWO_LEAVES,
-        "ttcert 2\nlow 0\n",
+        "ttcert 3\nlow 0\n",
         "ttcert 1\nlow 0\nleaf 0 0\nx",
     ] {
         let bytes = text.as_bytes();
@@ -151,7 +152,7 @@ fn a_failed_read_goes_before_a_fault_of_the_text(rt: HostRuntime) -> Result<(), 
 fn a_text_that_is_too_long_goes_before_its_fault(rt: HostRuntime) -> Result<(), Fail> {
     for first in [
         "ttcert 1\nlow 0\nleaf 0 0\n",
-        "ttcert 2\n",
+        "ttcert 3\n",
         "ttcert 1\nlow 0\nplace 0 0\n",
     ] {
         let reader = Endless {

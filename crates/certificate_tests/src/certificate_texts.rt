@@ -1,6 +1,6 @@
 //! Certificates as text: what is read is written again, and another text is refused at its line.
 
-use certificate::{Cert, CertTextError, LineFault, Node, print, read};
+use certificate::{Cert, CertTextError, LineFault, Node, Version, print, read};
 use std::alloc::{AllocError, Global};
 use std::process::Abort;
 use std::test::Fail;
@@ -87,6 +87,7 @@ const WRITTEN: &[&str] = &[
     TWO_LEAVES,
     STEPS,
     "ttcert 1\nlow 0\npair 0 1\nleaf 0 1\nx-cycle 0 1\nleaf 0 0\n",
+    "ttcert 2\nlow 0\nleaf 0 1\nx-cycle 0 1 2 3\n",
     "ttcert 1\nlow 0\nplace 0\n",
     "ttcert 1\nlow 4294967295\ncap 4294967295 0\n",
     "ttcert 1\nlow 0\nplace 2\npair 1 0\nleaf 0 0\nleaf 1 0\ncap 3 1\nleaf 2 0\n",
@@ -106,7 +107,7 @@ type Refused = (&'static str, u64, LineFault);
 
 #[rattlefmt::skip]
 const REFUSED: &[Refused] = &[
-    ("ttcert 2\nlow 9\nleaf 9 0\n", 1, LineFault::FirstLine),
+    ("ttcert 3\nlow 9\nleaf 9 0\n", 1, LineFault::FirstLine),
     ("ttcert 1\nlow 09\nleaf 9 0\n", 2, LineFault::Form),
     ("ttcert 1\nlow 9\nleaf 4294967296 0\n", 3, LineFault::Number),
     ("ttcert 1\nlow 9\nleaf 9 4294967295\nx-frame 0\n", 5, LineFault::EarlyEnd),
@@ -169,10 +170,11 @@ fn no_plan(alloc: Global) -> Result<Cert, Fail> {
         steps: Steps::new(steps),
     };
     let nodes = vec![in alloc; Node::Leaf(leaf)]?;
-    Ok(Cert::new(101, nodes))
+    Ok(Cert::new(Version::One, 101, nodes))
 }
 
 #[test]
+#[tactic(auto, using(certificate::proofs::Versions::allows_all))]
 fn a_leaf_alone_is_a_tree(rt: HostRuntime) -> Result<(), Fail> {
     let cert = no_plan(rt.alloc())?;
     let text = print(rt.alloc(), &cert)?;

@@ -109,7 +109,7 @@ fn a_failed_read_goes_before_all_other_faults(rt: HostRuntime) -> Result<(), Fai
     for text in [
         TWO_FAULTS,
         "ttcert 1\nlow 102\nleaf 9 0\n",
-        "ttcert 2\nlow 9\nleaf 9 0\n",
+        "ttcert 3\nlow 9\nleaf 9 0\n",
     ] {
         let bytes = text.as_bytes();
         for calls in 0..bytes.len().saturating_add(1) {
@@ -127,7 +127,7 @@ fn a_text_that_is_too_long_goes_before_its_other_faults(rt: HostRuntime) -> Resu
     for text in [
         TWO_FAULTS,
         "ttcert 1\nlow 102\nleaf 9 0\n",
-        "ttcert 2\nlow 9\nleaf 9 0\n",
+        "ttcert 3\nlow 9\nleaf 9 0\n",
     ] {
         let mut reader = Endless {
             first: text.as_bytes(),

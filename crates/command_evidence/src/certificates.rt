@@ -29,6 +29,7 @@ pub fn what_is_read_is_a_whole_tree(alloc: Global, text: &[u8]) -> Result<Cert, 
 }
 
 /// What is printed spells the certificate, the numbers of each step in their order.
+#[tactic(auto, using(certificate::proofs::Versions::allows_all))]
 pub fn printed_text_spells_it(alloc: Global, cert: &Cert) -> Result<Vec<u8>, MemoryFault>
     ensures { IfOk result (λ text. SpellsCert text.items cert.now) }
 {

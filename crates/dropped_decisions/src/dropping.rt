@@ -1,6 +1,7 @@
 //! Which smaller tree proves the same bound?
 
 ghost use Rattle.std.specs.Prelude.{◌≡◌, ◌≤◌, IfOk, IfSome};
+ghost use Rattle.certificate.specs.declared.version.Version.TheVariants.{One};
 ghost use Rattle.certificate.specs.Trees.{preorder};
 ghost use Rattle.tree_check.specs.Proofs.{Proves};
 ghost use Rattle.dropped_decisions.specs.Branches.{branches};
@@ -10,10 +11,33 @@ use crate::copies::copies;
 use crate::heights::is_tree;
 use crate::pass::what_stays;
 use crate::standing::{Standing, sort_by_name};
-use certificate::{Cert, Node};
+use certificate::{Cert, Node, Version};
 use std::alloc::Global;
 use tree_check::check;
 use ttp_model::{Instance, MemoryFault};
+
+/// A certificate of this version and of a bound, with these nodes in preorder, where they are a tree that proves it.
+fn accepted_as(
+    alloc: Global,
+    instance: &Instance,
+    version: Version,
+    low: u32,
+    nodes: Vec<Node>,
+) -> Result<Option<Cert>, MemoryFault>
+    ensures proves { IfOk result (λ found. IfSome found (Proves instance.now)) }
+    ensures version { IfOk result (λ found. IfSome found (λ cert. cert.version ≡ version)) }
+    ensures low { IfOk result (λ found. IfSome found (λ cert. cert.low ≡ low)) }
+    ensures nodes { IfOk result (λ found. IfSome found (λ cert. preorder cert.tree ≡ nodes.items)) }
+{
+    if !is_tree(alloc, nodes.as_slice())? {
+        return Ok(None);
+    }
+    let cert = Cert::new(version, low, nodes);
+    match check(alloc, instance, &cert) {
+        Ok(_) => Ok(Some(cert)),
+        Err(_) => Ok(None),
+    }
+}
 
 /// A certificate of a bound, in ticks, with these nodes in preorder, where they are a tree that proves it.
 pub fn accepted(
@@ -23,29 +47,25 @@ pub fn accepted(
     nodes: Vec<Node>,
 ) -> Result<Option<Cert>, MemoryFault>
     ensures proves { IfOk result (λ found. IfSome found (Proves instance.now)) }
+    ensures version { IfOk result (λ found. IfSome found (λ cert. cert.version ≡ One)) }
     ensures low { IfOk result (λ found. IfSome found (λ cert. cert.low ≡ low)) }
     ensures nodes { IfOk result (λ found. IfSome found (λ cert. preorder cert.tree ≡ nodes.items)) }
 {
-    if !is_tree(alloc, nodes.as_slice())? {
-        return Ok(None);
-    }
-    let cert = Cert::new(low, nodes);
-    match check(alloc, instance, &cert) {
-        Ok(_) => Ok(Some(cert)),
-        Err(_) => Ok(None),
-    }
+    accepted_as(alloc, instance, Version::One, low, nodes)
 }
 
-/// A certificate of a bound with at most so many branches, where what is left of a tree in preorder proves it.
+/// A certificate of this version and of a bound with at most so many branches, where what is left of a tree in preorder proves it.
 fn left_of(
     alloc: Global,
     instance: &Instance,
+    version: Version,
     low: u32,
     standing: &[Standing],
     most: usize,
 ) -> Result<Option<Cert>, MemoryFault>
     ensures proves { IfOk result (λ found. IfSome found (Proves instance.now)) }
     ensures low { IfOk result (λ found. IfSome found (λ cert. cert.low ≡ low)) }
+    ensures version { IfOk result (λ found. IfSome found (λ cert. cert.version ≡ version)) }
     ensures few { IfOk result (λ found. IfSome found (λ cert. branches cert.tree ≤ most)) }
 {
     let staying = what_stays(alloc, instance, standing)?;
@@ -55,7 +75,7 @@ fn left_of(
     if branches_among(left.as_slice()) > most {
         return Ok(None);
     }
-    accepted(alloc, instance, low, left)
+    accepted_as(alloc, instance, version, low, left)
 }
 
 /// The nodes of a tree in preorder, which tells where they stand: none is named.
@@ -70,9 +90,10 @@ fn unnamed(alloc: Global, nodes: &[Node]) -> Result<Vec<Standing>, MemoryFault> 
     Ok(standing)
 }
 
-/// A certificate of the same bound with no more branches, where the pass finds one that proves it.
+/// A certificate of the same version and bound with no more branches, where the pass finds one that proves it.
 fn smaller(alloc: Global, instance: &Instance, cert: &Cert) -> Result<Option<Cert>, MemoryFault>
     ensures proves { IfOk result (λ found. IfSome found (Proves instance.now)) }
+    ensures version { IfOk result (λ found. IfSome found (λ other. other.version ≡ cert.now.version)) }
     ensures low { IfOk result (λ found. IfSome found (λ other. other.low ≡ cert.now.low)) }
     ensures fewer { IfOk result (λ found. IfSome found (λ other. branches other.tree ≤ branches cert.now.tree)) }
 {
@@ -81,13 +102,14 @@ fn smaller(alloc: Global, instance: &Instance, cert: &Cert) -> Result<Option<Cer
     left_of(
         alloc,
         instance,
+        cert.version(),
         cert.low(),
         standing.as_slice(),
         branches_among(nodes),
     )
 }
 
-/// A certificate of the same bound, without branches that nothing below one of their children uses: that child stands in the
+/// A certificate of the same version and bound, without branches that nothing below one of their children uses: that child stands in the
 /// branch's place. The same certificate where memory is refused, or where the check doesn't accept what is left.
 ///
 /// One pass over the nodes, and a check of what is left. Takes memory for a place of each node, for the sets of branches that
@@ -95,6 +117,7 @@ fn smaller(alloc: Global, instance: &Instance, cert: &Cert) -> Result<Option<Cer
 pub fn without_unused(alloc: Global, instance: &Instance, cert: Cert) -> Cert
     requires { Proves instance.now cert }
     ensures proves { Proves instance.now result }
+    ensures version { result.version ≡ cert.version }
     ensures low { result.low ≡ cert.low }
     ensures fewer { branches result.tree ≤ branches cert.tree }
 {
@@ -118,9 +141,17 @@ pub fn proof_of(
 ) -> Result<Option<Cert>, MemoryFault>
     ensures proves { IfOk result (λ found. IfSome found (Proves instance.now)) }
     ensures low { IfOk result (λ found. IfSome found (λ cert. cert.low ≡ low)) }
+    ensures version { IfOk result (λ found. IfSome found (λ cert. cert.version ≡ One)) }
     ensures few { IfOk result (λ found. IfSome found (λ cert. branches cert.tree ≤ most)) }
 {
     let mut standing = standing;
     sort_by_name(&mut standing)?;
-    left_of(alloc, instance, low, standing.as_slice(), most)
+    left_of(
+        alloc,
+        instance,
+        Version::One,
+        low,
+        standing.as_slice(),
+        most,
+    )
 }

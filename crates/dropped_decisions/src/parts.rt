@@ -2,7 +2,7 @@
 
 use tt_choice::Decision;
 use ttp_model::Kind;
-use used_decisions::{Cut, Levels};
+use used_decisions::Levels;
 
 /// A node with what stands below it, once it was gone through.
 #[derive(Drop)]
@@ -26,8 +26,6 @@ pub struct OpenBranch {
     pub left: u32,
     /// What leads to the child that is gone through.
     pub decision: Option<Decision>,
-    /// The bound on rounds that counts again above that child.
-    pub counted: Option<Cut>,
     /// The place behind the children that were gone through.
     pub to: usize,
     /// How many nodes stay of those children.

@@ -94,7 +94,6 @@ impl<'a> Pass<'a> {
             kind: branch.kind,
             left: branch.children,
             decision,
-            counted: None,
             to: k,
             stays: 1,
             used,
@@ -105,9 +104,8 @@ impl<'a> Pass<'a> {
     /// Goes down from a branch to the child that is next.
     fn go_down(&mut self, branch: OpenBranch) -> Result<(), MemoryFault> {
         let level = self.depth();
-        let mut branch = branch;
         if let Some(decision) = branch.decision {
-            branch.counted = self.path.go_down(decision, level)?;
+            self.path.go_down(decision, level)?;
         }
         self.above.push(branch)?;
         Ok(())
@@ -118,8 +116,8 @@ impl<'a> Pass<'a> {
         ensures { IfSome result (λ _. length self.new.above.items + 1 ≡ length self.old.above.items) }
     {
         let branch = self.above.pop()?;
-        if let Some(decision) = branch.decision {
-            self.path.go_up(decision, branch.counted);
+        if branch.decision.is_some() {
+            self.path.go_up();
         }
         Some(branch)
     }

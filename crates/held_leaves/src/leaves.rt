@@ -3,6 +3,7 @@
 ghost use Rattle.std.specs.Prelude.{◌≡◌, [], ◌∷◌, ◌<◌, ◌++◌, IfOk, IsFalse, OnErr, OnOk, length, max};
 ghost use Rattle.tt_choice.specs.Choice.{bare};
 
+use certificate::Version;
 use std::alloc::Global;
 use std::mem;
 use tt_choice::Choice;
@@ -17,10 +18,11 @@ const FIRST_TOGETHER: usize = 64;
 /// How large the memory of a text may be that is kept for others.
 const MOST_KEPT: usize = 4_096;
 
-/// A leaf that waits, with the choice that it stands at and its line. Its steps aren't read yet: their lines are there.
+/// A leaf that waits, with the choice that it stands at, the version of its text and its line. Its steps aren't read yet: their lines are there.
 #[derive(Drop)]
 pub struct HeldLeaf {
     pub choice: Choice,
+    pub version: Version,
     pub goal: u32,
     pub count: u32,
     pub line: u64,

@@ -29,6 +29,7 @@ const ORDERS_AND_RANGES: &str =
     "ttcert 1\nlow 9\nplace 2\nround 0 1\nplace 1\nleaf 9 5\nes-release 0\nlo-send 0\nes-arrive 0 1\nle-own 1\nx-window 1\nleaf 101 2\nus-settled 0\nx-late 0 1\nleaf 9 5\nes-release 0\nlo-send 0\nes-arrive 0 1\nle-own 1\nx-window 1\n";
 
 /// What is left of the certificate in a text, which the check accepts before and after.
+#[tactic(auto, using(certificate::proofs::Versions::allows_all))]
 fn left(alloc: Global, i: &Instance, text: &str) -> Result<Vec<u8>, Fail> {
     let cert = read(alloc, text.as_bytes())?;
     let _low = check(alloc, i, &cert)?;
@@ -42,6 +43,7 @@ const NAMES: [&[u32]; 3] = [&[], &[0], &[1]];
 
 /// What proves the bound of a certificate's text, where the node at this place was left. Nothing is written where
 /// that is missed.
+#[tactic(auto, using(certificate::proofs::Versions::allows_all))]
 fn proof_without(alloc: Global, i: &Instance, text: &str, place: usize) -> Result<Vec<u8>, Fail> {
     let cert = read(alloc, text.as_bytes())?;
     let nodes = cert.nodes();

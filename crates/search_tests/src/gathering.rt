@@ -77,6 +77,7 @@ fn are_shallow(pieces: &[Piece]) -> bool
 }
 
 /// Whether parts gather to this text, or have this fault. No test has a name that is too long.
+#[tactic(auto, using(certificate::proofs::Versions::allows_all))]
 fn gathers(
     alloc: Global,
     parts: Parts,

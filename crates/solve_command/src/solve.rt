@@ -188,6 +188,7 @@ fn solved_of_reader<R: Threads + Wait + Sync, G: Follower + Sync, I: Read>(
 }
 
 /// Writes a certificate.
+#[tactic(auto, using(certificate::proofs::Versions::allows_all))]
 fn write_certificate<C: Write>(alloc: Global, cert: &Cert, out: &mut C) -> Result<(), Fault>
     ensures { IsCertifying cert.now (C.contents out.old) (C.contents out.new) result }
 {

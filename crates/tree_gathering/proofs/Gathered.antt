@@ -3,6 +3,7 @@ use Rattle.std.proofs.Common.{◌≡◌, ℕ, ◌≤◌, List, refl, sym, ap, su
 use Rattle.std.specs.List.Sorted.{IsPermutation}
 use Rattle.std.proofs.lemmas.List.Elements.{All-contains}
 use Rattle.std.proofs.lemmas.List.Sorted.{IsPermutation-sym, IsPermutation-trans, All-permutation, Contains-permutation}
+use Rattle.certificate.specs.declared.version.Version.TheVariants.{One}
 use Rattle.certificate.specs.declared.limits.TheConstants.{MOST_BRANCHES_ABOVE}
 use Rattle.certificate.specs.Trees.{Trees, IsTree, preorder, trees_of}
 use Rattle.certificate.proofs.TreeLists.{trees_of-preorder}
@@ -21,7 +22,7 @@ use Rattle.tree_gathering.proofs.Sorting.{sorted_exists}
 
 pub record IsAnswered (low : ℕ) (pieces sorted : List Piece) : Type 0 where
   pub is_tree : IsTree (trees_of (map (λ (p : Piece). p.node) sorted))
-  pub answer : IsGathered low pieces (record { low = low; tree = trees_of (map (λ (p : Piece). p.node) sorted) })
+  pub answer : IsGathered low pieces (record { version = One; low = low; tree = trees_of (map (λ (p : Piece). p.node) sorted) })
 
 nodes_are : (sorted : List Piece) (found : IsListOf sorted) → trees_of (map (λ (p : Piece). p.node) sorted) ≡ found.tree
 nodes_are sorted found =
@@ -38,6 +39,7 @@ gathered low pieces sorted shallow same up complete own goals =
     record {
       is_tree = subst IsTree (sym (nodes_are sorted found)) (record { one = found.one; shallow = low_tree });
       answer = record {
+        version = refl;
         bound = refl;
         tree = subst (IsTreeOf pieces) (sym (nodes_are sorted found)) whole;
         goals = All-permutation (λ (p : Piece). HasGoal low p.node) sorted pieces (IsPermutation-sym pieces sorted same) goals;

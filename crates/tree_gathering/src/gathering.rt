@@ -1,6 +1,7 @@
 //! The certificate of a tree that is given as pieces.
 
 ghost use Rattle.std.specs.Prelude.{◌≡◌, ◌≢◌, ◌↔◌, IsTrue, IfOk, OnOk, IfErr, MatchBool, map};
+ghost use Rattle.certificate.specs.declared.version.Version.TheVariants.{One};
 ghost use Rattle.certificate.specs.Trees.{Trees, IsTree, trees_of};
 ghost use Rattle.tree_gathering.specs.declared.fault.GatherFault.TheVariants.{OutOfMemory};
 ghost use Rattle.tree_gathering.specs.Trees.{IsTreeOf};
@@ -9,7 +10,7 @@ ghost use Rattle.tree_gathering.specs.Order.{IsSorted, IsSound};
 
 use crate::fault::GatherFault;
 use crate::names::{has_doubled_name, has_stray_name, lacks_name, sort_by_name};
-use certificate::{Cert, Node};
+use certificate::{Cert, Node, Version};
 use std::alloc::Global;
 use subtree_tasks::Piece;
 use ttp_model::MemoryFault;
@@ -76,11 +77,11 @@ fn nodes_of(room: Vec<Node>, pieces: Vec<Piece>) -> Result<Vec<Node>, MemoryFaul
 fn certified(room: Vec<Node>, pieces: Vec<Piece>, low: u32) -> Result<Cert, GatherFault>
     requires { IsTree (trees_of (map (λ piece. piece.node) pieces.items)) }
     ensures ok { IfOk result
-        (λ cert. cert ≡ record { low = low; tree = trees_of (map (λ piece. piece.node) pieces.items) }) }
+        (λ cert. cert ≡ record { version = One; low = low; tree = trees_of (map (λ piece. piece.node) pieces.items) }) }
     ensures err { IfErr result (λ fault. fault ≡ OutOfMemory) }
 {
     let nodes = nodes_of(room, pieces)?;
-    Ok(Cert::new(low, nodes))
+    Ok(Cert::new(Version::One, low, nodes))
 }
 
 /// The certificate of this bound, in ticks, whose tree is that of the pieces, which may stand in any
@@ -95,7 +96,7 @@ pub fn gather(alloc: Global, pieces: Vec<Piece>, low: u32) -> Result<Cert, Gathe
     ensures err { IfErr result (IsFirstGatherFault low pieces.items) }
     // The certificate of a tree without low leaves, unless memory is refused.
     ensures only { (tree : Trees) → IsTreeOf pieces.items tree → HaveGoals low pieces.items
-        → result ≢ Err OutOfMemory → result ≡ Ok (record { low = low; tree = tree }) }
+        → result ≢ Err OutOfMemory → result ≡ Ok (record { version = One; low = low; tree = tree }) }
 {
     let mut pieces = pieces;
     sort_by_name(&mut pieces);

@@ -1,1 +1,2 @@
 pub mod Manners
+pub mod Uses

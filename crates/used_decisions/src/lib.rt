@@ -2,16 +2,13 @@
 #![tactic(auto)]
 
 mod given;
-mod levels;
 mod manner;
 mod needs;
-mod path;
 mod reader;
 mod uses;
 mod way;
 
-pub use levels::Levels;
+pub use decision_paths::{Cut, Levels, Path};
 pub use manner::{Manner, usual_manner};
 pub use needs::Needs;
-pub use path::{Cut, Path};
 pub use reader::Reader;

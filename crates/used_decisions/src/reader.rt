@@ -1,9 +1,8 @@
 //! Which branches above a leaf do its steps use?
 
 use crate::given::Given;
-use crate::levels::Levels;
-use crate::path::Path;
 use crate::uses::Uses;
+use decision_paths::{Levels, Path};
 use std::alloc::Global;
 use ttp_model::{Instance, Leaf, MemoryFault, Step, has_link};
 

@@ -1,7 +1,12 @@
 //! Which branches do times of slots rest on?
 
-use crate::levels::Levels;
-use crate::path::{Cut, Path};
+ghost use Rattle.std.specs.Prelude.{◌≡◌, ◌<◌, ◌≤◌, length, take, IfOk, IfSome, IfNone, IsTrue, position, ◌==◌};
+ghost use Rattle.ttp_model.specs.Instance.{Instance};
+ghost use Rattle.decision_paths.specs.Levels.{has_level};
+ghost use Rattle.decision_paths.specs.Turns.{placed_of};
+ghost use Rattle.used_decisions.specs.Uses.{IsMore, HaveMarked};
+
+use decision_paths::{Cut, Levels, Path};
 use std::alloc::Global;
 use ttp_model::MemoryFault;
 
@@ -19,7 +24,9 @@ pub struct Uses {
 
 impl Uses {
     /// None of the branches above a leaf, of which there are so many.
-    pub fn nothing(alloc: Global, depth: u32) -> Result<Uses, MemoryFault> {
+    pub fn nothing(alloc: Global, depth: u32) -> Result<Uses, MemoryFault>
+        ensures { IfOk result (λ uses. depth ≤ length uses.levels) }
+    {
         Ok(Uses {
             levels: Levels::none_of(alloc, depth)?,
             places: 0,
@@ -28,40 +35,78 @@ impl Uses {
         })
     }
 
+    /// Uses the branch of a level.
+    fn mark(&mut self, level: u32)
+        ensures more { IsMore self.old self.new }
+        ensures told { level < length self.old.levels → IsTrue (has_level self.new.levels level) }
+    {
+        self.levels.insert(level);
+    }
+
     /// Uses a branch, if there is one.
-    pub fn branch(&mut self, level: Option<u32>) {
+    pub fn branch(&mut self, level: Option<u32>)
+        ensures more { IsMore self.old self.new }
+        ensures told { IfSome level (λ level. level < length self.old.levels → IsTrue (has_level self.new.levels level)) }
+    {
         if let Some(level) = level {
-            self.levels.insert(level);
+            self.mark(level);
         }
     }
 
     /// Uses a bound on the rounds of a message, if there is one.
-    pub fn cut(&mut self, cut: Option<Cut>) {
+    pub fn cut(&mut self, cut: Option<Cut>)
+        ensures more { IsMore self.old self.new }
+        ensures told { IfSome cut (λ cut. cut.level < length self.old.levels → IsTrue (has_level self.new.levels cut.level)) }
+    {
         if let Some(cut) = cut {
-            self.levels.insert(cut.level);
+            self.mark(cut.level);
         }
     }
 
+    /// Uses the first so many places.
+    fn first_places(&mut self, count: usize)
+        ensures more { IsMore self.old self.new }
+        ensures told { count ≤ self.new.places }
+    {
+        self.places = self.places.max(count);
+    }
+
     /// Uses the place of a node in the slot order, with those in front of it, if it has one.
-    pub fn place(&mut self, path: &Path, n: u32) {
+    pub fn place(&mut self, path: &Path, n: u32)
+        ensures more { IsMore self.old self.new }
+        ensures told { IfSome (position (λ one. one.node == n) (placed_of path.now.turns)) (λ k. k < self.new.places) }
+    {
         if let Some(k) = path.place_of(n) {
-            self.places = self.places.max(k.saturating_add(1));
+            let count = path.order().len();
+            self.first_places(k.saturating_add(1).min(count));
         }
     }
 
     /// Uses when a node's slot begins or ends at least: that depends on the nodes in front of it, or on all that are placed, and
     /// on no capacity that is the least anyway.
-    pub fn least_slot(&mut self, path: &Path, n: u32) {
-        let front = path.place_of(n).unwrap_or(path.order().len());
-        self.places = self.places.max(front);
+    pub fn least_slot(&mut self, path: &Path, n: u32)
+        ensures more { IsMore self.old self.new }
+        ensures capacities { IsTrue self.new.above_least }
+        ensures front { IfSome (position (λ one. one.node == n) (placed_of path.now.turns)) (λ k. k ≤ self.new.places) }
+        ensures all { IfNone (position (λ one. one.node == n) (placed_of path.now.turns))
+            (length (placed_of path.now.turns) ≤ self.new.places) }
+    {
         self.above_least = true;
+        match path.place_of(n) {
+            Some(k) => self.first_places(k),
+            None => self.first_places(path.order().len()),
+        }
     }
 
     /// Uses when a node's slot begins or ends at most: that depends on the nodes up to it, or on no place, and on no capacity that
     /// is the greatest anyway.
-    pub fn greatest_slot(&mut self, path: &Path, n: u32) {
-        self.place(path, n);
+    pub fn greatest_slot(&mut self, path: &Path, n: u32)
+        ensures more { IsMore self.old self.new }
+        ensures capacities { IsTrue self.new.below_most }
+        ensures place { IfSome (position (λ one. one.node == n) (placed_of path.now.turns)) (λ k. k < self.new.places) }
+    {
         self.below_most = true;
+        self.place(path, n);
     }
 
     /// The branches that are used.
@@ -80,8 +125,12 @@ impl Uses {
 }
 
 /// Puts in the branches that decided the first so many places.
-fn mark_places(path: &Path, places: usize, levels: &mut Levels) {
-    for placed in path.order().iter().take(places) {
+fn mark_places(path: &Path, places: usize, levels: &mut Levels)
+    ensures { HaveMarked (take places (placed_of path.now.turns)) levels.old levels.new }
+{
+    let order = path.order();
+    let count = places.min(order.len());
+    for placed in &order[..count] {
         levels.insert(placed.level);
     }
 }

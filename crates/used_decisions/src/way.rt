@@ -1,8 +1,7 @@
 //! What do subtrees that were closed use of the decisions that lead to the one at hand?
 
-use crate::levels::Levels;
-use crate::path::{Cut, Path};
 use crate::reader::Reader;
+use decision_paths::{Levels, Path};
 use std::alloc::Global;
 use tt_choice::Decision;
 use ttp_model::{Instance, Kind, Leaf, MemoryFault};
@@ -23,8 +22,6 @@ struct Taken {
     /// Which child of its branch it leads to.
     child: u32,
     decision: Decision,
-    /// The bound on rounds that counts again above that child.
-    counted: Option<Cut>,
     /// Its branch, where it is known of each other child whether it is closed.
     branch: Option<OpenBranch>,
 }
@@ -93,7 +90,7 @@ impl<'a> Way<'a> {
     /// Takes the last decision of the way back.
     fn go_up(&mut self) -> Option<Taken> {
         let last = self.taken.pop()?;
-        self.path.go_up(last.decision, last.counted);
+        self.path.go_up();
         Some(last)
     }
 
@@ -111,11 +108,10 @@ impl<'a> Way<'a> {
     fn go_down(&mut self, child: u32, decision: Decision) -> Result<(), MemoryFault> {
         let branch = self.end.take();
         let level = self.depth();
-        let counted = self.path.go_down(decision, level)?;
+        self.path.go_down(decision, level)?;
         self.taken.push(Taken {
             child,
             decision,
-            counted,
             branch,
         })?;
         Ok(())

@@ -1,6 +1,6 @@
-use Rattle.std.proofs.Common.{◌≡◌, ◌+◌, true, false, Ok, arith}
-use Rattle.std.specs.Prelude.{bytes_eq, codes}
+use Rattle.std.proofs.Common.{◌≡◌, ◌+◌, Some, None, Ok, sym, arith}
 use Rattle.std.proofs.lemmas.Result.{err_from_is_err_and}
+use Rattle.certificate.specs.Versions.{version_of, allows_low}
 use Rattle.certificate.specs.Words.{low_words, lows_with}
 use Rattle.certificate.specs.Reading.{IsFaultOf, line_at, said_in, low_at}
 use Rattle.certificate.proofs.Sources.{of_part, of_bare_line}
@@ -16,9 +16,9 @@ returns-in_err-next_line-clause-err g c =
     rw (p.1, p.2)
     (of_part c.in_err-next_line.field-0.0 stops stops left left (line_at one) low_at (λ x h. h) (first_line_fails left one (omega (arith, c.requires))) c.in_err-next_line.ensures.err)
 
-pub returns-then-ne-clause-err : goal.returns-then-ne-clause-err
-returns-then-ne-clause-err g c =
-    let other : bytes_eq c.line.result.now (codes "ttcert 1") ≡ false = grind (arith, c.if-ne.true, c.ne.ensures) in
+pub returns-in_default-clause-err : goal.returns-in_default-clause-err
+returns-in_default-clause-err g c =
+    let other : version_of c.line.result.now ≡ None = sym c.in_default.ensures in
     rw c.at.ensures
     (version_fails (g.L.LineSource.may_leave c.args.source.now) (g.L.LineSource.may_leave c.next_line.new.self) (g.L.LineSource.passed c.args.source.now + 1) (omega (arith, c.requires))
     (g.L.LineSource.line c.next_line.new.self) c.in_ok-next_line.ensures.said c.in_ok-next_line.ensures.has (rw (← c.line.ensures) other))
@@ -30,11 +30,11 @@ returns-in_err-next_line-2-clause-err g c =
     let left = g.L.LineSource.may_leave c.args.source.now in
     let mid = g.L.LineSource.may_leave c.next_line.new.self in
     let stops = g.L.LineSource.may_stop c.next_line-2.new.self in
-    let same : bytes_eq c.line.result.now (codes "ttcert 1") ≡ true = grind (arith, c.if-ne.false, c.ne.ensures) in
+    let names : version_of c.line.result.now ≡ Some c.in-Some.version = sym c.in-Some.ensures in
     rw (p.1, p.2)
     (of_part c.in_err-next_line-2.field-0.0 stops stops mid left (line_at two) low_at (λ x h. h)
     (second_line_fails left mid (g.L.LineSource.passed c.args.source.now + 1) (omega (arith, c.requires)) (g.L.LineSource.line c.next_line.new.self) c.in_ok-next_line.ensures.said
-    (rw (← c.line.ensures) same) two (omega (arith, c.requires, c.in_ok-next_line.ensures.passed))) c.in_err-next_line-2.ensures.err)
+    c.in-Some.version (rw (← c.line.ensures) names) two (omega (arith, c.requires, c.in_ok-next_line.ensures.passed))) c.in_err-next_line-2.ensures.err)
 
 pub returns-in_err-low-clause-err : goal.returns-in_err-low-clause-err
 returns-in_err-low-clause-err g c =
@@ -43,19 +43,19 @@ returns-in_err-low-clause-err g c =
     let left = g.L.LineSource.may_leave c.args.source.now in
     let mid = g.L.LineSource.may_leave c.next_line.new.self in
     let second = g.L.LineSource.line c.next_line-2.new.self in
-    let same : bytes_eq c.line.result.now (codes "ttcert 1") ≡ true = grind (arith, c.if-ne.false, c.ne.ensures) in
-    let h : IsFaultOf ⊥ c.in_err-low.field-0.0 (said_in low_words lows_with 2 (g.L.LineSource.line c.next_line-2.new.self)) = rw (← c.line-2.ensures) c.in_err-low.ensures in
+    let names : version_of c.line.result.now ≡ Some c.in-Some.version = sym c.in-Some.ensures in
+    let h : IsFaultOf ⊥ c.in_err-low.field-0.0 (said_in low_words lows_with allows_low 2 (g.L.LineSource.line c.next_line-2.new.self)) = rw (← c.line-2.ensures) c.in_err-low.ensures in
     rw (p.1, p.2)
-    (of_bare_line c.in_err-low.field-0.0 (g.L.LineSource.may_stop c.next_line-2.new.self) left (said_in low_words lows_with 2 second) low_at
+    (of_bare_line c.in_err-low.field-0.0 (g.L.LineSource.may_stop c.next_line-2.new.self) left (said_in low_words lows_with allows_low 2 second) low_at
     (word_fails left mid (g.L.LineSource.passed c.args.source.now + 1) (omega (arith, c.requires)) (g.L.LineSource.line c.next_line.new.self) c.in_ok-next_line.ensures.said
-    (rw (← c.line.ensures) same) two (omega (arith, c.requires, c.in_ok-next_line.ensures.passed)) (g.L.LineSource.may_leave c.next_line-2.new.self) second
+    c.in-Some.version (rw (← c.line.ensures) names) two (omega (arith, c.requires, c.in_ok-next_line.ensures.passed)) (g.L.LineSource.may_leave c.next_line-2.new.self) second
     c.in_ok-next_line-2.ensures.said c.in_ok-next_line-2.ensures.has) h)
 
 pub returns-clause-said : goal.returns-clause-said
 returns-clause-said g c =
-    let same : bytes_eq c.line.result.now (codes "ttcert 1") ≡ true = grind (arith, c.if-ne.false, c.ne.ensures) in
-    let said : said_in low_words lows_with 2 (g.L.LineSource.line c.next_line-2.new.self) ≡ Ok c.in_ok-low.low = rw (← c.line-2.ensures) c.in_ok-low.ensures in
+    let names : version_of c.line.result.now ≡ Some c.in-Some.version = sym c.in-Some.ensures in
+    let said : said_in low_words lows_with allows_low 2 (g.L.LineSource.line c.next_line-2.new.self) ≡ Ok c.in_ok-low.low = rw (← c.line-2.ensures) c.in_ok-low.ensures in
     low_says (g.L.LineSource.may_leave c.args.source.now) (g.L.LineSource.may_leave c.next_line.new.self) (g.L.LineSource.passed c.args.source.now + 1) (omega (arith, c.requires))
-    (g.L.LineSource.line c.next_line.new.self) c.in_ok-next_line.ensures.said (rw (← c.line.ensures) same) (g.L.LineSource.passed c.next_line.new.self + 1)
+    (g.L.LineSource.line c.next_line.new.self) c.in_ok-next_line.ensures.said c.in-Some.version (rw (← c.line.ensures) names) (g.L.LineSource.passed c.next_line.new.self + 1)
     (omega (arith, c.requires, c.in_ok-next_line.ensures.passed)) (g.L.LineSource.may_leave c.next_line-2.new.self) (g.L.LineSource.line c.next_line-2.new.self)
     c.in_ok-next_line-2.ensures.said c.in_ok-low.low said

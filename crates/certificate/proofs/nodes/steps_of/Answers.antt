@@ -12,9 +12,9 @@ returns-in_err-step-clause-err g c =
     let source = g.L.LineSource in
     let stops = OrMemory (source.may_stop c.step_of.new.source) in
     rw (p.1, p.2)
-    (of_part c.in_err-step.field-0.0 stops stops (source.may_leave c.loop-k.source) (source.may_leave c.args.source.now) (text_step (source.passed c.loop-k.source + 1))
-    (steps_at c.args.count (source.passed c.args.source.now + 1)) (λ x h. h)
-    (step_fails_steps (source.may_leave c.args.source.now) (source.may_leave c.loop-k.source) c.args.count (source.passed c.args.source.now) (source.passed c.loop-k.source)
+    (of_part c.in_err-step.field-0.0 stops stops (source.may_leave c.loop-k.source) (source.may_leave c.args.source.now) (text_step c.args.version (source.passed c.loop-k.source + 1))
+    (steps_at c.args.version c.args.count (source.passed c.args.source.now + 1)) (λ x h. h)
+    (step_fails_steps c.args.version (source.may_leave c.args.source.now) (source.may_leave c.loop-k.source) c.args.count (source.passed c.args.source.now) (source.passed c.loop-k.source)
     c.loop-k.k c.loop-k.steps.items c.loop-k-test.true c.loop-k.invariant.here c.loop-k.invariant.said) c.in_err-step.ensures.err)
 
 pub loop-k-preserved : goal.loop-k-preserved
@@ -22,7 +22,7 @@ loop-k-preserved g c =
     let source = g.L.LineSource in
     rw c.in_ok-push.ensures.items (record {
       said =
-          steps_go_on (source.may_leave c.args.source.now) (source.may_leave c.loop-k.source) (source.may_leave c.step_of.new.source) c.args.count (source.passed c.args.source.now)
+          steps_go_on c.args.version (source.may_leave c.args.source.now) (source.may_leave c.loop-k.source) (source.may_leave c.step_of.new.source) c.args.count (source.passed c.args.source.now)
           (source.passed c.loop-k.source) c.loop-k.k c.loop-k.steps.items c.in_ok-step.step c.loop-k-test.true c.loop-k.invariant.here c.loop-k.invariant.said c.in_ok-step.ensures.said;
       all = omega (arith, length-append c.loop-k.steps.items (c.in_ok-step.step ∷ []), c.loop-k.invariant.all);
       here = omega (arith, c.in_ok-step.ensures.passed, c.loop-k.invariant.here);
@@ -32,5 +32,5 @@ loop-k-preserved g c =
 pub returns-clause-said : goal.returns-clause-said
 returns-clause-said g c =
     let source = g.L.LineSource in
-    steps_end (source.may_leave c.args.source.now) (source.may_leave c.loop-k.source) c.args.count (source.passed c.args.source.now) c.loop-k.k c.loop-k.steps.items
+    steps_end c.args.version (source.may_leave c.args.source.now) (source.may_leave c.loop-k.source) c.args.count (source.passed c.args.source.now) c.loop-k.k c.loop-k.steps.items
     c.loop-k-test.false c.loop-k.invariant.said

@@ -4,5 +4,5 @@ use Rattle.certificate.proofs.nodes.steps_of.Given as goal
 abbrev pub invariant-loop-k : goal.invariant-loop-k
 invariant-loop-k g l =
     let source = g.L.LineSource in
-    IsSteppedSoFar (source.may_leave l.fn.source) (source.may_leave l.source) (source.may_be_from l.fn.source) (source.may_be_from l.source)
+    IsSteppedSoFar l.version (source.may_leave l.fn.source) (source.may_leave l.source) (source.may_be_from l.fn.source) (source.may_be_from l.source)
     l.count (source.passed l.fn.source) (source.passed l.source) l.k l.steps.items

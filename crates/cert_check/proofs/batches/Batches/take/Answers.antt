@@ -32,9 +32,9 @@ returns-in-Ok-clause-takes c = λ d left walk.
     let count = c.in-Ok-OfLeaf.count in
     let there = c.in-Ok-OfLeaf.ensures d left walk in
     let choice = c.go_on.new.self.choice in
-    let first : Waits c.args.instance.now (held_leaf (bare c.go_on.new.self.choice) c.in-Ok-OfLeaf.goal c.in-Ok-OfLeaf.count c.args.line c.args.self.now.text) =
+    let first : Waits c.args.instance.now (held_leaf (bare c.go_on.new.self.choice) c.args.version c.in-Ok-OfLeaf.goal c.in-Ok-OfLeaf.count c.args.line c.args.self.now.text) =
     record { choice = IsChoice-keeping i choice [] there.1.choice; none_kept = refl; line = c.requires.line; few = c.in-Ok.ensures.few } in
-    let waits = subst (λ (x : Choice). Waits i (held_leaf x goal count c.args.line c.args.self.now.text)) there.0 first in
+    let waits = subst (λ (x : Choice). Waits i (held_leaf x c.args.version goal count c.args.line c.args.self.now.text)) there.0 first in
     let on : IsWalk c.args.instance.now c.hold.new.self.walk left = rw c.in-Ok.ensures.walk there.1 in
-    let held = subst (λ (x : Choice). c.hold.new.self.held.leaves.items ≡ c.args.self.now.held.leaves.items ++ held_leaf x goal count c.args.line c.args.self.now.text ∷ []) there.0 c.in-Ok.ensures.held in
+    let held = subst (λ (x : Choice). c.hold.new.self.held.leaves.items ≡ c.args.self.now.held.leaves.items ++ held_leaf x c.args.version goal count c.args.line c.args.self.now.text ∷ []) there.0 c.in-Ok.ensures.held in
     rw c.in-Ok-OfLeaf.is-1 (waits, (on, held))

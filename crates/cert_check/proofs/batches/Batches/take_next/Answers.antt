@@ -41,7 +41,7 @@ returns-in-Ok-take-clause-stands g c = λ low first front s.
     let piece = is_piece g.R.Read.remaining now next c.next_piece.new.steps.items c.in-Ok.next said c.in-Some.is e.next e.line e.low e.due e.passed e.from in
     let open_here = rw c.requires.open at s in
     let new = c.take.new.self in
-    taken_on c.args.instance.now low g.R.Read.remaining first now own.walk front own.held.leaves.items open_here next new.walk new.held.leaves.items said.0 said.1 c.next_piece.new.steps piece c.in-Ok-take.ensures.takes
+    taken_on c.args.instance.now low g.R.Read.remaining first now own.walk front own.held.leaves.items open_here next new.walk new.held.leaves.items said.0 said.1 c.next_piece.new.steps piece (rw c.version.ensures at c.in-Ok-take.ensures.takes)
 
 pub returns-in-Err-take-clause-stands : goal.returns-in-Err-take-clause-stands
 returns-in-Err-take-clause-stands g c = λ low first front s.

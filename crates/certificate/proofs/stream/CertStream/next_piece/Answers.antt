@@ -18,14 +18,14 @@ returns-in_err-end-clause-err g c =
     let left = MayLeave (g.R.Read.remaining c.args.self.now.lines.reader.now) (held c.args.self.now.lines.block) in
     let taken = c.end.new.self.block.taken in
     rw (p.1, p.2)
-    (node_fault left c.args.self.now.due.items line taken c.in_err-end.field-0.0
-    (rest_of_part c.in_err-end.field-0.0 (Stops taken) (OrMemory (Stops taken)) left (end_at line) c.args.self.now.due.items line (or_memory (Stops taken))
-    (more_fails left c.args.self.now.due.items line c.in_default.ensures.none) c.in_err-end.ensures.err))
+    (node_fault c.args.self.now.version left c.args.self.now.due.items line taken c.in_err-end.field-0.0
+    (rest_of_part c.args.self.now.version c.in_err-end.field-0.0 (Stops taken) (OrMemory (Stops taken)) left (end_at line) c.args.self.now.due.items line (or_memory (Stops taken))
+    (more_fails c.args.self.now.version left c.args.self.now.due.items line c.in_default.ensures.none) c.in_err-end.ensures.err))
 
 pub returns-in_default-clause-next : goal.returns-in_default-clause-next
 returns-in_default-clause-next g c =
     let left = MayLeave (g.R.Read.remaining c.args.self.now.lines.reader.now) (held c.args.self.now.lines.block) in
-    no_more left c.args.self.now.due.items (c.args.self.now.lines.block.passed + 1) c.in_default.ensures.none c.in_ok-end.ensures.end
+    no_more c.args.self.now.version left c.args.self.now.due.items (c.args.self.now.lines.block.passed + 1) c.in_default.ensures.none c.in_ok-end.ensures.end
 
 pub returns-in_err-head-clause-err : goal.returns-in_err-head-clause-err
 returns-in_err-head-clause-err g c =
@@ -33,12 +33,12 @@ returns-in_err-head-clause-err g c =
     let line = c.args.self.now.lines.block.passed + 1 in
     let left = MayLeave (g.R.Read.remaining c.args.self.now.lines.reader.now) (held c.args.self.now.lines.block) in
     let taken = c.piece_of.new.lines.block.taken in
-    let h : IsFaultOn (OrMemory (Stops c.piece_of.new.lines.block.taken)) (MayLeave (g.R.Read.remaining c.args.self.now.lines.reader.now) (held c.args.self.now.lines.block)) (text_node (length c.take_due.new.due.items) (c.args.self.now.lines.block.passed + 1)) c.in_err-head.field-0.0 =
+    let h : IsFaultOn (OrMemory (Stops c.piece_of.new.lines.block.taken)) (MayLeave (g.R.Read.remaining c.args.self.now.lines.reader.now) (held c.args.self.now.lines.block)) (text_node c.args.self.now.version (length c.take_due.new.due.items) (c.args.self.now.lines.block.passed + 1)) c.in_err-head.field-0.0 =
     rw (← c.as_slice-above.ensures.value) c.in_err-head.ensures.err in
     rw (p.1, p.2)
-    (node_fault left c.args.self.now.due.items line taken c.in_err-head.field-0.0
-    (rest_of_part c.in_err-head.field-0.0 (OrMemory (Stops taken)) (OrMemory (Stops taken)) left (text_node (length c.take_due.new.due.items) line) c.args.self.now.due.items line (λ x h. h)
-    (node_fails left c.args.self.now.due.items c.take_due.new.due.items c.in-Some.count line c.in-Some.ensures.some.0 c.in-Some.ensures.some.1) h))
+    (node_fault c.args.self.now.version left c.args.self.now.due.items line taken c.in_err-head.field-0.0
+    (rest_of_part c.args.self.now.version c.in_err-head.field-0.0 (OrMemory (Stops taken)) (OrMemory (Stops taken)) left (text_node c.args.self.now.version (length c.take_due.new.due.items) line) c.args.self.now.due.items line (λ x h. h)
+    (node_fails c.args.self.now.version left c.args.self.now.due.items c.take_due.new.due.items c.in-Some.count line c.in-Some.ensures.some.0 c.in-Some.ensures.some.1) h))
 
 pub returns-clause-due : goal.returns-clause-due
 returns-clause-due g c steps =
@@ -50,9 +50,9 @@ returns-clause-next g c read gives =
     let left = MayLeave (g.R.Read.remaining c.args.self.now.lines.reader.now) (held c.args.self.now.lines.block) in
     let after = MayLeave (g.R.Read.remaining c.piece_of.new.lines.reader.now) (held c.piece_of.new.lines.block) in
     let is : c.push-2.new.self.items ≡ (c.take_due.new.due.items ++ (c.in-Some.count - 1) ∷ []) ++ head_children c.in_ok-head.head ∷ [] = rw (c.in_ok-push-2.ensures.items, c.in_ok-push.ensures.items, c.children.ensures) refl in
-    let said : SaysPiece (MayLeave (g.R.Read.remaining c.args.self.now.lines.reader.now) (held c.args.self.now.lines.block)) (MayLeave (g.R.Read.remaining c.piece_of.new.lines.reader.now) (held c.piece_of.new.lines.block)) (length c.take_due.new.due.items) (c.args.self.now.lines.block.passed + 1) c.in_ok-head.head c.piece_of.new.text.items =
+    let said : SaysPiece c.args.self.now.version (MayLeave (g.R.Read.remaining c.args.self.now.lines.reader.now) (held c.args.self.now.lines.block)) (MayLeave (g.R.Read.remaining c.piece_of.new.lines.reader.now) (held c.piece_of.new.lines.block)) (length c.take_due.new.due.items) (c.args.self.now.lines.block.passed + 1) c.in_ok-head.head c.piece_of.new.text.items =
     rw (← c.as_slice-above.ensures.value) c.in_ok-head.ensures.said in
     let moved : c.piece_of.new.lines.block.passed + 1 ≡ c.args.self.now.lines.block.passed + 1 + 1 + count_of c.in_ok-head.head = omega (arith, c.in_ok-head.ensures.passed) in
     rw c.number-line.ensures
-    (piece_next left after c.args.self.now.due.items c.take_due.new.due.items c.push-2.new.self.items c.in-Some.count (c.args.self.now.lines.block.passed + 1) (c.piece_of.new.lines.block.passed + 1) c.in_ok-head.head
+    (piece_next c.args.self.now.version left after c.args.self.now.due.items c.take_due.new.due.items c.push-2.new.self.items c.in-Some.count (c.args.self.now.lines.block.passed + 1) (c.piece_of.new.lines.block.passed + 1) c.in_ok-head.head
     c.piece_of.new.text.items c.in-Some.ensures.some.0 c.in-Some.ensures.some.1 is moved said read gives)

@@ -1,0 +1,75 @@
+-- The versions of a certificate's text: how each begins, and which lines it may have. Own profile.
+use Rattle.std.specs.Prelude.{◌≡◌, ℕ, List, [], ◌∷◌, Option, Bool, true, bytes_eq, find, codes, All}
+use Rattle.ttp_model.specs.declared.step.Kind.{Kind}
+use Rattle.ttp_model.specs.declared.step.Kind.TheVariants.{Place, Cap, Pair, Round}
+use Rattle.ttp_model.specs.declared.step.Step.{Step}
+use Rattle.ttp_model.specs.declared.step.Step.TheVariants.{EsRelease, EsLink, EsBefore, EsArrive, EsMessage, LoSend, LeOwn, LeLink, LeBefore, LeMessage, LeSend, HiArrive, OrdWindow, OrdTwin, UsSettled, XWindow, XRound, XCycle, XLoad, XFrame, XFrames, XLate, XSilent}
+use Rattle.certificate.specs.declared.head.Head.{Head}
+use Rattle.certificate.specs.declared.head.Head.TheVariants.{OfBranch, OfLeaf}
+use Rattle.certificate.specs.declared.node.Node.{Node}
+use Rattle.certificate.specs.declared.version.Version.{Version}
+use Rattle.certificate.specs.declared.version.Version.TheVariants.{One, Two}
+use Rattle.certificate.specs.Trees.{Trees, preorder}
+use Rattle.certificate.specs.Words.{head_of, steps_of}
+
+-- the first line of a text of this version
+abbrev pub version_line : Version → List ℕ
+version_line One = codes "ttcert 1"
+version_line Two = codes "ttcert 2"
+
+-- the version that a first line names
+abbrev pub version_of : List ℕ → Option Version
+version_of line = find (λ version. bytes_eq line (version_line version)) (One ∷ Two ∷ [])
+
+-- ---- which lines a version allows
+
+-- any bound
+abbrev pub allows_low : ℕ → Bool
+allows_low low = true
+
+abbrev pub allows_kind : Version → Kind → Bool
+allows_kind version Place = true
+allows_kind version (Cap n) = true
+allows_kind version (Pair p q) = true
+allows_kind version (Round m r) = true
+
+abbrev pub allows_head : Version → Head → Bool
+allows_head version (OfBranch branch) = allows_kind version branch.kind
+allows_head version (OfLeaf goal count) = true
+
+abbrev pub allows_step : Version → Step → Bool
+allows_step version (EsRelease p) = true
+allows_step version (EsLink l) = true
+allows_step version (EsBefore p q) = true
+allows_step version (EsArrive m q) = true
+allows_step version (EsMessage m q) = true
+allows_step version (LoSend m) = true
+allows_step version (LeOwn p) = true
+allows_step version (LeLink l) = true
+allows_step version (LeBefore p q) = true
+allows_step version (LeMessage m q) = true
+allows_step version (LeSend m) = true
+allows_step version (HiArrive m q) = true
+allows_step version (OrdWindow p q) = true
+allows_step version (OrdTwin p q) = true
+allows_step version (UsSettled p) = true
+allows_step version (XWindow p) = true
+allows_step version (XRound m) = true
+allows_step version (XCycle ps) = true
+allows_step version (XLoad n a b) = true
+allows_step version (XFrame m) = true
+allows_step version (XFrames n a b) = true
+allows_step version (XLate m r) = true
+allows_step version (XSilent u v) = true
+
+abbrev pub AllowsStep : Version → Step → Type 0
+AllowsStep version step = allows_step version step ≡ true
+
+-- a node's line and those of its steps
+pub record AllowsNode (version : Version) (node : Node) : Type 0 where
+  pub head : allows_head version (head_of node) ≡ true
+  pub steps : All (AllowsStep version) (steps_of node)
+
+-- all lines of trees
+abbrev pub Allows : Version → Trees → Type 0
+Allows version trees = All (AllowsNode version) (preorder trees)

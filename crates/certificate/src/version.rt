@@ -1,0 +1,84 @@
+//! Which lines may a certificate have?
+
+ghost use Rattle.std.specs.Prelude.{◌≡◌};
+ghost use Rattle.certificate.specs.Versions.{version_line, version_of, allows_head, allows_step};
+
+use crate::head::Head;
+use ttp_model::{Kind, Step};
+
+/// The version of a certificate's text, which its first line names. Both have the same lines.
+#[derive(Clone, Copy, Debug, PartialEq, Eq)]
+pub enum Version {
+    /// Of texts that begin with `ttcert 1`.
+    One,
+    /// Of texts that begin with `ttcert 2`.
+    Two,
+}
+
+impl Version {
+    /// The version that a first line names, if it names one.
+    pub(crate) fn of_line(line: &[u8]) -> Option<Version>
+        ensures { result ≡ version_of line.now }
+    {
+        if line == b"ttcert 1".as_slice() {
+            return Some(Version::One);
+        }
+        if line == b"ttcert 2".as_slice() {
+            return Some(Version::Two);
+        }
+        None
+    }
+
+    /// The first line of its texts.
+    pub(crate) fn line(self) -> &'static [u8]
+        ensures { result.now ≡ version_line self }
+    {
+        match self {
+            Version::One => b"ttcert 1",
+            Version::Two => b"ttcert 2",
+        }
+    }
+
+    /// Whether this line of a node may stand in its texts.
+    pub(crate) fn allows_head(self, head: Head) -> bool
+        ensures { result ≡ allows_head self head }
+    {
+        match head {
+            Head::OfBranch(branch) => match branch.kind {
+                Kind::Place | Kind::Cap(_) | Kind::Pair(_, _) | Kind::Round(_, _) => true,
+            },
+            Head::OfLeaf(_, _) => true,
+        }
+    }
+
+    /// Whether a step's line may stand in its texts.
+    pub(crate) fn allows_step(self, step: &Step) -> bool
+        ensures { result ≡ allows_step self step.now }
+    {
+        match step {
+            Step::EsRelease(_)
+            | Step::EsLink(_)
+            | Step::EsBefore(_, _)
+            | Step::EsArrive(_, _)
+            | Step::EsMessage(_, _)
+            | Step::LoSend(_)
+            | Step::LeOwn(_)
+            | Step::LeLink(_)
+            | Step::LeBefore(_, _)
+            | Step::LeMessage(_, _)
+            | Step::LeSend(_)
+            | Step::HiArrive(_, _)
+            | Step::OrdWindow(_, _)
+            | Step::OrdTwin(_, _)
+            | Step::UsSettled(_)
+            | Step::XWindow(_)
+            | Step::XRound(_)
+            | Step::XCycle(_)
+            | Step::XLoad(_, _, _)
+            | Step::XFrame(_)
+            | Step::XFrames(_, _, _)
+            | Step::XLate(_, _)
+            | Step::XSilent(_, _) => true,
+        }
+    }
+}

@@ -1,0 +1,6 @@
+pub mod Flags
+pub mod LastTurns
+pub mod Told
+pub mod Paths
+pub mod Counts
+pub mod Places

@@ -1,0 +1,4 @@
+pub mod Levels
+pub mod Turns
+pub mod Tables
+pub mod Marks

@@ -1,0 +1,74 @@
+-- The decisions of a path, each with the level of its branch, and which of them is the last to say a part of the choice. Own profile.
+use Rattle.std.specs.Prelude.{◌≡◌, ℕ, ◌∷◌, [], ◌++◌, List, length, Bool, if◌then◌else◌, Option, None, Some, map, take, ◌-◌, All, IsTrue, IsFalse}
+use Rattle.ttp_model.specs.Instance.{Instance}
+use Rattle.tt_choice.specs.declared.decision.Decision.{Decision}
+use Rattle.tt_choice.specs.declared.decision.Decision.TheVariants as decided
+use Rattle.decision_paths.specs.declared.turn.Turn.{Turn}
+use Rattle.decision_paths.specs.declared.turn.Cut.{Cut}
+use Rattle.decision_paths.specs.declared.turn.Placed.{Placed}
+
+-- an instance, and the decisions of a path, the first first
+pub record Path : Type 0 where
+  pub instance : Instance
+  pub turns : List Turn
+
+-- the path with one decision more
+abbrev pub path_after : Path → Turn → Path
+path_after path turn = record path { turns = path.turns ++ turn ∷ [] }
+
+-- the path without its last decision
+abbrev pub path_above : Path → Path
+path_above path = record path { turns = take (length path.turns - 1) path.turns }
+
+-- the later one of two: one behind, and else one that is picked
+abbrev pub later_of : Bool → Turn → Option Turn → Option Turn
+later_of picked turn None = if picked then Some turn else None
+later_of picked turn (Some behind) = Some behind
+
+-- the last decision that a test picks: none behind it is picked
+abbrev pub last_of : (Decision → Bool) → List Turn → Option Turn
+last_of picks [] = None
+last_of picks (turn ∷ turns) = later_of (picks turn.decision) turn (last_of picks turns)
+
+-- its level
+abbrev pub level_of : Option Turn → Option ℕ
+level_of None = None
+level_of (Some turn) = Some turn.level
+
+-- the round that a decision sets
+abbrev pub round_of : Decision → ℕ
+round_of (decided.Place n) = 0
+round_of (decided.Cap n k) = 0
+round_of (decided.Before p q) = 0
+round_of (decided.AtMost m r) = r
+round_of (decided.AtLeast m r) = r
+
+-- the round that it sets, and its level
+abbrev pub cut_of : Option Turn → Option Cut
+cut_of None = None
+cut_of (Some turn) = Some (record { round = round_of turn.decision; level = turn.level })
+
+-- the node that a decision places, if it places one
+abbrev pub placed_by : Decision → ℕ → List Placed
+placed_by (decided.Place n) level = record { node = n; level = level } ∷ []
+placed_by (decided.Cap n k) level = []
+placed_by (decided.Before p q) level = []
+placed_by (decided.AtMost m r) level = []
+placed_by (decided.AtLeast m r) level = []
+
+-- the nodes that decisions place, the first first
+abbrev pub placed_of : List Turn → List Placed
+placed_of [] = []
+placed_of (turn ∷ turns) = placed_by turn.decision turn.level ++ placed_of turns
+
+-- the slot order, as far as it is decided
+abbrev pub nodes_of : List Placed → List ℕ
+nodes_of placed = map (λ one. one.node) placed
+
+-- a decision of a path is the last one that a test picks
+pub record IsLast (picks : Decision → Bool) (turns : List Turn) (turn : Turn) : Type 0 where
+  pub front : List Turn
+  pub behind : List Turn
+  pub are : turns ≡ front ++ turn ∷ behind
+  pub picked : IsTrue (picks turn.decision)
+  pub no_later : All (λ later. IsFalse (picks later.decision)) behind
