@@ -92,6 +92,8 @@ def made_instance(dice):
     cluster = {"precision": precision, "lead": 2 * precision + dice.choice([0, 0, 1]),
                "trail": precision + dice.choice([0, 0, 1]), "head": dice.choice([1, 1, 2]), "per_byte": dice.choice([1, 1, 2]),
                "copy_out": dice.choice([0, 0, 1]), "copy_in": dice.choice([0, 0, 1]), "horizon": horizon}
+    if dice.random() < 0.2:
+        cluster["channels"] = dice.choice([1] * 9 + [0, 2, 3])
     out = ["[cluster]"] + [f"{key} = {value}" for key, value in cluster.items()]
     nodes, count = dice.choice([1, 2, 2, 3, 4]), dice.choice([1, 2, 3, 4, 5, 6])
     for n in range(nodes):
@@ -116,6 +118,8 @@ def made_instance(dice):
     for m, (p, to) in enumerate(messages):
         receivers = ", ".join(f'"p{q}"' for q in to)
         out += ["[[message]]", f'name = "m{m}"', f'from = "p{p}"', f"to = [{receivers}]", f"bytes = {dice.choice([1, 1, 2, 3])}"]
+        if dice.random() < 0.1:
+            out.append(f"both = {dice.choice(['false'] * 9 + ['true'])}")
     return "".join(line + "\n" for line in out).encode()
 
 

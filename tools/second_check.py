@@ -34,6 +34,7 @@ NUMBER_MOST = 4_294_967_295
 TICKS_MOST = 1_000_000
 NESTING_MOST = 80  # of brackets in brackets, and of a key's parts
 BRANCHES_MOST = 4_608
+CHANNELS_MOST = 1
 NAME = re.compile(rb"[A-Za-z_][A-Za-z0-9_]{0,31}")
 NUMBER = re.compile(rb"0|[1-9][0-9]*")
 QUOTED = re.compile(
@@ -82,6 +83,7 @@ class Message:
     sender: int
     to: list
     bytes: int
+    both: bool
 
 
 class Table:
@@ -183,8 +185,8 @@ class Instance:
         cluster = top.value("cluster", dict)
         lists = {key: list(top.items(key, dict, missing)) for key, missing in
                  (("node", None), ("process", None), ("link", []), ("message", []))}
-        cluster = Table(cluster, "cluster", CLUSTER_KEYS)
-        self.cluster = {key: cluster.number(key) for key in CLUSTER_KEYS}
+        cluster = Table(cluster, "cluster", (*CLUSTER_KEYS, "channels"))
+        self.cluster = {key: cluster.number(key) for key in CLUSTER_KEYS} | {"channels": cluster.number("channels", 1)}
         # The cluster's numbers are the instance's own, as in instance.head.
         self.__dict__.update(self.cluster)
         self.nodes, self.processes, self.links, self.messages = [], [], [], []
@@ -202,10 +204,11 @@ class Instance:
             table = Table(members, f"link {k}", ("from", "to"))
             self.links.append(Link(table.index("from", processes), table.index("to", processes)))
         for k, members in enumerate(lists["message"]):
-            table = Table(members, f"message {k}", ("name", "from", "to", "bytes"))
+            table = Table(members, f"message {k}", ("name", "from", "to", "bytes", "both"))
             self.messages.append(Message(
                 table.value("name", str), table.index("from", processes),
-                [table.named("to", name, processes) for name in table.items("to", str)], table.number("bytes")))
+                [table.named("to", name, processes) for name in table.items("to", str)], table.number("bytes"),
+                table.value("both", bool, False)))
         for code, place in self.faults():
             raise Refused(3, f"instance {code}", *place)
         self.by_node = [[p for p, process in enumerate(self.processes) if process.node == n]
@@ -224,7 +227,7 @@ class Instance:
         return self.lead + self.head + self.per_byte * capacity + self.trail
 
     def faults(self):
-        """The codes M1 to M13 with their places, the one that is told first."""
+        """The codes M1 to M13 and M15 with their places, the one that is told first."""
         lists = (("node", self.nodes, 1, 16), ("process", self.processes, 1, 64),
                  ("link", self.links, 0, 256), ("message", self.messages, 0, 128))
         for word, things, least, most in lists:
@@ -262,11 +265,14 @@ class Instance:
                 yield "M12", ("message", k)
         if circle := self.circle():
             yield "M13", circle
+        for k, message in enumerate(self.messages):
+            if message.both and self.channels == 1:
+                yield "M15", ("message", k)
 
     def faults_of_numbers(self):
         """M5 and M6."""
-        least = {"head": 1, "per_byte": 1, "horizon": 1}
-        most = {"per_byte": 1_000, "horizon": TICKS_MOST}
+        least = {"head": 1, "per_byte": 1, "horizon": 1, "channels": 1}
+        most = {"per_byte": 1_000, "horizon": TICKS_MOST, "channels": CHANNELS_MOST}
         if any(not least.get(key, 0) <= value <= most.get(key, 10_000) for key, value in self.cluster.items()):
             yield "M5", ("cluster",)
         for k, process in enumerate(self.processes):
@@ -390,7 +396,7 @@ def read_plan(instance, text, lines_before):
 
 
 def plan_faults(instance, plan):
-    """The rules V3 to V10 that a plan breaks, the one that is told first; its text keeps V1 and V2."""
+    """The rules V3 to V10 that a plan breaks, the one that is told first; its text keeps V1, V2 and V11."""
     processes, starts = instance.processes, plan.starts
     ends = [start + process.wcet for start, process in zip(starts, processes)]
     durations = [instance.duration(capacity) for capacity in plan.caps]

@@ -63,7 +63,9 @@ impl Source {
         Numbers::new(self.list(|source, _| source.number()))
     }
 
+    // A clone whose clusters have no channels has one, and no message is on both: the numbers are read all the same.
     fn cluster(&mut self) -> Cluster {
+        let _channels = self.number();
         Cluster {
             precision: self.number(),
             lead: self.number(),
@@ -73,6 +75,8 @@ impl Source {
             copy_out: self.number(),
             copy_in: self.number(),
             horizon: self.number(),
+            #[cfg(clusters_have_channels)]
+            channels: _channels,
         }
     }
 
@@ -101,11 +105,14 @@ impl Source {
     }
 
     fn message(&mut self, k: usize) -> Message {
+        let _both = self.number() == 1;
         Message {
             name: name_of('m', k),
             sender: self.number(),
             bytes: self.number(),
             receivers: self.numbers(),
+            #[cfg(clusters_have_channels)]
+            both: _both,
         }
     }
 

@@ -28,7 +28,12 @@ def files_of(top):
 def flags_of(files):
     good = "".join(text for name, text in files.items() if name.startswith("good_plan/"))
     head = good[good.index("pub fn good_plan"):].split("{")[0]
-    return FLAGS + (["--cfg", "good_plan_takes_workers"] if "workers" in head else [])
+    parts = "".join(text for name, text in files.items() if name.startswith("ttp_model/"))
+    return [
+        *FLAGS,
+        *(["--cfg", "good_plan_takes_workers"] if "workers" in head else []),
+        *(["--cfg", "clusters_have_channels"] if "pub channels: u32" in parts else []),
+    ]
 
 
 def built(top):
@@ -66,11 +71,12 @@ def numbers_of(text):
     nodes, processes = table["node"], table["process"]
     node, process = places(nodes), places(processes)
     return [
+        table["cluster"].get("channels", 1),
         *(table["cluster"][key] for key in CLUSTER),
         *counted([counted([[c] for c in n["capacities"]]) for n in nodes]),
         *counted([[node[p["node"]], p["wcet"], p.get("release", 0), p.get("deadline", LAST_DEADLINE)] for p in processes]),
         *counted([[process[link["from"]], process[link["to"]]] for link in table.get("link", [])]),
-        *counted([[process[m["from"]], m["bytes"], *counted([[process[q]] for q in m["to"]])] for m in table.get("message", [])]),
+        *counted([[int(m.get("both", False)), process[m["from"]], m["bytes"], *counted([[process[q]] for q in m["to"]])] for m in table.get("message", [])]),
     ]
 
 

@@ -83,6 +83,7 @@ model_line (model.Deadline p) = codes "instance M10 process " ++ decimal p
 model_line (model.LinkAcross l) = codes "instance M11 link " ++ decimal l
 model_line (model.ReceiverTwice m) = codes "instance M12 message " ++ decimal m
 model_line (model.Cycle ps) = codes "instance M13" ++ flat_map spaced ps
+model_line (model.BothOfOne m) = codes "instance M15 message " ++ decimal m
 model_line model.OutOfMemory = codes "memory"
 
 -- the line of a text that states no instance, with its table and key
@@ -116,6 +117,7 @@ plan_list_number list.Order = 0
 plan_list_number list.Capacities = 1
 plan_list_number list.Starts = 2
 plan_list_number list.Rounds = 3
+plan_list_number list.Channels = 4
 
 -- the line of a plan that is not valid, with its indices
 abbrev pub plan_line : PlanFault → List ℕ
@@ -129,6 +131,7 @@ plan_line (broken.BrokenLink l) = codes "plan V7 " ++ decimal l
 plan_line (broken.NotReady m) = codes "plan V8 " ++ decimal m
 plan_line (broken.NotArrived m q) = (codes "plan V9 " ++ decimal m) ++ (codes " " ++ decimal q)
 plan_line (broken.Overfull n r) = (codes "plan V10 " ++ decimal n) ++ (codes " " ++ decimal r)
+plan_line (broken.WrongChannel m) = codes "plan V11 " ++ decimal m
 
 -- the code of what is wrong with a line of a certificate's text
 abbrev pub certificate_line_code : certificate_lines.LineFault → List ℕ

@@ -101,6 +101,7 @@ impl<'a> fmt::Display for ModelLine<'a> {
             ModelError::Cycle(processes) => {
                 write!(f, "instance M13{}", Spaced(processes.as_slice()))
             }
+            ModelError::BothOfOne(m) => write!(f, "instance M15 message {m}"),
             ModelError::OutOfMemory => write!(f, "memory"),
         }
     }
@@ -174,6 +175,7 @@ fn list_number(list: PlanPart) -> u32
         PlanPart::Capacities => 1,
         PlanPart::Starts => 2,
         PlanPart::Rounds => 3,
+        PlanPart::Channels => 4,
     }
 }
 
@@ -195,6 +197,7 @@ impl fmt::Display for PlanLine {
             PlanFault::NotReady(m) => write!(f, "plan V8 {m}"),
             PlanFault::NotArrived(m, q) => write!(f, "plan V9 {m} {q}"),
             PlanFault::Overfull(n, r) => write!(f, "plan V10 {n} {r}"),
+            PlanFault::WrongChannel(m) => write!(f, "plan V11 {m}"),
         }
     }
 }

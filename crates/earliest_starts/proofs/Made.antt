@@ -1,6 +1,7 @@
 -- The plan that is made of settled starts: valid, in the choice, and earliest.
 use Rattle.std.proofs.Common.{◌≡◌, ℕ, ◌<◌, ◌≤◌, List, length, slice_index, unwrap_or, Option, None, Some, IsSome, IsTrue, Contains, arith, inl, inr, refl, subst, sym, ◌∙◌}
 use Rattle.std.proofs.lemmas.Bool.{false≢true, both_ways}
+use Rattle.std.proofs.lemmas.List.{length-replicate}
 use Rattle.std.proofs.lemmas.List.Elements.{Contains-get_or}
 use Rattle.ttp_model.specs.Lists.{EachBelow}
 use Rattle.ttp_model.specs.Instance.{Instance, node_at, message_at, link_at, source_of}
@@ -8,6 +9,7 @@ use Rattle.ttp_model.specs.Rules.{IsInstance}
 use Rattle.ttp_model.specs.Plans.{HasLengths, IsValid, IsNodeOrder, HasOwnCapacity, AreApart}
 use Rattle.ttp_model.specs.declared.error.Place.TheVariants.{AtProcess, AtLink, AtMessage}
 use Rattle.ttp_model.specs.Totals.{total}
+use Rattle.ttp_model.proofs.OneChannel.{zeros_on_own}
 use Rattle.tt_choice.specs.Choice.{Choice, fixed_cap, is_before, least_round, IsFixedTo, IsOption, IsIn, IsChoice, IsComplete}
 use Rattle.tt_choice.proofs.Extend.{from_parts, order_of}
 use Rattle.earliest_starts.specs.Fixed.{fixed_caps, plan_of, copied_out, sends_from, fixed_bytes}
@@ -55,7 +57,7 @@ module _ (i : Instance) (c : Choice) (floors starts : List ℕ) (w : IsInstance 
   ]
 
   HasLengths-made : HasLengths i (plan_of c starts)
-  HasLengths-made = record { order = done.placed; capacities = caps_fit i c w ok done; starts = all; rounds = ok.lo_length }
+  HasLengths-made = record { order = done.placed; capacities = caps_fit i c w ok done; starts = all; rounds = ok.lo_length; channels = length-replicate (length c.lo) 0 ∙ ok.lo_length }
 
   IsValid-made : ((m : ℕ) → m < length i.messages → copied_out i starts m ≤ sends_from i c m) → ((m : ℕ) → m < length i.messages → total (fixed_bytes i c (source_of i m) (least_round c m)) (length i.messages) ≤ slice_index (fixed_caps c) (source_of i m)) → IsValid i (plan_of c starts)
   IsValid-made ready frames = record {
@@ -72,6 +74,7 @@ module _ (i : Instance) (c : Choice) (floors starts : List ℕ) (w : IsInstance 
         let there : q < length i.processes = (w.indices (AtMessage m) h).1 k 0 inside in
         omega (arith, f.arrived m q h (Contains-get_or (message_at i m).receivers k 0 inside), (s q there).floor);
     frames = frames;
+    on_own = zeros_on_own i (plan_of c starts) (length c.lo) w ok.lo_length refl;
   }
 
   IsIn-made : IsIn i c (plan_of c starts)

@@ -1,6 +1,6 @@
 //! Which plan of a complete choice is the earliest?
 
-ghost use Rattle.std.specs.Prelude.{◌≡◌, length, IfOk};
+ghost use Rattle.std.specs.Prelude.{◌≡◌, length, replicate, IfOk};
 ghost use Rattle.ttp_model.specs.Delays.{delay};
 ghost use Rattle.tt_choice.specs.Choice.{IsChoice, IsComplete};
 ghost use Rattle.earliest_starts.specs.Answers.{IsEarliestAnswer};
@@ -100,6 +100,7 @@ fn made(
         caps: Numbers::new(caps),
         starts: Numbers::new(starts),
         rounds: rounds(alloc, instance, choice)?,
+        channels: channels(alloc, instance, choice)?,
     };
     let ticks = delay(instance, &plan);
     Ok((plan, ticks))
@@ -116,4 +117,14 @@ fn rounds(alloc: Global, instance: &Instance, choice: &Choice) -> Result<Numbers
         rounds.push(choice.lo(m))?;
     }
     Ok(Numbers::new(rounds))
+}
+
+/// The channel of each message: there is one.
+fn channels(alloc: Global, instance: &Instance, choice: &Choice) -> Result<Numbers, MemoryFault>
+    requires { IsChoice instance.now choice.now }
+    ensures { IfOk result (λ channels. channels ≡ replicate (length choice.now.lo) 0) }
+{
+    let count = instance.messages().len();
+    let channels = Numbers::zeros(alloc, count)?;
+    Ok(channels)
 }

@@ -1,6 +1,7 @@
 -- The table of a valid plan is a choice for the places, and tells the plan.
 use Rattle.std.proofs.Common.{◌≡◌, ◌∙◌, ℕ, zero, suc, ◌<◌, List, [], ◌∷◌, ◌++◌, length, get_or, slice_index, slice_index_or, map, replicate, take, drop, All, Contains, arith, ap, sym}
 use Rattle.std.specs.List.{range_with_len}
+use Rattle.std.proofs.lemmas.List.{get_or_default}
 use Rattle.std.proofs.lemmas.List.FromFn.{length-range_with_len, get_or-range_with_len}
 use Rattle.std.proofs.Math.Seq.{take-append_seam, drop-append_seam}
 use Rattle.ttp_model.specs.declared.parts.Node.{Node}
@@ -8,6 +9,7 @@ use Rattle.ttp_model.specs.declared.plan.Plan.{Plan}
 use Rattle.ttp_model.specs.Instance.{Instance, no_node}
 use Rattle.ttp_model.specs.Rules.{IsInstance}
 use Rattle.ttp_model.specs.Plans.{IsValid, HasLengths}
+use Rattle.ttp_model.proofs.OneChannel.{one_channel, on_the_channel}
 use Rattle.ttp_model.proofs.PlanNumbers.{order_small, starts_small, rounds_small}
 use Rattle.exhaustive.specs.Tables.{table_of, options_of, places_of, IsPick}
 
@@ -34,6 +36,14 @@ choice_options (node ∷ nodes) [] long each = absurd (omega (arith, long))
 choice_options (node ∷ nodes) (x ∷ xs) long each =
     (each 0 (omega arith), choice_options nodes xs (omega (arith, long)) (λ n h. each (suc n) (omega (arith, h))))
 
+-- the channel of each message is below their number
+channels_small : (i : Instance) (plan : Plan) → IsInstance i → IsValid i plan → All (Contains (range_with_len 0 i.cluster.channels)) plan.channels
+channels_small i plan w v k d h =
+    let inside : k < length plan.channels = h in
+    let none : get_or plan.channels k 0 ≡ 0 = on_the_channel i plan w v k (omega (arith, inside, v.lengths.channels)) in
+    let same : get_or plan.channels k d ≡ get_or plan.channels k 0 = get_or_default plan.channels k d 0 inside in
+    below_contains i.cluster.channels (get_or plan.channels k d) (omega (arith, same, none, one_channel i w))
+
 pub valid_is_choice : (i : Instance) (plan : Plan) → IsInstance i → IsValid i plan → IsPick (places_of i) (table_of plan)
 valid_is_choice i plan w v =
     let horizon = i.cluster.horizon in
@@ -42,7 +52,10 @@ valid_is_choice i plan w v =
     let caps = choice_options i.nodes plan.caps v.lengths.capacities (λ n h. (v.capacities n h).own) in
     let starts = choice_alike (range_with_len 0 horizon) (length i.processes) plan.starts v.lengths.starts (λ k d h. below_contains horizon (get_or plan.starts k d) (starts_small i plan w v k d h)) in
     let rounds = choice_alike (range_with_len 0 horizon) (length i.messages) plan.rounds v.lengths.rounds (λ k d h. below_contains horizon (get_or plan.rounds k d) (rounds_small i plan w v k d h)) in
-    choice_append _ _ plan.order (plan.caps ++ (plan.starts ++ plan.rounds)) order (choice_append _ _ plan.caps (plan.starts ++ plan.rounds) caps (choice_append _ _ plan.starts plan.rounds starts rounds))
+    let channels = choice_alike (range_with_len 0 i.cluster.channels) (length i.messages) plan.channels v.lengths.channels (channels_small i plan w v) in
+    let last = choice_append _ _ plan.rounds plan.channels rounds channels in
+    let rest = choice_append _ _ plan.starts (plan.rounds ++ plan.channels) starts last in
+    choice_append _ _ plan.order (plan.caps ++ (plan.starts ++ (plan.rounds ++ plan.channels))) order (choice_append _ _ plan.caps (plan.starts ++ (plan.rounds ++ plan.channels)) caps rest)
 
 -- two lists that begin with parts of one length
 front_same : (xs xs' ys ys' : List ℕ) → length xs ≡ length xs' → xs ++ ys ≡ xs' ++ ys' → (xs ≡ xs') × (ys ≡ ys')
@@ -51,16 +64,18 @@ front_same xs xs' ys ys' long same = (
   sym (drop-append_seam xs ys) ∙ (ap (drop (length xs)) same ∙ (ap (λ n. drop n (xs' ++ ys')) long ∙ drop-append_seam xs' ys')),
 )
 
-abbrev plan_with : List ℕ → List ℕ → List ℕ → List ℕ → Plan
-plan_with order caps starts rounds = record { order = order; caps = caps; starts = starts; rounds = rounds }
+abbrev plan_with : List ℕ → List ℕ → List ℕ → List ℕ → List ℕ → Plan
+plan_with order caps starts rounds channels = record { order = order; caps = caps; starts = starts; rounds = rounds; channels = channels }
 
 -- of the plans with these lengths a table belongs to one
 pub table_tells : (i : Instance) (a b : Plan) → HasLengths i a → HasLengths i b → table_of a ≡ table_of b → a ≡ b
 table_tells i a b of_a of_b same =
-    let first = front_same a.order b.order (a.caps ++ (a.starts ++ a.rounds)) (b.caps ++ (b.starts ++ b.rounds)) (of_a.order ∙ sym of_b.order) same in
-    let second = front_same a.caps b.caps (a.starts ++ a.rounds) (b.starts ++ b.rounds) (of_a.capacities ∙ sym of_b.capacities) first.1 in
-    let third = front_same a.starts b.starts a.rounds b.rounds (of_a.starts ∙ sym of_b.starts) second.1 in
-    ap (λ (order : List ℕ). plan_with order a.caps a.starts a.rounds) first.0
-    ∙ (ap (λ (caps : List ℕ). plan_with b.order caps a.starts a.rounds) second.0
-    ∙ (ap (λ (starts : List ℕ). plan_with b.order b.caps starts a.rounds) third.0
-    ∙ ap (λ (rounds : List ℕ). plan_with b.order b.caps b.starts rounds) third.1))
+    let first = front_same a.order b.order (a.caps ++ (a.starts ++ (a.rounds ++ a.channels))) (b.caps ++ (b.starts ++ (b.rounds ++ b.channels))) (of_a.order ∙ sym of_b.order) same in
+    let second = front_same a.caps b.caps (a.starts ++ (a.rounds ++ a.channels)) (b.starts ++ (b.rounds ++ b.channels)) (of_a.capacities ∙ sym of_b.capacities) first.1 in
+    let third = front_same a.starts b.starts (a.rounds ++ a.channels) (b.rounds ++ b.channels) (of_a.starts ∙ sym of_b.starts) second.1 in
+    let fourth = front_same a.rounds b.rounds a.channels b.channels (of_a.rounds ∙ sym of_b.rounds) third.1 in
+    ap (λ (order : List ℕ). plan_with order a.caps a.starts a.rounds a.channels) first.0
+    ∙ (ap (λ (caps : List ℕ). plan_with b.order caps a.starts a.rounds a.channels) second.0
+    ∙ (ap (λ (starts : List ℕ). plan_with b.order b.caps starts a.rounds a.channels) third.0
+    ∙ (ap (λ (rounds : List ℕ). plan_with b.order b.caps b.starts rounds a.channels) fourth.0
+    ∙ ap (λ (channels : List ℕ). plan_with b.order b.caps b.starts b.rounds channels) fourth.1)))

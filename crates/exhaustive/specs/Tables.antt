@@ -7,25 +7,26 @@ use Rattle.ttp_model.specs.Instance.{Instance}
 use Rattle.ttp_model.specs.Plans.{IsValid}
 use Rattle.ttp_model.specs.Delays.{delay}
 
--- the table of a plan: its four lists, one after the other
+-- the table of a plan: its five lists, one after the other
 abbrev pub table_of : Plan → List ℕ
-table_of plan = plan.order ++ (plan.caps ++ (plan.starts ++ plan.rounds))
+table_of plan = plan.order ++ (plan.caps ++ (plan.starts ++ (plan.rounds ++ plan.channels)))
 
 -- what a node's capacity may be
 abbrev pub options_of : Node → List ℕ
 options_of node = node.capacities
 
--- the numbers to choose from at each place of a table: nodes, options, and times below the horizon
+-- the numbers to choose from at each place of a table: nodes, options, times below the horizon, and channels
 abbrev pub places_of : Instance → List (List ℕ)
 places_of i =
     replicate (length i.nodes) (range_with_len 0 (length i.nodes))
     ++ (map options_of i.nodes
     ++ (replicate (length i.processes) (range_with_len 0 i.cluster.horizon)
-    ++ replicate (length i.messages) (range_with_len 0 i.cluster.horizon)))
+    ++ (replicate (length i.messages) (range_with_len 0 i.cluster.horizon)
+    ++ replicate (length i.messages) (range_with_len 0 i.cluster.channels))))
 
 -- how many places there are
 abbrev pub place_count : Instance → ℕ
-place_count i = length i.nodes + (length i.nodes + (length i.processes + length i.messages))
+place_count i = length i.nodes + (length i.nodes + (length i.processes + (length i.messages + length i.messages)))
 
 -- a table has a number for each place
 abbrev pub IsWhole : Instance → List ℕ → Type 0

@@ -60,5 +60,7 @@ pub fn places(alloc: Global, instance: &Instance) -> Result<Vec<Numbers>, Memory
     add_capacities(alloc, &mut places, nodes)?;
     add_alike(alloc, &mut places, instance.processes().len(), horizon)?;
     add_alike(alloc, &mut places, instance.messages().len(), horizon)?;
+    let channels = instance.cluster().channels;
+    add_alike(alloc, &mut places, instance.messages().len(), channels)?;
     Ok(places)
 }

@@ -33,12 +33,14 @@ fn plan_of(alloc: Global, instance: &Instance, table: &[u32]) -> Result<Plan, Me
     let nodes = instance.nodes().len();
     let (order, rest) = table.split_at(nodes);
     let (caps, rest) = rest.split_at(nodes);
-    let (starts, rounds) = rest.split_at(instance.processes().len());
+    let (starts, rest) = rest.split_at(instance.processes().len());
+    let (rounds, channels) = rest.split_at(instance.messages().len());
     Ok(Plan {
         order: numbers(alloc, order)?,
         caps: numbers(alloc, caps)?,
         starts: numbers(alloc, starts)?,
         rounds: numbers(alloc, rounds)?,
+        channels: numbers(alloc, channels)?,
     })
 }
 

@@ -7,7 +7,7 @@ use Rattle.std.proofs.lemmas.List.{length-map}
 use Rattle.std.proofs.lemmas.List.Quantifiers.{position-Some}
 use Rattle.toml.specs.Data.{Members}
 use Rattle.ttp_model.specs.Instance.{Instance}
-use Rattle.ttp_model.specs.Rules.{KeepsLimits, Rule, Lengths, Receivers, Names, NewNames, Indices, Ranges, CapacityLists, ReceiversAway, Lead, Trail, Deadlines, LinkEnds, ReceiversOnce, Cycles}
+use Rattle.ttp_model.specs.Rules.{KeepsLimits, Rule, Lengths, Receivers, Names, NewNames, Indices, Ranges, CapacityLists, ReceiversAway, Lead, Trail, Deadlines, LinkEnds, ReceiversOnce, Cycles, Channels}
 use Rattle.ttp_model.specs.Refusals.{IsRefusal, KeepsRulesBefore, rule_number}
 use Rattle.ttp_model.specs.declared.error.Part.{Part}
 use Rattle.ttp_model.specs.declared.error.Part.TheVariants as part
@@ -93,6 +93,7 @@ rule_numbered Deadlines = lit≤ tt
 rule_numbered LinkEnds = lit≤ tt
 rule_numbered ReceiversOnce = lit≤ tt
 rule_numbered Cycles = lit≤ tt
+rule_numbered Channels = lit≤ tt
 
 no_rule_before : (i : Instance) → KeepsRulesBefore i Lengths
 no_rule_before i = record { each = λ earlier lt. absurd (omega (arith, rule_numbered earlier, lt)) }
@@ -128,4 +129,5 @@ module _ (ms : Members) (j : Instance) (is : stated_by cut_index_in ms ≡ Ok j)
   refusal_kept (model.LinkAcross l) refusal = limited (model.LinkAcross l) refusal (refusal.0.each Lengths (lit< tt))
   refusal_kept (model.ReceiverTwice m) refusal = limited (model.ReceiverTwice m) refusal (refusal.0.each Lengths (lit< tt))
   refusal_kept (model.Cycle ps) refusal = limited (model.Cycle ps) refusal (refusal.0.each Lengths (lit< tt))
+  refusal_kept (model.BothOfOne m) refusal = limited (model.BothOfOne m) refusal (refusal.0.each Lengths (lit< tt))
   refusal_kept model.OutOfMemory refusal = limited model.OutOfMemory refusal (refusal.each Lengths (lit< tt))

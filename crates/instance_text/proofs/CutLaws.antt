@@ -13,7 +13,7 @@ use Rattle.instance_text.specs.declared.error.Place.{Place}
 use Rattle.instance_text.specs.declared.error.Place.TheVariants as at
 use Rattle.instance_text.specs.declared.error.TextError.{TextError}
 use Rattle.instance_text.specs.declared.error.TextError.TheVariants.{UnknownKey}
-use Rattle.instance_text.specs.Rows.{Kind, one_table, tables, number, numbers, text, node, process, processes, KeyRow, Value, rows}
+use Rattle.instance_text.specs.Rows.{Kind, one_table, tables, number, numbers, truth, text, node, process, processes, KeyRow, Value, rows}
 use Rattle.instance_text.specs.Kinds.{Stated, ◌>>=◌, each, list_of, Index, index_in, KnownNames, found_index, index_of, array_of, value_of}
 use Rattle.instance_text.specs.Tables.{found, Making, at_row, in_turn, table_at, has_only, keys_at}
 use Rattle.instance_text.specs.Stated.{stated_tables, cluster_of, nodes_of, processes_of, links_of, messages_of, process_of, link_of, message_of, knows_nodes, knows_processes, stated_by, node_names, process_names, the_process, the_link, the_message}
@@ -143,6 +143,7 @@ AlikeAs one_table x y = x ≡ y
 AlikeAs tables x y = x ≡ y
 AlikeAs number x y = x ≡ y
 AlikeAs numbers x y = x ≡ y
+AlikeAs truth x y = x ≡ y
 AlikeAs text x y = x ≡ y
 AlikeAs node x y = Unit {0}
 AlikeAs process x y = Unit {0}
@@ -154,6 +155,7 @@ module _ (place : Place) (a b : KnownNames) (nodes : KnowSame a.nodes b.nodes) (
   alike_value key tables d = alike_self (AlikeAs tables) (value_of place key a tables d) (λ x. refl)
   alike_value key number d = alike_self (AlikeAs number) (value_of place key a number d) (λ x. refl)
   alike_value key numbers d = alike_self (AlikeAs numbers) (value_of place key a numbers d) (λ x. refl)
+  alike_value key truth d = alike_self (AlikeAs truth) (value_of place key a truth d) (λ x. refl)
   alike_value key text d = alike_self (AlikeAs text) (value_of place key a text d) (λ x. refl)
   alike_value key node d = alike_index place key a.nodes b.nodes nodes d
   alike_value key process d = alike_index place key a.processes b.processes of_processes d
@@ -164,6 +166,7 @@ module _ (place : Place) (a b : KnownNames) (nodes : KnowSame a.nodes b.nodes) (
   same_value tables x = refl
   same_value number x = refl
   same_value numbers x = refl
+  same_value truth x = refl
   same_value text x = refl
   same_value node x = tt
   same_value process x = tt
@@ -221,7 +224,7 @@ module _ (f g : Index) (same : KnowSame f g) where
   alike_messages ts =
       alike_each (λ (m : Message). no_part m) (message_of f) (message_of g)
       (λ n ms. alike_table (at.Message n) (knows_processes f) (knows_processes g) unknown same (Same (λ (m : Message). no_part m)) the_message
-      (λ name other named from f_other any to t_other any_too bytes b is_b. refl) ms) 0 ts
+      (λ name other named from f_other any to t_other any_too bytes b is_b both twice is_both. refl) ms) 0 ts
 
 -- ---- whole texts
 

@@ -1,12 +1,12 @@
 -- A table's fault is never that the text is no TOML, that the model refuses it, or want of memory.
 use Rattle.std.proofs.Common.{ℕ, ◌+◌, ℤ, pos, negsuc, Bool, true, false, cond, List, [], ◌∷◌, Option, None, Some, Ok, Err, IfErr, nat_lt}
-use Rattle.toml.specs.Data.{Data, string, integer, array, table, Members}
+use Rattle.toml.specs.Data.{Data, string, integer, boolean, array, table, Members}
 use Rattle.instance_text.specs.declared.error.Key.{Key}
 use Rattle.instance_text.specs.declared.error.Place.{Place}
 use Rattle.instance_text.specs.declared.error.TextError.{TextError}
 use Rattle.instance_text.specs.declared.error.TextError.TheVariants.{NotToml, Model, OutOfMemory}
-use Rattle.instance_text.specs.Rows.{KeyRow, Kind, one_table, tables, number, numbers, text, node, process, processes, rows}
-use Rattle.instance_text.specs.Kinds.{Stated, ◌>>=◌, each, Index, index_in, KnownNames, list_of, table_of, fitting, number_of, bytes_of, found_index, index_of, array_of, value_of}
+use Rattle.instance_text.specs.Rows.{KeyRow, Kind, one_table, tables, number, numbers, truth, text, node, process, processes, rows}
+use Rattle.instance_text.specs.Kinds.{Stated, ◌>>=◌, each, Index, index_in, KnownNames, list_of, table_of, fitting, number_of, truth_of, bytes_of, found_index, index_of, array_of, value_of}
 use Rattle.instance_text.specs.Tables.{missing, found, at_row, Making, in_turn, keys_at, has_only, table_at}
 use Rattle.instance_text.specs.declared.error.Place.TheVariants as at
 use Rattle.ttp_model.specs.declared.parts.Cluster.{Cluster}
@@ -63,6 +63,10 @@ module _ (place : Place) (key : Key) where
   HasTableFault-table_of (table ms) = tt
   HasTableFault-table_of _ = tt
 
+  HasTableFault-truth_of : (d : Data) → HasTableFault (truth_of place key d)
+  HasTableFault-truth_of (boolean b) = tt
+  HasTableFault-truth_of _ = tt
+
   HasTableFault-bytes_of : (d : Data) → HasTableFault (bytes_of place key d)
   HasTableFault-bytes_of (string s) = tt
   HasTableFault-bytes_of _ = tt
@@ -82,6 +86,7 @@ module _ (place : Place) (key : Key) where
   HasTableFault-value_of known tables d = HasTableFault-array_of (table_of place key) HasTableFault-table_of d
   HasTableFault-value_of known number d = HasTableFault-number_of d
   HasTableFault-value_of known numbers d = HasTableFault-array_of (number_of place key) HasTableFault-number_of d
+  HasTableFault-value_of known truth d = HasTableFault-truth_of d
   HasTableFault-value_of known text d = HasTableFault-bytes_of d
   HasTableFault-value_of known node d = HasTableFault-index_of known.nodes d
   HasTableFault-value_of known process d = HasTableFault-index_of known.processes d

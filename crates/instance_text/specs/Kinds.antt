@@ -1,12 +1,12 @@
 -- What one value of each kind states, or the first fault in it.
-use Rattle.std.specs.Prelude.{ℕ, ◌^◌, ◌+◌, ℤ, pos, negsuc, List, [], ◌∷◌, Option, None, Some, Result, Ok, Err, nat_lt, if◌then◌else◌, position}
+use Rattle.std.specs.Prelude.{ℕ, ◌^◌, ◌+◌, ℤ, pos, negsuc, List, [], ◌∷◌, Option, None, Some, Bool, Result, Ok, Err, nat_lt, if◌then◌else◌, position}
 use Rattle.std.specs.Str.{bytes_eq}
-use Rattle.toml.specs.Data.{Data, string, integer, array, table, Items, no_items, item, Members}
+use Rattle.toml.specs.Data.{Data, string, integer, boolean, array, table, Items, no_items, item, Members}
 use Rattle.instance_text.specs.declared.error.Key.{Key}
 use Rattle.instance_text.specs.declared.error.Place.{Place}
 use Rattle.instance_text.specs.declared.error.TextError.{TextError}
 use Rattle.instance_text.specs.declared.error.TextError.TheVariants.{WrongKind, OutOfRange, UnknownName}
-use Rattle.instance_text.specs.Rows.{Kind, one_table, tables, number, numbers, text, node, process, processes, Value}
+use Rattle.instance_text.specs.Rows.{Kind, one_table, tables, number, numbers, truth, text, node, process, processes, Value}
 
 -- what a part of a text states, or its first fault
 abbrev pub Stated : Type 0 → Type 0
@@ -57,6 +57,11 @@ module _ (place : Place) (key : Key) where
   number_of (integer z) = fitting z
   number_of _ = Err (WrongKind place key)
 
+  -- true or false
+  abbrev pub truth_of : Data → Stated Bool
+  truth_of (boolean b) = Ok b
+  truth_of _ = Err (WrongKind place key)
+
   -- the bytes of a text
   abbrev pub bytes_of : Data → Stated (List ℕ)
   bytes_of (string s) = Ok s
@@ -95,6 +100,7 @@ module _ (place : Place) (key : Key) where
   value_of known tables d = tables_in d
   value_of known number d = number_of d
   value_of known numbers d = numbers_of d
+  value_of known truth d = truth_of d
   value_of known text d = bytes_of d
   value_of known node d = index_of known.nodes d
   value_of known process d = index_of known.processes d

@@ -1,19 +1,20 @@
 -- Which keys each table of an instance's text has, of which kind, and what a missing one means:
 -- this project's own profile of TOML.
-use Rattle.std.specs.Prelude.{ℕ, List, [], ◌∷◌, Option, None, Some}
+use Rattle.std.specs.Prelude.{ℕ, Bool, false, List, [], ◌∷◌, Option, None, Some}
 use Rattle.toml.specs.Data.{Members}
 use Rattle.instance_text.specs.declared.error.Key.{Key}
 use Rattle.instance_text.specs.declared.error.Key.TheVariants as key
 use Rattle.instance_text.specs.declared.error.Place.{Place}
 use Rattle.instance_text.specs.declared.error.Place.TheVariants.{Top, Cluster, Node, Process, Link, Message}
 
--- The kinds of values: a table, an array of tables, a whole number, an array of whole numbers, a
--- text, the name of a node, the name of a process, an array of names of processes.
+-- The kinds of values: a table, an array of tables, a whole number, an array of whole numbers,
+-- true or false, a text, the name of a node, the name of a process, an array of names of processes.
 pub data Kind : Type 0 where
   one_table : Kind
   tables : Kind
   number : Kind
   numbers : Kind
+  truth : Kind
   text : Kind
   node : Kind
   process : Kind
@@ -25,6 +26,7 @@ Value one_table = Members
 Value tables = List Members
 Value number = ℕ
 Value numbers = List ℕ
+Value truth = Bool
 Value text = List ℕ
 Value node = ℕ
 Value process = ℕ
@@ -52,7 +54,7 @@ rows Top =
 rows Cluster =
     needed key.Precision number ∷ needed key.Lead number ∷ needed key.Trail number
     ∷ needed key.Head number ∷ needed key.PerByte number ∷ needed key.CopyOut number
-    ∷ needed key.CopyIn number ∷ needed key.Horizon number ∷ []
+    ∷ needed key.CopyIn number ∷ needed key.Horizon number ∷ optional key.Channels number 1 ∷ []
 rows (Node n) = needed key.Name text ∷ needed key.Capacities numbers ∷ []
 rows (Process p) =
     needed key.Name text ∷ needed key.Node node ∷ needed key.Wcet number
@@ -60,4 +62,4 @@ rows (Process p) =
 rows (Link l) = needed key.From process ∷ needed key.To process ∷ []
 rows (Message m) =
     needed key.Name text ∷ needed key.From process ∷ needed key.To processes
-    ∷ needed key.Bytes number ∷ []
+    ∷ needed key.Bytes number ∷ optional key.Both truth false ∷ []

@@ -1,5 +1,5 @@
 -- The instance that a TOML table states, or its first fault.
-use Rattle.std.specs.Prelude.{ℕ, List, map, None, Ok}
+use Rattle.std.specs.Prelude.{ℕ, Bool, List, map, None, Ok}
 use Rattle.toml.specs.Data.{Members}
 use Rattle.ttp_model.specs.declared.parts.Cluster.{Cluster}
 use Rattle.ttp_model.specs.declared.parts.Node.{Node}
@@ -30,8 +30,8 @@ the_tables cluster nodes processes links messages = record {
 }
 
 -- the numbers of a cluster
-abbrev pub the_cluster : ℕ → ℕ → ℕ → ℕ → ℕ → ℕ → ℕ → ℕ → Cluster
-the_cluster precision lead trail head per_byte copy_out copy_in horizon = record {
+abbrev pub the_cluster : ℕ → ℕ → ℕ → ℕ → ℕ → ℕ → ℕ → ℕ → ℕ → Cluster
+the_cluster precision lead trail head per_byte copy_out copy_in horizon channels = record {
   precision = precision;
   lead = lead;
   trail = trail;
@@ -40,6 +40,7 @@ the_cluster precision lead trail head per_byte copy_out copy_in horizon = record
   copy_out = copy_out;
   copy_in = copy_in;
   horizon = horizon;
+  channels = channels;
 }
 
 -- a node
@@ -61,12 +62,13 @@ abbrev pub the_link : ℕ → ℕ → Link
 the_link from to = record { before = from; after = to }
 
 -- a message from one process to others, by their indices
-abbrev pub the_message : List ℕ → ℕ → List ℕ → ℕ → Message
-the_message name from to bytes = record {
+abbrev pub the_message : List ℕ → ℕ → List ℕ → ℕ → Bool → Message
+the_message name from to bytes both = record {
   name = name;
   sender = from;
   receivers = to;
   bytes = bytes;
+  both = both;
 }
 
 -- no name is known

@@ -23,6 +23,7 @@ pub fn cluster(table: &Table) -> Result<Cluster, TextError>
     let copy_out = fields::number(table, place, Key::CopyOut)?;
     let copy_in = fields::number(table, place, Key::CopyIn)?;
     let horizon = fields::number(table, place, Key::Horizon)?;
+    let channels = fields::number_or(table, place, Key::Channels, 1)?;
     Ok(Cluster {
         precision,
         lead,
@@ -32,5 +33,6 @@ pub fn cluster(table: &Table) -> Result<Cluster, TextError>
         copy_out,
         copy_in,
         horizon,
+        channels,
     })
 }

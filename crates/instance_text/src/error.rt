@@ -59,6 +59,7 @@ pub enum Key {
     CopyOut,
     CopyIn,
     Horizon,
+    Channels,
     Name,
     Capacities,
     Wcet,
@@ -67,6 +68,7 @@ pub enum Key {
     From,
     To,
     Bytes,
+    Both,
 }
 
 impl Key {
@@ -88,6 +90,7 @@ impl Key {
             Key::CopyOut => "copy_out",
             Key::CopyIn => "copy_in",
             Key::Horizon => "horizon",
+            Key::Channels => "channels",
             Key::Name => "name",
             Key::Capacities => "capacities",
             Key::Wcet => "wcet",
@@ -96,6 +99,7 @@ impl Key {
             Key::From => "from",
             Key::To => "to",
             Key::Bytes => "bytes",
+            Key::Both => "both",
         }
     }
 }

@@ -6,7 +6,7 @@ ghost use Rattle.toml.specs.View.{table_view, view};
 ghost use Rattle.instance_text.specs.Faults.{IsFaultOfPart};
 ghost use Rattle.instance_text.specs.Index.{index_by};
 ghost use Rattle.instance_text.specs.Keys.{text_of};
-ghost use Rattle.instance_text.specs.Kinds.{table_of, tables_in, number_of, numbers_of, bytes_of, index_of, indices_of};
+ghost use Rattle.instance_text.specs.Kinds.{table_of, tables_in, number_of, numbers_of, truth_of, bytes_of, index_of, indices_of};
 ghost use Rattle.instance_text.specs.Tables.{field_of};
 ghost use Rattle.instance_text.specs.Views.{table_views};
 ghost use Rattle.instance_text.specs.declared.error.TextError.TheVariants.{MissingKey};
@@ -105,6 +105,17 @@ pub fn numbers(alloc: Global, table: &Table, place: Place, key: Key) -> Result<N
         (table_view table.now))) }
 {
     values::numbers(alloc, needed(table, place, key)?, place, key)
+}
+
+/// True or false, or this one where it is missing.
+pub fn truth_or(table: &Table, place: Place, key: Key, default: bool) -> Result<bool, TextError>
+    ensures { result ≡ field_of place key (truth_of place key) (Some default)
+        (table_view table.now) }
+{
+    match value(table, key) {
+        None => Ok(default),
+        Some(value) => values::truth(value, place, key),
+    }
 }
 
 /// A name that has to be there.

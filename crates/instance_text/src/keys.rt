@@ -30,11 +30,12 @@ fn keys_at(place: Place) -> &'static [Key]
             Key::CopyOut,
             Key::CopyIn,
             Key::Horizon,
+            Key::Channels,
         ],
         Place::Node(_) => &[Key::Name, Key::Capacities],
         Place::Process(_) => &[Key::Name, Key::Node, Key::Wcet, Key::Release, Key::Deadline],
         Place::Link(_) => &[Key::From, Key::To],
-        Place::Message(_) => &[Key::Name, Key::From, Key::To, Key::Bytes],
+        Place::Message(_) => &[Key::Name, Key::From, Key::To, Key::Bytes, Key::Both],
     }
 }
 

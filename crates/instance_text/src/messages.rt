@@ -32,11 +32,13 @@ fn message(
     let sender = fields::index(table, place, Key::From, processes)?;
     let receivers = fields::indices(alloc, table, place, Key::To, processes)?;
     let bytes = fields::number(table, place, Key::Bytes)?;
+    let both = fields::truth_or(table, place, Key::Both, false)?;
     Ok(Message {
         name,
         sender,
         receivers,
         bytes,
+        both,
     })
 }
 

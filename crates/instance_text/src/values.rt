@@ -2,7 +2,7 @@
 
 ghost use Rattle.std.specs.Prelude.{◌≡◌, IfOk, IfErr};
 ghost use Rattle.toml.specs.View.{table_view, view};
-ghost use Rattle.instance_text.specs.Kinds.{table_of, tables_in, number_of, numbers_of, bytes_of, index_of, indices_of};
+ghost use Rattle.instance_text.specs.Kinds.{table_of, tables_in, number_of, numbers_of, truth_of, bytes_of, index_of, indices_of};
 ghost use Rattle.instance_text.specs.Faults.{IsFaultOfPart};
 ghost use Rattle.instance_text.specs.Index.{index_by};
 ghost use Rattle.instance_text.specs.Views.{table_views};
@@ -65,6 +65,16 @@ pub fn numbers(alloc: Global, value: &Value, place: Place, key: Key) -> Result<N
         numbers.push(number(item, place, key)?)?;
     }
     Ok(Numbers::new(numbers))
+}
+
+/// True or false.
+pub fn truth(value: &Value, place: Place, key: Key) -> Result<bool, TextError>
+    ensures { result ≡ truth_of place key (view value.now) }
+{
+    match value.as_bool() {
+        None => Err(TextError::WrongKind { place, key }),
+        Some(truth) => Ok(truth),
+    }
 }
 
 /// A text, as a name.

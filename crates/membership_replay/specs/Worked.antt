@@ -17,7 +17,7 @@ three_nodes = instance_with plain_cluster
 
 -- they send in turn, and the process starts at once: a cycle of one round
 abbrev pub three_nodes_plan : Plan
-three_nodes_plan = record { order = 0 ∷ 1 ∷ 2 ∷ []; caps = 0 ∷ 0 ∷ 0 ∷ []; starts = 0 ∷ []; rounds = [] }
+three_nodes_plan = record { order = 0 ∷ 1 ∷ 2 ∷ []; caps = 0 ∷ 0 ∷ 0 ∷ []; starts = 0 ∷ []; rounds = []; channels = [] }
 
 -- its node tables
 abbrev pub three_nodes_tables : Medl

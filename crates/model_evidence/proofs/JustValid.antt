@@ -1,9 +1,10 @@
 -- Which plans of the uneven example are valid.
 use Rattle.std.proofs.Common.{◌≡◌, ◌≢◌, ℕ, zero, suc, ◌+◌, ◌<◌, ◌≤◌, [], ◌∷◌, slice_index, Contains, lit<, lit≤, refl, arith, inl, inr}
+use Rattle.std.proofs.lemmas.Bool.{false≢true}
 use Rattle.std.proofs.lemmas.List.Elements.{Contains-get_or}
 use Rattle.ttp_model.specs.declared.plan.Plan.{Plan}
 use Rattle.ttp_model.specs.Instance.{Instance}
-use Rattle.ttp_model.specs.Plans.{IsValid, IsNewNode, HasOwnCapacity, IsReleased, EndsInTime, IsApartFromLater, KeepsLink, IsReady, HasArrivedAt, HasArrivedEverywhere, FitsFrame}
+use Rattle.ttp_model.specs.Plans.{IsValid, IsNewNode, HasOwnCapacity, IsReleased, EndsInTime, IsApartFromLater, KeepsLink, IsReady, HasArrivedAt, HasArrivedEverywhere, FitsFrame, HasOwnChannel}
 use Rattle.ttp_model.specs.Worked.{three_alike, three_alike_plan}
 use Rattle.model_evidence.specs.Edges.{just_in_time, uneven, uneven_cluster, uneven_on, uneven_plan}
 
@@ -83,13 +84,18 @@ module _ (horizon deadline q : ℕ) (in_horizon : 122 ≤ horizon) (in_deadline 
   fits (suc zero) lt = lit≤ tt
   fits (suc (suc m)) lt = absurd (omega arith)
 
+  on_own : (m : ℕ) → m < 2 → HasOwnChannel problem plan m
+  on_own zero lt = record { known = lit≤ tt; alone = λ _. refl; both = λ is. absurd (false≢true is) }
+  on_own (suc zero) lt = record { known = lit≤ tt; alone = λ _. refl; both = λ is. absurd (false≢true is) }
+  on_own (suc (suc m)) lt = absurd (omega arith)
+
   linked : (l : ℕ) → l < 1 → KeepsLink problem plan l
   linked zero lt = lit≤ tt
   linked (suc l) lt = absurd (omega arith)
 
   valid : IsValid problem plan
   valid = record {
-    lengths = record { order = refl; capacities = refl; starts = refl; rounds = refl };
+    lengths = record { order = refl; capacities = refl; starts = refl; rounds = refl; channels = refl };
     order = record { all = refl; each = new_node };
     capacities = own;
     released = released;
@@ -99,6 +105,7 @@ module _ (horizon deadline q : ℕ) (in_horizon : 122 ≤ horizon) (in_deadline 
     ready = ready;
     arrived = arrived;
     frames = fits;
+    on_own = on_own;
   }
 
 pub just_valid : IsValid uneven just_in_time
@@ -153,3 +160,9 @@ copied_in_late v = let late : 80 ≤ 79 = v.arrived 0 (lit< tt) 1 (lit< tt) in o
 
 pub two_in_one_frame : ¬ IsValid uneven (uneven_plan (43 ∷ 56 ∷ 99 ∷ 118 ∷ []) (4 ∷ 4 ∷ []))
 two_in_one_frame v = let full : 5 ≤ 3 = v.frames 0 (lit< tt) in omega (arith, full)
+
+pub a_channel_too_many : ¬ IsValid uneven (record just_in_time { channels = 0 ∷ 0 ∷ 0 ∷ [] })
+a_channel_too_many v = let long : 3 ≡ 2 = v.lengths.channels in omega (arith, long)
+
+pub on_another_channel : ¬ IsValid uneven (record just_in_time { channels = 0 ∷ 1 ∷ [] })
+on_another_channel v = let other : 1 ≡ 0 = (v.on_own 1 (lit< tt)).alone refl in omega (arith, other)

@@ -1,5 +1,5 @@
 -- A worked example no two figures of which are alike, so that none can stand for another, and plans of it. Computed by hand.
-use Rattle.std.specs.Prelude.{ℕ, List, [], ◌∷◌, codes}
+use Rattle.std.specs.Prelude.{ℕ, List, [], ◌∷◌, false, codes}
 use Rattle.ttp_model.specs.declared.parts.Cluster.{Cluster}
 use Rattle.ttp_model.specs.declared.parts.Process.{Process}
 use Rattle.ttp_model.specs.declared.plan.Plan.{Plan}
@@ -16,6 +16,7 @@ uneven_cluster copy_out copy_in horizon = record {
   copy_out = copy_out;
   copy_in = copy_in;
   horizon = horizon;
+  channels = 1;
 }
 
 -- a process of this node, with its time, its release and its deadline
@@ -28,7 +29,7 @@ uneven_on cluster deadline = instance_with cluster
     (record { name = codes "A"; capacities = 3 ∷ 5 ∷ [] } ∷ record { name = codes "B"; capacities = 1 ∷ 8 ∷ [] } ∷ [])
     (process_within (codes "p") 0 13 43 1000000 ∷ process_within (codes "r") 0 17 5 1000000 ∷ process_within (codes "q") 1 19 0 1000000 ∷ process_within (codes "s") 1 23 0 deadline ∷ [])
     (record { before = 0; after = 1 } ∷ [])
-    (record { name = codes "m"; sender = 0; receivers = 3 ∷ 2 ∷ []; bytes = 3 } ∷ record { name = codes "l"; sender = 1; receivers = 3 ∷ []; bytes = 2 } ∷ [])
+    (record { name = codes "m"; sender = 0; receivers = 3 ∷ 2 ∷ []; bytes = 3; both = false } ∷ record { name = codes "l"; sender = 1; receivers = 3 ∷ []; bytes = 2; both = false } ∷ [])
 
 -- with 4 and 7 ticks, a horizon of 500 and a deadline of 200
 abbrev pub uneven : Instance
@@ -36,7 +37,7 @@ uneven = uneven_on (uneven_cluster 4 7 500) 200
 
 -- A before B, with these starts and rounds
 abbrev pub uneven_plan : List ℕ → List ℕ → Plan
-uneven_plan starts rounds = record { order = 0 ∷ 1 ∷ []; caps = 3 ∷ 1 ∷ []; starts = starts; rounds = rounds }
+uneven_plan starts rounds = record { order = 0 ∷ 1 ∷ []; caps = 3 ∷ 1 ∷ []; starts = starts; rounds = rounds; channels = 0 ∷ 0 ∷ [] }
 
 -- Slots last 12 and 8 ticks. p ends at 56, as m, copied out, goes at 60 in round 3; r then ends at 73, so that l goes at 80 in round 4.
 abbrev pub just_in_time : Plan

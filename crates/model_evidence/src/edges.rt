@@ -17,7 +17,7 @@ pub fn plan_that_just_keeps_the_rules()
 {}
 
 /// Plans that break one rule, and that by as little as they can: a round too many, a node twice, a capacity between two options, a
-/// tick, or two bytes. It is the second receiver of m that starts too early, and the first of three processes and the last that
+/// tick, two bytes, a channel too many or another one than there is. It is the second receiver of m that starts too early, and the first of three processes and the last that
 /// overlap.
 pub fn plans_that_just_break_a_rule()
     ensures lengths { ¬ IsValid uneven (uneven_plan (43 ∷ 56 ∷ 79 ∷ 99 ∷ []) (3 ∷ 4 ∷ 4 ∷ [])) }
@@ -33,4 +33,6 @@ pub fn plans_that_just_break_a_rule()
     ensures arrived { ¬ IsValid uneven (uneven_plan (43 ∷ 56 ∷ 78 ∷ 99 ∷ []) (3 ∷ 4 ∷ [])) }
     ensures copied_in { ¬ IsValid (uneven_on (uneven_cluster 4 8 500) 200) just_in_time }
     ensures in_one_frame { ¬ IsValid uneven (uneven_plan (43 ∷ 56 ∷ 99 ∷ 118 ∷ []) (4 ∷ 4 ∷ [])) }
+    ensures channels { ¬ IsValid uneven (record just_in_time { channels = 0 ∷ 0 ∷ 0 ∷ [] }) }
+    ensures on_own { ¬ IsValid uneven (record just_in_time { channels = 0 ∷ 1 ∷ [] }) }
 {}

@@ -19,6 +19,8 @@ pub struct Tables {
     pub links: &'static [Link],
     /// The name, receivers and bytes of each message of process 0.
     pub messages: &'static [(&'static str, &'static [u32], u32)],
+    /// Whether each message is to be on both channels.
+    pub both: bool,
 }
 
 /// Node A, whose slot carries 2 bytes, has a process p of 3 ticks that sends 2 bytes to process q of 2 ticks on node B.
@@ -28,6 +30,7 @@ pub const LAWFUL: Tables = Tables {
     processes: &[("p", 0, 3, MOST_TICKS), ("q", 1, 2, MOST_TICKS)],
     links: &[],
     messages: &[("m", &[1], 2)],
+    both: false,
 };
 
 fn name(alloc: Global, text: &str) -> Result<Name, AllocError> {
@@ -62,7 +65,11 @@ fn processes(alloc: Global, rows: &[(&str, u32, u32, u32)]) -> Result<Vec<Proces
     Ok(processes)
 }
 
-fn messages(alloc: Global, rows: &[(&str, &[u32], u32)]) -> Result<Vec<Message>, AllocError> {
+fn messages(
+    alloc: Global,
+    rows: &[(&str, &[u32], u32)],
+    both: bool,
+) -> Result<Vec<Message>, AllocError> {
     let mut messages = Vec::new(alloc);
     for (text, receivers, bytes) in rows {
         let name = name(alloc, text)?;
@@ -72,6 +79,7 @@ fn messages(alloc: Global, rows: &[(&str, &[u32], u32)]) -> Result<Vec<Message>,
             sender: 0,
             receivers,
             bytes: *bytes,
+            both,
         })?;
     }
     Ok(messages)
@@ -82,7 +90,7 @@ pub fn build(alloc: Global, tables: &Tables) -> Result<Instance, ModelError> {
     let nodes = nodes(alloc, tables.nodes)?;
     let processes = processes(alloc, tables.processes)?;
     let links = Vec::from_slice(alloc, tables.links)?;
-    let messages = messages(alloc, tables.messages)?;
+    let messages = messages(alloc, tables.messages, tables.both)?;
     Instance::build(alloc, tables.cluster, nodes, processes, links, messages)
 }
 
@@ -231,6 +239,11 @@ const BROKEN: &[(&str, Tables, &str)] = &[
             messages: &[]
         ),
         "Cycle(Numbers { items: [0, 1] })",
+    ),
+    (
+        "a message on both channels of one",
+        with!(messages: &[("m", &[1], 2), ("n", &[1], 1)], both: true),
+        "BothOfOne(0)",
     ),
 ];
 

@@ -100,6 +100,7 @@ fn messages(alloc: Global, sizes: &Sizes) -> Result<Vec<Message>, AllocError> {
             sender: 0,
             receivers: Numbers::new(vec![in alloc; last]?),
             bytes: sizes.bytes,
+            both: false,
         })?;
     }
     Ok(messages)
@@ -278,6 +279,18 @@ const CLUSTERS: &[Limit] = &[
         "a horizon of a tick, and none",
         with_cluster!(horizon: 1),
         with_cluster!(horizon: 0),
+        "OutOfRange(AtCluster)",
+    ),
+    (
+        "a channel, and none",
+        with_cluster!(channels: 1),
+        with_cluster!(channels: 0),
+        "OutOfRange(AtCluster)",
+    ),
+    (
+        "channels",
+        with_cluster!(channels: 1),
+        with_cluster!(channels: 2),
         "OutOfRange(AtCluster)",
     ),
     (

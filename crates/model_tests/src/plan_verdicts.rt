@@ -7,7 +7,7 @@ use plan_check::{PlanFault, PlanPart, check};
 use std::alloc::{AllocError, Global};
 use std::process::Abort;
 use std::test::Fail;
-use ttp_model::Instance;
+use ttp_model::{Instance, Numbers};
 use worked_instances::plan;
 
 /// The delay of a valid plan, or the rule that another one breaks first.
@@ -97,4 +97,24 @@ fn are_refused(
 fn lists_that_no_text_spells_are_refused(rt: HostRuntime) -> Result<(), Fail> {
     are_refused(&rt, rt.alloc(), &LAWFUL, WRONG_LISTS)?;
     are_refused(&rt, rt.alloc(), &THREE_NODES, WRONG_ORDERS)
+}
+
+/// Channels of the only message, and the rule that a plan breaks by them: there is channel 0 alone.
+const WRONG_CHANNELS: &[(&[u32], PlanFault)] = &[
+    (&[], PlanFault::WrongLength(PlanPart::Channels)),
+    (&[0, 0], PlanFault::WrongLength(PlanPart::Channels)),
+    (&[1], PlanFault::WrongChannel(0)),
+    (&[2], PlanFault::WrongChannel(0)),
+    (&[4_294_967_295], PlanFault::WrongChannel(0)),
+];
+
+#[test]
+fn a_message_is_on_the_only_channel(rt: HostRuntime) -> Result<(), Fail> {
+    let instance = build(rt.alloc(), &LAWFUL)?;
+    for (channels, fault) in WRONG_CHANNELS {
+        let mut plan = plan(rt.alloc(), &[0, 1], &[2, 0], &[0, 7], &[1])?;
+        plan.channels = Numbers::new(Vec::from_slice(rt.alloc(), channels)?);
+        same(&rt, channels, check(&instance, &plan), Err(*fault));
+    }
+    Ok(())
 }

@@ -24,6 +24,7 @@ const LONG_PROCESS: Tables = Tables {
     processes: &[("p", 0, 11, MOST_TICKS)],
     links: &[],
     messages: &[],
+    both: false,
 };
 
 /// An instance, a valid plan of it with its delay, and the lines of its windows.

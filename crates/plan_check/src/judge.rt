@@ -5,7 +5,7 @@ ghost use Rattle.ttp_model.specs.Plans.{IsValid, Releases, Readiness};
 ghost use Rattle.ttp_model.specs.Delays.{delay};
 ghost use Rattle.ttp_model.specs.Faults.{IsFirstFault, KeepsBefore};
 
-use crate::{frames, lists, messages, processes};
+use crate::{channels, frames, lists, messages, processes};
 use tt_layout::Layout;
 use ttp_model::{Instance, Plan, PlanFault, delay};
 
@@ -14,7 +14,7 @@ use ttp_model::{Instance, Plan, PlanFault, delay};
 /// aren't there, times up to 4,294,967,295.
 ///
 /// The rules are judged in this order: lengths, order, capacities, releases, ends, overlaps,
-/// links, readiness, arrivals, frames. Takes no memory. Costs at most a step for each two
+/// links, readiness, arrivals, frames, channels. Takes no memory. Costs at most a step for each two
 /// processes, each two messages, each message and node, each message and receiver, and each link.
 pub fn check(instance: &Instance, plan: &Plan) -> Result<u64, PlanFault>
     ensures ok { OnOk result (IsValid instance.now plan.now) }
@@ -84,6 +84,9 @@ fn check_messages(instance: &Instance, plan: &Plan) -> Result<(), PlanFault>
     }
     if let Some((n, r)) = frames::first_overfull(instance, plan) {
         return Err(PlanFault::Overfull(n, r));
+    }
+    if let Some(m) = channels::first_wrong_channel(instance, plan) {
+        return Err(PlanFault::WrongChannel(m));
     }
     Ok(())
 }

@@ -1,6 +1,7 @@
 //! Whether a plan is valid, and which rule it breaks first if it isn't.
 #![tactic(auto)]
 
+mod channels;
 mod frames;
 mod judge;
 mod lists;

@@ -26,6 +26,9 @@ pub fn first_wrong_length(instance: &Instance, plan: &Plan) -> Option<PlanPart>
     if plan.rounds.len() != instance.messages().len() {
         return Some(PlanPart::Rounds);
     }
+    if plan.channels.len() != instance.messages().len() {
+        return Some(PlanPart::Channels);
+    }
     None
 }
 

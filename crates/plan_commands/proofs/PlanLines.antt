@@ -1,5 +1,5 @@
 -- A fault of a plan's text is told of one of its lines, and there are few.
-use Rattle.std.proofs.Common.{◌≡◌, ℕ, ◌+◌, ◌<◌, ◌≤◌, ◌^◌, List, [], ◌∷◌, length, Option, None, Some, Ok, Err, Bool, true, false, not, arith, subst}
+use Rattle.std.proofs.Common.{◌≡◌, ℕ, ◌+◌, ◌<◌, ◌≤◌, ◌^◌, List, [], ◌∷◌, length, replicate, Option, None, Some, Ok, Err, Bool, true, false, not, arith, subst}
 use Rattle.std.specs.Prelude.{codes, bytes_eq, ◌==◌, ◌&&◌}
 use Rattle.std.specs.List.{list_all}
 use Rattle.line_text.specs.Parts.{after_keyword, cut}
@@ -127,7 +127,7 @@ of_plan i text =
     bind most (part_at i Processes (4 + length i.nodes) caps.1) _ (of_numbers most (4 + length i.nodes) (keyword_of Processes) (names_in i Processes) caps.1 (omega (arith, processes))) (λ starts.
     bind most (part_at i Messages (4 + length i.nodes + length i.processes) starts.1) _ (of_numbers most (4 + length i.nodes + length i.processes) (keyword_of Messages) (names_in i Messages) starts.1 (omega (arith, messages))) (λ rounds.
     bind most (check (At (end_line i) Trailing) (length rounds.1 == 0)) _ (of_check most (end_line i) Trailing (length rounds.1 == 0) (omega arith)) (λ end.
-    given most (record { order = order.0; caps = caps.0; starts = starts.0; rounds = rounds.0 }, stated.0))))))))
+    given most (record { order = order.0; caps = caps.0; starts = starts.0; rounds = rounds.0; channels = replicate (length i.messages) 0 }, stated.0))))))))
 
 -- so the line behind has a number
 pub line_behind : (i : Instance) → IsInstance i → (text : List ℕ) (line : ℕ) (fault : LineFault) → plan_at i text ≡ Err (At line fault) → line + 1 < 2 ^ 32

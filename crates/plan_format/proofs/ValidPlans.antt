@@ -9,6 +9,7 @@ use Rattle.ttp_model.specs.Rules.{IsInstance}
 use Rattle.ttp_model.specs.Plans.{IsValid}
 use Rattle.ttp_model.specs.Delays.{delay}
 use Rattle.ttp_model.proofs.PlanNumbers.{capacities_small, starts_small, rounds_small, delay_small}
+use Rattle.ttp_model.proofs.OneChannel.{channels_of_valid}
 use Rattle.plan_format.specs.Spelling.{HasText}
 
 pub HasText-from_valid : (i : Instance) (plan : Plan) → IsInstance i → IsValid i plan → HasText i plan (delay i plan)
@@ -20,5 +21,6 @@ HasText-from_valid i plan w v =
       caps = All-weaker (λ n. n ≤ MOST_BYTES) (λ n. n < 2 ^ 32) (λ n le. omega arith) plan.caps (capacities_small i plan w v);
       starts = All-weaker (λ n. n < i.cluster.horizon) (λ n. n < 2 ^ 32) (λ n lt. omega (arith, horizon)) plan.starts (starts_small i plan w v);
       rounds = All-weaker (λ n. n < i.cluster.horizon) (λ n. n < 2 ^ 32) (λ n lt. omega (arith, horizon)) plan.rounds (rounds_small i plan w v);
+      channels = channels_of_valid i plan w v;
       stated = omega (arith, horizon, delay_small i plan w v);
     }

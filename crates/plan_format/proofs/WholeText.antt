@@ -1,8 +1,8 @@
 -- The two laws of the whole text: what is read is spelled so, and what is spelled so is read.
-use Rattle.std.proofs.Common.{◌≡◌, ◌≢◌, ℕ, ◌+◌, ◌<◌, ◌^◌, List, [], ◌∷◌, ◌++◌, length, get_or, map, All, Ok, Err, IfOk, true, refl, sym, ap, subst, ◌∙◌, arith}
+use Rattle.std.proofs.Common.{◌≡◌, ◌≢◌, ℕ, ◌+◌, ◌<◌, ◌^◌, List, [], ◌∷◌, ◌++◌, length, get_or, map, replicate, All, Ok, Err, IfOk, true, refl, sym, ap, subst, ◌∙◌, arith}
 use Rattle.std.specs.Prelude.{codes, ◌==◌}
 use Rattle.std.proofs.Math.ListN.{get_or-map}
-use Rattle.std.proofs.lemmas.List.{length-map, append-nil}
+use Rattle.std.proofs.lemmas.List.{length-map, length-replicate, append-nil}
 use Rattle.std.proofs.lemmas.List.Elements.{All-map, All-from_get_or}
 use Rattle.line_text.specs.Parts.{Lacks}
 use Rattle.line_text.specs.Results.{check}
@@ -80,7 +80,7 @@ plan_takes i text x e =
     let starts = bind_ok (part_at i Processes (4 + length i.nodes) caps.0.1) _ x caps.2 in
     let rounds = bind_ok (part_at i Messages (4 + length i.nodes + length i.processes) starts.0.1) _ x starts.2 in
     let end = bind_ok (check (At (end_line i) Trailing) (length rounds.0.1 == 0)) _ x rounds.2 in
-    let plan : Plan = record { order = order.0.0; caps = caps.0.0; starts = starts.0.0; rounds = rounds.0.0 } in
+    let plan : Plan = record { order = order.0.0; caps = caps.0.0; starts = starts.0.0; rounds = rounds.0.0; channels = replicate (length i.messages) 0 } in
     let is : (plan, delay.0.0) ≡ x = ok_is (plan, delay.0.0) x end.2 in
     let nothing_left = nil_is rounds.0.1 (check_ok (At (end_line i) Trailing) (length rounds.0.1 == 0) end.0 end.1) in
     let delay_is = delay_takes head.0 delay.0 delay.1 in
@@ -97,11 +97,13 @@ plan_takes i text x e =
           capacities = caps_are.1 ∙ count;
           starts = starts_are.1 ∙ length-map i.processes (λ p. p.name);
           rounds = rounds_are.1 ∙ length-map i.messages (λ m. m.name);
+          channels = length-replicate (length i.messages) 0;
         };
         order = subst (λ k. IsNodeOrder k order.0.0) count order_is.is_order;
         caps = caps_are.2;
         starts = starts_are.2;
         rounds = rounds_are.2;
+        channels = refl;
         stated = delay_is.1;
       };
       spelled =
@@ -111,10 +113,13 @@ plan_takes i text x e =
 
 -- ---- what is spelled so is read
 
+abbrev reads : Plan → ℕ → Reading (Plan × ℕ)
+reads plan delay = Ok (plan, delay)
+
 plan_steps : (i : Instance) (text a b c e f : List ℕ) (plan : Plan) (delay : ℕ) → head_at text ≡ Ok a → delay_at a ≡ Ok (delay, b) → order_at (names_in i Nodes) b ≡ Ok (plan.order, c)
     → part_at i Nodes 4 c ≡ Ok (plan.caps, e) → part_at i Processes (4 + length i.nodes) e ≡ Ok (plan.starts, f)
     → part_at i Messages (4 + length i.nodes + length i.processes) f ≡ Ok (plan.rounds, [])
-    → plan_at i text ≡ Ok (plan, delay)
+    → plan_at i text ≡ Ok (record plan { channels = replicate (length i.messages) 0 }, delay)
 unfolding plan_at
 plan_steps i text a b c e f plan delay ha hb hc he hf hg = rw (ha, hb, hc, he, hf, hg) refl
 
@@ -148,6 +153,7 @@ plan_again i plan delay w t =
     (part_again i w Nodes 4 plan.caps (starts ++ rounds) (t.lengths.capacities ∙ sym count) t.caps)
     (part_again i w Processes (4 + length i.nodes) plan.starts rounds (t.lengths.starts ∙ sym (length-map i.processes (λ p. p.name))) t.starts)
     last
+    ∙ ap (λ (channels : List ℕ). reads (record plan { channels = channels }) delay) (sym t.channels)
 
 -- ---- what an answer says
 

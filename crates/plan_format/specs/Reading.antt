@@ -1,6 +1,6 @@
 -- Reading a plan text line by line: the plan and its stated delay, or the first fault and its
 -- line. The steps stand in the order in which faults are judged. Own profile.
-use Rattle.std.specs.Prelude.{◌≡◌, ℕ, ◌+◌, List, [], ◌∷◌, length, Option, Some, None, Result, Ok, Err, IsOk, Bool, true, ◌==◌, ◌&&◌, not, bytes_eq, codes, position}
+use Rattle.std.specs.Prelude.{◌≡◌, ℕ, ◌+◌, List, [], ◌∷◌, length, Option, Some, None, Result, Ok, Err, IsOk, Bool, true, ◌==◌, ◌&&◌, not, bytes_eq, codes, position, replicate}
 use Rattle.std.specs.List.{list_all, list_any, slice_split}
 use Rattle.line_text.specs.Parts.{cut, after_keyword}
 use Rattle.line_text.specs.Numbers.{number_word}
@@ -138,7 +138,8 @@ front_at text = do
 abbrev pub HasFront : List ℕ → Type 0
 HasFront text = IsOk (front_at text)
 
--- the whole text: a plan of the instance and its stated delay, which is not judged
+-- The whole text: a plan of the instance and its stated delay, which is not judged. No line has channels, since there is
+-- one: each message is on channel 0.
 unfoldable pub plan_at : Instance → List ℕ → Reading (Plan × ℕ)
 plan_at i text = do
   body ← head_at text
@@ -148,4 +149,4 @@ plan_at i text = do
   starts ← part_at i Processes (4 + length i.nodes) caps.1
   rounds ← part_at i Messages (4 + length i.nodes + length i.processes) starts.1
   end ← check (At (end_line i) Trailing) (length rounds.1 == 0)
-  Ok (record { order = order.0; caps = caps.0; starts = starts.0; rounds = rounds.0 }, delay.0)
+  Ok (record { order = order.0; caps = caps.0; starts = starts.0; rounds = rounds.0; channels = replicate (length i.messages) 0 }, delay.0)

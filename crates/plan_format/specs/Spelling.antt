@@ -1,5 +1,5 @@
 -- Which values have a plan text, and the one spelling of each. Own profile.
-use Rattle.std.specs.Prelude.{◌≡◌, ℕ, ◌<◌, ◌^◌, List, [], ◌∷◌, ◌++◌, length, map, All, codes, decimal}
+use Rattle.std.specs.Prelude.{◌≡◌, ℕ, ◌<◌, ◌^◌, List, [], ◌∷◌, ◌++◌, length, map, replicate, All, codes, decimal}
 use Rattle.std.specs.List.{join_with_byte}
 use Rattle.ttp_model.specs.declared.plan.Plan.{Plan}
 use Rattle.ttp_model.specs.declared.error.Part.TheVariants.{Nodes, Processes, Messages}
@@ -38,13 +38,15 @@ plan_text i plan delay =
     ∷ (delay_line delay ++ 10 ∷ (order_line i plan.order ++ 10 ∷ plan_lines i plan))
 
 -- What has a text: a plan of the instance's lengths and an order of its nodes. Its numbers and the
--- stated delay, which need not be the plan's own, are below 2 ^ 32.
+-- stated delay, which need not be the plan's own, are below 2 ^ 32. Each message is on channel 0, of which the text says
+-- nothing.
 pub record HasText (i : Instance) (plan : Plan) (delay : ℕ) : Type 0 where
   pub lengths : HasLengths i plan
   pub order : IsNodeOrder (length i.nodes) plan.order
   pub caps : All (λ n. n < 2 ^ 32) plan.caps
   pub starts : All (λ n. n < 2 ^ 32) plan.starts
   pub rounds : All (λ n. n < 2 ^ 32) plan.rounds
+  pub channels : plan.channels ≡ replicate (length i.messages) 0
   pub stated : delay < 2 ^ 32
 
 -- the text spells this plan with this stated delay

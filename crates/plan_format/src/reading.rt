@@ -79,11 +79,13 @@ fn plan_of(alloc: Global, instance: &Instance, text: &[u8]) -> Result<(Plan, u32
     if !rest.is_empty() {
         return Err(LineFault::Trailing.at(4 + nodes + processes + messages));
     }
+    let channels = Numbers::zeros(alloc, instance.messages().len())?;
     let plan = Plan {
         order: Numbers::new(order),
         caps: Numbers::new(caps),
         starts: Numbers::new(starts),
         rounds: Numbers::new(rounds),
+        channels,
     };
     Ok((plan, delay))
 }

@@ -200,7 +200,7 @@ module _ (i : Instance) (plan : Plan) (wi : IsInstance i) (w : IsValid i plan) (
 
       pub allows-valid : IsValid j plan
       allows-valid = record {
-        lengths = record { order = w.lengths.order; capacities = w.lengths.capacities; starts = rw (processes-length i p ticks inside) w.lengths.starts; rounds = w.lengths.rounds };
+        lengths = record { order = w.lengths.order; capacities = w.lengths.capacities; starts = rw (processes-length i p ticks inside) w.lengths.starts; rounds = w.lengths.rounds; channels = w.lengths.channels };
         order = w.order;
         capacities = λ n lt. record { own = (w.capacities n lt).own };
         released = λ q lt. rw (release-kept i p ticks inside q) (w.released q (there q lt));
@@ -210,4 +210,5 @@ module _ (i : Instance) (plan : Plan) (wi : IsInstance i) (w : IsValid i plan) (
         ready = ready-still;
         arrived = λ m lt k at_k. omega (arith, w.arrived m lt k at_k, sent_until-kept i p ticks inside plan m);
         frames = λ m lt. rw (source-kept i p ticks inside m, load-kept i p ticks inside plan (source_of i m) (round_of plan m)) (w.frames m lt);
+        on_own = λ m lt. record { known = (w.on_own m lt).known; alone = (w.on_own m lt).alone; both = (w.on_own m lt).both };
       }

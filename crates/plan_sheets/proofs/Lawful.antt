@@ -98,4 +98,5 @@ module _ (i : Instance) (p ticks : ℕ) (inside : p < length i.processes) (wi : 
     links = λ l lt. record { two = (wi.links l lt).two; one_node = rw (node-kept i p ticks inside (link_at i l).before, node-kept i p ticks inside (link_at i l).after) (wi.links l lt).one_node };
     receivers_once = wi.receivers_once;
     acyclic = λ ps walk. wi.acyclic ps (record { some = walk.some; each = λ k lt. leads _ _ (walk.each k lt); closes = leads _ _ walk.closes });
+    channels = wi.channels;
   }

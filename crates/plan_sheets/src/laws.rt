@@ -14,7 +14,7 @@ ghost use Rattle.plan_sheets.specs.Slack.{longer, slack};
 ghost use Rattle.plan_sheets.specs.Slots.{slot_of};
 
 /// Where a process runs for some ticks more and all else stays, the plan stays valid just where they are no more than
-/// its slack. The ten rules of a plan are asked, in the instance with that process's worst-case execution time changed;
+/// its slack. The eleven rules of a plan are asked, in the instance with that process's worst-case execution time changed;
 /// that one is an instance too, as long as the plan is valid.
 pub fn slack_is_exact()
     ensures exact { (i : Instance) (plan : Plan) (p ticks : ℕ) → IsInstance i → IsValid i plan → p < length i.processes

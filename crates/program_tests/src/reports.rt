@@ -148,6 +148,16 @@ fn wrong_line_of_no_text(alloc: Global) -> Option<usize> {
             5,
         ),
         (
+            Refused(Fault::Plan(PlanFault::WrongLength(PlanPart::Channels))),
+            "plan V1 4\n",
+            5,
+        ),
+        (
+            Refused(Fault::Plan(PlanFault::WrongChannel(2))),
+            "plan V11 2\n",
+            5,
+        ),
+        (
             Refused(Fault::Plan(PlanFault::WrongOrder(1))),
             "plan V2 1\n",
             5,

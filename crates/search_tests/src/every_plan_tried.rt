@@ -97,6 +97,7 @@ fn cluster(draws: &mut Draws) -> Cluster {
         copy_out: draws.rarely(),
         copy_in: draws.rarely(),
         horizon: 8 + draws.up_to(4),
+        channels: 1,
     }
 }
 
@@ -217,6 +218,7 @@ fn messages(
                 name: name(alloc, "m", number as usize)?,
                 receivers: Numbers::new(receivers),
                 bytes: 1 + draws.rarely(),
+                both: false,
             })?;
         }
     }

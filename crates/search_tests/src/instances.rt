@@ -270,6 +270,7 @@ fn messages(alloc: Global, rows: &[(u32, u32, u32)]) -> Result<Vec<Message>, All
             sender: *sender,
             receivers: Numbers::new(vec![in alloc; *receiver]?),
             bytes: *bytes,
+            both: false,
         })?;
     }
     Ok(messages)

@@ -1,7 +1,7 @@
 -- Where no step sharpens any more what is known of a complete choice, the earliest starts are those of a valid plan below the goal.
-use Rattle.std.proofs.Common.{◌≡◌, ℕ, ◌+◌, ◌-◌, ◌*◌, ◌<◌, ◌≤◌, ◌⊎◌, ◌==◌, ◌&&◌, nat_le, if◌then◌else◌, List, [], ◌∷◌, length, slice_index, map, unwrap_or, Option, None, Some, IsSome, All, Contains, Bool, IsTrue, IsFalse, arith, inl, inr, refl, ap, sym, subst, ◌∙◌}
+use Rattle.std.proofs.Common.{◌≡◌, ℕ, ◌+◌, ◌-◌, ◌*◌, ◌<◌, ◌≤◌, ◌⊎◌, ◌==◌, ◌&&◌, nat_le, if◌then◌else◌, List, [], ◌∷◌, length, slice_index, map, replicate, unwrap_or, Option, None, Some, IsSome, All, Contains, Bool, IsTrue, IsFalse, arith, inl, inr, refl, ap, sym, subst, ◌∙◌}
 use Rattle.std.proofs.lemmas.Bool.{cases_lt, cases_order, cases_Bool, false≢true, le-leb, leb-true, eq-eqb, ne_eqb}
-use Rattle.std.proofs.lemmas.List.{get_or-map, length-map}
+use Rattle.std.proofs.lemmas.List.{get_or-map, length-map, length-replicate}
 use Rattle.std.proofs.lemmas.List.Elements.{All-contains, Contains-get_or}
 use Rattle.std.proofs.lemmas.Grind.{same_number_lists}
 use Rattle.ttp_model.specs.declared.error.Place.TheVariants.{AtProcess, AtMessage}
@@ -13,6 +13,7 @@ use Rattle.ttp_model.specs.Rules.{IsInstance}
 use Rattle.ttp_model.specs.Slots.{slot_start, slot_end}
 use Rattle.ttp_model.specs.Plans.{HasLengths, IsValid, IsNodeOrder, HasOwnCapacity, AreApart, end_of, bytes_in, load_of}
 use Rattle.ttp_model.specs.Lists.{EachBelow}
+use Rattle.ttp_model.proofs.OneChannel.{zeros_on_own}
 use Rattle.ttp_model.proofs.ValidPlans.{greatest_reached}
 use Rattle.ttp_model.specs.Totals.{total}
 use Rattle.tt_choice.specs.Choice.{Choice, IsChoice, IsComplete, IsIn, IsOption, IsFixedTo, ArePair, Agrees, fixed_cap, is_before, least_round, greatest_round}
@@ -38,9 +39,9 @@ use Rattle.step_logs.proofs.Idle.{same_after, ended, not_closed, window, own, fr
 abbrev fixed_caps : Choice → List ℕ
 fixed_caps c = map (λ (fixed : Option ℕ). unwrap_or fixed 0) c.fixed
 
--- the plan of the choice with these starts
+-- the plan of the choice with these starts; each message is on the only channel
 abbrev plan_of : Choice → List ℕ → Plan
-plan_of c starts = record { order = c.prefix; caps = fixed_caps c; starts = starts; rounds = c.lo }
+plan_of c starts = record { order = c.prefix; caps = fixed_caps c; starts = starts; rounds = c.lo; channels = replicate (length c.lo) 0 }
 
 fixed_at : (c : Choice) (n : ℕ) → n < length c.fixed → slice_index (fixed_caps c) n ≡ unwrap_or (fixed_cap c n) 0
 fixed_at c n h = get_or-map (λ (fixed : Option ℕ). unwrap_or fixed 0) c.fixed n None 0 h
@@ -195,7 +196,7 @@ module _ (s : Facts) (ok : AreFacts s) (left : IsFalse s.known.closed) (steps : 
   ]
 
   lengths : HasLengths s.instance (plan_of s.choice s.known.es)
-  lengths = record { order = done.placed; capacities = length-fixed_caps s.choice ∙ ok.choice.fixed_length; starts = ok.fits.es; rounds = ok.choice.lo_length }
+  lengths = record { order = done.placed; capacities = length-fixed_caps s.choice ∙ ok.choice.fixed_length; starts = ok.fits.es; rounds = ok.choice.lo_length; channels = length-replicate (length s.choice.lo) 0 ∙ ok.choice.lo_length }
 
   valid : IsValid s.instance (plan_of s.choice s.known.es)
   valid = record {
@@ -209,6 +210,7 @@ module _ (s : Facts) (ok : AreFacts s) (left : IsFalse s.known.closed) (steps : 
     ready = λ m h. ready m h;
     arrived = λ m h k inside. arrives m (slice_index (message_at s.instance m).receivers k) (h, Contains-get_or (message_at s.instance m).receivers k 0 inside);
     frames = λ m h. frame_fits m h;
+    on_own = zeros_on_own s.instance (plan_of s.choice s.known.es) (length s.choice.lo) ok.instance ok.choice.lo_length refl;
   }
 
   chosen : IsIn s.instance s.choice (plan_of s.choice s.known.es)

@@ -72,6 +72,7 @@ one_message_is_instance = record {
   links = none _;
   receivers_once = one _ (λ j k before inside. absurd (omega (arith, before, inside)));
   acyclic = acyclic;
+  channels = one _ (λ _. refl);
 }
   where
     new_names : (at : Place) → IsNewName one_message at
@@ -92,7 +93,7 @@ one_message_is_instance = record {
     process p h = two (λ p. IsProcessInRange (process_at one_message p)) (record { wcet_least = lit< tt; wcet = lit< tt; release = omega arith; deadline_least = lit< tt; deadline = lit< tt }) (record { wcet_least = lit< tt; wcet = lit< tt; release = omega arith; deadline_least = lit< tt; deadline = lit< tt }) p h
 
     ranges : (at : Place) → IsInRange one_message at
-    ranges AtCluster = record { precision = omega arith; lead = omega arith; trail = omega arith; head_least = lit< tt; head = lit< tt; per_byte_least = lit< tt; per_byte = lit< tt; copy_out = omega arith; copy_in = omega arith; horizon_least = lit< tt; horizon = lit< tt }
+    ranges AtCluster = record { precision = omega arith; lead = omega arith; trail = omega arith; head_least = lit< tt; head = lit< tt; per_byte_least = lit< tt; per_byte = lit< tt; copy_out = omega arith; copy_in = omega arith; horizon_least = lit< tt; horizon = lit< tt; channels_least = lit< tt; channels = lit< tt }
     ranges (AtNode n) = tt
     ranges (AtProcess p) = process p
     ranges (AtLink l) = tt

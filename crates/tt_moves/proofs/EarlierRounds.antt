@@ -86,6 +86,7 @@ module _ (i : Instance) (plan : Plan) (m r : ℕ) (v : IsValid i plan) (hm : m <
         capacities = v.lengths.capacities;
         starts = v.lengths.starts;
         rounds = length-set plan.rounds m r ∙ v.lengths.rounds;
+        channels = v.lengths.channels;
       };
       order = v.order;
       capacities = v.capacities;
@@ -96,4 +97,5 @@ module _ (i : Instance) (plan : Plan) (m r : ℕ) (v : IsValid i plan) (hm : m <
       ready = ready;
       arrived = arrived;
       frames = frames;
+      on_own = v.on_own;
     }

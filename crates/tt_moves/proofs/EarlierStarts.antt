@@ -60,6 +60,7 @@ module _ (i : Instance) (plan : Plan) (p time : ℕ) (w : IsInstance i) (v : IsV
       capacities = v.lengths.capacities;
       starts = length-set plan.starts p time ∙ v.lengths.starts;
       rounds = v.lengths.rounds;
+      channels = v.lengths.channels;
     };
     order = v.order;
     capacities = v.capacities;
@@ -70,4 +71,5 @@ module _ (i : Instance) (plan : Plan) (p time : ℕ) (w : IsInstance i) (v : IsV
     ready = λ m h. omega (arith, v.ready m h, starts_le (message_at i m).sender);
     arrived = arrived;
     frames = v.frames;
+    on_own = v.on_own;
   }

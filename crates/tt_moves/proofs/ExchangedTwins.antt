@@ -14,7 +14,7 @@ use Rattle.tt_moves.proofs.Swaps.{Gets, swap_rest, gets_from, swap_at, gets_alik
 
 pub swapped_valid : (i : Instance) (plan : Plan) (p q : ℕ) → IsInstance i → IsValid i plan → AreTwins i p q → IsValid i (swapped plan p q)
 swapped_valid i plan p q w v twins = record {
-  lengths = record { order = v.lengths.order; capacities = v.lengths.capacities; starts = length-swap plan.starts p q ∙ v.lengths.starts; rounds = v.lengths.rounds };
+  lengths = record { order = v.lengths.order; capacities = v.lengths.capacities; starts = length-swap plan.starts p q ∙ v.lengths.starts; rounds = v.lengths.rounds; channels = v.lengths.channels };
   order = v.order;
   capacities = v.capacities;
   released = λ k h. let j = gets_from p q k in omega (arith, starts k j.0 j.1, same_release k j.0 j.1, v.released j.0 (inside k j.0 h j.1));
@@ -24,6 +24,7 @@ swapped_valid i plan p q w v twins = record {
   ready = λ m h. let free = swap_rest plan.starts p q (message_at i m).sender (λ is. twins.p_sends m h is) (λ is. twins.q_sends m h is) in_p in_q in omega (arith, v.ready m h, free);
   arrived = λ m h k lt. let free = swap_rest plan.starts p q (slice_index (message_at i m).receivers k) (λ is. twins.p_receives (message_at i m).sender (received m k p h lt is)) (λ is. twins.q_receives (message_at i m).sender (received m k q h lt is)) in_p in_q in omega (arith, v.arrived m h k lt, free);
   frames = v.frames;
+  on_own = v.on_own;
 }
   where
     in_p : p < length plan.starts

@@ -1,6 +1,6 @@
 -- Facts that hold or don't: how such facts are put together from others.
-use Rattle.std.proofs.Common.{◌≡◌, ℕ, zero, suc, ◌<◌, ◌≤◌, ◌⊎◌, List, [], ◌∷◌, length, slice_index_or, get_or, Contains, arith, inl, inr, refl, ap, ap₂}
-use Rattle.std.proofs.lemmas.Bool.{cases_lt, cases_order}
+use Rattle.std.proofs.Common.{◌≡◌, ℕ, zero, suc, Bool, true, false, IsTrue, ◌<◌, ◌≤◌, ◌⊎◌, List, [], ◌∷◌, length, slice_index_or, get_or, Contains, arith, inl, inr, refl, ap, ap₂}
+use Rattle.std.proofs.lemmas.Bool.{cases_lt, cases_order, false≢true}
 
 -- a fact holds or it doesn't
 abbrev pub Decision : Type 0 → Type 0
@@ -41,6 +41,10 @@ below a b = elim (cases_lt a b) [ inl holds ↦ inl holds | inr fails ↦ inr (�
 
 pub at_most : (a b : ℕ) → Decision (a ≤ b)
 at_most a b = elim (cases_lt b a) [ inl fails ↦ inr (λ holds. omega (arith, holds, fails)) | inr holds ↦ inl holds ]
+
+pub is_true : (b : Bool) → Decision (IsTrue b)
+is_true true = inl refl
+is_true false = inr (λ holds. false≢true holds)
 
 -- at each index below n, or not
 pub each_below : (P : ℕ → Type 0) (n : ℕ) → ((k : ℕ) → Decision (P k)) → Decision ((k : ℕ) → k < n → P k)

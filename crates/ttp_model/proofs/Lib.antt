@@ -4,6 +4,7 @@ pub mod TurnSteps
 pub mod Paths
 pub mod ClosedWalks
 pub mod RuleOrder
+pub mod OneChannel
 pub mod Elements
 pub mod KeyedNumbers
 pub mod Indices

@@ -1,7 +1,8 @@
 -- The plan of the worked example with one message is valid.
 use Rattle.std.proofs.Common.{◌≢◌, ℕ, zero, suc, ◌<◌, [], ◌∷◌, slice_index, lit<, lit≤, refl, arith}
+use Rattle.std.proofs.lemmas.Bool.{false≢true}
 use Rattle.std.proofs.lemmas.List.Elements.{Contains-get_or}
-use Rattle.ttp_model.specs.Plans.{IsValid, IsNewNode, HasOwnCapacity, IsReleased, EndsInTime, IsApartFromLater, IsReady, HasArrivedAt, HasArrivedEverywhere, FitsFrame}
+use Rattle.ttp_model.specs.Plans.{IsValid, IsNewNode, HasOwnCapacity, IsReleased, EndsInTime, IsApartFromLater, IsReady, HasArrivedAt, HasArrivedEverywhere, FitsFrame, HasOwnChannel}
 use Rattle.ttp_model.specs.Worked.{one_message, one_message_plan}
 
 other_node : (j : ℕ) → j < 1 → slice_index (0 ∷ 1 ∷ []) j ≢ 1
@@ -50,9 +51,13 @@ fits : (m : ℕ) → m < 1 → FitsFrame one_message (one_message_plan 0) m
 fits zero lt = lit≤ tt
 fits (suc m) lt = absurd (omega arith)
 
+on_own : (m : ℕ) → m < 1 → HasOwnChannel one_message (one_message_plan 0) m
+on_own zero lt = record { known = lit≤ tt; alone = λ _. refl; both = λ is. absurd (false≢true is) }
+on_own (suc m) lt = absurd (omega arith)
+
 pub plan_is_valid : IsValid one_message (one_message_plan 0)
 plan_is_valid = record {
-  lengths = record { order = refl; capacities = refl; starts = refl; rounds = refl };
+  lengths = record { order = refl; capacities = refl; starts = refl; rounds = refl; channels = refl };
   order = record { all = refl; each = new_node };
   capacities = own;
   released = released;
@@ -62,4 +67,5 @@ plan_is_valid = record {
   ready = ready;
   arrived = arrived;
   frames = fits;
+  on_own = on_own;
 }

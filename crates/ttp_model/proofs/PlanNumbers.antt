@@ -1,7 +1,7 @@
 -- How large the numbers of a valid plan can be, and how early it can end.
 use Rattle.std.proofs.Common.{◌≡◌, ℕ, ◌+◌, ◌<◌, ◌≤◌, length, slice_index, All, arith}
 use Rattle.std.proofs.lemmas.Grind.{common_steps}
-use Rattle.ttp_model.specs.declared.limits.TheConstants.{MOST_BYTES}
+use Rattle.ttp_model.specs.declared.limits.TheConstants.{BOTH_CHANNELS, MOST_BYTES}
 use Rattle.ttp_model.specs.declared.plan.Plan.{Plan}
 use Rattle.ttp_model.specs.declared.error.Place.TheVariants.{AtCluster, AtProcess, AtLink, AtMessage}
 use Rattle.ttp_model.specs.Instance.{Instance, message_at, node_of, source_of}
@@ -81,6 +81,9 @@ starts_small i plan w v p d h = grind (arith, common_steps, start_below_horizon 
 
 pub rounds_small : (i : Instance) (plan : Plan) → IsInstance i → IsValid i plan → All (λ round. round < i.cluster.horizon) plan.rounds
 rounds_small i plan w v m d h = grind (arith, common_steps, round_below_horizon i plan w v m (omega (arith, h, v.lengths.rounds)))
+
+pub channels_small : (i : Instance) (plan : Plan) → IsValid i plan → All (λ channel. channel ≤ BOTH_CHANNELS) plan.channels
+channels_small i plan v m d h = grind (arith, common_steps, (v.on_own m (omega (arith, h, v.lengths.channels))).known)
 
 pub delay_small : (i : Instance) (plan : Plan) → IsInstance i → IsValid i plan → delay i plan ≤ i.cluster.horizon
 delay_small i plan w v =

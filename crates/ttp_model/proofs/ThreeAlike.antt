@@ -45,7 +45,7 @@ module _ (a b c : ℕ) (a_ends : a + 2 ≤ 100) (b_ends : b + 2 ≤ 100) (c_ends
 
   pub starts_valid : IsValid three_alike (three_alike_plan (a ∷ b ∷ c ∷ []))
   starts_valid = record {
-    lengths = record { order = refl; capacities = refl; starts = refl; rounds = refl };
+    lengths = record { order = refl; capacities = refl; starts = refl; rounds = refl; channels = refl };
     order = record { all = refl; each = new_node };
     capacities = own;
     released = released;
@@ -55,6 +55,7 @@ module _ (a b c : ℕ) (a_ends : a + 2 ≤ 100) (b_ends : b + 2 ≤ 100) (c_ends
     ready = λ m lt. absurd (omega arith);
     arrived = λ m lt. absurd (omega arith);
     frames = λ m lt. absurd (omega arith);
+    on_own = λ m lt. absurd (omega arith);
   }
 
 pub late_valid : IsValid three_alike (three_alike_plan (5 ∷ 2 ∷ 0 ∷ []))

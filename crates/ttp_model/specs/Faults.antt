@@ -4,10 +4,10 @@ use Rattle.ttp_model.specs.declared.plan.Plan.{Plan}
 use Rattle.ttp_model.specs.declared.fault.PlanPart.{PlanPart}
 use Rattle.ttp_model.specs.declared.fault.PlanPart.TheVariants as part
 use Rattle.ttp_model.specs.declared.fault.PlanFault.{PlanFault}
-use Rattle.ttp_model.specs.declared.fault.PlanFault.TheVariants.{WrongLength, WrongOrder, WrongCapacity, TooEarly, TooLate, Overlap, BrokenLink, NotReady, NotArrived, Overfull}
+use Rattle.ttp_model.specs.declared.fault.PlanFault.TheVariants.{WrongLength, WrongOrder, WrongCapacity, TooEarly, TooLate, Overlap, BrokenLink, NotReady, NotArrived, Overfull, WrongChannel}
 use Rattle.ttp_model.specs.Lists.{EachBelow, IsFirstFailure}
 use Rattle.ttp_model.specs.Instance.{Instance, message_at, source_of}
-use Rattle.ttp_model.specs.Plans.{Clause, Lengths, Order, Capacities, Releases, Ends, Overlaps, Links, Readiness, Arrivals, Frames, Keeps, HasOrderLength, HasCapacitiesLength, HasStartsLength, HasRoundsLength, IsNewNode, HasOwnCapacity, IsReleased, EndsInTime, AreApart, IsApartFromLater, KeepsLink, IsReady, HasArrivedAt, HasArrivedEverywhere, FitsFrame, round_of}
+use Rattle.ttp_model.specs.Plans.{Clause, Lengths, Order, Capacities, Releases, Ends, Overlaps, Links, Readiness, Arrivals, Frames, Channels, Keeps, HasOrderLength, HasCapacitiesLength, HasStartsLength, HasRoundsLength, HasChannelsLength, IsNewNode, HasOwnCapacity, IsReleased, EndsInTime, AreApart, IsApartFromLater, KeepsLink, IsReady, HasArrivedAt, HasArrivedEverywhere, FitsFrame, HasOwnChannel, round_of}
 
 -- the order of the rules, as they are printed
 abbrev pub clause_number : Clause → ℕ
@@ -21,6 +21,7 @@ clause_number Links = 7
 clause_number Readiness = 8
 clause_number Arrivals = 9
 clause_number Frames = 10
+clause_number Channels = 11
 
 -- the plan keeps every rule of a lesser number
 pub record KeepsBefore (i : Instance) (plan : Plan) (clause : Clause) : Type 0 where
@@ -32,6 +33,7 @@ IsFirstWrongList i plan part.Order = ¬ HasOrderLength i plan
 IsFirstWrongList i plan part.Capacities = HasOrderLength i plan × ¬ HasCapacitiesLength i plan
 IsFirstWrongList i plan part.Starts = HasOrderLength i plan × HasCapacitiesLength i plan × ¬ HasStartsLength i plan
 IsFirstWrongList i plan part.Rounds = HasOrderLength i plan × HasCapacitiesLength i plan × HasStartsLength i plan × ¬ HasRoundsLength i plan
+IsFirstWrongList i plan part.Channels = HasOrderLength i plan × HasCapacitiesLength i plan × HasStartsLength i plan × HasRoundsLength i plan × ¬ HasChannelsLength i plan
 
 -- p and q overlap, and no pair before them does: none with a lesser first, and none of p with a lesser second
 pub record IsFirstOverlap (i : Instance) (plan : Plan) (p q : ℕ) : Type 0 where
@@ -72,3 +74,4 @@ IsFirstFault i plan (BrokenLink l) = Breaks i plan Links (IsFirstFailure (length
 IsFirstFault i plan (NotReady m) = Breaks i plan Readiness (IsFirstFailure (length i.messages) (IsReady i plan) m)
 IsFirstFault i plan (NotArrived m q) = Breaks i plan Arrivals (IsFirstLate i plan m q)
 IsFirstFault i plan (Overfull n r) = Breaks i plan Frames (IsFirstOverfull i plan n r)
+IsFirstFault i plan (WrongChannel m) = Breaks i plan Channels (IsFirstFailure (length i.messages) (HasOwnChannel i plan) m)

@@ -1,6 +1,6 @@
 -- What is to be scheduled, as lists, and how its parts are read by their indices. The model is that of
 -- Pop, Eles and Peng (CODES 1999): nodes on one bus, processes mapped to them, links and messages.
-use Rattle.std.specs.Prelude.{ℕ, List, [], slice_index_or}
+use Rattle.std.specs.Prelude.{ℕ, List, [], false, slice_index_or}
 use Rattle.ttp_model.specs.declared.parts.Cluster.{Cluster}
 use Rattle.ttp_model.specs.declared.parts.Node.{Node}
 use Rattle.ttp_model.specs.declared.parts.Process.{Process}
@@ -39,7 +39,7 @@ no_link = record { before = 0; after = 0 }
 
 -- no message: from process 0 to nobody
 abbrev pub no_message : Message
-no_message = record { name = []; sender = 0; receivers = []; bytes = 0 }
+no_message = record { name = []; sender = 0; receivers = []; bytes = 0; both = false }
 
 -- the node of this index
 abbrev pub node_at : Instance → ℕ → Node

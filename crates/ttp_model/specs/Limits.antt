@@ -42,6 +42,14 @@ most_per_byte = 1000
 abbrev pub most_bytes : ℕ
 most_bytes = 1000
 
+-- the channels of a cluster
+abbrev pub most_channels : ℕ
+most_channels = 1
+
+-- what stands in a plan for both channels
+abbrev pub both_channels : ℕ
+both_channels = 2
+
 -- a slot: the frame between lead and trail
 abbrev pub most_duration : ℕ
 most_duration = 2 * most_bus_ticks + most_head + most_per_byte * most_bytes

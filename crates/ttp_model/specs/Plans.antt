@@ -1,7 +1,8 @@
--- What a plan says, and the ten rules that a valid plan keeps (model of Pop, Eles and Peng, CODES 1999,
+-- What a plan says, and the eleven rules that a valid plan keeps (model of Pop, Eles and Peng, CODES 1999,
 -- with releases, deadlines and copy times of our own profile). All times are ticks.
-use Rattle.std.specs.Prelude.{◌≡◌, ◌≢◌, ℕ, ◌+◌, ◌<◌, ◌≤◌, ◌⊎◌, ◌==◌, ◌&&◌, if◌then◌else◌, List, length, slice_index, Contains}
+use Rattle.std.specs.Prelude.{◌≡◌, ◌≢◌, ℕ, ◌+◌, ◌<◌, ◌≤◌, ◌⊎◌, ◌==◌, ◌&&◌, if◌then◌else◌, IsTrue, List, length, slice_index, Contains}
 use Rattle.ttp_model.specs.declared.plan.Plan.{Plan}
+use Rattle.ttp_model.specs.Limits.{both_channels}
 use Rattle.ttp_model.specs.Lists.{EachBelow}
 use Rattle.ttp_model.specs.Totals.{total}
 use Rattle.ttp_model.specs.Instance.{Instance, node_at, process_at, link_at, message_at, node_of, source_of}
@@ -18,6 +19,10 @@ end_of i plan p = start_of plan p + (process_at i p).wcet
 -- the round in which a message is sent
 abbrev pub round_of : Plan → ℕ → ℕ
 round_of plan m = slice_index plan.rounds m
+
+-- the channel on which it is sent
+abbrev pub channel_of : Plan → ℕ → ℕ
+channel_of plan m = slice_index plan.channels m
 
 -- when the slot that a message is sent in begins
 abbrev pub sent_from : Instance → Plan → ℕ → ℕ
@@ -43,12 +48,17 @@ HasStartsLength i plan = length plan.starts ≡ length i.processes
 abbrev pub HasRoundsLength : Instance → Plan → Type 0
 HasRoundsLength i plan = length plan.rounds ≡ length i.messages
 
--- all four lists are as long as the instance's
+-- the channels have an entry for each message
+abbrev pub HasChannelsLength : Instance → Plan → Type 0
+HasChannelsLength i plan = length plan.channels ≡ length i.messages
+
+-- all five lists are as long as the instance's
 pub record HasLengths (i : Instance) (plan : Plan) : Type 0 where
   pub order : HasOrderLength i plan
   pub capacities : HasCapacitiesLength i plan
   pub starts : HasStartsLength i plan
   pub rounds : HasRoundsLength i plan
+  pub channels : HasChannelsLength i plan
 
 -- at this position of the order stands one of count nodes that doesn't stand before it
 pub record IsNewNode (count : ℕ) (order : List ℕ) (k : ℕ) : Type 0 where
@@ -116,7 +126,17 @@ load_of i plan n r = total (bytes_in i plan n r) (length i.messages)
 abbrev pub FitsFrame : Instance → Plan → ℕ → Type 0
 FitsFrame i plan m = load_of i plan (source_of i m) (round_of plan m) ≤ slice_index plan.caps (source_of i m)
 
--- The ten rules, by what each is about.
+-- a message may be on this channel: one that is there, the only one where there is one, and both where it is to be on both
+pub record MayBeOn (i : Instance) (m k : ℕ) : Type 0 where
+  pub known : k ≤ both_channels
+  pub alone : i.cluster.channels ≡ 1 → k ≡ 0
+  pub both : IsTrue (message_at i m).both → k ≡ both_channels
+
+-- a message is on one that it may be on
+abbrev pub HasOwnChannel : Instance → Plan → ℕ → Type 0
+HasOwnChannel i plan m = MayBeOn i m (channel_of plan m)
+
+-- The eleven rules, by what each is about.
 pub data Clause : Type 0 where
   Lengths : Clause
   Order : Clause
@@ -128,6 +148,7 @@ pub data Clause : Type 0 where
   Readiness : Clause
   Arrivals : Clause
   Frames : Clause
+  Channels : Clause
 
 -- a plan keeps a rule
 abbrev pub Keeps : Instance → Plan → Clause → Type 0
@@ -141,8 +162,9 @@ Keeps i plan Links = EachBelow (length i.links) (KeepsLink i plan)
 Keeps i plan Readiness = EachBelow (length i.messages) (IsReady i plan)
 Keeps i plan Arrivals = EachBelow (length i.messages) (HasArrivedEverywhere i plan)
 Keeps i plan Frames = EachBelow (length i.messages) (FitsFrame i plan)
+Keeps i plan Channels = EachBelow (length i.messages) (HasOwnChannel i plan)
 
--- A plan is valid when it keeps all ten.
+-- A plan is valid when it keeps all eleven.
 pub record IsValid (i : Instance) (plan : Plan) : Type 0 where
   pub lengths : Keeps i plan Lengths
   pub order : Keeps i plan Order
@@ -154,3 +176,4 @@ pub record IsValid (i : Instance) (plan : Plan) : Type 0 where
   pub ready : Keeps i plan Readiness
   pub arrived : Keeps i plan Arrivals
   pub frames : Keeps i plan Frames
+  pub on_own : Keeps i plan Channels

@@ -6,11 +6,11 @@ use Rattle.ttp_model.specs.declared.error.Part.TheVariants as part
 use Rattle.ttp_model.specs.declared.error.Place.{Place}
 use Rattle.ttp_model.specs.declared.error.Place.TheVariants.{AtCluster, AtNode, AtProcess, AtLink, AtMessage}
 use Rattle.ttp_model.specs.declared.error.ModelError.{ModelError}
-use Rattle.ttp_model.specs.declared.error.ModelError.TheVariants.{Length, NoReceiver, NameForm, NameRepeated, NoSuchIndex, OutOfRange, Capacities, ReceiverOnSender, ShortLead, ShortTrail, Deadline, LinkAcross, ReceiverTwice, Cycle, OutOfMemory}
+use Rattle.ttp_model.specs.declared.error.ModelError.TheVariants.{Length, NoReceiver, NameForm, NameRepeated, NoSuchIndex, OutOfRange, Capacities, ReceiverOnSender, ShortLead, ShortTrail, Deadline, LinkAcross, ReceiverTwice, Cycle, BothOfOne, OutOfMemory}
 use Rattle.ttp_model.specs.Lists.{IsFirstFailure}
 use Rattle.ttp_model.specs.Instance.{Instance}
 use Rattle.ttp_model.specs.Graph.{IsCycle}
-use Rattle.ttp_model.specs.Rules.{Rule, Lengths, Receivers, Names, NewNames, Indices, Ranges, CapacityLists, ReceiversAway, Lead, Trail, Deadlines, LinkEnds, ReceiversOnce, Cycles, KeepsRule, HasReceiver, IsNamed, IsNewName, NamesWhatIsThere, IsInRange, HasCapacityList, SendsAway, HasLead, HasTrail, CanEndInTime, StaysOnNode, ReceivesOnce}
+use Rattle.ttp_model.specs.Rules.{Rule, Lengths, Receivers, Names, NewNames, Indices, Ranges, CapacityLists, ReceiversAway, Lead, Trail, Deadlines, LinkEnds, ReceiversOnce, Cycles, Channels, KeepsRule, HasReceiver, IsNamed, IsNewName, NamesWhatIsThere, IsInRange, HasCapacityList, SendsAway, HasLead, HasTrail, CanEndInTime, StaysOnNode, ReceivesOnce, HasChannels}
 
 -- the order in which the rules are judged
 abbrev pub rule_number : Rule → ℕ
@@ -28,6 +28,7 @@ rule_number Deadlines = 11
 rule_number LinkEnds = 12
 rule_number ReceiversOnce = 13
 rule_number Cycles = 14
+rule_number Channels = 15
 
 -- every rule of a lesser number is kept
 pub record KeepsRulesBefore (i : Instance) (rule : Rule) : Type 0 where
@@ -74,7 +75,8 @@ abbrev pub BreaksRule : Instance → Rule → Type 0 → Type 0
 BreaksRule i rule Failure = KeepsRulesBefore i rule × Failure
 
 -- The refusal that an instance earns, rule by rule. Which cycle is told, of several, is free. The search for one, and the
--- lists of what hangs on what behind it, alone take memory, so want of it comes only where every rule before that one is kept.
+-- lists of what hangs on what behind it, alone take memory, so want of it comes only where every rule before that one is kept;
+-- a message on both channels of one is looked for behind that search.
 abbrev pub IsRefusal : Instance → ModelError → Type 0
 IsRefusal i (Length list) = BreaksRule i Lengths (IsFirstWrongLength i list)
 IsRefusal i (NoReceiver m) = BreaksRule i Receivers (IsFirstFailure (length i.messages) (HasReceiver i) m)
@@ -90,4 +92,5 @@ IsRefusal i (Deadline p) = BreaksRule i Deadlines (IsFirstFailure (length i.proc
 IsRefusal i (LinkAcross l) = BreaksRule i LinkEnds (IsFirstFailure (length i.links) (StaysOnNode i) l)
 IsRefusal i (ReceiverTwice m) = BreaksRule i ReceiversOnce (IsFirstFailure (length i.messages) (ReceivesOnce i) m)
 IsRefusal i (Cycle ps) = BreaksRule i Cycles (IsCycle i ps)
+IsRefusal i (BothOfOne m) = BreaksRule i Channels (IsFirstFailure (length i.messages) (HasChannels i) m)
 IsRefusal i OutOfMemory = KeepsRulesBefore i Cycles

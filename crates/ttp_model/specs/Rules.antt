@@ -1,8 +1,8 @@
 -- What each part of an instance has to keep: the limits and conditions of our own profile.
-use Rattle.std.specs.Prelude.{◌≡◌, ◌≢◌, ℕ, ◌+◌, ◌*◌, ◌<◌, ◌≤◌, List, length, slice_index, Bool, ◌||◌, ◌==◌, IsTrue, All, EachIndex}
+use Rattle.std.specs.Prelude.{◌≡◌, ◌≢◌, ℕ, ◌+◌, ◌*◌, ◌<◌, ◌≤◌, List, length, slice_index, Bool, ◌||◌, ◌==◌, IsTrue, IsFalse, All, EachIndex}
 use Rattle.std.specs.Char.{is_ascii_alphabetic, is_ascii_alphanumeric}
 use Rattle.std.specs.List.Sorted.{IsStrictlyIncreasing}
-use Rattle.ttp_model.specs.Limits.{most_nodes, most_processes, most_links, most_messages, most_capacities, most_name_bytes, most_ticks, most_bus_ticks, most_head, most_per_byte, most_bytes}
+use Rattle.ttp_model.specs.Limits.{most_nodes, most_processes, most_links, most_messages, most_capacities, most_name_bytes, most_ticks, most_bus_ticks, most_head, most_per_byte, most_bytes, most_channels}
 use Rattle.ttp_model.specs.declared.parts.Cluster.{Cluster}
 use Rattle.ttp_model.specs.declared.parts.Process.{Process}
 use Rattle.ttp_model.specs.declared.error.Place.{Place}
@@ -67,7 +67,7 @@ NamesWhatIsThere i (AtProcess p) = p < length i.processes → node_of i p < leng
 NamesWhatIsThere i (AtLink l) = l < length i.links → IsProcess i (link_at i l).before × IsProcess i (link_at i l).after
 NamesWhatIsThere i (AtMessage m) = m < length i.messages → IsProcess i (message_at i m).sender × All (IsProcess i) (message_at i m).receivers
 
--- the numbers of a cluster, in ticks
+-- the numbers of a cluster, in ticks but for the channels
 pub record IsClusterInRange (c : Cluster) : Type 0 where
   pub precision : c.precision ≤ most_bus_ticks
   pub lead : c.lead ≤ most_bus_ticks
@@ -80,6 +80,8 @@ pub record IsClusterInRange (c : Cluster) : Type 0 where
   pub copy_in : c.copy_in ≤ most_bus_ticks
   pub horizon_least : 1 ≤ c.horizon
   pub horizon : c.horizon ≤ most_ticks
+  pub channels_least : 1 ≤ c.channels
+  pub channels : c.channels ≤ most_channels
 
 -- the numbers of a process, in ticks
 pub record IsProcessInRange (p : Process) : Type 0 where
@@ -133,6 +135,10 @@ pub record StaysOnNode (i : Instance) (l : ℕ) : Type 0 where
 abbrev pub ReceivesOnce : Instance → ℕ → Type 0
 ReceivesOnce i m = HasNoRepeats (message_at i m).receivers
 
+-- no message is to be on both channels of one
+abbrev pub HasChannels : Instance → ℕ → Type 0
+HasChannels i m = i.cluster.channels ≡ 1 → IsFalse (message_at i m).both
+
 -- The rules, by what each is about.
 pub data Rule : Type 0 where
   Lengths : Rule
@@ -149,6 +155,7 @@ pub data Rule : Type 0 where
   LinkEnds : Rule
   ReceiversOnce : Rule
   Cycles : Rule
+  Channels : Rule
 
 -- an instance keeps a rule
 abbrev pub KeepsRule : Instance → Rule → Type 0
@@ -166,6 +173,7 @@ KeepsRule i Deadlines = EachBelow (length i.processes) (CanEndInTime i)
 KeepsRule i LinkEnds = EachBelow (length i.links) (StaysOnNode i)
 KeepsRule i ReceiversOnce = EachBelow (length i.messages) (ReceivesOnce i)
 KeepsRule i Cycles = IsAcyclic i
+KeepsRule i Channels = EachBelow (length i.messages) (HasChannels i)
 
 -- A well-formed instance keeps them all.
 pub record IsInstance (i : Instance) : Type 0 where
@@ -183,3 +191,4 @@ pub record IsInstance (i : Instance) : Type 0 where
   pub links : KeepsRule i LinkEnds
   pub receivers_once : KeepsRule i ReceiversOnce
   pub acyclic : KeepsRule i Cycles
+  pub channels : KeepsRule i Channels

@@ -1,12 +1,12 @@
 -- Small worked examples, on which the definitions are tried: their figures were computed by hand.
-use Rattle.std.specs.Prelude.{ℕ, List, [], ◌∷◌, codes}
+use Rattle.std.specs.Prelude.{ℕ, List, [], ◌∷◌, false, codes}
 use Rattle.ttp_model.specs.declared.parts.Cluster.{Cluster}
 use Rattle.ttp_model.specs.declared.parts.Node.{Node}
 use Rattle.ttp_model.specs.declared.parts.Process.{Process}
 use Rattle.ttp_model.specs.declared.plan.Plan.{Plan}
 use Rattle.ttp_model.specs.Instance.{Instance, instance_with}
 
--- a bus on which a frame takes a tick and a tick for each byte, and nothing else takes any time
+-- a bus of one channel on which a frame takes a tick and a tick for each byte, and nothing else takes any time
 abbrev pub plain_cluster : Cluster
 plain_cluster = record {
   precision = 0;
@@ -17,6 +17,7 @@ plain_cluster = record {
   copy_out = 0;
   copy_in = 0;
   horizon = 100;
+  channels = 1;
 }
 
 -- a node of this name with this capacity alone
@@ -33,11 +34,11 @@ one_message = instance_with plain_cluster
     (node_with (codes "A") 2 ∷ node_with (codes "B") 0 ∷ [])
     (process_on (codes "p") 0 3 ∷ process_on (codes "q") 1 2 ∷ [])
     []
-    (record { name = codes "m"; sender = 0; receivers = 1 ∷ []; bytes = 2 } ∷ [])
+    (record { name = codes "m"; sender = 0; receivers = 1 ∷ []; bytes = 2; both = false } ∷ [])
 
 -- A before B, p at this time, q at 7, and m in round 1
 abbrev pub one_message_plan : ℕ → Plan
-one_message_plan start = record { order = 0 ∷ 1 ∷ []; caps = 2 ∷ 0 ∷ []; starts = start ∷ 7 ∷ []; rounds = 1 ∷ [] }
+one_message_plan start = record { order = 0 ∷ 1 ∷ []; caps = 2 ∷ 0 ∷ []; starts = start ∷ 7 ∷ []; rounds = 1 ∷ []; channels = 0 ∷ [] }
 
 -- one node with three processes of two ticks each
 abbrev pub three_alike : Instance
@@ -49,4 +50,4 @@ three_alike = instance_with plain_cluster
 
 -- their starts
 abbrev pub three_alike_plan : List ℕ → Plan
-three_alike_plan starts = record { order = 0 ∷ []; caps = 0 ∷ []; starts = starts; rounds = [] }
+three_alike_plan starts = record { order = 0 ∷ []; caps = 0 ∷ []; starts = starts; rounds = []; channels = [] }

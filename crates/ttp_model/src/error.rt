@@ -87,6 +87,9 @@ pub enum ModelError {
     /// message. The least index stands first; which cycle is told, of several, is free.
     #[error("processes wait for each other: {0:?}")]
     Cycle(Numbers),
+    /// When a message is to be on both channels of a cluster that has one.
+    #[error("message {0} is to be on both channels of one")]
+    BothOfOne(u32),
     /// When memory was wanted and refused.
     #[error("out of memory")]
     OutOfMemory,

@@ -2,13 +2,14 @@
 
 use thiserror::Error;
 
-/// One of the four lists of a plan.
+/// One of the five lists of a plan.
 #[derive(Clone, Copy, Debug, PartialEq, Eq)]
 pub enum PlanPart {
     Order,
     Capacities,
     Starts,
     Rounds,
+    Channels,
 }
 
 /// The first rule that a plan breaks, in the order of these variants, at the first place by the indices, which
@@ -45,4 +46,7 @@ pub enum PlanFault {
     /// When the messages of a frame, by node and round, exceed its capacity.
     #[error("the frame of node {0} in round {1} is overfull")]
     Overfull(u32, u32),
+    /// When a message is on no channel of the cluster, or is to be on both and isn't.
+    #[error("message {0} is on a channel that it may not be on")]
+    WrongChannel(u32),
 }

@@ -37,8 +37,9 @@ impl Model for Instance {
 
 impl Instance {
     /// The instance that the tables are, or the first rule that they break, at its first place: lengths, then
-    /// receivers, names, indices, ranges, capacities, the bus, deadlines, links, and cycles last. Memory is taken
-    /// for the search for cycles and for the lists of what hangs on what alone, behind all other rules.
+    /// receivers, names, indices, ranges, capacities, the bus, deadlines, links, cycles, and channels last. Memory is
+    /// taken for the search for cycles and for the lists of what hangs on what alone, behind all rules but that on
+    /// channels.
     pub fn build(
         alloc: Global,
         cluster: Cluster,

@@ -1,7 +1,7 @@
 //! What follows from the definitions alone. These functions do nothing: their contracts are the laws.
 
 ghost use Rattle.std.specs.Prelude.{◌≡◌, ◌+◌, ◌<◌, ◌≤◌, ◌↔◌, ℕ, All, Contains, List, length, slice_index};
-ghost use Rattle.ttp_model.specs.declared.limits.TheConstants.{MOST_BYTES};
+ghost use Rattle.ttp_model.specs.declared.limits.TheConstants.{BOTH_CHANNELS, MOST_BYTES};
 ghost use Rattle.ttp_model.specs.declared.fault.PlanFault.{PlanFault};
 ghost use Rattle.ttp_model.specs.Lists.{EachBelow};
 ghost use Rattle.ttp_model.specs.Instance.{Instance};
@@ -38,7 +38,7 @@ pub fn every_node_has_a_slot()
 {}
 
 /// The numbers of a valid plan are small: nodes in the order, options as capacities, starts and rounds below the
-/// horizon. So each fits 32 bits.
+/// horizon, channels up to the number that stands for both. So each fits 32 bits.
 pub fn valid_numbers_are_small()
     ensures order { (i : Instance) (plan : Plan) → IsValid i plan → All (λ n. n < length i.nodes) plan.order }
     ensures capacities { (i : Instance) (plan : Plan) → IsInstance i → IsValid i plan
@@ -47,6 +47,8 @@ pub fn valid_numbers_are_small()
         → All (λ start. start < i.cluster.horizon) plan.starts }
     ensures rounds { (i : Instance) (plan : Plan) → IsInstance i → IsValid i plan
         → All (λ round. round < i.cluster.horizon) plan.rounds }
+    ensures channels { (i : Instance) (plan : Plan) → IsValid i plan
+        → All (λ channel. channel ≤ BOTH_CHANNELS) plan.channels }
     ensures delay { (i : Instance) (plan : Plan) → IsInstance i → IsValid i plan
         → delay i plan ≤ i.cluster.horizon }
 {}

@@ -33,6 +33,12 @@ pub const MOST_PER_BYTE: u32 = 1_000;
 /// The bytes of a capacity or of a message.
 pub const MOST_BYTES: u32 = 1_000;
 
+/// The channels of a cluster.
+pub const MOST_CHANNELS: u32 = 1;
+
+/// The number that stands in a plan for both channels.
+pub const BOTH_CHANNELS: u32 = 2;
+
 /// The ticks of a slot: the frame between lead and trail.
 pub const MOST_DURATION: u64 = 2 * MOST_BUS_TICKS as u64
     + MOST_HEAD as u64

@@ -4,7 +4,7 @@
 use crate::name::Name;
 use crate::numbers::Numbers;
 
-/// The numbers of a cluster, in ticks.
+/// The numbers of a cluster, in ticks but for the channels.
 #[derive(Clone, Copy, Debug, PartialEq, Eq)]
 pub struct Cluster {
     /// The greatest difference between any two clocks, 0 to 10,000.
@@ -23,6 +23,8 @@ pub struct Cluster {
     pub copy_in: u32,
     /// The latest end of any process, 1 to 1,000,000.
     pub horizon: u32,
+    /// How many channels the bus has: 1.
+    pub channels: u32,
 }
 
 /// A node of the cluster.
@@ -64,6 +66,8 @@ pub struct Message {
     pub receivers: Numbers,
     /// How much of its frame it takes, 1 to 1,000 bytes.
     pub bytes: u32,
+    /// Whether it is to be on both channels; a cluster of one channel has no such message.
+    pub both: bool,
 }
 
 /// The tables that an instance is made of, before they are judged.

@@ -13,4 +13,6 @@ pub struct Plan {
     pub starts: Numbers,
     /// In which round each message is sent, from 0.
     pub rounds: Numbers,
+    /// On which channel each message is sent: 0, 1, or 2 for both.
+    pub channels: Numbers,
 }

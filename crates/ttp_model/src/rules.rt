@@ -2,9 +2,10 @@
 
 ghost use Rattle.std.specs.Prelude.{MatchResult};
 ghost use Rattle.ttp_model.specs.Parts.{instance_of};
-ghost use Rattle.ttp_model.specs.Rules.{Lengths, Indices, ReceiversAway, Deadlines, Cycles, IsInstance};
+ghost use Rattle.ttp_model.specs.Rules.{Lengths, Indices, ReceiversAway, Deadlines, Cycles, Channels, IsInstance};
 ghost use Rattle.ttp_model.specs.Refusals.{KeepsRulesBefore, IsRefusal};
 
+mod channels;
 mod conditions;
 mod indices;
 mod lengths;
@@ -26,8 +27,9 @@ pub fn judge(alloc: Global, parts: &Parts) -> Result<(), ModelError>
     judge_numbers(parts)?;
     judge_cluster(parts)?;
     judge_relations(parts)?;
-    if let Some(cycle) = graph::cycle(alloc, parts)? {
-        return Err(ModelError::Cycle(cycle));
+    judge_order(alloc, parts)?;
+    if let Some(m) = channels::both_of_one(parts) {
+        return Err(ModelError::BothOfOne(m));
     }
     Ok(())
 }
@@ -106,6 +108,19 @@ fn judge_relations(parts: &Parts) -> Result<(), ModelError>
     }
     if let Some(m) = conditions::receiver_twice(parts) {
         return Err(ModelError::ReceiverTwice(m));
+    }
+    Ok(())
+}
+
+/// The rule on cycles, whose search takes memory.
+fn judge_order(alloc: Global, parts: &Parts) -> Result<(), ModelError>
+    requires { KeepsRulesBefore (instance_of parts.now) Cycles }
+    ensures { MatchResult result
+        (λ _. KeepsRulesBefore (instance_of parts.now) Channels)
+        (λ e. IsRefusal (instance_of parts.now) e) }
+{
+    if let Some(cycle) = graph::cycle(alloc, parts)? {
+        return Err(ModelError::Cycle(cycle));
     }
     Ok(())
 }

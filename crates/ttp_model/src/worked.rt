@@ -19,7 +19,7 @@ pub fn slots_of_one_message()
     ensures until { sent_until one_message (one_message_plan 0) 0 ≡ 7 }
 {}
 
-/// Its plan keeps all ten rules.
+/// Its plan keeps all eleven rules.
 pub fn plan_of_one_message_is_valid()
     ensures { IsValid one_message (one_message_plan 0) }
 {}

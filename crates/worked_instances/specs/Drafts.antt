@@ -1,5 +1,5 @@
 -- An instance with one more part, which stands last in its list.
-use Rattle.std.specs.Prelude.{ℕ, List, [], ◌∷◌, ◌++◌}
+use Rattle.std.specs.Prelude.{ℕ, List, [], ◌∷◌, ◌++◌, false}
 use Rattle.ttp_model.specs.Instance.{Instance}
 
 -- with a node of these capacities
@@ -27,5 +27,5 @@ with_link i before after = record i { links = i.links ++ (record { before = befo
 abbrev pub with_message : Instance → List ℕ → ℕ → ℕ → ℕ → Instance
 with_message i name sender receiver bytes = record i {
   messages = i.messages
-      ++ (record { name = name; sender = sender; receivers = receiver ∷ []; bytes = bytes } ∷ []);
+      ++ (record { name = name; sender = sender; receivers = receiver ∷ []; bytes = bytes; both = false } ∷ []);
 }

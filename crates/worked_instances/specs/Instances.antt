@@ -1,5 +1,5 @@
 -- The worked instances. `ttp_model` has two more of them.
-use Rattle.std.specs.Prelude.{ℕ, List, [], ◌∷◌, codes}
+use Rattle.std.specs.Prelude.{ℕ, List, [], ◌∷◌, false, codes}
 use Rattle.ttp_model.specs.declared.parts.Cluster.{Cluster}
 use Rattle.ttp_model.specs.declared.parts.Process.{Process}
 use Rattle.ttp_model.specs.declared.parts.Message.{Message}
@@ -12,7 +12,7 @@ one_message_on cluster = record one_message { cluster = cluster }
 
 -- a message of this name from process 0 to another one, of so many bytes
 abbrev pub message_to : List ℕ → ℕ → ℕ → Message
-message_to name receiver bytes = record { name = name; sender = 0; receivers = receiver ∷ []; bytes = bytes }
+message_to name receiver bytes = record { name = name; sender = 0; receivers = receiver ∷ []; bytes = bytes; both = false }
 
 -- p on A and q on B, of a tick each
 abbrev pub one_tick_each : List Process

@@ -22,6 +22,7 @@ pub const PLAIN: Cluster = Cluster {
     copy_out: 0,
     copy_in: 0,
     horizon: 100,
+    channels: 1,
 };
 
 /// What an instance is to be made of. Parts come one after another, and have indices from 0 in
@@ -123,6 +124,7 @@ impl Draft {
             sender,
             receivers,
             bytes,
+            both: false,
         })?;
         Ok(self)
     }

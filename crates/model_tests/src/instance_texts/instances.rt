@@ -38,6 +38,7 @@ fn in_turn(alloc: Global) -> Result<Instance, ModelError> {
         copy_out: 2,
         copy_in: 3,
         horizon: 100,
+        channels: 1,
     };
     Draft::of(alloc, cluster)
         .node("A", &[0, 8, 1000])?
@@ -56,7 +57,7 @@ fn links_and_stated_times_are_read_in_any_spelling(rt: HostRuntime) -> Result<()
         "link = [{from = \"r\", to = \"p\"}, {to = \"q\", from = \"p\"}, {from = \"p\", to = \"q\"}]
 message = []
 cluster = {horizon = 0x64, precision = 1, lead = 0b10, trail = +1,
-    head = 1_0, per_byte = 1, copy_out = 2, copy_in = 3}
+    head = 1_0, per_byte = 1, copy_out = 2, copy_in = 3, channels = 0x1}
 node = [{capacities = [0, 8, 1_000], name = 'A'}]
 [[process]]
 wcet = 1

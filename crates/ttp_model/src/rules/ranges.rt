@@ -9,7 +9,8 @@ ghost use Rattle.ttp_model.specs.Searches.{FindsPlace};
 
 use crate::error::Place;
 use crate::limits::{
-    MOST_BUS_TICKS, MOST_BYTES, MOST_CAPACITIES, MOST_HEAD, MOST_PER_BYTE, MOST_TICKS,
+    MOST_BUS_TICKS, MOST_BYTES, MOST_CAPACITIES, MOST_CHANNELS, MOST_HEAD, MOST_PER_BYTE,
+    MOST_TICKS,
 };
 use crate::parts::{Cluster, Parts, Process};
 
@@ -27,6 +28,8 @@ fn is_cluster_in_range(c: &Cluster) -> bool
         && c.copy_in <= MOST_BUS_TICKS
         && c.horizon >= 1
         && c.horizon <= MOST_TICKS
+        && c.channels >= 1
+        && c.channels <= MOST_CHANNELS
 }
 
 fn is_process_in_range(p: &Process) -> bool

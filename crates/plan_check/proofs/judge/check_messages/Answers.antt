@@ -11,4 +11,4 @@ of-layout-requires-clause-capacities c = rw c.as_slice-2.ensures (c.requires.eac
 
 pub returns : goal.returns
 returns c =
-    IsValid_from _ _ c.requires c.in_default.ensures c.in_default-first_not_arrived.ensures c.in_default-first_overfull.ensures
+    IsValid_from _ _ c.requires c.in_default.ensures c.in_default-first_not_arrived.ensures c.in_default-first_overfull.ensures c.in_default-first_wrong_channel.ensures
