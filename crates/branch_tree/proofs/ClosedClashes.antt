@@ -1,5 +1,5 @@
 -- Each clash of a complete choice is closed by its own step, and a plan by a window at each goal up to its delay.
-use Rattle.std.proofs.Common.{◌≡◌, ℕ, ◌+◌, ◌-◌, ◌*◌, ◌<◌, ◌≤◌, ◌==◌, ◌&&◌, if◌then◌else◌, min, max, List, length, slice_index, Bool, arith, inl, inr, refl, ap, ◌∙◌, get_or-set_same, mul-le-mul_right}
+use Rattle.std.proofs.Common.{◌≡◌, ℕ, ◌+◌, ◌-◌, ◌*◌, ◌<◌, ◌≤◌, ◌==◌, ◌&&◌, if◌then◌else◌, min, max, List, [], length, slice_index, Bool, arith, inl, inr, refl, ap, ◌∙◌, get_or-set_same, mul-le-mul_right}
 use Rattle.std.proofs.lemmas.Bool.{cases_lt}
 use Rattle.std.proofs.lemmas.List.{length-map, get_or-map, get_or-replicate}
 use Rattle.std.proofs.lemmas.List.Elements.{Contains-get_or}
@@ -8,10 +8,12 @@ use Rattle.ttp_model.specs.declared.error.Place.TheVariants.{AtProcess, AtLink, 
 use Rattle.ttp_model.specs.declared.step.Step.TheVariants.{LoSend, HiArrive, XRound, XCycle, XFrames, XWindow}
 use Rattle.ttp_model.specs.Instance.{Instance, message_at, source_of}
 use Rattle.ttp_model.specs.Rules.{IsInstance}
-use Rattle.ttp_model.specs.Plans.{start_of, end_of}
+use Rattle.ttp_model.specs.Plans.{start_of, end_of, bytes_in, load_of}
 use Rattle.ttp_model.specs.Delays.{delay}
 use Rattle.ttp_model.specs.Totals.{total}
 use Rattle.ttp_model.proofs.Totals.{total_same}
+use Rattle.ttp_model.proofs.OneChannel.{one_channel}
+use Rattle.ttp_model.proofs.Channels.{load_on_first}
 use Rattle.ttp_model.proofs.ValidPlans.{greatest_reached}
 use Rattle.tt_choice.specs.Choice.{Choice, IsChoice, IsComplete, least_round}
 use Rattle.tt_choice.specs.Extremes.{start_most, end_least, cap_most, dur_most}
@@ -22,9 +24,10 @@ use Rattle.tt_infer.proofs.Chances.{concludes_some}
 use Rattle.step_logs.proofs.Complete.{start_exact, end_exact, cap_exact, one_round}
 use Rattle.earliest_starts.specs.declared.clash.Clash.{Clash}
 use Rattle.earliest_starts.specs.declared.clash.Clash.TheVariants.{Cycle, Round, Window, Frame}
-use Rattle.earliest_starts.specs.Fixed.{GoesAhead, fixed_bytes}
+use Rattle.earliest_starts.specs.Fixed.{GoesAhead, plan_of, fixed_bytes}
 use Rattle.earliest_starts.specs.Clashes.{IsWaitingRing, MissesSlot, MissesWindow, IsOverfull, IsClash}
 use Rattle.earliest_starts.specs.Answers.{IsEarliest}
+use Rattle.earliest_starts.proofs.Sound.{channel_at}
 use Rattle.branch_tree.specs.Closers.{IsClosedBy, closer_of}
 use Rattle.branch_tree.proofs.CompleteSteps.{IsWay, starting, start, onward, closing, reach, no_window}
 
@@ -117,25 +120,29 @@ module _ (i : Instance) (c : Choice) (goal : ℕ) (w : IsInstance i) (ok : IsCho
         | inr early ↦ late_slot m to.es inside to.way (omega (arith, early, begins, ends, to.known, misses.late))
       ]
 
-  frame_closed : (n r : ℕ) → IsOverfull i c n r → IsClosedBy i c goal (XFrames n r (r + 1))
-  frame_closed n r over = closing i c goal (first_facts i c) (XFrames n r (r + 1)) (start i c goal) over.node (record { span = omega arith; bytes = more }) refl
+  frame_closed : (n r k : ℕ) → IsOverfull i c n r k → IsClosedBy i c goal (XFrames n r (r + 1))
+  frame_closed n r k over = closing i c goal (first_facts i c) (XFrames n r (r + 1)) (start i c goal) over.node (record { span = omega arith; bytes = more }) refl
     where
-      same : (m : ℕ) → m < length i.messages → bytes_within i (first_facts i c) n r (r + 1) m ≡ fixed_bytes i c n r m
+      same : (m : ℕ) → m < length i.messages → bytes_within i (first_facts i c) n r (r + 1) m ≡ bytes_in i (plan_of c []) n r m
       same m h = ap (λ (b : Bool). if (source_of i m == n) && b then (message_at i m).bytes else 0) (one_round (least_round c m) (top_of (first_facts i c) m) r (first_top m h))
+
+      -- all messages are on the one channel
+      on_it : total (fixed_bytes i c n r k) (length i.messages) ≡ load_of i (plan_of c []) n r
+      on_it = load_on_first i (plan_of c []) n r k (omega (arith, over.channel, one_channel i w)) (λ m h. channel_at c m (omega (arith, h, ok.lo_length)))
 
       more : ((r + 1) - r) * cap_most i c n < total (bytes_within i (first_facts i c) n r (r + 1)) (length i.messages)
       more =
           let one : (r + 1) - r ≡ 1 = omega arith in
           let whole : 1 * cap_most i c n ≡ cap_most i c n = omega arith in
           let times : ((r + 1) - r) * cap_most i c n ≡ cap_most i c n = ap (λ (k : ℕ). k * cap_most i c n) one ∙ whole in
-          let all = total_same (bytes_within i (first_facts i c) n r (r + 1)) (fixed_bytes i c n r) (length i.messages) same in
-          omega (arith, times, all, over.over, cap_exact i c w ok done n over.node)
+          let all = total_same (bytes_within i (first_facts i c) n r (r + 1)) (bytes_in i (plan_of c []) n r) (length i.messages) same in
+          omega (arith, times, all, on_it, over.over, cap_exact i c w ok done n over.node)
 
-  pub clash_closed : (clash : Clash) → IsClash i c clash → IsClosedBy i c goal (closer_of clash)
+  pub clash_closed : (clash : Clash) → IsClash i c clash → IsClosedBy i c goal (closer_of i clash)
   clash_closed (Cycle ps) ring = cycle_closed ps ring
   clash_closed (Round m) misses = round_closed m misses
   clash_closed (Window p) misses = window_closed p misses
-  clash_closed (Frame n r) over = frame_closed n r over
+  clash_closed (Frame n r k) over = frame_closed n r k over
 
   pub plan_closed : (plan : Plan) → IsEarliest i c plan → goal ≤ delay i plan → (p : ℕ) × (p < length i.processes) × IsClosedBy i c goal (XWindow p)
   plan_closed plan earliest within =

@@ -35,11 +35,11 @@ IsDominance (XLate m r) = Unit {0}
 IsDominance (XSilent u v) = Unit {0}
 
 -- the step that closes the choice for a clash
-abbrev pub closer_of : Clash → Step
-closer_of (Cycle ps) = XCycle ps
-closer_of (Round m) = XRound m
-closer_of (Window p) = XWindow p
-closer_of (Frame n r) = XFrames n r (r + 1)
+abbrev pub closer_of : Instance → Clash → Step
+closer_of i (Cycle ps) = XCycle ps
+closer_of i (Round m) = XRound m
+closer_of i (Window p) = XWindow p
+closer_of i (Frame n r k) = XFrames n r (r + 1)
 
 -- Steps that hold of all valid plans, settled or not, lead from the first facts to where this step closes the choice at
 -- the goal.

@@ -17,7 +17,7 @@ ghost use Rattle.branch_tree.specs.Closers.{IsClosedBy, closer_of};
 pub fn clashes_are_closed_by_their_closers()
     ensures { (i : Instance) (c : Choice) (goal : ℕ) (clash : Clash)
         → IsInstance i → IsChoice i c → IsComplete i c → IsClash i c clash
-        → IsClosedBy i c goal (closer_of clash) }
+        → IsClosedBy i c goal (closer_of i clash) }
 {}
 
 /// A complete choice with a plan is closed so by the window of a process, at each goal up to the

@@ -22,8 +22,8 @@ enum Answer {
     Round(u32),
     /// A clash at this process's window.
     Window(u32),
-    /// A clash at this node's frame in this round.
-    Frame(u32, u32),
+    /// A clash at this node's frame in this round on this channel.
+    Frame(u32, u32, u32),
     /// A cycle of these processes.
     Cycle(&'static [u32]),
     /// A cycle of so many processes.
@@ -40,7 +40,9 @@ impl Answer {
                 matches!(self, Answer::Round(m) if m == *message),
             Earliest::Clash(Clash::Window(process)) =>
                 matches!(self, Answer::Window(p) if p == *process),
-            Earliest::Clash(Clash::Frame(node, round)) => self.is_frame(*node, *round),
+            Earliest::Clash(Clash::Frame(node, round, channel)) => self.is_frame(
+                *node, *round, *channel,
+            ),
         }
     }
 
@@ -59,9 +61,9 @@ impl Answer {
         }
     }
 
-    fn is_frame(self, node: u32, round: u32) -> bool {
+    fn is_frame(self, node: u32, round: u32, channel: u32) -> bool {
         match self {
-            Answer::Frame(n, r) => n == node && r == round,
+            Answer::Frame(n, r, k) => n == node && r == round && k == channel,
             _ => false,
         }
     }
@@ -157,7 +159,7 @@ pub static ROWS: &[Row] = &[
             AtMost(0, 0),
             AtMost(1, 0),
         ],
-        answer: Answer::Frame(0, 0),
+        answer: Answer::Frame(0, 0, 0),
     },
     Row {
         label: "a process that goes first ends in time",

@@ -131,6 +131,7 @@ plan_line (broken.BrokenLink l) = codes "plan V7 " ++ decimal l
 plan_line (broken.NotReady m) = codes "plan V8 " ++ decimal m
 plan_line (broken.NotArrived m q) = (codes "plan V9 " ++ decimal m) ++ (codes " " ++ decimal q)
 plan_line (broken.Overfull n r) = (codes "plan V10 " ++ decimal n) ++ (codes " " ++ decimal r)
+plan_line (broken.OverfullOn n r c) = ((codes "plan V10 " ++ decimal n) ++ (codes " " ++ decimal r)) ++ (codes " " ++ decimal c)
 plan_line (broken.WrongChannel m) = codes "plan V11 " ++ decimal m
 
 -- the code of what is wrong with a line of a certificate's text

@@ -197,6 +197,7 @@ impl fmt::Display for PlanLine {
             PlanFault::NotReady(m) => write!(f, "plan V8 {m}"),
             PlanFault::NotArrived(m, q) => write!(f, "plan V9 {m} {q}"),
             PlanFault::Overfull(n, r) => write!(f, "plan V10 {n} {r}"),
+            PlanFault::OverfullOn(n, r, c) => write!(f, "plan V10 {n} {r} {c}"),
             PlanFault::WrongChannel(m) => write!(f, "plan V11 {m}"),
         }
     }

@@ -59,7 +59,9 @@ module _ (i : Instance) (c : Choice) (floors starts : List ℕ) (w : IsInstance 
   HasLengths-made : HasLengths i (plan_of c starts)
   HasLengths-made = record { order = done.placed; capacities = caps_fit i c w ok done; starts = all; rounds = ok.lo_length; channels = length-replicate (length c.lo) 0 ∙ ok.lo_length }
 
-  IsValid-made : ((m : ℕ) → m < length i.messages → copied_out i starts m ≤ sends_from i c m) → ((m : ℕ) → m < length i.messages → total (fixed_bytes i c (source_of i m) (least_round c m)) (length i.messages) ≤ slice_index (fixed_caps c) (source_of i m)) → IsValid i (plan_of c starts)
+  IsValid-made : ((m : ℕ) → m < length i.messages → copied_out i starts m ≤ sends_from i c m)
+      → ((m k : ℕ) → m < length i.messages → k < i.cluster.channels → total (fixed_bytes i c (source_of i m) (least_round c m) k) (length i.messages) ≤ slice_index (fixed_caps c) (source_of i m))
+      → IsValid i (plan_of c starts)
   IsValid-made ready frames = record {
     lengths = HasLengths-made;
     order = order_fits i c w ok done;
@@ -73,7 +75,7 @@ module _ (i : Instance) (c : Choice) (floors starts : List ℕ) (w : IsInstance 
         let q = slice_index (message_at i m).receivers k in
         let there : q < length i.processes = (w.indices (AtMessage m) h).1 k 0 inside in
         omega (arith, f.arrived m q h (Contains-get_or (message_at i m).receivers k 0 inside), (s q there).floor);
-    frames = frames;
+    frames = λ m h k within on. frames m k h within;
     on_own = zeros_on_own i (plan_of c starts) (length c.lo) w ok.lo_length refl;
   }
 
@@ -96,10 +98,11 @@ module _ (i : Instance) (c : Choice) (floors starts : List ℕ) (w : IsInstance 
   }
 
   -- where each message is ready and each frame fits
-  pub IsEarliest-found : ((m : ℕ) → m < length i.messages → copied_out i starts m ≤ sends_from i c m) → ((n r : ℕ) → n < length i.nodes → total (fixed_bytes i c n r) (length i.messages) ≤ slice_index (fixed_caps c) n) → IsEarliest i c (plan_of c starts)
+  pub IsEarliest-found : ((m : ℕ) → m < length i.messages → copied_out i starts m ≤ sends_from i c m)
+      → ((n r k : ℕ) → n < length i.nodes → k < i.cluster.channels → total (fixed_bytes i c n r k) (length i.messages) ≤ slice_index (fixed_caps c) n) → IsEarliest i c (plan_of c starts)
   IsEarliest-found ready frames =
       let source = λ (m : ℕ) (h : m < length i.messages). w.indices (AtProcess (message_at i m).sender) (w.indices (AtMessage m) h).0 in
-      IsEarliest-made (IsValid-made ready (λ m h. frames (source_of i m) (least_round c m) (source m h)))
+      IsEarliest-made (IsValid-made ready (λ m k h within. frames (source_of i m) (least_round c m) k (source m h) within))
 
   -- a message that misses its slot
   pub MissesSlot-late : (m : ℕ) → m < length i.messages → sends_from i c m < copied_out i starts m → MissesSlot i c m

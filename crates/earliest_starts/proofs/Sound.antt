@@ -1,20 +1,21 @@
 -- What holds of each valid plan of a complete choice, and why a clash leaves none.
-use Rattle.std.proofs.Common.{◌≡◌, ℕ, zero, suc, ◌+◌, ◌-◌, ◌<◌, ◌≤◌, ◌⊎◌, List, length, slice_index, unwrap_or, Option, None, Some, IsSome, arith, inl, inr, refl, sym, ap, ◌∙◌, add-one}
+use Rattle.std.proofs.Common.{◌≡◌, ℕ, zero, suc, ◌+◌, ◌-◌, ◌<◌, ◌≤◌, ◌⊎◌, List, [], length, slice_index, unwrap_or, Option, None, Some, IsSome, arith, inl, inr, refl, sym, ap, ◌∙◌, add-one}
 use Rattle.std.proofs.lemmas.Bool.{false≢true}
-use Rattle.std.proofs.lemmas.List.{get_or-map, length-map}
+use Rattle.std.proofs.lemmas.List.{get_or-map, get_or-replicate, length-map}
 use Rattle.std.proofs.lemmas.Grind.{same_number_lists, get_or_default_zero}
 use Rattle.ttp_model.specs.declared.plan.Plan.{Plan}
 use Rattle.ttp_model.specs.declared.error.Place.TheVariants.{AtProcess, AtLink}
 use Rattle.ttp_model.specs.Instance.{Instance, process_at, message_at}
 use Rattle.ttp_model.specs.Rules.{IsInstance}
-use Rattle.ttp_model.specs.Plans.{IsValid, start_of, end_of, round_of, sent_from, sent_until, bytes_in, load_of}
+use Rattle.ttp_model.specs.Plans.{IsValid, start_of, end_of, round_of, sent_from, sent_until, channel_of, bytes_on, load_on}
 use Rattle.ttp_model.specs.Totals.{total}
+use Rattle.ttp_model.proofs.OneChannel.{on_the_channel}
 use Rattle.ttp_model.proofs.ValidPlans.{frames_fit_lem}
 use Rattle.ttp_model.proofs.Totals.{total_same}
 use Rattle.tt_choice.specs.Choice.{Choice, fixed_cap, least_round, IsFixedTo, IsIn, IsChoice, IsComplete}
 use Rattle.earliest_starts.specs.declared.clash.Clash.{Clash}
 use Rattle.earliest_starts.specs.declared.clash.Clash.TheVariants.{Cycle, Round, Window, Frame}
-use Rattle.earliest_starts.specs.Fixed.{fixed_caps, sends_from, sends_until, GoesAhead, fixed_bytes}
+use Rattle.earliest_starts.specs.Fixed.{fixed_caps, plan_of, sends_from, sends_until, GoesAhead, fixed_bytes}
 use Rattle.earliest_starts.specs.Answers.{IsBarren}
 use Rattle.earliest_starts.specs.Clashes.{WaitsUntil, released, arrived, after, IsWaitingRing, IsClash}
 
@@ -24,6 +25,10 @@ fixed_at c n h = get_or-map (λ (fixed : Option ℕ). unwrap_or fixed 0) c.fixed
 
 pub length-fixed_caps : (c : Choice) → length (fixed_caps c) ≡ length c.fixed
 length-fixed_caps c = length-map c.fixed (λ (fixed : Option ℕ). unwrap_or fixed 0)
+
+-- where a message is sent
+pub channel_at : (c : Choice) (m : ℕ) → m < length c.lo → channel_of (plan_of c []) m ≡ 0
+channel_at c m h = get_or-replicate {A = ℕ} (length c.lo) m 0 0 h
 
 is_fixed : (o : Option ℕ) (capacity : ℕ) → IsSome o → IsFixedTo o capacity → capacity ≡ unwrap_or o 0
 is_fixed None capacity some is = absurd (false≢true some)
@@ -40,6 +45,9 @@ module _ (i : Instance) (c : Choice) (plan : Plan) (w : IsInstance i) (ok : IsCh
 
   pub round_is : (m : ℕ) → m < length i.messages → round_of plan m ≡ least_round c m
   round_is m h = omega (arith, (is.ranges m h).0, (is.ranges m h).1, done.rounds m h)
+
+  channel_is : (m : ℕ) → m < length i.messages → channel_of plan m ≡ channel_of (plan_of c []) m
+  channel_is m h = on_the_channel i plan w v m h ∙ sym (channel_at c m (omega (arith, h, ok.lo_length)))
 
   from_is : (m : ℕ) → m < length i.messages → sent_from i plan m ≡ sends_from i c m
   from_is m h = rw (order_is, caps_is, round_is m h) refl
@@ -75,8 +83,8 @@ module _ (i : Instance) (c : Choice) (plan : Plan) (w : IsInstance i) (ok : IsCh
       let step = rw add-one at (ring.each k (omega (arith, h))) in
       omega (arith, ring_rises ps ring k (omega arith), ahead_starts (slice_index ps k) (slice_index ps (suc k)) step)
 
-  bytes_are : (n r : ℕ) → load_of i plan n r ≡ total (fixed_bytes i c n r) (length i.messages)
-  bytes_are n r = total_same (bytes_in i plan n r) (fixed_bytes i c n r) (length i.messages) (λ m h. rw (round_is m h) refl)
+  bytes_are : (n r k : ℕ) → load_on i plan n r k ≡ total (fixed_bytes i c n r k) (length i.messages)
+  bytes_are n r k = total_same (bytes_on i plan n r k) (fixed_bytes i c n r k) (length i.messages) (λ m h. rw (round_is m h, channel_is m h) refl)
 
   pub no_clash : (clash : Clash) → IsClash i c clash → ⊥
   no_clash (Cycle ps) ring =
@@ -89,7 +97,7 @@ module _ (i : Instance) (c : Choice) (plan : Plan) (w : IsInstance i) (ok : IsCh
       late : ((process_at i p).deadline < misses.time + (process_at i p).wcet) ⊎ (i.cluster.horizon < misses.time + (process_at i p).wcet) → ⊥
       late (inl over) = absurd (omega (arith, over, waits_le p misses.time misses.waits, (v.in_time p misses.process).0))
       late (inr over) = absurd (omega (arith, over, waits_le p misses.time misses.waits, (v.in_time p misses.process).1))
-  no_clash (Frame n r) over = absurd (omega (arith, over.over, frames_fit_lem i plan n r v, bytes_are n r, ap (λ caps. slice_index caps n) caps_is))
+  no_clash (Frame n r k) over = absurd (omega (arith, over.over, frames_fit_lem i plan n r k v over.channel, bytes_are n r k, ap (λ caps. slice_index caps n) caps_is))
 
 -- a clash leaves no valid plan
 pub IsBarren-clash : (i : Instance) (c : Choice) (clash : Clash) → IsInstance i → IsChoice i c → IsComplete i c → IsClash i c clash → IsBarren i c

@@ -39,14 +39,15 @@ pub record MissesWindow (i : Instance) (c : Choice) (p : ℕ) : Type 0 where
       ((process_at i p).deadline < time + (process_at i p).wcet)
       ⊎ (i.cluster.horizon < time + (process_at i p).wcet)
 
--- the messages of node n's frame in round r don't fit into its capacity
-pub record IsOverfull (i : Instance) (c : Choice) (n r : ℕ) : Type 0 where
+-- the messages of node n's frame in round r don't fit into its capacity on channel k
+pub record IsOverfull (i : Instance) (c : Choice) (n r k : ℕ) : Type 0 where
   pub node : n < length i.nodes
-  pub over : slice_index (fixed_caps c) n < total (fixed_bytes i c n r) (length i.messages)
+  pub channel : k < i.cluster.channels
+  pub over : slice_index (fixed_caps c) n < total (fixed_bytes i c n r k) (length i.messages)
 
 -- what a clash says of the choice
 abbrev pub IsClash : Instance → Choice → Clash → Type 0
 IsClash i c (Cycle ps) = IsWaitingRing i c ps
 IsClash i c (Round m) = MissesSlot i c m
 IsClash i c (Window p) = MissesWindow i c p
-IsClash i c (Frame n r) = IsOverfull i c n r
+IsClash i c (Frame n r k) = IsOverfull i c n r k

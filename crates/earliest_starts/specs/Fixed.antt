@@ -1,9 +1,10 @@
 -- What a complete choice fixes of each of its plans: everything but the starts. Times are ticks.
-use Rattle.std.specs.Prelude.{ℕ, ◌+◌, ◌==◌, ◌&&◌, if◌then◌else◌, List, length, map, replicate, unwrap_or, Option, slice_index, IsTrue, ◌⊎◌}
+use Rattle.std.specs.Prelude.{ℕ, ◌+◌, List, [], length, map, replicate, unwrap_or, Option, slice_index, IsTrue, ◌⊎◌}
 use Rattle.ttp_model.specs.declared.plan.Plan.{Plan}
 use Rattle.ttp_model.specs.Instance.{Instance, process_at, message_at, source_of}
 use Rattle.ttp_model.specs.Slots.{slot_start, slot_end}
 use Rattle.ttp_model.specs.Graph.{HasLink}
+use Rattle.ttp_model.specs.Plans.{bytes_on}
 use Rattle.tt_choice.specs.Choice.{Choice, is_before, least_round}
 
 -- the capacity of each node in bytes
@@ -33,6 +34,6 @@ copied_out i starts m =
 abbrev pub GoesAhead : Instance → Choice → ℕ → ℕ → Type 0
 GoesAhead i c p q = IsTrue (is_before c p q) ⊎ HasLink i p q
 
--- the bytes that message m puts into the frame of node n in round r: none where it isn't sent there
-abbrev pub fixed_bytes : Instance → Choice → ℕ → ℕ → ℕ → ℕ
-fixed_bytes i c n r m = if source_of i m == n && least_round c m == r then (message_at i m).bytes else 0
+-- the bytes that message m puts into the frame of node n in round r on channel k, whatever the starts
+abbrev pub fixed_bytes : Instance → Choice → ℕ → ℕ → ℕ → ℕ → ℕ
+fixed_bytes i c n r k m = bytes_on i (plan_of c []) n r k m

@@ -12,6 +12,6 @@ pub enum Clash {
     Round(u32),
     /// When this process can't end by its deadline and within the horizon.
     Window(u32),
-    /// When the messages of this node's frame in this round don't fit into its capacity.
-    Frame(u32, u32),
+    /// When the messages of this node's frame in this round don't fit into its capacity on this channel.
+    Frame(u32, u32, u32),
 }

@@ -73,8 +73,8 @@ fn timed(
     if let Some(m) = late_message(instance, choice, &layout, starts.as_slice()) {
         return Ok(Earliest::Clash(Clash::Round(m)));
     }
-    if let Some((n, r)) = overfull(alloc, instance, choice, caps.as_slice())? {
-        return Ok(Earliest::Clash(Clash::Frame(n, r)));
+    if let Some((n, r, k)) = overfull(alloc, instance, choice, caps.as_slice())? {
+        return Ok(Earliest::Clash(Clash::Frame(n, r, k)));
     }
     let (plan, ticks) = made(alloc, instance, choice, caps, starts)?;
     Ok(Earliest::Plan(plan, ticks))

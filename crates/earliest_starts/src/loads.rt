@@ -14,33 +14,34 @@ use std::collections::HashMap;
 use tt_choice::Choice;
 use ttp_model::{Instance, MemoryFault};
 
-/// A node and a round whose messages don't fit into the frame. A pass over the messages for each
-/// node.
+/// A node, a round and a channel whose messages don't fit into the frame. A pass over the messages for
+/// each node: all are on one channel.
 pub fn overfull(
     alloc: Global,
     instance: &Instance,
     choice: &Choice,
     caps: &[u32],
-) -> Result<Option<(u32, u32)>, MemoryFault>
+) -> Result<Option<(u32, u32, u32)>, MemoryFault>
     requires of { IsChoice instance.now choice.now }
     requires caps { caps.now ≡ fixed_caps choice.now }
     ensures found { IfOk result (λ frame. IfSome frame
-        (λ at. IsOverfull instance.now choice.now at.0 at.1)) }
-    ensures none { IfOk result (λ frame. IfNone frame ((n r : ℕ) → n < length instance.now.nodes
-        → total (fixed_bytes instance.now choice.now n r) (length instance.now.messages)
+        (λ at. IsOverfull instance.now choice.now at.0 at.1 at.2)) }
+    ensures none { IfOk result (λ frame. IfNone frame
+        ((n r k : ℕ) → n < length instance.now.nodes → k < instance.now.cluster.channels
+        → total (fixed_bytes instance.now choice.now n r k) (length instance.now.messages)
         ≤ slice_index (fixed_caps choice.now) n)) }
 {
     let count = instance.nodes().len() as u32;
     for n in 0..count {
         if let Some(r) = overfull_round(alloc, instance, choice, n, caps[n as usize])? {
-            return Ok(Some((n, r)));
+            return Ok(Some((n, r, 0)));
         }
     }
     Ok(None)
 }
 
-/// A round in which the messages of node `n` have more bytes than its capacity. The bytes of each
-/// round are counted up as its messages come.
+/// A round in which the messages of node `n` have more bytes than its capacity on channel 0, which
+/// they are all on. The bytes of each round are counted up as its messages come.
 fn overfull_round(
     alloc: Global,
     instance: &Instance,
@@ -50,9 +51,9 @@ fn overfull_round(
 ) -> Result<Option<u32>, MemoryFault>
     requires { IsChoice instance.now choice.now }
     ensures found { IfOk result (λ round. IfSome round (λ r. capacity
-        < total (fixed_bytes instance.now choice.now n r) (length instance.now.messages))) }
+        < total (fixed_bytes instance.now choice.now n r 0) (length instance.now.messages))) }
     ensures none { IfOk result (λ round. IfNone round ((r : ℕ)
-        → total (fixed_bytes instance.now choice.now n r) (length instance.now.messages)
+        → total (fixed_bytes instance.now choice.now n r 0) (length instance.now.messages)
         ≤ capacity)) }
 {
     let count = instance.messages().len() as u32;

@@ -1,9 +1,11 @@
 -- Plans as tables of numbers, place by place, and the least delay among some of them.
-use Rattle.std.specs.Prelude.{◌≡◌, ℕ, ◌+◌, ◌≤◌, List, [], ◌∷◌, ◌++◌, length, map, min, replicate, Contains, Option, None, Some}
+use Rattle.std.specs.Prelude.{◌≡◌, ◌==◌, ℕ, ◌+◌, ◌≤◌, if◌then◌else◌, List, [], ◌∷◌, ◌++◌, length, map, min, replicate, Contains, Option, None, Some}
 use Rattle.std.specs.List.{range_with_len}
 use Rattle.ttp_model.specs.declared.parts.Node.{Node}
+use Rattle.ttp_model.specs.declared.parts.Message.{Message}
 use Rattle.ttp_model.specs.declared.plan.Plan.{Plan}
 use Rattle.ttp_model.specs.Instance.{Instance}
+use Rattle.ttp_model.specs.Limits.{both_channels}
 use Rattle.ttp_model.specs.Plans.{IsValid}
 use Rattle.ttp_model.specs.Delays.{delay}
 
@@ -15,6 +17,12 @@ table_of plan = plan.order ++ (plan.caps ++ (plan.starts ++ (plan.rounds ++ plan
 abbrev pub options_of : Node → List ℕ
 options_of node = node.capacities
 
+-- what a message's channel may be in a cluster of so many: the only one, both where it is to be on both, else any or both
+abbrev pub channels_of : ℕ → Message → List ℕ
+channels_of channels message =
+    if channels == 1 then 0 ∷ []
+    else (if message.both then both_channels ∷ [] else 0 ∷ 1 ∷ both_channels ∷ [])
+
 -- the numbers to choose from at each place of a table: nodes, options, times below the horizon, and channels
 abbrev pub places_of : Instance → List (List ℕ)
 places_of i =
@@ -22,7 +30,7 @@ places_of i =
     ++ (map options_of i.nodes
     ++ (replicate (length i.processes) (range_with_len 0 i.cluster.horizon)
     ++ (replicate (length i.messages) (range_with_len 0 i.cluster.horizon)
-    ++ replicate (length i.messages) (range_with_len 0 i.cluster.channels))))
+    ++ map (channels_of i.cluster.channels) i.messages)))
 
 -- how many places there are
 abbrev pub place_count : Instance → ℕ

@@ -45,8 +45,8 @@ fn least_from(
 /// The least delay of all valid plans of an instance, in ticks; none where no plan is valid.
 ///
 /// Tries each table of numbers that a valid plan can have: each node at each place of the order,
-/// each option as a capacity, each start and round below the horizon, and each channel. Their number is the
-/// product of all these, so this is for small instances alone.
+/// each option as a capacity, each start and round below the horizon, and each channel that a message may
+/// be on. Their number is the product of all these, so this is for small instances alone.
 pub fn least_delay(alloc: Global, instance: &Instance) -> Result<Option<u64>, MemoryFault>
     ensures { IfOk result (λ least. MatchOption least (HasNoPlan instance.now) (IsLeastDelay instance.now)) }
 {

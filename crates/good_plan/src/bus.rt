@@ -3,9 +3,27 @@
 use crate::draft::Draft;
 use crate::network::Network;
 use crate::table::Table;
+use ttp_model::BOTH_CHANNELS;
 
 /// The round of a frame that carries nothing yet.
 const UNUSED: u64 = u64::MAX;
+
+/// The first channel, as a plan tells it.
+const FIRST: u64 = 0;
+
+/// The second one.
+const SECOND: u64 = 1;
+
+/// Both of them.
+const BOTH: u64 = BOTH_CHANNELS as u64;
+
+/// A message that asks for room in a frame.
+#[derive(Clone, Copy)]
+struct Parcel {
+    bytes: u64,
+    /// Whether it is to be on both channels.
+    both: bool,
+}
 
 /// When slots begin and end, and which frames have room. Times are ticks.
 #[derive(Drop)]
@@ -15,16 +33,20 @@ pub struct Bus {
     ends: Table,
     pub capacities: Table,
     round_length: u64,
-    /// The frames that carry something, node after node: which round, and how many bytes so far.
+    /// The frames that carry something, node after node: which round, and how many bytes so far on the first channel.
     rounds: Table,
     loads: Table,
+    /// Whether there is a second channel, and how many bytes they carry there.
+    has_second: bool,
+    second_loads: Table,
 }
 
 impl Bus {
-    /// No slots, for so many nodes and messages.
-    pub fn new(nodes: usize, messages: usize) -> Self {
+    /// No slots, for so many nodes and messages, on one channel or two.
+    pub fn new(nodes: usize, messages: usize, has_second: bool) -> Self {
         let slots = Table::zeros(nodes);
         let frames = Table::zeros(messages.saturating_mul(2));
+        let second_loads = if has_second { frames } else { Table::zeros(0) };
         Bus {
             begins: slots,
             ends: slots,
@@ -32,6 +54,8 @@ impl Bus {
             round_length: 1,
             rounds: frames,
             loads: frames,
+            has_second,
+            second_loads,
         }
     }
 
@@ -49,6 +73,7 @@ impl Bus {
         self.round_length = time.max(1);
         self.rounds.fill(UNUSED);
         self.loads.fill(0);
+        self.second_loads.fill(0);
     }
 
     /// The first round in which a node sends at this time or later.
@@ -64,7 +89,7 @@ impl Bus {
             .saturating_add(self.ends.at(node))
     }
 
-    /// Puts a message into a frame of this round or later, and gives the frame's round.
+    /// Puts a message into a frame of this round or later, and gives the frame's round and the message's channel.
     pub fn load(
         &mut self,
         network: &Network,
@@ -72,29 +97,58 @@ impl Bus {
         node: usize,
         m: usize,
         first: u64,
-    ) -> u64 {
-        let begin = network.earlier.place_at(node).saturating_mul(2);
-        let end = network
-            .earlier
-            .place_at(node.saturating_add(1))
-            .saturating_mul(2);
+    ) -> (u64, u64) {
+        let parcel = Parcel {
+            bytes: network.bytes.at(m),
+            both: network.is_on_both(m),
+        };
         let mut passes = draft.holds.at(m);
         let mut next = first;
-        for frame in begin..end {
+        for frame in network.frames_of(node) {
             if self.rounds.at(frame) == UNUSED {
                 self.rounds.set(frame, next);
             }
             let round = self.rounds.at(frame);
-            let load = self.loads.at(frame).saturating_add(network.bytes.at(m));
-            if round >= first && load <= self.capacities.at(node) {
+            if round >= first
+                && let Some(channel) = self.channel_with_room(node, frame, parcel)
+            {
                 if passes == 0 {
-                    self.loads.set(frame, load);
-                    return round;
+                    self.put(frame, channel, parcel.bytes);
+                    return (round, channel);
                 }
                 passes = passes.saturating_sub(1);
             }
             next = round.saturating_add(1).max(first);
         }
-        first
+        (first, if parcel.both { BOTH } else { FIRST })
+    }
+
+    /// The channel on which a frame has room for a message, as a plan tells it: the first that has. A message that is to be on
+    /// both needs room on both.
+    fn channel_with_room(&self, node: usize, frame: usize, parcel: Parcel) -> Option<u64> {
+        let capacity = self.capacities.at(node);
+        let first = self.loads.at(frame).saturating_add(parcel.bytes) <= capacity;
+        if !self.has_second {
+            return if first { Some(FIRST) } else { None };
+        }
+        let second = self.second_loads.at(frame).saturating_add(parcel.bytes) <= capacity;
+        match (parcel.both, first, second) {
+            (true, true, true) => Some(BOTH),
+            (false, true, _) => Some(FIRST),
+            (false, false, true) => Some(SECOND),
+            _ => None,
+        }
+    }
+
+    /// Puts so many bytes into a frame, on this channel or on both.
+    fn put(&mut self, frame: usize, channel: u64, bytes: u64) {
+        if channel != SECOND {
+            let load = self.loads.at(frame).saturating_add(bytes);
+            self.loads.set(frame, load);
+        }
+        if channel != FIRST {
+            let load = self.second_loads.at(frame).saturating_add(bytes);
+            self.second_loads.set(frame, load);
+        }
     }
 }

@@ -145,6 +145,6 @@ fn plan_of(alloc: Global, network: &Network, draft: &Draft) -> Result<Plan, Allo
         caps: Numbers::new(timetable.bus.capacities.narrow(alloc)?),
         starts: Numbers::new(timetable.starts.narrow(alloc)?),
         rounds: Numbers::new(timetable.rounds.narrow(alloc)?),
-        channels: Numbers::zeros(alloc, network.instance.messages().len())?,
+        channels: Numbers::new(timetable.channels.narrow(alloc)?),
     })
 }

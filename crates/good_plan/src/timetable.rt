@@ -12,6 +12,8 @@ use crate::table::Table;
 pub struct Timetable {
     pub starts: Table,
     pub rounds: Table,
+    /// By message, its channel as a plan tells it.
+    pub channels: Table,
     pub delay: u64,
     /// What the delay comes to at least, by the processes that something has arrived at.
     least: u64,
@@ -28,16 +30,18 @@ pub struct Timetable {
 impl Timetable {
     /// Nothing runs or is sent yet.
     pub fn new(network: &Network) -> Self {
+        let messages = network.bytes.len();
         Timetable {
             starts: network.releases,
-            rounds: Table::zeros(network.bytes.len()),
+            rounds: Table::zeros(messages),
+            channels: Table::zeros(messages),
             delay: 0,
             least: 0,
             lateness: 0,
             waiting: network.waits,
             queue: Table::zeros(0),
-            path: Path::new(network.homes.len(), network.bytes.len()),
-            bus: Bus::new(network.roomy.len(), network.bytes.len()),
+            path: Path::new(network.homes.len(), messages),
+            bus: Bus::new(network.roomy.len(), messages, network.has_second_channel()),
         }
     }
 
@@ -135,8 +139,9 @@ impl Timetable {
         let first = self.bus.first_round(node, ready);
         for m in network.outgoing.row(p) {
             let m = *m as usize;
-            let round = self.bus.load(network, draft, node, m, first);
+            let (round, channel) = self.bus.load(network, draft, node, m, first);
             self.rounds.set(m, round);
+            self.channels.set(m, channel);
             self.path.send(m, first, round);
             let sent = self.bus.end_of(node, round);
             let arrival = sent.saturating_add(u64::from(cluster.copy_in));

@@ -3,7 +3,7 @@ use Rattle.std.proofs.Common.{◌≡◌, ℕ, ◌<◌, ◌≤◌, length, slice_
 use Rattle.ttp_model.specs.declared.plan.Plan.{Plan}
 use Rattle.ttp_model.specs.Instance.{Instance}
 use Rattle.ttp_model.specs.Lists.{EachBelow}
-use Rattle.ttp_model.specs.Plans.{IsValid, end_of, load_of}
+use Rattle.ttp_model.specs.Plans.{IsValid, end_of, load_on}
 use Rattle.ttp_model.specs.Delays.{delay}
 use Rattle.tt_choice.specs.Choice.{Choice, IsIn}
 use Rattle.earliest_starts.specs.declared.answer.Earliest.{Earliest}
@@ -24,7 +24,7 @@ module _ (i : Instance) (c : Choice) where
       omega (arith, says.1, p.2, says.0.least other valid inside p.0 p.1, each other p.0 p.1)
   no_later (AsClash clash) other says valid inside each last = tt
 
-  pub has_room : (answer : Earliest) (n r : ℕ) → IsEarliestAnswer i c answer
-      → ((plan : Plan) → IsValid i plan → load_of i plan n r ≤ slice_index plan.caps n) → HasRoom i n r answer
-  has_room (AsPlan made ticks) n r says fits = fits made says.0.valid
-  has_room (AsClash clash) n r says fits = tt
+  pub has_room : (answer : Earliest) (n r k : ℕ) → IsEarliestAnswer i c answer
+      → ((plan : Plan) → IsValid i plan → load_on i plan n r k ≤ slice_index plan.caps n) → HasRoom i n r k answer
+  has_room (AsPlan made ticks) n r k says fits = fits made says.0.valid
+  has_room (AsClash clash) n r k says fits = tt

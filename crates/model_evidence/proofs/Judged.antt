@@ -3,7 +3,7 @@ use Rattle.std.proofs.Common.{◌≡◌, ◌≢◌, ℕ, slice_index, Result, Ok
 use Rattle.ttp_model.specs.declared.plan.Plan.{Plan}
 use Rattle.ttp_model.specs.declared.fault.PlanFault.{PlanFault}
 use Rattle.ttp_model.specs.Instance.{Instance}
-use Rattle.ttp_model.specs.Plans.{IsValid, load_of}
+use Rattle.ttp_model.specs.Plans.{IsValid, load_on}
 use Rattle.ttp_model.specs.Faults.{IsFirstFault, IsFirstOverfull}
 
 module _ (i : Instance) (plan : Plan) where
@@ -18,6 +18,6 @@ module _ (i : Instance) (plan : Plan) where
   refused (Ok ticks) says isn't = absurd (isn't says)
   refused (Err told) says isn't = refl
 
-  -- a frame that holds just as much as it may isn't the first that holds too much
-  pub just_fits : (n r : ℕ) → load_of i plan n r ≡ slice_index plan.caps n → ¬ IsFirstOverfull i plan n r
-  just_fits n r full broken = broken.first.fails (rw (broken.node, broken.round) (omega (arith, full)))
+  -- a frame that holds on a channel just as much as it may isn't the first that holds too much there
+  pub just_fits : (channels n r c : ℕ) → load_on i plan n r c ≡ slice_index plan.caps n → ¬ IsFirstOverfull i plan channels n r c
+  just_fits channels n r c full broken = broken.channel.fails (λ on. rw (broken.node, broken.round) (omega (arith, full)))

@@ -80,9 +80,11 @@ module _ (horizon deadline q : ℕ) (in_horizon : 122 ≤ horizon) (in_deadline 
   arrived (suc (suc m)) lt = absurd (omega arith)
 
   fits : (m : ℕ) → m < 2 → FitsFrame problem plan m
-  fits zero lt = lit≤ tt
-  fits (suc zero) lt = lit≤ tt
-  fits (suc (suc m)) lt = absurd (omega arith)
+  fits zero lt zero within = λ on. lit≤ tt
+  fits zero lt (suc c) within = absurd (omega (arith, within))
+  fits (suc zero) lt zero within = λ on. lit≤ tt
+  fits (suc zero) lt (suc c) within = absurd (omega (arith, within))
+  fits (suc (suc m)) lt c within = absurd (omega arith)
 
   on_own : (m : ℕ) → m < 2 → HasOwnChannel problem plan m
   on_own zero lt = record { known = lit≤ tt; alone = λ _. refl; both = λ is. absurd (false≢true is) }
@@ -159,7 +161,7 @@ pub copied_in_late : ¬ IsValid (uneven_on (uneven_cluster 4 8 500) 200) just_in
 copied_in_late v = let late : 80 ≤ 79 = v.arrived 0 (lit< tt) 1 (lit< tt) in omega (arith, late)
 
 pub two_in_one_frame : ¬ IsValid uneven (uneven_plan (43 ∷ 56 ∷ 99 ∷ 118 ∷ []) (4 ∷ 4 ∷ []))
-two_in_one_frame v = let full : 5 ≤ 3 = v.frames 0 (lit< tt) in omega (arith, full)
+two_in_one_frame v = let full : 5 ≤ 3 = v.frames 0 (lit< tt) 0 (lit< tt) refl in omega (arith, full)
 
 pub a_channel_too_many : ¬ IsValid uneven (record just_in_time { channels = 0 ∷ 0 ∷ 0 ∷ [] })
 a_channel_too_many v = let long : 3 ≡ 2 = v.lengths.channels in omega (arith, long)

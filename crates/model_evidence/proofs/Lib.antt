@@ -11,3 +11,4 @@ pub mod Intervals
 pub mod Judged
 pub mod JustValid
 pub mod Allowed
+pub mod TwoChannels

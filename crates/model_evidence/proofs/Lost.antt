@@ -1,8 +1,9 @@
 -- What a replay with losses says.
 use Rattle.std.proofs.Common.{◌≡◌, ◌≢◌, ℕ, ◌+◌, ◌<◌, ◌&&◌, Bool, true, false, cond, List, [], ◌∷◌, All, Contains, length, slice_index_or, Result, Ok, Err, IfOk, OnOk, IsErr, arith, refl}
 use Rattle.std.specs.List.{range_with_len}
-use Rattle.std.proofs.lemmas.List.Elements.{All-append, All-cons, All-contains, All-map, All-nil}
+use Rattle.std.proofs.lemmas.List.Elements.{All-append, All-cons, All-contains, All-nil}
 use Rattle.std.proofs.lemmas.List.FromFn.{get_or-map-range_with_len}
+use Rattle.ttp_model.specs.Limits.{most_messages}
 use Rattle.tt_layout.proofs.Ranges.{All-flat_map}
 use Rattle.medl_tables.specs.declared.row.Entry.{Entry}
 use Rattle.medl_tables.specs.declared.row.Row.{Row}
@@ -16,7 +17,7 @@ use Rattle.membership_replay.specs.declared.trace.Event.TheVariants.{Ack, Doubt,
 use Rattle.membership_replay.specs.Losses.{CanBeReplayed, no_loss}
 use Rattle.membership_replay.specs.LostFrames.{SenderLeaves}
 use Rattle.membership_replay.specs.Machine.{has_member, is_same}
-use Rattle.membership_replay.specs.Trace.{Trace, deliveries, drop_events, is_told, next_state, node_events, replay_of, row_at, slot_count, slot_of, state_at, states_before, step_at, step_events, takes_messages}
+use Rattle.membership_replay.specs.Trace.{Trace, deliveries, delivery, drop_events, is_listed, is_told, next_state, node_events, replay_of, row_at, slot_count, slot_of, state_at, states_before, step_at, step_events, takes_messages}
 use Rattle.membership_replay.specs.Undisturbed.{no_slot, slot_at}
 use Rattle.model_evidence.specs.Membership.{agrees}
 
@@ -46,8 +47,13 @@ module _ (m i : ℕ) where
   steps_are_other (Confirms b) j s vector = All-cons IsOther (Ack j) (drop_events j b vector) (λ same. cc) (drop_is_other j b (has_member vector b))
   steps_are_other Leaves j s vector = All-cons IsOther (Leave j) [] (λ same. cc) (All-nil IsOther)
 
+  other_is_other : (has : Bool) (j n : ℕ) → j ≢ i → All IsOther (cond has (Deliver n j ∷ []) [])
+  other_is_other true j n differ = All-cons IsOther (Deliver n j) [] (λ same. differ cc) (All-nil IsOther)
+  other_is_other false j n differ = All-nil IsOther
+
   others_are_other : (j : ℕ) (messages : List Entry) → j ≢ i → All IsOther (deliveries j messages)
-  others_are_other j messages differ = All-map IsOther (λ (e : Entry). Deliver e.message j) messages (λ k d inside same. differ cc)
+  unfolding deliveries delivery
+  others_are_other j messages differ = All-flat_map IsOther (delivery j messages) (range_with_len 0 most_messages) (λ n. other_is_other (is_listed messages n) j n differ)
 
   taken : (takes : Bool) (j : ℕ) (messages : List Entry) → (j ≡ i → takes ≡ false) → All IsOther (cond takes (deliveries j messages) [])
   taken true j messages refuses = others_are_other j messages (λ same. let no = refuses same in cc)

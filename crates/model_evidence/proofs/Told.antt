@@ -7,7 +7,7 @@ use Rattle.ttp_model.specs.Instance.{Instance, node_at}
 use Rattle.line_text.specs.Words.{spaced}
 use Rattle.medl_tables.specs.declared.row.Row.{Row}
 use Rattle.medl_tables.specs.Medl.{Medl}
-use Rattle.medl_tables.specs.Text.{entry_text, row_line, table_text, tables_text, text_at}
+use Rattle.medl_tables.specs.Text.{entry_text, head_text, row_line, table_text, tables_text, text_at}
 use Rattle.model_evidence.specs.NodeTables.{row_front}
 use Rattle.model_evidence.specs.Parts.{IsPartOf}
 use Rattle.model_evidence.proofs.Parts.{element, numbered, within}
@@ -31,6 +31,9 @@ unfolding text_at
 text_has i t node row inside there =
     let n = length t.rows in
     let table = numbered (text_at i t) n node inside in
-    let whole : IsPartOf (text_at i t node) (tables_text i t) = (codes "ttmedl 1\nrounds" ++ spaced (decimal t.rounds) ++ codes "\n" ++ table.0, table.1, rw table.2 (in_front (codes "ttmedl 1\nrounds") (spaced (decimal t.rounds)) (codes "\n") table.0 (text_at i t node) table.1)) in
+    let head = head_text i in
+    let rounds = spaced (decimal t.rounds) in
+    let same = in_front head rounds (codes "\n") table.0 (text_at i t node) table.1 in
+    let whole : IsPartOf (text_at i t node) (tables_text i t) = (head ++ rounds ++ codes "\n" ++ table.0, table.1, rw table.2 same) in
     let rows = slice_index_or t.rows node [] in
     within (row_front i row) (row_line i row) (tables_text i t) (row_begins i row) (within (row_line i row) (table_text i node rows) (tables_text i t) (table_has i node rows row there) whole)

@@ -1,11 +1,9 @@
 //! What a node's table lists, and what its text tells.
 
 ghost use Rattle.std.specs.Prelude.{◌≡◌, ℕ, ◌<◌, [], Contains, IfOk, IfSome, length, slice_index_or};
-ghost use Rattle.ttp_model.specs.Plans.{bytes_in};
-ghost use Rattle.ttp_model.specs.Totals.{total};
 ghost use Rattle.medl_tables.specs.declared.row.Row.{Row};
 ghost use Rattle.medl_tables.specs.Medl.{AreTables};
-ghost use Rattle.model_evidence.specs.NodeTables.{Concerns, EachEntry, row_front};
+ghost use Rattle.model_evidence.specs.NodeTables.{Concerns, EachEntry, IsPlaced, row_front};
 ghost use Rattle.model_evidence.specs.Parts.{IsPartOf};
 
 use medl_tables::{Medl, print};
@@ -28,15 +26,14 @@ pub fn tables_of_own_messages(
     Ok(Some(Medl::of(alloc, instance, plan)?))
 }
 
-/// A message's offset, in whichever node's table, counts the bytes of those before it in its frame.
+/// A message's offset, in whichever node's table, counts the bytes of those before it in its frame, on that channel.
 pub fn tables_of_frames(
     alloc: Global,
     instance: &Instance,
     plan: &Plan,
 ) -> Result<Option<Medl>, MemoryFault>
     ensures { (node : ℕ) → node < length instance.now.nodes → IfOk result (λ found. IfSome found (λ medl.
-        EachEntry medl node (λ row entry. entry.offset
-        ≡ total (bytes_in instance.now plan.now row.sender row.round) entry.message))) }
+        EachEntry medl node (IsPlaced instance.now plan.now))) }
 {
     let Ok(_ticks) = check(instance, plan) else {
         return Ok(None);

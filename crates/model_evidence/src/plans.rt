@@ -1,9 +1,9 @@
 //! What is told of a plan that just keeps a rule, or just breaks it.
 
-ghost use Rattle.std.specs.Prelude.{◌≡◌, ◌≢◌, ◌+◌, ◌<◌, ◌≤◌, IfErr, IsErr, length, slice_index};
+ghost use Rattle.std.specs.Prelude.{◌≡◌, ◌≢◌, ℕ, ◌+◌, ◌<◌, ◌≤◌, IfErr, IsErr, length, slice_index};
 ghost use Rattle.ttp_model.specs.Instance.{link_at, message_at, process_at};
-ghost use Rattle.ttp_model.specs.Plans.{end_of, load_of, sent_until, start_of};
-ghost use Rattle.ttp_model.specs.declared.fault.PlanFault.TheVariants.{BrokenLink, Overfull, Overlap, TooEarly};
+ghost use Rattle.ttp_model.specs.Plans.{end_of, load_on, sent_until, start_of};
+ghost use Rattle.ttp_model.specs.declared.fault.PlanFault.TheVariants.{BrokenLink, Overfull, OverfullOn, Overlap, TooEarly};
 
 use plan_check::check;
 use ttp_model::{Instance, Plan, PlanFault};
@@ -32,15 +32,17 @@ pub fn first_node_once_more(instance: &Instance, plan: &Plan) -> Result<u64, Pla
     check(instance, plan)
 }
 
-/// A frame that is just full isn't told as overfull.
+/// A frame that is just full on a channel isn't told as overfull there.
 pub fn frame_that_is_full(
     instance: &Instance,
     plan: &Plan,
     n: u32,
     r: u32,
 ) -> Result<u64, PlanFault>
-    ensures { load_of instance.now plan.now n r ≡ slice_index plan.now.caps n
+    ensures alone { load_on instance.now plan.now n r 0 ≡ slice_index plan.now.caps n
         → IfErr result (λ fault. fault ≢ Overfull n r) }
+    ensures doubled { (c : ℕ) → load_on instance.now plan.now n r c ≡ slice_index plan.now.caps n
+        → IfErr result (λ fault. fault ≢ OverfullOn n r c) }
 {
     check(instance, plan)
 }

@@ -1,6 +1,6 @@
 //! What is answered for a complete choice.
 
-ghost use Rattle.std.specs.Prelude.{ℕ, IfOk, IfSome};
+ghost use Rattle.std.specs.Prelude.{ℕ, ◌<◌, IfOk, IfSome};
 ghost use Rattle.ttp_model.specs.declared.plan.Plan.{Plan};
 ghost use Rattle.ttp_model.specs.Plans.{IsValid};
 ghost use Rattle.tt_choice.specs.Choice.{IsChoice, IsIn};
@@ -46,14 +46,15 @@ pub fn plan_that_ends_first(
     Ok(Some(earliest(alloc, instance, choice)?))
 }
 
-/// All messages of a frame of the plan that is answered fit into it together.
+/// All messages of a frame of the plan that is answered fit into it together, on each channel.
 pub fn plan_with_room_in_frames(
     alloc: Global,
     instance: &Instance,
     choice: &Choice,
 ) -> Result<Option<Earliest>, MemoryFault>
     requires { IsChoice instance.now choice.now }
-    ensures { (n r : ℕ) → IfOk result (λ answer. IfSome answer (HasRoom instance.now n r)) }
+    ensures { (n r k : ℕ) → k < instance.now.cluster.channels
+        → IfOk result (λ answer. IfSome answer (HasRoom instance.now n r k)) }
 {
     if !choice.is_complete(instance) {
         return Ok(None);

@@ -8,7 +8,7 @@ use std::alloc::{AllocError, Global};
 use std::process::Abort;
 use std::test::Fail;
 use ttp_model::{Instance, Numbers};
-use worked_instances::plan;
+use worked_instances::{overfull, plan};
 
 /// The delay of a valid plan, or the rule that another one breaks first.
 type Verdict = Result<u64, PlanFault>;
@@ -108,13 +108,41 @@ const WRONG_CHANNELS: &[(&[u32], PlanFault)] = &[
     (&[4_294_967_295], PlanFault::WrongChannel(0)),
 ];
 
-#[test]
-fn a_message_is_on_the_only_channel(rt: HostRuntime) -> Result<(), Fail> {
-    let instance = build(rt.alloc(), &LAWFUL)?;
-    for (channels, fault) in WRONG_CHANNELS {
-        let mut plan = plan(rt.alloc(), &[0, 1], &[2, 0], &[0, 7], &[1])?;
-        plan.channels = Numbers::new(Vec::from_slice(rt.alloc(), channels)?);
-        same(&rt, channels, check(&instance, &plan), Err(*fault));
+/// Channels of two messages that share a frame with room for either alone. A frame has those of number 0 and 2, and is judged before
+/// channels are.
+const SHARED_FRAMES: &[(&[u32], PlanFault)] = &[
+    (&[0, 0], PlanFault::Overfull(0, 1)),
+    (&[2, 0], PlanFault::Overfull(0, 1)),
+    (&[0, 2], PlanFault::Overfull(0, 1)),
+    (&[2, 2], PlanFault::Overfull(0, 1)),
+    (&[1, 0], PlanFault::WrongChannel(0)),
+    (&[0, 1], PlanFault::WrongChannel(1)),
+    (&[2, 3], PlanFault::WrongChannel(0)),
+];
+
+/// The plan of these lists is refused with each of these channels, for the rule beside them.
+fn are_refused_on(
+    rt: &impl Abort,
+    alloc: Global,
+    instance: &Instance,
+    lists: Lists,
+    rows: &[(&[u32], PlanFault)],
+) -> Result<(), Fail> {
+    let [order, caps, starts, rounds] = lists;
+    for (channels, fault) in rows {
+        let mut plan = plan(alloc, order, caps, starts, rounds)?;
+        plan.channels = Numbers::new(Vec::from_slice(alloc, channels)?);
+        same(rt, channels, check(instance, &plan), Err(*fault));
     }
     Ok(())
+}
+
+#[test]
+fn a_message_is_on_the_only_channel(rt: HostRuntime) -> Result<(), Fail> {
+    let lawful = build(rt.alloc(), &LAWFUL)?;
+    let lists: Lists = [&[0, 1], &[2, 0], &[0, 7], &[1]];
+    are_refused_on(&rt, rt.alloc(), &lawful, lists, WRONG_CHANNELS)?;
+    let shared = overfull(rt.alloc())?;
+    let lists: Lists = [&[0, 1], &[4, 0], &[0, 11], &[1, 1]];
+    are_refused_on(&rt, rt.alloc(), &shared, lists, SHARED_FRAMES)
 }

@@ -3,7 +3,7 @@ use Rattle.std.proofs.Common.{◌<◌, length, arith}
 use Rattle.ttp_model.specs.declared.plan.Plan.{Plan}
 use Rattle.ttp_model.specs.declared.fault.PlanPart.TheVariants as part
 use Rattle.ttp_model.specs.declared.fault.PlanFault.{PlanFault}
-use Rattle.ttp_model.specs.declared.fault.PlanFault.TheVariants.{WrongLength, WrongOrder, WrongCapacity, TooEarly, TooLate, Overlap, BrokenLink, NotReady, NotArrived, Overfull, WrongChannel}
+use Rattle.ttp_model.specs.declared.fault.PlanFault.TheVariants.{WrongLength, WrongOrder, WrongCapacity, TooEarly, TooLate, Overlap, BrokenLink, NotReady, NotArrived, Overfull, OverfullOn, WrongChannel}
 use Rattle.ttp_model.specs.Instance.{Instance}
 use Rattle.ttp_model.specs.Plans.{Lengths, Order, Capacities, Releases, Ends, Overlaps, Links, Readiness, Arrivals, Frames, Channels, IsValid, Keeps}
 use Rattle.ttp_model.specs.Faults.{IsFirstFault, KeepsBefore}
@@ -41,4 +41,5 @@ IsValid-without_fault i plan (BrokenLink l) v f = f.1.fails (v.links l f.1.withi
 IsValid-without_fault i plan (NotReady m) v f = f.1.fails (v.ready m f.1.within)
 IsValid-without_fault i plan (NotArrived m q) v f = f.1.first.fails (v.arrived m f.1.within f.1.place f.1.first.within)
 IsValid-without_fault i plan (Overfull n r) v f = f.1.first.fails (v.frames f.1.message f.1.first.within)
+IsValid-without_fault i plan (OverfullOn n r c) v f = f.1.first.fails (v.frames f.1.message f.1.first.within)
 IsValid-without_fault i plan (WrongChannel m) v f = f.1.fails (v.on_own m f.1.within)

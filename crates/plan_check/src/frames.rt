@@ -1,41 +1,64 @@
 //! Do the messages of each frame fit into its capacity?
 
-ghost use Rattle.std.specs.Prelude.{◌≡◌, ◌*◌, ◌≤◌, MatchOption, length};
-ghost use Rattle.ttp_model.specs.Lists.{EachBelow};
-ghost use Rattle.ttp_model.specs.Plans.{FitsFrame, HasLengths, load_of};
-ghost use Rattle.ttp_model.specs.Faults.{IsFirstOverfull};
+ghost use Rattle.std.specs.Prelude.{◌≡◌, ◌*◌, ◌<◌, ◌≤◌, ◌↔◌, IsTrue, MatchOption, length};
+ghost use Rattle.ttp_model.specs.Lists.{EachBelow, FindsFailure, IsFirstFailure};
+ghost use Rattle.ttp_model.specs.Plans.{FitsFrame, FitsOn, HasLengths, load_on};
 
-use ttp_model::{Instance, MOST_BYTES, MOST_MESSAGES, Plan, bytes_in};
+use ttp_model::{Instance, MOST_BYTES, MOST_MESSAGES, Plan, bytes_on, is_on};
 
-/// The frame, by node and round, of the first message in an overfull one.
-pub fn first_overfull(instance: &Instance, plan: &Plan) -> Option<(u32, u32)>
+/// The first message in an overfull frame, and the first channel of this message on which it is overfull.
+pub fn first_overfull(instance: &Instance, plan: &Plan) -> Option<(usize, u32)>
     requires { HasLengths instance.now plan.now }
     ensures { MatchOption result
         (EachBelow (length instance.now.messages) (FitsFrame instance.now plan.now))
-        (λ frame. IsFirstOverfull instance.now plan.now frame.0 frame.1) }
+        (λ found. IsFirstFailure (length instance.now.messages) (FitsFrame instance.now plan.now) found.0
+        × IsFirstFailure instance.now.cluster.channels (FitsOn instance.now plan.now found.0) found.1) }
 {
-    let caps = plan.caps.as_slice();
-    let rounds = plan.rounds.as_slice();
     for m in 0..instance.messages().len() {
-        let n = instance.source_of(m);
-        let r = rounds[m];
-        if load_of(instance, plan, n, r) > u64::from(caps[n as usize]) {
-            return Some((n, r));
+        if let Some(c) = first_overfull_channel(instance, plan, m) {
+            return Some((m, c));
         }
     }
     None
 }
 
-/// The bytes of all messages of the frame of a node and a round. Takes no memory; one pass over
-/// the messages.
-pub fn load_of(instance: &Instance, plan: &Plan, n: u32, r: u32) -> u64
+/// The first channel of message `m` on which its frame is overfull.
+fn first_overfull_channel(instance: &Instance, plan: &Plan, m: usize) -> Option<u32>
+    requires lengths { HasLengths instance.now plan.now }
+    requires inside { m < length instance.now.messages }
+    ensures { FindsFailure instance.now.cluster.channels (FitsOn instance.now plan.now m) result }
+{
+    for c in 0..instance.cluster().channels {
+        if !fits_on(instance, plan, m, c) {
+            return Some(c);
+        }
+    }
+    None
+}
+
+/// Whether the frame of message `m` fits on channel `c`, where the message is on it.
+fn fits_on(instance: &Instance, plan: &Plan, m: usize, c: u32) -> bool
+    requires lengths { HasLengths instance.now plan.now }
+    requires inside { m < length instance.now.messages }
+    ensures { IsTrue result ↔ FitsOn instance.now plan.now m c }
+{
+    let n = instance.source_of(m);
+    let r = plan.rounds.as_slice()[m];
+    let capacity = plan.caps.as_slice()[n as usize];
+    !is_on(c, plan.channels.as_slice()[m])
+        || load_on(instance, plan, n, r, c) <= u64::from(capacity)
+}
+
+/// The bytes of all messages of the frame of a node and a round on channel `c`. Takes no memory; one pass
+/// over the messages.
+pub fn load_on(instance: &Instance, plan: &Plan, n: u32, r: u32, c: u32) -> u64
     requires { HasLengths instance.now plan.now }
-    ensures value { result ≡ load_of instance.now plan.now n r }
+    ensures value { result ≡ load_on instance.now plan.now n r c }
     ensures bound { result ≤ MOST_MESSAGES * MOST_BYTES }
 {
     let mut load = 0;
     for m in 0..instance.messages().len() {
-        load += u64::from(bytes_in(instance, plan, n, r, m));
+        load += u64::from(bytes_on(instance, plan, n, r, c, m));
     }
     load
 }

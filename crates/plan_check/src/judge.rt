@@ -1,7 +1,8 @@
 //! Is a plan valid? What is its delay, or which rule does it break first?
 
-ghost use Rattle.std.specs.Prelude.{◌≡◌, IfOk, IfErr, IsOk, OnOk, MatchResult};
-ghost use Rattle.ttp_model.specs.Plans.{IsValid, Releases, Readiness};
+ghost use Rattle.std.specs.Prelude.{◌≡◌, IfOk, IfErr, IsOk, OnOk, MatchResult, length};
+ghost use Rattle.ttp_model.specs.Lists.{IsFirstFailure};
+ghost use Rattle.ttp_model.specs.Plans.{FitsFrame, FitsOn, Frames, HasLengths, IsValid, Readiness, Releases};
 ghost use Rattle.ttp_model.specs.Delays.{delay};
 ghost use Rattle.ttp_model.specs.Faults.{IsFirstFault, KeepsBefore};
 
@@ -82,11 +83,29 @@ fn check_messages(instance: &Instance, plan: &Plan) -> Result<(), PlanFault>
     if let Some((m, q)) = messages::first_not_arrived(instance, plan, &layout) {
         return Err(PlanFault::NotArrived(m, q));
     }
-    if let Some((n, r)) = frames::first_overfull(instance, plan) {
-        return Err(PlanFault::Overfull(n, r));
+    if let Some((m, c)) = frames::first_overfull(instance, plan) {
+        return Err(overfull(instance, plan, m, c));
     }
     if let Some(m) = channels::first_wrong_channel(instance, plan) {
         return Err(PlanFault::WrongChannel(m));
     }
     Ok(())
+}
+
+/// The fault that tells of the frame of message `m`, overfull on channel `c`: which channel is told where
+/// there are two.
+fn overfull(instance: &Instance, plan: &Plan, m: usize, c: u32) -> PlanFault
+    requires lengths { HasLengths instance.now plan.now }
+    requires before { KeepsBefore instance.now plan.now Frames }
+    requires message { IsFirstFailure (length instance.now.messages) (FitsFrame instance.now plan.now) m }
+    requires channel { IsFirstFailure instance.now.cluster.channels (FitsOn instance.now plan.now m) c }
+    ensures { IsFirstFault instance.now plan.now result }
+{
+    let n = instance.source_of(m);
+    let r = plan.rounds.as_slice()[m];
+    if instance.cluster().channels == 1 {
+        PlanFault::Overfull(n, r)
+    } else {
+        PlanFault::OverfullOn(n, r, c)
+    }
 }

@@ -153,6 +153,11 @@ fn wrong_line_of_no_text(alloc: Global) -> Option<usize> {
             5,
         ),
         (
+            Refused(Fault::Plan(PlanFault::OverfullOn(3, 4, 1))),
+            "plan V10 3 4 1\n",
+            5,
+        ),
+        (
             Refused(Fault::Plan(PlanFault::WrongChannel(2))),
             "plan V11 2\n",
             5,

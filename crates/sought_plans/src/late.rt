@@ -1,9 +1,10 @@
 //! Could a message be sent earlier than it is?
 
-ghost use Rattle.std.specs.Prelude.{◌≡◌, ◌≤◌, ◌<◌, ◌↔◌, IsTrue, length};
+ghost use Rattle.std.specs.Prelude.{◌≡◌, ◌+◌, ◌≤◌, ◌<◌, ◌↔◌, IsTrue, length};
 ghost use Rattle.ttp_model.specs.declared.limits.TheConstants.{MOST_BYTES};
 ghost use Rattle.ttp_model.specs.Totals.{total};
-ghost use Rattle.sought_plans.specs.Known.{Fits};
+ghost use Rattle.sought_plans.specs.Known.{Fits, le_of};
+ghost use Rattle.sought_plans.specs.Premises.{sender_of};
 ghost use Rattle.sought_plans.specs.Dominance.{CouldBeEarlier, bytes_beside};
 
 use crate::known::Known;
@@ -40,6 +41,16 @@ fn bytes_in_frame(known: &Known, instance: &Instance, m: u32, r: u32) -> u64
     sum
 }
 
+/// When message `m` has been copied out at the latest.
+fn ready_by(known: &Known, instance: &Instance, m: u32) -> u64
+    requires fits { Fits instance.now known.now }
+    requires message { m < length instance.now.messages }
+    ensures { result ≡ le_of known.now (sender_of instance.now m) + instance.now.cluster.copy_out }
+{
+    let sender = instance.message_at(m as usize).sender;
+    u64::from(known.le(sender)) + u64::from(instance.cluster().copy_out)
+}
+
 /// Whether message `m` could be sent in round `r`, which is earlier than any in which it is: it is
 /// ready then, and its frame has room for it. One pass over the messages of its node.
 pub fn could_be_earlier(known: &Known, setting: &Setting, m: u32, r: u32) -> bool
@@ -49,9 +60,7 @@ pub fn could_be_earlier(known: &Known, setting: &Setting, m: u32, r: u32) -> boo
 {
     let instance = setting.instance();
     let n = instance.source_of(m as usize);
-    let sender = instance.message_at(m as usize).sender;
-    let ready = u64::from(known.le(sender)) + u64::from(instance.cluster().copy_out);
     r < known.lo(m)
-        && ready <= setting.start_least(n, r)
+        && ready_by(known, instance, m) <= setting.start_least(n, r)
         && bytes_in_frame(known, instance, m, r) <= u64::from(setting.cap_least(n))
 }

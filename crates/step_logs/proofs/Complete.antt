@@ -1,7 +1,7 @@
 -- Where no step sharpens any more what is known of a complete choice, the earliest starts are those of a valid plan below the goal.
 use Rattle.std.proofs.Common.{◌≡◌, ℕ, ◌+◌, ◌-◌, ◌*◌, ◌<◌, ◌≤◌, ◌⊎◌, ◌==◌, ◌&&◌, nat_le, if◌then◌else◌, List, [], ◌∷◌, length, slice_index, map, replicate, unwrap_or, Option, None, Some, IsSome, All, Contains, Bool, IsTrue, IsFalse, arith, inl, inr, refl, ap, sym, subst, ◌∙◌}
 use Rattle.std.proofs.lemmas.Bool.{cases_lt, cases_order, cases_Bool, false≢true, le-leb, leb-true, eq-eqb, ne_eqb}
-use Rattle.std.proofs.lemmas.List.{get_or-map, length-map, length-replicate}
+use Rattle.std.proofs.lemmas.List.{get_or-map, get_or-replicate, length-map, length-replicate}
 use Rattle.std.proofs.lemmas.List.Elements.{All-contains, Contains-get_or}
 use Rattle.std.proofs.lemmas.Grind.{same_number_lists}
 use Rattle.ttp_model.specs.declared.error.Place.TheVariants.{AtProcess, AtMessage}
@@ -11,9 +11,10 @@ use Rattle.ttp_model.specs.declared.step.Step.TheVariants.{EsBefore, EsArrive, L
 use Rattle.ttp_model.specs.Instance.{Instance, node_at, message_at, source_of}
 use Rattle.ttp_model.specs.Rules.{IsInstance}
 use Rattle.ttp_model.specs.Slots.{slot_start, slot_end}
-use Rattle.ttp_model.specs.Plans.{HasLengths, IsValid, IsNodeOrder, HasOwnCapacity, AreApart, end_of, bytes_in, load_of}
+use Rattle.ttp_model.specs.Plans.{HasLengths, IsValid, IsNodeOrder, HasOwnCapacity, AreApart, end_of, channel_of, bytes_in, load_of}
 use Rattle.ttp_model.specs.Lists.{EachBelow}
 use Rattle.ttp_model.proofs.OneChannel.{zeros_on_own}
+use Rattle.ttp_model.proofs.Channels.{fits_on_first}
 use Rattle.ttp_model.proofs.ValidPlans.{greatest_reached}
 use Rattle.ttp_model.specs.Totals.{total}
 use Rattle.tt_choice.specs.Choice.{Choice, IsChoice, IsComplete, IsIn, IsOption, IsFixedTo, ArePair, Agrees, fixed_cap, is_before, least_round, greatest_round}
@@ -189,6 +190,9 @@ module _ (s : Facts) (ok : AreFacts s) (left : IsFalse s.known.closed) (steps : 
         | inr fits ↦ let whole : 1 * cap_most s.instance s.choice n ≡ cap_most s.instance s.choice n = omega arith in let times : ((r + 1) - r) * cap_most s.instance s.choice n ≡ cap_most s.instance s.choice n = ap (λ (k : ℕ). k * cap_most s.instance s.choice n) one ∙ whole in let known = rw times at fits in omega (arith, known, exact, same)
       ]
 
+  on_first : (m : ℕ) → m < length s.instance.messages → channel_of (plan_of s.choice s.known.es) m ≡ 0
+  on_first m h = get_or-replicate {A = ℕ} (length s.choice.lo) m 0 0 (omega (arith, h, ok.choice.lo_length))
+
   apart : (p q : ℕ) → p < q → q < length s.instance.processes → AreApart s.instance (plan_of s.choice s.known.es) p q
   apart p q up h same = elim (one_before s.instance s.choice ok.instance ok.choice done p q (record { first = omega (arith, up, h); second = h; two = λ equal. omega (arith, equal, up); one_node = same })) [
     | inl forth ↦ inl (after p q forth)
@@ -209,7 +213,7 @@ module _ (s : Facts) (ok : AreFacts s) (left : IsFalse s.known.closed) (steps : 
     links = λ l h. linked s ok left steps more.chain idle l h;
     ready = λ m h. ready m h;
     arrived = λ m h k inside. arrives m (slice_index (message_at s.instance m).receivers k) (h, Contains-get_or (message_at s.instance m).receivers k 0 inside);
-    frames = λ m h. frame_fits m h;
+    frames = λ m h. fits_on_first s.instance (plan_of s.choice s.known.es) m ok.instance on_first (frame_fits m h);
     on_own = zeros_on_own s.instance (plan_of s.choice s.known.es) (length s.choice.lo) ok.instance ok.choice.lo_length refl;
   }
 

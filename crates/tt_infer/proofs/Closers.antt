@@ -1,12 +1,12 @@
 -- The steps that leave no plan are sound: their premises don't hold where the facts are true of a sought plan.
-use Rattle.std.proofs.Common.{◌≡◌, ℕ, zero, suc, ◌+◌, ◌-◌, ◌<◌, ◌≤◌, List, length, slice_index, arith, refl, add-one}
+use Rattle.std.proofs.Common.{◌≡◌, ℕ, zero, suc, ◌+◌, ◌-◌, ◌<◌, ◌≤◌, true, List, length, slice_index, arith, refl, add-one}
 use Rattle.std.proofs.lemmas.Bool.{and_from, eq-eqb}
 use Rattle.std.proofs.Math.Nat.{mul-le-mul_left}
 use Rattle.ttp_model.specs.declared.plan.Plan.{Plan}
 use Rattle.ttp_model.specs.Instance.{Instance, message_at, source_of}
 use Rattle.ttp_model.specs.Rules.{IsInstance}
 use Rattle.ttp_model.specs.Lists.{EachBelow}
-use Rattle.ttp_model.specs.Plans.{IsValid, start_of, round_of, load_of, bytes_in}
+use Rattle.ttp_model.specs.Plans.{IsValid, start_of, round_of, channel_of, is_on, load_on, bytes_in, bytes_on}
 use Rattle.tt_choice.specs.Choice.{Choice}
 use Rattle.tt_choice.proofs.Bounds.{capacity_between}
 use Rattle.sought_plans.specs.Known.{Known, IsSought, AreTrueOf}
@@ -14,6 +14,7 @@ use Rattle.sought_plans.specs.Premises.{IsRing}
 use Rattle.tt_infer.specs.Table.{IsProcess}
 use Rattle.ttp_model.specs.declared.step.Step.TheVariants.{XWindow, XRound, XCycle, XLoad, XFrame, XFrames}
 use Rattle.ttp_model.proofs.Totals.{term_in_total}
+use Rattle.ttp_model.proofs.Channels.{all_on, on_some_channel}
 use Rattle.tt_infer.proofs.Soundness.{IsSoundFor}
 use Rattle.tt_infer.proofs.Sending.{agrees, capacity_most}
 use Rattle.tt_infer.proofs.Loads.{loads_fit, bytes_fit}
@@ -54,18 +55,21 @@ x_load_sound i c goal f plan n a b v t k there premise is =
     let fit = loads_fit i plan f n a b v t premise.span in
     absurd (omega (arith, fit, premise.span, premise.load))
 
--- the bytes of a message are in its frame
-bytes_le : (i : Instance) (plan : Plan) (m : ℕ) → m < length i.messages → (message_at i m).bytes ≤ load_of i plan (source_of i m) (round_of plan m)
-bytes_le i plan m h =
-    let term = term_in_total (bytes_in i plan (source_of i m) (round_of plan m)) (length i.messages) m h in
+-- the bytes of a message are in its frame on each channel that it is on
+bytes_le : (i : Instance) (plan : Plan) (m channel : ℕ) → m < length i.messages → is_on channel (channel_of plan m) ≡ true
+    → (message_at i m).bytes ≤ load_on i plan (source_of i m) (round_of plan m) channel
+bytes_le i plan m channel h on =
+    let term = term_in_total (bytes_on i plan (source_of i m) (round_of plan m) channel) (length i.messages) m h in
+    let all = all_on i plan (source_of i m) (round_of plan m) channel m on in
     let own : bytes_in i plan (source_of i m) (round_of plan m) m ≡ (message_at i m).bytes = rw (and_from _ _ (eq-eqb (source_of i m) (source_of i m) refl) (eq-eqb (round_of plan m) (round_of plan m) refl)) refl in
-    omega (arith, term, own)
+    omega (arith, term, all, own)
 
--- a message is no larger than its frame
+-- a message is no larger than its frame, on whatever channel it is
 pub x_frame_sound : (i : Instance) (c : Choice) (goal : ℕ) (f : Known) (plan : Plan) (m : ℕ) → IsInstance i → IsSought i c goal plan → IsSoundFor i c goal f plan (XFrame m)
 x_frame_sound i c goal f plan m w sought k there premise is =
-    let own = bytes_le i plan m there in
-    let fit = sought.settled.valid.frames m there in
+    let place = on_some_channel i plan m w sought.settled.valid there in
+    let own = bytes_le i plan m place.0 there place.2 in
+    let fit = sought.settled.valid.frames m there place.0 place.1 place.2 in
     let capacity = capacity_most i c goal plan m w sought there in
     absurd (omega (arith, own, fit, capacity, premise))
 
@@ -73,5 +77,5 @@ x_frame_sound i c goal f plan m w sought k there premise is =
 pub x_frames_sound : (i : Instance) (c : Choice) (goal : ℕ) (f : Known) (plan : Plan) (n a b : ℕ) → IsInstance i → IsSought i c goal plan → AreTrueOf i plan f → IsSoundFor i c goal f plan (XFrames n a b)
 x_frames_sound i c goal f plan n a b w sought t k there premise is =
     let capacity = (capacity_between i c plan.order plan.caps n w (agrees i c plan sought.settled.valid sought.chosen) there).1 in
-    let fit = bytes_fit i plan f n a b sought.settled.valid t premise.span in
+    let fit = bytes_fit i plan f n a b w sought.settled.valid t premise.span in
     absurd (omega (arith, fit, mul-le-mul_left (b - a) capacity, premise.bytes))

@@ -3,8 +3,11 @@ use Rattle.std.proofs.Common.{◌≡◌, ℕ, zero, suc, ◌+◌, ◌-◌, ◌*�
 use Rattle.std.proofs.lemmas.Bool.{cases_Bool, cases_eq, ltb-true, lt-ltb, and_parts, and_from, leb-true, le-leb, eqb-true, eq-eqb}
 use Rattle.ttp_model.specs.declared.plan.Plan.{Plan}
 use Rattle.ttp_model.specs.Instance.{Instance, message_at, node_of, source_of}
-use Rattle.ttp_model.specs.Plans.{IsValid, start_of, end_of, round_of, bytes_in}
+use Rattle.ttp_model.specs.Rules.{IsInstance}
+use Rattle.ttp_model.specs.Plans.{IsValid, start_of, end_of, round_of, bytes_in, load_of}
 use Rattle.ttp_model.specs.Totals.{total}
+use Rattle.ttp_model.proofs.OneChannel.{one_channel, on_the_channel}
+use Rattle.ttp_model.proofs.Channels.{load_on_first}
 use Rattle.ttp_model.proofs.ValidPlans.{frames_fit_lem, two_apart}
 use Rattle.ttp_model.proofs.Totals.{total_more, total_le, total_shared, total_none}
 use Rattle.sought_plans.specs.Known.{Known, AreTrueOf, es_of, le_of, lo_of, top_of}
@@ -82,18 +85,22 @@ sent_tells i plan n a b m h =
 sent_bytes : Instance → Plan → ℕ → ℕ → ℕ → ℕ → ℕ
 sent_bytes i plan n a b m = if really_sent i plan n a b m then (message_at i m).bytes else 0
 
+-- with one channel all messages of a frame share its capacity
+frame_holds : (i : Instance) (plan : Plan) (n r : ℕ) → IsInstance i → IsValid i plan → load_of i plan n r ≤ slice_index plan.caps n
+frame_holds i plan n r w v = omega (arith, load_on_first i plan n r 0 refl (on_the_channel i plan w v), frames_fit_lem i plan n r 0 v (omega (arith, one_channel i w)))
+
 -- By the number of rounds: the last frame holds no more than its capacity.
-frames_hold : (i : Instance) (plan : Plan) (n a rounds : ℕ) → IsValid i plan → total (sent_bytes i plan n a (a + rounds)) (length i.messages) ≤ rounds * slice_index plan.caps n
+frames_hold : (i : Instance) (plan : Plan) (n a rounds : ℕ) → IsInstance i → IsValid i plan → total (sent_bytes i plan n a (a + rounds)) (length i.messages) ≤ rounds * slice_index plan.caps n
 unfolding sent_bytes
-frames_hold i plan n a zero v =
+frames_hold i plan n a zero w v =
     let none = total_none (sent_bytes i plan n a (a + 0)) (length i.messages) (λ m h. elim (cases_Bool (really_sent i plan n a (a + 0) m)) [
       | inl is ↦ (let tells = sent_tells i plan n a (a + 0) m is in absurd (omega (arith, tells.1, tells.2)))
       | inr is ↦ rw is refl
     ]) in
     omega (arith, none)
-frames_hold i plan n a (suc rounds) v =
-    let rest = frames_hold i plan n a rounds v in
-    let frame = frames_fit_lem i plan n (a + rounds) v in
+frames_hold i plan n a (suc rounds) w v =
+    let rest = frames_hold i plan n a rounds w v in
+    let frame = frame_holds i plan n (a + rounds) w v in
     let shared = total_shared (sent_bytes i plan n a (a + suc rounds)) (sent_bytes i plan n a (a + rounds)) (bytes_in i plan n (a + rounds)) (length i.messages) (λ m h.
     selected_split (really_sent i plan n a (a + suc rounds) m) (really_sent i plan n a (a + rounds) m) ((source_of i m == n) && (round_of plan m == a + rounds)) (message_at i m).bytes (λ is.
     let tells = sent_tells i plan n a (a + suc rounds) m is in
@@ -103,12 +110,12 @@ frames_hold i plan n a (suc rounds) v =
     ])) in
     omega (arith, rest, frame, shared)
 
-pub bytes_fit : (i : Instance) (plan : Plan) (f : Known) (n a b : ℕ) → IsValid i plan → AreTrueOf i plan f → a ≤ b → total (bytes_within i f n a b) (length i.messages) ≤ (b - a) * slice_index plan.caps n
+pub bytes_fit : (i : Instance) (plan : Plan) (f : Known) (n a b : ℕ) → IsInstance i → IsValid i plan → AreTrueOf i plan f → a ≤ b → total (bytes_within i f n a b) (length i.messages) ≤ (b - a) * slice_index plan.caps n
 unfolding sent_bytes
-bytes_fit i plan f n a b v t le =
+bytes_fit i plan f n a b w v t le =
     let is : a + (b - a) ≡ b = omega arith in
     let less = total_le (bytes_within i f n a b) (sent_bytes i plan n a (a + (b - a))) (length i.messages) (λ m h.
     selected_le (sent_within i f n a b m) (really_sent i plan n a (a + (b - a)) m) (message_at i m).bytes (λ is.
     let tells = span_tells (source_of i m) n a (lo_of f m) (top_of f m) b is in
     sent_from i plan n a (a + (b - a)) m tells.0 (omega (arith, tells.1, t.lo m h)) (omega (arith, tells.2, t.top m h)))) in
-    omega (arith, less, frames_hold i plan n a (b - a) v)
+    omega (arith, less, frames_hold i plan n a (b - a) w v)

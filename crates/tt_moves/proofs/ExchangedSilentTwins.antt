@@ -171,6 +171,6 @@ module _ (i : Instance) (plan : Plan) (u v : ℕ) (valid : IsValid i plan) (twin
     links = valid.links;
     ready = λ m h. omega (arith, valid.ready m h, same_start (source_of i m) (round_of plan m) (twins.u_silent m h) (twins.v_silent m h));
     arrived = λ m h k lt. omega (arith, valid.arrived m h k lt, same_end (source_of i m) (round_of plan m) (twins.u_silent m h) (twins.v_silent m h));
-    frames = λ m h. omega (arith, valid.frames m h, same_cap (source_of i m) (twins.u_silent m h) (twins.v_silent m h));
+    frames = λ m h c within on. omega (arith, valid.frames m h c within on, same_cap (source_of i m) (twins.u_silent m h) (twins.v_silent m h));
     on_own = valid.on_own;
   }

@@ -1,11 +1,11 @@
 -- What a process and a message of a plan wait for (our own profile).
-use Rattle.std.specs.Prelude.{◌≡◌, ℕ, ◌+◌, ◌<◌, ◌≤◌, Contains, List, length, slice_index}
+use Rattle.std.specs.Prelude.{◌≡◌, ℕ, ◌+◌, ◌<◌, ◌≤◌, IsTrue, Contains, List, length, slice_index}
 use Rattle.ttp_model.specs.declared.plan.Plan.{Plan}
 use Rattle.ttp_model.specs.Lists.{EachBelow}
 use Rattle.ttp_model.specs.Raising.{IsRaised}
 use Rattle.ttp_model.specs.Slots.{slot_start}
 use Rattle.ttp_model.specs.Instance.{Instance, process_at, link_at, message_at, node_of, source_of}
-use Rattle.ttp_model.specs.Plans.{start_of, end_of, round_of, sent_until, load_of}
+use Rattle.ttp_model.specs.Plans.{start_of, end_of, round_of, channel_of, sent_until, is_on, load_on}
 
 -- link l leads to process p
 abbrev pub LeadsTo : Instance → ℕ → ℕ → Type 0
@@ -46,9 +46,13 @@ ready_at i plan m = end_of i plan (message_at i m).sender + i.cluster.copy_out
 abbrev pub slot_of : Instance → Plan → ℕ → ℕ → ℕ
 slot_of i plan m r = slot_start i.cluster plan.order plan.caps (source_of i m) r
 
--- the frame of a round has room for it beside what is there
+-- where message m is on channel c, the frame of a round has room for it there beside what is in it
+abbrev pub HasRoomOn : Instance → Plan → ℕ → ℕ → ℕ → Type 0
+HasRoomOn i plan m r c = IsTrue (is_on c (channel_of plan m)) → load_on i plan (source_of i m) r c + (message_at i m).bytes ≤ slice_index plan.caps (source_of i m)
+
+-- so it is on each channel of the cluster
 abbrev pub HasRoom : Instance → Plan → ℕ → ℕ → Type 0
-HasRoom i plan m r = load_of i plan (source_of i m) r + (message_at i m).bytes ≤ slice_index plan.caps (source_of i m)
+HasRoom i plan m r = EachBelow i.cluster.channels (HasRoomOn i plan m r)
 
 -- the first round that it could be sent in: it is ready by then, and there is room unless it is there already; in no
 -- earlier one it is both

@@ -4,12 +4,12 @@ ghost use Rattle.std.specs.Prelude.{◌≡◌, ◌<◌, ◌↔◌, IsTrue, lengt
 ghost use Rattle.ttp_model.specs.Rules.{IsInstance};
 ghost use Rattle.ttp_model.specs.Plans.{IsValid};
 ghost use Rattle.tt_settle.specs.Settling.{IsTried, RestsInRound};
-ghost use Rattle.tt_settle.specs.Reasons.{HasRoom, IsFirstRoom, ready_at};
+ghost use Rattle.tt_settle.specs.Reasons.{HasRoom, HasRoomOn, IsFirstRoom, ready_at};
 
 use crate::changes::send_in;
-use plan_check::load_of;
+use plan_check::load_on;
 use tt_layout::Layout;
-use ttp_model::{Instance, Plan, end_of};
+use ttp_model::{Instance, Plan, end_of, is_on};
 
 /// Sends message `m` in the earliest round that it can be sent in, and tells whether that is earlier
 /// than before.
@@ -55,13 +55,28 @@ fn ready_at(instance: &Instance, plan: &Plan, m: usize) -> u64
     end + u64::from(instance.cluster().copy_out)
 }
 
-/// Whether the frame of this round has room for message `m` beside what is in it.
+/// Whether the frame of this round has room for message `m` beside what is in it, on each of its channels.
 fn has_room(instance: &Instance, plan: &Plan, m: usize, r: u32) -> bool
     requires valid { IsValid instance.now plan.now }
     requires inside { m < length instance.now.messages }
     ensures { IsTrue result ↔ HasRoom instance.now plan.now m r }
 {
+    for c in 0..instance.cluster().channels {
+        if !has_room_on(instance, plan, m, r, c) {
+            return false;
+        }
+    }
+    true
+}
+
+/// The same on channel `c`, where the message is on it.
+fn has_room_on(instance: &Instance, plan: &Plan, m: usize, r: u32, c: u32) -> bool
+    requires valid { IsValid instance.now plan.now }
+    requires inside { m < length instance.now.messages }
+    ensures { IsTrue result ↔ HasRoomOn instance.now plan.now m r c }
+{
     let n = instance.source_of(m);
     let bytes = u64::from(instance.message_at(m).bytes);
-    load_of(instance, plan, n, r) + bytes <= u64::from(plan.caps.as_slice()[n as usize])
+    let capacity = u64::from(plan.caps.as_slice()[n as usize]);
+    !is_on(c, plan.channels.as_slice()[m]) || load_on(instance, plan, n, r, c) + bytes <= capacity
 }

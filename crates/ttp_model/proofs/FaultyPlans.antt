@@ -3,7 +3,7 @@ use Rattle.std.proofs.Common.{arith}
 use Rattle.ttp_model.specs.declared.plan.Plan.{Plan}
 use Rattle.ttp_model.specs.declared.fault.PlanPart.TheVariants as part
 use Rattle.ttp_model.specs.declared.fault.PlanFault.{PlanFault}
-use Rattle.ttp_model.specs.declared.fault.PlanFault.TheVariants.{WrongLength, WrongOrder, WrongCapacity, TooEarly, TooLate, Overlap, BrokenLink, NotReady, NotArrived, Overfull, WrongChannel}
+use Rattle.ttp_model.specs.declared.fault.PlanFault.TheVariants.{WrongLength, WrongOrder, WrongCapacity, TooEarly, TooLate, Overlap, BrokenLink, NotReady, NotArrived, Overfull, OverfullOn, WrongChannel}
 use Rattle.ttp_model.specs.Instance.{Instance}
 use Rattle.ttp_model.specs.Plans.{IsValid}
 use Rattle.ttp_model.specs.Faults.{IsFirstFault}
@@ -23,4 +23,5 @@ faulty_is_not_valid i plan (BrokenLink l) f v = f.1.fails (v.links l f.1.within)
 faulty_is_not_valid i plan (NotReady m) f v = f.1.fails (v.ready m f.1.within)
 faulty_is_not_valid i plan (NotArrived m q) f v = f.1.first.fails (v.arrived m f.1.within f.1.place f.1.first.within)
 faulty_is_not_valid i plan (Overfull n r) f v = f.1.first.fails (v.frames f.1.message f.1.first.within)
+faulty_is_not_valid i plan (OverfullOn n r c) f v = f.1.first.fails (v.frames f.1.message f.1.first.within)
 faulty_is_not_valid i plan (WrongChannel m) f v = f.1.fails (v.on_own m f.1.within)

@@ -5,6 +5,7 @@ pub mod Paths
 pub mod ClosedWalks
 pub mod RuleOrder
 pub mod OneChannel
+pub mod Channels
 pub mod Elements
 pub mod KeyedNumbers
 pub mod Indices

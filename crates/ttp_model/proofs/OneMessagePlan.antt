@@ -48,8 +48,9 @@ arrived zero lt = arrived_at
 arrived (suc m) lt = absurd (omega arith)
 
 fits : (m : ℕ) → m < 1 → FitsFrame one_message (one_message_plan 0) m
-fits zero lt = lit≤ tt
-fits (suc m) lt = absurd (omega arith)
+fits zero lt zero within = λ on. lit≤ tt
+fits zero lt (suc c) within = absurd (omega (arith, within))
+fits (suc m) lt c within = absurd (omega arith)
 
 on_own : (m : ℕ) → m < 1 → HasOwnChannel one_message (one_message_plan 0) m
 on_own zero lt = record { known = lit≤ tt; alone = λ _. refl; both = λ is. absurd (false≢true is) }

@@ -1,5 +1,5 @@
 -- Processes one after the other, frames without messages, and plans without a delay.
-use Rattle.std.proofs.Common.{◌≡◌, ◌≢◌, ℕ, zero, suc, ◌+◌, ◌<◌, ◌≤◌, ◌⊎◌, length, slice_index, map, max, arith, inl, inr, ap, sym, add-one}
+use Rattle.std.proofs.Common.{◌≡◌, ◌≢◌, ℕ, zero, suc, ◌+◌, ◌<◌, ◌≤◌, ◌⊎◌, Bool, true, false, if◌then◌else◌, IsTrue, length, slice_index, map, max, arith, inl, inr, refl, ap, sym, add-one}
 use Rattle.std.specs.List.{range_with_len}
 use Rattle.std.proofs.lemmas.List.FromFn.{map-range_with_len_more}
 use Rattle.std.proofs.lemmas.List.Sums.{fold_push}
@@ -13,7 +13,7 @@ use Rattle.ttp_model.specs.Graph.{HasLink}
 use Rattle.ttp_model.specs.Totals.{total}
 use Rattle.ttp_model.specs.Rules.{IsInstance}
 use Rattle.ttp_model.specs.Lists.{greatest}
-use Rattle.ttp_model.specs.Plans.{IsValid, EndsBefore, start_of, end_of, load_of, bytes_in, round_of}
+use Rattle.ttp_model.specs.Plans.{IsValid, EndsBefore, start_of, end_of, load_on, bytes_in, bytes_on, is_on, round_of, channel_of}
 use Rattle.ttp_model.specs.Delays.{delay, IsLowerBound, HasNoPlan}
 use Rattle.ttp_model.proofs.Totals.{total_more}
 
@@ -41,21 +41,28 @@ positive_term f (suc count) h =
 sent_there : (i : Instance) (plan : Plan) (n r m : ℕ) → 0 < bytes_in i plan n r m → (source_of i m ≡ n) × (round_of plan m ≡ r)
 sent_there i plan n r m h = elim (eqb_tells (source_of i m) n) [
   | inl here ↦ elim (eqb_tells (round_of plan m) r) [
-    | inl then ↦ (here.1, then.1)
-    | inr not_then ↦ absurd (let z = rw (here.0, not_then.0) at h in omega (arith, z))
+    | inl now ↦ (here.1, now.1)
+    | inr not_now ↦ absurd (let z = rw (here.0, not_now.0) at h in omega (arith, z))
   ]
   | inr not_here ↦ absurd (let z = rw not_here.0 at h in omega (arith, z))
 ]
 
-pub frames_fit_lem : (i : Instance) (plan : Plan) (n r : ℕ) → IsValid i plan → load_of i plan n r ≤ slice_index plan.caps n
-frames_fit_lem i plan n r v = elim (cases_order (load_of i plan n r) 0) [
+-- what is above 0 where a test holds, and 0 elsewhere
+if_positive : (b : Bool) (x : ℕ) → 0 < (if b then x else 0) → IsTrue b × (0 < x)
+if_positive true x h = (refl, h)
+if_positive false x h = absurd (omega (arith, h))
+
+-- on each channel a frame with bytes has a message, whose frame fits there
+pub frames_fit_lem : (i : Instance) (plan : Plan) (n r c : ℕ) → IsValid i plan → c < i.cluster.channels → load_on i plan n r c ≤ slice_index plan.caps n
+frames_fit_lem i plan n r c v within = elim (cases_order (load_on i plan n r c) 0) [
   | inl none ↦ omega (arith, none)
   | inr other ↦ elim other [
     | inl below ↦ absurd (omega (arith, below))
     | inr above ↦
-        let m = positive_term (bytes_in i plan n r) (length i.messages) above in
-        let there = sent_there i plan n r m.0 m.2 in
-        rw there.0 at (rw there.1 at (v.frames m.0 m.1))
+        let m = positive_term (bytes_on i plan n r c) (length i.messages) above in
+        let on = if_positive (is_on c (channel_of plan m.0)) (bytes_in i plan n r m.0) m.2 in
+        let there = sent_there i plan n r m.0 on.1 in
+        rw there.0 at (rw there.1 at (v.frames m.0 m.1 c within on.0))
   ]
 ]
 

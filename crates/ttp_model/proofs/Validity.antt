@@ -4,7 +4,7 @@ use Rattle.ttp_model.specs.declared.plan.Plan.{Plan}
 use Rattle.ttp_model.specs.Limits.{both_channels}
 use Rattle.ttp_model.specs.Lists.{EachBelow}
 use Rattle.ttp_model.specs.Instance.{Instance, node_at, message_at, node_of}
-use Rattle.ttp_model.specs.Plans.{IsValid, HasLengths, HasOrderLength, HasCapacitiesLength, HasStartsLength, HasRoundsLength, HasChannelsLength, IsNewNode, IsNodeOrder, HasOwnCapacity, IsReleased, EndsInTime, EndsBefore, AreApart, IsApartFromLater, KeepsLink, IsReady, HasArrivedAt, HasArrivedEverywhere, FitsFrame, MayBeOn, HasOwnChannel, channel_of}
+use Rattle.ttp_model.specs.Plans.{IsValid, HasLengths, HasOrderLength, HasCapacitiesLength, HasStartsLength, HasRoundsLength, HasChannelsLength, IsNewNode, IsNodeOrder, HasOwnCapacity, IsReleased, EndsInTime, EndsBefore, AreApart, IsApartFromLater, KeepsLink, IsReady, HasArrivedAt, HasArrivedEverywhere, FitsOn, FitsFrame, MayBeOn, HasOwnChannel, channel_of}
 use Rattle.ttp_model.proofs.Decide.{Decision, like, both, one_of, implied, refuted, equal, below, at_most, is_true, each_below, contained}
 
 module _ (i : Instance) (plan : Plan) where
@@ -44,6 +44,9 @@ module _ (i : Instance) (plan : Plan) where
   arrived_everywhere : (m : ℕ) → Decision (HasArrivedEverywhere i plan m)
   arrived_everywhere m = each_below (HasArrivedAt i plan m) (length (message_at i m).receivers) (λ k. at_most _ _)
 
+  fits_frame : (m : ℕ) → Decision (FitsFrame i plan m)
+  fits_frame m = each_below (FitsOn i plan m) i.cluster.channels (λ c. implied _ _ (is_true _) (at_most _ _))
+
   may_be_on : (m k : ℕ) → Decision (MayBeOn i m k)
   may_be_on m k = like ((k ≤ both_channels) × ((i.cluster.channels ≡ 1 → k ≡ 0) × (IsTrue (message_at i m).both → k ≡ both_channels))) (MayBeOn i m k)
       (λ all. record { known = all.0; alone = all.1.0; both = all.1.1 })
@@ -60,7 +63,7 @@ module _ (i : Instance) (plan : Plan) where
   together : Decision ((EachBelow (length i.processes) (IsApartFromLater i plan) × EachBelow (length i.links) (KeepsLink i plan)) × ((EachBelow (length i.messages) (IsReady i plan) × EachBelow (length i.messages) (HasArrivedEverywhere i plan)) × (EachBelow (length i.messages) (FitsFrame i plan) × EachBelow (length i.messages) (HasOwnChannel i plan))))
   together = both _ _
       (both _ _ (each_below (IsApartFromLater i plan) (length i.processes) apart_from_later) (each_below (KeepsLink i plan) (length i.links) (λ l. at_most _ _)))
-      (both _ _ (both _ _ (each_below (IsReady i plan) (length i.messages) (λ m. at_most _ _)) (each_below (HasArrivedEverywhere i plan) (length i.messages) arrived_everywhere)) (both _ _ (each_below (FitsFrame i plan) (length i.messages) (λ m. at_most _ _)) (each_below (HasOwnChannel i plan) (length i.messages) (λ m. may_be_on m (channel_of plan m)))))
+      (both _ _ (both _ _ (each_below (IsReady i plan) (length i.messages) (λ m. at_most _ _)) (each_below (HasArrivedEverywhere i plan) (length i.messages) arrived_everywhere)) (both _ _ (each_below (FitsFrame i plan) (length i.messages) fits_frame) (each_below (HasOwnChannel i plan) (length i.messages) (λ m. may_be_on m (channel_of plan m)))))
 
   -- a plan is valid or it isn't
   pub valid_or_not : Decision (IsValid i plan)

@@ -4,10 +4,10 @@ use Rattle.ttp_model.specs.declared.plan.Plan.{Plan}
 use Rattle.ttp_model.specs.declared.fault.PlanPart.{PlanPart}
 use Rattle.ttp_model.specs.declared.fault.PlanPart.TheVariants as part
 use Rattle.ttp_model.specs.declared.fault.PlanFault.{PlanFault}
-use Rattle.ttp_model.specs.declared.fault.PlanFault.TheVariants.{WrongLength, WrongOrder, WrongCapacity, TooEarly, TooLate, Overlap, BrokenLink, NotReady, NotArrived, Overfull, WrongChannel}
+use Rattle.ttp_model.specs.declared.fault.PlanFault.TheVariants.{WrongLength, WrongOrder, WrongCapacity, TooEarly, TooLate, Overlap, BrokenLink, NotReady, NotArrived, Overfull, OverfullOn, WrongChannel}
 use Rattle.ttp_model.specs.Lists.{EachBelow, IsFirstFailure}
 use Rattle.ttp_model.specs.Instance.{Instance, message_at, source_of}
-use Rattle.ttp_model.specs.Plans.{Clause, Lengths, Order, Capacities, Releases, Ends, Overlaps, Links, Readiness, Arrivals, Frames, Channels, Keeps, HasOrderLength, HasCapacitiesLength, HasStartsLength, HasRoundsLength, HasChannelsLength, IsNewNode, HasOwnCapacity, IsReleased, EndsInTime, AreApart, IsApartFromLater, KeepsLink, IsReady, HasArrivedAt, HasArrivedEverywhere, FitsFrame, HasOwnChannel, round_of}
+use Rattle.ttp_model.specs.Plans.{Clause, Lengths, Order, Capacities, Releases, Ends, Overlaps, Links, Readiness, Arrivals, Frames, Channels, Keeps, HasOrderLength, HasCapacitiesLength, HasStartsLength, HasRoundsLength, HasChannelsLength, IsNewNode, HasOwnCapacity, IsReleased, EndsInTime, AreApart, IsApartFromLater, KeepsLink, IsReady, HasArrivedAt, HasArrivedEverywhere, FitsOn, FitsFrame, HasOwnChannel, round_of}
 
 -- the order of the rules, as they are printed
 abbrev pub clause_number : Clause → ℕ
@@ -51,10 +51,13 @@ pub record IsFirstLate (i : Instance) (plan : Plan) (m q : ℕ) : Type 0 where
   pub receiver : slice_index (message_at i m).receivers place ≡ q
   pub before : EachBelow m (HasArrivedEverywhere i plan)
 
--- the frame, by node and round, of the first message in an overfull one
-pub record IsFirstOverfull (i : Instance) (plan : Plan) (n r : ℕ) : Type 0 where
+-- in a cluster of so many channels the frame, by node and round, of the first message in an overfull one, and the first
+-- channel of this message on which it is overfull
+pub record IsFirstOverfull (i : Instance) (plan : Plan) (channels n r c : ℕ) : Type 0 where
+  pub cluster : i.cluster.channels ≡ channels
   pub message : ℕ
   pub first : IsFirstFailure (length i.messages) (FitsFrame i plan) message
+  pub channel : IsFirstFailure channels (FitsOn i plan message) c
   pub node : source_of i message ≡ n
   pub round : round_of plan message ≡ r
 
@@ -73,5 +76,6 @@ IsFirstFault i plan (Overlap p q) = Breaks i plan Overlaps (IsFirstOverlap i pla
 IsFirstFault i plan (BrokenLink l) = Breaks i plan Links (IsFirstFailure (length i.links) (KeepsLink i plan) l)
 IsFirstFault i plan (NotReady m) = Breaks i plan Readiness (IsFirstFailure (length i.messages) (IsReady i plan) m)
 IsFirstFault i plan (NotArrived m q) = Breaks i plan Arrivals (IsFirstLate i plan m q)
-IsFirstFault i plan (Overfull n r) = Breaks i plan Frames (IsFirstOverfull i plan n r)
+IsFirstFault i plan (Overfull n r) = Breaks i plan Frames (IsFirstOverfull i plan 1 n r 0)
+IsFirstFault i plan (OverfullOn n r c) = Breaks i plan Frames (IsFirstOverfull i plan 2 n r c)
 IsFirstFault i plan (WrongChannel m) = Breaks i plan Channels (IsFirstFailure (length i.messages) (HasOwnChannel i plan) m)

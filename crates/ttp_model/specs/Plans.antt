@@ -1,6 +1,6 @@
 -- What a plan says, and the eleven rules that a valid plan keeps (model of Pop, Eles and Peng, CODES 1999,
 -- with releases, deadlines and copy times of our own profile). All times are ticks.
-use Rattle.std.specs.Prelude.{◌≡◌, ◌≢◌, ℕ, ◌+◌, ◌<◌, ◌≤◌, ◌⊎◌, ◌==◌, ◌&&◌, if◌then◌else◌, IsTrue, List, length, slice_index, Contains}
+use Rattle.std.specs.Prelude.{◌≡◌, ◌≢◌, ℕ, ◌+◌, ◌<◌, ◌≤◌, ◌⊎◌, ◌==◌, ◌&&◌, ◌||◌, if◌then◌else◌, Bool, IsTrue, List, length, slice_index, Contains}
 use Rattle.ttp_model.specs.declared.plan.Plan.{Plan}
 use Rattle.ttp_model.specs.Limits.{both_channels}
 use Rattle.ttp_model.specs.Lists.{EachBelow}
@@ -114,17 +114,33 @@ HasArrivedAt i plan m k = HasArrived i plan m (slice_index (message_at i m).rece
 abbrev pub HasArrivedEverywhere : Instance → Plan → ℕ → Type 0
 HasArrivedEverywhere i plan m = EachBelow (length (message_at i m).receivers) (HasArrivedAt i plan m)
 
--- the bytes that message m puts into the frame of node n in round r: none where it isn't sent there
+-- the bytes that message m puts into the frame of node n in round r, on whatever channel: none where it isn't sent there
 abbrev pub bytes_in : Instance → Plan → ℕ → ℕ → ℕ → ℕ
 bytes_in i plan n r m = if source_of i m == n && round_of plan m == r then (message_at i m).bytes else 0
 
--- the bytes of all messages in that frame
+-- the bytes of all messages in that frame, each once
 abbrev pub load_of : Instance → Plan → ℕ → ℕ → ℕ
 load_of i plan n r = total (bytes_in i plan n r) (length i.messages)
 
--- the messages of the frame that m is in fit into its capacity
+-- whether the number that stands in a plan is channel c, or says that a message is on both
+abbrev pub is_on : ℕ → ℕ → Bool
+is_on c number = number == c || number == both_channels
+
+-- the bytes that message m puts into the frame of node n in round r on channel c: none where it isn't sent there
+abbrev pub bytes_on : Instance → Plan → ℕ → ℕ → ℕ → ℕ → ℕ
+bytes_on i plan n r c m = if is_on c (channel_of plan m) then bytes_in i plan n r m else 0
+
+-- the bytes of all messages in that frame on that channel
+abbrev pub load_on : Instance → Plan → ℕ → ℕ → ℕ → ℕ
+load_on i plan n r c = total (bytes_on i plan n r c) (length i.messages)
+
+-- where message m is on channel c, the messages of its frame there fit into its capacity
+abbrev pub FitsOn : Instance → Plan → ℕ → ℕ → Type 0
+FitsOn i plan m c = IsTrue (is_on c (channel_of plan m)) → load_on i plan (source_of i m) (round_of plan m) c ≤ slice_index plan.caps (source_of i m)
+
+-- so it is on each channel of the cluster
 abbrev pub FitsFrame : Instance → Plan → ℕ → Type 0
-FitsFrame i plan m = load_of i plan (source_of i m) (round_of plan m) ≤ slice_index plan.caps (source_of i m)
+FitsFrame i plan m = EachBelow i.cluster.channels (FitsOn i plan m)
 
 -- a message may be on this channel: one that is there, the only one where there is one, and both where it is to be on both
 pub record MayBeOn (i : Instance) (m k : ℕ) : Type 0 where

@@ -1,5 +1,5 @@
 -- Small worked examples, on which the definitions are tried: their figures were computed by hand.
-use Rattle.std.specs.Prelude.{ℕ, List, [], ◌∷◌, false, codes}
+use Rattle.std.specs.Prelude.{ℕ, List, [], ◌∷◌, Bool, false, codes}
 use Rattle.ttp_model.specs.declared.parts.Cluster.{Cluster}
 use Rattle.ttp_model.specs.declared.parts.Node.{Node}
 use Rattle.ttp_model.specs.declared.parts.Process.{Process}
@@ -51,3 +51,17 @@ three_alike = instance_with plain_cluster
 -- their starts
 abbrev pub three_alike_plan : List ℕ → Plan
 three_alike_plan starts = record { order = 0 ∷ []; caps = 0 ∷ []; starts = starts; rounds = []; channels = [] }
+
+-- two nodes of a bus with two channels: p runs a tick on A and sends two bytes to q and two to r, which run a tick each on
+-- B; the second message is to be on both channels or not
+abbrev pub two_messages : Bool → Instance
+two_messages both = instance_with (record plain_cluster { channels = 2 })
+    (node_with (codes "A") 2 ∷ node_with (codes "B") 0 ∷ [])
+    (process_on (codes "p") 0 1 ∷ process_on (codes "q") 1 1 ∷ process_on (codes "r") 1 1 ∷ [])
+    []
+    (record { name = codes "m"; sender = 0; receivers = 1 ∷ []; bytes = 2; both = false }
+    ∷ record { name = codes "l"; sender = 0; receivers = 2 ∷ []; bytes = 2; both = both } ∷ [])
+
+-- B before A, p at once, the messages in round 0 on these channels, and q and r behind them
+abbrev pub two_messages_plan : List ℕ → Plan
+two_messages_plan channels = record { order = 1 ∷ 0 ∷ []; caps = 2 ∷ 0 ∷ []; starts = 0 ∷ 4 ∷ 5 ∷ []; rounds = 0 ∷ 0 ∷ []; channels = channels }

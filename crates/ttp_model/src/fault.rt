@@ -43,9 +43,12 @@ pub enum PlanFault {
     /// When a receiver, the process named second, starts before a message is copied in.
     #[error("message {0} arrives after the start of process {1}")]
     NotArrived(u32, u32),
-    /// When the messages of a frame, by node and round, exceed its capacity.
+    /// When the messages of a frame, by node and round, exceed its capacity, in a cluster of one channel.
     #[error("the frame of node {0} in round {1} is overfull")]
     Overfull(u32, u32),
+    /// The same in a cluster of two channels: a frame by node and round, and the channel on which it is overfull.
+    #[error("the frame of node {0} in round {1} is overfull on channel {2}")]
+    OverfullOn(u32, u32, u32),
     /// When a message is on no channel of the cluster, or is to be on both and isn't.
     #[error("message {0} is on a channel that it may not be on")]
     WrongChannel(u32),

@@ -6,7 +6,7 @@ ghost use Rattle.ttp_model.specs.declared.fault.PlanFault.{PlanFault};
 ghost use Rattle.ttp_model.specs.Lists.{EachBelow};
 ghost use Rattle.ttp_model.specs.Instance.{Instance};
 ghost use Rattle.ttp_model.specs.Rules.{IsInstance};
-ghost use Rattle.ttp_model.specs.Plans.{IsValid, IsNodeOrder, end_of, load_of};
+ghost use Rattle.ttp_model.specs.Plans.{IsValid, IsNodeOrder, end_of, load_on};
 ghost use Rattle.ttp_model.specs.Delays.{IsLowerBound, HasNoPlan, delay};
 ghost use Rattle.ttp_model.specs.Chains.{ChainEnds, IsPathBound};
 ghost use Rattle.ttp_model.specs.Faults.{IsFirstFault};
@@ -20,10 +20,10 @@ pub fn delay_is_an_end()
         → (p : ℕ) × (p < length i.processes) × (end_of i plan p ≡ delay i plan) }
 {}
 
-/// In a valid plan no frame of any node and round is overfull, whether a message is in it or not.
+/// In a valid plan no frame of any node and round is overfull on any channel, whether a message is in it or not.
 pub fn frames_fit()
-    ensures { (i : Instance) (plan : Plan) (n r : ℕ) → IsValid i plan
-        → load_of i plan n r ≤ slice_index plan.caps n }
+    ensures { (i : Instance) (plan : Plan) (n r c : ℕ) → IsValid i plan → c < i.cluster.channels
+        → load_on i plan n r c ≤ slice_index plan.caps n }
 {}
 
 /// To say that every valid plan ends after the horizon is to say that there is none.

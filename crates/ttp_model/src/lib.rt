@@ -24,7 +24,7 @@ mod worked;
 pub use ends::{delay, end_of};
 pub use error::{MemoryFault, ModelError, Part, Place};
 pub use fault::{PlanFault, PlanPart};
-pub use frames::bytes_in;
+pub use frames::{bytes_in, bytes_on, is_on};
 pub use instance::Instance;
 pub use laws::{
     delay_is_an_end, each_instance_has_a_path_bound, every_node_has_a_slot,

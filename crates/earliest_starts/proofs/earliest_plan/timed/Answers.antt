@@ -19,7 +19,7 @@ returns-in-Some-late_message c =
     (misses, IsBarren-clash _ _ (Round c.in-Some-late_message.m) c.processes-count.ensures.instance c.requires.of c.requires.complete misses)
 
 pub returns-in-Some-2 : goal.returns-in-Some-2
-returns-in-Some-2 c = let over = rw c.in-Some-2.is at c.in_ok-n.ensures.found in (over, IsBarren-clash _ _ (Frame c.in-Some-2.n c.in-Some-2.r) c.processes-count.ensures.instance c.requires.of c.requires.complete over)
+returns-in-Some-2 c = let over = rw c.in-Some-2.is at c.in_ok-n.ensures.found in (over, IsBarren-clash _ _ (Frame c.in-Some-2.n c.in-Some-2.r c.in-Some-2.k) c.processes-count.ensures.instance c.requires.of c.requires.complete over)
 
 pub made-requires-clause-all : goal.made-requires-clause-all
 made-requires-clause-all c = c.settle.ensures.all

@@ -9,5 +9,8 @@ start_least-requires c = rw c.instance-instance.ensures at c.source_of-n.ensures
 pub bytes_in_frame-requires-clause-fits : goal.bytes_in_frame-requires-clause-fits
 bytes_in_frame-requires-clause-fits c = rw c.instance-instance.ensures c.requires.fits
 
-pub le-requires : goal.le-requires
-le-requires c = rw c.requires.fits.le (rw c.instance-instance.ensures at c.message_at.ensures.sender)
+pub ready_by-requires-clause-message : goal.ready_by-requires-clause-message
+ready_by-requires-clause-message c = rw c.instance-instance.ensures c.requires.message
+
+pub ready_by-requires-clause-fits : goal.ready_by-requires-clause-fits
+ready_by-requires-clause-fits c = rw c.instance-instance.ensures c.requires.fits
