@@ -35,6 +35,7 @@ TICKS_MOST = 1_000_000
 NESTING_MOST = 80  # of brackets in brackets, and of a key's parts
 BRANCHES_MOST = 4_608
 CHANNELS_MOST = 1
+CHANNEL_WORDS = b"0", b"1", b"both"
 NAME = re.compile(rb"[A-Za-z_][A-Za-z0-9_]{0,31}")
 NUMBER = re.compile(rb"0|[1-9][0-9]*")
 QUOTED = re.compile(
@@ -347,6 +348,7 @@ class Plan:
     caps: list
     starts: list
     rounds: list
+    channels: list
 
 
 def plan_fault(code, *place):
@@ -381,16 +383,35 @@ def stated_order(lines, instance):
     return order
 
 
+def stated_channel(lines, name):
+    """The channel in the next line, which is that of the message of this name: 0, 1, or 2 for both."""
+    line, count = lines.next(), lines.count
+    found = line.split(b" ")
+    if (len(found) != 3 or found[0] != b"chan" or not NAME.fullmatch(found[1])
+            or found[2] not in CHANNEL_WORDS):
+        raise plan_fault("F1", count)
+    if found[1] != name:
+        raise plan_fault("F2", count)
+    return CHANNEL_WORDS.index(found[2])
+
+
+def stated_channels(lines, instance):
+    if instance.channels == 1:
+        return [0] * len(instance.messages)
+    return [stated_channel(lines, message.name.encode()) for message in instance.messages]
+
+
 def read_plan(instance, text, lines_before):
     lines = Lines(text, plan_fault, "F5", "F6", lines_before)
-    if lines.next() != b"ttplan 1":
+    if lines.next() != b"ttplan %d" % instance.channels:
         raise plan_fault("F1", lines.count)
     plan = Plan(
         stated_number(lines, b"delay"),
         stated_order(lines, instance),
         [stated_number(lines, b"cap", node.name.encode()) for node in instance.nodes],
         [stated_number(lines, b"start", process.name.encode()) for process in instance.processes],
-        [stated_number(lines, b"round", message.name.encode()) for message in instance.messages])
+        [stated_number(lines, b"round", message.name.encode()) for message in instance.messages],
+        stated_channels(lines, instance))
     lines.end()
     return plan
 

@@ -1,9 +1,10 @@
 -- A fault of a plan's text is told of one of its lines, and there are few.
 use Rattle.std.proofs.Common.{◌≡◌, ℕ, ◌+◌, ◌<◌, ◌≤◌, ◌^◌, List, [], ◌∷◌, length, replicate, Option, None, Some, Ok, Err, Bool, true, false, not, arith, subst}
-use Rattle.std.specs.Prelude.{codes, bytes_eq, ◌==◌, ◌&&◌}
+use Rattle.std.specs.Prelude.{codes, bytes_eq, ◌==◌, ◌&&◌, if◌then◌else◌}
 use Rattle.std.specs.List.{list_all}
 use Rattle.line_text.specs.Parts.{after_keyword, cut}
 use Rattle.line_text.specs.Numbers.{number_word}
+use Rattle.std.proofs.lemmas.Bool.{cond_both, cond-true}
 use Rattle.std.proofs.lemmas.List.{length-map}
 use Rattle.line_text.specs.Results.{◌>>=◌, or_fault, check}
 use Rattle.line_text.specs.declared.number.NumberWord.{NumberWord}
@@ -14,8 +15,11 @@ use Rattle.ttp_model.specs.declared.error.Part.TheVariants.{Nodes, Processes, Me
 use Rattle.plan_format.specs.declared.fault.LineFault.{LineFault}
 use Rattle.plan_format.specs.declared.fault.LineFault.TheVariants.{EarlyEnd, Form, Name, Order, Trailing}
 use Rattle.plan_format.specs.declared.fault.PlanTextError.TheVariants.{At, OutOfMemory}
+use Rattle.plan_format.specs.declared.column.Column.{Column}
+use Rattle.plan_format.specs.declared.column.Column.TheVariants.{Capacity, Start, Round, Channel}
 use Rattle.plan_format.specs.Names.{is_name, names_in, keyword_of}
-use Rattle.plan_format.specs.Reading.{Reading, line_at, number_of, head_at, delay_at, named_at, order_at, named_number, number_at, numbers_at, part_at, end_line, plan_at, places, words_of, is_distinct}
+use Rattle.plan_format.specs.Channels.{has_two_channels, first_line, channel_said}
+use Rattle.plan_format.specs.Reading.{Reading, line_at, number_of, value_of, head_at, delay_at, named_at, order_at, named_number, number_at, numbers_at, part_at, channels_line, channels_at, end_line, plan_at, places, words_of, is_distinct}
 
 -- the fault, if there is one, is told of a line up to this one
 IsWithin : {A : Type 0} → ℕ → Reading A → Type 0
@@ -56,11 +60,11 @@ module _ (most : ℕ) where
   of_line : (line : ℕ) (text : List ℕ) → line ≤ most → IsWithin most (line_at line text)
   of_line line text within = of_option line EarlyEnd (cut 10 text) within
 
-  of_head : (text : List ℕ) → 1 ≤ most → IsWithin most (head_at text)
+  of_head : (i : Instance) (text : List ℕ) → 1 ≤ most → IsWithin most (head_at i text)
   unfolding head_at
-  of_head text within =
+  of_head i text within =
       bind (line_at 1 text) _ (of_line 1 text within) (λ first.
-      bind (check (At 1 Form) (bytes_eq first.0 (codes "ttplan 1"))) _ (of_check 1 Form _ within) (λ form.
+      bind (check (At 1 Form) (bytes_eq first.0 (first_line i))) _ (of_check 1 Form _ within) (λ form.
       given first.1))
 
   of_delay : (text : List ℕ) → 2 ≤ most → IsWithin most (delay_at text)
@@ -88,30 +92,45 @@ module _ (most : ℕ) where
       bind (check (At 3 Order) ((length order == length nodes) && is_distinct order)) _ (of_check 3 Order _ within) (λ once.
       given (order, named.1))))
 
-  of_named_number : (line : ℕ) (keyword name text : List ℕ) → line ≤ most → IsWithin most (named_number line keyword name text)
+  of_value : (column : Column) (line : ℕ) (text : List ℕ) → line ≤ most → IsWithin most (value_of column line text)
+  of_value Capacity line text within = of_number line (number_word text) within
+  of_value Start line text within = of_number line (number_word text) within
+  of_value Round line text within = of_number line (number_word text) within
+  of_value Channel line text within = of_option line Form (channel_said text) within
+
+  of_named_number : (line : ℕ) (column : Column) (name text : List ℕ) → line ≤ most → IsWithin most (named_number line column name text)
   unfolding named_number
-  of_named_number line keyword name text within =
-      bind (or_fault (At line Form) (after_keyword keyword text)) _ (of_option line Form _ within) (λ rest.
+  of_named_number line column name text within =
+      bind (or_fault (At line Form) (after_keyword (keyword_of column) text)) _ (of_option line Form _ within) (λ rest.
       bind (or_fault (At line Form) (cut 32 rest)) _ (of_option line Form _ within) (λ parts.
       bind (check (At line Form) (is_name parts.0)) _ (of_check line Form _ within) (λ form.
-      bind (number_of line (number_word parts.1)) _ (of_number line (number_word parts.1) within) (λ n.
+      bind (value_of column line parts.1) _ (of_value column line parts.1 within) (λ n.
       bind (check (At line Name) (bytes_eq parts.0 name)) _ (of_check line Name _ within) (λ here.
       given n)))))
 
-  of_number_line : (line : ℕ) (keyword name text : List ℕ) → line ≤ most → IsWithin most (number_at line keyword name text)
+  of_number_line : (line : ℕ) (column : Column) (name text : List ℕ) → line ≤ most → IsWithin most (number_at line column name text)
   unfolding number_at
-  of_number_line line keyword name text within =
+  of_number_line line column name text within =
       bind (line_at line text) _ (of_line line text within) (λ first.
-      bind (named_number line keyword name first.0) _ (of_named_number line keyword name first.0 within) (λ n.
+      bind (named_number line column name first.0) _ (of_named_number line column name first.0 within) (λ n.
       given (n, first.1)))
 
-  of_numbers : (line : ℕ) (keyword : List ℕ) (names : List (List ℕ)) (text : List ℕ) → line + length names ≤ most + 1 → IsWithin most (numbers_at line keyword names text)
+  of_numbers : (line : ℕ) (column : Column) (names : List (List ℕ)) (text : List ℕ) → line + length names ≤ most + 1 → IsWithin most (numbers_at line column names text)
   unfolding numbers_at
-  of_numbers line keyword [] text within = given ([], text)
-  of_numbers line keyword (name ∷ names) text within =
-      bind (number_at line keyword name text) _ (of_number_line line keyword name text (omega (arith, within))) (λ first.
-      bind (numbers_at (line + 1) keyword names first.1) _ (of_numbers (line + 1) keyword names first.1 (omega (arith, within))) (λ others.
+  of_numbers line column [] text within = given ([], text)
+  of_numbers line column (name ∷ names) text within =
+      bind (number_at line column name text) _ (of_number_line line column name text (omega (arith, within))) (λ first.
+      bind (numbers_at (line + 1) column names first.1) _ (of_numbers (line + 1) column names first.1 (omega (arith, within))) (λ others.
       given (first.0 ∷ others.0, others.1)))
+
+  of_channels : (i : Instance) (text : List ℕ) → end_line i ≤ most → IsWithin most (channels_at i text)
+  unfolding channels_at
+  of_channels i text within =
+      cond_both (has_two_channels i) (part_at i Channel (channels_line i) text) (read (replicate (length i.messages) 0, text)) (IsWithin most)
+      (λ two.
+      let count : length (names_in i Messages) ≡ length i.messages = length-map i.messages (λ m. m.name) in
+      of_numbers (channels_line i) Channel (names_in i Messages) text (omega (arith, within, count, cond-true (has_two_channels i) (length i.messages) 0 two)))
+      (λ _. given (replicate (length i.messages) 0, text))
 
 of_plan : (i : Instance) (text : List ℕ) → IsWithin (end_line i) (plan_at i text)
 unfolding plan_at
@@ -120,18 +139,23 @@ of_plan i text =
     let nodes : length (names_in i Nodes) ≡ length i.nodes = length-map i.nodes (λ n. n.name) in
     let processes : length (names_in i Processes) ≡ length i.processes = length-map i.processes (λ p. p.name) in
     let messages : length (names_in i Messages) ≡ length i.messages = length-map i.messages (λ m. m.name) in
-    bind most (head_at text) _ (of_head most text (omega arith)) (λ body.
+    bind most (head_at i text) _ (of_head most i text (omega arith)) (λ body.
     bind most (delay_at body) _ (of_delay most body (omega arith)) (λ stated.
     bind most (order_at (names_in i Nodes) stated.1) _ (of_order most (names_in i Nodes) stated.1 (omega arith)) (λ order.
-    bind most (part_at i Nodes 4 order.1) _ (of_numbers most 4 (keyword_of Nodes) (names_in i Nodes) order.1 (omega (arith, nodes))) (λ caps.
-    bind most (part_at i Processes (4 + length i.nodes) caps.1) _ (of_numbers most (4 + length i.nodes) (keyword_of Processes) (names_in i Processes) caps.1 (omega (arith, processes))) (λ starts.
-    bind most (part_at i Messages (4 + length i.nodes + length i.processes) starts.1) _ (of_numbers most (4 + length i.nodes + length i.processes) (keyword_of Messages) (names_in i Messages) starts.1 (omega (arith, messages))) (λ rounds.
-    bind most (check (At (end_line i) Trailing) (length rounds.1 == 0)) _ (of_check most (end_line i) Trailing (length rounds.1 == 0) (omega arith)) (λ end.
-    given most (record { order = order.0; caps = caps.0; starts = starts.0; rounds = rounds.0; channels = replicate (length i.messages) 0 }, stated.0))))))))
+    bind most (part_at i Capacity 4 order.1) _ (of_numbers most 4 Capacity (names_in i Nodes) order.1 (omega (arith, nodes))) (λ caps.
+    bind most (part_at i Start (4 + length i.nodes) caps.1) _ (of_numbers most (4 + length i.nodes) Start (names_in i Processes) caps.1 (omega (arith, processes))) (λ starts.
+    bind most (part_at i Round (4 + length i.nodes + length i.processes) starts.1) _ (of_numbers most (4 + length i.nodes + length i.processes) Round (names_in i Messages) starts.1 (omega (arith, messages))) (λ rounds.
+    bind most (channels_at i rounds.1) _ (of_channels most i rounds.1 (omega arith)) (λ channels.
+    bind most (check (At (end_line i) Trailing) (length channels.1 == 0)) _ (of_check most (end_line i) Trailing (length channels.1 == 0) (omega arith)) (λ end.
+    given most (record { order = order.0; caps = caps.0; starts = starts.0; rounds = rounds.0; channels = channels.0 }, stated.0)))))))))
+
+at_most : (b : Bool) (n : ℕ) → (if b then n else 0) ≤ n
+at_most true n = omega arith
+at_most false n = omega arith
 
 -- so the line behind has a number
 pub line_behind : (i : Instance) → IsInstance i → (text : List ℕ) (line : ℕ) (fault : LineFault) → plan_at i text ≡ Err (At line fault) → line + 1 < 2 ^ 32
 unfolding IsWithin
 line_behind i w text line fault is =
     let within : line ≤ end_line i = subst (IsWithin (end_line i)) is (of_plan i text) in
-    omega (arith, within, w.limits.nodes, w.limits.processes, w.limits.messages)
+    omega (arith, within, at_most (has_two_channels i) (length i.messages), w.limits.nodes, w.limits.processes, w.limits.messages)

@@ -46,7 +46,7 @@ pub record IsMisstated (i : Instance) (bytes : List ℕ) (d : ℕ) : Type 0 wher
 
 -- why bytes within their limit give no valid plan of the instance that states its own delay
 abbrev pub IsPlanFault : Instance → List ℕ → Fault → Type 0
-IsPlanFault i bytes (PlanText error) = (length bytes ≤ plan_limit) × IsFaultOf (HasFront bytes) error (plan_at i bytes)
+IsPlanFault i bytes (PlanText error) = (length bytes ≤ plan_limit) × IsFaultOf (HasFront i bytes) error (plan_at i bytes)
 IsPlanFault i bytes (Plan fault) = IsBroken i bytes fault
 IsPlanFault i bytes (StatedDelay d) = IsMisstated i bytes d
 IsPlanFault i bytes _ = ⊥

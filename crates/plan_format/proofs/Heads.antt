@@ -1,6 +1,7 @@
 -- The two laws of the first line and of the line of the delay.
-use Rattle.std.proofs.Common.{◌≡◌, ℕ, ◌<◌, ◌^◌, List, ◌∷◌, ◌++◌, Ok, lit<, refl, ap, ◌∙◌, arith, Some}
+use Rattle.std.proofs.Common.{◌≡◌, ℕ, ◌<◌, ◌^◌, List, ◌∷◌, ◌++◌, Ok, lit<, true, refl, ap, ◌∙◌, arith, Some}
 use Rattle.std.specs.Prelude.{bytes_eq, decimal, codes}
+use Rattle.std.proofs.lemmas.Bool.{cond_both}
 use Rattle.std.proofs.lemmas.Slice.Eq.{bytes_eq-Decides}
 use Rattle.line_text.specs.Parts.{Lacks, after_keyword}
 use Rattle.line_text.specs.Numbers.{number_word}
@@ -11,22 +12,39 @@ use Rattle.line_text.proofs.Digits.{number_takes, number_again, decimal_lacks}
 use Rattle.line_text.proofs.Results.{bind_ok, ok_is, or_fault_ok, check_ok}
 use Rattle.plan_format.specs.declared.fault.LineFault.TheVariants.{Form}
 use Rattle.plan_format.specs.declared.fault.PlanTextError.TheVariants.{At}
+use Rattle.ttp_model.specs.Instance.{Instance}
+use Rattle.plan_format.specs.Channels.{has_two_channels, first_line}
 use Rattle.plan_format.specs.Reading.{line_at, number_of, head_at, delay_at}
 use Rattle.plan_format.specs.Spelling.{delay_line}
-use Rattle.plan_format.proofs.Lines.{number_of_ok, below, line_takes, line_again}
+use Rattle.plan_format.proofs.Columns.{number_of_ok}
+use Rattle.plan_format.proofs.Lines.{line_takes, line_again}
 
-pub head_takes : (text rest : List ℕ) → head_at text ≡ Ok rest → text ≡ codes "ttplan 1" ++ 10 ∷ rest
+pub head_takes : (i : Instance) (text rest : List ℕ) → head_at i text ≡ Ok rest → text ≡ first_line i ++ 10 ∷ rest
 unfolding head_at
-head_takes text rest e =
+head_takes i text rest e =
     let line = bind_ok (line_at 1 text) _ rest e in
-    let form = bind_ok (check (At 1 Form) (bytes_eq line.0.0 (codes "ttplan 1"))) _ rest line.2 in
-    let here : line.0.0 ≡ codes "ttplan 1" = (bytes_eq-Decides line.0.0 (codes "ttplan 1")).0 (check_ok (At 1 Form) _ form.0 form.1) in
+    let form = bind_ok (check (At 1 Form) (bytes_eq line.0.0 (first_line i))) _ rest line.2 in
+    let here : line.0.0 ≡ first_line i = (bytes_eq-Decides line.0.0 (first_line i)).0 (check_ok (At 1 Form) _ form.0 form.1) in
     let is : line.0.1 ≡ rest = ok_is line.0.1 rest form.2 in
     line_takes 1 text line.0.0 line.0.1 line.1 ∙ rw (here, is) refl
 
-pub head_again : (rest : List ℕ) → head_at (codes "ttplan 1" ++ 10 ∷ rest) ≡ Ok rest
+first_lacks : (i : Instance) → Lacks 10 (first_line i)
+unfolding first_line
+first_lacks i =
+    cond_both (has_two_channels i) (codes "ttplan 2") (codes "ttplan 1") (Lacks 10)
+    (λ _. Lacks-from_test 10 (codes "ttplan 2") refl) (λ _. Lacks-from_test 10 (codes "ttplan 1") refl)
+
+head_steps : (i : Instance) (text first rest : List ℕ) → line_at 1 text ≡ Ok (first, rest) → bytes_eq first (first_line i) ≡ true → head_at i text ≡ Ok rest
 unfolding head_at
-head_again rest = rw (line_again 1 (codes "ttplan 1") rest (Lacks-from_test 10 (codes "ttplan 1") refl)) refl
+head_steps i text first rest a b = rw (a, b) refl
+
+pub head_again : (i : Instance) (rest : List ℕ) → head_at i (first_line i ++ 10 ∷ rest) ≡ Ok rest
+head_again i rest =
+    head_steps i (first_line i ++ 10 ∷ rest) (first_line i) rest (line_again 1 (first_line i) rest (first_lacks i))
+    ((bytes_eq-Decides (first_line i) (first_line i)).1 refl)
+
+below : (m n : ℕ) → m ≡ n → m < 2 ^ 32 → n < 2 ^ 32
+below m n e h = omega arith
 
 delay_joined : (text first after word rest : List ℕ) (m n : ℕ) → text ≡ first ++ 10 ∷ after → first ≡ codes "delay " ++ word → word ≡ decimal m → m ≡ n → after ≡ rest
     → text ≡ delay_line n ++ 10 ∷ rest

@@ -1,9 +1,11 @@
+pub mod Columns
 pub mod Heads
 pub mod Lines
 pub mod NameForm
 pub mod NumberLoop
 pub mod OrderLine
 pub mod Spaced
+pub mod ToldChannels
 pub mod ValidPlans
 pub mod WholeText
 pub mod WordLoop

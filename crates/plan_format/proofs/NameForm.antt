@@ -1,12 +1,16 @@
 -- The test for the form of a name is the model's rule for a name.
-use Rattle.std.proofs.Common.{◌≡◌, ℕ, Bool, true, false, List, IsTrue, ◌↔◌, refl, sym, ap, ◌∙◌, ◌≢◌, arith}
+use Rattle.std.proofs.Common.{◌≡◌, ℕ, Bool, true, false, List, All, get_or, IsTrue, ◌↔◌, refl, sym, ap, ◌∙◌, ◌≢◌, arith}
 use Rattle.std.proofs.lemmas.List.Sums.{AllPass-from_list_all, list_all-from_AllPass}
 use Rattle.std.specs.List.{list_all}
 use Rattle.std.proofs.lemmas.List.{get_or_default}
-use Rattle.std.proofs.lemmas.List.Elements.{All-weaker}
+use Rattle.std.proofs.lemmas.List.Elements.{All-weaker, All-map, All-from_get_or}
 use Rattle.line_text.specs.Parts.{Lacks}
-use Rattle.ttp_model.specs.Rules.{IsName, continues_name}
-use Rattle.plan_format.specs.Names.{is_name}
+use Rattle.ttp_model.specs.declared.error.Part.{Part}
+use Rattle.ttp_model.specs.declared.error.Part.TheVariants.{Nodes, Processes, Links, Messages}
+use Rattle.ttp_model.specs.declared.error.Place.TheVariants.{AtNode, AtProcess, AtMessage}
+use Rattle.ttp_model.specs.Instance.{Instance, no_node, no_process, no_message}
+use Rattle.ttp_model.specs.Rules.{IsInstance, IsName, continues_name}
+use Rattle.plan_format.specs.Names.{is_name, names_in}
 
 IsName-from_test : (word : List ℕ) → is_name word ≡ true → IsName word
 IsName-from_test word h =
@@ -39,3 +43,18 @@ pub name_lacks : (byte : ℕ) → continues_name byte ≡ false → (name : List
 name_lacks byte never name h =
     All-weaker (λ c. continues_name c ≡ true) (λ c. c ≢ byte) (other_byte byte never) name
     (λ k d lt. rw (get_or_default name k d 0 lt) ((IsName-from_test name h).others k lt))
+
+-- the names of an instance have that form
+pub names_form : (i : Instance) → IsInstance i → (part : Part) → All (λ name. is_name name ≡ true) (names_in i part)
+names_form i w Nodes =
+    All-map (λ name. is_name name ≡ true) (λ n. n.name) i.nodes
+    (All-from_get_or (λ n. is_name n.name ≡ true) i.nodes no_node (λ k lt. test-from_IsName (get_or i.nodes k no_node).name (w.names (AtNode k) lt)))
+names_form i w Processes =
+    All-map (λ name. is_name name ≡ true) (λ p. p.name) i.processes
+    (All-from_get_or (λ p. is_name p.name ≡ true) i.processes no_process (λ k lt.
+    test-from_IsName (get_or i.processes k no_process).name (w.names (AtProcess k) lt)))
+names_form i w Messages =
+    All-map (λ name. is_name name ≡ true) (λ m. m.name) i.messages
+    (All-from_get_or (λ m. is_name m.name ≡ true) i.messages no_message (λ k lt.
+    test-from_IsName (get_or i.messages k no_message).name (w.names (AtMessage k) lt)))
+names_form i w Links = (λ k d lt. absurd (omega arith))

@@ -9,12 +9,15 @@ use Rattle.ttp_model.specs.declared.parts.Node.{Node}
 use Rattle.ttp_model.specs.declared.plan.Plan.{Plan}
 use Rattle.ttp_model.specs.declared.error.Part.TheVariants.{Nodes, Processes, Messages}
 use Rattle.ttp_model.specs.Instance.{Instance, node_at, no_node}
-use Rattle.plan_format.specs.Names.{names_in, keyword_of}
-use Rattle.plan_format.specs.Spelling.{numbered, delay_line, order_line, plan_text}
+use Rattle.plan_format.specs.declared.column.Column.TheVariants.{Capacity, Start, Round}
+use Rattle.plan_format.specs.Names.{names_in}
+use Rattle.plan_format.specs.Channels.{first_line}
+use Rattle.plan_format.specs.Spelling.{numbered, channel_lines, delay_line, order_line, plan_text}
 
-pub head_pushed : (old a b c : List ℕ) (delay : ℕ) → a ≡ old ++ codes "ttplan 1\ndelay " → b ≡ a ++ decimal delay → c ≡ b ++ 10 ∷ []
-    → c ≡ old ++ (codes "ttplan 1" ++ 10 ∷ (delay_line delay ++ 10 ∷ []))
-head_pushed old a b c delay ea eb ec = rw (ec, eb, ea) (simp append_assoc)
+pub head_pushed : (i : Instance) (line old a b c d : List ℕ) (delay : ℕ) → line ≡ first_line i → a ≡ old ++ line → b ≡ a ++ codes "\ndelay "
+    → c ≡ b ++ decimal delay → d ≡ c ++ 10 ∷ []
+    → d ≡ old ++ (first_line i ++ 10 ∷ (delay_line delay ++ 10 ∷ []))
+head_pushed i line old a b c d delay el ea eb ec ed = rw (ed, ec, eb, ea, el) (simp append_assoc)
 
 -- a node's name, with a space before it
 unfoldable pub spaced : Instance → ℕ → List ℕ
@@ -48,14 +51,18 @@ order_pushed i order k old start text a some long es et ea =
     let grouped : ((old ++ codes "order") ++ flat_map (spaced i) order) ++ 10 ∷ [] ≡ old ++ ((codes "order" ++ flat_map (spaced i) order) ++ 10 ∷ []) = simp append_assoc in
     rw (ea, et, whole, es) (grouped ∙ ap (λ (words : List ℕ). old ++ (words ++ 10 ∷ [])) (sym (order_line-spaced i order some)))
 
-line_by_line : (a b c x y z : List ℕ) → ((((a ++ 10 ∷ (b ++ 10 ∷ [])) ++ (c ++ 10 ∷ [])) ++ x) ++ y) ++ z ≡ a ++ 10 ∷ (b ++ 10 ∷ (c ++ 10 ∷ (x ++ (y ++ z))))
-line_by_line a b c x y z = simp append_assoc
+line_by_line : (a b c w x y z : List ℕ)
+    → (((((a ++ 10 ∷ (b ++ 10 ∷ [])) ++ (c ++ 10 ∷ [])) ++ w) ++ x) ++ y) ++ z ≡ a ++ 10 ∷ (b ++ 10 ∷ (c ++ 10 ∷ (w ++ (x ++ (y ++ z)))))
+line_by_line a b c w x y z = simp append_assoc
 
 -- the whole text, by its parts
-pub text_pushed : (i : Instance) (plan : Plan) (delay : ℕ) (old a b c d e : List ℕ) → old ≡ [] → a ≡ old ++ (codes "ttplan 1" ++ 10 ∷ (delay_line delay ++ 10 ∷ []))
-    → b ≡ a ++ (order_line i plan.order ++ 10 ∷ []) → c ≡ b ++ numbered (keyword_of Nodes) (names_in i Nodes) plan.caps
-    → d ≡ c ++ numbered (keyword_of Processes) (names_in i Processes) plan.starts → e ≡ d ++ numbered (keyword_of Messages) (names_in i Messages) plan.rounds
-    → e ≡ plan_text i plan delay
-text_pushed i plan delay old a b c d e eo ea eb ec ed ee =
-    rw (ee, ed, ec, eb, ea, eo)
-    (line_by_line (codes "ttplan 1") (delay_line delay) (order_line i plan.order) (numbered (keyword_of Nodes) (names_in i Nodes) plan.caps) (numbered (keyword_of Processes) (names_in i Processes) plan.starts) (numbered (keyword_of Messages) (names_in i Messages) plan.rounds))
+pub text_pushed : (i : Instance) (plan : Plan) (delay : ℕ) (old a b c d e f : List ℕ) → old ≡ []
+    → a ≡ old ++ (first_line i ++ 10 ∷ (delay_line delay ++ 10 ∷ []))
+    → b ≡ a ++ (order_line i plan.order ++ 10 ∷ []) → c ≡ b ++ numbered Capacity (names_in i Nodes) plan.caps
+    → d ≡ c ++ numbered Start (names_in i Processes) plan.starts → e ≡ d ++ numbered Round (names_in i Messages) plan.rounds
+    → f ≡ e ++ channel_lines i plan.channels
+    → f ≡ plan_text i plan delay
+text_pushed i plan delay old a b c d e f eo ea eb ec ed ee ef =
+    rw (ef, ee, ed, ec, eb, ea, eo)
+    (line_by_line (first_line i) (delay_line delay) (order_line i plan.order) (numbered Capacity (names_in i Nodes) plan.caps)
+    (numbered Start (names_in i Processes) plan.starts) (numbered Round (names_in i Messages) plan.rounds) (channel_lines i plan.channels))

@@ -1,4 +1,5 @@
 pub mod Names
+pub mod Channels
 pub mod Spelling
 pub mod Reading
 pub mod Words

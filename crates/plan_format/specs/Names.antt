@@ -6,6 +6,8 @@ use Rattle.ttp_model.specs.Instance.{Instance}
 use Rattle.ttp_model.specs.Rules.{begins_name, continues_name}
 use Rattle.ttp_model.specs.declared.error.Part.{Part}
 use Rattle.ttp_model.specs.declared.error.Part.TheVariants.{Nodes, Processes, Messages}
+use Rattle.plan_format.specs.declared.column.Column.{Column}
+use Rattle.plan_format.specs.declared.column.Column.TheVariants.{Capacity, Start, Round, Channel}
 
 -- Whether a word has the form of a name, as a test: a law says that it is the model's `IsName`.
 abbrev pub is_name : List ℕ → Bool
@@ -20,8 +22,16 @@ names_in i Processes = map (λ p. p.name) i.processes
 names_in i Messages = map (λ m. m.name) i.messages
 names_in i _ = []
 
--- what a line for one of a list begins with: capacities for nodes, starts for processes, and rounds
-abbrev pub keyword_of : Part → List ℕ
-keyword_of Nodes = codes "cap "
-keyword_of Processes = codes "start "
-keyword_of _ = codes "round "
+-- the list of the parts that such lines name
+abbrev pub part_of : Column → Part
+part_of Capacity = Nodes
+part_of Start = Processes
+part_of Round = Messages
+part_of Channel = Messages
+
+-- what each of them begins with
+abbrev pub keyword_of : Column → List ℕ
+keyword_of Capacity = codes "cap "
+keyword_of Start = codes "start "
+keyword_of Round = codes "round "
+keyword_of Channel = codes "chan "

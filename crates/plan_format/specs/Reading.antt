@@ -1,6 +1,6 @@
 -- Reading a plan text line by line: the plan and its stated delay, or the first fault and its
 -- line. The steps stand in the order in which faults are judged. Own profile.
-use Rattle.std.specs.Prelude.{◌≡◌, ℕ, ◌+◌, List, [], ◌∷◌, length, Option, Some, None, Result, Ok, Err, IsOk, Bool, true, ◌==◌, ◌&&◌, not, bytes_eq, codes, position, replicate}
+use Rattle.std.specs.Prelude.{◌≡◌, ℕ, ◌+◌, List, [], ◌∷◌, length, Option, Some, None, Result, Ok, Err, IsOk, Bool, true, ◌==◌, ◌&&◌, if◌then◌else◌, not, bytes_eq, codes, position, replicate}
 use Rattle.std.specs.List.{list_all, list_any, slice_split}
 use Rattle.line_text.specs.Parts.{cut, after_keyword}
 use Rattle.line_text.specs.Numbers.{number_word}
@@ -9,9 +9,11 @@ use Rattle.line_text.specs.declared.number.NumberWord.TheVariants as word
 use Rattle.line_text.specs.Results.{◌>>=◌, or_fault, check}
 use Rattle.ttp_model.specs.Instance.{Instance}
 use Rattle.ttp_model.specs.declared.plan.Plan.{Plan}
-use Rattle.ttp_model.specs.declared.error.Part.{Part}
-use Rattle.ttp_model.specs.declared.error.Part.TheVariants.{Nodes, Processes, Messages}
-use Rattle.plan_format.specs.Names.{is_name, names_in, keyword_of}
+use Rattle.ttp_model.specs.declared.error.Part.TheVariants.{Nodes}
+use Rattle.plan_format.specs.declared.column.Column.{Column}
+use Rattle.plan_format.specs.declared.column.Column.TheVariants.{Capacity, Start, Round, Channel}
+use Rattle.plan_format.specs.Names.{is_name, names_in, part_of, keyword_of}
+use Rattle.plan_format.specs.Channels.{has_two_channels, first_line, channel_said}
 use Rattle.plan_format.specs.declared.fault.LineFault.TheVariants.{Form, Number, Name, Order, EarlyEnd, Trailing}
 use Rattle.plan_format.specs.declared.fault.PlanTextError.{PlanTextError}
 use Rattle.plan_format.specs.declared.fault.PlanTextError.TheVariants.{At, OutOfMemory}
@@ -41,11 +43,11 @@ number_of line word.Malformed = Err (At line Form)
 number_of line word.TooLarge = Err (At line Number)
 number_of line (word.Number n) = Ok n
 
--- the first line says which text this is
-unfoldable pub head_at : List ℕ → Reading (List ℕ)
-head_at text = do
+-- the first line says which text this is, in the version that the instance asks for
+unfoldable pub head_at : Instance → List ℕ → Reading (List ℕ)
+head_at i text = do
   first ← line_at 1 text
-  form ← check (At 1 Form) (bytes_eq first.0 (codes "ttplan 1"))
+  form ← check (At 1 Form) (bytes_eq first.0 (first_line i))
   Ok first.1
 
 -- the stated delay, in ticks
@@ -94,59 +96,75 @@ order_at nodes text = do
   once ← check (At 3 Order) ((length order == length nodes) && is_distinct order)
   Ok (order, named.1)
 
+-- the number that the word behind a name is; what is no channel's word has another form
+abbrev pub value_of : Column → ℕ → List ℕ → Reading ℕ
+value_of Capacity line text = number_of line (number_word text)
+value_of Start line text = number_of line (number_word text)
+value_of Round line text = number_of line (number_word text)
+value_of Channel line text = or_fault (At line Form) (channel_said text)
+
 -- the number in a line for this name
-unfoldable pub named_number : ℕ → List ℕ → List ℕ → List ℕ → Reading ℕ
-named_number line keyword name text = do
-  rest ← or_fault (At line Form) (after_keyword keyword text)
+unfoldable pub named_number : ℕ → Column → List ℕ → List ℕ → Reading ℕ
+named_number line column name text = do
+  rest ← or_fault (At line Form) (after_keyword (keyword_of column) text)
   parts ← or_fault (At line Form) (cut 32 rest)
   form ← check (At line Form) (is_name parts.0)
-  n ← number_of line (number_word parts.1)
+  n ← value_of column line parts.1
   here ← check (At line Name) (bytes_eq parts.0 name)
   Ok n
 
 -- the number in the next line, and the text after that line
-unfoldable pub number_at : ℕ → List ℕ → List ℕ → List ℕ → Reading (ℕ × List ℕ)
-number_at line keyword name text = do
+unfoldable pub number_at : ℕ → Column → List ℕ → List ℕ → Reading (ℕ × List ℕ)
+number_at line column name text = do
   first ← line_at line text
-  n ← named_number line keyword name first.0
+  n ← named_number line column name first.0
   Ok (n, first.1)
 
 -- the numbers of the next lines, one line for each name, and the text after them
-unfoldable pub numbers_at : ℕ → List ℕ → List (List ℕ) → List ℕ → Reading (List ℕ × List ℕ)
-numbers_at line keyword [] text = Ok ([], text)
-numbers_at line keyword (name ∷ names) text = do
-  first ← number_at line keyword name text
-  others ← numbers_at (line + 1) keyword names first.1
+unfoldable pub numbers_at : ℕ → Column → List (List ℕ) → List ℕ → Reading (List ℕ × List ℕ)
+numbers_at line column [] text = Ok ([], text)
+numbers_at line column (name ∷ names) text = do
+  first ← number_at line column name text
+  others ← numbers_at (line + 1) column names first.1
   Ok (first.0 ∷ others.0, others.1)
 
--- the numbers of one of the instance's lists
-abbrev pub part_at : Instance → Part → ℕ → List ℕ → Reading (List ℕ × List ℕ)
-part_at i part line text = numbers_at line (keyword_of part) (names_in i part) text
+-- the numbers of one kind, whose first line has this number
+abbrev pub part_at : Instance → Column → ℕ → List ℕ → Reading (List ℕ × List ℕ)
+part_at i column line text = numbers_at line column (names_in i (part_of column)) text
 
--- the line after the last one: there are three, and one for each node, process and message
+-- the line behind the rounds: before it are three, and one for each node, process and message
+abbrev pub channels_line : Instance → ℕ
+channels_line i = 4 + length i.nodes + length i.processes + length i.messages
+
+-- the messages' channels, and the text after their lines: where there is one channel no line tells it, and each message is on it
+unfoldable pub channels_at : Instance → List ℕ → Reading (List ℕ × List ℕ)
+channels_at i text =
+    if has_two_channels i then part_at i Channel (channels_line i) text else Ok (replicate (length i.messages) 0, text)
+
+-- the line after the last one: where there are two channels each message has another line
 abbrev pub end_line : Instance → ℕ
-end_line i = 4 + length i.nodes + length i.processes + length i.messages
+end_line i = channels_line i + (if has_two_channels i then length i.messages else 0)
 
 -- what is read before memory is taken: the first two lines, and the form of the third
-unfoldable pub front_at : List ℕ → Reading (List ℕ × List ℕ)
-front_at text = do
-  body ← head_at text
+unfoldable pub front_at : Instance → List ℕ → Reading (List ℕ × List ℕ)
+front_at i text = do
+  body ← head_at i text
   delay ← delay_at body
   named_at delay.1
 
 -- it is right, so that memory may be taken
-abbrev pub HasFront : List ℕ → Type 0
-HasFront text = IsOk (front_at text)
+abbrev pub HasFront : Instance → List ℕ → Type 0
+HasFront i text = IsOk (front_at i text)
 
--- The whole text: a plan of the instance and its stated delay, which is not judged. No line has channels, since there is
--- one: each message is on channel 0.
+-- the whole text: a plan of the instance and its stated delay, which is not judged
 unfoldable pub plan_at : Instance → List ℕ → Reading (Plan × ℕ)
 plan_at i text = do
-  body ← head_at text
+  body ← head_at i text
   delay ← delay_at body
   order ← order_at (names_in i Nodes) delay.1
-  caps ← part_at i Nodes 4 order.1
-  starts ← part_at i Processes (4 + length i.nodes) caps.1
-  rounds ← part_at i Messages (4 + length i.nodes + length i.processes) starts.1
-  end ← check (At (end_line i) Trailing) (length rounds.1 == 0)
-  Ok (record { order = order.0; caps = caps.0; starts = starts.0; rounds = rounds.0; channels = replicate (length i.messages) 0 }, delay.0)
+  caps ← part_at i Capacity 4 order.1
+  starts ← part_at i Start (4 + length i.nodes) caps.1
+  rounds ← part_at i Round (4 + length i.nodes + length i.processes) starts.1
+  channels ← channels_at i rounds.1
+  end ← check (At (end_line i) Trailing) (length channels.1 == 0)
+  Ok (record { order = order.0; caps = caps.0; starts = starts.0; rounds = rounds.0; channels = channels.0 }, delay.0)

@@ -10,7 +10,7 @@ use thiserror::Error;
 /// then its names, then the order.
 #[derive(Clone, Copy, Debug, PartialEq, Eq, Error)]
 pub enum LineFault {
-    /// When its keyword, its count of words or the form of a name or of a number is another. The
+    /// When its keyword, its count of words or the form of a name, of a number or of a channel's word is another. The
     /// count of words in the order line is no matter of form.
     #[error("it has another form")]
     Form,

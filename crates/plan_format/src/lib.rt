@@ -1,6 +1,8 @@
 //! Plans as text, both ways.
 #![tactic(auto)]
 
+mod channels;
+mod column;
 mod fault;
 mod laws;
 mod line;
@@ -10,6 +12,9 @@ mod printing;
 mod reading;
 
 pub use fault::{LineFault, PlanTextError};
-pub use laws::{spelling_is_of_one_plan, word_is_a_name_by_the_model};
+pub use laws::{
+    faults_of_two_channels, spelling_is_of_one_plan, text_of_two_channels,
+    word_is_a_name_by_the_model,
+};
 pub use printing::print;
 pub use reading::read;

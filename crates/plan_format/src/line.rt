@@ -3,8 +3,10 @@
 ghost use Rattle.std.specs.Prelude.{◌≡◌};
 ghost use Rattle.line_text.specs.Numbers.{number_word};
 ghost use Rattle.plan_format.specs.Names.{is_name};
-ghost use Rattle.plan_format.specs.Reading.{IsAnswer, line_at, number_of, named_number, number_at};
+ghost use Rattle.plan_format.specs.Reading.{IsAnswer, line_at, number_of, value_of, named_number, number_at};
 
+use crate::channels::channel_in;
+use crate::column::{Column, keyword_of};
 use crate::fault::{LineFault, PlanTextError};
 use line_text::{NumberWord, after_keyword, cut, number_word};
 use ttp_model::is_name;
@@ -34,11 +36,21 @@ pub fn has_name_form(word: &[u8]) -> bool
     is_name(word)
 }
 
-#[tactic(auto, unfolding(crate::specs::Reading::named_number))]
-fn named_number(line: u32, keyword: &[u8], name: &[u8], text: &[u8]) -> Result<u32, PlanTextError>
-    ensures { IsAnswer ⊥ (λ x. x) result (named_number line keyword.now name.now text.now) }
+/// The number that the word behind a name is.
+fn value_in(line: u32, column: Column, word: &[u8]) -> Result<u32, PlanTextError>
+    ensures { IsAnswer ⊥ (λ x. x) result (value_of column line word.now) }
 {
-    let Some(rest) = after_keyword(keyword, text) else {
+    match column {
+        Column::Capacity | Column::Start | Column::Round => number_in(line, word),
+        Column::Channel => channel_in(line, word),
+    }
+}
+
+#[tactic(auto, unfolding(crate::specs::Reading::named_number))]
+fn named_number(line: u32, column: Column, name: &[u8], text: &[u8]) -> Result<u32, PlanTextError>
+    ensures { IsAnswer ⊥ (λ x. x) result (named_number line column name.now text.now) }
+{
+    let Some(rest) = after_keyword(keyword_of(column), text) else {
         return Err(LineFault::Form.at(line));
     };
     let Some((found, word)) = cut(b' ', rest) else {
@@ -47,7 +59,7 @@ fn named_number(line: u32, keyword: &[u8], name: &[u8], text: &[u8]) -> Result<u
     if !has_name_form(found) {
         return Err(LineFault::Form.at(line));
     }
-    let number = number_in(line, word)?;
+    let number = value_in(line, column, word)?;
     if found != name {
         return Err(LineFault::Name.at(line));
     }
@@ -58,13 +70,13 @@ fn named_number(line: u32, keyword: &[u8], name: &[u8], text: &[u8]) -> Result<u
 #[tactic(auto, unfolding(crate::specs::Reading::number_at))]
 pub fn number_of<'a>(
     line: u32,
-    keyword: &[u8],
+    column: Column,
     name: &[u8],
     text: &'a [u8],
 ) -> Result<(u32, &'a [u8]), PlanTextError>
-    ensures { IsAnswer ⊥ (λ x. (x.0, x.1.now)) result (number_at line keyword.now name.now text.now) }
+    ensures { IsAnswer ⊥ (λ x. (x.0, x.1.now)) result (number_at line column name.now text.now) }
 {
     let (first, after) = line_of(line, text)?;
-    let number = named_number(line, keyword, name, first)?;
+    let number = named_number(line, column, name, first)?;
     Ok((number, after))
 }

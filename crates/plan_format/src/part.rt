@@ -1,8 +1,8 @@
-//! Which names and which keyword do the lines of one of the instance's lists have?
+//! Which names stand in one of the instance's lists?
 
 ghost use Rattle.std.specs.Prelude.{◌≡◌, ◌<◌, ◌≤◌, length, slice_index_or, []};
 ghost use Rattle.ttp_model.specs.declared.limits.TheConstants.{MOST_MESSAGES};
-ghost use Rattle.plan_format.specs.Names.{names_in, keyword_of};
+ghost use Rattle.plan_format.specs.Names.{names_in};
 
 use ttp_model::{Instance, Part};
 
@@ -29,16 +29,5 @@ pub fn name_of(instance: &Instance, part: Part, k: usize) -> &[u8]
         Part::Processes => instance.processes()[k].name.as_bytes(),
         Part::Links => b"",
         Part::Messages => instance.messages()[k].name.as_bytes(),
-    }
-}
-
-/// What each of the list's lines begins with.
-pub fn keyword_of(part: Part) -> &'static [u8]
-    ensures { result.now ≡ keyword_of part }
-{
-    match part {
-        Part::Nodes => b"cap ",
-        Part::Processes => b"start ",
-        _ => b"round ",
     }
 }

@@ -1,21 +1,25 @@
 //! How is a plan written?
 
-ghost use Rattle.std.specs.Prelude.{◌≡◌, ◌++◌, ◌∷◌, [], ◌<◌, ◌≤◌, length, decimal, codes, All, IfOk, OnOk};
+ghost use Rattle.std.specs.Prelude.{◌≡◌, ◌++◌, ◌∷◌, [], ◌<◌, length, All, IfOk, OnOk};
 ghost use Rattle.ttp_model.specs.Plans.{IsValid};
 ghost use Rattle.ttp_model.specs.Delays.{delay};
-ghost use Rattle.plan_format.specs.Names.{names_in, keyword_of};
-ghost use Rattle.plan_format.specs.Spelling.{numbered, delay_line, order_line, SpellsPlan};
+ghost use Rattle.plan_format.specs.Names.{names_in, part_of};
+ghost use Rattle.plan_format.specs.Channels.{first_line};
+ghost use Rattle.plan_format.specs.Spelling.{value_word, number_line, numbered, channel_lines, delay_line, order_line, SpellsPlan};
 
-use crate::part::{keyword_of, name_of};
+use crate::channels::{channel_word, first_line, has_two_channels};
+use crate::column::{Column, keyword_of, part_of};
+use crate::part::name_of;
 use line_text::push_number;
 use std::alloc::{AllocError, Global};
-use ttp_model::{Instance, MemoryFault, Part, Plan, delay};
+use ttp_model::{Instance, MemoryFault, Plan, delay};
 
-fn push_head(text: &mut Vec<u8>, delay: u64) -> Result<(), AllocError>
+fn push_head(text: &mut Vec<u8>, instance: &Instance, delay: u64) -> Result<(), AllocError>
     ensures { OnOk result (text.new.items ≡
-        text.old.items ++ (codes "ttplan 1" ++ 10 ∷ (delay_line delay ++ 10 ∷ []))) }
+        text.old.items ++ (first_line instance.now ++ 10 ∷ (delay_line delay ++ 10 ∷ []))) }
 {
-    text.extend_from_slice(b"ttplan 1\ndelay ")?;
+    text.extend_from_slice(first_line(instance))?;
+    text.extend_from_slice(b"\ndelay ")?;
     push_number(text, delay)?;
     text.push(b'\n')?;
     Ok(())
@@ -36,14 +40,23 @@ fn push_order(text: &mut Vec<u8>, instance: &Instance, order: &[u32]) -> Result<
     Ok(())
 }
 
-fn push_line(text: &mut Vec<u8>, keyword: &[u8], name: &[u8], number: u32) -> Result<(), AllocError>
-    ensures { OnOk result (text.new.items ≡
-        text.old.items ++ ((keyword.now ++ (name.now ++ 32 ∷ decimal number)) ++ 10 ∷ [])) }
+fn push_value(text: &mut Vec<u8>, column: Column, number: u32) -> Result<(), AllocError>
+    ensures { OnOk result (text.new.items ≡ text.old.items ++ value_word column number) }
 {
-    text.extend_from_slice(keyword)?;
+    match column {
+        Column::Capacity | Column::Start | Column::Round => push_number(text, number as u64),
+        Column::Channel => text.extend_from_slice(channel_word(number)),
+    }
+}
+
+fn push_line(text: &mut Vec<u8>, column: Column, name: &[u8], number: u32) -> Result<(), AllocError>
+    ensures { OnOk result (text.new.items ≡
+        text.old.items ++ (number_line column name.now number ++ 10 ∷ [])) }
+{
+    text.extend_from_slice(keyword_of(column))?;
     text.extend_from_slice(name)?;
     text.push(b' ')?;
-    push_number(text, number as u64)?;
+    push_value(text, column, number)?;
     text.push(b'\n')?;
     Ok(())
 }
@@ -51,17 +64,33 @@ fn push_line(text: &mut Vec<u8>, keyword: &[u8], name: &[u8], number: u32) -> Re
 fn push_lines(
     text: &mut Vec<u8>,
     instance: &Instance,
-    part: Part,
+    column: Column,
     numbers: &[u32],
 ) -> Result<(), AllocError>
-    requires { length numbers.now ≡ length (names_in instance.now part) }
+    requires { length numbers.now ≡ length (names_in instance.now (part_of column)) }
     ensures { OnOk result (text.new.items ≡
-        text.old.items ++ numbered (keyword_of part) (names_in instance.now part) numbers.now) }
+        text.old.items ++ numbered column (names_in instance.now (part_of column)) numbers.now) }
 {
-    let keyword = keyword_of(part);
+    let part = part_of(column);
     for k in 0..numbers.len() {
-        push_line(text, keyword, name_of(instance, part, k), numbers[k])?;
+        push_line(text, column, name_of(instance, part, k), numbers[k])?;
     }
+    Ok(())
+}
+
+#[tactic(auto, unfolding(crate::specs::Spelling::channel_lines))]
+fn push_channels(
+    text: &mut Vec<u8>,
+    instance: &Instance,
+    channels: &[u32],
+) -> Result<(), AllocError>
+    requires { length channels.now ≡ length instance.now.messages }
+    ensures { OnOk result (text.new.items ≡ text.old.items ++ channel_lines instance.now channels.now) }
+{
+    if !has_two_channels(instance) {
+        return Ok(());
+    }
+    push_lines(text, instance, Column::Channel, channels)?;
     Ok(())
 }
 
@@ -73,10 +102,11 @@ pub fn print(alloc: Global, instance: &Instance, plan: &Plan) -> Result<Vec<u8>,
 {
     let _nodes = instance.nodes();
     let mut text = Vec::new(alloc);
-    push_head(&mut text, delay(instance, plan))?;
+    push_head(&mut text, instance, delay(instance, plan))?;
     push_order(&mut text, instance, plan.order.as_slice())?;
-    push_lines(&mut text, instance, Part::Nodes, plan.caps.as_slice())?;
-    push_lines(&mut text, instance, Part::Processes, plan.starts.as_slice())?;
-    push_lines(&mut text, instance, Part::Messages, plan.rounds.as_slice())?;
+    push_lines(&mut text, instance, Column::Capacity, plan.caps.as_slice())?;
+    push_lines(&mut text, instance, Column::Start, plan.starts.as_slice())?;
+    push_lines(&mut text, instance, Column::Round, plan.rounds.as_slice())?;
+    push_channels(&mut text, instance, plan.channels.as_slice())?;
     Ok(text)
 }

@@ -1,25 +1,27 @@
 //! Which plan and which delay does a text spell, or what is its first fault?
 
 ghost use Rattle.std.specs.Prelude.{◌≡◌, ◌≢◌, ◌+◌, ◌≤◌, ℕ, IfOk};
-ghost use Rattle.ttp_model.specs.declared.limits.TheConstants.{MOST_NODES, MOST_PROCESSES};
+ghost use Rattle.ttp_model.specs.declared.limits.TheConstants.{MOST_MESSAGES, MOST_NODES, MOST_PROCESSES};
 ghost use Rattle.ttp_model.specs.Rules.{IsInstance};
 ghost use Rattle.plan_format.specs.Spelling.{SpellsPlan};
-ghost use Rattle.plan_format.specs.Reading.{IsAnswer, HasFront, head_at, delay_at, part_at, plan_at};
+ghost use Rattle.plan_format.specs.Reading.{IsAnswer, HasFront, head_at, delay_at, part_at, channels_line, channels_at, end_line, plan_at};
 
+use crate::channels::{first_line, has_two_channels};
+use crate::column::{Column, part_of};
 use crate::fault::{LineFault, PlanTextError};
 use crate::line::{line_of, number_in, number_of};
 use crate::order::order_of;
-use crate::part::{count_of, keyword_of, name_of};
+use crate::part::{count_of, name_of};
 use line_text::after_keyword;
 use std::alloc::Global;
-use ttp_model::{Instance, Numbers, Part, Plan};
+use ttp_model::{Instance, Numbers, Plan};
 
 #[tactic(auto, unfolding(crate::specs::Reading::head_at))]
-fn after_head(text: &[u8]) -> Result<&[u8], PlanTextError>
-    ensures { IsAnswer ⊥ (λ x. x.now) result (head_at text.now) }
+fn after_head<'a>(instance: &Instance, text: &'a [u8]) -> Result<&'a [u8], PlanTextError>
+    ensures { IsAnswer ⊥ (λ x. x.now) result (head_at instance.now text.now) }
 {
     let (first, after) = line_of(1, text)?;
-    if first != b"ttplan 1".as_slice() {
+    if first != first_line(instance) {
         return Err(LineFault::Form.at(1));
     }
     Ok(after)
@@ -37,55 +39,94 @@ fn delay_of(text: &[u8]) -> Result<(u32, &[u8]), PlanTextError>
     Ok((delay, after))
 }
 
-/// The numbers of one of the lists, whose first line has this number, and the text after them.
+/// The numbers of one kind, whose first line has this number, and the text after them.
 fn numbers_of<'a>(
     alloc: Global,
     instance: &Instance,
-    part: Part,
+    column: Column,
     line: u32,
     text: &'a [u8],
 ) -> Result<(Vec<u32>, &'a [u8]), PlanTextError>
-    requires { line ≤ 4 + MOST_NODES + MOST_PROCESSES }
+    requires { line ≤ 4 + MOST_NODES + MOST_PROCESSES + MOST_MESSAGES }
     ensures { IsAnswer (Unit {0}) (λ x. (x.0.items, x.1.now)) result
-        (part_at instance.now part line text.now) }
+        (part_at instance.now column line text.now) }
 {
-    let keyword = keyword_of(part);
+    let part = part_of(column);
     let mut numbers = Vec::new(alloc);
     let mut rest = text;
     for k in 0..count_of(instance, part) {
         let name = name_of(instance, part, k);
-        let (number, after) = number_of(line + k as u32, keyword, name, rest)?;
+        let (number, after) = number_of(line + k as u32, column, name, rest)?;
         numbers.push(number)?;
         rest = after;
     }
     Ok((numbers, rest))
 }
 
-/// What the lines of a text give, the first fault first.
-#[tactic(auto, unfolding(crate::specs::Reading::plan_at, crate::specs::Reading::front_at))]
-fn plan_of(alloc: Global, instance: &Instance, text: &[u8]) -> Result<(Plan, u32), PlanTextError>
-    ensures exact { IsAnswer (HasFront text.now) (λ x. x) result (plan_at instance.now text.now) }
-    ensures instance { IsInstance instance.now }
+/// The number of the line behind the rounds.
+fn channels_line(instance: &Instance) -> u32
+    ensures value { result ≡ channels_line instance.now }
+    ensures bound { result ≤ 4 + MOST_NODES + MOST_PROCESSES + MOST_MESSAGES }
 {
     let nodes = instance.nodes().len() as u32;
     let processes = instance.processes().len() as u32;
     let messages = instance.messages().len() as u32;
-    let rest = after_head(text)?;
-    let (delay, rest) = delay_of(rest)?;
-    let (order, rest) = order_of(alloc, instance, rest)?;
-    let (caps, rest) = numbers_of(alloc, instance, Part::Nodes, 4, rest)?;
-    let (starts, rest) = numbers_of(alloc, instance, Part::Processes, 4 + nodes, rest)?;
-    let (rounds, rest) = numbers_of(alloc, instance, Part::Messages, 4 + nodes + processes, rest)?;
-    if !rest.is_empty() {
-        return Err(LineFault::Trailing.at(4 + nodes + processes + messages));
+    4 + nodes + processes + messages
+}
+
+/// The messages' channels, and the text after their lines, which are there where there are two channels.
+#[tactic(auto, unfolding(crate::specs::Reading::channels_at))]
+fn channels_of<'a>(
+    alloc: Global,
+    instance: &Instance,
+    text: &'a [u8],
+) -> Result<(Vec<u32>, &'a [u8]), PlanTextError>
+    ensures { IsAnswer (Unit {0}) (λ x. (x.0.items, x.1.now)) result (channels_at instance.now text.now) }
+{
+    if has_two_channels(instance) {
+        let line = channels_line(instance);
+        return numbers_of(alloc, instance, Column::Channel, line, text);
     }
     let channels = Numbers::zeros(alloc, instance.messages().len())?;
+    Ok((channels.into_vec(), text))
+}
+
+/// The number of the line after the last one.
+fn end_line(instance: &Instance) -> u32
+    ensures { result ≡ end_line instance.now }
+{
+    let line = channels_line(instance);
+    if has_two_channels(instance) {
+        line + instance.messages().len() as u32
+    } else {
+        line
+    }
+}
+
+/// What the lines of a text give, the first fault first.
+#[tactic(auto, unfolding(crate::specs::Reading::plan_at, crate::specs::Reading::front_at))]
+fn plan_of(alloc: Global, instance: &Instance, text: &[u8]) -> Result<(Plan, u32), PlanTextError>
+    ensures exact { IsAnswer (HasFront instance.now text.now) (λ x. x) result (plan_at instance.now text.now) }
+    ensures instance { IsInstance instance.now }
+{
+    let nodes = instance.nodes().len() as u32;
+    let processes = instance.processes().len() as u32;
+    let rest = after_head(instance, text)?;
+    let (delay, rest) = delay_of(rest)?;
+    let (order, rest) = order_of(alloc, instance, rest)?;
+    let (caps, rest) = numbers_of(alloc, instance, Column::Capacity, 4, rest)?;
+    let (starts, rest) = numbers_of(alloc, instance, Column::Start, 4 + nodes, rest)?;
+    let (rounds, rest) = numbers_of(alloc, instance, Column::Round, 4 + nodes + processes, rest)?;
+    let (channels, rest) = channels_of(alloc, instance, rest)?;
+    if !rest.is_empty() {
+        return Err(LineFault::Trailing.at(end_line(instance)));
+    }
     let plan = Plan {
         order: Numbers::new(order),
         caps: Numbers::new(caps),
         starts: Numbers::new(starts),
         rounds: Numbers::new(rounds),
-        channels,
+        channels: Numbers::new(channels),
     };
     Ok((plan, delay))
 }
@@ -96,7 +137,7 @@ fn plan_of(alloc: Global, instance: &Instance, text: &[u8]) -> Result<(Plan, u32
 pub fn read(alloc: Global, instance: &Instance, text: &[u8]) -> Result<(Plan, u32), PlanTextError>
     // The plan and its stated delay, or the first fault with its line. Want of memory comes only behind a front
     // that is right.
-    ensures exact { IsAnswer (HasFront text.now) (λ x. x) result (plan_at instance.now text.now) }
+    ensures exact { IsAnswer (HasFront instance.now text.now) (λ x. x) result (plan_at instance.now text.now) }
     // What is read has a text, and this is it.
     ensures found { IfOk result (λ r. SpellsPlan instance.now text.now r.0 r.1) }
     // A text that spells a plan is read as that plan, unless memory is refused.

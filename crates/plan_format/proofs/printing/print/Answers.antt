@@ -13,7 +13,9 @@ returns c = record {
   value = HasText-from_valid c.args.instance.now c.args.plan.now c.nodes-nodes.ensures.instance c.requires;
   spelled =
       text_pushed c.args.instance.now c.args.plan.now (delay c.args.instance.now c.args.plan.now)
-      c.new-text.result.items c.push_head.new.text.items c.push_order.new.text.items c.push_lines.new.text.items c.push_lines-2.new.text.items c.push_lines-3.new.text.items
+      c.new-text.result.items c.push_head.new.text.items c.push_order.new.text.items
+      c.push_lines.new.text.items c.push_lines-2.new.text.items c.push_lines-3.new.text.items c.push_channels.new.text.items
       c.new-text.ensures.items (rw (← c.delay.ensures.value) c.in_ok-push_head.ensures) (rw (← c.as_slice.ensures) c.in_ok-push_order.ensures)
-      (rw (← c.as_slice-2.ensures) c.in_ok-push_lines.ensures) (rw (← c.as_slice-3.ensures) c.in_ok-push_lines-2.ensures) (rw (← c.as_slice-4.ensures) c.in_ok-push_lines-3.ensures);
+      (rw (← c.as_slice-2.ensures) c.in_ok-push_lines.ensures) (rw (← c.as_slice-3.ensures) c.in_ok-push_lines-2.ensures)
+      (rw (← c.as_slice-4.ensures) c.in_ok-push_lines-3.ensures) (rw (← c.as_slice-5.ensures) c.in_ok-push_channels.ensures);
 }
