@@ -8,7 +8,7 @@ use Rattle.ttp_model.specs.Instance.{Instance}
 use Rattle.ttp_model.specs.Plans.{IsNodeOrder}
 use Rattle.tt_layout.proofs.Ranges.{All-flat_map}
 use Rattle.medl_tables.specs.declared.row.Entry.{Entry}
-use Rattle.medl_tables.specs.Rows.{entry_of, is_entry, round_rows, row_of, rows_of}
+use Rattle.medl_tables.specs.Rows.{entries_on, entry_of, is_entry, round_rows, row_of, rows_of}
 use Rattle.medl_tables.specs.Medl.{AreTables, IsRowOf, Medl}
 
 All-map-range : {X : Type 0} (P : X → Type 0) (f : ℕ → X) (n : ℕ) → ((k : ℕ) → k < n → P (f k)) → All P (map f (range_with_len 0 n))
@@ -16,13 +16,19 @@ All-map-range P f n each = λ k d inside.
     let place : k < n = omega (arith, inside, length-map-range_with_len f 0 n) in
     rw (get_or-map-range_with_len f 0 n k k d place (omega arith)) (each k place)
 
+entries_there : (i : Instance) (plan : Plan) (node n r c : ℕ) → All (λ (e : Entry). e.message < length i.messages) (entries_on i plan node n r c)
+entries_there i plan node n r c =
+    let there = λ (e : Entry). e.message < length i.messages in
+    let each = All-map-range there (entry_of i plan n r c) (length i.messages) (λ m inside. inside) in
+    All-filter (λ (e : Entry). is_entry i plan node n r c e.message) there _ each
+
 row_names_parts : (i : Instance) (plan : Plan) (node r k : ℕ) → IsNodeOrder (length i.nodes) plan.order → k < length plan.order → IsRowOf i (row_of i plan node r k)
 row_names_parts i plan node r k o inside =
     let n = slice_index plan.order k in
     let there = λ (e : Entry). e.message < length i.messages in
     record {
       sender = (o.each k (omega (arith, inside, o.all))).node;
-      messages = All-filter (λ e. is_entry i plan node n r e.message) there (map (entry_of i plan n r) (range_with_len 0 (length i.messages))) (All-map-range there (entry_of i plan n r) (length i.messages) (λ m h. h));
+      messages = All-flat_map there (entries_on i plan node n r) _ (entries_there i plan node n r);
     }
 
 rows_name_parts : (i : Instance) (plan : Plan) (node : ℕ) → IsNodeOrder (length i.nodes) plan.order → All (IsRowOf i) (rows_of i plan node)

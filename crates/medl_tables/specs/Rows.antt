@@ -4,15 +4,15 @@ use Rattle.std.specs.Prelude.{ℕ, List, map, filter, length, slice_index, Bool,
 use Rattle.std.specs.List.{flat_map, list_any, range_with_len}
 use Rattle.ttp_model.specs.declared.plan.Plan.{Plan}
 use Rattle.ttp_model.specs.Instance.{Instance, message_at, node_of, source_of}
-use Rattle.ttp_model.specs.Plans.{bytes_in, round_of}
+use Rattle.ttp_model.specs.Plans.{bytes_on, channel_of, is_on, round_of}
 use Rattle.ttp_model.specs.Totals.{total}
 use Rattle.tt_layout.specs.Cycle.{cycle_rounds}
 use Rattle.medl_tables.specs.declared.row.Entry.{Entry}
 use Rattle.medl_tables.specs.declared.row.Row.{Row}
 
--- whether a message is in the frame of node n in round r
-abbrev pub is_in_frame : Instance → Plan → ℕ → ℕ → ℕ → Bool
-is_in_frame i plan n r m = source_of i m == n && round_of plan m == r
+-- whether a message is in the frame of node n in round r on channel c
+abbrev pub is_in_frame : Instance → Plan → ℕ → ℕ → ℕ → ℕ → Bool
+is_in_frame i plan n r c m = (source_of i m == n && round_of plan m == r) && is_on c (channel_of plan m)
 
 -- whether it has a receiver on the node
 abbrev pub is_received_on : Instance → ℕ → ℕ → Bool
@@ -22,18 +22,22 @@ is_received_on i node m = list_any (λ q. node_of i q == node) (message_at i m).
 abbrev pub is_shown_on : Instance → ℕ → ℕ → Bool
 is_shown_on i node m = source_of i m == node || is_received_on i node m
 
--- a message of the frame, behind the bytes of all messages before it, also of those that aren't shown
-abbrev pub entry_of : Instance → Plan → ℕ → ℕ → ℕ → Entry
-entry_of i plan n r m = record { message = m; offset = total (bytes_in i plan n r) m }
+-- a message of the frame, behind the bytes of all messages before it on that channel, also of those that aren't shown
+abbrev pub entry_of : Instance → Plan → ℕ → ℕ → ℕ → ℕ → Entry
+entry_of i plan n r c m = record { message = m; channel = c; offset = total (bytes_on i plan n r c) m }
 
 -- whether the node's table shows it as one of that frame
-abbrev pub is_entry : Instance → Plan → ℕ → ℕ → ℕ → ℕ → Bool
-is_entry i plan node n r m = is_in_frame i plan n r m && is_shown_on i node m
+abbrev pub is_entry : Instance → Plan → ℕ → ℕ → ℕ → ℕ → ℕ → Bool
+is_entry i plan node n r c m = is_in_frame i plan n r c m && is_shown_on i node m
 
--- what the node's table shows of the frame of node n in round r, in the instance's order
+-- what the node's table shows of the frame of node n in round r on channel c, in the instance's order
+abbrev pub entries_on : Instance → Plan → ℕ → ℕ → ℕ → ℕ → List Entry
+entries_on i plan node n r c =
+    filter (λ e. is_entry i plan node n r c e.message) (map (entry_of i plan n r c) (range_with_len 0 (length i.messages)))
+
+-- what it shows of that frame on each channel, all of channel 0 before all of channel 1
 abbrev pub entries_of : Instance → Plan → ℕ → ℕ → ℕ → List Entry
-entries_of i plan node n r =
-    filter (λ e. is_entry i plan node n r e.message) (map (entry_of i plan n r) (range_with_len 0 (length i.messages)))
+entries_of i plan node n r = flat_map (entries_on i plan node n r) (range_with_len 0 i.cluster.channels)
 
 -- the row of the node's table for the slot at position k of the order, in round r
 abbrev pub row_of : Instance → Plan → ℕ → ℕ → ℕ → Row

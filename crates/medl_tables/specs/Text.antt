@@ -1,5 +1,5 @@
 -- The text of node tables: a head, and for each node its name and a line for each row. Own profile.
-use Rattle.std.specs.Prelude.{ℕ, List, [], ◌∷◌, ◌++◌, codes, decimal, length, slice_index_or}
+use Rattle.std.specs.Prelude.{ℕ, List, [], ◌∷◌, ◌++◌, ◌==◌, if◌then◌else◌, codes, decimal, length, slice_index_or}
 use Rattle.std.specs.List.{flat_map, range_with_len}
 use Rattle.ttp_model.specs.Instance.{Instance, message_at, node_at}
 use Rattle.line_text.specs.Words.{spaced, spaced_words}
@@ -7,9 +7,13 @@ use Rattle.medl_tables.specs.declared.row.Entry.{Entry}
 use Rattle.medl_tables.specs.declared.row.Row.{Row}
 use Rattle.medl_tables.specs.Medl.{Medl}
 
--- an entry: MESSAGE:OFFSET, the message by its name
+-- which channel it is, in front of an offset: nothing where there is one, and CHANNEL: where there are two
+unfoldable pub channel_text : Instance → ℕ → List ℕ
+channel_text i c = if i.cluster.channels == 1 then [] else decimal c ++ codes ":"
+
+-- an entry: MESSAGE:OFFSET, or MESSAGE:CHANNEL:OFFSET, the message by its name
 unfoldable pub entry_text : Instance → Entry → List ℕ
-entry_text i e = spaced ((message_at i e.message).name ++ codes ":" ++ decimal e.offset)
+entry_text i e = spaced ((message_at i e.message).name ++ codes ":" ++ channel_text i e.channel ++ decimal e.offset)
 
 -- what a row's line has behind its keyword: ROUND POSITION SENDER CAPACITY, the sender by its name
 abbrev pub row_words : Instance → Row → List (List ℕ)
@@ -27,7 +31,11 @@ table_text i node rows = codes "node" ++ spaced (node_at i node).name ++ codes "
 unfoldable pub text_at : Instance → Medl → ℕ → List ℕ
 text_at i tables node = table_text i node (slice_index_or tables.rows node [])
 
+-- how the text begins: its version is 1 where there is one channel, and 2 where there are two
+unfoldable pub head_text : Instance → List ℕ
+head_text i = if i.cluster.channels == 1 then codes "ttmedl 1\nrounds" else codes "ttmedl 2\nrounds"
+
 -- the whole text
 abbrev pub tables_text : Instance → Medl → List ℕ
 tables_text i tables =
-    codes "ttmedl 1\nrounds" ++ spaced (decimal tables.rounds) ++ codes "\n" ++ flat_map (text_at i tables) (range_with_len 0 (length tables.rows))
+    head_text i ++ spaced (decimal tables.rounds) ++ codes "\n" ++ flat_map (text_at i tables) (range_with_len 0 (length tables.rows))

@@ -5,8 +5,10 @@ mod medl;
 mod row;
 mod rows;
 mod text;
+mod worked;
 
 pub use medl::Medl;
 pub use row::{Entries, Entry, Row};
 pub use text::print;
 pub use ttp_model::MemoryFault;
+pub use worked::rows_of_two_channels;

@@ -4,16 +4,18 @@ ghost use Rattle.std.specs.Prelude.{◌≡◌};
 
 use std::marker::Model;
 
-/// A message of a frame.
+/// A message of a frame on a channel.
 #[derive(Clone, Copy, Debug, PartialEq, Eq)]
 pub struct Entry {
     /// The message, by its index in the instance.
     pub message: u32,
-    /// Where its bytes begin in the frame, from 0: behind those of all messages before it.
+    /// The channel.
+    pub channel: u32,
+    /// Where its bytes begin in the frame, from 0: behind those of all messages before it on that channel.
     pub offset: u32,
 }
 
-/// Messages of a frame in the instance's order, which contracts see as that list.
+/// Messages of a frame, channel by channel and on each in the instance's order, which contracts see as that list.
 #[derive(Debug, Drop)]
 pub struct Entries {
     items: Vec<Entry>,
@@ -56,6 +58,6 @@ pub struct Row {
     /// How many bytes the frame may carry.
     pub capacity: u32,
     /// The frame's messages: all of them in the sender's own table, in another node's those with a
-    /// receiver on it.
+    /// receiver on it. A message that is on both channels stands there twice.
     pub messages: Entries,
 }

@@ -2,12 +2,12 @@
 
 ghost use Rattle.std.specs.Prelude.{◌≡◌, ◌<◌, ◌≤◌, ◌++◌, ◌↔◌, Contains, IfOk, IsTrue, OnOk, length};
 ghost use Rattle.ttp_model.specs.Plans.{HasLengths, IsValid};
-ghost use Rattle.medl_tables.specs.Rows.{entries_of, is_entry, is_in_frame, is_received_on, is_shown_on, round_rows, row_of, rows_of};
+ghost use Rattle.medl_tables.specs.Rows.{entries_of, entries_on, is_entry, is_in_frame, is_received_on, is_shown_on, round_rows, row_of, rows_of};
 
 use crate::row::{Entries, Entry, Row};
 use std::alloc::Global;
 use tt_layout::cycle_rounds;
-use ttp_model::{Instance, MOST_NODES, MemoryFault, Plan, bytes_in};
+use ttp_model::{Instance, MOST_NODES, MemoryFault, Plan, bytes_on, is_on};
 
 /// The table of a node.
 pub fn rows_of(
@@ -76,8 +76,8 @@ fn row_of(
     })
 }
 
-/// What the node's table shows of the frame of node `n` in round `r`. Where no message is sent in
-/// the round, none is looked at.
+/// What the node's table shows of the frame of node `n` in round `r`, channel by channel. Where no
+/// message is sent in the round, none is looked at.
 fn entries_of(
     alloc: Global,
     instance: &Instance,
@@ -95,34 +95,61 @@ fn entries_of(
     if !sends {
         return Ok(Entries::new(entries));
     }
-    let count = instance.messages().len();
-    let mut offset = 0;
-    for m in 0..count {
-        if is_entry(instance, plan, node, n, r, m) {
-            let message = m as u32;
-            entries.push(Entry { message, offset })?;
-        }
-        offset += bytes_in(instance, plan, n, r, m);
+    let channels = instance.cluster().channels;
+    for channel in 0..channels {
+        push_entries_on(&mut entries, instance, plan, node, n, r, channel)?;
     }
     Ok(Entries::new(entries))
 }
 
-/// Whether the node's table shows a message as one of a frame.
-fn is_entry(instance: &Instance, plan: &Plan, node: u32, n: u32, r: u32, m: usize) -> bool
-    requires lengths { HasLengths instance.now plan.now }
-    requires inside { m < length instance.now.messages }
-    ensures { result ≡ is_entry instance.now plan.now node n r m }
+/// Adds what the node's table shows of the frame of node `n` in round `r` on a channel.
+fn push_entries_on(
+    entries: &mut Vec<Entry>,
+    instance: &Instance,
+    plan: &Plan,
+    node: u32,
+    n: u32,
+    r: u32,
+    channel: u32,
+) -> Result<(), MemoryFault>
+    requires { HasLengths instance.now plan.now }
+    ensures { OnOk result
+        (entries.new.items ≡ entries.old.items ++ entries_on instance.now plan.now node n r channel) }
 {
-    is_in_frame(instance, plan, n, r, m) && is_shown_on(instance, node, m)
+    let count = instance.messages().len();
+    let mut offset = 0;
+    for m in 0..count {
+        if is_entry(instance, plan, node, n, r, channel, m) {
+            let message = m as u32;
+            entries.push(Entry {
+                message,
+                channel,
+                offset,
+            })?;
+        }
+        offset += bytes_on(instance, plan, n, r, channel, m);
+    }
+    Ok(())
 }
 
-/// Whether a message is in the frame of node `n` in round `r`.
-fn is_in_frame(instance: &Instance, plan: &Plan, n: u32, r: u32, m: usize) -> bool
+/// Whether the node's table shows a message as one of a frame.
+fn is_entry(instance: &Instance, plan: &Plan, node: u32, n: u32, r: u32, c: u32, m: usize) -> bool
     requires lengths { HasLengths instance.now plan.now }
     requires inside { m < length instance.now.messages }
-    ensures { result ≡ is_in_frame instance.now plan.now n r m }
+    ensures { result ≡ is_entry instance.now plan.now node n r c m }
 {
-    instance.source_of(m) == n && plan.rounds.as_slice()[m] == r
+    is_in_frame(instance, plan, n, r, c, m) && is_shown_on(instance, node, m)
+}
+
+/// Whether a message is in the frame of node `n` in round `r` on channel `c`.
+fn is_in_frame(instance: &Instance, plan: &Plan, n: u32, r: u32, c: u32, m: usize) -> bool
+    requires lengths { HasLengths instance.now plan.now }
+    requires inside { m < length instance.now.messages }
+    ensures { result ≡ is_in_frame instance.now plan.now n r c m }
+{
+    let round = plan.rounds.as_slice()[m];
+    let number = plan.channels.as_slice()[m];
+    instance.source_of(m) == n && round == r && is_on(c, number)
 }
 
 /// Whether the node's table shows a message of a frame.

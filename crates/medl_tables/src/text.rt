@@ -3,7 +3,7 @@
 ghost use Rattle.std.specs.Prelude.{◌≡◌, ◌<◌, ◌++◌, All, IfOk, OnOk, length};
 ghost use Rattle.std.specs.List.{flat_map};
 ghost use Rattle.medl_tables.specs.Medl.{AreTables, IsRowOf};
-ghost use Rattle.medl_tables.specs.Text.{entry_text, row_line, table_text, tables_text};
+ghost use Rattle.medl_tables.specs.Text.{channel_text, entry_text, head_text, row_line, table_text, tables_text};
 
 use crate::medl::Medl;
 use crate::row::{Entry, Row};
@@ -13,19 +13,32 @@ use ttp_model::{Instance, MemoryFault};
 
 /// The text of an instance's tables: the lines `ttmedl 1` and `rounds NUMBER`, and for each node a
 /// line `node NAME` and its rows, each a line `row ROUND POSITION SENDER CAPACITY` followed by
-/// ` MESSAGE:OFFSET` for each entry. Linear in the text.
+/// ` MESSAGE:OFFSET` for each entry. Where there are two channels the first line is `ttmedl 2`, and
+/// an entry ` MESSAGE:CHANNEL:OFFSET`. Linear in the text.
 pub fn print(alloc: Global, instance: &Instance, medl: &Medl) -> Result<Vec<u8>, MemoryFault>
     requires { AreTables instance.now medl.now }
     ensures { IfOk result (λ text. text.items ≡ tables_text instance.now medl.now) }
 {
     let count = instance.nodes().len();
-    let mut text = Vec::from_slice(alloc, b"ttmedl 1\nrounds")?;
+    let mut text = Vec::from_slice(alloc, head(instance))?;
     push_number_word(&mut text, medl.rounds() as u64)?;
     text.push(b'\n')?;
     for node in 0..count {
         push_table(&mut text, instance, node, medl.rows(node as u32))?;
     }
     Ok(text)
+}
+
+/// How the text begins.
+#[tactic(auto, unfolding(crate::specs::Text::head_text))]
+fn head(instance: &Instance) -> &'static [u8]
+    ensures { result.now ≡ head_text instance.now }
+{
+    if instance.cluster().channels == 1 {
+        b"ttmedl 1\nrounds"
+    } else {
+        b"ttmedl 2\nrounds"
+    }
 }
 
 /// Adds the lines of a node's table.
@@ -89,6 +102,20 @@ fn push_entry(text: &mut Vec<u8>, instance: &Instance, entry: &Entry) -> Result<
         instance.message_at(entry.message as usize).name.as_bytes(),
     )?;
     text.push(b':')?;
+    push_channel(text, instance, entry.channel)?;
     push_number(text, entry.offset as u64)?;
+    Ok(())
+}
+
+/// Adds an entry's channel, where there are two.
+#[tactic(auto, unfolding(crate::specs::Text::channel_text))]
+fn push_channel(text: &mut Vec<u8>, instance: &Instance, channel: u32) -> Result<(), AllocError>
+    ensures { OnOk result (text.new.items ≡ text.old.items ++ channel_text instance.now channel) }
+{
+    if instance.cluster().channels == 1 {
+        return Ok(());
+    }
+    push_number(text, channel as u64)?;
+    text.push(b':')?;
     Ok(())
 }

@@ -13,8 +13,9 @@ use Rattle.ttp_model.specs.declared.plan.Plan.{Plan}
 use Rattle.ttp_model.specs.Instance.{Instance, message_at, node_of, source_of}
 use Rattle.ttp_model.specs.Rules.{IsInstance}
 use Rattle.ttp_model.specs.Slots.{round_length}
-use Rattle.ttp_model.specs.Plans.{IsValid, end_of, round_of}
+use Rattle.ttp_model.specs.Plans.{IsValid, channel_of, end_of, is_on, round_of}
 use Rattle.ttp_model.specs.Delays.{delay}
+use Rattle.ttp_model.proofs.Channels.{on_some_channel}
 use Rattle.ttp_model.proofs.Orders.{every_node}
 use Rattle.ttp_model.proofs.PlanNumbers.{receiver_inside, sender_inside, some_caps}
 use Rattle.ttp_model.proofs.Times.{round_length-positive}
@@ -22,13 +23,14 @@ use Rattle.ttp_model.proofs.ValidPlans.{greatest_each}
 use Rattle.tt_layout.specs.Cycle.{cycle_rounds}
 use Rattle.medl_tables.specs.declared.row.Entry.{Entry}
 use Rattle.medl_tables.specs.declared.row.Row.{Row}
-use Rattle.medl_tables.specs.Rows.{entries_of, entry_of, is_entry, round_rows, row_of, rows_of}
+use Rattle.medl_tables.specs.Rows.{entries_of, entries_on, entry_of, is_entry, round_rows, row_of, rows_of}
 use Rattle.medl_tables.specs.Medl.{AreTables, Medl, medl_of}
 use Rattle.medl_tables.proofs.TableParts.{tables-length}
 use Rattle.membership_replay.specs.declared.loss.Loss.{Loss}
 use Rattle.membership_replay.specs.declared.trace.Event.TheVariants.{Deliver}
 use Rattle.membership_replay.specs.Trace.{Trace, no_row, replay_of, row_at, slot_count, slot_of}
 use Rattle.membership_replay.specs.Undisturbed.{EachMessageArrives, IsDelivered, no_slot, slot_at}
+use Rattle.membership_replay.proofs.Deliveries.{Contains-flat_map-range}
 use Rattle.membership_replay.proofs.Delivered.{all_arrive}
 use Rattle.membership_replay.proofs.Senders.{length-rounds, rounds-at}
 
@@ -62,6 +64,11 @@ Contains-map-range : {X : Type 0} (f : ℕ → X) (n k : ℕ) → k < n → Cont
 Contains-map-range f n k inside =
     (k, omega (arith, inside, length-map-range_with_len f 0 n), get_or-map-range_with_len f 0 n k k (f k) inside (omega arith))
 
+-- the node's table lists the message in its frame, on some channel
+pub record IsShown (i : Instance) (plan : Plan) (m node : ℕ) : Type 0 where
+  pub channel : ℕ
+  pub listed : Contains (entries_of i plan node (source_of i m) (round_of plan m)) (entry_of i plan (source_of i m) (round_of plan m) channel m)
+
 module _ (i : Instance) (plan : Plan) (w : IsInstance i) (v : IsValid i plan) where
   -- a message's slot ends before some receiver does, so its round is one of the cycle
   round_inside : (m : ℕ) → m < length i.messages → round_of plan m < cycle_rounds i plan
@@ -73,16 +80,36 @@ module _ (i : Instance) (plan : Plan) (w : IsInstance i) (v : IsValid i plan) wh
       let early : round_of plan m * round_length i.cluster plan.caps < delay i plan = omega (arith, v.arrived m h 0 some, last, (w.ranges (AtProcess q) inside).wcet_least) in
       lt-div_ceil (round_of plan m) (delay i plan) (round_length i.cluster plan.caps) (round_length-positive i.cluster plan.caps (w.ranges AtCluster) (some_caps i plan w v)) early
 
-  -- the table of a receiver's node shows it
-  shown : (m node k : ℕ) → m < length i.messages → k < length (message_at i m).receivers → node_of i (slice_index (message_at i m).receivers k) ≡ node → Contains (entries_of i plan node (source_of i m) (round_of plan m)) (entry_of i plan (source_of i m) (round_of plan m) m)
-  shown m node k h inside is =
-      let received : list_any (λ q. node_of i q == node) (message_at i m).receivers ≡ true = list_any_at (λ q. node_of i q == node) (message_at i m).receivers k 0 inside (eq-eqb _ _ is) in
-      let entry : is_entry i plan node (source_of i m) (round_of plan m) m ≡ true = rw (eq-eqb (source_of i m) (source_of i m) refl, eq-eqb (round_of plan m) (round_of plan m) refl, received) (or-true (source_of i m == node)) in
-      Contains-filter (λ (e : Entry). is_entry i plan node (source_of i m) (round_of plan m) e.message) (map (entry_of i plan (source_of i m) (round_of plan m)) (range_with_len 0 (length i.messages))) (entry_of i plan (source_of i m) (round_of plan m) m) entry (Contains-map-range (entry_of i plan (source_of i m) (round_of plan m)) (length i.messages) m h)
+  -- the table of a receiver's node shows it on each channel that it is on
+  shown_on : (m node k c : ℕ) → m < length i.messages → k < length (message_at i m).receivers
+      → node_of i (slice_index (message_at i m).receivers k) ≡ node → is_on c (channel_of plan m) ≡ true
+      → let n = source_of i m in let r = round_of plan m in Contains (entries_on i plan node n r c) (entry_of i plan n r c m)
+  shown_on m node k c h inside is on =
+      let n = source_of i m in
+      let r = round_of plan m in
+      let receivers = (message_at i m).receivers in
+      let has = λ (q : ℕ). node_of i q == node in
+      let received : list_any (λ q. node_of i q == node) receivers ≡ true = list_any_at has receivers k 0 inside (eq-eqb _ _ is) in
+      let entry : is_entry i plan node n r c m ≡ true = rw (eq-eqb n n refl, eq-eqb r r refl, on, received) (or-true (n == node)) in
+      let each = entry_of i plan n r c in
+      let one = Contains-map-range each (length i.messages) m h in
+      Contains-filter (λ (e : Entry). is_entry i plan node n r c e.message) (map each (range_with_len 0 (length i.messages))) (each m) entry one
     where
       or-true : (b : Bool) → (b || true) ≡ true
       or-true true = refl
       or-true false = refl
+
+  -- so it does on some channel of the cluster
+  shown : (m node k : ℕ) → m < length i.messages → k < length (message_at i m).receivers
+      → node_of i (slice_index (message_at i m).receivers k) ≡ node → IsShown i plan m node
+  shown m node k h inside is =
+      let on = on_some_channel i plan m w v h in
+      let entries = entries_on i plan node (source_of i m) (round_of plan m) in
+      let entry = entry_of i plan (source_of i m) (round_of plan m) on.0 m in
+      record {
+        channel = on.0;
+        listed = Contains-flat_map-range entries i.cluster.channels on.0 entry on.1 (shown_on m node k on.0 h inside is on.2);
+      }
 
   module _ (t : Medl) (is : t ≡ medl_of i plan) where
     are_tables : AreTables i t
@@ -127,8 +154,9 @@ module _ (i : Instance) (plan : Plan) (w : IsInstance i) (v : IsValid i plan) wh
           let sends : (row_at t 0 s).sender ≡ source_of i m = rw first-row sender in
           let other : node_of i q ≢ (row_at t 0 s).sender = λ same. w.away m h j 0 at (same ∙ sends) in
           let row = row-is (node_of i q) (round_of plan m) k there (round_inside m h) inside in
-          let entry = entry_of i plan (source_of i m) (round_of plan m) m in
-          let has : Contains (row_at t (node_of i q) s).messages entry = rw (row, sender) (shown m (node_of i q) j h at refl) in
+          let one = shown m (node_of i q) j h at refl in
+          let entry = entry_of i plan (source_of i m) (round_of plan m) one.channel m in
+          let has : Contains (row_at t (node_of i q) s).messages entry = rw (row, sender) one.listed in
           let rows : length t.rows ≡ length i.nodes = tables-length i t are_tables in
           let inside_cycle = slot_inside (round_of plan m) k (round_inside m h) inside in
           let told = all_arrive i t [] replay w are_tables of refl s (node_of i q) inside_cycle (omega (arith, there, rows)) other in

@@ -1,6 +1,7 @@
 pub mod Lines
 pub mod TableSlots
 pub mod Calm
+pub mod Deliveries
 pub mod Delivered
 pub mod LostFrame
 pub mod Senders

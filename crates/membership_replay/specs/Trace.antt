@@ -1,7 +1,7 @@
 -- The replay of a cycle: the step of every node, slot after slot. Own profile.
 use Rattle.std.specs.Prelude.{ℕ, zero, suc, List, [], ◌∷◌, ◌++◌, length, map, slice_index_or, Bool, ◌&&◌, ◌==◌, not, nat_lt, if◌then◌else◌}
 use Rattle.std.specs.List.{flat_map, list_any, range_with_len}
-use Rattle.ttp_model.specs.Limits.{most_nodes}
+use Rattle.ttp_model.specs.Limits.{most_messages, most_nodes}
 use Rattle.medl_tables.specs.declared.row.Entry.{Entry}
 use Rattle.medl_tables.specs.declared.row.Row.{Row}
 use Rattle.medl_tables.specs.Medl.{Medl}
@@ -94,9 +94,17 @@ takes_messages row losses states i =
     let after = (next_state row losses states i).vector in
     (is_received row losses states i && has_member after i) && is_same (state_at states row.sender).vector after
 
--- what is told of messages that are delivered at a node
-abbrev pub deliveries : ℕ → List Entry → List Event
-deliveries i messages = map (λ e. Deliver e.message i) messages
+-- whether a message is one of these entries, on whatever channel
+abbrev pub is_listed : List Entry → ℕ → Bool
+is_listed messages m = list_any (λ e. e.message == m) messages
+
+-- that a message is delivered at a node is told where it is one of them
+unfoldable pub delivery : ℕ → List Entry → ℕ → List Event
+delivery i messages m = if is_listed messages m then Deliver m i ∷ [] else []
+
+-- what is told of messages that are delivered at a node: of each once, in the instance's order
+unfoldable pub deliveries : ℕ → List Entry → List Event
+deliveries i messages = flat_map (delivery i messages) (range_with_len 0 most_messages)
 
 -- whether anything is told of a node in that slot: nothing is of the sender itself, nor of one that isn't active
 abbrev pub is_told : Row → List NodeState → ℕ → Bool

@@ -1,6 +1,6 @@
 -- A cycle in which one frame is lost at all its receivers: three nodes send in turn, and nobody receives the first
 -- frame. What a replay says of such losses is so said of some.
-use Rattle.std.specs.Prelude.{ℕ, List, [], ◌∷◌, codes}
+use Rattle.std.specs.Prelude.{List, [], ◌∷◌, codes}
 use Rattle.ttp_model.specs.declared.plan.Plan.{Plan}
 use Rattle.ttp_model.specs.Instance.{Instance, instance_with}
 use Rattle.ttp_model.specs.Worked.{node_with, plain_cluster, process_on}

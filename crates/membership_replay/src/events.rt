@@ -3,7 +3,7 @@
 ghost use Rattle.std.specs.Prelude.{◌≡◌, ◌<◌, ◌≤◌, ◌++◌, [], Bool, IfOk, OnOk, if◌then◌else◌, length};
 ghost use Rattle.medl_tables.specs.Medl.{Medl};
 ghost use Rattle.membership_replay.specs.Machine.{has_member};
-ghost use Rattle.membership_replay.specs.Trace.{deliveries, drop_events, is_told, node_events, row_at, slot_events, step_events, takes_messages};
+ghost use Rattle.membership_replay.specs.Trace.{deliveries, delivery, drop_events, is_listed, is_told, node_events, row_at, slot_events, step_events, takes_messages};
 
 use crate::loss::Loss;
 use crate::node::{is_active, is_received, next_state, step_at};
@@ -11,7 +11,7 @@ use crate::state::{NodeState, Step, is_same};
 use crate::trace::{Event, Events};
 use medl_tables::{Entry, Medl, Row};
 use std::alloc::{AllocError, Global};
-use ttp_model::MOST_NODES;
+use ttp_model::{MOST_MESSAGES, MOST_NODES};
 
 /// Adds that a node drops another, where it counts it as a member.
 fn push_drop(
@@ -63,14 +63,41 @@ fn takes_messages(row: &Row, losses: &[Loss], states: &[NodeState], i: u32) -> b
     is_received(row, losses, states, i) && after[i as usize] && is_same(&shown, &after)
 }
 
-/// Adds that messages are delivered at a node.
+/// Adds that messages are delivered at a node: of each once, by its index, though it may be on both
+/// channels. Most frames have none for the node.
 fn push_deliveries(events: &mut Vec<Event>, i: u32, messages: &[Entry]) -> Result<(), AllocError>
     ensures { OnOk result (events.new.items ≡ events.old.items ++ deliveries i messages.now) }
 {
-    for entry in messages {
-        events.push(Event::Deliver(entry.message, i))?;
+    if messages.is_empty() {
+        return Ok(());
+    }
+    for m in 0..MOST_MESSAGES {
+        push_delivery(events, i, messages, m as u32)?;
     }
     Ok(())
+}
+
+/// Adds that a message is delivered at a node, where it is one of the entries.
+#[tactic(auto, unfolding(crate::specs::Trace::delivery))]
+fn push_delivery(
+    events: &mut Vec<Event>,
+    i: u32,
+    messages: &[Entry],
+    m: u32,
+) -> Result<(), AllocError>
+    ensures { OnOk result (events.new.items ≡ events.old.items ++ delivery i messages.now m) }
+{
+    if is_listed(messages, m) {
+        events.push(Event::Deliver(m, i))?;
+    }
+    Ok(())
+}
+
+/// Whether a message is one of the entries.
+fn is_listed(messages: &[Entry], m: u32) -> bool
+    ensures { result ≡ is_listed messages.now m }
+{
+    messages.iter().any(|e| e.message == m)
 }
 
 /// Whether anything is told of a node in a row's slot: nothing is of the sender itself.

@@ -18,4 +18,4 @@ pub use loss::Loss;
 pub use state::{NodeState, Phase, Step};
 pub use text::print;
 pub use trace::{Event, Events, Slot, Trace};
-pub use worked::first_frame_of_three_nodes_is_lost;
+pub use worked::{first_frame_of_three_nodes_is_lost, messages_of_two_channels_are_told_once};

@@ -66,9 +66,9 @@ box_text c i Messages s r = used_slot_text c i s r
 abbrev pub slot_piece : Canvas → Instance → Load → Slot → List ℕ
 slot_piece c i load s = flat_map (box_text c i load s) (rectangles_with load s)
 
--- of the slot at position k of round r
+-- of the slot at position k of round r, on channel 0
 unfoldable pub slot_at : Canvas → Instance → Plan → Load → ℕ → ℕ → List ℕ
-slot_at c i plan load r k = slot_piece c i load (slot_of i plan r k)
+slot_at c i plan load r k = slot_piece c i load (slot_of i plan r k 0)
 
 -- those of a round, in the order of its slots
 unfoldable pub round_slots : Canvas → Instance → Plan → Load → ℕ → List ℕ

@@ -20,18 +20,18 @@ ghost use Rattle.plan_picture.specs.Slots.{has_load, slot_rectangle};
 /// its channel's row, begins when the slot does, and is as long; that of a process stands in its node's row, begins at its start, and
 /// is as long as it runs.
 pub fn each_slot_and_process_has_its_rectangle()
-    ensures each { (i : Instance) (plan : Plan) (r k : ℕ)
-        → rectangles_of All (slot_of i plan r k) ≡ slot_rectangle (slot_of i plan r k) ∷ [] }
-    ensures used { (i : Instance) (plan : Plan) (r k : ℕ) → 0 < (slot_of i plan r k).used
-        → rectangles_of Used (slot_of i plan r k) ≡ slot_rectangle (slot_of i plan r k) ∷ [] }
-    ensures unused { (i : Instance) (plan : Plan) (r k : ℕ) → (slot_of i plan r k).used ≡ 0
-        → rectangles_of Used (slot_of i plan r k) ≡ [] }
-    ensures row { (i : Instance) (plan : Plan) (r k : ℕ)
-        → (slot_rectangle (slot_of i plan r k)).row ≡ (slot_of i plan r k).channel }
-    ensures start { (i : Instance) (plan : Plan) (r k : ℕ)
-        → (slot_rectangle (slot_of i plan r k)).start ≡ slot_start i.cluster plan.order plan.caps (slice_index plan.order k) r }
-    ensures length { (i : Instance) (plan : Plan) (r k : ℕ)
-        → (slot_rectangle (slot_of i plan r k)).length ≡ duration i.cluster plan.caps (slice_index plan.order k) }
+    ensures each { (i : Instance) (plan : Plan) (r k c : ℕ)
+        → rectangles_of All (slot_of i plan r k c) ≡ slot_rectangle (slot_of i plan r k c) ∷ [] }
+    ensures used { (i : Instance) (plan : Plan) (r k c : ℕ) → 0 < (slot_of i plan r k c).used
+        → rectangles_of Used (slot_of i plan r k c) ≡ slot_rectangle (slot_of i plan r k c) ∷ [] }
+    ensures unused { (i : Instance) (plan : Plan) (r k c : ℕ) → (slot_of i plan r k c).used ≡ 0
+        → rectangles_of Used (slot_of i plan r k c) ≡ [] }
+    ensures row { (i : Instance) (plan : Plan) (r k c : ℕ)
+        → (slot_rectangle (slot_of i plan r k c)).row ≡ (slot_of i plan r k c).channel }
+    ensures start { (i : Instance) (plan : Plan) (r k c : ℕ)
+        → (slot_rectangle (slot_of i plan r k c)).start ≡ slot_start i.cluster plan.order plan.caps (slice_index plan.order k) r }
+    ensures length { (i : Instance) (plan : Plan) (r k c : ℕ)
+        → (slot_rectangle (slot_of i plan r k c)).length ≡ duration i.cluster plan.caps (slice_index plan.order k) }
     ensures process_row { (i : Instance) (plan : Plan) (p : ℕ) → (process_rectangle i plan p).row ≡ channels + node_of i p }
     ensures process_start { (i : Instance) (plan : Plan) (p : ℕ) → (process_rectangle i plan p).start ≡ start_of plan p }
     ensures process_length { (i : Instance) (plan : Plan) (p : ℕ) → (process_rectangle i plan p).length ≡ (process_at i p).wcet }
@@ -39,15 +39,15 @@ pub fn each_slot_and_process_has_its_rectangle()
 
 /// A slot is drawn as one that carries nothing just where no message is sent in it.
 pub fn slots_without_messages_are_hollow()
-    ensures { (i : Instance) (plan : Plan) (r k : ℕ) → IsInstance i
-        → IsTrue (has_load Nothing (slot_of i plan r k)) ↔ ((slot_of i plan r k).messages ≡ []) }
+    ensures { (i : Instance) (plan : Plan) (r k c : ℕ) → IsInstance i
+        → IsTrue (has_load Nothing (slot_of i plan r k c)) ↔ ((slot_of i plan r k c).messages ≡ []) }
 {}
 
 /// Rectangles of one row don't overlap: of two slots the earlier ends before the later begins, and of two processes of one row one
 /// ends before the other begins.
 pub fn rectangles_are_apart()
-    ensures slots { (i : Instance) (plan : Plan) (j k r s : ℕ) → IsValid i plan → j < length i.nodes → k < length i.nodes
-        → (r < s) ⊎ ((r ≡ s) × (j < k)) → EndsBy (slot_rectangle (slot_of i plan r j)) (slot_rectangle (slot_of i plan s k)) }
+    ensures slots { (i : Instance) (plan : Plan) (j k r s c : ℕ) → IsValid i plan → j < length i.nodes → k < length i.nodes
+        → (r < s) ⊎ ((r ≡ s) × (j < k)) → EndsBy (slot_rectangle (slot_of i plan r j c)) (slot_rectangle (slot_of i plan s k c)) }
     ensures processes { (i : Instance) (plan : Plan) (p q : ℕ) → IsValid i plan → p < length i.processes → q < length i.processes
         → p ≢ q → (process_rectangle i plan p).row ≡ (process_rectangle i plan q).row
         → EndsBy (process_rectangle i plan p) (process_rectangle i plan q) ⊎ EndsBy (process_rectangle i plan q) (process_rectangle i plan p) }

@@ -105,7 +105,7 @@ fn put_round(
     let count = instance.nodes().len();
     let sends = plan.rounds.contains(round);
     for k in 0..count {
-        let slot = slot_of(alloc, instance, plan, &layout, round, k, sends)?;
+        let slot = slot_of(alloc, instance, plan, &layout, round, k, 0, sends)?;
         put_slot(text, canvas, instance, &slot, load)?;
     }
     Ok(())

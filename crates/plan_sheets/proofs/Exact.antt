@@ -209,6 +209,6 @@ module _ (i : Instance) (plan : Plan) (wi : IsInstance i) (w : IsValid i plan) (
         links = link-still;
         ready = ready-still;
         arrived = λ m lt k at_k. omega (arith, w.arrived m lt k at_k, sent_until-kept i p ticks inside plan m);
-        frames = λ m lt. rw (source-kept i p ticks inside m, load-kept i p ticks inside plan (source_of i m) (round_of plan m)) (w.frames m lt);
+        frames = λ m lt c within on. rw (source-kept i p ticks inside m, load-kept i p ticks inside plan (source_of i m) (round_of plan m) c) (w.frames m lt c within on);
         on_own = λ m lt. record { known = (w.on_own m lt).known; alone = (w.on_own m lt).alone; both = (w.on_own m lt).both };
       }

@@ -5,7 +5,7 @@ use Rattle.std.proofs.lemmas.List.{get_or-set_same, get_or-set_other, length-set
 use Rattle.ttp_model.specs.declared.parts.Process.{Process}
 use Rattle.ttp_model.specs.declared.plan.Plan.{Plan}
 use Rattle.ttp_model.specs.Instance.{Instance, message_at, no_process, node_of, process_at, source_of}
-use Rattle.ttp_model.specs.Plans.{bytes_in, end_of, load_of, sent_from, sent_until}
+use Rattle.ttp_model.specs.Plans.{bytes_on, end_of, load_on, sent_from, sent_until}
 use Rattle.ttp_model.proofs.Totals.{total_same}
 use Rattle.plan_sheets.specs.Slack.{longer}
 
@@ -58,5 +58,5 @@ module _ (i : Instance) (p ticks : ℕ) (inside : p < length i.processes) where
     pub sent_until-kept : (m : ℕ) → sent_until (longer i p ticks) plan m ≡ sent_until i plan m
     sent_until-kept m = rw (source-kept m) refl
 
-    pub load-kept : (n r : ℕ) → load_of (longer i p ticks) plan n r ≡ load_of i plan n r
-    load-kept n r = total_same (bytes_in (longer i p ticks) plan n r) (bytes_in i plan n r) (length i.messages) (λ m lt. rw (source-kept m) refl)
+    pub load-kept : (n r c : ℕ) → load_on (longer i p ticks) plan n r c ≡ load_on i plan n r c
+    load-kept n r c = total_same (bytes_on (longer i p ticks) plan n r c) (bytes_on i plan n r c) (length i.messages) (λ m lt. rw (source-kept m) refl)

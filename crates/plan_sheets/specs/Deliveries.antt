@@ -1,9 +1,10 @@
 -- The table of messages: when each is ready, sent, and there for each of its receivers. Own profile.
-use Rattle.std.specs.Prelude.{ℕ, ◌+◌, ◌<◌, ◌≤◌, List, [], ◌∷◌, ◌++◌, codes, decimal, length, slice_index}
+use Rattle.std.specs.Prelude.{ℕ, ◌+◌, ◌<◌, ◌≤◌, ◌==◌, if◌then◌else◌, List, [], ◌∷◌, ◌++◌, codes, decimal, length, slice_index}
 use Rattle.std.specs.List.{flat_map, range_with_len}
 use Rattle.ttp_model.specs.declared.plan.Plan.{Plan}
+use Rattle.ttp_model.specs.Limits.{both_channels}
 use Rattle.ttp_model.specs.Instance.{Instance, message_at, node_at, process_at, source_of}
-use Rattle.ttp_model.specs.Plans.{end_of, round_of, sent_from, sent_until, start_of}
+use Rattle.ttp_model.specs.Plans.{channel_of, end_of, round_of, sent_from, sent_until, start_of}
 use Rattle.plan_sheets.specs.declared.deliveries.Delivery.{Delivery}
 use Rattle.plan_sheets.specs.Lines.{line_of}
 
@@ -15,7 +16,7 @@ delivery_of i plan m q = record {
   receiver = q;
   bytes = (message_at i m).bytes;
   round = round_of plan m;
-  channel = 0;
+  channel = channel_of plan m;
   node = source_of i m;
   ready = end_of i plan (message_at i m).sender + i.cluster.copy_out;
   slot = sent_from i plan m;
@@ -24,11 +25,15 @@ delivery_of i plan m q = record {
   needed = start_of plan q;
 }
 
+-- the word for a message's channel: 0, 1 or both
+unfoldable pub channel_word : ℕ → List ℕ
+channel_word number = if number == both_channels then codes "both" else decimal number
+
 -- its line: message,sender,receiver,bytes,round,channel,node,ready,slot,slot_end,arrived,needed, with names for message,
 -- processes and node
 abbrev pub delivery_line : Instance → Delivery → List ℕ
 delivery_line i row =
-    line_of ((message_at i row.message).name ∷ (process_at i row.sender).name ∷ (process_at i row.receiver).name ∷ decimal row.bytes ∷ decimal row.round ∷ decimal row.channel ∷ (node_at i row.node).name ∷ decimal row.ready ∷ decimal row.slot ∷ decimal row.slot_end ∷ decimal row.arrived ∷ decimal row.needed ∷ [])
+    line_of ((message_at i row.message).name ∷ (process_at i row.sender).name ∷ (process_at i row.receiver).name ∷ decimal row.bytes ∷ decimal row.round ∷ channel_word row.channel ∷ (node_at i row.node).name ∷ decimal row.ready ∷ decimal row.slot ∷ decimal row.slot_end ∷ decimal row.arrived ∷ decimal row.needed ∷ [])
 
 -- the line of this message and receiver
 unfoldable pub delivery_text : Instance → Plan → ℕ → ℕ → List ℕ

@@ -3,40 +3,40 @@ use Rattle.std.specs.Prelude.{ℕ, ◌+◌, ◌<◌, ◌==◌, ◌&&◌, Bool, L
 use Rattle.std.specs.List.{flat_map, range_with_len}
 use Rattle.ttp_model.specs.declared.plan.Plan.{Plan}
 use Rattle.ttp_model.specs.Instance.{Instance, message_at, node_at, source_of}
-use Rattle.ttp_model.specs.Plans.{load_of, round_of}
+use Rattle.ttp_model.specs.Plans.{channel_of, is_on, load_on, round_of}
 use Rattle.ttp_model.specs.Slots.{frame_length, slot_end, slot_start}
 use Rattle.tt_layout.specs.Cycle.{cycle_rounds}
 use Rattle.line_text.specs.Words.{spaced}
 use Rattle.plan_sheets.specs.declared.slots.Slot.{Slot}
 use Rattle.plan_sheets.specs.Lines.{line_of}
 
--- whether a message is in the frame of node n in round r
-abbrev pub is_in_frame : Instance → Plan → ℕ → ℕ → ℕ → Bool
-is_in_frame i plan n r m = source_of i m == n && round_of plan m == r
+-- whether a message is in the frame of node n in round r on channel c
+abbrev pub is_in_frame : Instance → Plan → ℕ → ℕ → ℕ → ℕ → Bool
+is_in_frame i plan n r c m = (source_of i m == n && round_of plan m == r) && is_on c (channel_of plan m)
 
 -- the messages of that frame, in the instance's order
-abbrev pub messages_in : Instance → Plan → ℕ → ℕ → List ℕ
-messages_in i plan n r = filter (is_in_frame i plan n r) (range_with_len 0 (length i.messages))
+abbrev pub messages_in : Instance → Plan → ℕ → ℕ → ℕ → List ℕ
+messages_in i plan n r c = filter (is_in_frame i plan n r c) (range_with_len 0 (length i.messages))
 
--- the slot of node n in round r, at position k of the order
-abbrev pub slot_at : Instance → Plan → ℕ → ℕ → ℕ → Slot
-slot_at i plan r k n = record {
+-- the slot of node n in round r, at position k of the order, on channel c
+abbrev pub slot_at : Instance → Plan → ℕ → ℕ → ℕ → ℕ → Slot
+slot_at i plan r k c n = record {
   round = r;
   position = k;
-  channel = 0;
+  channel = c;
   node = n;
   start = slot_start i.cluster plan.order plan.caps n r;
   frame = slot_start i.cluster plan.order plan.caps n r + i.cluster.lead;
   frame_end = slot_start i.cluster plan.order plan.caps n r + i.cluster.lead + frame_length i.cluster (slice_index plan.caps n);
   end = slot_end i.cluster plan.order plan.caps n r;
   capacity = slice_index plan.caps n;
-  used = load_of i plan n r;
-  messages = messages_in i plan n r;
+  used = load_on i plan n r c;
+  messages = messages_in i plan n r c;
 }
 
--- the slot at position k of the order in round r
-abbrev pub slot_of : Instance → Plan → ℕ → ℕ → Slot
-slot_of i plan r k = slot_at i plan r k (slice_index plan.order k)
+-- the slot at position k of the order in round r, on channel c
+abbrev pub slot_of : Instance → Plan → ℕ → ℕ → ℕ → Slot
+slot_of i plan r k c = slot_at i plan r k c (slice_index plan.order k)
 
 -- the names of messages, each with a space before it
 abbrev pub spaced_names : Instance → List ℕ → List ℕ
@@ -48,13 +48,17 @@ abbrev pub slot_line : Instance → Slot → List ℕ
 slot_line i row =
     line_of (decimal row.round ∷ decimal row.position ∷ decimal row.channel ∷ (node_at i row.node).name ∷ decimal row.start ∷ decimal row.frame ∷ decimal row.frame_end ∷ decimal row.end ∷ decimal row.capacity ∷ decimal row.used ∷ drop 1 (spaced_names i row.messages) ∷ [])
 
--- the line of the slot at this position
-unfoldable pub slot_text : Instance → Plan → ℕ → ℕ → List ℕ
-slot_text i plan r k = slot_line i (slot_of i plan r k)
+-- the line of the slot at this position on this channel
+unfoldable pub slot_text : Instance → Plan → ℕ → ℕ → ℕ → List ℕ
+slot_text i plan r k c = slot_line i (slot_of i plan r k c)
 
--- the lines of a round, one for each slot, in the order of the slots
+-- the lines of the slot at this position, one for each channel
+unfoldable pub position_text : Instance → Plan → ℕ → ℕ → List ℕ
+position_text i plan r k = flat_map (slot_text i plan r k) (range_with_len 0 i.cluster.channels)
+
+-- the lines of a round, in the order of the slots
 unfoldable pub round_text : Instance → Plan → ℕ → List ℕ
-round_text i plan r = flat_map (slot_text i plan r) (range_with_len 0 (length i.nodes))
+round_text i plan r = flat_map (position_text i plan r) (range_with_len 0 (length i.nodes))
 
 -- the whole table, round by round
 unfoldable pub slots_text : Instance → Plan → List ℕ

@@ -1,15 +1,15 @@
 //! When is each message ready, sent, and there?
 
-ghost use Rattle.std.specs.Prelude.{◌≡◌, ◌<◌, ◌++◌, [], All, IfOk, OnOk, length};
+ghost use Rattle.std.specs.Prelude.{◌≡◌, ◌<◌, ◌++◌, ◌∷◌, [], All, IfOk, OnOk, length};
 ghost use Rattle.ttp_model.specs.Plans.{IsValid};
 ghost use Rattle.tt_layout.specs.Layout.{timing};
-ghost use Rattle.plan_sheets.specs.Deliveries.{IsDeliveryRow, deliveries_text, delivery_line, delivery_of, message_text};
-ghost use Rattle.plan_sheets.specs.Lines.{IsLineStart, IsSheet, text_of};
+ghost use Rattle.plan_sheets.specs.Deliveries.{IsDeliveryRow, channel_word, deliveries_text, delivery_line, delivery_of, message_text};
+ghost use Rattle.plan_sheets.specs.Lines.{IsLineStart, IsSheet, IsTidy, cells_of, text_of};
 
 use crate::sheet::Sheet;
 use std::alloc::Global;
 use tt_layout::Layout;
-use ttp_model::{Instance, MemoryFault, Plan, end_of};
+use ttp_model::{BOTH_CHANNELS, Instance, MemoryFault, Plan, end_of};
 
 /// A message on its way to one of its receivers.
 #[derive(Clone, Copy, Debug)]
@@ -24,7 +24,7 @@ pub struct Delivery {
     pub bytes: u32,
     /// The round in which it is sent, from 0.
     pub round: u32,
-    /// The channel on which it is sent.
+    /// The channel on which it is sent: 0, 1, or 2 for both.
     pub channel: u32,
     /// The node that sends it.
     pub node: u32,
@@ -90,6 +90,7 @@ fn delivery_of(instance: &Instance, plan: &Plan, layout: &Layout, m: usize, q: u
     let message = instance.message_at(m);
     let node = instance.source_of(m);
     let round = plan.rounds.as_slice()[m];
+    let channel = plan.channels.as_slice()[m];
     let slot_end = layout.slot_end(node, round);
     Delivery {
         message: m as u32,
@@ -97,7 +98,7 @@ fn delivery_of(instance: &Instance, plan: &Plan, layout: &Layout, m: usize, q: u
         receiver: q as u32,
         bytes: message.bytes,
         round,
-        channel: 0,
+        channel,
         node,
         ready: end_of(instance, plan, message.sender as usize) + u64::from(cluster.copy_out),
         slot: layout.slot_start(node, round),
@@ -118,7 +119,7 @@ fn put_delivery(sheet: &mut Sheet, instance: &Instance, row: &Delivery) -> Resul
     sheet.put(instance.process_at(row.receiver as usize).name.as_bytes())?;
     sheet.put_number(row.bytes as u64)?;
     sheet.put_number(row.round as u64)?;
-    sheet.put_number(row.channel as u64)?;
+    put_channel(sheet, row.channel)?;
     sheet.put(instance.nodes()[row.node as usize].name.as_bytes())?;
     sheet.put_number(row.ready)?;
     sheet.put_number(row.slot)?;
@@ -127,4 +128,17 @@ fn put_delivery(sheet: &mut Sheet, instance: &Instance, row: &Delivery) -> Resul
     sheet.put_number(row.needed as u64)?;
     sheet.end_line()?;
     Ok(())
+}
+
+/// Adds a cell with a message's channel: 0, 1 or both.
+#[tactic(auto, unfolding(crate::specs::Deliveries::channel_word))]
+fn put_channel(sheet: &mut Sheet, number: u32) -> Result<(), MemoryFault>
+    requires { IsTidy sheet.old }
+    ensures { OnOk result (IsSheet sheet.new (text_of sheet.old) (cells_of sheet.old ++ channel_word number ∷ [])) }
+{
+    if number == BOTH_CHANNELS {
+        sheet.put(b"both")
+    } else {
+        sheet.put_number(number as u64)
+    }
 }

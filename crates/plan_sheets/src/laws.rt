@@ -32,10 +32,10 @@ pub fn dispatch_has_each_process()
         → AllPairs (EndsBefore i plan) (order_of i plan n) }
 {}
 
-/// No frame carries more bytes than its capacity.
+/// No frame carries more bytes than its capacity, on any channel.
 pub fn frames_are_used_within_capacity()
-    ensures { (i : Instance) (plan : Plan) (r k : ℕ) → IsValid i plan
-        → (slot_of i plan r k).used ≤ (slot_of i plan r k).capacity }
+    ensures { (i : Instance) (plan : Plan) (r k c : ℕ) → IsValid i plan → c < i.cluster.channels
+        → (slot_of i plan r k c).used ≤ (slot_of i plan r k c).capacity }
 {}
 
 /// Each message is ready before its slot begins, and has arrived at each receiver before that one needs it.

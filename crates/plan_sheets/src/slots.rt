@@ -2,18 +2,18 @@
 
 ghost use Rattle.std.specs.Prelude.{◌≡◌, ◌<◌, ◌≤◌, ◌++◌, ◌↔◌, ◌*◌, [], All, Contains, IfOk, IsTrue, OnOk, drop, length};
 ghost use Rattle.ttp_model.specs.declared.limits.TheConstants.{MOST_BYTES, MOST_MESSAGES};
-ghost use Rattle.ttp_model.specs.Plans.{HasLengths, IsValid, load_of};
+ghost use Rattle.ttp_model.specs.Plans.{HasLengths, IsValid, load_on};
 ghost use Rattle.tt_layout.specs.Layout.{timing};
 ghost use Rattle.plan_sheets.specs.Lines.{IsLineStart, IsSheet, text_of};
-ghost use Rattle.plan_sheets.specs.Slots.{IsSlotRow, is_in_frame, messages_in, round_text, slot_line, slot_of, slots_text, spaced_names};
+ghost use Rattle.plan_sheets.specs.Slots.{IsSlotRow, is_in_frame, messages_in, position_text, round_text, slot_line, slot_of, slots_text, spaced_names};
 
 use crate::sheet::Sheet;
 use line_text::push_word;
 use std::alloc::Global;
 use tt_layout::{Layout, cycle_rounds};
-use ttp_model::{Instance, MOST_NODES, MOST_TICKS, MemoryFault, Numbers, Plan, bytes_in};
+use ttp_model::{Instance, MOST_NODES, MOST_TICKS, MemoryFault, Numbers, Plan, bytes_on, is_on};
 
-/// A slot of the cycle.
+/// A slot of the cycle, on a channel.
 #[derive(Debug, Drop)]
 pub struct Slot {
     /// The round, from 0.
@@ -34,13 +34,13 @@ pub struct Slot {
     pub end: u64,
     /// How many bytes the frame may carry.
     pub capacity: u32,
-    /// How many it carries.
+    /// How many it carries on the channel.
     pub used: u32,
     /// The messages of the frame in the instance's order, by their indices.
     pub messages: Numbers,
 }
 
-/// The table of slots, in order of time. Messages are looked at in the rounds in which one is sent.
+/// The table of slots, in order of time, with a row for each channel. Messages are looked at in the rounds in which one is sent.
 pub fn slots(alloc: Global, instance: &Instance, plan: &Plan) -> Result<Vec<u8>, MemoryFault>
     requires { IsValid instance.now plan.now }
     ensures { IfOk result (λ text. text.items ≡ slots_text instance.now plan.now) }
@@ -72,13 +72,40 @@ fn put_round(
     let count = instance.nodes().len();
     let sends = plan.rounds.contains(round);
     for k in 0..count {
-        let row = slot_of(alloc, instance, plan, &layout, round, k, sends)?;
+        put_position(alloc, sheet, instance, plan, &layout, round, k, sends)?;
+    }
+    Ok(())
+}
+
+/// Adds the lines of the slot at position `k` of a round, one for each channel. Whether any message is
+/// sent in the round is known.
+fn put_position(
+    alloc: Global,
+    sheet: &mut Sheet,
+    instance: &Instance,
+    plan: &Plan,
+    layout: &Layout,
+    round: u32,
+    k: usize,
+    sends: bool,
+) -> Result<(), MemoryFault>
+    requires valid { IsValid instance.now plan.now }
+    requires layout { layout.now ≡ timing instance.now.cluster plan.now.order plan.now.caps }
+    requires inside { k < length instance.now.nodes }
+    requires few { k < MOST_NODES }
+    requires sends { IsTrue sends ↔ Contains plan.now.rounds round }
+    requires start { IsLineStart sheet.old }
+    ensures { OnOk result (IsSheet sheet.new (text_of sheet.old ++ position_text instance.now plan.now round k) []) }
+{
+    let channels = instance.cluster().channels;
+    for channel in 0..channels {
+        let row = slot_of(alloc, instance, plan, layout, round, k, channel, sends)?;
         put_slot(alloc, sheet, instance, &row)?;
     }
     Ok(())
 }
 
-/// The slot at position `k` of a round. Whether any message is sent in the round is known.
+/// The slot at position `k` of a round, on a channel. Whether any message is sent in the round is known.
 pub fn slot_of(
     alloc: Global,
     instance: &Instance,
@@ -86,6 +113,7 @@ pub fn slot_of(
     layout: &Layout,
     round: u32,
     k: usize,
+    channel: u32,
     sends: bool,
 ) -> Result<Slot, MemoryFault>
     requires valid { IsValid instance.now plan.now }
@@ -93,7 +121,7 @@ pub fn slot_of(
     requires inside { k < length instance.now.nodes }
     requires few { k < MOST_NODES }
     requires sends { IsTrue sends ↔ Contains plan.now.rounds round }
-    ensures { IfOk result (λ row. row ≡ slot_of instance.now plan.now round k) }
+    ensures { IfOk result (λ row. row ≡ slot_of instance.now plan.now round k channel) }
 {
     let cluster = instance.cluster();
     let node = plan.order.as_slice()[k];
@@ -102,23 +130,23 @@ pub fn slot_of(
     Ok(Slot {
         round,
         position: k as u32,
-        channel: 0,
+        channel,
         node,
         start,
         frame: start + u64::from(cluster.lead),
         frame_end: end - u64::from(cluster.trail),
         end,
         capacity: plan.caps.as_slice()[node as usize],
-        used: load_of(instance, plan, node, round, sends),
-        messages: messages_in(alloc, instance, plan, node, round, sends)?,
+        used: load_on(instance, plan, node, round, channel, sends),
+        messages: messages_in(alloc, instance, plan, node, round, channel, sends)?,
     })
 }
 
 /// How many bytes the messages of a frame have. Where no message is sent in the round, none is looked at.
-fn load_of(instance: &Instance, plan: &Plan, n: u32, r: u32, sends: bool) -> u32
+fn load_on(instance: &Instance, plan: &Plan, n: u32, r: u32, channel: u32, sends: bool) -> u32
     requires lengths { HasLengths instance.now plan.now }
     requires sends { IsTrue sends ↔ Contains plan.now.rounds r }
-    ensures { result ≡ load_of instance.now plan.now n r }
+    ensures { result ≡ load_on instance.now plan.now n r channel }
 {
     if !sends {
         return 0;
@@ -126,7 +154,7 @@ fn load_of(instance: &Instance, plan: &Plan, n: u32, r: u32, sends: bool) -> u32
     let count = instance.messages().len();
     let mut load = 0;
     for m in 0..count {
-        load += bytes_in(instance, plan, n, r, m);
+        load += bytes_on(instance, plan, n, r, channel, m);
     }
     load
 }
@@ -138,11 +166,12 @@ fn messages_in(
     plan: &Plan,
     n: u32,
     r: u32,
+    channel: u32,
     sends: bool,
 ) -> Result<Numbers, MemoryFault>
     requires lengths { HasLengths instance.now plan.now }
     requires sends { IsTrue sends ↔ Contains plan.now.rounds r }
-    ensures { IfOk result (λ messages. messages ≡ messages_in instance.now plan.now n r) }
+    ensures { IfOk result (λ messages. messages ≡ messages_in instance.now plan.now n r channel) }
 {
     let mut messages = Vec::new(alloc);
     if !sends {
@@ -150,20 +179,22 @@ fn messages_in(
     }
     let count = instance.messages().len();
     for m in 0..count {
-        if is_in_frame(instance, plan, n, r, m) {
+        if is_in_frame(instance, plan, n, r, channel, m) {
             messages.push(m as u32)?;
         }
     }
     Ok(Numbers::new(messages))
 }
 
-/// Whether a message is in the frame of node `n` in round `r`.
-fn is_in_frame(instance: &Instance, plan: &Plan, n: u32, r: u32, m: usize) -> bool
+/// Whether a message is in the frame of node `n` in round `r` on a channel.
+fn is_in_frame(instance: &Instance, plan: &Plan, n: u32, r: u32, channel: u32, m: usize) -> bool
     requires lengths { HasLengths instance.now plan.now }
     requires inside { m < length instance.now.messages }
-    ensures { result ≡ is_in_frame instance.now plan.now n r m }
+    ensures { result ≡ is_in_frame instance.now plan.now n r channel m }
 {
-    instance.source_of(m) == n && plan.rounds.as_slice()[m] == r
+    let round = plan.rounds.as_slice()[m];
+    let number = plan.channels.as_slice()[m];
+    instance.source_of(m) == n && round == r && is_on(channel, number)
 }
 
 /// Adds the line of a slot.

@@ -1,14 +1,7 @@
-use Rattle.std.proofs.Common.{◌≡◌, ◌*◌, ◌≤◌, filter, map}
-use Rattle.std.specs.List.{range_with_len}
-use Rattle.ttp_model.specs.declared.limits.TheConstants.{MOST_BYTES}
-use Rattle.ttp_model.specs.Plans.{bytes_in}
-use Rattle.ttp_model.specs.Totals.{total}
-use Rattle.medl_tables.specs.Rows.{entry_of, is_entry}
+use Rattle.std.proofs.Common.{◌≡◌}
+use Rattle.std.specs.List.{flat_map, range_with_len}
+use Rattle.medl_tables.specs.Rows.{entries_on}
 use Rattle.medl_tables.proofs.rows.entries_of.Given as goal
 
-abbrev pub invariant-loop-m : goal.invariant-loop-m
-invariant-loop-m l = record {
-  entries : l.entries.items ≡ filter (λ e. is_entry l.instance l.plan l.node l.n l.r e.message) (map (entry_of l.instance l.plan l.n l.r) (range_with_len 0 l.m));
-  offset : l.offset ≡ total (bytes_in l.instance l.plan l.n l.r) l.m;
-  bound : l.offset ≤ l.m * MOST_BYTES;
-}
+abbrev pub invariant-loop-channel : goal.invariant-loop-channel
+invariant-loop-channel l = l.entries.items ≡ flat_map (entries_on l.instance l.plan l.node l.n l.r) (range_with_len 0 l.channel)

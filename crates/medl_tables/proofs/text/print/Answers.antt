@@ -20,4 +20,4 @@ loop-node-preserved c =
 pub returns : goal.returns
 returns c =
     let all : c.loop-node.node ≡ length c.args.medl.now.rows = omega (arith, tables-length c.args.instance.now c.args.medl.now c.requires, ap length c.nodes-count.ensures.value) in
-    rw (c.loop-node.invariant, all, c.in_ok-push.ensures.items, c.in_ok-push_number_word.ensures, c.in_ok-text.ensures.items, c.rounds.ensures) refl
+    rw (c.loop-node.invariant, all, c.in_ok-push.ensures.items, c.in_ok-push_number_word.ensures, c.in_ok-text.ensures.items, c.head.ensures, c.rounds.ensures) refl

@@ -4,22 +4,22 @@ use Rattle.plan_sheets.specs.Slots.{slot_of}
 use Rattle.plan_picture.proofs.laws.each_slot_and_process_has_its_rectangle.Goals as goal
 
 pub returns-clause-each : goal.returns-clause-each
-returns-clause-each c = λ i plan r k. elim (eqb_tells (slot_of i plan r k).used 0) [
+returns-clause-each c = λ i plan r k channel. elim (eqb_tells (slot_of i plan r k channel).used 0) [
   | inl none ↦ rw none.0 refl
   | inr some ↦ rw some.0 refl
 ]
 
 pub returns-clause-used : goal.returns-clause-used
-returns-clause-used c = λ i plan r k carries. elim (eqb_tells (slot_of i plan r k).used 0) [
+returns-clause-used c = λ i plan r k channel carries. elim (eqb_tells (slot_of i plan r k channel).used 0) [
   | inl none ↦ absurd (omega (arith, none.1, carries))
   | inr some ↦ rw some.0 refl
 ]
 
 pub returns-clause-unused : goal.returns-clause-unused
-returns-clause-unused c = λ i plan r k is. elim (eqb_tells (slot_of i plan r k).used 0) [
+returns-clause-unused c = λ i plan r k channel is. elim (eqb_tells (slot_of i plan r k channel).used 0) [
   | inl none ↦ rw none.0 refl
   | inr some ↦ absurd (some.1 is)
 ]
 
 pub returns-clause-length : goal.returns-clause-length
-returns-clause-length c = λ i plan r k. omega arith
+returns-clause-length c = λ i plan r k channel. omega arith

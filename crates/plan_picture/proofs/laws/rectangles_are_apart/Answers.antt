@@ -5,7 +5,7 @@ use Rattle.tt_layout.proofs.SlotTimes.{slot_end-le-slot_start}
 use Rattle.plan_picture.proofs.laws.rectangles_are_apart.Goals as goal
 
 pub returns-clause-slots : goal.returns-clause-slots
-returns-clause-slots c = λ i plan j k r s w inside-j inside-k order.
+returns-clause-slots c = λ i plan j k r s channel w inside-j inside-k order.
     omega (arith, slot_end-le-slot_start i.cluster plan.order plan.caps (rw w.lengths.capacities w.order) j k r s (omega (arith, inside-j, w.order.all)) (omega (arith, inside-k, w.order.all)) order)
 
 pub returns-clause-processes : goal.returns-clause-processes

@@ -9,7 +9,7 @@ of-layout-requires-clause-capacities c = rw c.as_slice-2.ensures c.requires.capa
 
 pub put_slot-requires-clause-there : goal.put_slot-requires-clause-there
 put_slot-requires-clause-there c =
-    rw c.in_ok-slot.ensures (slot-there c.args.instance.now c.args.plan.now c.args.round c.loop-k.k c.requires (omega (arith, ap length c.nodes-count.ensures.value)))
+    rw c.in_ok-slot.ensures (slot-there c.args.instance.now c.args.plan.now c.args.round c.loop-k.k 0 c.requires (omega (arith, ap length c.nodes-count.ensures.value)))
 
 pub put_slot-requires-clause-order : goal.put_slot-requires-clause-order
 put_slot-requires-clause-order c = rw c.in_ok-slot.ensures (omega arith)

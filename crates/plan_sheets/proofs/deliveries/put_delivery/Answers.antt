@@ -17,11 +17,11 @@ returns c =
     let r3 = next_cell _ _ _ _ _ r2 (rw receiver at c.in_ok-put-3.ensures) in
     let r4 = next_cell _ _ _ _ _ r3 c.in_ok-put_number.ensures in
     let r5 = next_cell _ _ _ _ _ r4 c.in_ok-put_number-2.ensures in
-    let r6 = next_cell _ _ _ _ _ r5 c.in_ok-put_number-3.ensures in
+    let r6 = next_cell _ _ _ _ _ r5 c.in_ok-put_channel.ensures in
     let r7 = next_cell _ _ _ _ _ r6 (rw node at c.in_ok-put-4.ensures) in
-    let r8 = next_cell _ _ _ _ _ r7 c.in_ok-put_number-4.ensures in
-    let r9 = next_cell _ _ _ _ _ r8 c.in_ok-put_number-5.ensures in
-    let r10 = next_cell _ _ _ _ _ r9 c.in_ok-put_number-6.ensures in
-    let r11 = next_cell _ _ _ _ _ r10 c.in_ok-put_number-7.ensures in
-    let r12 = next_cell _ _ _ _ _ r11 c.in_ok-put_number-8.ensures in
+    let r8 = next_cell _ _ _ _ _ r7 c.in_ok-put_number-3.ensures in
+    let r9 = next_cell _ _ _ _ _ r8 c.in_ok-put_number-4.ensures in
+    let r10 = next_cell _ _ _ _ _ r9 c.in_ok-put_number-5.ensures in
+    let r11 = next_cell _ _ _ _ _ r10 c.in_ok-put_number-6.ensures in
+    let r12 = next_cell _ _ _ _ _ r11 c.in_ok-put_number-7.ensures in
     line_ends _ _ _ _ r12 c.in_ok-end_line.ensures

@@ -8,12 +8,12 @@ use Rattle.plan_sheets.proofs.slots.messages_in.Goals as goal
 
 pub returns-then-not-sends : goal.returns-then-not-sends
 returns-then-not-sends c =
-    let none = messages_in-none c.args.instance.now c.args.plan.now c.args.n c.args.r c.requires.lengths (λ has. false≢true (sym c.if-not-sends.true ∙ c.requires.sends.1 has)) in
+    let none = messages_in-none c.args.instance.now c.args.plan.now c.args.n c.args.r c.args.channel c.requires.lengths (λ has. false≢true (sym c.if-not-sends.true ∙ c.requires.sends.1 has)) in
     rw (c.new.ensures, c.new-messages.ensures.items, none) refl
 
 pub loop-m-preserved : goal.loop-m-preserved
 loop-m-preserved c =
-    let test = is_in_frame c.args.instance.now c.args.plan.now c.args.n c.args.r in
+    let test = is_in_frame c.args.instance.now c.args.plan.now c.args.n c.args.r c.args.channel in
     let m = c.loop-m.m in
     elim c.if-is_in_frame.branch [
       | then-is_in_frame+in_ok-push w ↦ rw (w.messages-is, w.in_ok-push.ensures.items) (filter_taken test c.loop-m.messages.items m (sym c.is_in_frame.ensures ∙ w.if-is_in_frame.true) c.loop-m.invariant)

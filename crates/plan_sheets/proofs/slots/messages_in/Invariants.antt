@@ -4,4 +4,4 @@ use Rattle.plan_sheets.specs.Slots.{is_in_frame}
 use Rattle.plan_sheets.proofs.slots.messages_in.Given as goal
 
 abbrev pub invariant-loop-m : goal.invariant-loop-m
-invariant-loop-m l = l.messages.items ≡ filter (is_in_frame l.instance l.plan l.n l.r) (range_with_len 0 l.m)
+invariant-loop-m l = l.messages.items ≡ filter (is_in_frame l.instance l.plan l.n l.r l.channel) (range_with_len 0 l.m)
