@@ -1,13 +1,15 @@
 #!/usr/bin/env python3
 """Compares ttplan with tools/second_check.py on texts that are damaged or made at random:
 
-    tools/compare_checks.py [--cases N] [--seed S] [--program FILE] [--keep FOLDER]
+    tools/compare_checks.py [--cases N] [--seed S] [--program FILE] [--keep FOLDER] [--channels]
 
 The texts are the examples' and those of small instances made here, with plans and certificates; most are damaged in one to
-three places. Both programs have to write the same words and end with the same status, and of a valid plan the same tables. A case
-on which they differ is told, and kept in FOLDER. What was answered how often is written at the end, and the status is 1 where any case differed.
+three places. Both programs have to write the same words and end with the same status, and of a valid plan the same tables and the
+same picture. A case on which they differ is told, and kept in FOLDER. What was answered how often is written at the end, and the
+status is 1 where any case differed.
 
-Which circle of processes is told is left out (M13)."""
+With --channels most instances that are made have two channels, and plans, choices and steps go with them. Which circle of
+processes is told is left out (M13)."""
 
 import argparse
 import collections
@@ -85,15 +87,15 @@ def damaged(dice, text):
 # Instances and plans made at random
 
 
-def made_instance(dice):
-    """The text of a small instance, mostly one without a fault."""
+def made_instance(dice, two_channels=False):
+    """The text of a small instance, mostly one without a fault, and where it is asked for mostly one of two channels."""
     precision = dice.choice([0, 0, 1])
     horizon = dice.choice([8, 12, 20, 30, 60])
     cluster = {"precision": precision, "lead": 2 * precision + dice.choice([0, 0, 1]),
                "trail": precision + dice.choice([0, 0, 1]), "head": dice.choice([1, 1, 2]), "per_byte": dice.choice([1, 1, 2]),
                "copy_out": dice.choice([0, 0, 1]), "copy_in": dice.choice([0, 0, 1]), "horizon": horizon}
-    if dice.random() < 0.2:
-        cluster["channels"] = dice.choice([1] * 9 + [0, 2, 3])
+    if two_channels or dice.random() < 0.2:
+        cluster["channels"] = 2 if two_channels and dice.random() < 0.9 else dice.choice([1] * 9 + [0, 2, 3])
     out = ["[cluster]"] + [f"{key} = {value}" for key, value in cluster.items()]
     nodes, count = dice.choice([1, 2, 2, 3, 4]), dice.choice([1, 2, 3, 4, 5, 6])
     for n in range(nodes):
@@ -118,9 +120,15 @@ def made_instance(dice):
     for m, (p, to) in enumerate(messages):
         receivers = ", ".join(f'"p{q}"' for q in to)
         out += ["[[message]]", f'name = "m{m}"', f'from = "p{p}"', f"to = [{receivers}]", f"bytes = {dice.choice([1, 1, 2, 3])}"]
-        if dice.random() < 0.1:
-            out.append(f"both = {dice.choice(['false'] * 9 + ['true'])}")
+        if dice.random() < (0.4 if two_channels else 0.1):
+            out.append(f"both = {dice.choice(['false'] * (1 if two_channels else 9) + ['true'])}")
     return "".join(line + "\n" for line in out).encode()
+
+
+def channel_line(dice, message):
+    """The line of a message's channel, which mostly is one that it may be on."""
+    alone = not message.both or dice.random() < 0.02
+    return f"chan {message.name} {dice.choice(['0', '1', 'both']) if alone else 'both'}"
 
 
 def made_plan(dice, instance):
@@ -140,10 +148,11 @@ def made_plan(dice, instance):
             rounds[m] = max(rounds[m], -(-(ends.get(instance.messages[m].sender, 0) + instance.copy_out - offset) // sum(durations)))
             start = max(start, rounds[m] * sum(durations) + offset + durations[n] + instance.copy_in)
         starts[p], ends[p] = start, start + process.wcet
-    out = ["ttplan 1", f"delay {max(ends.values())}", "order " + " ".join(instance.nodes[n].name for n in nodes)]
+    out = [f"ttplan {instance.channels}", f"delay {max(ends.values())}", "order " + " ".join(instance.nodes[n].name for n in nodes)]
     out += [f"cap {node.name} {caps[n]}" for n, node in enumerate(instance.nodes)]
     out += [f"start {process.name} {starts[p]}" for p, process in enumerate(instance.processes)]
     out += [f"round {message.name} {rounds[m]}" for m, message in enumerate(instance.messages)]
+    out += [channel_line(dice, message) for message in instance.messages if instance.channels == 2]
     return "".join(line + "\n" for line in out).encode()
 
 
@@ -168,6 +177,8 @@ def random_step(dice, instance, facts):
         numbers = [instance.processes[p].node, start, max(end + dice.choice([-1, 0, 0, 0, 1]), 0)]
     elif kind == b"frames":
         numbers = [n, dice.choice(facts.lo or [0]), dice.choice(facts.top or [0])]
+    elif kind == b"channel":
+        numbers = [dice.choice([0, 0, 0, 1, 1, 1, 2]), n, dice.choice(facts.lo or [0]), dice.choice(facts.top or [0])]
     elif kind == b"late":
         numbers = [m, max(0, (facts.lo[m] if m < len(facts.lo) else 0) - dice.choice([0, 1, 1, 1, 2, 3]))]
     elif kind == b"silent":
@@ -212,13 +223,15 @@ def leaf_lines(dice, instance, choice, low):
 def tree_lines(dice, instance, choice, low, depth):
     if dice.random() < 0.35 + 0.1 * depth:
         return leaf_lines(dice, instance, choice, low)
-    word = dice.choice([b"place", b"cap", b"pair", b"pair", b"round"])
+    word = dice.choice([b"place", b"cap", b"pair", b"pair", b"round", *[b"chan"] * (2 * instance.channels - 2)])
     if word == b"place":
         numbers = []
     elif word == b"cap":
         numbers = [dice.randrange(len(instance.nodes))]
     elif word == b"pair":
         numbers = dice.choices(range(len(instance.processes)), k=2)
+    elif word == b"chan":
+        numbers = [dice.randrange(len(instance.messages) + 1), 3]
     else:
         numbers = [dice.randrange(len(instance.messages) + 1), dice.choice([0, 0, 1, 2, 3, instance.horizon - 2])]
     counted = word in (b"place", b"cap")
@@ -226,7 +239,7 @@ def tree_lines(dice, instance, choice, low, depth):
     if below is None:
         if dice.random() < 0.95:
             return tree_lines(dice, instance, choice, low, depth + 0.5)
-        below = [choice] * (dice.randrange(3) if counted else 2)
+        below = [choice] * (dice.randrange(3) if counted else 3 if word == b"chan" else 2)
     if counted and dice.random() < 0.01:
         below = below[:-1] if dice.random() < 0.5 else below + below[-1:]
     numbers += [len(below)] * counted
@@ -238,7 +251,8 @@ def tree_lines(dice, instance, choice, low, depth):
 
 def made_certificate(dice, instance):
     low = dice.choice([0, 1, 2, 3, 4, 5, 6, 8, 10, instance.horizon + 1, dice.randrange(instance.horizon + 3)])
-    lines = [dice.choice([b"ttcert 1", b"ttcert 2"]), b"low %d" % low] + tree_lines(dice, instance, second_check.root(instance), low, 0)
+    version = dice.choice([b"ttcert 1", *[b"ttcert 2"] * (1 if instance.channels == 1 else 9)])
+    lines = [version, b"low %d" % low] + tree_lines(dice, instance, second_check.root(instance), low, 0)
     return b"".join(line + b"\n" for line in lines)
 
 
@@ -269,12 +283,12 @@ def made_texts(dice, command, instance):
     return {"verify": [plan], "check": [certificate], "judge": [made_place(dice, plan), certificate]}[command]
 
 
-def case(dice, examples):
+def case(dice, examples, two_channels):
     """A command and its texts."""
     if dice.random() < 0.3:
         command, *texts = dice.choice(examples)
     else:
-        command, texts = dice.choice(["verify", "check", "check", "judge"]), [made_instance(dice)]
+        command, texts = dice.choice(["verify", "check", "check", "judge"]), [made_instance(dice, two_channels)]
         try:
             read = second_check.Instance(texts[0])
         except second_check.Refused:
@@ -300,6 +314,8 @@ def second(command, instance, *texts):
             return second_check.judgement(judged, delay, second_check.proved_bound(judged, texts[1]))[::-1]
         if command == "schedule":
             return 0, second_check.schedule(judged, *texts)
+        if command == "draw":
+            return 0, second_check.draw(judged, *texts, width=1200, used=False)
         return 0, second_check.COMMANDS[command][0](judged, *texts)
     except second_check.Refused as fault:
         return fault.status, fault.line
@@ -318,6 +334,7 @@ def main():
     words.add_argument("--seed", type=int, default=1)
     words.add_argument("--program", default=str(ROOT / "build/ttplan"))
     words.add_argument("--keep", help="where the texts are kept on which the two differ")
+    words.add_argument("--channels", action="store_true", help="makes instances of two channels")
     asked = words.parse_args()
     if not pathlib.Path(asked.program).exists():
         sys.exit("compare_checks.py: the proved program isn't built yet: ./ttplan prove")
@@ -326,7 +343,7 @@ def main():
     with tempfile.TemporaryDirectory(prefix="ttplan-") as room:
         files = [pathlib.Path(room, name) for name in ("instance", "text", "certificate")]
         for k in range(asked.cases):
-            command, *texts = case(dice, examples)
+            command, *texts = case(dice, examples, asked.channels)
             for file, text in zip(files, texts):
                 file.write_bytes(text)
             named = [str(file) for file, _ in zip(files, texts)]
@@ -337,6 +354,7 @@ def main():
                 continue
             if command == "verify" and other[0] == 0:
                 pairs += [both(asked.program, named, "schedule", *texts, table) for table in second_check.TABLES]
+                pairs.append(both(asked.program, named, "draw", *texts))
             for first, other in pairs:
                 if first != other:
                     differ += 1

@@ -21,6 +21,7 @@ a second 60 and the year 0."""
 
 import codecs
 import functools
+import itertools
 import math
 import os
 import re
@@ -33,9 +34,10 @@ STOPPED_BYTES = len("stopped budget 4294967295 4294967295\n")
 NUMBER_MOST = 4_294_967_295
 TICKS_MOST = 1_000_000
 NESTING_MOST = 80  # of brackets in brackets, and of a key's parts
-BRANCHES_MOST = 4_608
+BRANCHES_MOST = 4_736
 CHANNELS_MOST = 1
 CHANNEL_WORDS = b"0", b"1", b"both"
+BOTH = CHANNEL_WORDS.index(b"both")
 NAME = re.compile(rb"[A-Za-z_][A-Za-z0-9_]{0,31}")
 NUMBER = re.compile(rb"0|[1-9][0-9]*")
 QUOTED = re.compile(
@@ -416,8 +418,14 @@ def read_plan(instance, text, lines_before):
     return plan
 
 
+def on_channels(plan, m):
+    """The channels that a message is on, in order."""
+    number = plan.channels[m]
+    return (0, 1) if CHANNEL_WORDS[number] == b"both" else (number,)
+
+
 def plan_faults(instance, plan):
-    """The rules V3 to V10 that a plan breaks, the one that is told first; its text keeps V1, V2 and V11."""
+    """The rules V3 to V11 that a plan breaks, the one that is told first; its text keeps V1 and V2."""
     processes, starts = instance.processes, plan.starts
     ends = [start + process.wcet for start, process in zip(starts, processes)]
     durations = [instance.duration(capacity) for capacity in plan.caps]
@@ -449,8 +457,13 @@ def plan_faults(instance, plan):
                 yield "V9", m, q
     for m in range(len(instance.messages)):
         n, r = instance.sender_node(m), plan.rounds[m]
-        if sum(instance.messages[x].bytes for x in instance.sent_by[n] if plan.rounds[x] == r) > plan.caps[n]:
-            yield "V10", n, r
+        for c in on_channels(plan, m):
+            frame = [x for x in instance.sent_by[n] if plan.rounds[x] == r and c in on_channels(plan, x)]
+            if sum(instance.messages[x].bytes for x in frame) > plan.caps[n]:
+                yield ("V10", n, r) if instance.channels == 1 else ("V10", n, r, c)
+    for m, message in enumerate(instance.messages):
+        if message.both and on_channels(plan, m) != (0, 1):
+            yield "V11", m
 
 
 def verified(instance, plan_text, lines_before=0):
@@ -514,12 +527,13 @@ def slot_rows(instance, plan):
     length, begins, durations = slot_times(instance, plan)
     sent = {}
     for m, message in enumerate(instance.messages):
-        sent.setdefault((plan.rounds[m], instance.sender_node(m)), []).append(message)
+        for c in on_channels(plan, m):
+            sent.setdefault((plan.rounds[m], instance.sender_node(m), c), []).append(message)
     for r in range(-(-plan.delay // length)):
-        for k, n in enumerate(plan.order):
-            start, frame = r * length + begins[n], sent.get((r, n), [])
+        for (k, n), c in itertools.product(enumerate(plan.order), range(instance.channels)):
+            start, frame = r * length + begins[n], sent.get((r, n, c), [])
             end = start + durations[n]
-            yield (r, k, 0, instance.nodes[n].name, start, start + instance.lead, end - instance.trail, end, plan.caps[n],
+            yield (r, k, c, instance.nodes[n].name, start, start + instance.lead, end - instance.trail, end, plan.caps[n],
                    sum(message.bytes for message in frame), " ".join(message.name for message in frame))
 
 
@@ -533,8 +547,9 @@ def message_rows(instance, plan):
         start = plan.rounds[m] * length + begins[n]
         end = start + durations[n]
         for q in message.to:
-            yield (message.name, sender.name, instance.processes[q].name, message.bytes, plan.rounds[m], 0,
-                   instance.nodes[n].name, ready, start, end, end + instance.copy_in, plan.starts[q])
+            yield (message.name, sender.name, instance.processes[q].name, message.bytes, plan.rounds[m],
+                   CHANNEL_WORDS[plan.channels[m]].decode(), instance.nodes[n].name, ready, start, end, end + instance.copy_in,
+                   plan.starts[q])
 
 
 TABLES = {"processes": process_rows, "slots": slot_rows, "messages": message_rows}
@@ -566,7 +581,8 @@ class Canvas:
         self.round, self.begins, self.durations = slot_times(instance, plan)
         self.rounds = -(-plan.delay // self.round)
         self.width, self.across = width, width - 152
-        self.height = 52 + 34 * (1 + len(instance.nodes)) + 8
+        self.channels = instance.channels
+        self.height = 52 + 34 * (self.channels + len(instance.nodes)) + 8
         self.cycle = self.rounds * self.round
         self.figures = f"delay {plan.delay}, round {self.round}, cycle {self.cycle} ticks"
 
@@ -591,14 +607,14 @@ def top_of(row):
 
 
 def picture_rows(instance, canvas):
-    for row in range(1 + len(instance.nodes)):
-        top = top_of(row)
+    for row in range(canvas.channels + len(instance.nodes)):
+        top, n = top_of(row), row - canvas.channels
         yield f'<rect class="track" x="120" y="{top}" width="{canvas.across}" height="24"/>'
-        if row == 0:
-            yield f'<svg y="{top}" width="116" height="24"><text x="8" y="16">channel 0</text></svg>'
+        if n < 0:
+            yield f'<svg y="{top}" width="116" height="24"><text x="8" y="16">channel {row}</text></svg>'
             continue
-        name = instance.nodes[row - 1].name
-        yield (f'<rect class="n{row - 1}" x="8" y="{top}" width="8" height="24"/><svg y="{top}" width="116" height="24">'
+        name = instance.nodes[n].name
+        yield (f'<rect class="n{n}" x="8" y="{top}" width="8" height="24"/><svg y="{top}" width="116" height="24">'
                f'<title>{name}</title><text x="22" y="16">{name}</text></svg>')
 
 
@@ -615,34 +631,35 @@ def message_lines(instance, plan, canvas):
         n, sender = instance.sender_node(m), instance.processes[message.sender]
         end = plan.starts[message.sender] + sender.wcet
         slot = plan.rounds[m] * canvas.round + canvas.begins[n]
-        yield (canvas.line("", end, top_of(1 + n), slot, 81)
+        bottom = top_of(max(on_channels(plan, m))) + 24
+        yield (canvas.line("", end, top_of(canvas.channels + n), slot, bottom)
                + f"><title>{message.name}: {sender.name} ends at {end}, slot at {slot}</title></line>")
         slot += canvas.durations[n]
         for q in message.to:
             start, receiver = plan.starts[q], instance.processes[q]
-            yield (canvas.line("", slot, 81, start, top_of(1 + receiver.node))
+            yield (canvas.line("", slot, bottom, start, top_of(canvas.channels + receiver.node))
                    + f"><title>{message.name}: slot ends at {slot}, {receiver.name} starts at {start}</title></line>")
 
 
 def slot_boxes(instance, plan, canvas, are_used):
-    for n, r, frame in ((n, r, [message for m, message in enumerate(instance.messages)
-                                if (plan.rounds[m], instance.sender_node(m)) == (r, n)])
-                        for r in range(canvas.rounds) for n in plan.order):
+    for r, n, c in itertools.product(range(canvas.rounds), plan.order, range(canvas.channels)):
+        frame = [message for m, message in enumerate(instance.messages)
+                 if (plan.rounds[m], instance.sender_node(m)) == (r, n) and c in on_channels(plan, m)]
         if bool(frame) != are_used:
             continue
         start, length = r * canvas.round + canvas.begins[n], canvas.durations[n]
         words = (f"{instance.nodes[n].name} in round {r}: {start} to {start + length},"
                  f" {sum(message.bytes for message in frame)} of {plan.caps[n]} bytes")
-        box, names = canvas.rectangle(0, n, start, length), "".join(f" {message.name}" for message in frame)
+        box, names = canvas.rectangle(c, n, start, length), "".join(f" {message.name}" for message in frame)
         if are_used:
-            yield f"<g><title>{words}:{names}</title>{box}{canvas.name(0, n, start, length, names)}</g>"
+            yield f"<g><title>{words}:{names}</title>{box}{canvas.name(c, n, start, length, names)}</g>"
         else:
             yield f"<g><title>{words}</title>{box}</g>"
 
 
 def process_boxes(instance, plan, canvas):
     for p, process in enumerate(instance.processes):
-        n, at = process.node, (1 + process.node, process.node, plan.starts[p], process.wcet)
+        n, at = process.node, (canvas.channels + process.node, process.node, plan.starts[p], process.wcet)
         yield (f"<g><title>{process.name} on {instance.nodes[n].name}: from {plan.starts[p]} for {process.wcet},"
                f" released at {process.release}, due by {min(process.deadline, instance.horizon)}</title>"
                + canvas.rectangle(*at) + canvas.name(*at, process.name, '<rect width="1" height="24"/>') + "</g>")
@@ -663,7 +680,8 @@ def picture(instance, plan, canvas, used):
            ' preserveAspectRatio="none">')
     if not used:
         yield from slot_boxes(instance, plan, canvas, False)
-        yield f'<rect y="60" width="{canvas.cycle}" height="18" fill="#fff" pointer-events="none"/>'
+        for c in range(canvas.channels):
+            yield f'<rect y="{top_of(c) + 3}" width="{canvas.cycle}" height="18" fill="#fff" pointer-events="none"/>'
     yield from slot_boxes(instance, plan, canvas, True)
     yield from process_boxes(instance, plan, canvas)
     yield "</svg>"
@@ -710,12 +728,12 @@ def given_delay(instance, text):
 # A certificate: its text
 
 
-BRANCHES = {b"place": 1, b"cap": 2, b"pair": 2, b"round": 2}
+BRANCHES = {b"place": 1, b"cap": 2, b"pair": 2, b"round": 2, b"chan": 2}
 STEPS = {
     b"es-release": 1, b"es-link": 1, b"es-before": 2, b"es-arrive": 2, b"es-message": 2, b"lo-send": 1, b"le-own": 1,
     b"le-link": 1, b"le-before": 2, b"le-message": 2, b"le-send": 1, b"hi-arrive": 2, b"ord-window": 2, b"ord-twin": 2,
-    b"us-settled": 1, b"x-window": 1, b"x-round": 1, b"x-load": 3, b"x-frame": 1, b"x-frames": 3, b"x-late": 2,
-    b"x-silent": 2}
+    b"us-settled": 1, b"x-window": 1, b"x-round": 1, b"x-load": 3, b"x-frame": 1, b"x-frames": 3,
+    b"x-channel": 4, b"x-late": 2, b"x-silent": 2}
 
 
 def certificate_fault(code, line):
@@ -727,7 +745,22 @@ def is_step(word, numbers):
 
 
 def is_node(word, numbers):
+    if word == b"chan":
+        return len(numbers) == 2 and numbers[1] == b"3"
     return len(numbers) == 2 if word == b"leaf" else BRANCHES.get(word) == len(numbers)
+
+
+# Version 1 has no lines that speak of channels.
+def is_step_of_1(word, numbers):
+    return word != b"x-channel" and is_step(word, numbers)
+
+
+def is_node_of_1(word, numbers):
+    return word != b"chan" and is_node(word, numbers)
+
+
+# By the first line, what a node's line and a step's have to be.
+FORMS = {b"ttcert 1": (is_node_of_1, is_step_of_1), b"ttcert 2": (is_node, is_step)}
 
 
 # Most lines of a large certificate stand in it a thousand times, so what is known of a line is kept.
@@ -756,14 +789,15 @@ def stated_line(lines, is_right):
 
 
 def children_stated(word, numbers):
-    return numbers[-1] if word in (b"place", b"cap") else 2
+    return 2 if word in (b"pair", b"round") else numbers[-1]
 
 
 def read_certificate(text):
     """The bound, and the nodes in the order of their lines: the number of the line, the word, the numbers and the steps' lines."""
     lines = Lines(text, certificate_fault, "G5", "G6")
-    if lines.next() not in (b"ttcert 1", b"ttcert 2"):
+    if (version := lines.next()) not in FORMS:
         raise certificate_fault("G1", lines.count)
+    is_right_node, is_right_step = FORMS[version]
     _, (low,) = parts(stated_line(lines, lambda word, numbers: word == b"low" and len(numbers) == 1))
     nodes = []
     # How many children are still to come of each branch above the next node: the root is one child of nothing.
@@ -773,13 +807,13 @@ def read_certificate(text):
             left.pop()
             continue
         left[-1] -= 1
-        word, numbers = parts(stated_line(lines, is_node))
+        word, numbers = parts(stated_line(lines, is_right_node))
         if len(left) - 1 > BRANCHES_MOST:
             raise certificate_fault("G4", lines.count)
         steps, line = [], lines.count
         if word == b"leaf":
             for _ in range(numbers[1]):
-                steps.append(stated_line(lines, is_step))
+                steps.append(stated_line(lines, is_right_step))
         else:
             left.append(children_stated(word, numbers))
         nodes.append((line, word, numbers, steps))
@@ -792,16 +826,25 @@ def read_certificate(text):
 
 @dataclass(frozen=True)
 class Choice:
-    """What the branches above a node decide; ranges are from the first to the last round."""
+    """What the branches above a node decide; ranges are from the first to the last round, and None is what is free."""
 
     order: tuple
     caps: tuple
     pairs: frozenset
     ranges: tuple
+    channels: tuple
+
+
+def first_channel(instance, message):
+    if instance.channels == 1:
+        return 0
+    return BOTH if message.both else None
 
 
 def root(instance):
-    return Choice((), (None,) * len(instance.nodes), frozenset(), ((0, instance.horizon - 1),) * len(instance.messages))
+    return Choice(
+        (), (None,) * len(instance.nodes), frozenset(), ((0, instance.horizon - 1),) * len(instance.messages),
+        tuple(first_channel(instance, message) for message in instance.messages))
 
 
 def with_item(items, k, item):
@@ -823,6 +866,10 @@ def children(instance, choice, word, numbers):
         if not are_neighbours(instance, *pairs[0]) or any(pair in choice.pairs for pair in pairs):
             return None
         return [replace(choice, pairs=choice.pairs | {pair}) for pair in pairs]
+    if word == b"chan":
+        if a >= len(instance.messages) or choice.channels[a] is not None:
+            return None
+        return [replace(choice, channels=with_item(choice.channels, a, channel)) for channel in (0, 1, BOTH)]
     if a >= len(instance.messages) or not choice.ranges[a][0] <= b[0] < choice.ranges[a][1]:
         return None
     first, last = choice.ranges[a]
@@ -875,6 +922,7 @@ class Facts:
         self.lo = [first for first, _ in choice.ranges]
         self.top = [last + 1 for _, last in choice.ranges]
         self.bef = set(choice.pairs)
+        self.channels = choice.channels
         self.closed = False
 
     # Extremes
@@ -1026,10 +1074,20 @@ class Facts:
     def x_frame(self, m):
         return self.closes(bool(self.message(m)) and self.message(m).bytes > self.cap_most[self.instance.sender_node(m)])
 
+    def sent_within(self, n, a, b):
+        """The messages that a node sends in rounds from a on and before b."""
+        return [m for m in self.instance.sent_by[n] if a <= self.lo[m] and self.top[m] <= b]
+
     def x_frames(self, n, a, b):
         if n >= len(self.instance.nodes) or a > b:
             return False
-        load = sum(self.message(m).bytes for m in self.instance.sent_by[n] if a <= self.lo[m] and self.top[m] <= b)
+        load = sum(self.message(m).bytes * (2 if self.channels[m] == BOTH else 1) for m in self.sent_within(n, a, b))
+        return self.closes(load > self.instance.channels * (b - a) * self.cap_most[n])
+
+    def x_channel(self, c, n, a, b):
+        if not (self.instance.channels == 2 and c < 2) or n >= len(self.instance.nodes) or a > b:
+            return False
+        load = sum(self.message(m).bytes for m in self.sent_within(n, a, b) if self.channels[m] in (c, BOTH))
         return self.closes(load > (b - a) * self.cap_most[n])
 
     def x_late(self, m, r):

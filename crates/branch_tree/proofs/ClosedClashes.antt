@@ -1,27 +1,28 @@
 -- Each clash of a complete choice is closed by its own step, and a plan by a window at each goal up to its delay.
-use Rattle.std.proofs.Common.{◌≡◌, ℕ, ◌+◌, ◌-◌, ◌*◌, ◌<◌, ◌≤◌, ◌==◌, ◌&&◌, if◌then◌else◌, min, max, List, [], length, slice_index, Bool, arith, inl, inr, refl, ap, ◌∙◌, get_or-set_same, mul-le-mul_right}
-use Rattle.std.proofs.lemmas.Bool.{cases_lt}
+use Rattle.std.proofs.Common.{◌≡◌, ◌≢◌, ℕ, ◌+◌, ◌-◌, ◌*◌, ◌<◌, ◌≤◌, ◌==◌, ◌&&◌, if◌then◌else◌, min, max, List, [], length, slice_index, unwrap_or, Option, None, Some, IsSome, Bool, arith, inl, inr, refl, sym, ap, subst, ◌∙◌, get_or-set_same, mul-le-mul_right}
+use Rattle.std.proofs.lemmas.Bool.{cases_lt, cases_eq, eq-eqb, ne_eqb, false≢true}
 use Rattle.std.proofs.lemmas.List.{length-map, get_or-map, get_or-replicate}
 use Rattle.std.proofs.lemmas.List.Elements.{Contains-get_or}
 use Rattle.ttp_model.specs.declared.plan.Plan.{Plan}
-use Rattle.ttp_model.specs.declared.error.Place.TheVariants.{AtProcess, AtLink, AtMessage}
-use Rattle.ttp_model.specs.declared.step.Step.TheVariants.{LoSend, HiArrive, XRound, XCycle, XFrames, XWindow}
+use Rattle.ttp_model.specs.declared.error.Place.TheVariants.{AtCluster, AtProcess, AtLink, AtMessage}
+use Rattle.ttp_model.specs.declared.step.Step.{Step}
+use Rattle.ttp_model.specs.declared.step.Step.TheVariants.{LoSend, HiArrive, XRound, XCycle, XFrames, XChannel, XWindow}
 use Rattle.ttp_model.specs.Instance.{Instance, message_at, source_of}
 use Rattle.ttp_model.specs.Rules.{IsInstance}
-use Rattle.ttp_model.specs.Plans.{start_of, end_of, bytes_in, load_of}
+use Rattle.ttp_model.specs.Plans.{start_of, end_of, bytes_in, channel_of, is_on}
 use Rattle.ttp_model.specs.Delays.{delay}
 use Rattle.ttp_model.specs.Totals.{total}
-use Rattle.ttp_model.proofs.Totals.{total_same}
-use Rattle.ttp_model.proofs.OneChannel.{one_channel}
-use Rattle.ttp_model.proofs.Channels.{load_on_first}
+use Rattle.ttp_model.proofs.Totals.{total_same, total_le}
+use Rattle.ttp_model.proofs.Channels.{on_at_most}
 use Rattle.ttp_model.proofs.ValidPlans.{greatest_reached}
-use Rattle.tt_choice.specs.Choice.{Choice, IsChoice, IsComplete, least_round}
+use Rattle.tt_choice.specs.Choice.{Choice, IsChoice, IsComplete, fixed_channel, least_round}
 use Rattle.tt_choice.specs.Extremes.{start_most, end_least, cap_most, dur_most}
 use Rattle.sought_plans.specs.Known.{first_facts, top_of}
 use Rattle.sought_plans.specs.Conclusions.{SentFrom, SentBefore, sharpened, capped}
-use Rattle.sought_plans.specs.Premises.{Receives, IsAhead, IsFirstChance, AreChances, least_ready, bytes_within}
+use Rattle.sought_plans.specs.Premises.{Receives, IsAhead, IsFirstChance, AreChances, least_ready, bytes_within, bytes_copied, bytes_counted, counts_on, is_fixed_on}
+use Rattle.sought_plans.proofs.Channels.{total_copied_alone}
 use Rattle.tt_infer.proofs.Chances.{concludes_some}
-use Rattle.step_logs.proofs.Complete.{start_exact, end_exact, cap_exact, one_round}
+use Rattle.path_bounds.proofs.Complete.{start_exact, end_exact, cap_exact, one_round}
 use Rattle.earliest_starts.specs.declared.clash.Clash.{Clash}
 use Rattle.earliest_starts.specs.declared.clash.Clash.TheVariants.{Cycle, Round, Window, Frame}
 use Rattle.earliest_starts.specs.Fixed.{GoesAhead, plan_of, fixed_bytes}
@@ -30,6 +31,11 @@ use Rattle.earliest_starts.specs.Answers.{IsEarliest}
 use Rattle.earliest_starts.proofs.Sound.{channel_at}
 use Rattle.branch_tree.specs.Closers.{IsClosedBy, closer_of}
 use Rattle.branch_tree.proofs.CompleteSteps.{IsWay, starting, start, onward, closing, reach, no_window}
+
+-- what is fixed counts on its channel
+fixed_counts : (k : ℕ) (o : Option ℕ) → IsSome o → is_fixed_on k o ≡ is_on k (unwrap_or o 0)
+fixed_counts k None some = absurd (false≢true some)
+fixed_counts k (Some fixed) some = refl
 
 module _ (i : Instance) (c : Choice) (goal : ℕ) (w : IsInstance i) (ok : IsChoice i c) (done : IsComplete i c) where
   ahead_inside : (p q : ℕ) → GoesAhead i c p q → p < length i.processes
@@ -120,23 +126,59 @@ module _ (i : Instance) (c : Choice) (goal : ℕ) (w : IsInstance i) (ok : IsCho
         | inr early ↦ late_slot m to.es inside to.way (omega (arith, early, begins, ends, to.known, misses.late))
       ]
 
-  frame_closed : (n r k : ℕ) → IsOverfull i c n r k → IsClosedBy i c goal (XFrames n r (r + 1))
-  frame_closed n r k over = closing i c goal (first_facts i c) (XFrames n r (r + 1)) (start i c goal) over.node (record { span = omega arith; bytes = more }) refl
-    where
-      same : (m : ℕ) → m < length i.messages → bytes_within i (first_facts i c) n r (r + 1) m ≡ bytes_in i (plan_of c []) n r m
-      same m h = ap (λ (b : Bool). if (source_of i m == n) && b then (message_at i m).bytes else 0) (one_round (least_round c m) (top_of (first_facts i c) m) r (first_top m h))
+  -- a message counts on the channel that it is sent on
+  counts_there : (k m : ℕ) → m < length i.messages → counts_on c k m ≡ is_on k (channel_of (plan_of c []) m)
+  counts_there k m h =
+      fixed_counts k (fixed_channel c m) (done.channels m h) ∙ ap (is_on k) (sym (channel_at c m (omega (arith, h, ok.channels_length))))
 
-      -- all messages are on the one channel
-      on_it : total (fixed_bytes i c n r k) (length i.messages) ≡ load_of i (plan_of c []) n r
-      on_it = load_on_first i (plan_of c []) n r k (omega (arith, over.channel, one_channel i w)) (λ m h. channel_at c m (omega (arith, h, ok.lo_length)))
+  -- of a frame of one round
+  module _ (n r : ℕ) where
+    in_the_round : (m : ℕ) → m < length i.messages → bytes_within i (first_facts i c) n r (r + 1) m ≡ bytes_in i (plan_of c []) n r m
+    in_the_round m h = ap (λ (b : Bool). if (source_of i m == n) && b then (message_at i m).bytes else 0) (one_round (least_round c m) (top_of (first_facts i c) m) r (first_top m h))
 
-      more : ((r + 1) - r) * cap_most i c n < total (bytes_within i (first_facts i c) n r (r + 1)) (length i.messages)
-      more =
-          let one : (r + 1) - r ≡ 1 = omega arith in
-          let whole : 1 * cap_most i c n ≡ cap_most i c n = omega arith in
-          let times : ((r + 1) - r) * cap_most i c n ≡ cap_most i c n = ap (λ (k : ℕ). k * cap_most i c n) one ∙ whole in
-          let all = total_same (bytes_within i (first_facts i c) n r (r + 1)) (bytes_in i (plan_of c []) n r) (length i.messages) same in
-          omega (arith, times, all, on_it, over.over, cap_exact i c w ok done n over.node)
+    one_capacity : ((r + 1) - r) * cap_most i c n ≡ cap_most i c n
+    one_capacity =
+        let one : (r + 1) - r ≡ 1 = omega arith in
+        let whole : 1 * cap_most i c n ≡ cap_most i c n = omega arith in
+        ap (λ (k : ℕ). k * cap_most i c n) one ∙ whole
+
+    -- on the only channel are the messages of all channels
+    only_closed : (k : ℕ) → i.cluster.channels ≡ 1 → IsOverfull i c n r k → IsClosedBy i c goal (XFrames n r (r + 1))
+    only_closed k alone over =
+        let sent : total (fixed_bytes i c n r k) (length i.messages) ≤ total (bytes_within i (first_facts i c) n r (r + 1)) (length i.messages) =
+        total_le (fixed_bytes i c n r k) (bytes_within i (first_facts i c) n r (r + 1)) (length i.messages)
+        (λ m h. omega (arith, on_at_most i (plan_of c []) n r k m, in_the_round m h)) in
+        let once = total_copied_alone i c (first_facts i c) n r (r + 1) alone ok in
+        let whole : 1 * cap_most i c n ≡ cap_most i c n = omega arith in
+        let times : i.cluster.channels * (((r + 1) - r) * cap_most i c n) ≡ cap_most i c n =
+        ap (λ (x : ℕ). i.cluster.channels * x) one_capacity ∙ (ap (λ (x : ℕ). x * cap_most i c n) alone ∙ whole) in
+        let more : i.cluster.channels * (((r + 1) - r) * cap_most i c n) < total (bytes_copied i c (first_facts i c) n r (r + 1)) (length i.messages) =
+        omega (arith, times, once, sent, over.over, cap_exact i c w ok done n over.node) in
+        closing i c goal (first_facts i c) (XFrames n r (r + 1)) (start i c goal) over.node (record { span = omega arith; bytes = more }) refl
+
+    -- on one of two channels are those that are fixed to it
+    on_channel : (k m : ℕ) → m < length i.messages → bytes_counted i c (first_facts i c) k n r (r + 1) m ≡ fixed_bytes i c n r k m
+    on_channel k m h =
+        ap (λ (b : Bool). if b then bytes_within i (first_facts i c) n r (r + 1) m else 0) (counts_there k m h)
+        ∙ ap (λ (x : ℕ). if is_on k (channel_of (plan_of c []) m) then x else 0) (in_the_round m h)
+
+    one_of_two_closed : (k : ℕ) → i.cluster.channels ≢ 1 → IsOverfull i c n r k → IsClosedBy i c goal (XChannel k n r (r + 1))
+    one_of_two_closed k several over =
+        let two : 2 ≤ i.cluster.channels = omega (arith, several, (w.ranges AtCluster).channels_least) in
+        let all = total_same (bytes_counted i c (first_facts i c) k n r (r + 1)) (fixed_bytes i c n r k) (length i.messages) (on_channel k) in
+        let more : ((r + 1) - r) * cap_most i c n < total (bytes_counted i c (first_facts i c) k n r (r + 1)) (length i.messages) =
+        omega (arith, one_capacity, all, over.over, cap_exact i c w ok done n over.node) in
+        closing i c goal (first_facts i c) (XChannel k n r (r + 1)) (start i c goal) (over.node, (two, over.channel)) (record { span = omega arith; bytes = more }) refl
+
+    -- the closer by whether there is one channel
+    abbrev by_channels : ℕ → Bool → Step
+    by_channels k alone = if alone then XFrames n r (r + 1) else XChannel k n r (r + 1)
+
+    frame_closed : (k : ℕ) → IsOverfull i c n r k → IsClosedBy i c goal (by_channels k (i.cluster.channels == 1))
+    frame_closed k over = elim (cases_eq i.cluster.channels 1) [
+      | inl alone ↦ subst (λ (b : Bool). IsClosedBy i c goal (by_channels k b)) (sym (eq-eqb i.cluster.channels 1 alone)) (only_closed k alone over)
+      | inr several ↦ subst (λ (b : Bool). IsClosedBy i c goal (by_channels k b)) (sym (ne_eqb i.cluster.channels 1 several)) (one_of_two_closed k several over)
+    ]
 
   pub clash_closed : (clash : Clash) → IsClash i c clash → IsClosedBy i c goal (closer_of i clash)
   clash_closed (Cycle ps) ring = cycle_closed ps ring

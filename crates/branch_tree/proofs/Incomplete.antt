@@ -1,11 +1,12 @@
--- Where a branch is open, something is left to choose.
-use Rattle.std.proofs.Common.{◌≡◌, ℕ, arith, sym, inl, inr, Option, None, Some, IsSome}
-use Rattle.std.proofs.lemmas.Bool.{cases_order, both_ways}
+-- Where a branch is open, something is left to choose; and where none is, nothing.
+use Rattle.std.proofs.Common.{◌≡◌, ℕ, ◌<◌, length, arith, sym, inl, inr, Option, None, Some, IsSome, IfNone}
+use Rattle.std.proofs.lemmas.Bool.{cases_lt, cases_order, both_ways}
 use Rattle.ttp_model.specs.declared.step.Kind.{Kind}
-use Rattle.ttp_model.specs.declared.step.Kind.TheVariants.{Place, Cap, Pair, Round}
+use Rattle.ttp_model.specs.declared.step.Kind.TheVariants.{Place, Cap, Pair, Round, Chan}
 use Rattle.ttp_model.specs.Instance.{Instance}
-use Rattle.tt_choice.specs.Choice.{Choice, IsComplete, IsOrdered, fixed_cap}
+use Rattle.tt_choice.specs.Choice.{Choice, IsChoice, IsComplete, IsOrdered, fixed_cap, fixed_channel, least_round, greatest_round}
 use Rattle.tt_choice.specs.Branches.{IsOpen, IsUnorderedPair}
+use Rattle.branch_tree.specs.Branching.{MayBranch, Branches}
 
 some_is_not_none : (o : Option ℕ) → IsSome o → o ≡ None → ⊥
 some_is_not_none None some is = cc
@@ -34,3 +35,23 @@ open_incomplete i c (Pair p q) is all = elim (cases_order p q) [
   ]
 ]
 open_incomplete i c (Round m r) is all = absurd (omega (arith, is.from, is.below, all.rounds m is.message))
+open_incomplete i c (Chan m) is all = some_is_not_none (fixed_channel c m) (all.channels m is.message) is.free
+
+-- a channel is free where something is left beside orders, rounds, places and capacities
+pub branches_of : (i : Instance) (c : Choice) (kind : Option Kind) → IsChoice i c
+    → ((p q : ℕ) → q < p → p < length i.processes → IsOrdered i c p q)
+    → ((m : ℕ) → m < length i.messages → least_round c m ≡ greatest_round c m)
+    → (length c.prefix < length i.nodes → ⊥)
+    → ((n : ℕ) → n < length i.nodes → IsSome (fixed_cap c n))
+    → MayBranch i c kind → IfNone kind ((m : ℕ) → m < length i.messages → IsSome (fixed_channel c m)) → Branches i c kind
+branches_of i c None ok ordered rounds full fixed may channels = record {
+  placed = elim (cases_lt (length c.prefix) (length i.nodes)) [
+    | inl some ↦ absurd (full some)
+    | inr whole ↦ omega (arith, whole, ok.few)
+  ];
+  fixed = fixed;
+  ordered = ordered;
+  rounds = rounds;
+  channels = channels;
+}
+branches_of i c (Some kind) ok ordered rounds full fixed may channels = may

@@ -1,11 +1,11 @@
 -- Complete choices of the worked example with one message.
 use Rattle.std.proofs.Common.{◌≡◌, ℕ, zero, suc, ◌<◌, [], ◌∷◌, slice_index, IsSome, IsTrue, lit<, lit≤, arith, refl}
-use Rattle.std.proofs.lemmas.Bool.{both_ways}
+use Rattle.std.proofs.lemmas.Bool.{both_ways, false≢true}
 use Rattle.std.proofs.lemmas.List.Elements.{Contains-get_or}
-use Rattle.ttp_model.specs.Plans.{start_of}
+use Rattle.ttp_model.specs.Plans.{start_of, channel_of}
 use Rattle.ttp_model.specs.Worked.{one_message, one_message_plan}
 use Rattle.ttp_model.proofs.OneMessagePlan.{plan_is_valid}
-use Rattle.tt_choice.specs.Choice.{IsChoice, IsComplete, IsIn, IsOption, IsOrdered, IsFixedTo, IsSentInRange, fixed_cap, is_before, least_round, greatest_round}
+use Rattle.tt_choice.specs.Choice.{IsChoice, IsComplete, IsIn, IsOption, IsChannel, IsOrdered, IsFixedTo, IsSentInRange, fixed_cap, fixed_channel, is_before, least_round, greatest_round}
 use Rattle.tt_choice.proofs.Before.{nothing_goes}
 use Rattle.tt_infer.proofs.OneMessageRules.{one_message_is_instance}
 use Rattle.earliest_starts.specs.declared.clash.Clash.TheVariants.{Round}
@@ -43,6 +43,11 @@ module _ (round : ℕ) where
   within early zero lt = early
   within early (suc m) lt = absurd (omega arith)
 
+  channel : (m : ℕ) → m < 1 → IsChannel one_message m (fixed_channel (one_message_in round) m)
+  channel zero lt = record { known = omega arith; alone = λ _. refl; both = λ twice. absurd (false≢true twice) }
+  channel (suc m) lt = absurd (omega arith)
+
+  -- it is one of the example, whatever the round
   pub is_choice : round < 100 → IsChoice one_message (one_message_in round)
   is_choice early = record {
     few = lit≤ tt;
@@ -58,12 +63,18 @@ module _ (round : ℕ) where
     hi_length = refl;
     ranges = λ m h. omega (arith, same_round m h);
     within = within early;
+    channels_length = refl;
+    channels = channel;
   }
 
   fixed : (n : ℕ) → n < 2 → IsSome (fixed_cap (one_message_in round) n)
   fixed zero lt = refl
   fixed (suc zero) lt = refl
   fixed (suc (suc n)) lt = absurd (omega arith)
+
+  on_channel : (m : ℕ) → m < 1 → IsSome (fixed_channel (one_message_in round) m)
+  on_channel zero lt = refl
+  on_channel (suc m) lt = absurd (omega arith)
 
   ordered : (p q : ℕ) → q < p → p < 2 → IsOrdered one_message (one_message_in round) p q
   ordered zero q below inside same = absurd (omega (arith, below))
@@ -72,7 +83,7 @@ module _ (round : ℕ) where
   ordered (suc (suc p)) q below inside same = absurd (omega (arith, inside))
 
   pub is_complete : IsComplete one_message (one_message_in round)
-  is_complete = record { placed = refl; fixed = fixed; ordered = ordered; rounds = same_round }
+  is_complete = record { placed = refl; fixed = fixed; ordered = ordered; rounds = same_round; channels = on_channel }
 
 as_placed : (k : ℕ) → k < 2 → slice_index (one_message_plan 0).order k ≡ slice_index (one_message_in 1).prefix k
 as_placed k lt = refl
@@ -86,8 +97,19 @@ in_range : (m : ℕ) → m < 1 → IsSentInRange (one_message_in 1) (one_message
 in_range zero lt = (lit≤ tt, lit≤ tt)
 in_range (suc m) lt = absurd (omega arith)
 
+on_its_channel : (m : ℕ) → m < 1 → IsFixedTo (fixed_channel (one_message_in 1) m) (channel_of (one_message_plan 0) m)
+on_its_channel zero lt = refl
+on_its_channel (suc m) lt = absurd (omega arith)
+
 is_chosen : IsIn one_message (one_message_in 1) (one_message_plan 0)
-is_chosen = record { lengths = plan_is_valid.lengths; prefix = as_placed; fixed = as_fixed; pairs = λ p q holds. absurd (no_order 1 p q holds); ranges = in_range }
+is_chosen = record {
+  lengths = plan_is_valid.lengths;
+  prefix = as_placed;
+  fixed = as_fixed;
+  pairs = λ p q holds. absurd (no_order 1 p q holds);
+  ranges = in_range;
+  channels = on_its_channel;
+}
 
 waits : (p : ℕ) → p < 2 → WaitsUntil one_message (one_message_in 1) p (start_of (one_message_plan 0) p)
 waits zero lt = released 0 (lit< tt)

@@ -44,6 +44,10 @@ module _ (i : Instance) (goal : ℕ) (ds : List Decision) (p : Propagator) (come
       (subst (λ (j : Instance). IsLog j (chosen j ds) p.goal p.current) comes.at.instance
       (subst (λ (xs : List Decision). IsLog p.instance (chosen p.instance xs) p.goal p.current) all is.current))
 
+  -- they led to its choice
+  pub choice_at : p.current.facts.choice ≡ chosen i ds
+  choice_at = ap (λ (s : Facts). s.choice) here.facts
+
   pub left_at : IsFalse p.current.facts.known.closed → IsLeft i p.current.facts.choice goal p.current.facts
   left_at left =
       let leaves : IsLeft i (chosen i ds) goal p.current.facts = record {

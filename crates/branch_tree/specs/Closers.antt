@@ -1,7 +1,7 @@
 -- The step that closes a complete choice without a plan, or at a goal within its plan's delay. Own profile.
-use Rattle.std.specs.Prelude.{ℕ, ◌+◌, List, [], ◌∷◌, ◌++◌, All}
+use Rattle.std.specs.Prelude.{ℕ, ◌+◌, ◌==◌, if◌then◌else◌, List, [], ◌∷◌, ◌++◌, All}
 use Rattle.ttp_model.specs.declared.step.Step.{Step}
-use Rattle.ttp_model.specs.declared.step.Step.TheVariants.{EsRelease, EsLink, EsBefore, EsArrive, EsMessage, LoSend, LeOwn, LeLink, LeBefore, LeMessage, LeSend, HiArrive, OrdWindow, OrdTwin, UsSettled, XWindow, XRound, XCycle, XLoad, XFrame, XFrames, XLate, XSilent}
+use Rattle.ttp_model.specs.declared.step.Step.TheVariants.{EsRelease, EsLink, EsBefore, EsArrive, EsMessage, LoSend, LeOwn, LeLink, LeBefore, LeMessage, LeSend, HiArrive, OrdWindow, OrdTwin, UsSettled, XWindow, XRound, XCycle, XLoad, XFrame, XFrames, XChannel, XLate, XSilent}
 use Rattle.ttp_model.specs.Instance.{Instance}
 use Rattle.tt_choice.specs.Choice.{Choice}
 use Rattle.tt_infer.specs.Leaves.{ClosesLeaf}
@@ -31,15 +31,16 @@ IsDominance (XCycle ps) = ⊥
 IsDominance (XLoad n a b) = ⊥
 IsDominance (XFrame m) = ⊥
 IsDominance (XFrames n a b) = ⊥
+IsDominance (XChannel k n a b) = ⊥
 IsDominance (XLate m r) = Unit {0}
 IsDominance (XSilent u v) = Unit {0}
 
--- the step that closes the choice for a clash
+-- the step that closes the choice for a clash: for an overfull frame that of its one channel, where there are two
 abbrev pub closer_of : Instance → Clash → Step
 closer_of i (Cycle ps) = XCycle ps
 closer_of i (Round m) = XRound m
 closer_of i (Window p) = XWindow p
-closer_of i (Frame n r k) = XFrames n r (r + 1)
+closer_of i (Frame n r k) = if i.cluster.channels == 1 then XFrames n r (r + 1) else XChannel k n r (r + 1)
 
 -- Steps that hold of all valid plans, settled or not, lead from the first facts to where this step closes the choice at
 -- the goal.

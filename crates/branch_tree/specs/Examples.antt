@@ -3,7 +3,7 @@ use Rattle.std.specs.Prelude.{ℕ, [], ◌∷◌, Some}
 use Rattle.tt_choice.specs.Precedence.{nothing_before}
 use Rattle.tt_choice.specs.Choice.{Choice}
 
--- of the example with one message: A before B, with their only capacities, and the message in this round
+-- of the example with one message: A before B, with their only capacities, and the message in this round on the only channel
 abbrev pub one_message_in : ℕ → Choice
 one_message_in round = record {
   prefix = 0 ∷ 1 ∷ [];
@@ -12,5 +12,6 @@ one_message_in round = record {
   unordered = 0;
   lo = round ∷ [];
   hi = round ∷ [];
+  channels = Some 0 ∷ [];
   kept = [];
 }

@@ -6,6 +6,7 @@ ghost use Rattle.tt_choice.specs.Choice.{IsChoice};
 ghost use Rattle.branch_tree.specs.Branching.{MayBranch, Branches};
 
 mod candidate;
+mod channels;
 mod crowds;
 mod empty_halves;
 mod layout;

@@ -38,7 +38,7 @@ fn node_of(instance: &Instance, closer: &Step) -> Option<u32> {
     match closer {
         Step::XWindow(p) => home(instance, *p),
         Step::XRound(m) | Step::XFrame(m) | Step::XLate(m, _) => source(instance, *m),
-        Step::XLoad(n, _, _) | Step::XFrames(n, _, _) => Some(*n),
+        Step::XLoad(n, _, _) | Step::XFrames(n, _, _) | Step::XChannel(_, n, _, _) => Some(*n),
         Step::XCycle(_) | Step::XSilent(_, _) => None,
         // They don't close.
         Step::EsRelease(_) | Step::EsLink(_) | Step::EsBefore(_, _) => None,

@@ -5,7 +5,7 @@ ghost use Rattle.ttp_model.specs.declared.plan.Plan.{Plan};
 ghost use Rattle.ttp_model.specs.declared.step.Kind.TheVariants.{Place};
 ghost use Rattle.ttp_model.specs.Chains.{IsPathBound};
 ghost use Rattle.tt_choice.specs.Choice.{IsChoice, IsComplete};
-ghost use Rattle.step_logs.specs.PlansBelow.{IsPlanBelow};
+ghost use Rattle.path_bounds.specs.PlansBelow.{IsPlanBelow};
 ghost use Rattle.branch_tree.specs.Branching.{Branches};
 ghost use Rattle.subtree_tasks.specs.Task.{choice_of, root_task, IsTask};
 ghost use Rattle.branch_tree.specs.Work.{IsWorked, IsLeftClosed};

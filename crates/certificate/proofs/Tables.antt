@@ -1,12 +1,13 @@
 -- What has a keyword, of all that can be said with some numbers; and what can be said of each line.
-use Rattle.std.proofs.Common.{◌≡◌, ℕ, ◌<◌, ◌≤◌, Bool, true, false, cond, List, [], ◌∷◌, length, Option, Some, refl, ap, subst, arith}
-use Rattle.std.specs.Prelude.{bytes_eq, nat_lt}
+use Rattle.std.proofs.Common.{◌≡◌, ℕ, ◌<◌, ◌≤◌, Bool, true, false, cond, List, [], ◌∷◌, length, Option, Some, refl, sym, ap, subst, arith}
+use Rattle.std.specs.Prelude.{bytes_eq, nat_lt, ◌==◌}
 use Rattle.std.specs.List.{list_all}
+use Rattle.std.proofs.lemmas.Bool.{eqb-true}
 use Rattle.std.proofs.lemmas.Slice.Eq.{bytes_eq-Decides}
 use Rattle.ttp_model.specs.declared.step.Kind.{Kind}
-use Rattle.ttp_model.specs.declared.step.Kind.TheVariants.{Place, Cap, Pair, Round}
+use Rattle.ttp_model.specs.declared.step.Kind.TheVariants.{Place, Cap, Pair, Round, Chan}
 use Rattle.ttp_model.specs.declared.step.Step.{Step}
-use Rattle.ttp_model.specs.declared.step.Step.TheVariants.{EsRelease, EsLink, EsBefore, EsArrive, EsMessage, LoSend, LeOwn, LeLink, LeBefore, LeMessage, LeSend, HiArrive, OrdWindow, OrdTwin, UsSettled, XWindow, XRound, XCycle, XLoad, XFrame, XFrames, XLate, XSilent}
+use Rattle.ttp_model.specs.declared.step.Step.TheVariants.{EsRelease, EsLink, EsBefore, EsArrive, EsMessage, LoSend, LeOwn, LeLink, LeBefore, LeMessage, LeSend, HiArrive, OrdWindow, OrdTwin, UsSettled, XWindow, XRound, XCycle, XLoad, XFrame, XFrames, XChannel, XLate, XSilent}
 use Rattle.certificate.specs.declared.branch.Branch.{Branch}
 use Rattle.certificate.specs.declared.head.Head.{Head}
 use Rattle.certificate.specs.declared.head.Head.TheVariants.{OfBranch, OfLeaf}
@@ -58,10 +59,14 @@ low_sayable low = record { keyword = refl; some = some_of low []; again = refl }
 
 -- ---- the lines of nodes
 
+channel_said : (m k : ℕ) (three : Bool) → (k == 3) ≡ three → Each (λ head. ((head_words head).1 ≡ m ∷ k ∷ []) × Unit {0}) (cond three (OfBranch (branch_of (Chan m) 0) ∷ []) [])
+channel_said m k true is = ((ap (λ (n : ℕ). m ∷ n ∷ []) (sym (eqb-true k 3 is)), tt), tt)
+channel_said m k false is = tt
+
 pub heads_said : (ns : List ℕ) → Each (λ head. ((head_words head).1 ≡ ns) × Unit {0}) (heads_with ns)
 heads_said [] = tt
 heads_said (k ∷ []) = ((refl, tt), tt)
-heads_said (a ∷ b ∷ []) = ((refl, tt), ((refl, tt), ((refl, tt), ((refl, tt), tt))))
+heads_said (a ∷ b ∷ []) = ((refl, tt), ((refl, tt), ((refl, tt), ((refl, tt), channel_said a b (b == 3) refl))))
 heads_said (a ∷ b ∷ c ∷ ns) = tt
 
 abbrev said : Branch → Option Head
@@ -72,6 +77,7 @@ branch_sayable Place k = record { keyword = refl; some = some_of k []; again = r
 branch_sayable (Cap n) k = record { keyword = refl; some = some_of n (k ∷ []); again = refl }
 branch_sayable (Pair p q) k = record { keyword = refl; some = some_of p (q ∷ []); again = ap said (branch_of-same (Pair p q) 0 k refl) }
 branch_sayable (Round m r) k = record { keyword = refl; some = some_of m (r ∷ []); again = ap said (branch_of-same (Round m r) 0 k refl) }
+branch_sayable (Chan m) k = record { keyword = refl; some = some_of m (3 ∷ []); again = ap said (branch_of-same (Chan m) 0 k refl) }
 
 pub head_sayable : (head : Head) → IsSayable head_words heads_with head
 head_sayable (OfBranch branch) = subst (λ (b : Branch). IsSayable head_words heads_with (OfBranch b)) (branch_again branch) (branch_sayable branch.kind branch.children)
@@ -88,7 +94,7 @@ steps_said (a ∷ []) = ((refl, tt), ((refl, tt), ((refl, tt), ((refl, tt), ((re
 steps_said (a ∷ b ∷ []) =
     ((refl, tt), ((refl, tt), ((refl, tt), ((refl, tt), ((refl, tt), ((refl, tt), ((refl, tt), ((refl, tt), ((refl, tt), ((refl, tt), ((refl, two a b []), tt)))))))))))
 steps_said (a ∷ b ∷ c ∷ []) = ((refl, tt), ((refl, tt), ((refl, two a b (c ∷ [])), tt)))
-steps_said (a ∷ b ∷ c ∷ d ∷ []) = ((refl, two a b (c ∷ d ∷ [])), tt)
+steps_said (a ∷ b ∷ c ∷ d ∷ []) = ((refl, tt), ((refl, two a b (c ∷ d ∷ [])), tt))
 steps_said (a ∷ b ∷ c ∷ d ∷ e ∷ ns) = ((refl, two a b (c ∷ d ∷ e ∷ ns)), tt)
 
 pub step_sayable : (step : Step) → IsLong step → IsSayable step_words steps_with step
@@ -118,5 +124,6 @@ step_sayable (XCycle (p ∷ q ∷ r ∷ s ∷ t ∷ ps)) long = record { keyword
 step_sayable (XLoad n a b) long = record { keyword = refl; some = some_of n (a ∷ b ∷ []); again = refl }
 step_sayable (XFrame m) long = record { keyword = refl; some = some_of m []; again = refl }
 step_sayable (XFrames n a b) long = record { keyword = refl; some = some_of n (a ∷ b ∷ []); again = refl }
+step_sayable (XChannel k n a b) long = record { keyword = refl; some = some_of k (n ∷ a ∷ b ∷ []); again = refl }
 step_sayable (XLate m r) long = record { keyword = refl; some = some_of m (r ∷ []); again = refl }
 step_sayable (XSilent u v) long = record { keyword = refl; some = some_of u (v ∷ []); again = refl }

@@ -1,63 +1,103 @@
--- Each version allows all lines.
-use Rattle.std.proofs.Common.{◌≡◌, true, List, [], ◌∷◌, All, refl}
-use Rattle.std.proofs.lemmas.List.Elements.{All-nil, All-cons}
+-- Which version allows all lines: the second does, and the first those of the trees that it is the version of.
+use Rattle.std.proofs.Common.{◌≡◌, Bool, true, false, cond, List, [], ◌∷◌, All, refl, sym, subst, ap, ◌∙◌}
+use Rattle.std.specs.List.{list_all}
+use Rattle.std.proofs.lemmas.List.Elements.{All-nil, All-cons, All-head, All-tail, All-weaker}
+use Rattle.std.proofs.lemmas.List.Sums.{AllPass-from_list_all, list_all-from_AllPass}
 use Rattle.ttp_model.specs.declared.step.Kind.{Kind}
-use Rattle.ttp_model.specs.declared.step.Kind.TheVariants.{Place, Cap, Pair, Round}
+use Rattle.ttp_model.specs.declared.step.Kind.TheVariants.{Place, Cap, Pair, Round, Chan}
 use Rattle.ttp_model.specs.declared.step.Step.{Step}
-use Rattle.ttp_model.specs.declared.step.Step.TheVariants.{EsRelease, EsLink, EsBefore, EsArrive, EsMessage, LoSend, LeOwn, LeLink, LeBefore, LeMessage, LeSend, HiArrive, OrdWindow, OrdTwin, UsSettled, XWindow, XRound, XCycle, XLoad, XFrame, XFrames, XLate, XSilent}
-use Rattle.certificate.specs.declared.head.Head.{Head}
-use Rattle.certificate.specs.declared.head.Head.TheVariants.{OfBranch, OfLeaf}
+use Rattle.ttp_model.specs.declared.step.Step.TheVariants.{EsRelease, EsLink, EsBefore, EsArrive, EsMessage, LoSend, LeOwn, LeLink, LeBefore, LeMessage, LeSend, HiArrive, OrdWindow, OrdTwin, UsSettled, XWindow, XRound, XCycle, XLoad, XFrame, XFrames, XChannel, XLate, XSilent}
 use Rattle.certificate.specs.declared.node.Node.{Node}
+use Rattle.certificate.specs.declared.node.Node.TheVariants.{Branch, Leaf}
 use Rattle.certificate.specs.declared.version.Version.{Version}
+use Rattle.certificate.specs.declared.version.Version.TheVariants.{One, Two}
 use Rattle.certificate.specs.Trees.{Trees, preorder}
-use Rattle.certificate.specs.Words.{head_of, steps_of}
-use Rattle.certificate.specs.Versions.{allows_kind, allows_head, allows_step, AllowsStep, AllowsNode, Allows}
+use Rattle.certificate.specs.Versions.{allows_kind, allows_step, allows_node, AllowsStep, AllowsNode, Allows, version_of_nodes, version_of_tree}
 
-kind_allowed : (version : Version) (kind : Kind) → allows_kind version kind ≡ true
-kind_allowed version Place = refl
-kind_allowed version (Cap n) = refl
-kind_allowed version (Pair p q) = refl
-kind_allowed version (Round m r) = refl
+-- ---- the second version
 
-head_allowed : (version : Version) (head : Head) → allows_head version head ≡ true
-head_allowed version (OfBranch branch) = kind_allowed version branch.kind
-head_allowed version (OfLeaf goal count) = refl
+kind_allowed : (kind : Kind) → allows_kind Two kind ≡ true
+kind_allowed Place = refl
+kind_allowed (Cap n) = refl
+kind_allowed (Pair p q) = refl
+kind_allowed (Round m r) = refl
+kind_allowed (Chan m) = refl
 
-step_allowed : (version : Version) (step : Step) → allows_step version step ≡ true
-step_allowed version (EsRelease p) = refl
-step_allowed version (EsLink l) = refl
-step_allowed version (EsBefore p q) = refl
-step_allowed version (EsArrive m q) = refl
-step_allowed version (EsMessage m q) = refl
-step_allowed version (LoSend m) = refl
-step_allowed version (LeOwn p) = refl
-step_allowed version (LeLink l) = refl
-step_allowed version (LeBefore p q) = refl
-step_allowed version (LeMessage m q) = refl
-step_allowed version (LeSend m) = refl
-step_allowed version (HiArrive m q) = refl
-step_allowed version (OrdWindow p q) = refl
-step_allowed version (OrdTwin p q) = refl
-step_allowed version (UsSettled p) = refl
-step_allowed version (XWindow p) = refl
-step_allowed version (XRound m) = refl
-step_allowed version (XCycle ps) = refl
-step_allowed version (XLoad n a b) = refl
-step_allowed version (XFrame m) = refl
-step_allowed version (XFrames n a b) = refl
-step_allowed version (XLate m r) = refl
-step_allowed version (XSilent u v) = refl
+step_allowed : (step : Step) → allows_step Two step ≡ true
+step_allowed (EsRelease p) = refl
+step_allowed (EsLink l) = refl
+step_allowed (EsBefore p q) = refl
+step_allowed (EsArrive m q) = refl
+step_allowed (EsMessage m q) = refl
+step_allowed (LoSend m) = refl
+step_allowed (LeOwn p) = refl
+step_allowed (LeLink l) = refl
+step_allowed (LeBefore p q) = refl
+step_allowed (LeMessage m q) = refl
+step_allowed (LeSend m) = refl
+step_allowed (HiArrive m q) = refl
+step_allowed (OrdWindow p q) = refl
+step_allowed (OrdTwin p q) = refl
+step_allowed (UsSettled p) = refl
+step_allowed (XWindow p) = refl
+step_allowed (XRound m) = refl
+step_allowed (XCycle ps) = refl
+step_allowed (XLoad n a b) = refl
+step_allowed (XFrame m) = refl
+step_allowed (XFrames n a b) = refl
+step_allowed (XChannel k n a b) = refl
+step_allowed (XLate m r) = refl
+step_allowed (XSilent u v) = refl
 
-steps_allowed : (version : Version) (steps : List Step) → All (AllowsStep version) steps
-steps_allowed version [] = All-nil (AllowsStep version)
-steps_allowed version (step ∷ steps) = All-cons (AllowsStep version) step steps (step_allowed version step) (steps_allowed version steps)
+steps_allowed : (steps : List Step) → All (AllowsStep Two) steps
+steps_allowed [] = All-nil (AllowsStep Two)
+steps_allowed (step ∷ steps) = All-cons (AllowsStep Two) step steps (step_allowed step) (steps_allowed steps)
 
-nodes_allowed : (version : Version) (nodes : List Node) → All (AllowsNode version) nodes
-nodes_allowed version [] = All-nil (AllowsNode version)
-nodes_allowed version (node ∷ nodes) =
-    All-cons (AllowsNode version) node nodes
-    (record { head = head_allowed version (head_of node); steps = steps_allowed version (steps_of node) })
-    (nodes_allowed version nodes)
+node_allowed : (node : Node) → AllowsNode Two node
+node_allowed (Branch branch) = record { head = kind_allowed branch.kind; steps = All-nil (AllowsStep Two) }
+node_allowed (Leaf leaf) = record { head = refl; steps = steps_allowed leaf.steps }
 
-pub allows_all : (version : Version) (trees : Trees) → Allows version trees
-allows_all version trees = nodes_allowed version (preorder trees)
+nodes_allowed : (nodes : List Node) → All (AllowsNode Two) nodes
+nodes_allowed [] = All-nil (AllowsNode Two)
+nodes_allowed (node ∷ nodes) = All-cons (AllowsNode Two) node nodes (node_allowed node) (nodes_allowed nodes)
+
+pub two_allows_all : (trees : Trees) → Allows Two trees
+two_allows_all trees = nodes_allowed (preorder trees)
+
+-- so what the first allows, each does
+pub each_allows : (version : Version) (trees : Trees) → Allows One trees → Allows version trees
+each_allows One trees allowed = allowed
+each_allows Two trees allowed = two_allows_all trees
+
+-- ---- the version of a tree
+
+node_by_test : (version : Version) (node : Node) → allows_node version node ≡ true → AllowsNode version node
+node_by_test version (Branch branch) test = record { head = test; steps = All-nil (AllowsStep version) }
+node_by_test version (Leaf leaf) test = record { head = refl; steps = AllPass-from_list_all (allows_step version) leaf.steps test }
+
+test_of_node : (version : Version) (node : Node) → AllowsNode version node → allows_node version node ≡ true
+test_of_node version (Branch branch) allowed = allowed.head
+test_of_node version (Leaf leaf) allowed = list_all-from_AllPass (allows_step version) leaf.steps allowed.steps
+
+nodes_by_test : (version : Version) (nodes : List Node) → list_all (allows_node version) nodes ≡ true → All (AllowsNode version) nodes
+nodes_by_test version nodes test =
+    All-weaker (λ node. allows_node version node ≡ true) (AllowsNode version) (node_by_test version) nodes
+    (AllPass-from_list_all (allows_node version) nodes test)
+
+test_of_nodes : (version : Version) (nodes : List Node) → All (AllowsNode version) nodes → list_all (allows_node version) nodes ≡ true
+test_of_nodes version nodes allowed =
+    list_all-from_AllPass (allows_node version) nodes
+    (All-weaker (AllowsNode version) (λ node. allows_node version node ≡ true) (test_of_node version) nodes allowed)
+
+allowed_by : (nodes : List Node) (test : Bool) → list_all (allows_node One) nodes ≡ test → All (AllowsNode (cond test One Two)) nodes
+allowed_by nodes true is = nodes_by_test One nodes is
+allowed_by nodes false is = nodes_allowed nodes
+
+pub version_allows : (trees : Trees) → Allows (version_of_tree trees) trees
+version_allows trees = allowed_by (preorder trees) (list_all (allows_node One) (preorder trees)) refl
+
+pub version_is_first : (trees : Trees) → Allows One trees → version_of_tree trees ≡ One
+version_is_first trees allowed = ap (λ (test : Bool). cond test One Two) (test_of_nodes One (preorder trees) allowed)
+
+pub first_allows : (trees : Trees) → version_of_tree trees ≡ One → Allows One trees
+first_allows trees is = subst (λ (version : Version). Allows version trees) is (version_allows trees)

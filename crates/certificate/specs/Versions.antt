@@ -1,12 +1,14 @@
 -- The versions of a certificate's text: how each begins, and which lines it may have. Own profile.
-use Rattle.std.specs.Prelude.{◌≡◌, ℕ, List, [], ◌∷◌, Option, Bool, true, bytes_eq, find, codes, All}
+use Rattle.std.specs.Prelude.{◌≡◌, ℕ, List, [], ◌∷◌, Option, Bool, true, false, if◌then◌else◌, bytes_eq, find, codes, All}
+use Rattle.std.specs.List.{list_all}
 use Rattle.ttp_model.specs.declared.step.Kind.{Kind}
-use Rattle.ttp_model.specs.declared.step.Kind.TheVariants.{Place, Cap, Pair, Round}
+use Rattle.ttp_model.specs.declared.step.Kind.TheVariants.{Place, Cap, Pair, Round, Chan}
 use Rattle.ttp_model.specs.declared.step.Step.{Step}
-use Rattle.ttp_model.specs.declared.step.Step.TheVariants.{EsRelease, EsLink, EsBefore, EsArrive, EsMessage, LoSend, LeOwn, LeLink, LeBefore, LeMessage, LeSend, HiArrive, OrdWindow, OrdTwin, UsSettled, XWindow, XRound, XCycle, XLoad, XFrame, XFrames, XLate, XSilent}
+use Rattle.ttp_model.specs.declared.step.Step.TheVariants.{EsRelease, EsLink, EsBefore, EsArrive, EsMessage, LoSend, LeOwn, LeLink, LeBefore, LeMessage, LeSend, HiArrive, OrdWindow, OrdTwin, UsSettled, XWindow, XRound, XCycle, XLoad, XFrame, XFrames, XChannel, XLate, XSilent}
 use Rattle.certificate.specs.declared.head.Head.{Head}
 use Rattle.certificate.specs.declared.head.Head.TheVariants.{OfBranch, OfLeaf}
 use Rattle.certificate.specs.declared.node.Node.{Node}
+use Rattle.certificate.specs.declared.node.Node.TheVariants.{Branch, Leaf}
 use Rattle.certificate.specs.declared.version.Version.{Version}
 use Rattle.certificate.specs.declared.version.Version.TheVariants.{One, Two}
 use Rattle.certificate.specs.Trees.{Trees, preorder}
@@ -27,11 +29,17 @@ version_of line = find (λ version. bytes_eq line (version_line version)) (One �
 abbrev pub allows_low : ℕ → Bool
 allows_low low = true
 
+-- the lines that speak of channels
+abbrev pub allows_channels : Version → Bool
+allows_channels One = false
+allows_channels Two = true
+
 abbrev pub allows_kind : Version → Kind → Bool
 allows_kind version Place = true
 allows_kind version (Cap n) = true
 allows_kind version (Pair p q) = true
 allows_kind version (Round m r) = true
+allows_kind version (Chan m) = allows_channels version
 
 abbrev pub allows_head : Version → Head → Bool
 allows_head version (OfBranch branch) = allows_kind version branch.kind
@@ -59,6 +67,7 @@ allows_step version (XCycle ps) = true
 allows_step version (XLoad n a b) = true
 allows_step version (XFrame m) = true
 allows_step version (XFrames n a b) = true
+allows_step version (XChannel k n a b) = allows_channels version
 allows_step version (XLate m r) = true
 allows_step version (XSilent u v) = true
 
@@ -73,3 +82,17 @@ pub record AllowsNode (version : Version) (node : Node) : Type 0 where
 -- all lines of trees
 abbrev pub Allows : Version → Trees → Type 0
 Allows version trees = All (AllowsNode version) (preorder trees)
+
+-- ---- the version of a tree
+
+-- a node's line and those of its steps, as a test
+abbrev pub allows_node : Version → Node → Bool
+allows_node version (Branch branch) = allows_kind version branch.kind
+allows_node version (Leaf leaf) = list_all (allows_step version) leaf.steps
+
+-- version 1 where it allows all lines of these nodes, and else version 2
+abbrev pub version_of_nodes : List Node → Version
+version_of_nodes nodes = if list_all (allows_node One) nodes then One else Two
+
+abbrev pub version_of_tree : Trees → Version
+version_of_tree trees = version_of_nodes (preorder trees)

@@ -1,9 +1,9 @@
 -- What the lines of a certificate say: a keyword and numbers, each after a space. Own profile.
-use Rattle.std.specs.Prelude.{ℕ, List, [], ◌∷◌, length, codes}
+use Rattle.std.specs.Prelude.{ℕ, List, [], ◌∷◌, length, codes, if◌then◌else◌, ◌==◌}
 use Rattle.ttp_model.specs.declared.step.Kind.{Kind}
-use Rattle.ttp_model.specs.declared.step.Kind.TheVariants.{Place, Cap, Pair, Round}
+use Rattle.ttp_model.specs.declared.step.Kind.TheVariants.{Place, Cap, Pair, Round, Chan}
 use Rattle.ttp_model.specs.declared.step.Step.{Step}
-use Rattle.ttp_model.specs.declared.step.Step.TheVariants.{EsRelease, EsLink, EsBefore, EsArrive, EsMessage, LoSend, LeOwn, LeLink, LeBefore, LeMessage, LeSend, HiArrive, OrdWindow, OrdTwin, UsSettled, XWindow, XRound, XCycle, XLoad, XFrame, XFrames, XLate, XSilent}
+use Rattle.ttp_model.specs.declared.step.Step.TheVariants.{EsRelease, EsLink, EsBefore, EsArrive, EsMessage, LoSend, LeOwn, LeLink, LeBefore, LeMessage, LeSend, HiArrive, OrdWindow, OrdTwin, UsSettled, XWindow, XRound, XCycle, XLoad, XFrame, XFrames, XChannel, XLate, XSilent}
 use Rattle.certificate.specs.declared.head.Head.{Head}
 use Rattle.certificate.specs.declared.head.Head.TheVariants.{OfBranch, OfLeaf}
 use Rattle.certificate.specs.declared.node.Node.{Node}
@@ -18,12 +18,13 @@ Words = List ℕ × List ℕ
 abbrev pub low_words : ℕ → Words
 low_words low = (codes "low", low ∷ [])
 
--- the line of a branch with so many children: a count that its kind always has isn't written
+-- the line of a branch with so many children: a count that its kind always has is written where a channel is taken alone
 abbrev pub branch_words : Kind → ℕ → Words
 branch_words Place k = (codes "place", k ∷ [])
 branch_words (Cap n) k = (codes "cap", n ∷ k ∷ [])
 branch_words (Pair p q) k = (codes "pair", p ∷ q ∷ [])
 branch_words (Round m r) k = (codes "round", m ∷ r ∷ [])
+branch_words (Chan m) k = (codes "chan", m ∷ k ∷ [])
 
 -- the line of a node: a leaf's goal comes before its count of steps
 abbrev pub head_words : Head → Words
@@ -31,7 +32,7 @@ head_words (OfBranch branch) = branch_words branch.kind branch.children
 head_words (OfLeaf goal count) = (codes "leaf", goal ∷ count ∷ [])
 
 -- The line of a step: p and q are processes, l is a link, m a message, n, u and v are nodes, r is a
--- round, and a and b are the ends of a range.
+-- round, k a channel, and a and b are the ends of a range.
 abbrev pub step_words : Step → Words
 step_words (EsRelease p) = (codes "es-release", p ∷ [])
 step_words (EsLink l) = (codes "es-link", l ∷ [])
@@ -54,6 +55,7 @@ step_words (XCycle ps) = (codes "x-cycle", ps)
 step_words (XLoad n a b) = (codes "x-load", n ∷ a ∷ b ∷ [])
 step_words (XFrame m) = (codes "x-frame", m ∷ [])
 step_words (XFrames n a b) = (codes "x-frames", n ∷ a ∷ b ∷ [])
+step_words (XChannel k n a b) = (codes "x-channel", k ∷ n ∷ a ∷ b ∷ [])
 step_words (XLate m r) = (codes "x-late", m ∷ r ∷ [])
 step_words (XSilent u v) = (codes "x-silent", u ∷ v ∷ [])
 
@@ -63,11 +65,15 @@ abbrev pub lows_with : List ℕ → List ℕ
 lows_with (n ∷ []) = n ∷ []
 lows_with _ = []
 
+-- a message's channel is taken by three children, and its line names just so many
+abbrev pub channel_heads : ℕ → ℕ → List Head
+channel_heads m k = if k == 3 then OfBranch (branch_of (Chan m) 0) ∷ [] else []
+
 abbrev pub heads_with : List ℕ → List Head
 heads_with (k ∷ []) = OfBranch (branch_of Place k) ∷ []
 heads_with (a ∷ b ∷ []) =
     OfBranch (branch_of (Cap a) b) ∷ OfBranch (branch_of (Pair a b) 0)
-    ∷ OfBranch (branch_of (Round a b) 0) ∷ OfLeaf a b ∷ []
+    ∷ OfBranch (branch_of (Round a b) 0) ∷ OfLeaf a b ∷ channel_heads a b
 heads_with _ = []
 
 -- a cycle has two or more processes
@@ -80,7 +86,7 @@ steps_with (a ∷ b ∷ []) =
     EsBefore a b ∷ EsArrive a b ∷ EsMessage a b ∷ LeBefore a b ∷ LeMessage a b ∷ HiArrive a b
     ∷ OrdWindow a b ∷ OrdTwin a b ∷ XLate a b ∷ XSilent a b ∷ XCycle (a ∷ b ∷ []) ∷ []
 steps_with (a ∷ b ∷ c ∷ []) = XLoad a b c ∷ XFrames a b c ∷ XCycle (a ∷ b ∷ c ∷ []) ∷ []
-steps_with (a ∷ b ∷ c ∷ d ∷ []) = XCycle (a ∷ b ∷ c ∷ d ∷ []) ∷ []
+steps_with (a ∷ b ∷ c ∷ d ∷ []) = XChannel a b c d ∷ XCycle (a ∷ b ∷ c ∷ d ∷ []) ∷ []
 steps_with more = XCycle more ∷ []
 
 -- ---- what a node is beside its steps

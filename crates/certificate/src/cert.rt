@@ -46,6 +46,17 @@ impl Cert {
         }
     }
 
+    /// The same bound and tree, in a text of this version.
+    pub fn with_version(self, version: Version) -> Self
+        ensures { result ≡ record { version = version; low = self.low; tree = self.tree } }
+    {
+        Cert {
+            version,
+            low: self.low,
+            nodes: self.nodes,
+        }
+    }
+
     /// The version of its text.
     pub fn version(&self) -> Version
         ensures { result ≡ self.now.version }

@@ -1,7 +1,7 @@
 //! What does the line of a node say?
 
 ghost use Rattle.std.specs.Prelude.{◌≡◌, ◌∷◌, []};
-ghost use Rattle.certificate.specs.Words.{head_words, heads_with, head_children};
+ghost use Rattle.certificate.specs.Words.{head_words, heads_with, channel_heads, head_children};
 ghost use Rattle.certificate.specs.Versions.{allows_head};
 ghost use Rattle.certificate.specs.Reading.{IsAnswer, said_in, with_keyword};
 ghost use Rattle.certificate.specs.Numbers.{numbers_in};
@@ -32,6 +32,19 @@ impl Head {
     }
 }
 
+/// The count stands in the line, and is always that of the kind.
+fn with_channel(keyword: &[u8], message: u32, count: u32) -> Option<Head>
+    ensures { result ≡ with_keyword head_words keyword.now (channel_heads message count) }
+{
+    if count != 3 {
+        return None;
+    }
+    if keyword == b"chan".as_slice() {
+        return Some(Head::OfBranch(Branch::new(Kind::Chan(message), 0)));
+    }
+    None
+}
+
 fn with_two(keyword: &[u8], a: u32, b: u32) -> Option<Head>
     ensures { result ≡ with_keyword head_words keyword.now (heads_with (a ∷ b ∷ [])) }
 {
@@ -47,7 +60,7 @@ fn with_two(keyword: &[u8], a: u32, b: u32) -> Option<Head>
     if keyword == b"leaf".as_slice() {
         return Some(Head::OfLeaf(a, b));
     }
-    None
+    with_channel(keyword, a, b)
 }
 
 fn with_few(keyword: &[u8], numbers: FewNumbers) -> Option<Head>

@@ -30,6 +30,7 @@ pub use fault::{CertTextError, LineFault, SourceFault};
 pub use head::Head;
 pub use laws::{
     nodes_in_preorder_are_the_trees, reading_gives_one_answer, spelling_is_of_one_certificate,
+    versions_allow_their_trees,
 };
 pub use limits::{MOST_BRANCHES_ABOVE, MOST_TEXT_BYTES};
 pub use node::Node;

@@ -61,6 +61,7 @@ fn push_step(text: &mut Vec<u8>, step: &Step) -> Result<(), AllocError>
         Step::XLoad(n, a, b) => push_line(text, b"x-load", &[*n, *a, *b]),
         Step::XFrame(m) => push_line(text, b"x-frame", &[*m]),
         Step::XFrames(n, a, b) => push_line(text, b"x-frames", &[*n, *a, *b]),
+        Step::XChannel(k, n, a, b) => push_line(text, b"x-channel", &[*k, *n, *a, *b]),
         Step::XLate(m, r) => push_line(text, b"x-late", &[*m, *r]),
         Step::XSilent(u, v) => push_line(text, b"x-silent", &[*u, *v]),
     }
@@ -87,6 +88,7 @@ fn push_branch(text: &mut Vec<u8>, branch: Branch) -> Result<(), AllocError>
         Kind::Cap(n) => push_line(text, b"cap", &[n, branch.children]),
         Kind::Pair(p, q) => push_line(text, b"pair", &[p, q]),
         Kind::Round(m, r) => push_line(text, b"round", &[m, r]),
+        Kind::Chan(m) => push_line(text, b"chan", &[m, branch.children]),
     }
 }
 

@@ -100,6 +100,16 @@ fn with_three(keyword: &[u8], a: u32, b: u32, c: u32) -> Option<Step>
     None
 }
 
+fn with_four(keyword: &[u8], a: u32, b: u32, c: u32, d: u32) -> Option<Step>
+    requires { keyword.now ≢ codes "x-cycle" }
+    ensures { result ≡ with_keyword step_words keyword.now (steps_with (a ∷ b ∷ c ∷ d ∷ [])) }
+{
+    if keyword == b"x-channel".as_slice() {
+        return Some(Step::XChannel(a, b, c, d));
+    }
+    None
+}
+
 fn with_few(keyword: &[u8], numbers: FewNumbers) -> Option<Step>
     requires { keyword.now ≢ codes "x-cycle" }
     ensures { result ≡ with_keyword step_words keyword.now (steps_with (numbers_in numbers)) }
@@ -108,7 +118,7 @@ fn with_few(keyword: &[u8], numbers: FewNumbers) -> Option<Step>
         FewNumbers::One(a) => with_one(keyword, a),
         FewNumbers::Two(a, b) => with_two(keyword, a, b),
         FewNumbers::Three(a, b, c) => with_three(keyword, a, b, c),
-        FewNumbers::Four(_, _, _, _) => None,
+        FewNumbers::Four(a, b, c, d) => with_four(keyword, a, b, c, d),
     }
 }
 

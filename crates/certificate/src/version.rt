@@ -1,12 +1,15 @@
 //! Which lines may a certificate have?
 
 ghost use Rattle.std.specs.Prelude.{◌≡◌};
-ghost use Rattle.certificate.specs.Versions.{version_line, version_of, allows_head, allows_step};
+ghost use Rattle.std.specs.List.{list_all};
+ghost use Rattle.certificate.specs.Versions.{version_line, version_of, allows_channels, allows_head, allows_step, allows_node, version_of_nodes};
 
 use crate::head::Head;
+use crate::node::Node;
 use ttp_model::{Kind, Step};
 
-/// The version of a certificate's text, which its first line names. Both have the same lines.
+/// The version of a certificate's text, which its first line names. The second has all lines of the first, and those
+/// that speak of channels.
 #[derive(Clone, Copy, Debug, PartialEq, Eq)]
 pub enum Version {
     /// Of texts that begin with `ttcert 1`.
@@ -39,6 +42,16 @@ impl Version {
         }
     }
 
+    /// Whether the lines that speak of channels may stand in its texts.
+    fn allows_channels(self) -> bool
+        ensures { result ≡ allows_channels self }
+    {
+        match self {
+            Version::One => false,
+            Version::Two => true,
+        }
+    }
+
     /// Whether this line of a node may stand in its texts.
     pub(crate) fn allows_head(self, head: Head) -> bool
         ensures { result ≡ allows_head self head }
@@ -46,6 +59,7 @@ impl Version {
         match head {
             Head::OfBranch(branch) => match branch.kind {
                 Kind::Place | Kind::Cap(_) | Kind::Pair(_, _) | Kind::Round(_, _) => true,
+                Kind::Chan(_) => self.allows_channels(),
             },
             Head::OfLeaf(_, _) => true,
         }
@@ -79,6 +93,42 @@ impl Version {
             | Step::XFrames(_, _, _)
             | Step::XLate(_, _)
             | Step::XSilent(_, _) => true,
+            Step::XChannel(_, _, _, _) => self.allows_channels(),
+        }
+    }
+
+    /// Whether the lines of these steps may stand in its texts.
+    fn allows_steps(self, steps: &[Step]) -> bool
+        ensures { result ≡ list_all (allows_step self) steps.now }
+    {
+        steps.iter().all(|step| self.allows_step(step))
+    }
+
+    /// Whether a node's line and those of its steps may stand in its texts.
+    fn allows_node(self, node: &Node) -> bool
+        ensures { result ≡ allows_node self node.now }
+    {
+        match node {
+            Node::Branch(branch) => self.allows_head(Head::OfBranch(*branch)),
+            Node::Leaf(leaf) => self.allows_steps(leaf.steps.as_slice()),
+        }
+    }
+
+    /// Whether all lines of these nodes may stand in its texts.
+    fn allows_nodes(self, nodes: &[Node]) -> bool
+        ensures { result ≡ list_all (allows_node self) nodes.now }
+    {
+        nodes.iter().all(|node| self.allows_node(node))
+    }
+
+    /// The first version where it allows all lines of these nodes, and else the second.
+    pub fn of_nodes(nodes: &[Node]) -> Version
+        ensures { result ≡ version_of_nodes nodes.now }
+    {
+        if Version::One.allows_nodes(nodes) {
+            Version::One
+        } else {
+            Version::Two
         }
     }
 }

@@ -90,6 +90,10 @@ const TEXTS: &[&str] = &[
     "ttcert 1\nlow 0\nplace 0\n",
     "ttcert 1\nlow 0\nplace 2\npair 1 0\nleaf 0 0\nleaf 1 0\ncap 3 1\nleaf 2 0\n",
     "ttcert 2\nlow 0\nplace 0\n",
+    "ttcert 2\nlow 0\nchan 0 3\nleaf 0 1\nx-channel 1 2 3 4\nleaf 1 0\nleaf 2 0\n",
+    "ttcert 2\nlow 0\nchan 0 2\n",
+    "ttcert 1\nlow 0\nchan 0 3\n",
+    "ttcert 1\nlow 0\nleaf 0 1\nx-channel 1 2 3 4\n",
     "ttcert 3\nlow 0\nplace 0\n",
     "ttcert 1\nlow 4294967296\nplace 0\n",
     "ttcert 1\nhigh 0\nplace 0\n",
@@ -113,7 +117,7 @@ fn a_stream_says_what_the_whole_text_does(rt: HostRuntime) {
 
 #[test]
 fn a_stream_goes_as_deep_as_a_text(rt: HostRuntime) -> Result<(), Fail> {
-    for (branches, leaves) in [(4608, 4609), (4609, 1)] {
+    for (branches, leaves) in [(4736, 4737), (4737, 1)] {
         let text = deep(rt.alloc(), branches, leaves)?;
         expect_same(&rt, rt.alloc(), text.as_slice());
     }

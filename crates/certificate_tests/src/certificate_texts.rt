@@ -88,6 +88,7 @@ const WRITTEN: &[&str] = &[
     STEPS,
     "ttcert 1\nlow 0\npair 0 1\nleaf 0 1\nx-cycle 0 1\nleaf 0 0\n",
     "ttcert 2\nlow 0\nleaf 0 1\nx-cycle 0 1 2 3\n",
+    "ttcert 2\nlow 0\nchan 4294967295 3\nleaf 0 1\nx-channel 1 2 3 4294967295\nleaf 1 0\nleaf 2 0\n",
     "ttcert 1\nlow 0\nplace 0\n",
     "ttcert 1\nlow 4294967295\ncap 4294967295 0\n",
     "ttcert 1\nlow 0\nplace 2\npair 1 0\nleaf 0 0\nleaf 1 0\ncap 3 1\nleaf 2 0\n",
@@ -109,6 +110,10 @@ type Refused = (&'static str, u64, LineFault);
 const REFUSED: &[Refused] = &[
     ("ttcert 3\nlow 9\nleaf 9 0\n", 1, LineFault::FirstLine),
     ("ttcert 1\nlow 09\nleaf 9 0\n", 2, LineFault::Form),
+    ("ttcert 1\nlow 9\nchan 0 3\nleaf 9 0\nleaf 9 0\nleaf 9 0\n", 3, LineFault::Form),
+    ("ttcert 1\nlow 9\nleaf 9 1\nx-channel 0 0 0 0\n", 4, LineFault::Form),
+    ("ttcert 2\nlow 9\nchan 0 4294967296\n", 3, LineFault::Form),
+    ("ttcert 2\nlow 9\nchan 4294967296 3\n", 3, LineFault::Number),
     ("ttcert 1\nlow 9\nleaf 4294967296 0\n", 3, LineFault::Number),
     ("ttcert 1\nlow 9\nleaf 9 4294967295\nx-frame 0\n", 5, LineFault::EarlyEnd),
     ("ttcert 1\nlow 9\nleaf 9 0\nx", 4, LineFault::Trailing),
@@ -153,15 +158,15 @@ fn deep_fault(
 }
 
 #[test]
-fn a_node_stands_below_4608_branches_at_most(rt: HostRuntime) -> Result<(), Fail> {
-    assert_eq!(rt; deep_nodes(&rt, rt.alloc(), 4608, 4609)?, 9217);
+fn a_node_stands_below_4736_branches_at_most(rt: HostRuntime) -> Result<(), Fail> {
+    assert_eq!(rt; deep_nodes(&rt, rt.alloc(), 4736, 4737)?, 9473);
     let fault = LineFault::Depth;
-    let wanted = CertTextError::At { line: 4612, fault };
-    assert_eq!(rt; deep_fault(rt.alloc(), 4609, 1)?, Some(wanted));
+    let wanted = CertTextError::At { line: 4740, fault };
+    assert_eq!(rt; deep_fault(rt.alloc(), 4737, 1)?, Some(wanted));
     Ok(())
 }
 
-/// The certificate of `NO_PLAN`.
+/// The certificate of `NO_PLAN`, in the other version.
 #[tactic(auto, unfolding(certificate::specs::Trees::trees_of, certificate::specs::Trees::first_trees, certificate::specs::Trees::trees_after))]
 fn no_plan(alloc: Global) -> Result<Cert, Fail> {
     let steps = vec![in alloc; Step::XFrame(0)]?;
@@ -170,14 +175,14 @@ fn no_plan(alloc: Global) -> Result<Cert, Fail> {
         steps: Steps::new(steps),
     };
     let nodes = vec![in alloc; Node::Leaf(leaf)]?;
-    Ok(Cert::new(Version::One, 101, nodes))
+    Ok(Cert::new(Version::Two, 101, nodes))
 }
 
 #[test]
-#[tactic(auto, using(certificate::proofs::Versions::allows_all))]
 fn a_leaf_alone_is_a_tree(rt: HostRuntime) -> Result<(), Fail> {
     let cert = no_plan(rt.alloc())?;
-    let text = print(rt.alloc(), &cert)?;
+    let version = Version::of_nodes(cert.nodes());
+    let text = print(rt.alloc(), &cert.with_version(version))?;
     assert_eq!(rt; text.as_slice(), NO_PLAN.as_bytes());
     Ok(())
 }

@@ -8,7 +8,7 @@ use crate::instances::Small;
 use std::alloc::Global;
 use std::process::Abort;
 use std::test::Fail;
-use tt_choice::Decision::{AtLeast, AtMost, Before, Cap, Place};
+use tt_choice::Decision::{AtLeast, AtMost, Before, Cap, Channel, Place};
 use tt_choice::{Choice, Decision};
 use ttp_model::{Instance, Kind, MemoryFault};
 use worked_instances::PLAIN;
@@ -20,6 +20,8 @@ pub enum Asked {
     Left(usize),
     /// Whether this branch is open.
     Open(Kind, bool),
+    /// Whether this decision is.
+    MayBe(Decision, bool),
     /// The least and the greatest capacity of this node.
     Caps(u32, u32, u32),
     /// When the slot of this node begins in round 0: the least and the greatest.
@@ -36,6 +38,8 @@ pub enum Asked {
     Placed(&'static [u32]),
     /// The capacity that is fixed for this node, if one is.
     Fixed(u32, Option<u32>),
+    /// The channel that is fixed for this message, if one is.
+    Channel(u32, Option<u32>),
 }
 
 /// Whether this is answered.
@@ -45,12 +49,16 @@ fn holds(i: &Instance, choice: &Choice, asked: Asked) -> bool
     match asked {
         Asked::Left(size) => choice.size_left(i) == size && choice.is_complete(i) == (size == 0),
         Asked::Open(kind, open) => choice.is_open(i, &kind) == open,
+        Asked::MayBe(decision, open) => choice.is_open_decision(i, decision) == open,
         Asked::Ordered(p, q, ordered) => {
             choice.is_before(p, q) == ordered && choice.precedence().goes_before(p, q) == ordered
         }
         Asked::Placed(nodes) => choice.prefix() == nodes,
         Asked::Rounds(m, least, most) => {
             (m as usize) < i.messages().len() && choice.lo(m) == least && choice.hi(m) == most
+        }
+        Asked::Channel(m, channel) => {
+            (m as usize) < i.messages().len() && choice.channel(m) == channel
         }
         Asked::Caps(n, ..)
         | Asked::Starts(n, ..)
@@ -155,6 +163,7 @@ static ROWS: &[Row] = &[
         asked: &[
             Asked::Open(Kind::Place, true),
             Asked::Open(Kind::Cap(0), true),
+            Asked::Channel(0, Some(0)),
         ],
     },
     Row {
@@ -197,6 +206,20 @@ static ROWS: &[Row] = &[
         ],
     },
     Row {
+        label: "the only channel is fixed where nothing is chosen",
+        small: Small::TwoOptions,
+        decisions: &[],
+        asked: &[
+            Asked::Channel(0, Some(0)),
+            Asked::Open(Kind::Chan(0), false),
+            Asked::Open(Kind::Chan(1), false),
+            Asked::MayBe(Channel(0, 0), false),
+            Asked::MayBe(Channel(0, 1), false),
+            Asked::MayBe(Channel(0, 2), false),
+            Asked::MayBe(Place(0), true),
+        ],
+    },
+    Row {
         label: "a link orders no pair",
         small: Small::ThreeLengths,
         decisions: &[],
@@ -229,6 +252,8 @@ static ROWS: &[Row] = &[
             Asked::Placed(&[0, 1]),
             Asked::Fixed(0, Some(2)),
             Asked::Fixed(1, Some(0)),
+            Asked::Channel(0, Some(0)),
+            Asked::Open(Kind::Chan(0), false),
         ],
     },
 ];

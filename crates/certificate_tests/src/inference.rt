@@ -77,7 +77,7 @@ fn line(alloc: Global, facts: &Facts) -> Result<String, AllocError> {
 /// A certificate of one leaf with the steps of these lines.
 pub fn cert_of(alloc: Global, lines: &str) -> Result<Cert, Fail> {
     let count = lines.lines().count();
-    let text = format!(in alloc; "ttcert 1\nlow 0\nleaf 0 {count}\n{lines}\n")?;
+    let text = format!(in alloc; "ttcert 2\nlow 0\nleaf 0 {count}\n{lines}\n")?;
     Ok(read(alloc, text.as_bytes())?)
 }
 

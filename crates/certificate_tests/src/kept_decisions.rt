@@ -36,19 +36,20 @@ fn add_nodes(i: &Instance, choice: &Choice, text: &mut String) -> Result<(), All
     Ok(())
 }
 
-/// Adds the least and the greatest round of each message.
+/// Adds the least and the greatest round of each message, and its channel where one is fixed.
 fn add_messages(i: &Instance, choice: &Choice, text: &mut String) -> Result<(), AllocError>
     requires { IsChoice i.now choice.now }
 {
     let messages = i.messages().len() as u32;
     for m in 0..messages {
         write!(text, " {}..{}", choice.lo(m), choice.hi(m))?;
+        write!(text, " {:?}", choice.channel(m))?;
     }
     Ok(())
 }
 
 /// Adds all that the readers of a choice tell: the nodes that are placed, the capacity of each node where one is fixed, the
-/// least and the greatest round of each message, the orders, and how much is left to choose.
+/// least and the greatest round of each message and its channel, the orders, and how much is left to choose.
 fn add_line(i: &Instance, choice: &Choice, text: &mut String) -> Result<(), AllocError>
     requires { IsChoice i.now choice.now }
 {

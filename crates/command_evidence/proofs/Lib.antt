@@ -6,4 +6,5 @@ pub mod SearchesTold
 pub mod Spared
 pub mod JudgementsTold
 pub mod Transfers
+pub mod ChannelLines
 pub mod FirstSteps

@@ -5,7 +5,7 @@ use Rattle.ttp_model.specs.Instance.{Instance}
 use Rattle.plan_format.specs.Spelling.{SpellsPlan}
 use Rattle.certificate.specs.Cert.{Cert}
 use Rattle.certificate.specs.Spelling.{SpellsCert}
-use Rattle.search_turns.specs.declared.outcome.Why.{Why}
+use Rattle.planner.specs.outcome.Why.{Why}
 use Rattle.command_streams.specs.Instances.{HasInstance}
 use Rattle.solve_command.specs.Solved.{stopped_line}
 

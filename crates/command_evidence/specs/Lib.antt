@@ -1,4 +1,5 @@
 pub mod Events
+pub mod Channels
 pub mod Verdicts
 pub mod Bundles
 pub mod Tellings

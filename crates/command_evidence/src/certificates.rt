@@ -1,10 +1,13 @@
 //! What is read of a certificate's text, and printed, and gathered of a search.
 
-ghost use Rattle.std.specs.Prelude.{IfOk};
+ghost use Rattle.std.specs.Prelude.{◌≡◌, IfOk};
+ghost use Rattle.certificate.specs.declared.version.Version.TheVariants.{One};
 ghost use Rattle.certificate.specs.Spelling.{SpellsCert};
 ghost use Rattle.certificate.specs.Trees.{IsTree};
+ghost use Rattle.certificate.specs.Versions.{Allows};
 ghost use Rattle.tree_gathering.specs.Gathering.{AreShallow, HaveGoals};
 ghost use Rattle.tree_gathering.specs.Trees.{IsTreeOf};
+ghost use Rattle.command_evidence.specs.Channels.{SpeaksOfNoChannel};
 
 use branch_tree::Piece;
 use certificate::{Cert, CertTextError, print, read};
@@ -28,9 +31,19 @@ pub fn what_is_read_is_a_whole_tree(alloc: Global, text: &[u8]) -> Result<Cert, 
     Ok(cert)
 }
 
+/// No line of a text of version 1 speaks of channels.
+pub fn first_version_is_read_without_channels(
+    alloc: Global,
+    text: &[u8],
+) -> Result<Cert, CertTextError>
+    ensures { IfOk result (λ cert. cert.version ≡ One → SpeaksOfNoChannel cert.tree) }
+{
+    read(alloc, text)
+}
+
 /// What is printed spells the certificate, the numbers of each step in their order.
-#[tactic(auto, using(certificate::proofs::Versions::allows_all))]
 pub fn printed_text_spells_it(alloc: Global, cert: &Cert) -> Result<Vec<u8>, MemoryFault>
+    requires { Allows cert.now.version cert.now.tree }
     ensures { IfOk result (λ text. SpellsCert text.items cert.now) }
 {
     print(alloc, cert)
@@ -44,6 +57,18 @@ pub fn gathered_tree_is_that_of_the_pieces(
 ) -> Result<Cert, GatherFault>
     requires { AreShallow pieces.items }
     ensures { IfOk result (λ cert. IsTreeOf pieces.items cert.tree) }
+{
+    gather(alloc, pieces, low)
+}
+
+/// It is of version 1 only where none of its lines speaks of channels.
+pub fn gathered_first_version_has_no_channels(
+    alloc: Global,
+    pieces: Vec<Piece>,
+    low: u32,
+) -> Result<Cert, GatherFault>
+    requires { AreShallow pieces.items }
+    ensures { IfOk result (λ cert. cert.version ≡ One → SpeaksOfNoChannel cert.tree) }
 {
     gather(alloc, pieces, low)
 }

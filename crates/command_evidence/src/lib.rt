@@ -23,6 +23,7 @@ pub use answers::{
 };
 pub use bundles::{instance_is_unread_only_before_the_mark, mark_is_a_line};
 pub use certificates::{
+    first_version_is_read_without_channels, gathered_first_version_has_no_channels,
     gathered_goals_reach_the_bound, gathered_tree_is_that_of_the_pieces, printed_text_spells_it,
     text_spells_what_is_read, what_is_read_is_a_whole_tree,
 };

@@ -7,7 +7,7 @@ use Rattle.tt_choice.specs.Choice.{Choice}
 use Rattle.tt_choice.specs.Branches.{root_choice}
 use Rattle.tt_choice.specs.Decisions.{choice_after, choice_after_all, chosen}
 use Rattle.tt_choice.specs.declared.decision.Decision.{Decision}
-use Rattle.tt_choice.specs.declared.decision.Decision.TheVariants.{Place, Cap, Before, AtMost, AtLeast}
+use Rattle.tt_choice.specs.declared.decision.Decision.TheVariants.{Place, Cap, Before, AtMost, AtLeast, Channel}
 use Rattle.tt_choice.specs.Kept.{Marked, keep, drop, all_of, kept_of}
 use Rattle.decision_paths.specs.declared.turn.Turn.{Turn}
 use Rattle.decision_paths.specs.declared.turn.Placed.{Placed}
@@ -23,6 +23,7 @@ module _ (i : Instance) where
   prefix_after c (Before p q) level = sym (append-nil c.prefix)
   prefix_after c (AtMost m r) level = sym (append-nil c.prefix)
   prefix_after c (AtLeast m r) level = sym (append-nil c.prefix)
+  prefix_after c (Channel m k) level = sym (append-nil c.prefix)
 
   nodes_more : (d : Decision) (level : ℕ) (rest : List Placed) → nodes_of (placed_by d level ++ rest) ≡ nodes_of (placed_by d level) ++ nodes_of rest
   nodes_more (Place n) level rest = refl
@@ -30,6 +31,7 @@ module _ (i : Instance) where
   nodes_more (Before p q) level rest = refl
   nodes_more (AtMost m r) level rest = refl
   nodes_more (AtLeast m r) level rest = refl
+  nodes_more (Channel m k) level rest = refl
 
   one_more : (levels : List Bool) (c : Choice) (d : Decision) (turn : Turn) (turns : List Turn) (ms : List Marked) → d ≡ turn.decision
       → (choice_after_all i (choice_after i c d) (all_of ms)).prefix ≡ (choice_after i c d).prefix ++ nodes_of (placed_of turns)
@@ -61,6 +63,7 @@ module _ (i : Instance) where
   keep_one levels c (Before p q) level count rest kept next told within = next count told within
   keep_one levels c (AtMost m r) level count rest kept next told within = next count told within
   keep_one levels c (AtLeast m r) level count rest kept next told within = next count told within
+  keep_one levels c (Channel m k) level count rest kept next told within = next count told within
 
   -- one that is dropped takes none of those that are told
   drop_one : (levels : List Bool) (c : Choice) (d : Decision) (level count : ℕ) (rest : List Placed) (kept : List Marked) → IsFalse (has_level levels level)
@@ -73,6 +76,7 @@ module _ (i : Instance) where
   drop_one levels c (Before p q) level count rest kept never next told within = next count told within
   drop_one levels c (AtMost m r) level count rest kept never next told within = next count told within
   drop_one levels c (AtLeast m r) level count rest kept never next told within = next count told within
+  drop_one levels c (Channel m k) level count rest kept never next told within = next count told within
 
   places_from : (levels : List Bool) (c : Choice) (turns : List Turn) (ms : List Marked) (count : ℕ) → KeepsLevels levels turns ms
       → ArePlacesTold levels count (placed_of turns) → count ≤ length (placed_of turns) → length c.prefix + count ≤ length (choice_after_all i c (kept_of ms)).prefix

@@ -6,11 +6,12 @@ use Rattle.tt_choice.specs.declared.decision.Decision.TheVariants as decided
 use Rattle.tt_choice.specs.Kept.{sets_least, sets_greatest, sets_order, fixes_above, fixes_below}
 use Rattle.decision_paths.specs.declared.turn.Turn.{Turn}
 use Rattle.decision_paths.specs.declared.turn.Cut.{Cut}
+use Rattle.decision_paths.specs.declared.turn.OnChannel.{OnChannel}
 use Rattle.decision_paths.specs.declared.turn.Placed.{Placed}
 use Rattle.decision_paths.specs.declared.tables.Tables.{Tables}
 use Rattle.decision_paths.specs.declared.tables.Stood.{Stood}
 use Rattle.decision_paths.specs.declared.path.Taken.{Taken}
-use Rattle.decision_paths.specs.Turns.{last_of, level_of, cut_of, placed_of}
+use Rattle.decision_paths.specs.Turns.{last_of, level_of, cut_of, fixes_any, on_channel_of, placed_of}
 
 -- a list has so many places, and at each stands what the last decision on it tells
 pub record IsTable (X : Type 0) (tells : Option Turn → Option X) (picks : ℕ → Decision → Bool) (count : ℕ) (items : List (Option X)) (turns : List Turn) : Type 0 where
@@ -26,17 +27,18 @@ abbrev pub orders_at : ℕ → ℕ → Decision → Bool
 orders_at count place = sets_order (place / count) (place % count)
 
 -- lists tell what these decisions say, the last of them on each part
-pub record AreTold (i : Instance) (turns : List Turn) (order : List Placed) (above below before : List (Option ℕ)) (least greatest : List (Option Cut)) : Type 0 where
+pub record AreTold (i : Instance) (turns : List Turn) (order : List Placed) (above below before : List (Option ℕ)) (least greatest : List (Option Cut)) (channels : List (Option OnChannel)) : Type 0 where
   pub placed : order ≡ placed_of turns
   pub fixed_above : IsTable ℕ level_of fixes_above (length i.nodes) above turns
   pub fixed_below : IsTable ℕ level_of (fixes_below i) (length i.nodes) below turns
   pub ordered : IsTable ℕ level_of (orders_at (length i.processes)) (length i.processes * length i.processes) before turns
   pub from : IsTable Cut cut_of sets_least (length i.messages) least turns
   pub until : IsTable Cut cut_of sets_greatest (length i.messages) greatest turns
+  pub on_channels : IsTable OnChannel on_channel_of fixes_any (length i.messages) channels turns
 
 -- so do tables
 abbrev pub AreTables : Instance → List Turn → Tables → Type 0
-AreTables i turns t = AreTold i turns t.order.items t.above_least.items t.below_most.items t.before.items t.least.items t.greatest.items
+AreTables i turns t = AreTold i turns t.order.items t.above_least.items t.below_most.items t.before.items t.least.items t.greatest.items t.channels.items
 
 -- this stood in the tables of these decisions, where the next one tells
 abbrev pub IsStood : Instance → List Turn → Decision → Stood → Type 0
@@ -47,6 +49,7 @@ IsStood i turns (decided.Before p q) s =
     p < length i.processes → q < length i.processes → s.level ≡ level_of (last_of (sets_order p q) turns)
 IsStood i turns (decided.AtMost m r) s = m < length i.messages → s.cut ≡ cut_of (last_of (sets_greatest m) turns)
 IsStood i turns (decided.AtLeast m r) s = m < length i.messages → s.cut ≡ cut_of (last_of (sets_least m) turns)
+IsStood i turns (decided.Channel m k) s = m < length i.messages → s.channel ≡ on_channel_of (last_of (fixes_any m) turns)
 
 -- tables tell a decision more, and this is what stood before it
 pub record Tells (i : Instance) (turns : List Turn) (turn : Turn) (t : Tables) (stood : Stood) : Type 0 where

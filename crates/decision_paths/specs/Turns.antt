@@ -1,10 +1,12 @@
 -- The decisions of a path, each with the level of its branch, and which of them is the last to say a part of the choice. Own profile.
-use Rattle.std.specs.Prelude.{◌≡◌, ℕ, ◌∷◌, [], ◌++◌, List, length, Bool, if◌then◌else◌, Option, None, Some, map, take, ◌-◌, All, IsTrue, IsFalse}
+use Rattle.std.specs.Prelude.{◌≡◌, ℕ, ◌∷◌, [], ◌++◌, List, length, Bool, true, if◌then◌else◌, Option, None, Some, map, take, ◌-◌, All, IsTrue, IsFalse}
 use Rattle.ttp_model.specs.Instance.{Instance}
 use Rattle.tt_choice.specs.declared.decision.Decision.{Decision}
 use Rattle.tt_choice.specs.declared.decision.Decision.TheVariants as decided
+use Rattle.tt_choice.specs.Kept.{fixes_channel}
 use Rattle.decision_paths.specs.declared.turn.Turn.{Turn}
 use Rattle.decision_paths.specs.declared.turn.Cut.{Cut}
+use Rattle.decision_paths.specs.declared.turn.OnChannel.{OnChannel}
 use Rattle.decision_paths.specs.declared.turn.Placed.{Placed}
 
 -- an instance, and the decisions of a path, the first first
@@ -42,11 +44,30 @@ round_of (decided.Cap n k) = 0
 round_of (decided.Before p q) = 0
 round_of (decided.AtMost m r) = r
 round_of (decided.AtLeast m r) = r
+round_of (decided.Channel m k) = 0
 
 -- the round that it sets, and its level
 abbrev pub cut_of : Option Turn → Option Cut
 cut_of None = None
 cut_of (Some turn) = Some (record { round = round_of turn.decision; level = turn.level })
+
+-- a decision fixes the channel of message m, whichever it is
+abbrev pub fixes_any : ℕ → Decision → Bool
+fixes_any m = fixes_channel (λ k. true) m
+
+-- the channel that a decision fixes
+abbrev pub channel_of : Decision → ℕ
+channel_of (decided.Place n) = 0
+channel_of (decided.Cap n k) = 0
+channel_of (decided.Before p q) = 0
+channel_of (decided.AtMost m r) = 0
+channel_of (decided.AtLeast m r) = 0
+channel_of (decided.Channel m k) = k
+
+-- the channel that it fixes, and its level
+abbrev pub on_channel_of : Option Turn → Option OnChannel
+on_channel_of None = None
+on_channel_of (Some turn) = Some (record { channel = channel_of turn.decision; level = turn.level })
 
 -- the node that a decision places, if it places one
 abbrev pub placed_by : Decision → ℕ → List Placed
@@ -55,6 +76,7 @@ placed_by (decided.Cap n k) level = []
 placed_by (decided.Before p q) level = []
 placed_by (decided.AtMost m r) level = []
 placed_by (decided.AtLeast m r) level = []
+placed_by (decided.Channel m k) level = []
 
 -- the nodes that decisions place, the first first
 abbrev pub placed_of : List Turn → List Placed

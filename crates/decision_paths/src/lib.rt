@@ -10,4 +10,4 @@ mod turn;
 pub use laws::{the_last_decision_counts, told_places_are_kept};
 pub use levels::Levels;
 pub use path::Path;
-pub use turn::{Cut, Placed, Turn};
+pub use turn::{Cut, OnChannel, Placed, Turn};

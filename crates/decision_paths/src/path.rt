@@ -2,15 +2,15 @@
 
 ghost use Rattle.std.specs.Prelude.{◌≡◌, ◌<◌, ◌++◌, ◌==◌, ◌∷◌, [], length, IfOk, OnOk, OnErr, IfSome, position};
 ghost use Rattle.tt_choice.specs.Kept.{sets_least, sets_greatest, sets_order, fixes_above, fixes_below};
-ghost use Rattle.decision_paths.specs.Turns.{last_of, level_of, cut_of, placed_of, path_after, path_above, nodes_of};
+ghost use Rattle.decision_paths.specs.Turns.{last_of, level_of, cut_of, fixes_any, on_channel_of, placed_of, path_after, path_above, nodes_of};
 
 use crate::levels::Levels;
 use crate::tables::{Stood, Tables, item_at, order_place};
-use crate::turn::{Cut, Placed, Turn};
+use crate::turn::{Cut, OnChannel, Placed, Turn};
 use std::alloc::Global;
 use std::marker::Model;
 use tt_choice::Decision;
-use ttp_model::{Instance, Kind, MemoryFault};
+use ttp_model::{BOTH_CHANNELS, Instance, Kind, MemoryFault};
 
 /// A decision, and what stood in its place.
 #[derive(Clone, Copy, Debug)]
@@ -108,6 +108,14 @@ impl<'a> Path<'a> {
         item_at(self.tables.greatest.as_slice(), m as usize)
     }
 
+    /// A message's channel, where a branch decided it.
+    pub fn channel(&self, m: u32) -> Option<OnChannel>
+        ensures { m < length self.now.instance.messages
+            → result ≡ on_channel_of (last_of (fixes_any m) self.now.turns) }
+    {
+        item_at(self.tables.channels.as_slice(), m as usize)
+    }
+
     /// How many nodes stand in front of one in the order, where it is placed.
     pub fn place_of(&self, n: u32) -> Option<usize>
         ensures value { result ≡ position (λ one. one.node == n) (placed_of self.now.turns) }
@@ -134,6 +142,7 @@ impl<'a> Path<'a> {
             Kind::Cap(n) => Some(Decision::Cap(n, 0)),
             Kind::Pair(p, q) => Some(Decision::Before(p, q)),
             Kind::Round(m, r) => Some(Decision::AtMost(m, r)),
+            Kind::Chan(m) => Some(Decision::Channel(m, 0)),
         }
     }
 
@@ -145,6 +154,13 @@ impl<'a> Path<'a> {
             Decision::Before(p, q) => Some(Decision::Before(q, p)),
             Decision::AtMost(m, r) => Some(Decision::AtLeast(m, r.saturating_add(1))),
             Decision::AtLeast(_, _) => None,
+            Decision::Channel(m, k) => {
+                if k < BOTH_CHANNELS {
+                    Some(Decision::Channel(m, k + 1))
+                } else {
+                    None
+                }
+            }
         }
     }
 
@@ -157,7 +173,7 @@ impl<'a> Path<'a> {
                     used.insert(placed.level);
                 }
             }
-            Kind::Cap(_) | Kind::Pair(_, _) | Kind::Round(_, _) => {}
+            Kind::Cap(_) | Kind::Pair(_, _) | Kind::Round(_, _) | Kind::Chan(_) => {}
         }
         used
     }

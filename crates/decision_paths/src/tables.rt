@@ -2,11 +2,11 @@
 
 ghost use Rattle.std.specs.Prelude.{◌≡◌, ◌∷◌, [], ◌++◌, List, None, Some, if◌then◌else◌, length, slice_index_or, slice_set, IfOk, OnErr};
 ghost use Rattle.ttp_model.specs.Instance.{Instance, node_at};
-ghost use Rattle.tt_choice.specs.declared.decision.Decision.TheVariants.{Place, Cap, Before, AtMost, AtLeast};
+ghost use Rattle.tt_choice.specs.declared.decision.Decision.TheVariants.{Place, Cap, Before, AtMost, AtLeast, Channel};
 ghost use Rattle.decision_paths.specs.declared.turn.Turn.{Turn};
 ghost use Rattle.decision_paths.specs.Tables.{AreTables, IsStood, Tells, order_place};
 
-use crate::turn::{Cut, Placed, Turn};
+use crate::turn::{Cut, OnChannel, Placed, Turn};
 use std::alloc::Global;
 use tt_choice::Decision;
 use ttp_model::{Instance, MemoryFault};
@@ -26,14 +26,17 @@ pub struct Tables {
     pub least: Vec<Option<Cut>>,
     /// By message, its greatest round.
     pub greatest: Vec<Option<Cut>>,
+    /// By message, its channel.
+    pub channels: Vec<Option<OnChannel>>,
 }
 
-/// What stood where a decision tells: the levels of one or two branches, or a bound.
+/// What stood where a decision tells: the levels of one or two branches, a bound, or a channel.
 #[derive(Clone, Copy, Debug)]
 pub struct Stood {
     pub level: Option<u32>,
     pub below: Option<u32>,
     pub cut: Option<Cut>,
+    pub channel: Option<OnChannel>,
 }
 
 /// What stands at a place, if anything does.
@@ -91,6 +94,7 @@ impl Stood {
             level: None,
             below: None,
             cut: None,
+            channel: None,
         }
     }
 
@@ -102,6 +106,7 @@ impl Stood {
             level,
             below: None,
             cut: None,
+            channel: None,
         }
     }
 
@@ -113,6 +118,19 @@ impl Stood {
             level: None,
             below: None,
             cut,
+            channel: None,
+        }
+    }
+
+    /// A channel, or none.
+    fn on(channel: Option<OnChannel>) -> Stood
+        ensures { result.channel ≡ channel }
+    {
+        Stood {
+            level: None,
+            below: None,
+            cut: None,
+            channel,
         }
     }
 }
@@ -132,6 +150,7 @@ impl Tables {
             before: vec![in alloc; None; processes * processes]?,
             least: vec![in alloc; None; messages]?,
             greatest: vec![in alloc; None; messages]?,
+            channels: vec![in alloc; None; messages]?,
         })
     }
 
@@ -149,6 +168,7 @@ impl Tables {
             Decision::Before(p, q) => Ok(self.tell_order(instance, p, q, level)),
             Decision::AtMost(m, round) => Ok(self.tell_greatest(m, round, level)),
             Decision::AtLeast(m, round) => Ok(self.tell_least(m, round, level)),
+            Decision::Channel(m, channel) => Ok(self.tell_channel(m, channel, level)),
         }
     }
 
@@ -170,6 +190,7 @@ impl Tables {
             level: item_at(self.above_least.as_slice(), n as usize),
             below: item_at(self.below_most.as_slice(), n as usize),
             cut: None,
+            channel: None,
         };
         let is_above = k > 0;
         let is_below = (k as usize) + 1 < options(instance, n);
@@ -206,6 +227,19 @@ impl Tables {
         Stood::bound(stood)
     }
 
+    fn tell_channel(&mut self, m: u32, channel: u32, level: u32) -> Stood
+        ensures { (i : Instance) (turns : List Turn) → AreTables i turns self.old
+            → Tells i turns (record { decision = Channel m channel; level = level }) self.new result }
+    {
+        let stood = item_at(self.channels.as_slice(), m as usize);
+        put_at(
+            &mut self.channels,
+            m as usize,
+            Some(OnChannel { channel, level }),
+        );
+        Stood::on(stood)
+    }
+
     /// Takes the last decision back, by what stood in its place.
     pub fn take_back(&mut self, instance: &Instance, turn: Turn, stood: Stood)
         ensures { (turns : List Turn) → Tells instance.now turns turn self.old stood
@@ -224,6 +258,7 @@ impl Tables {
             }
             Decision::AtMost(m, _) => put_at(&mut self.greatest, m as usize, stood.cut),
             Decision::AtLeast(m, _) => put_at(&mut self.least, m as usize, stood.cut),
+            Decision::Channel(m, _) => put_at(&mut self.channels, m as usize, stood.channel),
         }
     }
 }

@@ -22,3 +22,10 @@ pub struct Cut {
     pub round: u32,
     pub level: u32,
 }
+
+/// The channel of a message, 2 for both, and the branch that fixed it.
+#[derive(Clone, Copy, Debug)]
+pub struct OnChannel {
+    pub channel: u32,
+    pub level: u32,
+}

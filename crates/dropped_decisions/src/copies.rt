@@ -41,6 +41,7 @@ pub fn copy_of_step(alloc: Global, step: &Step) -> Result<Step, MemoryFault>
         Step::XLoad(n, a, b) => Step::XLoad(*n, *a, *b),
         Step::XFrame(m) => Step::XFrame(*m),
         Step::XFrames(n, a, b) => Step::XFrames(*n, *a, *b),
+        Step::XChannel(k, n, a, b) => Step::XChannel(*k, *n, *a, *b),
         Step::XLate(m, r) => Step::XLate(*m, *r),
         Step::XSilent(u, v) => Step::XSilent(*u, *v),
     })

@@ -1,7 +1,6 @@
 //! Which smaller tree proves the same bound?
 
 ghost use Rattle.std.specs.Prelude.{◌≡◌, ◌≤◌, IfOk, IfSome};
-ghost use Rattle.certificate.specs.declared.version.Version.TheVariants.{One};
 ghost use Rattle.certificate.specs.Trees.{preorder};
 ghost use Rattle.tree_check.specs.Proofs.{Proves};
 ghost use Rattle.dropped_decisions.specs.Branches.{branches};
@@ -16,8 +15,8 @@ use std::alloc::Global;
 use tree_check::check;
 use ttp_model::{Instance, MemoryFault};
 
-/// A certificate of this version and of a bound, with these nodes in preorder, where they are a tree that proves it.
-fn accepted_as(
+/// A certificate of this version and of a bound, in ticks, with these nodes in preorder, where they are a tree that proves it.
+pub fn accepted(
     alloc: Global,
     instance: &Instance,
     version: Version,
@@ -37,21 +36,6 @@ fn accepted_as(
         Ok(_) => Ok(Some(cert)),
         Err(_) => Ok(None),
     }
-}
-
-/// A certificate of a bound, in ticks, with these nodes in preorder, where they are a tree that proves it.
-pub fn accepted(
-    alloc: Global,
-    instance: &Instance,
-    low: u32,
-    nodes: Vec<Node>,
-) -> Result<Option<Cert>, MemoryFault>
-    ensures proves { IfOk result (λ found. IfSome found (Proves instance.now)) }
-    ensures version { IfOk result (λ found. IfSome found (λ cert. cert.version ≡ One)) }
-    ensures low { IfOk result (λ found. IfSome found (λ cert. cert.low ≡ low)) }
-    ensures nodes { IfOk result (λ found. IfSome found (λ cert. preorder cert.tree ≡ nodes.items)) }
-{
-    accepted_as(alloc, instance, Version::One, low, nodes)
 }
 
 /// A certificate of this version and of a bound with at most so many branches, where what is left of a tree in preorder proves it.
@@ -75,7 +59,7 @@ fn left_of(
     if branches_among(left.as_slice()) > most {
         return Ok(None);
     }
-    accepted_as(alloc, instance, version, low, left)
+    accepted(alloc, instance, version, low, left)
 }
 
 /// The nodes of a tree in preorder, which tells where they stand: none is named.
@@ -127,7 +111,7 @@ pub fn without_unused(alloc: Global, instance: &Instance, cert: Cert) -> Cert
     }
 }
 
-/// A certificate of a bound, in ticks, without branches that nothing below one of their children uses, of a tree that a search
+/// A certificate of this version and of a bound, in ticks, without branches that nothing below one of their children uses, of a tree that a search
 /// made, where the subtrees that it left aren't needed: none where one of them is, where more than `most` branches are left, or
 /// where the check doesn't accept what is left. The nodes may stand in any order.
 ///
@@ -135,23 +119,17 @@ pub fn without_unused(alloc: Global, instance: &Instance, cert: Cert) -> Cert
 pub fn proof_of(
     alloc: Global,
     instance: &Instance,
+    version: Version,
     low: u32,
     standing: Vec<Standing>,
     most: usize,
 ) -> Result<Option<Cert>, MemoryFault>
     ensures proves { IfOk result (λ found. IfSome found (Proves instance.now)) }
+    ensures version { IfOk result (λ found. IfSome found (λ cert. cert.version ≡ version)) }
     ensures low { IfOk result (λ found. IfSome found (λ cert. cert.low ≡ low)) }
-    ensures version { IfOk result (λ found. IfSome found (λ cert. cert.version ≡ One)) }
     ensures few { IfOk result (λ found. IfSome found (λ cert. branches cert.tree ≤ most)) }
 {
     let mut standing = standing;
     sort_by_name(&mut standing)?;
-    left_of(
-        alloc,
-        instance,
-        Version::One,
-        low,
-        standing.as_slice(),
-        most,
-    )
+    left_of(alloc, instance, version, low, standing.as_slice(), most)
 }

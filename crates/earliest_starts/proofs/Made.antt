@@ -1,16 +1,14 @@
 -- The plan that is made of settled starts: valid, in the choice, and earliest.
 use Rattle.std.proofs.Common.{◌≡◌, ℕ, ◌<◌, ◌≤◌, List, length, slice_index, unwrap_or, Option, None, Some, IsSome, IsTrue, Contains, arith, inl, inr, refl, subst, sym, ◌∙◌}
 use Rattle.std.proofs.lemmas.Bool.{false≢true, both_ways}
-use Rattle.std.proofs.lemmas.List.{length-replicate}
 use Rattle.std.proofs.lemmas.List.Elements.{Contains-get_or}
 use Rattle.ttp_model.specs.Lists.{EachBelow}
 use Rattle.ttp_model.specs.Instance.{Instance, node_at, message_at, link_at, source_of}
 use Rattle.ttp_model.specs.Rules.{IsInstance}
-use Rattle.ttp_model.specs.Plans.{HasLengths, IsValid, IsNodeOrder, HasOwnCapacity, AreApart}
+use Rattle.ttp_model.specs.Plans.{HasLengths, IsValid, IsNodeOrder, HasOwnCapacity, HasOwnChannel, MayBeOn, AreApart}
 use Rattle.ttp_model.specs.declared.error.Place.TheVariants.{AtProcess, AtLink, AtMessage}
 use Rattle.ttp_model.specs.Totals.{total}
-use Rattle.ttp_model.proofs.OneChannel.{zeros_on_own}
-use Rattle.tt_choice.specs.Choice.{Choice, fixed_cap, is_before, least_round, IsFixedTo, IsOption, IsIn, IsChoice, IsComplete}
+use Rattle.tt_choice.specs.Choice.{Choice, fixed_cap, fixed_channel, is_before, least_round, IsFixedTo, IsOption, IsChannel, IsIn, IsChoice, IsComplete}
 use Rattle.tt_choice.proofs.Extend.{from_parts, order_of}
 use Rattle.earliest_starts.specs.Fixed.{fixed_caps, plan_of, copied_out, sends_from, fixed_bytes}
 use Rattle.earliest_starts.specs.Clashes.{MissesSlot}
@@ -18,11 +16,15 @@ use Rattle.earliest_starts.specs.Ranks.{TurnsNoLink}
 use Rattle.earliest_starts.specs.Starts.{AreFloors, AreSettled}
 use Rattle.earliest_starts.specs.Answers.{IsEarliest}
 use Rattle.earliest_starts.proofs.Rings.{one_before}
-use Rattle.earliest_starts.proofs.Sound.{fixed_at, length-fixed_caps, waits_le}
+use Rattle.earliest_starts.proofs.Sound.{fixed_at, length-fixed_caps, channel_at, length-fixed_channels, waits_le}
 
 own_option : (i : Instance) (n : ℕ) (o : Option ℕ) → IsSome o → IsOption i n o → Contains (node_at i n).capacities (unwrap_or o 0)
 own_option i n None some is = absurd (false≢true some)
 own_option i n (Some fixed) some is = is
+
+own_channel : (i : Instance) (m : ℕ) (o : Option ℕ) → IsSome o → IsChannel i m o → MayBeOn i m (unwrap_or o 0)
+own_channel i m None some is = absurd (false≢true some)
+own_channel i m (Some fixed) some is = is
 
 fixed_to : (o : Option ℕ) → IsFixedTo o (unwrap_or o 0)
 fixed_to None = tt
@@ -57,8 +59,20 @@ module _ (i : Instance) (c : Choice) (floors starts : List ℕ) (w : IsInstance 
   ]
 
   HasLengths-made : HasLengths i (plan_of c starts)
-  HasLengths-made = record { order = done.placed; capacities = caps_fit i c w ok done; starts = all; rounds = ok.lo_length; channels = length-replicate (length c.lo) 0 ∙ ok.lo_length }
+  HasLengths-made = record {
+    order = done.placed;
+    capacities = caps_fit i c w ok done;
+    starts = all;
+    rounds = ok.lo_length;
+    channels = length-fixed_channels c ∙ ok.channels_length;
+  }
 
+  on_own : EachBelow (length i.messages) (HasOwnChannel i (plan_of c starts))
+  on_own m h =
+      let is = channel_at c m (omega (arith, h, ok.channels_length)) in
+      subst (MayBeOn i m) (sym is) (own_channel i m (fixed_channel c m) (done.channels m h) (ok.channels m h))
+
+  -- it keeps all rules where messages are ready and frames fit
   IsValid-made : ((m : ℕ) → m < length i.messages → copied_out i starts m ≤ sends_from i c m)
       → ((m k : ℕ) → m < length i.messages → k < i.cluster.channels → total (fixed_bytes i c (source_of i m) (least_round c m) k) (length i.messages) ≤ slice_index (fixed_caps c) (source_of i m))
       → IsValid i (plan_of c starts)
@@ -76,7 +90,7 @@ module _ (i : Instance) (c : Choice) (floors starts : List ℕ) (w : IsInstance 
         let there : q < length i.processes = (w.indices (AtMessage m) h).1 k 0 inside in
         omega (arith, f.arrived m q h (Contains-get_or (message_at i m).receivers k 0 inside), (s q there).floor);
     frames = λ m h k within on. frames m k h within;
-    on_own = zeros_on_own i (plan_of c starts) (length c.lo) w ok.lo_length refl;
+    on_own = on_own;
   }
 
   IsIn-made : IsIn i c (plan_of c starts)
@@ -86,6 +100,7 @@ module _ (i : Instance) (c : Choice) (floors starts : List ℕ) (w : IsInstance 
     fixed = λ n h. subst (IsFixedTo (fixed_cap c n)) (sym (fixed_at c n (omega (arith, h, ok.fixed_length)))) (fixed_to (fixed_cap c n));
     pairs = λ p q holds. (s q (ok.pairs p q holds).second).after p holds;
     ranges = λ m h. (omega arith, ok.ranges m h);
+    channels = λ m h. subst (IsFixedTo (fixed_channel c m)) (sym (channel_at c m (omega (arith, h, ok.channels_length)))) (fixed_to (fixed_channel c m));
   }
 
   -- no valid plan of the choice starts any process earlier

@@ -1,7 +1,7 @@
 -- What holds of each valid plan of a complete choice, and why a clash leaves none.
 use Rattle.std.proofs.Common.{◌≡◌, ℕ, zero, suc, ◌+◌, ◌-◌, ◌<◌, ◌≤◌, ◌⊎◌, List, [], length, slice_index, unwrap_or, Option, None, Some, IsSome, arith, inl, inr, refl, sym, ap, ◌∙◌, add-one}
 use Rattle.std.proofs.lemmas.Bool.{false≢true}
-use Rattle.std.proofs.lemmas.List.{get_or-map, get_or-replicate, length-map}
+use Rattle.std.proofs.lemmas.List.{get_or-map, length-map}
 use Rattle.std.proofs.lemmas.Grind.{same_number_lists, get_or_default_zero}
 use Rattle.ttp_model.specs.declared.plan.Plan.{Plan}
 use Rattle.ttp_model.specs.declared.error.Place.TheVariants.{AtProcess, AtLink}
@@ -9,13 +9,12 @@ use Rattle.ttp_model.specs.Instance.{Instance, process_at, message_at}
 use Rattle.ttp_model.specs.Rules.{IsInstance}
 use Rattle.ttp_model.specs.Plans.{IsValid, start_of, end_of, round_of, sent_from, sent_until, channel_of, bytes_on, load_on}
 use Rattle.ttp_model.specs.Totals.{total}
-use Rattle.ttp_model.proofs.OneChannel.{on_the_channel}
 use Rattle.ttp_model.proofs.ValidPlans.{frames_fit_lem}
 use Rattle.ttp_model.proofs.Totals.{total_same}
-use Rattle.tt_choice.specs.Choice.{Choice, fixed_cap, least_round, IsFixedTo, IsIn, IsChoice, IsComplete}
+use Rattle.tt_choice.specs.Choice.{Choice, fixed_cap, fixed_channel, least_round, IsFixedTo, IsIn, IsChoice, IsComplete}
 use Rattle.earliest_starts.specs.declared.clash.Clash.{Clash}
 use Rattle.earliest_starts.specs.declared.clash.Clash.TheVariants.{Cycle, Round, Window, Frame}
-use Rattle.earliest_starts.specs.Fixed.{fixed_caps, plan_of, sends_from, sends_until, GoesAhead, fixed_bytes}
+use Rattle.earliest_starts.specs.Fixed.{fixed_caps, fixed_channels, plan_of, sends_from, sends_until, GoesAhead, fixed_bytes}
 use Rattle.earliest_starts.specs.Answers.{IsBarren}
 use Rattle.earliest_starts.specs.Clashes.{WaitsUntil, released, arrived, after, IsWaitingRing, IsClash}
 
@@ -26,13 +25,16 @@ fixed_at c n h = get_or-map (λ (fixed : Option ℕ). unwrap_or fixed 0) c.fixed
 pub length-fixed_caps : (c : Choice) → length (fixed_caps c) ≡ length c.fixed
 length-fixed_caps c = length-map c.fixed (λ (fixed : Option ℕ). unwrap_or fixed 0)
 
--- where a message is sent
-pub channel_at : (c : Choice) (m : ℕ) → m < length c.lo → channel_of (plan_of c []) m ≡ 0
-channel_at c m h = get_or-replicate {A = ℕ} (length c.lo) m 0 0 h
+-- and for a message
+pub channel_at : (c : Choice) (m : ℕ) → m < length c.channels → channel_of (plan_of c []) m ≡ unwrap_or (fixed_channel c m) 0
+channel_at c m h = get_or-map (λ (fixed : Option ℕ). unwrap_or fixed 0) c.channels m None 0 h
 
-is_fixed : (o : Option ℕ) (capacity : ℕ) → IsSome o → IsFixedTo o capacity → capacity ≡ unwrap_or o 0
-is_fixed None capacity some is = absurd (false≢true some)
-is_fixed (Some fixed) capacity some is = is
+pub length-fixed_channels : (c : Choice) → length (fixed_channels c) ≡ length c.channels
+length-fixed_channels c = length-map c.channels (λ (fixed : Option ℕ). unwrap_or fixed 0)
+
+is_fixed : (o : Option ℕ) (number : ℕ) → IsSome o → IsFixedTo o number → number ≡ unwrap_or o 0
+is_fixed None number some is = absurd (false≢true some)
+is_fixed (Some fixed) number some is = is
 
 module _ (i : Instance) (c : Choice) (plan : Plan) (w : IsInstance i) (ok : IsChoice i c) (done : IsComplete i c) (v : IsValid i plan) (is : IsIn i c plan) where
   pub order_is : plan.order ≡ c.prefix
@@ -47,7 +49,9 @@ module _ (i : Instance) (c : Choice) (plan : Plan) (w : IsInstance i) (ok : IsCh
   round_is m h = omega (arith, (is.ranges m h).0, (is.ranges m h).1, done.rounds m h)
 
   channel_is : (m : ℕ) → m < length i.messages → channel_of plan m ≡ channel_of (plan_of c []) m
-  channel_is m h = on_the_channel i plan w v m h ∙ sym (channel_at c m (omega (arith, h, ok.lo_length)))
+  channel_is m h =
+      is_fixed (fixed_channel c m) (channel_of plan m) (done.channels m h) (is.channels m h)
+      ∙ sym (channel_at c m (omega (arith, h, ok.channels_length)))
 
   from_is : (m : ℕ) → m < length i.messages → sent_from i plan m ≡ sends_from i c m
   from_is m h = rw (order_is, caps_is, round_is m h) refl

@@ -1,5 +1,5 @@
 -- What a complete choice fixes of each of its plans: everything but the starts. Times are ticks.
-use Rattle.std.specs.Prelude.{ℕ, ◌+◌, List, [], length, map, replicate, unwrap_or, Option, slice_index, IsTrue, ◌⊎◌}
+use Rattle.std.specs.Prelude.{ℕ, ◌+◌, List, [], map, unwrap_or, Option, slice_index, IsTrue, ◌⊎◌}
 use Rattle.ttp_model.specs.declared.plan.Plan.{Plan}
 use Rattle.ttp_model.specs.Instance.{Instance, process_at, message_at, source_of}
 use Rattle.ttp_model.specs.Slots.{slot_start, slot_end}
@@ -11,9 +11,13 @@ use Rattle.tt_choice.specs.Choice.{Choice, is_before, least_round}
 abbrev pub fixed_caps : Choice → List ℕ
 fixed_caps c = map (λ (fixed : Option ℕ). unwrap_or fixed 0) c.fixed
 
--- the plan of the choice with these starts; each message is on the only channel
+-- the channel of each message, 2 for both
+abbrev pub fixed_channels : Choice → List ℕ
+fixed_channels c = map (λ (fixed : Option ℕ). unwrap_or fixed 0) c.channels
+
+-- the plan of the choice with these starts
 abbrev pub plan_of : Choice → List ℕ → Plan
-plan_of c starts = record { order = c.prefix; caps = fixed_caps c; starts = starts; rounds = c.lo; channels = replicate (length c.lo) 0 }
+plan_of c starts = record { order = c.prefix; caps = fixed_caps c; starts = starts; rounds = c.lo; channels = fixed_channels c }
 
 -- when the slot that message m is sent in begins
 abbrev pub sends_from : Instance → Choice → ℕ → ℕ

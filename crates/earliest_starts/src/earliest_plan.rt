@@ -1,16 +1,16 @@
 //! Which plan of a complete choice is the earliest?
 
-ghost use Rattle.std.specs.Prelude.{◌≡◌, length, replicate, IfOk};
+ghost use Rattle.std.specs.Prelude.{◌≡◌, length, IfOk};
 ghost use Rattle.ttp_model.specs.Delays.{delay};
 ghost use Rattle.tt_choice.specs.Choice.{IsChoice, IsComplete};
 ghost use Rattle.earliest_starts.specs.Answers.{IsEarliestAnswer};
-ghost use Rattle.earliest_starts.specs.Fixed.{fixed_caps, plan_of};
+ghost use Rattle.earliest_starts.specs.Fixed.{fixed_caps, fixed_channels, plan_of};
 ghost use Rattle.earliest_starts.specs.Ranks.{AreRanks, Rise, TurnsNoLink};
 
 use crate::answer::Earliest;
 use crate::clash::Clash;
 use crate::floors::floors;
-use crate::frames::{fixed_caps, late_message};
+use crate::frames::{fixed_caps, fixed_channels, late_message};
 use crate::loads::overfull;
 use crate::ranks::{disorder, ranks, ring, turned_link};
 use crate::starts::settle;
@@ -24,7 +24,7 @@ use ttp_model::{Instance, MemoryFault, Numbers, Plan, delay};
 /// slots and frames are judged.
 ///
 /// A pass over the links, three over the pairs of processes, one over the messages and their
-/// receivers, and one over the messages for each node.
+/// receivers, and one over the messages for each node and channel.
 pub fn earliest(
     alloc: Global,
     instance: &Instance,
@@ -73,24 +73,33 @@ fn timed(
     if let Some(m) = late_message(instance, choice, &layout, starts.as_slice()) {
         return Ok(Earliest::Clash(Clash::Round(m)));
     }
-    if let Some((n, r, k)) = overfull(alloc, instance, choice, caps.as_slice())? {
+    let channels = fixed_channels(alloc, instance, choice)?;
+    if let Some((n, r, k)) = overfull(
+        alloc,
+        instance,
+        choice,
+        caps.as_slice(),
+        channels.as_slice(),
+    )? {
         return Ok(Earliest::Clash(Clash::Frame(n, r, k)));
     }
-    let (plan, ticks) = made(alloc, instance, choice, caps, starts)?;
+    let (plan, ticks) = made(alloc, instance, choice, caps, starts, channels)?;
     Ok(Earliest::Plan(plan, ticks))
 }
 
-/// The plan of these capacities and starts, with its delay in ticks.
+/// The plan of these capacities, starts and channels, with its delay in ticks.
 fn made(
     alloc: Global,
     instance: &Instance,
     choice: &Choice,
     caps: Vec<u32>,
     starts: Vec<u32>,
+    channels: Vec<u32>,
 ) -> Result<(Plan, u64), MemoryFault>
     requires of { IsChoice instance.now choice.now }
     requires caps { caps.items ≡ fixed_caps choice.now }
     requires all { length starts.items ≡ length instance.now.processes }
+    requires channels { channels.items ≡ fixed_channels choice.now }
     ensures plan { IfOk result (λ made. made.0 ≡ plan_of choice.now starts.items) }
     ensures ticks { IfOk result
         (λ made. made.1 ≡ delay instance.now (plan_of choice.now starts.items)) }
@@ -100,7 +109,7 @@ fn made(
         caps: Numbers::new(caps),
         starts: Numbers::new(starts),
         rounds: rounds(alloc, instance, choice)?,
-        channels: channels(alloc, instance, choice)?,
+        channels: Numbers::new(channels),
     };
     let ticks = delay(instance, &plan);
     Ok((plan, ticks))
@@ -117,14 +126,4 @@ fn rounds(alloc: Global, instance: &Instance, choice: &Choice) -> Result<Numbers
         rounds.push(choice.lo(m))?;
     }
     Ok(Numbers::new(rounds))
-}
-
-/// The channel of each message: there is one.
-fn channels(alloc: Global, instance: &Instance, choice: &Choice) -> Result<Numbers, MemoryFault>
-    requires { IsChoice instance.now choice.now }
-    ensures { IfOk result (λ channels. channels ≡ replicate (length choice.now.lo) 0) }
-{
-    let count = instance.messages().len();
-    let channels = Numbers::zeros(alloc, count)?;
-    Ok(channels)
 }

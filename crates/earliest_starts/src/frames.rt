@@ -1,10 +1,10 @@
-//! Which messages miss their slots?
+//! What is fixed for nodes and messages, and which messages miss their slots?
 
 ghost use Rattle.std.specs.Prelude.{◌≡◌, ◌<◌, ◌≤◌, IfOk, IfSome, IfNone, length};
 ghost use Rattle.ttp_model.specs.Lists.{EachBelow};
 ghost use Rattle.tt_choice.specs.Choice.{IsChoice};
 ghost use Rattle.tt_layout.specs.Layout.{timing};
-ghost use Rattle.earliest_starts.specs.Fixed.{fixed_caps, copied_out, sends_from};
+ghost use Rattle.earliest_starts.specs.Fixed.{fixed_caps, fixed_channels, copied_out, sends_from};
 
 use std::alloc::Global;
 use tt_choice::Choice;
@@ -26,6 +26,23 @@ pub fn fixed_caps(
         caps.push(choice.fixed_cap(n).unwrap_or(0))?;
     }
     Ok(caps)
+}
+
+/// The channel of each message, 2 for both: 0 where none is fixed.
+pub fn fixed_channels(
+    alloc: Global,
+    instance: &Instance,
+    choice: &Choice,
+) -> Result<Vec<u32>, MemoryFault>
+    requires { IsChoice instance.now choice.now }
+    ensures { IfOk result (λ channels. channels.items ≡ fixed_channels choice.now) }
+{
+    let count = instance.messages().len() as u32;
+    let mut channels = Vec::new(alloc);
+    for m in 0..count {
+        channels.push(choice.channel(m).unwrap_or(0))?;
+    }
+    Ok(channels)
 }
 
 /// A message whose slot begins before it is copied out. One pass over the messages.

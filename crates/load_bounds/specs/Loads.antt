@@ -1,7 +1,7 @@
 -- What the answers say: a closer of loads that the table of steps has, or that it has none. Own profile.
-use Rattle.std.specs.Prelude.{◌≡◌, ℕ, Option, Some, None}
+use Rattle.std.specs.Prelude.{◌≡◌, ℕ, Option, Some, None, ◌⊎◌}
 use Rattle.ttp_model.specs.declared.step.Step.{Step}
-use Rattle.ttp_model.specs.declared.step.Step.TheVariants.{XLoad, XFrames}
+use Rattle.ttp_model.specs.declared.step.Step.TheVariants.{XLoad, XFrames, XChannel}
 use Rattle.sought_plans.specs.Known.{Known}
 use Rattle.tt_infer.specs.Table.{IsLawful}
 use Rattle.tt_infer.specs.Facts.{Facts}
@@ -16,7 +16,22 @@ abbrev pub IsNodeLoad : Facts → ℕ → Option Step → Type 0
 IsNodeLoad s n (Some step) = (a : ℕ) × ((b : ℕ) × ((step ≡ XLoad n a b) × IsLawfulNow s step))
 IsNodeLoad s n None = (a b : ℕ) → ¬ IsLawfulNow s (XLoad n a b)
 
--- a lawful closer of the node's frames in some interval; or there is none in any
+-- a lawful closer of the node's frames on all channels in some interval; or there is none in any
+abbrev pub IsWholeLoad : Facts → ℕ → Option Step → Type 0
+IsWholeLoad s n (Some step) = (a : ℕ) × ((b : ℕ) × ((step ≡ XFrames n a b) × IsLawfulNow s step))
+IsWholeLoad s n None = (a b : ℕ) → ¬ IsLawfulNow s (XFrames n a b)
+
+-- so of its frames on one channel
+abbrev pub IsLoadOn : Facts → ℕ → ℕ → Option Step → Type 0
+IsLoadOn s k n (Some step) = (a : ℕ) × ((b : ℕ) × ((step ≡ XChannel k n a b) × IsLawfulNow s step))
+IsLoadOn s k n None = (a b : ℕ) → ¬ IsLawfulNow s (XChannel k n a b)
+
+-- so on any channel
+abbrev pub IsChannelLoad : Facts → ℕ → Option Step → Type 0
+IsChannelLoad s n (Some step) = (k : ℕ) × IsLoadOn s k n (Some step)
+IsChannelLoad s n None = (k : ℕ) → IsLoadOn s k n None
+
+-- a lawful closer of the node's frames, on one channel or on all; or there is none of either
 abbrev pub IsFrameLoad : Facts → ℕ → Option Step → Type 0
-IsFrameLoad s n (Some step) = (a : ℕ) × ((b : ℕ) × ((step ≡ XFrames n a b) × IsLawfulNow s step))
-IsFrameLoad s n None = (a b : ℕ) → ¬ IsLawfulNow s (XFrames n a b)
+IsFrameLoad s n (Some step) = IsChannelLoad s n (Some step) ⊎ IsWholeLoad s n (Some step)
+IsFrameLoad s n None = IsChannelLoad s n None × IsWholeLoad s n None

@@ -1,13 +1,14 @@
 //! Does a node have more to do in some interval than there is room for?
 
-ghost use Rattle.std.specs.Prelude.{IsSome, length};
+ghost use Rattle.std.specs.Prelude.{◌<◌, ◌≤◌, IsSome, length};
 ghost use Rattle.ttp_model.specs.declared.plan.Plan.{Plan};
 ghost use Rattle.sought_plans.specs.Known.{IsSought};
-ghost use Rattle.load_bounds.specs.Gathered.{AreRuns, AreSendings};
-ghost use Rattle.load_bounds.specs.Loads.{IsNodeLoad, IsFrameLoad};
+ghost use Rattle.load_bounds.specs.Gathered.{AreRuns, AreSendings, AreSendingsOn};
+ghost use Rattle.load_bounds.specs.Loads.{IsNodeLoad, IsWholeLoad, IsLoadOn, IsChannelLoad, IsFrameLoad};
 
 use crate::demands::{Demand, Demands};
 use crate::excess::excess;
+use sought_plans::{copies, counts_on};
 use tt_infer::Facts;
 use ttp_model::Step;
 
@@ -33,16 +34,40 @@ fn runs_of(facts: &Facts, node: u32) -> Demands
     runs
 }
 
-/// The messages that a node sends, each with its bytes from its least round until the first that is
-/// too late.
+/// The messages that a node sends, each with its bytes, twice where it is on both channels, from its
+/// least round until the first that is too late.
 fn sendings_of(facts: &Facts, node: u32) -> Demands
-    ensures { AreSendings facts.now.instance facts.now.known node (length facts.now.instance.messages) result }
+    ensures { AreSendings facts.now.instance facts.now.choice facts.now.known node (length facts.now.instance.messages) result }
 {
     let instance = facts.instance();
+    let choice = facts.choice();
     let count = instance.messages().len() as u32;
     let mut sendings = Demands::none();
     for m in 0..count {
         if instance.source_of(m as usize) == node {
+            let from = facts.lo(m);
+            let until = facts.top(m);
+            let times = copies(choice, m);
+            sendings.add(Demand {
+                from,
+                until,
+                size: times * instance.message_at(m as usize).bytes,
+            });
+        }
+    }
+    sendings
+}
+
+/// The messages that a node sends on a channel as far as that is known, each with its bytes.
+fn sendings_on(facts: &Facts, channel: u32, node: u32) -> Demands
+    ensures { AreSendingsOn facts.now.instance facts.now.choice facts.now.known channel node (length facts.now.instance.messages) result }
+{
+    let instance = facts.instance();
+    let choice = facts.choice();
+    let count = instance.messages().len() as u32;
+    let mut sendings = Demands::none();
+    for m in 0..count {
+        if instance.source_of(m as usize) == node && counts_on(choice, channel, m) {
             let from = facts.lo(m);
             let until = facts.top(m);
             sendings.add(Demand {
@@ -77,9 +102,60 @@ pub fn node_load(facts: &Facts, node: u32) -> Option<Step>
 }
 
 /// A lawful `XFrames` of the node: an interval of rounds whose frames, each as large as it can be,
-/// hold less than the bytes of the node's messages that can't be sent before nor after it. None
-/// exactly where there is none, and so for a node that isn't there. Takes one pass over the messages
-/// and, for each that the node sends, one over those that it sends; no memory. After a closer it
+/// hold less on all channels together than the bytes of the node's messages that can't be sent before
+/// nor after it. None exactly where there is none.
+fn whole_load(facts: &Facts, node: u32) -> Option<Step>
+    requires { node < length facts.now.instance.nodes }
+    ensures { IsWholeLoad facts.now node result }
+{
+    let instance = facts.instance();
+    let channels = instance.cluster().channels;
+    let capacity = facts.choice().cap_most(instance, node);
+    match excess(sendings_of(facts, node), channels * capacity) {
+        Some((a, b)) => Some(Step::XFrames(node, a, b)),
+        None => None,
+    }
+}
+
+/// A lawful `XChannel` of the node and a channel: an interval of rounds whose frames hold less on that
+/// channel than what is known to be sent on it. None exactly where there is none.
+fn load_on(facts: &Facts, channel: u32, node: u32) -> Option<Step>
+    requires there { node < length facts.now.instance.nodes }
+    requires two { 2 ≤ facts.now.instance.cluster.channels }
+    requires channel { channel < facts.now.instance.cluster.channels }
+    ensures { IsLoadOn facts.now channel node result }
+{
+    let instance = facts.instance();
+    let capacity = facts.choice().cap_most(instance, node);
+    match excess(sendings_on(facts, channel, node), capacity) {
+        Some((a, b)) => Some(Step::XChannel(channel, node, a, b)),
+        None => None,
+    }
+}
+
+/// The same of the first channel that has one: none exactly where no channel has, and so where there
+/// is one channel alone.
+fn channel_load(facts: &Facts, node: u32) -> Option<Step>
+    requires { node < length facts.now.instance.nodes }
+    ensures { IsChannelLoad facts.now node result }
+{
+    let channels = facts.instance().cluster().channels;
+    if channels < 2 {
+        return None;
+    }
+    for channel in 0..channels {
+        if let Some(step) = load_on(facts, channel, node) {
+            return Some(step);
+        }
+    }
+    None
+}
+
+/// A lawful `XChannel` or `XFrames` of the node: an interval of rounds whose frames, each as large as
+/// it can be, hold less than the bytes of the node's messages that can't be sent before nor after it, on
+/// one of two channels or on all together. None exactly where there is neither, and so for a node that
+/// isn't there. Takes one pass over the messages and, for each that the node sends, one over those that
+/// it sends, and with two channels the same for each of them first; no memory. After a closer it
 /// answers as `node_load` does.
 pub fn frame_load(facts: &Facts, node: u32) -> Option<Step>
     ensures answer { IsFrameLoad facts.now node result }
@@ -90,9 +166,8 @@ pub fn frame_load(facts: &Facts, node: u32) -> Option<Step>
     if node as usize >= instance.nodes().len() {
         return None;
     }
-    let capacity = facts.choice().cap_most(instance, node);
-    match excess(sendings_of(facts, node), capacity) {
-        Some((a, b)) => Some(Step::XFrames(node, a, b)),
-        None => None,
+    match channel_load(facts, node) {
+        Some(step) => Some(step),
+        None => whole_load(facts, node),
     }
 }

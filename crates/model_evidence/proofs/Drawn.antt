@@ -1,13 +1,11 @@
 -- The text of a picture has the rectangles and the lines that it is of.
-use Rattle.std.proofs.Common.{◌≡◌, ℕ, ◌+◌, ◌-◌, ◌<◌, ◌≤◌, ◌∙◌, List, ◌++◌, Contains, length, slice_index, append_assoc, arith, ap, eq-eqb}
+use Rattle.std.proofs.Common.{◌≡◌, ℕ, ◌+◌, ◌-◌, ◌<◌, ◌∙◌, List, ◌++◌, Contains, length, slice_index, append_assoc, arith, ap, eq-eqb}
 use Rattle.std.specs.Prelude.{codes}
 use Rattle.ttp_model.specs.declared.plan.Plan.{Plan}
 use Rattle.ttp_model.specs.Instance.{Instance, message_at, node_at, process_at}
 use Rattle.ttp_model.specs.Delays.{delay}
-use Rattle.ttp_model.specs.Plans.{bytes_in, bytes_on, load_of, load_on}
+use Rattle.ttp_model.specs.Plans.{load_on}
 use Rattle.ttp_model.specs.Slots.{duration, slot_start}
-use Rattle.ttp_model.proofs.Channels.{on_at_most}
-use Rattle.ttp_model.proofs.Totals.{total_le}
 use Rattle.tt_layout.specs.Cycle.{cycle_rounds}
 use Rattle.plan_sheets.specs.declared.slots.Slot.{Slot}
 use Rattle.plan_sheets.specs.Slots.{slot_of}
@@ -23,7 +21,7 @@ use Rattle.plan_picture.specs.Processes.{process_name_text, process_rectangle, p
 use Rattle.plan_picture.specs.Rectangles.{opened_text, opening_text, rectangle_text}
 use Rattle.plan_picture.specs.Rows.{rows_text}
 use Rattle.plan_picture.specs.Scale.{delay_text, scale_text}
-use Rattle.plan_picture.specs.Slots.{hollow_slot_text, round_slots, slot_at, slot_rectangle, slot_words, slots_text}
+use Rattle.plan_picture.specs.Slots.{hollow_slot_text, position_slots, round_slots, slot_at, slot_rectangle, slot_words, slots_text}
 use Rattle.model_evidence.specs.Parts.{IsPartOf}
 use Rattle.model_evidence.specs.Pictures.{delivery_line, process_box, rectangle_at, slot_box}
 use Rattle.model_evidence.proofs.Parts.{element, first, later, numbered, sooner, within}
@@ -55,17 +53,22 @@ unfolding hollow_slot_text
 hollow-has i s r =
     later _ (codes "<g><title>") _ (later _ (slot_words (node_at i s.node).name s) _ (later _ (codes "</title>") _ (first (rectangle_text r) (codes "</g>\n"))))
 
-slot-has : (c : Canvas) (i : Instance) (plan : Plan) (r k : ℕ) → (slot_of i plan r k 0).used ≡ 0
-    → IsPartOf (rectangle_text (slot_rectangle (slot_of i plan r k 0))) (slot_at c i plan Nothing r k)
+slot-has : (c : Canvas) (i : Instance) (plan : Plan) (r k channel : ℕ) → (slot_of i plan r k channel).used ≡ 0
+    → IsPartOf (rectangle_text (slot_rectangle (slot_of i plan r k channel))) (slot_at c i plan Nothing r k channel)
 unfolding slot_at
-slot-has c i plan r k none =
-    let s = slot_of i plan r k 0 in
+slot-has c i plan r k channel none =
+    let s = slot_of i plan r k channel in
     let box = rectangle_text (slot_rectangle s) in
     rw (eq-eqb s.used 0 none) (sooner box (hollow_slot_text i s (slot_rectangle s)) _ (hollow-has i s (slot_rectangle s)))
 
-round-has : (c : Canvas) (i : Instance) (plan : Plan) (r k : ℕ) → k < length i.nodes → IsPartOf (slot_at c i plan Nothing r k) (round_slots c i plan Nothing r)
+position-has : (c : Canvas) (i : Instance) (plan : Plan) (r k channel : ℕ) → channel < i.cluster.channels
+    → IsPartOf (slot_at c i plan Nothing r k channel) (position_slots c i plan Nothing r k)
+unfolding position_slots
+position-has c i plan r k channel there = numbered (slot_at c i plan Nothing r k) i.cluster.channels channel there
+
+round-has : (c : Canvas) (i : Instance) (plan : Plan) (r k : ℕ) → k < length i.nodes → IsPartOf (position_slots c i plan Nothing r k) (round_slots c i plan Nothing r)
 unfolding round_slots
-round-has c i plan r k inside = numbered (slot_at c i plan Nothing r) (length i.nodes) k inside
+round-has c i plan r k inside = numbered (position_slots c i plan Nothing r) (length i.nodes) k inside
 
 slots-have : (c : Canvas) (i : Instance) (plan : Plan) (r : ℕ) → r < cycle_rounds i plan
     → IsPartOf (round_slots c i plan Nothing r) (slots_text c i plan Nothing)
@@ -131,35 +134,31 @@ process-drawn i plan width shown p inside =
     let rectangle = within box one whole (process-has c i plan p) process in
     spelled box (process_box i plan p) whole (rectangle-written (process_rectangle i plan p)) rectangle
 
-slot-written : (i : Instance) (plan : Plan) (r k : ℕ) → rectangle_text (slot_rectangle (slot_of i plan r k 0)) ≡ slot_box i plan (slice_index plan.order k) r
-slot-written i plan r k =
+slot-written : (i : Instance) (plan : Plan) (r k channel : ℕ) → rectangle_text (slot_rectangle (slot_of i plan r k channel)) ≡ slot_box i plan (slice_index plan.order k) r channel
+slot-written i plan r k channel =
     let n = slice_index plan.order k in
     let start = slot_start i.cluster plan.order plan.caps n r in
     let long = duration i.cluster plan.caps n in
     let same : start + long - start ≡ long = omega arith in
-    rectangle-written (slot_rectangle (slot_of i plan r k 0)) ∙ ap (rectangle_at 0 n start) same
+    rectangle-written (slot_rectangle (slot_of i plan r k channel)) ∙ ap (rectangle_at channel n start) same
 
--- a frame has no more bytes on a channel than at all
-load_on-at_most : (i : Instance) (plan : Plan) (n r c : ℕ) → load_on i plan n r c ≤ load_of i plan n r
-load_on-at_most i plan n r c =
-    total_le (bytes_on i plan n r c) (bytes_in i plan n r) (length i.messages) (λ m inside. on_at_most i plan n r c m)
-
-pub slot-drawn : (i : Instance) (plan : Plan) (width r k : ℕ) → r < cycle_rounds i plan → k < length i.nodes
-    → load_of i plan (slice_index plan.order k) r ≡ 0 → IsPartOf (slot_box i plan (slice_index plan.order k) r) (picture_text i plan width All)
-slot-drawn i plan width r k round inside none =
+pub slot-drawn : (i : Instance) (plan : Plan) (width r k channel : ℕ) → r < cycle_rounds i plan → k < length i.nodes → channel < i.cluster.channels
+    → load_on i plan (slice_index plan.order k) r channel ≡ 0 → IsPartOf (slot_box i plan (slice_index plan.order k) r channel) (picture_text i plan width All)
+slot-drawn i plan width r k channel round inside there none =
     let c = canvas_of i plan width in
-    let box = rectangle_text (slot_rectangle (slot_of i plan r k 0)) in
-    let one = slot_at c i plan Nothing r k in
+    let box = rectangle_text (slot_rectangle (slot_of i plan r k channel)) in
+    let one = slot_at c i plan Nothing r k channel in
+    let position = position_slots c i plan Nothing r k in
     let some = round_slots c i plan Nothing r in
     let all = slots_text c i plan Nothing in
     let boxes = boxes_text c i plan All in
     let whole = whole_text c i plan All in
     let slots = within all boxes whole (boxes-have_slots c i plan) (whole-has_boxes c i plan All) in
     let slots_of_round = within some all whole (slots-have c i plan r round) slots in
-    let slot = within one some whole (round-has c i plan r k inside) slots_of_round in
-    let empty : load_on i plan (slice_index plan.order k) r 0 ≡ 0 = omega (arith, load_on-at_most i plan (slice_index plan.order k) r 0, none) in
-    let rectangle = within box one whole (slot-has c i plan r k empty) slot in
-    spelled box (slot_box i plan (slice_index plan.order k) r) whole (slot-written i plan r k) rectangle
+    let slots_there = within position some whole (round-has c i plan r k inside) slots_of_round in
+    let slot = within one position whole (position-has c i plan r k channel there) slots_there in
+    let rectangle = within box one whole (slot-has c i plan r k channel none) slot in
+    spelled box (slot_box i plan (slice_index plan.order k) r channel) whole (slot-written i plan r k channel) rectangle
 
 line-written : (i : Instance) (plan : Plan) (width m q : ℕ) → line_text (canvas_of i plan width) (delivery_of i plan m q) ≡ delivery_line i plan width m q
 unfolding line_text tenths_text

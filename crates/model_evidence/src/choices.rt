@@ -1,13 +1,14 @@
 //! What is said of a choice, and what decisions make of it and leave of it.
 
-ghost use Rattle.std.specs.Prelude.{◌≡◌, ℕ, ◌<◌, ◌≤◌, List, [], ◌∷◌, IfOk, IfSome, IsTrue, IsFalse, None, OnOk, length, slice_index};
+ghost use Rattle.std.specs.Prelude.{◌≡◌, ℕ, ◌<◌, ◌≤◌, List, [], ◌∷◌, IfOk, IfSome, IsTrue, IsFalse, IsSome, None, OnOk, length, slice_index};
 ghost use Rattle.ttp_model.specs.declared.plan.Plan.{Plan};
 ghost use Rattle.ttp_model.specs.declared.step.Kind.TheVariants.{Cap};
 ghost use Rattle.ttp_model.specs.Instance.{node_at};
+ghost use Rattle.ttp_model.specs.Plans.{channel_of};
 ghost use Rattle.ttp_model.specs.Slots.{slot_start};
-ghost use Rattle.tt_choice.specs.declared.decision.Decision.TheVariants.{Before};
+ghost use Rattle.tt_choice.specs.declared.decision.Decision.TheVariants.{Before, Channel};
 ghost use Rattle.tt_choice.specs.Branches.{IsOpen, IsUnplaced};
-ghost use Rattle.tt_choice.specs.Choice.{Agrees, IsChoice, IsIn, fixed_cap, is_before};
+ghost use Rattle.tt_choice.specs.Choice.{Agrees, IsChoice, IsIn, fixed_cap, fixed_channel, is_before};
 ghost use Rattle.tt_choice.specs.Decisions.{IsOpenDecision};
 
 use std::alloc::Global;
@@ -30,6 +31,59 @@ pub fn both_orders_of_a_pair(
         return Ok(None);
     }
     Ok(Some(choice.decisions(alloc, instance, &kind)?))
+}
+
+/// The children of a message whose channel isn't fixed: it is on the first, on the second, and then on both.
+pub fn channels_of_a_free_message(
+    alloc: Global,
+    instance: &Instance,
+    choice: &Choice,
+    m: u32,
+) -> Result<Option<Vec<Decision>>, MemoryFault>
+    requires { IsChoice instance.now choice.now }
+    ensures { IfOk result (λ answer. IfSome answer (λ decisions.
+        decisions.items ≡ Channel m 0 ∷ Channel m 1 ∷ Channel m 2 ∷ [])) }
+{
+    let kind = Kind::Chan(m);
+    if !choice.is_open(instance, &kind) {
+        return Ok(None);
+    }
+    Ok(Some(choice.decisions(alloc, instance, &kind)?))
+}
+
+/// A message whose channel is fixed isn't open.
+pub fn message_on_a_channel(instance: &Instance, choice: &Choice, m: u32) -> bool
+    requires { IsChoice instance.now choice.now }
+    ensures { IsSome (fixed_channel choice.now m) → IsFalse result }
+{
+    choice.is_open(instance, &Kind::Chan(m))
+}
+
+/// Each plan has the message on the channel that was fixed.
+pub fn channel_that_was_fixed(instance: &Instance, choice: &mut Choice, m: u32, k: u32)
+    requires of { IsChoice instance.now choice.old }
+    requires bare { choice.old.kept ≡ [] }
+    requires is_open { IsOpenDecision instance.now choice.old (Channel m k) }
+    ensures { (plan : Plan) → IsIn instance.now choice.new plan → channel_of plan m ≡ k }
+{
+    choice.fix_channel(m, k);
+}
+
+/// A channel that is fixed and taken back is free again.
+pub fn channel_taken_back(
+    alloc: Global,
+    instance: &Instance,
+    choice: &mut Choice,
+    m: u32,
+    k: u32,
+) -> Result<(), MemoryFault>
+    requires of { IsChoice instance.now choice.old }
+    requires is_open { IsOpenDecision instance.now choice.old (Channel m k) }
+    ensures { fixed_channel choice.new m ≡ None }
+{
+    choice.decide(alloc, instance, Decision::Channel(m, k))?;
+    choice.undo();
+    Ok(())
 }
 
 /// The least capacity of a node for which none is fixed is its first, in bytes.

@@ -31,3 +31,10 @@ pub fn children_of_a_pair(p: u32, q: u32, options: u32) -> u32
 {
     Kind::Pair(p, q).children(options)
 }
+
+/// And one on the channel of a message.
+pub fn children_of_a_message(m: u32, options: u32) -> u32
+    ensures { result ≡ 3 }
+{
+    Kind::Chan(m).children(options)
+}

@@ -22,12 +22,15 @@ mod two_channels;
 mod windows;
 
 pub use choices::{
-    both_orders_of_a_pair, decision_taken_back, latest_slot_of_a_node, least_of_free_capacities,
+    both_orders_of_a_pair, channel_taken_back, channel_that_was_fixed, channels_of_a_free_message,
+    decision_taken_back, latest_slot_of_a_node, least_of_free_capacities, message_on_a_channel,
     node_that_was_placed, order_that_was_put, pair_of_the_other_order,
 };
 pub use decisions::{choice_without_decisions, decision_made_and_taken_back};
 pub use edges::{plan_that_just_keeps_the_rules, plans_that_just_break_a_rule};
-pub use figures::{children_of_a_pair, delay_of_first_process, slot_without_bytes};
+pub use figures::{
+    children_of_a_message, children_of_a_pair, delay_of_first_process, slot_without_bytes,
+};
 pub use lines::{lengths_of_parts, number_past_the_last};
 pub use loads::{fact_of_link, interval_that_is_not_full, interval_that_is_too_short};
 pub use membership::{lost_at_sender, lost_everywhere, without_agreement};

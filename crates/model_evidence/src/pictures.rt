@@ -2,7 +2,7 @@
 
 ghost use Rattle.std.specs.Prelude.{◌≡◌, ℕ, ◌*◌, ◌<◌, ◌≤◌, Contains, IfOk, IfSome, None, Some, length, slice_index, string_bytes};
 ghost use Rattle.ttp_model.specs.Instance.{message_at};
-ghost use Rattle.ttp_model.specs.Plans.{load_of};
+ghost use Rattle.ttp_model.specs.Plans.{load_on};
 ghost use Rattle.tt_layout.specs.Cycle.{cycle_rounds};
 ghost use Rattle.plan_picture.specs.Limits.{least_width, most_width};
 ghost use Rattle.model_evidence.specs.Parts.{IsPartOf};
@@ -46,7 +46,7 @@ pub fn picture_with_processes(
     Ok(Some(text))
 }
 
-/// One that shows each slot has the rectangles of those that carry nothing.
+/// One that shows each slot has the rectangles of those that carry nothing, each in its channel's row.
 pub fn picture_with_empty_slots(
     alloc: Global,
     instance: &Instance,
@@ -55,10 +55,10 @@ pub fn picture_with_empty_slots(
 ) -> Result<Option<String>, MemoryFault>
     requires least { least_width ≤ width }
     requires most { width ≤ most_width }
-    ensures { (r k : ℕ) → r < cycle_rounds instance.now plan.now → k < length instance.now.nodes
-        → load_of instance.now plan.now (slice_index plan.now.order k) r ≡ 0
+    ensures { (r k c : ℕ) → r < cycle_rounds instance.now plan.now → k < length instance.now.nodes → c < instance.now.cluster.channels
+        → load_on instance.now plan.now (slice_index plan.now.order k) r c ≡ 0
         → IfOk result (λ found. IfSome found (λ text.
-        IsPartOf (slot_box instance.now plan.now (slice_index plan.now.order k) r) (string_bytes text))) }
+        IsPartOf (slot_box instance.now plan.now (slice_index plan.now.order k) r c) (string_bytes text))) }
 {
     let Ok(_ticks) = check(instance, plan) else {
         return Ok(None);

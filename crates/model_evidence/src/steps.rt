@@ -1,16 +1,16 @@
 //! What a step of inference concludes, and when it is refused.
 
-ghost use Rattle.std.specs.Prelude.{◌≡◌, ℕ, ◌+◌, ◌-◌, List, IfOk, IsErr, IsFalse, OnOk, length, map, slice_index};
+ghost use Rattle.std.specs.Prelude.{◌≡◌, ℕ, ◌+◌, ◌-◌, ◌*◌, List, IfOk, IsErr, IsFalse, OnOk, length, map, slice_index};
 ghost use Rattle.ttp_model.specs.declared.step.Step.TheVariants.{XCycle};
 ghost use Rattle.ttp_model.specs.Instance.{source_of};
 ghost use Rattle.ttp_model.specs.Totals.{total};
 ghost use Rattle.tt_choice.specs.Branches.{IsUnorderedPair};
 ghost use Rattle.tt_choice.specs.Choice.{IsChoice};
-ghost use Rattle.tt_choice.specs.Extremes.{end_least, start_most};
+ghost use Rattle.tt_choice.specs.Extremes.{cap_most, end_least, start_most};
 ghost use Rattle.sought_plans.specs.Conclusions.{EndsUntil, GoesFirst, SentBefore, StartsFrom, sharpened};
 ghost use Rattle.sought_plans.specs.Dominance.{IsGreatestWait, StandsFirst};
 ghost use Rattle.sought_plans.specs.Known.{bef_of, le_of, lo_of, top_of};
-ghost use Rattle.sought_plans.specs.Premises.{AreChances, IsAhead, least_end, load_within, sender_of, wcet_of};
+ghost use Rattle.sought_plans.specs.Premises.{AreChances, IsAhead, bytes_counted, least_end, load_within, sender_of, wcet_of};
 
 use std::alloc::Global;
 use tt_choice::Choice;
@@ -78,6 +78,22 @@ pub fn span_that_is_just_full(facts: &mut Facts, n: u32, a: u32, b: u32) -> Resu
     ensures { b - a ≡ total (load_within facts.old.instance facts.old.known n a b) (length facts.old.instance.processes) → IsErr result }
 {
     facts.apply(&Step::XLoad(n, a, b))
+}
+
+/// Nor does half a frame that the messages on its channel just fill, nor any where there is one channel.
+pub fn half_that_is_just_full(
+    facts: &mut Facts,
+    k: u32,
+    n: u32,
+    a: u32,
+    b: u32,
+) -> Result<(), StepFault>
+    ensures full { (b - a) * cap_most facts.old.instance facts.old.choice n
+        ≡ total (bytes_counted facts.old.instance facts.old.choice facts.old.known k n a b) (length facts.old.instance.messages)
+        → IsErr result }
+    ensures alone { facts.old.instance.cluster.channels ≡ 1 → IsErr result }
+{
+    facts.apply(&Step::XChannel(k, n, a, b))
 }
 
 /// Nor do silent nodes of which the second isn't placed first.

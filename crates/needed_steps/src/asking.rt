@@ -35,7 +35,8 @@ pub fn ask(needs: &mut Needs, moment: &Moment, step: &Step, need: u32) {
         Step::XRound(m) => ask_no_round(needs, moment, *m),
         Step::XCycle(ring) => ask_ring(needs, ring.as_slice()),
         Step::XLoad(n, a, b) => ask_load(needs, moment, *n, *a, *b),
-        Step::XFrames(n, a, b) => ask_frames(needs, moment, *n, *a, *b),
+        Step::XFrames(n, a, b) => ask_frames(needs, moment, None, *n, *a, *b),
+        Step::XChannel(k, n, a, b) => ask_frames(needs, moment, Some(*k), *n, *a, *b),
         Step::XLate(m, r) => ask_earlier(needs, moment, *m, *r),
     }
 }

@@ -7,7 +7,7 @@ use crate::needs::Needs;
 use crate::slots::{begin_least, copy_out};
 use step_reads::sender;
 use tt_infer::Facts;
-use ttp_model::Instance;
+use ttp_model::{BOTH_CHANNELS, Instance, is_on};
 
 /// Asks that process `p` has to end before `q` can have started and both have run, or `p` alone where it is `q`.
 pub fn ask_window(needs: &mut Needs, moment: &Moment, p: u32, q: u32, ticks: u64) {
@@ -102,13 +102,30 @@ fn sent_within(moment: &Moment, a: u32, b: u32, m: u32) -> bool {
     moment.now.first_round(m) >= a && moment.now.late_round(m) <= b
 }
 
-/// The bytes that frames of node `n` carry at most in so many rounds.
-pub fn most_carried(facts: &Facts, n: u32, rounds: u32) -> u64 {
+/// The bytes with which message `m` counts on a channel, where it is known to be on it, or on all together where none is named, as often
+/// as it is known to be sent.
+pub fn bytes_counted(facts: &Facts, channel: Option<u32>, m: u32) -> u64
+    requires { m < length facts.now.instance.messages }
+{
+    let bytes = bytes_of(facts.instance(), m);
+    match (channel, facts.choice().channel(m)) {
+        (Some(k), Some(fixed)) if is_on(k, fixed) => bytes,
+        (Some(_), _) => 0,
+        (None, Some(fixed)) if fixed == BOTH_CHANNELS => bytes.saturating_mul(2),
+        (None, _) => bytes,
+    }
+}
+
+/// The bytes that frames of node `n` carry at most in so many rounds on a channel, or on all together where none is named.
+pub fn most_carried(facts: &Facts, channel: Option<u32>, n: u32, rounds: u32) -> u64 {
     let instance = facts.instance();
-    if (n as usize) < instance.nodes().len() {
-        u64::from(facts.setting().cap_most(n)).saturating_mul(u64::from(rounds))
-    } else {
-        0
+    if n as usize >= instance.nodes().len() {
+        return 0;
+    }
+    let carried = u64::from(facts.setting().cap_most(n)).saturating_mul(u64::from(rounds));
+    match channel {
+        Some(_) => carried,
+        None => carried.saturating_mul(u64::from(instance.cluster().channels)),
     }
 }
 
@@ -122,30 +139,38 @@ fn least_carried(facts: &Facts, n: u32) -> u64 {
     }
 }
 
-/// How many bytes the messages of node `n` have that are sent from round `a` on and before `b`.
-fn bytes_within(moment: &Moment, n: u32, a: u32, b: u32) -> u64 {
-    let instance = moment.instance();
+/// How many bytes the messages of node `n` have on a channel, or on all together, that are sent from round `a` on and before `b`.
+fn bytes_within(moment: &Moment, channel: Option<u32>, n: u32, a: u32, b: u32) -> u64 {
+    let facts = moment.facts;
     let mut bytes = 0u64;
-    for m in instance.messages_of(n) {
+    for m in facts.instance().messages_of(n) {
         if sent_within(moment, a, b, *m) {
-            bytes = bytes.saturating_add(bytes_of(instance, *m));
+            bytes = bytes.saturating_add(bytes_counted(facts, channel, *m));
         }
     }
     bytes
 }
 
-/// Asks that the messages of node `n` that are sent from round `a` on and before `b` are too many: without those that needn't
-/// be among them.
-pub fn ask_frames(needs: &mut Needs, moment: &Moment, n: u32, a: u32, b: u32) {
-    let instance = moment.instance();
-    let bytes = bytes_within(moment, n, a, b);
-    let room = most_carried(moment.facts, n, b.saturating_sub(a));
+/// Asks that the messages of node `n` that are sent from round `a` on and before `b` are too many on a channel, or on all together: without
+/// those that needn't be among them.
+pub fn ask_frames(
+    needs: &mut Needs,
+    moment: &Moment,
+    channel: Option<u32>,
+    n: u32,
+    a: u32,
+    b: u32,
+) {
+    let facts = moment.facts;
+    let bytes = bytes_within(moment, channel, n, a, b);
+    let room = most_carried(facts, channel, n, b.saturating_sub(a));
     let mut spare = bytes.saturating_sub(room).saturating_sub(1);
-    for m in instance.messages_of(n) {
-        if sent_within(moment, a, b, *m) {
+    for m in facts.instance().messages_of(n) {
+        let bytes = bytes_counted(facts, channel, *m);
+        if bytes > 0 && sent_within(moment, a, b, *m) {
             let free = moment.first.first_round(*m) >= a && moment.first.late_round(*m) <= b;
-            if !free && bytes_of(instance, *m) <= spare {
-                spare = spare.saturating_sub(bytes_of(instance, *m));
+            if !free && bytes <= spare {
+                spare = spare.saturating_sub(bytes);
             } else {
                 needs.sent_from(*m, u64::from(a));
                 needs.sent_before(*m, u64::from(b));

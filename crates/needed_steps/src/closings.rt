@@ -1,6 +1,6 @@
 //! Which closers can be taken of what is known?
 
-use crate::closers::most_carried;
+use crate::closers::{bytes_counted, most_carried};
 use crate::spans::Spans;
 use std::alloc::Global;
 use tt_infer::Facts;
@@ -54,17 +54,18 @@ fn set_to_processes(spans: &mut Spans, facts: &Facts, n: u32) {
     spans.clear();
     for p in instance.processes_on(n) {
         let wcet = instance.process_at(*p as usize).wcet;
-        spans.add(facts.es(*p), facts.le(*p), wcet);
+        spans.add(facts.es(*p), facts.le(*p), u64::from(wcet));
     }
 }
 
-/// The messages of node `n`, each from its least round until the first that is too late.
-fn set_to_messages(spans: &mut Spans, facts: &Facts, n: u32) {
-    let instance = facts.instance();
+/// The messages of node `n` that count on a channel, or on all together, each from its least round until the first that is too late.
+fn set_to_messages(spans: &mut Spans, facts: &Facts, channel: Option<u32>, n: u32) {
     spans.clear();
-    for m in instance.messages_of(n) {
-        let bytes = instance.message_at(*m as usize).bytes;
-        spans.add(facts.lo(*m), facts.top(*m), bytes);
+    for m in facts.instance().messages_of(n) {
+        let bytes = bytes_counted(facts, channel, *m);
+        if bytes > 0 {
+            spans.add(facts.lo(*m), facts.top(*m), bytes);
+        }
     }
 }
 
@@ -82,16 +83,48 @@ fn add_loads(
     Ok(())
 }
 
-/// Adds the closers of node `n` whose messages don't fit into the frames of an interval of rounds.
+/// Adds the closers of node `n` whose messages don't fit into the frames of an interval of rounds, on all channels together.
 fn add_frames(
     spans: &mut Spans,
     facts: &Facts,
     n: u32,
     found: &mut Vec<Step>,
 ) -> Result<(), MemoryFault> {
-    set_to_messages(spans, facts, n);
-    for interval in spans.overfull(most_carried(facts, n, 1))? {
+    set_to_messages(spans, facts, None, n);
+    for interval in spans.overfull(most_carried(facts, None, n, 1))? {
         add(found, Step::XFrames(n, interval.from, interval.until))?;
+    }
+    Ok(())
+}
+
+/// Adds those whose messages don't fit on one of two channels or more.
+fn add_channels(
+    spans: &mut Spans,
+    facts: &Facts,
+    n: u32,
+    found: &mut Vec<Step>,
+) -> Result<(), MemoryFault> {
+    let channels = facts.instance().cluster().channels;
+    if channels < 2 {
+        return Ok(());
+    }
+    for k in 0..channels {
+        add_channel(spans, facts, k, n, found)?;
+    }
+    Ok(())
+}
+
+/// Adds those whose messages don't fit on channel `k`.
+fn add_channel(
+    spans: &mut Spans,
+    facts: &Facts,
+    k: u32,
+    n: u32,
+    found: &mut Vec<Step>,
+) -> Result<(), MemoryFault> {
+    set_to_messages(spans, facts, Some(k), n);
+    for interval in spans.overfull(most_carried(facts, Some(k), n, 1))? {
+        add(found, Step::XChannel(k, n, interval.from, interval.until))?;
     }
     Ok(())
 }
@@ -114,6 +147,7 @@ impl Closings {
         let count = facts.instance().nodes().len() as u32;
         for n in 0..count {
             add_loads(&mut self.spans, facts, n, &mut self.found)?;
+            add_channels(&mut self.spans, facts, n, &mut self.found)?;
             add_frames(&mut self.spans, facts, n, &mut self.found)?;
         }
         Ok(())

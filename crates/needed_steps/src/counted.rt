@@ -1,5 +1,6 @@
 //! Which facts count as what a step rests on?
 
+use crate::closers::bytes_counted;
 use step_reads::{Fact, add_reads, sender};
 use tt_infer::Facts;
 use ttp_model::{Instance, MemoryFault, Step};
@@ -9,7 +10,8 @@ use ttp_model::{Instance, MemoryFault, Step};
 pub fn add_counted(facts: &Facts, step: &Step, counted: &mut Vec<Fact>) -> Result<(), MemoryFault> {
     match step {
         Step::XCycle(ring) => add_orders(ring.as_slice(), counted),
-        Step::XFrames(n, a, b) => add_frames(facts, *n, *a, *b, counted),
+        Step::XFrames(n, a, b) => add_frames(facts, None, *n, *a, *b, counted),
+        Step::XChannel(k, n, a, b) => add_frames(facts, Some(*k), *n, *a, *b, counted),
         Step::XLate(m, _) => add_late(facts.instance(), *m, counted),
         Step::UsSettled(p) => add_settled(facts, *p, counted),
         Step::EsRelease(_)
@@ -54,16 +56,18 @@ fn add_orders(ring: &[u32], counted: &mut Vec<Fact>) -> Result<(), MemoryFault> 
     Ok(())
 }
 
-/// Adds the rounds of the messages of node `n` that are sent from round `a` on and before `b`.
+/// Adds the rounds of the messages of node `n` that are sent from round `a` on and before `b` and count on a channel, or on all together.
 fn add_frames(
     facts: &Facts,
+    channel: Option<u32>,
     n: u32,
     a: u32,
     b: u32,
     counted: &mut Vec<Fact>,
 ) -> Result<(), MemoryFault> {
     for m in facts.instance().messages_of(n) {
-        if facts.lo(*m) >= a && facts.top(*m) <= b {
+        let counts = bytes_counted(facts, channel, *m) > 0;
+        if counts && facts.lo(*m) >= a && facts.top(*m) <= b {
             add_rounds(*m, counted)?;
         }
     }

@@ -47,13 +47,9 @@ impl Spans {
     }
 
     /// One more, where there is room.
-    pub fn add(&mut self, from: u32, until: u32, size: u32) {
+    pub fn add(&mut self, from: u32, until: u32, size: u64) {
         if self.count < self.items.len() {
-            self.items[self.count] = Span {
-                from,
-                until,
-                size: u64::from(size),
-            };
+            self.items[self.count] = Span { from, until, size };
             self.count += 1;
         }
     }

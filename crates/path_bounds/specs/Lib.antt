@@ -7,7 +7,7 @@ pub use Rattle.tt_choice.specs.Choice
 pub use Rattle.sought_plans.specs.Known
 pub use Rattle.tt_infer.specs.Facts
 pub use Rattle.tt_infer.specs.Leaves
-pub use Rattle.step_reads.specs.Targets
+pub use Rattle.step_logs.specs.Targets
 pub use Rattle.step_logs.specs.Journal
 pub use Rattle.step_logs.specs.PlansBelow
 pub use Rattle.step_logs.specs.Propagator

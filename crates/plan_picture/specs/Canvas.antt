@@ -8,10 +8,6 @@ use Rattle.plan_picture.specs.declared.canvas.Canvas.{Canvas}
 use Rattle.plan_picture.specs.declared.canvas.TheConstants.{MOST_CYCLE}
 use Rattle.plan_picture.specs.Limits.{most_width}
 
--- how many channels the bus has
-abbrev pub channels : ℕ
-channels = 1
-
 -- how long the cycle is, in ticks
 abbrev pub cycle_ticks : Instance → Plan → ℕ
 cycle_ticks i plan = cycle_rounds i plan * round_length i.cluster plan.caps
@@ -21,10 +17,14 @@ cycle_ticks i plan = cycle_rounds i plan * round_length i.cluster plan.caps
 abbrev pub canvas_of : Instance → Plan → ℕ → Canvas
 canvas_of i plan width = record {
   width = width;
-  height = 52 + 34 * (channels + length i.nodes) + 8;
+  height = 52 + 34 * (i.cluster.channels + length i.nodes) + 8;
   across = width - 120 - 32;
   cycle = cycle_ticks i plan;
 }
+
+-- the row of a node: the channels' rows come first, and then the nodes' in the instance's order
+abbrev pub row_of : Instance → ℕ → ℕ
+row_of i n = i.cluster.channels + n
 
 -- where the rectangles of a row begin, in pixels from the top
 abbrev pub top_of : ℕ → ℕ

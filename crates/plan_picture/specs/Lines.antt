@@ -1,34 +1,38 @@
 -- How the lines of messages are drawn. Own profile.
-use Rattle.std.specs.Prelude.{ℕ, ◌+◌, ◌≤◌, List, ◌++◌, codes, decimal, length}
+use Rattle.std.specs.Prelude.{ℕ, ◌+◌, ◌-◌, ◌≤◌, List, ◌++◌, codes, decimal, length, min}
 use Rattle.std.specs.List.{flat_map, range_with_len}
 use Rattle.ttp_model.specs.declared.limits.TheConstants.{MOST_TICKS}
 use Rattle.ttp_model.specs.declared.plan.Plan.{Plan}
 use Rattle.ttp_model.specs.Instance.{Instance, message_at, node_of, process_at, source_of}
-use Rattle.ttp_model.specs.Plans.{end_of, sent_from, sent_until, start_of}
+use Rattle.ttp_model.specs.Plans.{channel_of, end_of, sent_from, sent_until, start_of}
 use Rattle.plan_picture.specs.declared.canvas.Canvas.{Canvas}
 use Rattle.plan_picture.specs.declared.lines.Line.{Line}
-use Rattle.plan_picture.specs.Canvas.{channels, place_text, top_of}
+use Rattle.plan_picture.specs.Canvas.{place_text, row_of, top_of}
 
--- how far down the rectangles of the channel end
-abbrev pub channel_bottom : ℕ
-channel_bottom = top_of 0 + 24
+-- the row that a message's lines lead to and from: its channel's, and the lower of the two where it is on both
+abbrev pub sent_row : Instance → Plan → ℕ → ℕ
+sent_row i plan m = min (channel_of plan m) (i.cluster.channels - 1)
+
+-- how far down the rectangles of that row end
+abbrev pub sent_bottom : Instance → Plan → ℕ → ℕ
+sent_bottom i plan m = top_of (sent_row i plan m) + 24
 
 -- from the end of a message's sender to the start of its slot
 abbrev pub sending_of : Instance → Plan → ℕ → Line
 sending_of i plan m = record {
   from = end_of i plan (message_at i m).sender;
-  from_height = top_of (channels + source_of i m);
+  from_height = top_of (row_of i (source_of i m));
   to = sent_from i plan m;
-  to_height = channel_bottom;
+  to_height = sent_bottom i plan m;
 }
 
 -- from the end of a message's slot to the start of its receiver q
 abbrev pub delivery_of : Instance → Plan → ℕ → ℕ → Line
 delivery_of i plan m q = record {
   from = sent_until i plan m;
-  from_height = channel_bottom;
+  from_height = sent_bottom i plan m;
   to = start_of plan q;
-  to_height = top_of (channels + node_of i q);
+  to_height = top_of (row_of i (node_of i q));
 }
 
 -- both of its ends are within any horizon

@@ -15,7 +15,7 @@ use Rattle.plan_picture.specs.Lines.{lines_text}
 use Rattle.plan_picture.specs.Processes.{processes_text}
 use Rattle.plan_picture.specs.Rows.{rows_text}
 use Rattle.plan_picture.specs.Scale.{delay_text, scale_text}
-use Rattle.plan_picture.specs.Slots.{slots_text}
+use Rattle.plan_picture.specs.Slots.{bands_text, slots_text}
 
 -- how many slots the cycle has, whatever channels there are
 abbrev pub cycle_slots : Instance → Plan → ℕ
@@ -65,8 +65,7 @@ head_text c i plan =
 
 -- the slots that carry nothing, with a white inside
 abbrev pub hollow_text : Canvas → Instance → Plan → Shown → List ℕ
-hollow_text c i plan All =
-    slots_text c i plan Nothing ++ (codes "<rect y=\"60\" width=\"" ++ (decimal c.cycle ++ codes "\" height=\"18\" fill=\"#fff\" pointer-events=\"none\"/>\n"))
+hollow_text c i plan All = slots_text c i plan Nothing ++ bands_text c i
 hollow_text c i plan Used = []
 
 -- what opens the part whose units are ticks, from left to right

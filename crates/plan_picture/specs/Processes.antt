@@ -1,5 +1,5 @@
 -- How processes are drawn. Own profile.
-use Rattle.std.specs.Prelude.{ℕ, ◌+◌, List, ◌++◌, codes, decimal, length, min}
+use Rattle.std.specs.Prelude.{ℕ, List, ◌++◌, codes, decimal, length, min}
 use Rattle.std.specs.List.{flat_map, range_with_len}
 use Rattle.ttp_model.specs.declared.parts.Process.{Process}
 use Rattle.ttp_model.specs.declared.plan.Plan.{Plan}
@@ -7,13 +7,13 @@ use Rattle.ttp_model.specs.Instance.{Instance, node_at, node_of, process_at}
 use Rattle.ttp_model.specs.Plans.{start_of}
 use Rattle.plan_picture.specs.declared.canvas.Canvas.{Canvas}
 use Rattle.plan_picture.specs.declared.rectangle.Rectangle.{Rectangle}
-use Rattle.plan_picture.specs.Canvas.{channels}
+use Rattle.plan_picture.specs.Canvas.{row_of}
 use Rattle.plan_picture.specs.Rectangles.{opened_text}
 
 -- the rectangle of a process: in its node's row, at its start, as long as it runs
 abbrev pub process_rectangle : Instance → Plan → ℕ → Rectangle
 process_rectangle i plan p = record {
-  row = channels + node_of i p;
+  row = row_of i (node_of i p);
   node = node_of i p;
   start = start_of plan p;
   length = (process_at i p).wcet;

@@ -1,9 +1,9 @@
 -- How the rows are named. Own profile.
-use Rattle.std.specs.Prelude.{ℕ, ◌+◌, List, ◌++◌, codes, decimal, length}
+use Rattle.std.specs.Prelude.{ℕ, List, ◌++◌, codes, decimal, length}
 use Rattle.std.specs.List.{flat_map, range_with_len}
 use Rattle.ttp_model.specs.Instance.{Instance, node_at}
 use Rattle.plan_picture.specs.declared.canvas.Canvas.{Canvas}
-use Rattle.plan_picture.specs.Canvas.{channels, top_of}
+use Rattle.plan_picture.specs.Canvas.{row_of, top_of}
 
 -- the ground of a row
 unfoldable pub track_text : Canvas → ℕ → List ℕ
@@ -28,11 +28,11 @@ label_text name top =
 -- the row of a node, with its colour
 unfoldable pub node_text : Canvas → Instance → ℕ → List ℕ
 node_text c i n =
-    track_text c (channels + n) ++ (colour_text n (top_of (channels + n)) ++ label_text (node_at i n).name (top_of (channels + n)))
+    track_text c (row_of i n) ++ (colour_text n (top_of (row_of i n)) ++ label_text (node_at i n).name (top_of (row_of i n)))
 
 -- the rows of the channels
-unfoldable pub channels_text : Canvas → List ℕ
-channels_text c = flat_map (channel_text c) (range_with_len 0 channels)
+unfoldable pub channels_text : Canvas → Instance → List ℕ
+channels_text c i = flat_map (channel_text c) (range_with_len 0 i.cluster.channels)
 
 -- those of the nodes, in the instance's order
 unfoldable pub nodes_text : Canvas → Instance → List ℕ
@@ -40,4 +40,4 @@ nodes_text c i = flat_map (node_text c i) (range_with_len 0 (length i.nodes))
 
 -- and both
 unfoldable pub rows_text : Canvas → Instance → List ℕ
-rows_text c i = channels_text c ++ nodes_text c i
+rows_text c i = channels_text c i ++ nodes_text c i

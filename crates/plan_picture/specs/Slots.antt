@@ -1,5 +1,5 @@
--- How the slots of a channel are drawn. Own profile.
-use Rattle.std.specs.Prelude.{ℕ, ◌-◌, ◌==◌, Bool, not, List, [], ◌∷◌, ◌++◌, codes, decimal, if◌then◌else◌, length}
+-- How the slots are drawn, in the rows of the channels. Own profile.
+use Rattle.std.specs.Prelude.{ℕ, ◌+◌, ◌-◌, ◌==◌, Bool, not, List, [], ◌∷◌, ◌++◌, codes, decimal, if◌then◌else◌, length}
 use Rattle.std.specs.List.{flat_map, range_with_len}
 use Rattle.ttp_model.specs.declared.plan.Plan.{Plan}
 use Rattle.ttp_model.specs.Instance.{Instance, message_at, node_at}
@@ -10,6 +10,7 @@ use Rattle.plan_picture.specs.declared.canvas.Canvas.{Canvas}
 use Rattle.plan_picture.specs.declared.rectangle.Rectangle.{Rectangle}
 use Rattle.plan_picture.specs.declared.slots.Load.{Load}
 use Rattle.plan_picture.specs.declared.slots.Load.TheVariants.{Messages, Nothing}
+use Rattle.plan_picture.specs.Canvas.{top_of}
 use Rattle.plan_picture.specs.Rectangles.{opened_text, rectangle_text}
 
 -- the rectangle of a slot
@@ -66,14 +67,27 @@ box_text c i Messages s r = used_slot_text c i s r
 abbrev pub slot_piece : Canvas → Instance → Load → Slot → List ℕ
 slot_piece c i load s = flat_map (box_text c i load s) (rectangles_with load s)
 
--- of the slot at position k of round r, on channel 0
-unfoldable pub slot_at : Canvas → Instance → Plan → Load → ℕ → ℕ → List ℕ
-slot_at c i plan load r k = slot_piece c i load (slot_of i plan r k 0)
+-- of the slot at position k of round r, on a channel
+unfoldable pub slot_at : Canvas → Instance → Plan → Load → ℕ → ℕ → ℕ → List ℕ
+slot_at c i plan load r k channel = slot_piece c i load (slot_of i plan r k channel)
+
+-- on each channel
+unfoldable pub position_slots : Canvas → Instance → Plan → Load → ℕ → ℕ → List ℕ
+position_slots c i plan load r k = flat_map (slot_at c i plan load r k) (range_with_len 0 i.cluster.channels)
 
 -- those of a round, in the order of its slots
 unfoldable pub round_slots : Canvas → Instance → Plan → Load → ℕ → List ℕ
-round_slots c i plan load r = flat_map (slot_at c i plan load r) (range_with_len 0 (length i.nodes))
+round_slots c i plan load r = flat_map (position_slots c i plan load r) (range_with_len 0 (length i.nodes))
 
 -- those of the cycle, round by round
 unfoldable pub slots_text : Canvas → Instance → Plan → Load → List ℕ
 slots_text c i plan load = flat_map (round_slots c i plan load) (range_with_len 0 (cycle_rounds i plan))
+
+-- a white band in the row of a channel, which leaves three pixels of the rectangles above and below it
+unfoldable pub band_text : Canvas → ℕ → List ℕ
+band_text c channel =
+    codes "<rect y=\"" ++ (decimal (top_of channel + 3) ++ (codes "\" width=\"" ++ (decimal c.cycle ++ codes "\" height=\"18\" fill=\"#fff\" pointer-events=\"none\"/>\n")))
+
+-- one for each channel
+unfoldable pub bands_text : Canvas → Instance → List ℕ
+bands_text c i = flat_map (band_text c) (range_with_len 0 i.cluster.channels)

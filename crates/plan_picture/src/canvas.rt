@@ -3,7 +3,7 @@
 ghost use Rattle.std.specs.Prelude.{◌≡◌, ◌+◌, ◌*◌, ◌<◌, ◌≤◌, Some, length};
 ghost use Rattle.ttp_model.specs.Plans.{IsValid};
 ghost use Rattle.plan_picture.specs.Limits.{least_width, most_width};
-ghost use Rattle.plan_picture.specs.Canvas.{IsCanvas, canvas_of, place_of, tenths_text, top_of};
+ghost use Rattle.plan_picture.specs.Canvas.{IsCanvas, canvas_of, place_of, row_of, tenths_text, top_of};
 
 use std::fmt;
 use tt_layout::{Layout, cycle_rounds};
@@ -16,9 +16,6 @@ pub const MOST_WIDTH: u32 = 10_000;
 
 /// No cycle has more ticks, by far; ten times so many by the pixels of a picture are a number of 64 bits.
 pub const MOST_CYCLE: u64 = 100_000_000_000_000;
-
-/// How many channels the bus has.
-pub const CHANNELS: u32 = 1;
 
 /// The pixels on the left of tick 0, where names stand.
 const LEFT: u32 = 120;
@@ -55,13 +52,22 @@ pub fn canvas_of(instance: &Instance, plan: &Plan, width: u32) -> Canvas
     ensures sound { IsCanvas result }
 {
     let layout = Layout::of(instance, plan.order.as_slice(), plan.caps.as_slice());
-    let rows = u64::from(CHANNELS) + instance.nodes().len() as u64;
+    let rows = u64::from(instance.cluster().channels) + instance.nodes().len() as u64;
     Canvas {
         width: width as u64,
         height: u64::from(HEAD) + u64::from(ROW) * rows + u64::from(FOOT),
         across: (width - LEFT - RIGHT) as u64,
         cycle: u64::from(cycle_rounds(instance, plan)) * layout.round_length(),
     }
+}
+
+/// The row of a node: the channels' rows come first, and then the nodes' in the instance's order.
+pub fn row_of(instance: &Instance, node: u32) -> u32
+    requires { node < length instance.now.nodes }
+    ensures { result ≡ row_of instance.now node }
+{
+    let _nodes = instance.nodes();
+    instance.cluster().channels + node
 }
 
 /// Where the rectangles of a row begin, in pixels from the top of the picture.

@@ -10,7 +10,7 @@ ghost use Rattle.plan_sheets.specs.Slots.{slot_of};
 ghost use Rattle.plan_picture.specs.declared.canvas.Canvas.{Canvas};
 ghost use Rattle.plan_picture.specs.declared.picture.Shown.TheVariants.{All, Used};
 ghost use Rattle.plan_picture.specs.declared.slots.Load.TheVariants.{Nothing};
-ghost use Rattle.plan_picture.specs.Canvas.{channels, place_of};
+ghost use Rattle.plan_picture.specs.Canvas.{place_of};
 ghost use Rattle.plan_picture.specs.Lines.{LeadsOn, delivery_of, sending_of};
 ghost use Rattle.plan_picture.specs.Processes.{process_rectangle};
 ghost use Rattle.plan_picture.specs.Shapes.{EndsBy, rectangles_of};
@@ -32,7 +32,7 @@ pub fn each_slot_and_process_has_its_rectangle()
         → (slot_rectangle (slot_of i plan r k c)).start ≡ slot_start i.cluster plan.order plan.caps (slice_index plan.order k) r }
     ensures length { (i : Instance) (plan : Plan) (r k c : ℕ)
         → (slot_rectangle (slot_of i plan r k c)).length ≡ duration i.cluster plan.caps (slice_index plan.order k) }
-    ensures process_row { (i : Instance) (plan : Plan) (p : ℕ) → (process_rectangle i plan p).row ≡ channels + node_of i p }
+    ensures process_row { (i : Instance) (plan : Plan) (p : ℕ) → (process_rectangle i plan p).row ≡ i.cluster.channels + node_of i p }
     ensures process_start { (i : Instance) (plan : Plan) (p : ℕ) → (process_rectangle i plan p).start ≡ start_of plan p }
     ensures process_length { (i : Instance) (plan : Plan) (p : ℕ) → (process_rectangle i plan p).length ≡ (process_at i p).wcet }
 {}

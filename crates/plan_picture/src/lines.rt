@@ -3,16 +3,13 @@
 ghost use Rattle.std.specs.Prelude.{◌≡◌, ◌+◌, ◌++◌, ◌<◌, OnOk, Some, length, string_bytes};
 ghost use Rattle.ttp_model.specs.Plans.{IsValid};
 ghost use Rattle.plan_picture.specs.Canvas.{IsCanvas};
-ghost use Rattle.plan_picture.specs.Lines.{IsNear, deliveries_text, delivery_of, delivery_text, delivery_title, line_text, lines_text, sending_of, sending_text, sending_title};
+ghost use Rattle.plan_picture.specs.Lines.{IsNear, deliveries_text, delivery_of, delivery_text, delivery_title, line_text, lines_text, sending_of, sending_text, sending_title, sent_bottom};
 
-use crate::canvas::{CHANNELS, Canvas, place_of, top_of};
+use crate::canvas::{Canvas, place_of, row_of, top_of};
 use std::alloc::AllocError;
 use std::fmt;
 use tt_layout::Layout;
 use ttp_model::{Instance, Plan, end_of};
-
-/// The row of the channel that messages are sent on.
-const CHANNEL: u32 = 0;
 
 /// A line of a message, from a tick to another: up from its sender's row to the channel's, or down from there to a
 /// receiver's.
@@ -28,11 +25,15 @@ pub struct Line {
     pub to_height: u64,
 }
 
-/// How far down the rectangles of the channel end, in pixels.
-fn channel_bottom() -> u64
-    ensures { result ≡ 81 }
+/// How far down the rectangles end in the row of a message's channel, in pixels; of one on both, in the lower of the two.
+fn sent_bottom(instance: &Instance, plan: &Plan, m: usize) -> u64
+    requires valid { IsValid instance.now plan.now }
+    requires inside { m < length instance.now.messages }
+    ensures { result ≡ sent_bottom instance.now plan.now m }
 {
-    top_of(CHANNEL) + 24
+    let last = instance.cluster().channels - 1;
+    let row = plan.channels.as_slice()[m].min(last);
+    top_of(row) + 24
 }
 
 /// The line from the end of a message's sender to the start of its slot.
@@ -45,9 +46,9 @@ pub fn sending_of(instance: &Instance, plan: &Plan, m: usize) -> Line
     let node = instance.source_of(m);
     Line {
         from: end_of(instance, plan, instance.message_at(m).sender as usize),
-        from_height: top_of(CHANNELS + node),
+        from_height: top_of(row_of(instance, node)),
         to: layout.slot_start(node, plan.rounds.as_slice()[m]),
-        to_height: channel_bottom(),
+        to_height: sent_bottom(instance, plan, m),
     }
 }
 
@@ -62,9 +63,9 @@ pub fn delivery_of(instance: &Instance, plan: &Plan, m: usize, q: usize) -> Line
     let node = instance.source_of(m);
     Line {
         from: layout.slot_end(node, plan.rounds.as_slice()[m]),
-        from_height: channel_bottom(),
+        from_height: sent_bottom(instance, plan, m),
         to: plan.starts.as_slice()[q] as u64,
-        to_height: top_of(CHANNELS + instance.node_of(q)),
+        to_height: top_of(row_of(instance, instance.node_of(q))),
     }
 }
 

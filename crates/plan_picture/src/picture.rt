@@ -13,7 +13,7 @@ use crate::lines::put_lines;
 use crate::processes::put_processes;
 use crate::rows::put_rows;
 use crate::scale::{put_delay, put_scale};
-use crate::slots::{Load, put_slots};
+use crate::slots::{Load, put_bands, put_slots};
 use std::alloc::{AllocError, Global};
 use std::fmt;
 use tt_layout::{Layout, cycle_rounds};
@@ -238,11 +238,7 @@ fn put_hollow_slots(
         Shown::Used => Ok(()),
         Shown::All => {
             put_slots(alloc, text, canvas, instance, plan, Load::Nothing)?;
-            let cycle = canvas.cycle;
-            writeln!(
-                text,
-                "<rect y=\"60\" width=\"{cycle}\" height=\"18\" fill=\"#fff\" pointer-events=\"none\"/>"
-            )?;
+            put_bands(text, canvas, instance)?;
             Ok(())
         }
     }

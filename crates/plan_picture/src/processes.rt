@@ -4,7 +4,7 @@ ghost use Rattle.std.specs.Prelude.{◌≡◌, ◌++◌, ◌<◌, OnOk, Some, le
 ghost use Rattle.ttp_model.specs.Plans.{IsValid};
 ghost use Rattle.plan_picture.specs.Processes.{process_name_text, process_rectangle, process_text, process_title_text, process_words, processes_text};
 
-use crate::canvas::{CHANNELS, Canvas};
+use crate::canvas::{Canvas, row_of};
 use crate::rectangle::{Rectangle, put_opened};
 use std::alloc::AllocError;
 use std::fmt;
@@ -16,10 +16,9 @@ pub fn process_rectangle(instance: &Instance, plan: &Plan, p: usize) -> Rectangl
     requires inside { p < length instance.now.processes }
     ensures { result ≡ process_rectangle instance.now plan.now p }
 {
-    let _nodes = instance.nodes();
     let process = instance.process_at(p);
     Rectangle {
-        row: CHANNELS + process.node,
+        row: row_of(instance, process.node),
         node: process.node,
         start: plan.starts.as_slice()[p] as u64,
         length: process.wcet as u64,

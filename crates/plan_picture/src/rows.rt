@@ -3,7 +3,7 @@
 ghost use Rattle.std.specs.Prelude.{◌≡◌, ◌++◌, ◌<◌, OnOk, length, string_bytes};
 ghost use Rattle.plan_picture.specs.Rows.{channel_text, channels_text, colour_text, label_text, node_text, nodes_text, rows_text, track_text};
 
-use crate::canvas::{CHANNELS, Canvas, top_of};
+use crate::canvas::{Canvas, row_of, top_of};
 use std::alloc::AllocError;
 use ttp_model::Instance;
 
@@ -12,15 +12,16 @@ use ttp_model::Instance;
 pub fn put_rows(text: &mut String, canvas: &Canvas, instance: &Instance) -> Result<(), AllocError>
     ensures { OnOk result (string_bytes text.new ≡ string_bytes text.old ++ rows_text canvas.now instance.now) }
 {
-    put_channels(text, canvas)?;
+    put_channels(text, canvas, instance)?;
     put_nodes(text, canvas, instance)
 }
 
 /// Draws the names of the channels' rows.
-fn put_channels(text: &mut String, canvas: &Canvas) -> Result<(), AllocError>
-    ensures { OnOk result (string_bytes text.new ≡ string_bytes text.old ++ channels_text canvas.now) }
+fn put_channels(text: &mut String, canvas: &Canvas, instance: &Instance) -> Result<(), AllocError>
+    ensures { OnOk result (string_bytes text.new ≡ string_bytes text.old ++ channels_text canvas.now instance.now) }
 {
-    for channel in 0..CHANNELS {
+    let channels = instance.cluster().channels;
+    for channel in 0..channels {
         put_channel(text, canvas, channel)?;
     }
     Ok(())
@@ -74,7 +75,7 @@ fn put_node(
     ensures { OnOk result (string_bytes text.new ≡ string_bytes text.old ++ node_text canvas.now instance.now node) }
 {
     let name = instance.nodes()[node].name.as_str();
-    let row = CHANNELS + node as u32;
+    let row = row_of(instance, node as u32);
     let top = top_of(row);
     put_track(text, canvas, row)?;
     put_colour(text, node, top)?;

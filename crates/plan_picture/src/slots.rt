@@ -1,17 +1,18 @@
-//! How are the slots of a channel drawn?
+//! How are the slots drawn, in the rows of the channels?
 
-ghost use Rattle.std.specs.Prelude.{◌≡◌, ◌≤◌, ◌++◌, ◌<◌, All, OnOk, Some, length, string_bytes};
+ghost use Rattle.std.specs.Prelude.{◌≡◌, ◌≤◌, ◌++◌, ◌<◌, ◌↔◌, All, Contains, IsTrue, OnOk, Some, length, string_bytes};
 ghost use Rattle.ttp_model.specs.Plans.{IsValid};
+ghost use Rattle.tt_layout.specs.Layout.{timing};
 ghost use Rattle.plan_sheets.specs.Slots.{IsSlotRow};
-ghost use Rattle.plan_picture.specs.Slots.{has_load, hollow_slot_text, names_text, round_slots, slot_box_text, slot_piece, slot_rectangle, slot_title_text, slot_words, slots_text, used_slot_text};
+ghost use Rattle.plan_picture.specs.Slots.{band_text, bands_text, has_load, hollow_slot_text, names_text, position_slots, round_slots, slot_box_text, slot_piece, slot_rectangle, slot_title_text, slot_words, slots_text, used_slot_text};
 
-use crate::canvas::Canvas;
+use crate::canvas::{Canvas, top_of};
 use crate::rectangle::{Rectangle, put_opened};
 use plan_sheets::{Slot, slot_of};
 use std::alloc::{AllocError, Global};
 use std::fmt;
 use tt_layout::{Layout, cycle_rounds};
-use ttp_model::{Instance, MemoryFault, Plan};
+use ttp_model::{Instance, MOST_NODES, MemoryFault, Plan};
 
 /// Which slots.
 #[derive(Clone, Copy, Debug, PartialEq, Eq)]
@@ -105,10 +106,62 @@ fn put_round(
     let count = instance.nodes().len();
     let sends = plan.rounds.contains(round);
     for k in 0..count {
-        let slot = slot_of(alloc, instance, plan, &layout, round, k, 0, sends)?;
+        put_position(
+            alloc, text, canvas, instance, plan, &layout, load, round, k, sends,
+        )?;
+    }
+    Ok(())
+}
+
+/// Draws the slot at position `k` of a round on each channel. Whether any message is sent in the round is known.
+fn put_position(
+    alloc: Global,
+    text: &mut String,
+    canvas: &Canvas,
+    instance: &Instance,
+    plan: &Plan,
+    layout: &Layout,
+    load: Load,
+    round: u32,
+    k: usize,
+    sends: bool,
+) -> Result<(), MemoryFault>
+    requires valid { IsValid instance.now plan.now }
+    requires layout { layout.now ≡ timing instance.now.cluster plan.now.order plan.now.caps }
+    requires inside { k < length instance.now.nodes }
+    requires few { k < MOST_NODES }
+    requires sends { IsTrue sends ↔ Contains plan.now.rounds round }
+    ensures { OnOk result (string_bytes text.new ≡ string_bytes text.old ++ position_slots canvas.now instance.now plan.now load round k) }
+{
+    let channels = instance.cluster().channels;
+    for channel in 0..channels {
+        let slot = slot_of(alloc, instance, plan, layout, round, k, channel, sends)?;
         put_slot(text, canvas, instance, &slot, load)?;
     }
     Ok(())
+}
+
+/// Covers the inside of the rectangles in the channels' rows with white.
+pub fn put_bands(text: &mut String, canvas: &Canvas, instance: &Instance) -> Result<(), AllocError>
+    ensures { OnOk result (string_bytes text.new ≡ string_bytes text.old ++ bands_text canvas.now instance.now) }
+{
+    let channels = instance.cluster().channels;
+    for channel in 0..channels {
+        put_band(text, canvas, channel)?;
+    }
+    Ok(())
+}
+
+/// Does so in the row of a channel.
+#[tactic(auto, unfolding(crate::specs::Slots::band_text))]
+fn put_band(text: &mut String, canvas: &Canvas, channel: u32) -> Result<(), AllocError>
+    ensures { OnOk result (string_bytes text.new ≡ string_bytes text.old ++ band_text canvas.now channel) }
+{
+    let (top, cycle) = (top_of(channel) + 3, canvas.cycle);
+    writeln!(
+        text,
+        "<rect y=\"{top}\" width=\"{cycle}\" height=\"18\" fill=\"#fff\" pointer-events=\"none\"/>"
+    )
 }
 
 /// Draws a slot with such a load, and no other.

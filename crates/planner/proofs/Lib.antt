@@ -1,4 +1,5 @@
 pub mod Shown
+pub mod AnswerVersions
 pub mod OwnCertificates
 pub mod Searched
 pub mod Standing

@@ -26,7 +26,7 @@ use Rattle.search_turns.specs.declared.outcome.Why.TheVariants.{Budget, Memory}
 use Rattle.tree_gathering.specs.Trees.{IsTreeOf, pieces_of}
 use Rattle.tree_gathering.specs.Gathering.{HasGoal, HaveGoals, IsGathered}
 use Rattle.dropped_decisions.specs.Branches.{is_branch, branches}
-use Rattle.planner.specs.Answers.{is_closed_at, worked_at, IsBestAbove, IsLeastGoal, IsCause, IsOutcome}
+use Rattle.planner.specs.Answers.{is_closed_at, worked_at, in_answer, IsBestAbove, IsLeastGoal, IsCause, IsOutcome}
 use Rattle.search_turns.specs.Searching.{limit_of, IsFound, IsWorkedOut}
 use Rattle.planner.specs.Searched.{IsClosedLeaf, ReachesGoal, IsSearched}
 use Rattle.search_turns.specs.Ends.{IsAnswerOf}
@@ -139,6 +139,9 @@ proved i budget why best worked closed low cert w is gathered =
     gathered_proves i (worked ++ closed) low cert is.right
     (omega (arith, low_small i (limit_of i best) low closed is.least, limit_small i best w is.found)) gathered
 
+told_proves : (i : Instance) (cert : Cert) → Proves i cert → Proves i (in_answer i cert)
+told_proves i cert proves = record { low = proves.low; tree = proves.tree }
+
 best_above : (i : Instance) (low : ℕ) (best : Option (Plan × ℕ)) → IsFound i best → low < limit_of i best → IsBestAbove i low best
 best_above i low None found less = tt
 best_above i low (Some best) found less = (found, less)
@@ -166,26 +169,29 @@ same_stopped i options cause why bound low found best own cert e f g h is =
     let same : Stopped why low best cert ≡ Stopped cause bound found own = cc in
     subst (IsOutcome i options) same is
 
-pub search_answers : (i : Instance) (options : Options) (why : Why) (best : Option (Plan × ℕ)) (worked closed : List Piece) (low : ℕ) (cert : Cert) (outcome : Outcome) → IsInstance i → IsSearched i options.budget why best worked closed low → IsGathered low (worked ++ closed) cert → IsAnswerOf i why best low cert outcome
+pub search_answers : (i : Instance) (options : Options) (why : Why) (best : Option (Plan × ℕ)) (worked closed : List Piece) (low : ℕ) (cert : Cert) (outcome : Outcome) → IsInstance i → IsSearched i options.budget why best worked closed low → IsGathered low (worked ++ closed) cert → IsAnswerOf i why best low (in_answer i cert) outcome
     → IsOutcome i options outcome
 search_answers i options why best worked closed low cert (Optimal plan ticks own) w is gathered answer =
     let found : IsFound i (Some (plan, ticks)) = subst (IsFound i) answer.0 is.found in
     subst (λ (c : Cert). IsOutcome i options (Optimal plan ticks c)) (sym answer.2) (record {
-      proves = proved i options.budget why best worked closed low cert w is gathered;
+      proves = told_proves i cert (proved i options.budget why best worked closed low cert w is gathered);
+      version = refl;
       within = omega (arith, within_budget i (limit_of i best) low worked closed cert.tree gathered.tree is.leaves, is.within);
       says = (found, gathered.bound ∙ answer.1);
     })
 search_answers i options why best worked closed low cert (Infeasible own) w is gathered answer =
     subst (λ (c : Cert). IsOutcome i options (Infeasible c)) (sym answer.2) (record {
-      proves = proved i options.budget why best worked closed low cert w is gathered;
+      proves = told_proves i cert (proved i options.budget why best worked closed low cert w is gathered);
+      version = refl;
       within = omega (arith, within_budget i (limit_of i best) low worked closed cert.tree gathered.tree is.leaves, is.within);
       says = gathered.bound ∙ answer.1 ∙ ap (limit_of i) answer.0;
     })
 search_answers i options why best worked closed low cert (Stopped cause bound found own) w is gathered answer =
     let limit = limit_of i best in
     let reaches = reached_below low limit closed is.least answer.0 in
-    let stopped : IsOutcome i options (Stopped why low best cert) = record {
-      proves = proved i options.budget why best worked closed low cert w is gathered;
+    let stopped : IsOutcome i options (Stopped why low best (in_answer i cert)) = record {
+      proves = told_proves i cert (proved i options.budget why best worked closed low cert w is gathered);
+      version = refl;
       within = omega (arith, within_budget i limit low worked closed cert.tree gathered.tree is.leaves, is.within);
       says = record {
         bound = gathered.bound;
@@ -193,7 +199,7 @@ search_answers i options why best worked closed low cert (Stopped cause bound fo
         most = omega (arith, answer.0, limit_small i best w is.found);
         path = path_below i limit low closed is.leaves reaches;
         above = best_above i low best is.found answer.0;
-        cause = cause_is i options.budget why best worked closed low cert gathered.tree is.leaves is.goals is.cause;
+        cause = cause_is i options.budget why best worked closed low (in_answer i cert) gathered.tree is.leaves is.goals is.cause;
       };
     } in
-    same_stopped i options cause why bound low found best own cert answer.1 answer.2 answer.3 answer.4 stopped
+    same_stopped i options cause why bound low found best own (in_answer i cert) answer.1 answer.2 answer.3 answer.4 stopped

@@ -2,3 +2,4 @@ pub mod Answers
 pub mod Searched
 pub mod Closing
 pub mod Crew
+pub use Rattle.search_turns.specs.declared.outcome

@@ -5,9 +5,10 @@ ghost use Rattle.certificate.specs.Cert.{Cert};
 ghost use Rattle.tree_check.specs.Proofs.{Proves};
 ghost use Rattle.dropped_decisions.specs.Branches.{branches};
 ghost use Rattle.search_turns.specs.declared.outcome.Options.{Options};
-ghost use Rattle.planner.specs.Answers.{certified_by, IsOutcome};
+ghost use Rattle.planner.specs.Answers.{answer_version, certified_by, IsOutcome};
 ghost use Rattle.search_turns.specs.Searching.{limit_of, IsFound};
 
+use crate::versions::answer_version;
 use certificate::Cert;
 use dropped_decisions::{Standing, proof_of, without_unused};
 use search_turns::{Outcome, Search, limit};
@@ -44,6 +45,7 @@ pub fn lean_proof(
 ) -> Option<Cert>
     requires { IsFound instance.now search.now.best }
     ensures proves { IfSome result (Proves instance.now) }
+    ensures version { IfSome result (λ cert. cert.version ≡ answer_version instance.now) }
     ensures low { IfSome result (λ cert. cert.low ≡ limit_of instance.now search.now.best) }
     ensures few { IfSome result (λ cert. branches cert.tree ≤ length search.now.pieces.items) }
 {
@@ -52,7 +54,9 @@ pub fn lean_proof(
     }
     let low = limit(instance, &search.best);
     let standing = standing(alloc, search).ok()?;
-    proof_of(alloc, instance, low, standing, search.pieces.len()).ok()?
+    let version = answer_version(instance);
+    let most = search.pieces.len();
+    proof_of(alloc, instance, version, low, standing, most).ok()?
 }
 
 /// The same answer, with a certificate without the branches that nothing below one of their children uses. What is said of a

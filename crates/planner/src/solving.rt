@@ -7,7 +7,7 @@ ghost use Rattle.tree_check.specs.Proofs.{Proves};
 ghost use Rattle.dropped_decisions.specs.Branches.{branches};
 ghost use Rattle.tree_gathering.specs.Gathering.{AreShallow, HaveGoals, IsGathered};
 ghost use Rattle.search_turns.specs.declared.outcome.SolveFault.TheVariants as fault;
-ghost use Rattle.planner.specs.Answers.{IsOutcome, Shows};
+ghost use Rattle.planner.specs.Answers.{answer_version, IsOutcome, Shows};
 ghost use Rattle.search_turns.specs.Searching.{limit_of, IsFound, IsWorkedOut, IsSearching};
 
 use crate::closing::close_all;
@@ -15,6 +15,7 @@ use crate::collecting::searched;
 use crate::joining::joined;
 use crate::leaner::{lean_proof, leaner};
 use crate::reserve::Reserve;
+use crate::versions::answer_version;
 use branch_tree::Piece;
 use certificate::{Cert, Node};
 use good_plan::good_plan;
@@ -93,7 +94,9 @@ fn concluded(
     let (closed, low) = close_all(alloc, instance, tasks, limit)?;
     let pieces = all_of(worked, closed)?;
     let cert = certified(room, pieces, low)?;
-    Ok(answer(why, best, limit, low, cert))
+    let version = answer_version(instance);
+    let told = cert.with_version(version);
+    Ok(answer(why, best, limit, low, told))
 }
 
 /// Works what workers left of a tree, and tells what it shows.
@@ -126,6 +129,7 @@ fn worked_out(
 fn settled(instance: &Instance, options: Options, best: Option<(Plan, u64)>, cert: Cert) -> Outcome
     requires found { IsFound instance.now best }
     requires proves { Proves instance.now cert }
+    requires version { cert.version ≡ answer_version instance.now }
     requires low { cert.low ≡ limit_of instance.now best }
     requires within { branches cert.tree ≤ options.budget }
     ensures { IsOutcome instance.now options result }

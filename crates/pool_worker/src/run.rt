@@ -49,15 +49,15 @@ pub enum Sweep {
 }
 
 /// The children of a branch in the order in which they are pushed, the last first. So the first is worked first, which is most likely
-/// to do without its decision: the least capacity, the order of two processes with more slack, the earlier rounds. No place is more
-/// so than another one, and the last is worked first.
+/// to do without its decision: the least capacity, the order of two processes with more slack, the earlier rounds, the first channel. No
+/// place is more so than another one, and the last is worked first.
 fn in_turn(kind: Kind, tasks: Vec<Task>) -> Vec<Task>
     ensures { IsPermutation tasks.items result.items }
 {
     let mut tasks = tasks;
     match kind {
         Kind::Place => tasks.reverse(),
-        Kind::Cap(_) | Kind::Pair(_, _) | Kind::Round(_, _) => {}
+        Kind::Cap(_) | Kind::Pair(_, _) | Kind::Round(_, _) | Kind::Chan(_) => {}
     }
     tasks
 }

@@ -186,6 +186,22 @@ const REFUSED: &[Script] = &[
         ..STOLEN_ROOT
     },
     Script {
+        what: "a message's channel has three children",
+        workers: 1,
+        steps: &[
+            (Act::Pop(0), Effect::Name(&[])),
+            (Act::Split(0, Kind::Chan(127), 2), MISFIT),
+            (Act::Split(0, Kind::Chan(127), 4), MISFIT),
+            (Act::Split(0, Kind::Chan(127), 3), Effect::Done),
+            (Act::Push(0), Effect::Done),
+            (Act::Push(0), Effect::Done),
+            (Act::Push(0), Effect::Done),
+            (Act::Push(0), WRONG_HAND),
+            (Act::Pop(0), Effect::Name(&[2])),
+        ],
+        ..STOLEN_ROOT
+    },
+    Script {
         what: "a run stops at the first refusal",
         workers: 1,
         run: &[Act::Pop(0), Act::Push(0), Act::Rest(0)],

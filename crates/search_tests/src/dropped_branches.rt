@@ -1,6 +1,6 @@
 //! Which branches go where nothing below a child uses what leads to it?
 
-use certificate::{print, read};
+use certificate::{Cert, Version, print, read};
 use dropped_decisions::{Standing, proof_of, without_unused};
 use std::alloc::Global;
 use std::test::Fail;
@@ -28,14 +28,19 @@ const TWO_ORDERS: &str =
 const ORDERS_AND_RANGES: &str =
     "ttcert 1\nlow 9\nplace 2\nround 0 1\nplace 1\nleaf 9 5\nes-release 0\nlo-send 0\nes-arrive 0 1\nle-own 1\nx-window 1\nleaf 101 2\nus-settled 0\nx-late 0 1\nleaf 9 5\nes-release 0\nlo-send 0\nes-arrive 0 1\nle-own 1\nx-window 1\n";
 
+/// The text of a certificate, in the version of its tree.
+fn text_of(alloc: Global, cert: Cert) -> Result<Vec<u8>, Fail> {
+    let version = Version::of_nodes(cert.nodes());
+    Ok(print(alloc, &cert.with_version(version))?)
+}
+
 /// What is left of the certificate in a text, which the check accepts before and after.
-#[tactic(auto, using(certificate::proofs::Versions::allows_all))]
 fn left(alloc: Global, i: &Instance, text: &str) -> Result<Vec<u8>, Fail> {
     let cert = read(alloc, text.as_bytes())?;
     let _low = check(alloc, i, &cert)?;
     let left = without_unused(alloc, i, cert);
     let _low = check(alloc, i, &left)?;
-    Ok(print(alloc, &left)?)
+    text_of(alloc, left)
 }
 
 /// The names of a branch and of its two children.
@@ -43,7 +48,6 @@ const NAMES: [&[u32]; 3] = [&[], &[0], &[1]];
 
 /// What proves the bound of a certificate's text, where the node at this place was left. Nothing is written where
 /// that is missed.
-#[tactic(auto, using(certificate::proofs::Versions::allows_all))]
 fn proof_without(alloc: Global, i: &Instance, text: &str, place: usize) -> Result<Vec<u8>, Fail> {
     let cert = read(alloc, text.as_bytes())?;
     let nodes = cert.nodes();
@@ -55,8 +59,8 @@ fn proof_without(alloc: Global, i: &Instance, text: &str, place: usize) -> Resul
             node,
         })?;
     }
-    match proof_of(alloc, i, cert.low(), standing, 1)? {
-        Some(proof) => Ok(print(alloc, &proof)?),
+    match proof_of(alloc, i, cert.version(), cert.low(), standing, 1)? {
+        Some(proof) => text_of(alloc, proof),
         None => Ok(Vec::new(alloc)),
     }
 }

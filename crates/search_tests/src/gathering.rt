@@ -6,9 +6,9 @@ ghost use Rattle.tree_gathering.specs.Gathering.{AreShallow};
 use branch_tree::{Name, Piece};
 use certificate::{Branch, MOST_BRANCHES_ABOVE, Node, print};
 use planner::{GatherFault, gather};
-use std::alloc::Global;
+use std::alloc::{AllocError, Global};
 use std::test::Fail;
-use ttp_model::{Kind, Leaf, Steps};
+use ttp_model::{Kind, Leaf, Step, Steps};
 
 /// What stands at a name.
 #[derive(Clone, Copy)]
@@ -17,20 +17,32 @@ enum Part {
     Place(u32),
     /// A branch on two processes.
     Pair(u32, u32),
+    /// A branch on the channel of a message.
+    Chan(u32),
     /// A leaf at a goal, without steps.
     Leaf(u32),
+    /// A leaf at a goal with one step, which is of channel 1.
+    OnChannel(u32),
 }
 
 impl Part {
-    fn node(self, alloc: Global) -> Node {
-        match self {
+    fn node(self, alloc: Global) -> Result<Node, AllocError> {
+        Ok(match self {
             Part::Place(children) => Node::Branch(Branch::new(Kind::Place, children)),
             Part::Pair(first, second) => Node::Branch(Branch::new(Kind::Pair(first, second), 0)),
+            Part::Chan(message) => Node::Branch(Branch::new(Kind::Chan(message), 0)),
             Part::Leaf(goal) => Node::Leaf(Leaf {
                 goal,
                 steps: Steps::new(Vec::new(alloc)),
             }),
-        }
+            Part::OnChannel(goal) => {
+                let steps = vec![in alloc; Step::XChannel(1, 0, 2, 3)]?;
+                Node::Leaf(Leaf {
+                    goal,
+                    steps: Steps::new(steps),
+                })
+            }
+        })
     }
 }
 
@@ -51,7 +63,7 @@ fn pieces(alloc: Global, parts: Parts) -> Result<Vec<Piece>, Fail> {
     let mut pieces = Vec::new(alloc);
     for (way, part) in parts {
         let name = name(alloc, way)?;
-        let node = part.node(alloc);
+        let node = part.node(alloc)?;
         pieces.push(Piece { name, node })?;
     }
     Ok(pieces)
@@ -76,8 +88,15 @@ fn are_shallow(pieces: &[Piece]) -> bool
     true
 }
 
+/// The text of the certificate that pieces gather to.
+fn gathered_text(alloc: Global, pieces: Vec<Piece>, low: u32) -> Result<Vec<u8>, GatherFault>
+    requires { AreShallow pieces.items }
+{
+    let cert = gather(alloc, pieces, low)?;
+    Ok(print(alloc, &cert)?)
+}
+
 /// Whether parts gather to this text, or have this fault. No test has a name that is too long.
-#[tactic(auto, using(certificate::proofs::Versions::allows_all))]
 fn gathers(
     alloc: Global,
     parts: Parts,
@@ -88,8 +107,8 @@ fn gathers(
     if !are_shallow(pieces.as_slice()) {
         return Ok(false);
     }
-    match (gather(alloc, pieces, low), wanted) {
-        (Ok(cert), Ok(text)) => Ok(print(alloc, &cert)?.as_slice() == text.as_bytes()),
+    match (gathered_text(alloc, pieces, low), wanted) {
+        (Ok(found), Ok(text)) => Ok(found.as_slice() == text.as_bytes()),
         (Err(GatherFault::OutOfMemory), _) => Err(GatherFault::OutOfMemory.into()),
         (Err(fault), Err(wanted)) => Ok(fault == wanted),
         _ => Ok(false),
@@ -112,6 +131,25 @@ const TREES: &[(Parts, u32, &str)] = &[
         "ttcert 1\nlow 9\nplace 3\nleaf 9 0\npair 4 3\nleaf 11 0\nleaf 12 0\nleaf 10 0\n",
     ),
     (&[(&[], Part::Place(0))], 9, "ttcert 1\nlow 9\nplace 0\n"),
+    (
+        &[
+            (&[2], Part::Leaf(11)),
+            (&[0], Part::Leaf(9)),
+            (&[], Part::Chan(4)),
+            (&[1], Part::Leaf(10)),
+        ],
+        9,
+        "ttcert 2\nlow 9\nchan 4 3\nleaf 9 0\nleaf 10 0\nleaf 11 0\n",
+    ),
+    (
+        &[
+            (&[1], Part::OnChannel(9)),
+            (&[0], Part::Leaf(9)),
+            (&[], Part::Place(2)),
+        ],
+        9,
+        "ttcert 2\nlow 9\nplace 2\nleaf 9 0\nleaf 9 1\nx-channel 1 0 2 3\n",
+    ),
 ];
 
 #[test]
@@ -157,6 +195,15 @@ const FAULTS: &[(&str, GatherFault, Parts)] = &[
             (&[], Part::Place(1)),
             (&[0], Part::Pair(0, 1)),
             (&[0, 0], Part::Leaf(9)),
+        ],
+    ),
+    (
+        "the third child of a message's channel",
+        GatherFault::MissingName,
+        &[
+            (&[], Part::Chan(0)),
+            (&[0], Part::Leaf(9)),
+            (&[1], Part::Leaf(9)),
         ],
     ),
     (

@@ -35,8 +35,9 @@ fn some_work(worker: u32, number: u64, seen: u32) -> Act {
     match (number >> 40) % 16 {
         0..=5 => Act::Split(worker, Kind::Place, count),
         6 | 7 => Act::Split(worker, Kind::Cap(0), count),
-        8..=10 => Act::Split(worker, Kind::Pair(0, 1), count),
-        11 => Act::Split(worker, Kind::Round(0, 0), count),
+        8 | 9 => Act::Split(worker, Kind::Pair(0, 1), count),
+        10 => Act::Split(worker, Kind::Round(0, 0), count),
+        11 => Act::Split(worker, Kind::Chan(0), count),
         12 => Act::Found(worker, count, count),
         13 => Act::Found(worker, seen.saturating_sub(1), seen.saturating_sub(count)),
         14 => Act::Closed(worker, seen.saturating_sub(count)),

@@ -1,9 +1,9 @@
 -- An answer that is found, certified and written is the outcome of `solve`.
 use Rattle.std.proofs.Common.{ℕ, Bool, true, List, Option, None, Some, Err, IfSome, inl, inr, refl}
 use Rattle.std.specs.Io.KnownBytes.{Appends}
-use Rattle.search_turns.specs.declared.outcome.Options.{Options}
-use Rattle.search_turns.specs.declared.outcome.Outcome.{Outcome}
-use Rattle.search_turns.specs.declared.outcome.Outcome.TheVariants as answer
+use Rattle.planner.specs.outcome.Options.{Options}
+use Rattle.planner.specs.outcome.Outcome.{Outcome}
+use Rattle.planner.specs.outcome.Outcome.TheVariants as answer
 use Rattle.planner.specs.Answers as answers
 use Rattle.solve_command.specs.declared.solve.Solved.{Solved}
 use Rattle.command_streams.specs.declared.ending.Sink.TheVariants as sink

@@ -8,13 +8,13 @@ use Rattle.ttp_model.specs.Instance.{Instance}
 use Rattle.plan_format.specs.Spelling as plan_text
 use Rattle.certificate.specs.Cert.{Cert}
 use Rattle.certificate.specs.Spelling as certificate_text
-use Rattle.search_turns.specs.declared.outcome.Options.{Options}
-use Rattle.search_turns.specs.declared.outcome.Outcome.{Outcome}
-use Rattle.search_turns.specs.declared.outcome.Outcome.TheVariants as answer
-use Rattle.search_turns.specs.declared.outcome.Why.{Why}
-use Rattle.search_turns.specs.declared.outcome.Why.TheVariants as why
-use Rattle.search_turns.specs.declared.outcome.SolveFault.{SolveFault}
-use Rattle.search_turns.specs.declared.outcome.SolveFault.TheVariants as solving
+use Rattle.planner.specs.outcome.Options.{Options}
+use Rattle.planner.specs.outcome.Outcome.{Outcome}
+use Rattle.planner.specs.outcome.Outcome.TheVariants as answer
+use Rattle.planner.specs.outcome.Why.{Why}
+use Rattle.planner.specs.outcome.Why.TheVariants as why
+use Rattle.planner.specs.outcome.SolveFault.{SolveFault}
+use Rattle.planner.specs.outcome.SolveFault.TheVariants as solving
 use Rattle.planner.specs.Answers as answers
 use Rattle.solve_command.specs.declared.solve.Solved.{Solved}
 use Rattle.command_streams.specs.declared.ending.Source.TheVariants as source

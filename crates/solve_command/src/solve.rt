@@ -1,6 +1,7 @@
 //! What `solve` says of an instance, and the certificate that shows it.
 
 ghost use Rattle.std.specs.Prelude.{◌≡◌, ◌+◌, None, true, false, is_some, string_bytes, IfErr, IfOk, IfSome, MatchResult};
+ghost use Rattle.certificate.specs.Versions.{Allows};
 ghost use Rattle.command_streams.specs.Limits.{instance_limit};
 ghost use Rattle.command_streams.specs.Streams.{TakesAtMost};
 ghost use Rattle.planner.specs.Answers.{cert_of, IsBestPlan, IsOutcome, Shows};
@@ -170,9 +171,12 @@ fn solved_of_reader<R: Threads + Wait + Sync, G: Follower + Sync, I: Read>(
     ensures judged { IfSome (I.remaining instance.old) (λ bytes. MatchResult result
         (IsSolved bytes options)
         (IsUnsolved bytes)) }
+    ensures printable { IfOk result (λ solved.
+        Allows (cert_of solved.outcome).version (cert_of solved.outcome).tree) }
     ensures most { TakesAtMost (instance_limit + 1) (I.remaining instance.old) (I.remaining instance.new) }
 {
     let instance = read_instance(alloc, instance)?;
+    let _nodes = instance.nodes();
     let outcome = match searched(rt, alloc, &instance, options, follower) {
         Ok(outcome) => outcome,
         Err(fault) => return Err(Fault::Search(fault_of(fault))),
@@ -187,9 +191,9 @@ fn solved_of_reader<R: Threads + Wait + Sync, G: Follower + Sync, I: Read>(
     }
 }
 
-/// Writes a certificate.
-#[tactic(auto, using(certificate::proofs::Versions::allows_all))]
+/// Writes a certificate whose version allows all its lines.
 fn write_certificate<C: Write>(alloc: Global, cert: &Cert, out: &mut C) -> Result<(), Fault>
+    requires { Allows cert.now.version cert.now.tree }
     ensures { IsCertifying cert.now (C.contents out.old) (C.contents out.new) result }
 {
     let Ok(text) = certificate::print(alloc, cert) else {

@@ -1,5 +1,5 @@
 -- What is of another node puts nothing into a node's spans and frames, and what a process waits for is on its lists.
-use Rattle.std.proofs.Common.{◌≡◌, ℕ, ◌<◌, ◌≤◌, ◌==◌, true, false, List, length, slice_index, arith, inl, inr, refl, sym, ap, ◌∙◌}
+use Rattle.std.proofs.Common.{◌≡◌, ℕ, ◌*◌, ◌<◌, ◌≤◌, ◌==◌, if◌then◌else◌, Bool, true, false, List, length, slice_index, arith, inl, inr, refl, sym, ap, ◌∙◌}
 use Rattle.std.proofs.lemmas.Bool.{false≢true}
 use Rattle.std.proofs.lemmas.Bool.Decides.{eqb_tells}
 use Rattle.std.proofs.lemmas.List.{get_or_default}
@@ -7,8 +7,9 @@ use Rattle.std.proofs.lemmas.List.Elements.{All-get_or}
 use Rattle.ttp_model.specs.Instance.{Instance, message_at, node_of, source_of}
 use Rattle.ttp_model.specs.Network.{is_on, is_message_of, is_received_by, received_by}
 use Rattle.ttp_model.proofs.Indices.{picked, in_indices, indices_inside, Contains-from_any, any_from_Contains}
+use Rattle.tt_choice.specs.Choice.{Choice}
 use Rattle.sought_plans.specs.Known.{Known, top_of}
-use Rattle.sought_plans.specs.Premises.{load_within, bytes_within}
+use Rattle.sought_plans.specs.Premises.{load_within, bytes_within, copies, bytes_copied, counts_on, bytes_counted}
 use Rattle.sought_plans.specs.Dominance.{HasRounds, IsSentTo, MayGoBefore, bytes_beside}
 
 pub load_elsewhere : (i : Instance) (f : Known) (n a b p : ℕ) → p < length i.processes → is_on i n p ≡ false → load_within i f n a b p ≡ 0
@@ -16,6 +17,20 @@ load_elsewhere i f n a b p inside off = rw off refl
 
 pub bytes_elsewhere : (i : Instance) (f : Known) (n a b m : ℕ) → m < length i.messages → is_message_of i n m ≡ false → bytes_within i f n a b m ≡ 0
 bytes_elsewhere i f n a b m inside off = rw off refl
+
+-- nothing, however often or wherever it counts
+none_copied : (count x : ℕ) → x ≡ 0 → count * x ≡ 0
+none_copied count x none = rw none (omega arith)
+
+none_counted : (counts : Bool) (x : ℕ) → x ≡ 0 → (if counts then x else 0) ≡ 0
+none_counted true x none = none
+none_counted false x none = refl
+
+pub bytes_copied_elsewhere : (i : Instance) (c : Choice) (f : Known) (n a b m : ℕ) → m < length i.messages → is_message_of i n m ≡ false → bytes_copied i c f n a b m ≡ 0
+bytes_copied_elsewhere i c f n a b m inside off = none_copied (copies c m) (bytes_within i f n a b m) (bytes_elsewhere i f n a b m inside off)
+
+pub bytes_counted_elsewhere : (i : Instance) (c : Choice) (f : Known) (k n a b m : ℕ) → m < length i.messages → is_message_of i n m ≡ false → bytes_counted i c f k n a b m ≡ 0
+bytes_counted_elsewhere i c f k n a b m inside off = none_counted (counts_on c k m) (bytes_within i f n a b m) (bytes_elsewhere i f n a b m inside off)
 
 -- the message itself is of its own node
 other_message : (i : Instance) (m k : ℕ) → is_message_of i (source_of i m) k ≡ false → (k == m) ≡ false

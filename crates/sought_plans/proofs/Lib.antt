@@ -1,5 +1,6 @@
-pub mod Copies
+pub mod CopiedLists
 pub mod CodeSlots
 pub mod SlotsAfter
 pub mod Elsewhere
+pub mod Channels
 pub mod GreatestWaits

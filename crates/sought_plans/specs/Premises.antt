@@ -1,9 +1,11 @@
 -- What steps ask for: sums over what is known, and where times and rounds lead.
-use Rattle.std.specs.Prelude.{ℕ, ◌+◌, ◌-◌, ◌*◌, ◌<◌, ◌≤◌, ◌==◌, ◌&&◌, nat_le, if◌then◌else◌, Bool, IsTrue, List, length, slice_index, Contains, ◌⊎◌, ◌↔◌}
+use Rattle.std.specs.Prelude.{ℕ, ◌+◌, ◌-◌, ◌*◌, ◌<◌, ◌≤◌, ◌==◌, ◌&&◌, nat_le, if◌then◌else◌, Bool, false, IsTrue, List, length, slice_index, Option, None, Some, Contains, ◌⊎◌, ◌↔◌}
+use Rattle.ttp_model.specs.Limits.{both_channels}
 use Rattle.ttp_model.specs.Instance.{Instance, process_at, message_at, node_of, source_of}
 use Rattle.ttp_model.specs.Graph.{Leads}
+use Rattle.ttp_model.specs.Plans.{is_on}
 use Rattle.ttp_model.specs.Totals.{total}
-use Rattle.tt_choice.specs.Choice.{Choice}
+use Rattle.tt_choice.specs.Choice.{Choice, fixed_channel}
 use Rattle.tt_choice.specs.Extremes.{start_most, end_least, cap_most}
 use Rattle.sought_plans.specs.Known.{Known, es_of, le_of, lo_of, top_of, bef_of}
 
@@ -71,7 +73,37 @@ sent_within i f n a b m = (source_of i m == n) && (nat_le a (lo_of f m) && nat_l
 abbrev pub bytes_within : Instance → Known → ℕ → ℕ → ℕ → ℕ → ℕ
 bytes_within i f n a b m = if sent_within i f n a b m then (message_at i m).bytes else 0
 
--- the messages of node n that are sent in these rounds are more than all its frames can carry
+-- in how many halves of a frame a message is at least, by what is fixed of its channel: in two where that is both
+abbrev pub copies_of : Option ℕ → ℕ
+copies_of None = 1
+copies_of (Some fixed) = if fixed == both_channels then 2 else 1
+
+abbrev pub copies : Choice → ℕ → ℕ
+copies c m = copies_of (fixed_channel c m)
+
+-- the bytes that it puts there, as often
+abbrev pub bytes_copied : Instance → Choice → Known → ℕ → ℕ → ℕ → ℕ → ℕ
+bytes_copied i c f n a b m = copies c m * bytes_within i f n a b m
+
+-- what is fixed is channel k, or both
+abbrev pub is_fixed_on : ℕ → Option ℕ → Bool
+is_fixed_on k None = false
+is_fixed_on k (Some fixed) = is_on k fixed
+
+-- a message is fixed to channel k, or to both
+abbrev pub counts_on : Choice → ℕ → ℕ → Bool
+counts_on c k m = is_fixed_on k (fixed_channel c m)
+
+-- how many bytes a message puts into these frames on channel k, where it is fixed to it
+abbrev pub bytes_counted : Instance → Choice → Known → ℕ → ℕ → ℕ → ℕ → ℕ → ℕ
+bytes_counted i c f k n a b m = if counts_on c k m then bytes_within i f n a b m else 0
+
+-- the messages of node n that are sent in these rounds are more than all its frames can carry, on all channels
 pub record AreOverfull (i : Instance) (c : Choice) (f : Known) (n a b : ℕ) : Type 0 where
   pub span : a ≤ b
-  pub bytes : (b - a) * cap_most i c n < total (bytes_within i f n a b) (length i.messages)
+  pub bytes : i.cluster.channels * ((b - a) * cap_most i c n) < total (bytes_copied i c f n a b) (length i.messages)
+
+-- those that are fixed to channel k are more than they can carry there
+pub record AreOverfullOn (i : Instance) (c : Choice) (f : Known) (k n a b : ℕ) : Type 0 where
+  pub span : a ≤ b
+  pub bytes : (b - a) * cap_most i c n < total (bytes_counted i c f k n a b) (length i.messages)

@@ -2,6 +2,7 @@
 #![tactic(auto)]
 
 mod ahead;
+mod frames;
 mod known;
 mod late;
 mod rooms;
@@ -11,6 +12,7 @@ mod times;
 mod wait;
 
 pub use ahead::{is_ahead, leads};
+pub use frames::{bytes_in_frames, bytes_on_channel, copies, counts_on};
 pub use known::Known;
 pub use late::could_be_earlier;
 pub use setting::Setting;

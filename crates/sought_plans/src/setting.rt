@@ -53,9 +53,10 @@ fn slots_after(
 {
     match decision {
         Decision::Place(_) | Decision::Cap(_, _) => slots_of(room, before.instance(), choice),
-        Decision::Before(_, _) | Decision::AtMost(_, _) | Decision::AtLeast(_, _) => {
-            refilled(room, before.slots.as_slice())
-        }
+        Decision::Before(_, _)
+        | Decision::AtMost(_, _)
+        | Decision::AtLeast(_, _)
+        | Decision::Channel(_, _) => refilled(room, before.slots.as_slice()),
     }
 }
 

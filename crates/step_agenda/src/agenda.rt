@@ -102,6 +102,7 @@ impl Agenda {
         match decision {
             Decision::Before(p, q) => return self.note(facts, Fact::Order(p, q)),
             Decision::Place(_) | Decision::Cap(_, _) => self.raise_messages(facts.instance()),
+            Decision::Channel(m, _) => self.note_frames(facts.instance(), m),
             Decision::AtMost(_, _) | Decision::AtLeast(_, _) => {}
         }
         self.until_ring = facts_between_rings(facts.instance());
@@ -213,7 +214,7 @@ impl Agenda {
         match fact {
             Fact::Start(p) => self.note_start(instance, p),
             Fact::End(p) => self.note_end(facts, p),
-            Fact::FirstRound(m) => self.note_first_round(instance, m),
+            Fact::FirstRound(m) => self.note_frames(instance, m),
             Fact::LateRound(m) => self.note_late_round(instance, m),
             Fact::Order(p, _) => raise(&mut self.unsettled, p),
             Fact::Closed => {}
@@ -245,8 +246,8 @@ impl Agenda {
         }
     }
 
-    /// Takes note of a later first round of message `m`: its frames may be too full.
-    fn note_first_round(&mut self, instance: &Instance, m: u32) {
+    /// Takes note of a later first round of message `m`, or of its channel: its frames may be too full.
+    fn note_frames(&mut self, instance: &Instance, m: u32) {
         if (m as usize) < instance.messages().len() {
             raise(&mut self.sendings, instance.source_of(m as usize));
         }

@@ -40,7 +40,10 @@ pub fn add_slot_steps(
             add_transfers(facts.instance(), steps)?;
             add_frames(facts.instance(), steps)
         }
-        Decision::Before(_, _) | Decision::AtMost(_, _) | Decision::AtLeast(_, _) => Ok(()),
+        Decision::Before(_, _)
+        | Decision::AtMost(_, _)
+        | Decision::AtLeast(_, _)
+        | Decision::Channel(_, _) => Ok(()),
     }
 }
 

@@ -1,31 +1,31 @@
 -- Where no step sharpens any more what is known of a complete choice, the earliest starts are those of a valid plan below the goal.
-use Rattle.std.proofs.Common.{◌≡◌, ℕ, ◌+◌, ◌-◌, ◌*◌, ◌<◌, ◌≤◌, ◌⊎◌, ◌==◌, ◌&&◌, nat_le, if◌then◌else◌, List, [], ◌∷◌, length, slice_index, map, replicate, unwrap_or, Option, None, Some, IsSome, All, Contains, Bool, IsTrue, IsFalse, arith, inl, inr, refl, ap, sym, subst, ◌∙◌}
+use Rattle.std.proofs.Common.{◌≡◌, ℕ, ◌+◌, ◌-◌, ◌*◌, ◌<◌, ◌≤◌, ◌⊎◌, ◌==◌, ◌&&◌, nat_le, if◌then◌else◌, List, [], ◌∷◌, length, slice_index, map, unwrap_or, Option, None, Some, IsSome, All, Contains, Bool, IsTrue, IsFalse, arith, inl, inr, refl, ap, ap₂, sym, subst, ◌∙◌}
 use Rattle.std.proofs.lemmas.Bool.{cases_lt, cases_order, cases_Bool, false≢true, le-leb, leb-true, eq-eqb, ne_eqb}
-use Rattle.std.proofs.lemmas.List.{get_or-map, get_or-replicate, length-map, length-replicate}
+use Rattle.std.proofs.lemmas.List.{get_or-map, length-map}
 use Rattle.std.proofs.lemmas.List.Elements.{All-contains, Contains-get_or}
 use Rattle.std.proofs.lemmas.Grind.{same_number_lists}
-use Rattle.ttp_model.specs.declared.error.Place.TheVariants.{AtProcess, AtMessage}
+use Rattle.ttp_model.specs.declared.error.Place.TheVariants.{AtCluster, AtProcess, AtMessage}
 use Rattle.ttp_model.specs.declared.plan.Plan.{Plan}
 use Rattle.ttp_model.specs.declared.step.Step.{Step}
-use Rattle.ttp_model.specs.declared.step.Step.TheVariants.{EsBefore, EsArrive, LeSend, XRound, XFrames}
+use Rattle.ttp_model.specs.declared.step.Step.TheVariants.{EsBefore, EsArrive, LeSend, XRound, XFrames, XChannel}
 use Rattle.ttp_model.specs.Instance.{Instance, node_at, message_at, source_of}
 use Rattle.ttp_model.specs.Rules.{IsInstance}
 use Rattle.ttp_model.specs.Slots.{slot_start, slot_end}
-use Rattle.ttp_model.specs.Plans.{HasLengths, IsValid, IsNodeOrder, HasOwnCapacity, AreApart, end_of, channel_of, bytes_in, load_of}
+use Rattle.ttp_model.specs.Plans.{HasLengths, IsValid, IsNodeOrder, HasOwnCapacity, HasOwnChannel, MayBeOn, AreApart, FitsFrame, end_of, channel_of, bytes_in, bytes_on, load_of, load_on, is_on}
 use Rattle.ttp_model.specs.Lists.{EachBelow}
-use Rattle.ttp_model.proofs.OneChannel.{zeros_on_own}
-use Rattle.ttp_model.proofs.Channels.{fits_on_first}
+use Rattle.ttp_model.proofs.Channels.{on_at_most}
 use Rattle.ttp_model.proofs.ValidPlans.{greatest_reached}
 use Rattle.ttp_model.specs.Totals.{total}
-use Rattle.tt_choice.specs.Choice.{Choice, IsChoice, IsComplete, IsIn, IsOption, IsFixedTo, ArePair, Agrees, fixed_cap, is_before, least_round, greatest_round}
+use Rattle.tt_choice.specs.Choice.{Choice, IsChoice, IsComplete, IsIn, IsOption, IsChannel, IsFixedTo, ArePair, Agrees, fixed_cap, fixed_channel, is_before, least_round, greatest_round}
 use Rattle.tt_choice.specs.Extremes.{start_most, end_least, cap_most}
 use Rattle.tt_choice.proofs.Exact.{start_most_is_most, end_least_is_least, cap_most_is_most}
 use Rattle.tt_choice.proofs.Extend.{from_parts, order_of}
-use Rattle.ttp_model.proofs.Totals.{total_same}
+use Rattle.ttp_model.proofs.Totals.{total_le, total_same}
 use Rattle.sought_plans.specs.Known.{Known, first_facts, es_of, lo_of as known_lo, top_of}
 use Rattle.tt_infer.specs.Facts.{Facts, AreFacts}
 use Rattle.sought_plans.specs.Conclusions.{NothingLeft}
-use Rattle.sought_plans.specs.Premises.{Receives, least_end, bytes_within}
+use Rattle.sought_plans.specs.Premises.{Receives, least_end, bytes_within, bytes_copied, bytes_counted, is_fixed_on}
+use Rattle.sought_plans.proofs.Channels.{total_copied_alone}
 use Rattle.sought_plans.specs.Known.{Fits}
 use Rattle.tt_infer.proofs.FirstFacts.{first_facts_fit}
 use Rattle.tt_infer.proofs.Sharper.{IsSharper, IsSharper-step}
@@ -40,15 +40,25 @@ use Rattle.step_logs.proofs.Idle.{same_after, ended, not_closed, window, own, fr
 abbrev fixed_caps : Choice → List ℕ
 fixed_caps c = map (λ (fixed : Option ℕ). unwrap_or fixed 0) c.fixed
 
--- the plan of the choice with these starts; each message is on the only channel
+-- the channel of each message
+abbrev fixed_channels : Choice → List ℕ
+fixed_channels c = map (λ (fixed : Option ℕ). unwrap_or fixed 0) c.channels
+
+-- the plan of the choice with these starts
 abbrev plan_of : Choice → List ℕ → Plan
-plan_of c starts = record { order = c.prefix; caps = fixed_caps c; starts = starts; rounds = c.lo; channels = replicate (length c.lo) 0 }
+plan_of c starts = record { order = c.prefix; caps = fixed_caps c; starts = starts; rounds = c.lo; channels = fixed_channels c }
 
 fixed_at : (c : Choice) (n : ℕ) → n < length c.fixed → slice_index (fixed_caps c) n ≡ unwrap_or (fixed_cap c n) 0
 fixed_at c n h = get_or-map (λ (fixed : Option ℕ). unwrap_or fixed 0) c.fixed n None 0 h
 
 length-fixed_caps : (c : Choice) → length (fixed_caps c) ≡ length c.fixed
 length-fixed_caps c = length-map c.fixed (λ (fixed : Option ℕ). unwrap_or fixed 0)
+
+channel_at : (c : Choice) (m : ℕ) → m < length c.channels → slice_index (fixed_channels c) m ≡ unwrap_or (fixed_channel c m) 0
+channel_at c m h = get_or-map (λ (fixed : Option ℕ). unwrap_or fixed 0) c.channels m None 0 h
+
+length-fixed_channels : (c : Choice) → length (fixed_channels c) ≡ length c.channels
+length-fixed_channels c = length-map c.channels (λ (fixed : Option ℕ). unwrap_or fixed 0)
 
 is_fixed : (o : Option ℕ) (capacity : ℕ) → IsSome o → IsFixedTo o capacity → capacity ≡ unwrap_or o 0
 is_fixed None capacity some is = absurd (false≢true some)
@@ -57,6 +67,15 @@ is_fixed (Some fixed) capacity some is = is
 own_option : (i : Instance) (n : ℕ) (o : Option ℕ) → IsSome o → IsOption i n o → Contains (node_at i n).capacities (unwrap_or o 0)
 own_option i n None some is = absurd (false≢true some)
 own_option i n (Some fixed) some is = is
+
+own_channel : (i : Instance) (m : ℕ) (o : Option ℕ) → IsSome o → IsChannel i m o → MayBeOn i m (unwrap_or o 0)
+own_channel i m None some is = absurd (false≢true some)
+own_channel i m (Some fixed) some is = is
+
+-- a message counts on the channels that it is fixed to
+counts_where_fixed : (k : ℕ) (o : Option ℕ) → IsSome o → is_fixed_on k o ≡ is_on k (unwrap_or o 0)
+counts_where_fixed k None some = absurd (false≢true some)
+counts_where_fixed k (Some fixed) some = refl
 
 fixed_to : (o : Option ℕ) → IsFixedTo o (unwrap_or o 0)
 fixed_to None = tt
@@ -178,20 +197,63 @@ module _ (s : Facts) (ok : AreFacts s) (left : IsFalse s.known.closed) (steps : 
       let round = ap (λ (k : ℕ). k == r) (round_is m h) in
       ap (λ (b : Bool). if (source_of s.instance m == n) && b then (message_at s.instance m).bytes else 0) (test ∙ round)
 
-  frame_fits : (m : ℕ) → m < length s.instance.messages → load_of s.instance (plan_of s.choice s.known.es) (source_of s.instance m) (least_round s.choice m) ≤ slice_index (fixed_caps s.choice) (source_of s.instance m)
-  frame_fits m h =
+  channel_is : (m : ℕ) → m < length s.instance.messages → channel_of (plan_of s.choice s.known.es) m ≡ unwrap_or (fixed_channel s.choice m) 0
+  channel_is m h = channel_at s.choice m (omega (arith, h, ok.choice.channels_length))
+
+  -- on a channel a message counts with what it puts there
+  same_on : (n r k m : ℕ) → m < length s.instance.messages → bytes_counted s.instance s.choice s.known k n r (r + 1) m ≡ bytes_on s.instance (plan_of s.choice s.known.es) n r k m
+  same_on n r k m h =
+      let counts : is_fixed_on k (fixed_channel s.choice m) ≡ is_on k (channel_of (plan_of s.choice s.known.es) m) = counts_where_fixed k (fixed_channel s.choice m) (done.channels m h) ∙ ap (is_on k) (sym (channel_is m h)) in
+      ap₂ (λ (b : Bool) (bytes : ℕ). if b then bytes else 0) counts (same_bytes n r m h)
+
+  -- so with one channel the whole frame fits
+  whole_fits : s.instance.cluster.channels ≡ 1 → (m : ℕ) → m < length s.instance.messages → load_of s.instance (plan_of s.choice s.known.es) (source_of s.instance m) (least_round s.choice m) ≤ slice_index (fixed_caps s.choice) (source_of s.instance m)
+  whole_fits alone m h =
       let n = source_of s.instance m in
       let r = least_round s.choice m in
       let one : (r + 1) - r ≡ 1 = omega arith in
       let same = total_same (bytes_within s.instance s.known n r (r + 1)) (bytes_in s.instance (plan_of s.choice s.known.es) n r) (length s.instance.messages) (λ k inside. same_bytes n r k inside) in
+      let copied = total_copied_alone s.instance s.choice s.known n r (r + 1) alone ok.choice in
       let exact = cap_exact s.instance s.choice ok.instance ok.choice done n (source_inside m h) in
-      elim (cases_lt (((r + 1) - r) * cap_most s.instance s.choice n) (total (bytes_within s.instance s.known n r (r + 1)) (length s.instance.messages))) [
-        | inl over ↦ absurd (not_closed s ok left (same_after s ok left (XFrames n r (r + 1)) NothingLeft (idle_of _ (more.rounds m h).frame) (source_inside m h) (record { span = omega arith; bytes = over }) refl))
-        | inr fits ↦ let whole : 1 * cap_most s.instance s.choice n ≡ cap_most s.instance s.choice n = omega arith in let times : ((r + 1) - r) * cap_most s.instance s.choice n ≡ cap_most s.instance s.choice n = ap (λ (k : ℕ). k * cap_most s.instance s.choice n) one ∙ whole in let known = rw times at fits in omega (arith, known, exact, same)
+      elim (cases_lt (s.instance.cluster.channels * (((r + 1) - r) * cap_most s.instance s.choice n)) (total (bytes_copied s.instance s.choice s.known n r (r + 1)) (length s.instance.messages))) [
+        | inl over ↦ absurd (not_closed s ok left (same_after s ok left (XFrames n r (r + 1)) NothingLeft (idle_of _ ((more.rounds m h).frame alone)) (source_inside m h) (record { span = omega arith; bytes = over }) refl))
+        | inr fits ↦
+            let whole : 1 * (1 * cap_most s.instance s.choice n) ≡ cap_most s.instance s.choice n = omega arith in
+            let times : s.instance.cluster.channels * (((r + 1) - r) * cap_most s.instance s.choice n) ≡ cap_most s.instance s.choice n = ap₂ (λ (j : ℕ) (k : ℕ). j * (k * cap_most s.instance s.choice n)) alone one ∙ whole in
+            let known = rw times at fits in
+            omega (arith, known, exact, same, copied)
       ]
 
-  on_first : (m : ℕ) → m < length s.instance.messages → channel_of (plan_of s.choice s.known.es) m ≡ 0
-  on_first m h = get_or-replicate {A = ℕ} (length s.choice.lo) m 0 0 (omega (arith, h, ok.choice.lo_length))
+  -- and with more its half on each of them
+  half_fits : 2 ≤ s.instance.cluster.channels → (k m : ℕ) → k < s.instance.cluster.channels → m < length s.instance.messages → load_on s.instance (plan_of s.choice s.known.es) (source_of s.instance m) (least_round s.choice m) k ≤ slice_index (fixed_caps s.choice) (source_of s.instance m)
+  half_fits two k m there h =
+      let n = source_of s.instance m in
+      let r = least_round s.choice m in
+      let one : (r + 1) - r ≡ 1 = omega arith in
+      let same = total_same (bytes_counted s.instance s.choice s.known k n r (r + 1)) (bytes_on s.instance (plan_of s.choice s.known.es) n r k) (length s.instance.messages) (λ j inside. same_on n r k j inside) in
+      let exact = cap_exact s.instance s.choice ok.instance ok.choice done n (source_inside m h) in
+      elim (cases_lt (((r + 1) - r) * cap_most s.instance s.choice n) (total (bytes_counted s.instance s.choice s.known k n r (r + 1)) (length s.instance.messages))) [
+        | inl over ↦ absurd (not_closed s ok left (same_after s ok left (XChannel k n r (r + 1)) NothingLeft (idle_of _ ((more.rounds m h).channels k there two)) (source_inside m h, (two, there)) (record { span = omega arith; bytes = over }) refl))
+        | inr fits ↦
+            let whole : 1 * cap_most s.instance s.choice n ≡ cap_most s.instance s.choice n = omega arith in
+            let times : ((r + 1) - r) * cap_most s.instance s.choice n ≡ cap_most s.instance s.choice n = ap (λ (j : ℕ). j * cap_most s.instance s.choice n) one ∙ whole in
+            let known = rw times at fits in
+            omega (arith, known, exact, same)
+      ]
+
+  frame_fits : (m : ℕ) → m < length s.instance.messages → FitsFrame s.instance (plan_of s.choice s.known.es) m
+  frame_fits m h k there is = elim (cases_lt 1 s.instance.cluster.channels) [
+    | inl two ↦ half_fits two k m there h
+    | inr few ↦
+        let least = (ok.instance.ranges AtCluster).channels_least in
+        let most = total_le (bytes_on s.instance (plan_of s.choice s.known.es) (source_of s.instance m) (least_round s.choice m) k) (bytes_in s.instance (plan_of s.choice s.known.es) (source_of s.instance m) (least_round s.choice m)) (length s.instance.messages) (λ j inside. on_at_most s.instance (plan_of s.choice s.known.es) (source_of s.instance m) (least_round s.choice m) k j) in
+        omega (arith, most, whole_fits (omega (arith, few, least)) m h)
+  ]
+
+  on_own : EachBelow (length s.instance.messages) (HasOwnChannel s.instance (plan_of s.choice s.known.es))
+  on_own m h =
+      let own = own_channel s.instance m (fixed_channel s.choice m) (done.channels m h) (ok.choice.channels m h) in
+      subst (MayBeOn s.instance m) (sym (channel_is m h)) own
 
   apart : (p q : ℕ) → p < q → q < length s.instance.processes → AreApart s.instance (plan_of s.choice s.known.es) p q
   apart p q up h same = elim (one_before s.instance s.choice ok.instance ok.choice done p q (record { first = omega (arith, up, h); second = h; two = λ equal. omega (arith, equal, up); one_node = same })) [
@@ -200,7 +262,13 @@ module _ (s : Facts) (ok : AreFacts s) (left : IsFalse s.known.closed) (steps : 
   ]
 
   lengths : HasLengths s.instance (plan_of s.choice s.known.es)
-  lengths = record { order = done.placed; capacities = length-fixed_caps s.choice ∙ ok.choice.fixed_length; starts = ok.fits.es; rounds = ok.choice.lo_length; channels = length-replicate (length s.choice.lo) 0 ∙ ok.choice.lo_length }
+  lengths = record {
+    order = done.placed;
+    capacities = length-fixed_caps s.choice ∙ ok.choice.fixed_length;
+    starts = ok.fits.es;
+    rounds = ok.choice.lo_length;
+    channels = length-fixed_channels s.choice ∙ ok.choice.channels_length;
+  }
 
   valid : IsValid s.instance (plan_of s.choice s.known.es)
   valid = record {
@@ -213,8 +281,8 @@ module _ (s : Facts) (ok : AreFacts s) (left : IsFalse s.known.closed) (steps : 
     links = λ l h. linked s ok left steps more.chain idle l h;
     ready = λ m h. ready m h;
     arrived = λ m h k inside. arrives m (slice_index (message_at s.instance m).receivers k) (h, Contains-get_or (message_at s.instance m).receivers k 0 inside);
-    frames = λ m h. fits_on_first s.instance (plan_of s.choice s.known.es) m ok.instance on_first (frame_fits m h);
-    on_own = zeros_on_own s.instance (plan_of s.choice s.known.es) (length s.choice.lo) ok.instance ok.choice.lo_length refl;
+    frames = λ m h. frame_fits m h;
+    on_own = on_own;
   }
 
   chosen : IsIn s.instance s.choice (plan_of s.choice s.known.es)
@@ -224,6 +292,7 @@ module _ (s : Facts) (ok : AreFacts s) (left : IsFalse s.known.closed) (steps : 
     fixed = λ n h. subst (IsFixedTo (fixed_cap s.choice n)) (sym (fixed_at s.choice n (omega (arith, h, ok.choice.fixed_length)))) (fixed_to (fixed_cap s.choice n));
     pairs = λ p q holds. after p q holds;
     ranges = λ m h. (omega arith, ok.choice.ranges m h);
+    channels = λ m h. subst (IsFixedTo (fixed_channel s.choice m)) (sym (channel_is m h)) (fixed_to (fixed_channel s.choice m));
   }
 
   pub found : (plan : Plan) × IsPlanBelow s.instance s.choice s.goal plan

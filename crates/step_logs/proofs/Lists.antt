@@ -1,13 +1,13 @@
 -- Steps in lists that grow.
-use Rattle.std.proofs.Common.{◌≡◌, ℕ, ◌+◌, ◌<◌, List, [], ◌∷◌, ◌++◌, length, slice_index, get_or, take, Contains, refl, lit<, ap, subst, sym, ◌∙◌, append_assoc}
+use Rattle.std.proofs.Common.{◌≡◌, ◌≢◌, ℕ, ◌+◌, ◌<◌, List, [], ◌∷◌, ◌++◌, length, slice_index, get_or, take, Contains, arith, refl, lit<, ap, subst, sym, ◌∙◌, append_assoc}
 use Rattle.std.proofs.lemmas.Grind.{get_or_default_zero}
 use Rattle.std.proofs.lemmas.List.{take_more}
 use Rattle.std.proofs.lemmas.List.Elements.{Contains-append_left, Contains-append_right}
 use Rattle.ttp_model.specs.declared.step.Step.{Step}
-use Rattle.ttp_model.specs.declared.step.Step.TheVariants.{EsRelease, EsArrive, EsMessage, LeOwn, LeSend, XWindow, XRound, XFrames}
+use Rattle.ttp_model.specs.declared.step.Step.TheVariants.{EsRelease, EsArrive, EsMessage, LeOwn, LeSend, XWindow, XRound, XFrames, XChannel}
 use Rattle.ttp_model.specs.Instance.{Instance, source_of}
 use Rattle.tt_choice.specs.Choice.{Choice, least_round}
-use Rattle.step_logs.specs.Required.{KeepsSteps, HasProcessSteps, HasReceiverSteps, HasRoundSteps, HasChainSteps}
+use Rattle.step_logs.specs.Required.{KeepsSteps, HasProcessSteps, HasReceiverSteps, HasFrameSteps, HasRoundSteps, HasChainSteps}
 
 pub keeps_pushed : (steps : List Step) (step : Step) → KeepsSteps steps (steps ++ step ∷ [])
 keeps_pushed steps step other has = Contains-append_left steps (step ∷ []) other has
@@ -53,15 +53,36 @@ chain_steps_kept i old new keeps has = record {
   messages = λ m q h. receiver_steps_kept old new m q keeps (has.messages m q h);
 }
 
-pub round_steps_pushed : (i : Instance) (c : Choice) (steps : List Step) (m source round : ℕ) → source ≡ source_of i m → round ≡ least_round c m → HasRoundSteps i c (((steps ++ LeSend m ∷ []) ++ XRound m ∷ []) ++ XFrames source round (round + 1) ∷ []) m
-round_steps_pushed i c steps m source round from at = rw (from, at) (record {
-  send = keeps_pushed ((steps ++ LeSend m ∷ []) ++ XRound m ∷ []) (XFrames (source_of i m) (least_round c m) (least_round c m + 1)) _ (keeps_pushed (steps ++ LeSend m ∷ []) (XRound m) _ (has_pushed steps (LeSend m)));
-  round = keeps_pushed ((steps ++ LeSend m ∷ []) ++ XRound m ∷ []) (XFrames (source_of i m) (least_round c m) (least_round c m + 1)) _ (has_pushed (steps ++ LeSend m ∷ []) (XRound m));
-  frame = has_pushed ((steps ++ LeSend m ∷ []) ++ XRound m ∷ []) (XFrames (source_of i m) (least_round c m) (least_round c m + 1));
-})
+-- the closers of a frame: of the whole, or of its halves
+pub frame_step_pushed : (steps : List Step) (count n r : ℕ) → count ≡ 1 → HasFrameSteps count n r (steps ++ XFrames n r (r + 1) ∷ [])
+frame_step_pushed steps count n r alone = record {
+  frame = λ _. has_pushed steps (XFrames n r (r + 1));
+  channels = λ k inside two. absurd (omega (arith, alone, two));
+}
+
+pub frame_steps_of : (steps : List Step) (count n r : ℕ) → count ≢ 1 → ((k : ℕ) → k < count → Contains steps (XChannel k n r (r + 1))) → HasFrameSteps count n r steps
+frame_steps_of steps count n r more each = record {
+  frame = λ alone. absurd (more alone);
+  channels = λ k inside two. each k inside;
+}
+
+pub round_steps_pushed : (i : Instance) (c : Choice) (old new : List Step) (m count source round : ℕ) → KeepsSteps ((old ++ LeSend m ∷ []) ++ XRound m ∷ []) new → HasFrameSteps count source round new → count ≡ i.cluster.channels → source ≡ source_of i m → round ≡ least_round c m → HasRoundSteps i c new m
+round_steps_pushed i c old new m count source round keeps has all from begin =
+    let here : HasFrameSteps i.cluster.channels (source_of i m) (least_round c m) new = rw (all, from, begin) at has in
+    record {
+      send = keeps _ (keeps_pushed (old ++ LeSend m ∷ []) (XRound m) _ (has_pushed old (LeSend m)));
+      round = keeps _ (has_pushed (old ++ LeSend m ∷ []) (XRound m));
+      frame = here.frame;
+      channels = here.channels;
+    }
 
 pub round_steps_kept : (i : Instance) (c : Choice) (old new : List Step) (m : ℕ) → KeepsSteps old new → HasRoundSteps i c old m → HasRoundSteps i c new m
-round_steps_kept i c old new m keeps has = record { send = keeps _ has.send; round = keeps _ has.round; frame = keeps _ has.frame }
+round_steps_kept i c old new m keeps has = record {
+  send = keeps _ has.send;
+  round = keeps _ has.round;
+  frame = λ alone. keeps _ (has.frame alone);
+  channels = λ k inside two. keeps _ (has.channels k inside two);
+}
 
 -- one element more of a list that is copied behind another
 pub copied_more : {X : Type 0} (xs : List X) (k : ℕ) (x : X) (start old new : List X) → k < length xs → x ≡ get_or xs k x → old ≡ start ++ take k xs → new ≡ old ++ x ∷ [] → new ≡ start ++ take (k + 1) xs

@@ -1,7 +1,7 @@
 -- Which steps a propagation tries until none of them sharpens.
-use Rattle.std.specs.Prelude.{ℕ, ◌+◌, ◌<◌, List, length, Contains, IsTrue}
+use Rattle.std.specs.Prelude.{◌≡◌, ℕ, ◌+◌, ◌<◌, ◌≤◌, List, length, Contains, IsTrue}
 use Rattle.ttp_model.specs.declared.step.Step.{Step}
-use Rattle.ttp_model.specs.declared.step.Step.TheVariants.{EsRelease, EsLink, EsBefore, EsArrive, EsMessage, LeOwn, LeSend, XWindow, XRound, XFrames}
+use Rattle.ttp_model.specs.declared.step.Step.TheVariants.{EsRelease, EsLink, EsBefore, EsArrive, EsMessage, LeOwn, LeSend, XWindow, XRound, XFrames, XChannel}
 use Rattle.ttp_model.specs.Instance.{Instance, source_of}
 use Rattle.tt_choice.specs.Choice.{Choice, is_before, least_round}
 use Rattle.sought_plans.specs.Premises.{Receives}
@@ -27,11 +27,17 @@ pub record HasChainSteps (i : Instance) (steps : List Step) : Type 0 where
   pub links : (l : ℕ) → l < length i.links → Contains steps (EsLink l)
   pub messages : (m q : ℕ) → Receives i m q → HasReceiverSteps steps m q
 
+-- the closers of the frame of node n in round r: of the whole where there is one channel, and of each of its halves where there are two
+pub record HasFrameSteps (count n r : ℕ) (steps : List Step) : Type 0 where
+  pub frame : count ≡ 1 → Contains steps (XFrames n r (r + 1))
+  pub channels : (k : ℕ) → k < count → 2 ≤ count → Contains steps (XChannel k n r (r + 1))
+
 -- the steps about the one round that a complete choice leaves to message m
 pub record HasRoundSteps (i : Instance) (c : Choice) (steps : List Step) (m : ℕ) : Type 0 where
   pub send : Contains steps (LeSend m)
   pub round : Contains steps (XRound m)
-  pub frame : Contains steps (XFrames (source_of i m) (least_round c m) (least_round c m + 1))
+  pub frame : i.cluster.channels ≡ 1 → Contains steps (XFrames (source_of i m) (least_round c m) (least_round c m + 1))
+  pub channels : (k : ℕ) → k < i.cluster.channels → 2 ≤ i.cluster.channels → Contains steps (XChannel k (source_of i m) (least_round c m) (least_round c m + 1))
 
 -- all steps that decide a complete choice stand in the list
 pub record HasCompleteSteps (i : Instance) (c : Choice) (steps : List Step) : Type 0 where

@@ -51,6 +51,7 @@ fn copied(alloc: Global, step: &Step) -> Result<Step, MemoryFault>
         Step::XLoad(n, a, b) => Ok(Step::XLoad(*n, *a, *b)),
         Step::XFrame(m) => Ok(Step::XFrame(*m)),
         Step::XFrames(n, a, b) => Ok(Step::XFrames(*n, *a, *b)),
+        Step::XChannel(k, n, a, b) => Ok(Step::XChannel(*k, *n, *a, *b)),
         Step::XLate(m, r) => Ok(Step::XLate(*m, *r)),
         Step::XSilent(u, v) => Ok(Step::XSilent(*u, *v)),
     }

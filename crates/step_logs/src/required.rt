@@ -1,11 +1,11 @@
 //! Which steps are tried until none of them sharpens what is known?
 
-ghost use Rattle.std.specs.Prelude.{◌≡◌, ℕ, ◌<◌, Contains, IfOk, OnOk, IsTrue, length};
+ghost use Rattle.std.specs.Prelude.{◌≡◌, ℕ, ◌+◌, ◌<◌, ◌^◌, Contains, IfOk, OnOk, IsTrue, length};
 ghost use Rattle.ttp_model.specs.declared.step.Step.{Step};
 ghost use Rattle.ttp_model.specs.Instance.{message_at};
 ghost use Rattle.tt_choice.specs.Choice.{IsChoice, IsComplete, is_before};
 ghost use Rattle.sought_plans.specs.Premises.{Receives};
-ghost use Rattle.step_logs.specs.Required.{KeepsSteps, HasProcessSteps, HasReceiverSteps, HasChainSteps, HasRoundSteps, HasCompleteSteps};
+ghost use Rattle.step_logs.specs.Required.{KeepsSteps, HasProcessSteps, HasReceiverSteps, HasChainSteps, HasFrameSteps, HasRoundSteps, HasCompleteSteps};
 
 use crate::copies::add;
 use std::alloc::Global;
@@ -115,6 +115,28 @@ fn add_orders(
     Ok(())
 }
 
+/// Adds the closers of the frame of a node in a round: of the whole where there is one channel, and of each of its halves where there
+/// are two.
+fn add_frame_steps(
+    channels: u32,
+    n: u32,
+    round: u32,
+    steps: &mut Vec<Step>,
+) -> Result<(), MemoryFault>
+    requires { round + 1 < 2 ^ 32 }
+    ensures kept { OnOk result (KeepsSteps steps.old.items steps.new.items) }
+    ensures added { OnOk result (HasFrameSteps channels n round steps.new.items) }
+{
+    if channels == 1 {
+        add(steps, Step::XFrames(n, round, round + 1))?;
+        return Ok(());
+    }
+    for k in 0..channels {
+        add(steps, Step::XChannel(k, n, round, round + 1))?;
+    }
+    Ok(())
+}
+
 /// Adds the steps about the least round of each message.
 fn add_rounds(
     instance: &Instance,
@@ -126,16 +148,13 @@ fn add_rounds(
     ensures added { OnOk result ((m : ℕ) → m < length instance.now.messages
         → HasRoundSteps instance.now choice.now steps.new.items m) }
 {
-    let _cluster = instance.cluster();
+    let channels = instance.cluster().channels;
     let count = instance.messages().len() as u32;
     for m in 0..count {
         let round = choice.lo(m);
         add(steps, Step::LeSend(m))?;
         add(steps, Step::XRound(m))?;
-        add(
-            steps,
-            Step::XFrames(instance.source_of(m as usize), round, round + 1),
-        )?;
+        add_frame_steps(channels, instance.source_of(m as usize), round, steps)?;
     }
     Ok(())
 }

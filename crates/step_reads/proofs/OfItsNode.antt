@@ -4,9 +4,11 @@ use Rattle.std.proofs.lemmas.Bool.{and_parts}
 use Rattle.std.proofs.lemmas.Bool.Decides.{eqb_tells}
 use Rattle.ttp_model.specs.Instance.{Instance, node_of, source_of}
 use Rattle.ttp_model.specs.Network.{is_on, is_message_of, is_received_by}
+use Rattle.tt_choice.specs.Choice.{Choice}
 use Rattle.sought_plans.specs.Known.{Known, es_of, le_of, lo_of, top_of}
+use Rattle.sought_plans.specs.Premises.{counts_on, sent_within}
 use Rattle.sought_plans.proofs.Elsewhere.{among_received}
-use Rattle.step_reads.specs.Added.{BoundsRunWithin, BoundsSendingWithin, KeepsOtherOut, TellsArrival, TellsRivalWait}
+use Rattle.step_reads.specs.Added.{BoundsCounted, BoundsRunWithin, BoundsSendingWithin, KeepsOtherOut, TellsArrival, TellsRivalWait}
 use Rattle.step_reads.specs.declared.fact.Fact.{Fact}
 
 test_of_same : (a b : ℕ) → a ≡ b → (a == b) ≡ true
@@ -17,6 +19,9 @@ run_on_node i f n a b x fact inside is = (and_parts (node_of i x == n) (nat_le a
 
 pub sent_of_node : (i : Instance) (f : Known) (n a b x : ℕ) (fact : Fact) → x < length i.messages → BoundsSendingWithin i f n a b x fact → is_message_of i n x ≡ true
 sent_of_node i f n a b x fact inside is = (and_parts (source_of i x == n) (nat_le a (lo_of f x) && nat_le (top_of f x) b) is.0).0
+
+pub counted_of_node : (i : Instance) (c : Choice) (f : Known) (k n a b x : ℕ) (fact : Fact) → x < length i.messages → BoundsCounted i c f k n a b x fact → is_message_of i n x ≡ true
+counted_of_node i c f k n a b x fact inside is = sent_of_node i f n a b x fact inside ((and_parts (counts_on c k x) (sent_within i f n a b x) is.0).1, is.1)
 
 pub other_of_node : (i : Instance) (f : Known) (m r x : ℕ) (fact : Fact) → x < length i.messages → KeepsOtherOut i f m r x fact → is_message_of i (source_of i m) x ≡ true
 other_of_node i f m r x fact inside is = test_of_same (source_of i x) (source_of i m) is.0.one_node

@@ -2,10 +2,11 @@
 use Rattle.std.specs.Prelude.{◌≡◌, ℕ, ◌+◌, ◌⊎◌, List, slice_index, Contains, IsTrue}
 use Rattle.ttp_model.specs.Instance.{Instance}
 use Rattle.ttp_model.specs.Graph.{Leads}
+use Rattle.tt_choice.specs.Choice.{Choice}
 use Rattle.sought_plans.specs.Known.{Known}
 use Rattle.sought_plans.specs.Premises.{runs_within, sent_within}
 use Rattle.sought_plans.specs.Dominance.{IsSentTo}
-use Rattle.step_reads.specs.Reads.{BoundsRun, BoundsSending, IsRival, TellsWait, IsOtherOf, KeepsOut}
+use Rattle.step_reads.specs.Reads.{BoundsRun, BoundsSending, counted_within, IsRival, TellsWait, IsOtherOf, KeepsOut}
 use Rattle.step_reads.specs.declared.fact.Fact.{Fact}
 use Rattle.step_reads.specs.declared.fact.Fact.TheVariants.{LateRound, Order}
 
@@ -22,6 +23,10 @@ BoundsRunWithin i f n a b p fact = IsTrue (runs_within i f n a b p) × BoundsRun
 -- the bounds of a message, where it is of node n and is sent from round a on and before b
 abbrev pub BoundsSendingWithin : Instance → Known → ℕ → ℕ → ℕ → ℕ → Fact → Type 0
 BoundsSendingWithin i f n a b m fact = IsTrue (sent_within i f n a b m) × BoundsSending a m fact
+
+-- the same, where it is fixed to channel k or to both
+abbrev pub BoundsCounted : Instance → Choice → Known → ℕ → ℕ → ℕ → ℕ → ℕ → Fact → Type 0
+BoundsCounted i c f k n a b m fact = IsTrue (counted_within i c f k n a b m) × BoundsSending a m fact
 
 -- what tells how long p may have to wait for x, where it may
 abbrev pub TellsRivalWait : Instance → Known → ℕ → ℕ → Fact → Type 0

@@ -1,20 +1,20 @@
 -- What each step reads: of what is known, and of the choice and its goal beside it. Own profile.
-use Rattle.std.specs.Prelude.{◌≡◌, ◌≢◌, ℕ, ◌+◌, ◌-◌, ◌<◌, ◌≤◌, ◌⊎◌, List, length, slice_index, IsTrue, IsFalse}
+use Rattle.std.specs.Prelude.{◌≡◌, ◌≢◌, ℕ, ◌+◌, ◌-◌, ◌<◌, ◌≤◌, ◌⊎◌, ◌&&◌, List, length, slice_index, Bool, IsTrue, IsFalse}
 use Rattle.ttp_model.specs.declared.step.Step.{Step}
-use Rattle.ttp_model.specs.declared.step.Step.TheVariants.{EsRelease, EsLink, EsBefore, EsArrive, EsMessage, LoSend, LeOwn, LeLink, LeBefore, LeMessage, LeSend, HiArrive, OrdWindow, OrdTwin, UsSettled, XWindow, XRound, XCycle, XLoad, XFrame, XFrames, XLate, XSilent}
+use Rattle.ttp_model.specs.declared.step.Step.TheVariants.{EsRelease, EsLink, EsBefore, EsArrive, EsMessage, LoSend, LeOwn, LeLink, LeBefore, LeMessage, LeSend, HiArrive, OrdWindow, OrdTwin, UsSettled, XWindow, XRound, XCycle, XLoad, XFrame, XFrames, XChannel, XLate, XSilent}
 use Rattle.ttp_model.specs.Instance.{Instance, link_at, node_of, source_of}
 use Rattle.ttp_model.specs.Graph.{HasLink, Leads}
 use Rattle.tt_choice.specs.Choice.{Choice}
 use Rattle.tt_choice.specs.Extremes.{start_least, start_most, end_least, end_most, cap_least, cap_most}
 use Rattle.sought_plans.specs.Known.{Known, es_of, le_of, lo_of, top_of, bef_of}
-use Rattle.sought_plans.specs.Premises.{sender_of, runs_within, sent_within}
+use Rattle.sought_plans.specs.Premises.{sender_of, runs_within, sent_within, copies, counts_on}
 use Rattle.sought_plans.specs.Dominance.{IsSentTo, StandsFirst}
 use Rattle.sought_plans.specs.Conclusions.{Conclusion}
 use Rattle.tt_infer.specs.Table.{rule}
 use Rattle.step_reads.specs.declared.fact.Fact.{Fact}
 use Rattle.step_reads.specs.declared.fact.Fact.TheVariants.{Start, End, FirstRound, LateRound, Order, Closed}
 use Rattle.step_reads.specs.declared.limit.Limit.{Limit}
-use Rattle.step_reads.specs.declared.limit.Limit.TheVariants.{Goal, LeastSlot, GreatestSlot, LeastFrame, GreatestFrame, Place}
+use Rattle.step_reads.specs.declared.limit.Limit.TheVariants.{Goal, LeastSlot, GreatestSlot, LeastFrame, GreatestFrame, Place, Copies, Counted}
 
 -- the same of a fact is known in two states
 abbrev pub AgreeOn : Known → Known → Fact → Type 0
@@ -37,6 +37,8 @@ GivesAlike i c goal d aim (GreatestSlot n) = IsSameSlot (start_most i c n) (end_
 GivesAlike i c goal d aim (LeastFrame n) = cap_least i c n ≡ cap_least i d n
 GivesAlike i c goal d aim (GreatestFrame n) = cap_most i c n ≡ cap_most i d n
 GivesAlike i c goal d aim (Place v) = (u : ℕ) → StandsFirst c.prefix v u → StandsFirst d.prefix v u
+GivesAlike i c goal d aim (Copies m) = copies c m ≡ copies d m
+GivesAlike i c goal d aim (Counted m k) = counts_on c k m ≡ counts_on d k m
 
 -- a fact is so of something that is numbered below a count
 abbrev pub OfSome : ℕ → (ℕ → Fact → Type 0) → Fact → Type 0
@@ -74,6 +76,10 @@ BoundsRun a p fact = (fact ≡ End p) ⊎ ((1 ≤ a) × (fact ≡ Start p))
 abbrev pub BoundsSending : ℕ → ℕ → Fact → Type 0
 BoundsSending a m fact = (fact ≡ LateRound m) ⊎ ((1 ≤ a) × (fact ≡ FirstRound m))
 
+-- a message is fixed to channel k, or to both, and is of node n and sent from round a on and before b
+abbrev pub counted_within : Instance → Choice → Known → ℕ → ℕ → ℕ → ℕ → ℕ → Bool
+counted_within i c f k n a b m = counts_on c k m && sent_within i f n a b m
+
 -- what keeps a message out of the frame of round r: it is sent later, or else earlier
 abbrev pub KeepsOut : Known → ℕ → ℕ → Fact → Type 0
 KeepsOut f r k fact =
@@ -84,68 +90,73 @@ pub record IsOtherOf (i : Instance) (m k : ℕ) : Type 0 where
   pub other : k ≢ m
   pub one_node : source_of i k ≡ source_of i m
 
--- The facts that a step reads, where this is known before it.
-abbrev pub ReadsFact : Instance → Known → Step → Fact → Type 0
-ReadsFact i f (EsRelease p) fact = ⊥
-ReadsFact i f (EsLink l) fact = fact ≡ Start (link_at i l).before
-ReadsFact i f (EsBefore p q) fact = (fact ≡ Start p) ⊎ (fact ≡ Order p q)
-ReadsFact i f (EsArrive m q) fact = fact ≡ FirstRound m
-ReadsFact i f (EsMessage m q) fact = fact ≡ Start (sender_of i m)
-ReadsFact i f (LoSend m) fact = fact ≡ Start (sender_of i m)
-ReadsFact i f (LeOwn p) fact = ⊥
-ReadsFact i f (LeLink l) fact = fact ≡ End (link_at i l).after
-ReadsFact i f (LeBefore p q) fact = (fact ≡ End q) ⊎ (fact ≡ Order p q)
-ReadsFact i f (LeMessage m q) fact = fact ≡ End q
-ReadsFact i f (LeSend m) fact = fact ≡ LateRound m
-ReadsFact i f (HiArrive m q) fact = fact ≡ End q
-ReadsFact i f (OrdWindow p q) fact = (fact ≡ End p) ⊎ (fact ≡ Start q)
-ReadsFact i f (OrdTwin p q) fact = ⊥
-ReadsFact i f (UsSettled p) fact =
+-- The facts that a step reads at a choice, where this is known before it.
+abbrev pub ReadsFact : Instance → Choice → Known → Step → Fact → Type 0
+ReadsFact i c f (EsRelease p) fact = ⊥
+ReadsFact i c f (EsLink l) fact = fact ≡ Start (link_at i l).before
+ReadsFact i c f (EsBefore p q) fact = (fact ≡ Start p) ⊎ (fact ≡ Order p q)
+ReadsFact i c f (EsArrive m q) fact = fact ≡ FirstRound m
+ReadsFact i c f (EsMessage m q) fact = fact ≡ Start (sender_of i m)
+ReadsFact i c f (LoSend m) fact = fact ≡ Start (sender_of i m)
+ReadsFact i c f (LeOwn p) fact = ⊥
+ReadsFact i c f (LeLink l) fact = fact ≡ End (link_at i l).after
+ReadsFact i c f (LeBefore p q) fact = (fact ≡ End q) ⊎ (fact ≡ Order p q)
+ReadsFact i c f (LeMessage m q) fact = fact ≡ End q
+ReadsFact i c f (LeSend m) fact = fact ≡ LateRound m
+ReadsFact i c f (HiArrive m q) fact = fact ≡ End q
+ReadsFact i c f (OrdWindow p q) fact = (fact ≡ End p) ⊎ (fact ≡ Start q)
+ReadsFact i c f (OrdTwin p q) fact = ⊥
+ReadsFact i c f (UsSettled p) fact =
     OfSome (length i.processes) (λ x told. IsRival i p x × TellsWait f p x told) fact
     ⊎ OfSome (length i.messages) (λ m told. IsSentTo i p m × (told ≡ LateRound m)) fact
-ReadsFact i f (XWindow p) fact = (fact ≡ Start p) ⊎ (fact ≡ End p)
-ReadsFact i f (XRound m) fact = (fact ≡ FirstRound m) ⊎ (fact ≡ LateRound m)
-ReadsFact i f (XCycle ps) fact = IsKnownPair i ps fact
-ReadsFact i f (XLoad n a b) fact =
+ReadsFact i c f (XWindow p) fact = (fact ≡ Start p) ⊎ (fact ≡ End p)
+ReadsFact i c f (XRound m) fact = (fact ≡ FirstRound m) ⊎ (fact ≡ LateRound m)
+ReadsFact i c f (XCycle ps) fact = IsKnownPair i ps fact
+ReadsFact i c f (XLoad n a b) fact =
     OfSome (length i.processes) (λ p told. IsTrue (runs_within i f n a b p) × BoundsRun a p told) fact
-ReadsFact i f (XFrame m) fact = ⊥
-ReadsFact i f (XFrames n a b) fact =
+ReadsFact i c f (XFrame m) fact = ⊥
+ReadsFact i c f (XFrames n a b) fact =
     OfSome (length i.messages) (λ m told. IsTrue (sent_within i f n a b m) × BoundsSending a m told) fact
-ReadsFact i f (XLate m r) fact =
+ReadsFact i c f (XChannel k n a b) fact =
+    OfSome (length i.messages) (λ m told. IsTrue (counted_within i c f k n a b m) × BoundsSending a m told) fact
+ReadsFact i c f (XLate m r) fact =
     ((fact ≡ FirstRound m) ⊎ (fact ≡ End (sender_of i m)))
     ⊎ OfSome (length i.messages) (λ k told. IsOtherOf i m k × KeepsOut f r k told) fact
-ReadsFact i f (XSilent u v) fact = ⊥
+ReadsFact i c f (XSilent u v) fact = ⊥
 
--- The limits that a step reads.
-abbrev pub ReadsLimit : Instance → Step → Limit → Type 0
-ReadsLimit i (EsRelease p) limit = ⊥
-ReadsLimit i (EsLink l) limit = ⊥
-ReadsLimit i (EsBefore p q) limit = ⊥
-ReadsLimit i (EsArrive m q) limit = limit ≡ LeastSlot (source_of i m)
-ReadsLimit i (EsMessage m q) limit = limit ≡ LeastFrame (source_of i m)
-ReadsLimit i (LoSend m) limit = limit ≡ GreatestSlot (source_of i m)
-ReadsLimit i (LeOwn p) limit = limit ≡ Goal
-ReadsLimit i (LeLink l) limit = ⊥
-ReadsLimit i (LeBefore p q) limit = ⊥
-ReadsLimit i (LeMessage m q) limit = limit ≡ LeastFrame (source_of i m)
-ReadsLimit i (LeSend m) limit = limit ≡ GreatestSlot (source_of i m)
-ReadsLimit i (HiArrive m q) limit = limit ≡ LeastSlot (source_of i m)
-ReadsLimit i (OrdWindow p q) limit = ⊥
-ReadsLimit i (OrdTwin p q) limit = ⊥
-ReadsLimit i (UsSettled p) limit = (m : ℕ) × IsSentTo i p m × (limit ≡ GreatestSlot (source_of i m))
-ReadsLimit i (XWindow p) limit = ⊥
-ReadsLimit i (XRound m) limit = ⊥
-ReadsLimit i (XCycle ps) limit = ⊥
-ReadsLimit i (XLoad n a b) limit = ⊥
-ReadsLimit i (XFrame m) limit = limit ≡ GreatestFrame (source_of i m)
-ReadsLimit i (XFrames n a b) limit = limit ≡ GreatestFrame n
-ReadsLimit i (XLate m r) limit = (limit ≡ LeastSlot (source_of i m)) ⊎ (limit ≡ LeastFrame (source_of i m))
-ReadsLimit i (XSilent u v) limit = limit ≡ Place v
+-- The limits that it reads.
+abbrev pub ReadsLimit : Instance → Choice → Known → Step → Limit → Type 0
+ReadsLimit i c f (EsRelease p) limit = ⊥
+ReadsLimit i c f (EsLink l) limit = ⊥
+ReadsLimit i c f (EsBefore p q) limit = ⊥
+ReadsLimit i c f (EsArrive m q) limit = limit ≡ LeastSlot (source_of i m)
+ReadsLimit i c f (EsMessage m q) limit = limit ≡ LeastFrame (source_of i m)
+ReadsLimit i c f (LoSend m) limit = limit ≡ GreatestSlot (source_of i m)
+ReadsLimit i c f (LeOwn p) limit = limit ≡ Goal
+ReadsLimit i c f (LeLink l) limit = ⊥
+ReadsLimit i c f (LeBefore p q) limit = ⊥
+ReadsLimit i c f (LeMessage m q) limit = limit ≡ LeastFrame (source_of i m)
+ReadsLimit i c f (LeSend m) limit = limit ≡ GreatestSlot (source_of i m)
+ReadsLimit i c f (HiArrive m q) limit = limit ≡ LeastSlot (source_of i m)
+ReadsLimit i c f (OrdWindow p q) limit = ⊥
+ReadsLimit i c f (OrdTwin p q) limit = ⊥
+ReadsLimit i c f (UsSettled p) limit = (m : ℕ) × IsSentTo i p m × (limit ≡ GreatestSlot (source_of i m))
+ReadsLimit i c f (XWindow p) limit = ⊥
+ReadsLimit i c f (XRound m) limit = ⊥
+ReadsLimit i c f (XCycle ps) limit = ⊥
+ReadsLimit i c f (XLoad n a b) limit = ⊥
+ReadsLimit i c f (XFrame m) limit = limit ≡ GreatestFrame (source_of i m)
+ReadsLimit i c f (XFrames n a b) limit =
+    (limit ≡ GreatestFrame n) ⊎ ((m : ℕ) × (m < length i.messages) × IsTrue (sent_within i f n a b m) × (limit ≡ Copies m))
+ReadsLimit i c f (XChannel k n a b) limit =
+    (limit ≡ GreatestFrame n) ⊎ ((m : ℕ) × (m < length i.messages) × IsTrue (counted_within i c f k n a b m) × (limit ≡ Counted m k))
+ReadsLimit i c f (XLate m r) limit = (limit ≡ LeastSlot (source_of i m)) ⊎ (limit ≡ LeastFrame (source_of i m))
+ReadsLimit i c f (XSilent u v) limit = limit ≡ Place v
 
 -- two choices with their goals, and what is known at each, agree on all that a step reads at the first
 pub record AgreeOnReads (i : Instance) (c : Choice) (goal : ℕ) (f : Known) (d : Choice) (aim : ℕ) (g : Known) (step : Step) : Type 0 where
-  pub facts : (fact : Fact) → ReadsFact i f step fact → AgreeOn f g fact
-  pub limits : (limit : Limit) → ReadsLimit i step limit → GivesAlike i c goal d aim limit
+  pub facts : (fact : Fact) → ReadsFact i c f step fact → AgreeOn f g fact
+  pub limits : (limit : Limit) → ReadsLimit i c f step limit → GivesAlike i c goal d aim limit
 
 -- a step can be taken, and concludes this
 pub record Gives (i : Instance) (c : Choice) (goal : ℕ) (f : Known) (step : Step) (k : Conclusion) : Type 0 where

@@ -24,6 +24,6 @@ IsWritten i (step ∷ steps) fact = (fact ≡ target i step) ⊎ IsWritten i ste
 abbrev pub ReadShared : Instance → Choice → Choice → ℕ → Known → List Step → List Step → Type 0
 ReadShared i c d goal f before [] = Unit {0}
 ReadShared i c d goal f before (step ∷ steps) =
-    ((fact : Fact) → ReadsFact i f step fact → SayAlike i c d fact ⊎ IsWritten i before fact)
-    × ((limit : Limit) → ReadsLimit i step limit → GivesAlike i c goal d goal limit)
+    ((fact : Fact) → ReadsFact i c f step fact → SayAlike i c d fact ⊎ IsWritten i before fact)
+    × ((limit : Limit) → ReadsLimit i c f step limit → GivesAlike i c goal d goal limit)
     × ((next : Known) → IsLawful i c goal f step next → ReadShared i c d goal next (step ∷ before) steps)

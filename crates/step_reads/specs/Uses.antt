@@ -1,10 +1,12 @@
 -- Which decisions the steps of a leaf use: what they read of the choice, and none of them wrote before. Own profile.
-use Rattle.std.specs.Prelude.{ℕ, ◌<◌, ◌≤◌, ◌⊎◌, List, [], ◌∷◌, length, true, IsTrue}
+use Rattle.std.specs.Prelude.{ℕ, ◌<◌, ◌≤◌, ◌==◌, ◌⊎◌, List, [], ◌∷◌, length, true, IsTrue}
 use Rattle.ttp_model.specs.declared.step.Step.{Step}
 use Rattle.ttp_model.specs.Instance.{Instance}
+use Rattle.ttp_model.specs.Limits.{both_channels}
+use Rattle.ttp_model.specs.Plans.{is_on}
 use Rattle.tt_choice.specs.Decisions.{chosen}
 use Rattle.tt_choice.specs.Extremes.{place_of}
-use Rattle.tt_choice.specs.Kept.{Marked, all_of, kept_of, last_kept, sets_least, sets_greatest, sets_order, fixes_above, fixes_below}
+use Rattle.tt_choice.specs.Kept.{Marked, all_of, kept_of, last_kept, sets_least, sets_greatest, sets_order, fixes_above, fixes_below, fixes_channel}
 use Rattle.sought_plans.specs.Known.{Known}
 use Rattle.tt_infer.specs.Table.{IsLawful}
 use Rattle.step_reads.specs.Reads.{ReadsFact, ReadsLimit}
@@ -12,7 +14,7 @@ use Rattle.step_reads.specs.Shared.{IsWritten}
 use Rattle.step_reads.specs.declared.fact.Fact.{Fact}
 use Rattle.step_reads.specs.declared.fact.Fact.TheVariants.{Start, End, FirstRound, LateRound, Order, Closed}
 use Rattle.step_reads.specs.declared.limit.Limit.{Limit}
-use Rattle.step_reads.specs.declared.limit.Limit.TheVariants.{Goal, LeastSlot, GreatestSlot, LeastFrame, GreatestFrame, Place}
+use Rattle.step_reads.specs.declared.limit.Limit.TheVariants.{Goal, LeastSlot, GreatestSlot, LeastFrame, GreatestFrame, Place, Copies, Counted}
 
 -- the decision is kept, if there is one, that says at first how far a fact is known
 abbrev pub KeepsFact : List Marked → Fact → Type 0
@@ -44,11 +46,13 @@ KeepsLimit i ms (GreatestSlot n) = KeepsGreatestSlot i ms n
 KeepsLimit i ms (LeastFrame n) = IsTrue (last_kept (fixes_above n) true ms)
 KeepsLimit i ms (GreatestFrame n) = IsTrue (last_kept (fixes_below i n) true ms)
 KeepsLimit i ms (Place v) = place_of v (chosen i (all_of ms)).prefix < length (chosen i (kept_of ms)).prefix
+KeepsLimit i ms (Copies m) = IsTrue (last_kept (fixes_channel (λ k. k == both_channels) m) true ms)
+KeepsLimit i ms (Counted m k) = IsTrue (last_kept (fixes_channel (is_on k) m) true ms)
 
 -- Steps that are taken at the choice that all decisions make, behind others: each decision that they use is kept.
 abbrev pub UseKept : Instance → List Marked → ℕ → Known → List Step → List Step → Type 0
 UseKept i ms goal f before [] = Unit {0}
 UseKept i ms goal f before (step ∷ steps) =
-    ((fact : Fact) → ReadsFact i f step fact → KeepsFact ms fact ⊎ IsWritten i before fact)
-    × ((limit : Limit) → ReadsLimit i step limit → KeepsLimit i ms limit)
+    ((fact : Fact) → ReadsFact i (chosen i (all_of ms)) f step fact → KeepsFact ms fact ⊎ IsWritten i before fact)
+    × ((limit : Limit) → ReadsLimit i (chosen i (all_of ms)) f step limit → KeepsLimit i ms limit)
     × ((next : Known) → IsLawful i (chosen i (all_of ms)) goal f step next → UseKept i ms goal next (step ∷ before) steps)

@@ -79,6 +79,7 @@ pub fn target(instance: &Instance, step: &Step) -> Fact
         | Step::XLoad(..)
         | Step::XFrame(_)
         | Step::XFrames(..)
+        | Step::XChannel(..)
         | Step::XLate(..)
         | Step::XSilent(..) => Fact::Closed,
     }

@@ -15,4 +15,8 @@ pub enum Limit {
     GreatestFrame(u32),
     /// Which nodes stand in front of one in the order.
     Place(u32),
+    /// In how many halves of a frame a message is at least: in two where it is fixed to both channels.
+    Copies(u32),
+    /// Whether a message is fixed to a channel, or to both.
+    Counted(u32, u32),
 }

@@ -15,7 +15,7 @@ use crate::fact::{Fact, link_after, link_before, sender};
 use added::{add, add_two};
 use kept_out::add_late;
 use rings::add_ring;
-use spans::{add_frames, add_load};
+use spans::{add_channel, add_frames, add_load};
 use tt_infer::Facts;
 use ttp_model::{MemoryFault, Step};
 use waits::add_settled;
@@ -23,7 +23,7 @@ use waits::add_settled;
 /// Adds the facts that a step reads, where this is known before it and what it names is there.
 pub fn add_reads(facts: &Facts, step: &Step, reads: &mut Vec<Fact>) -> Result<(), MemoryFault>
     ensures { (rule facts.now.instance facts.now.choice facts.now.goal facts.now.known step.now).there
-        → OnOk result (AddsFacts (ReadsFact facts.now.instance facts.now.known step.now)
+        → OnOk result (AddsFacts (ReadsFact facts.now.instance facts.now.choice facts.now.known step.now)
         reads.old.items reads.new.items) }
 {
     let instance = facts.instance();
@@ -49,6 +49,7 @@ pub fn add_reads(facts: &Facts, step: &Step, reads: &mut Vec<Fact>) -> Result<()
         Step::XLoad(n, a, b) => add_load(facts, *n, *a, *b, reads),
         Step::XFrame(_) => Ok(()),
         Step::XFrames(n, a, b) => add_frames(facts, *n, *a, *b, reads),
+        Step::XChannel(k, n, a, b) => add_channel(facts, *k, *n, *a, *b, reads),
         Step::XLate(m, r) => add_late(facts, *m, *r, reads),
         Step::XSilent(_, _) => Ok(()),
     }

@@ -4,7 +4,7 @@ use Rattle.std.proofs.lemmas.List.{length-map, length_push, map-append}
 use Rattle.std.proofs.lemmas.List.FromFn.{map-range_with_len_more}
 use Rattle.ttp_model.specs.declared.limits.TheConstants.{MOST_NODES}
 use Rattle.ttp_model.specs.declared.step.Kind.{Kind}
-use Rattle.ttp_model.specs.declared.step.Kind.TheVariants.{Place, Cap, Pair, Round}
+use Rattle.ttp_model.specs.declared.step.Kind.TheVariants.{Place, Cap, Pair, Round, Chan}
 use Rattle.ttp_model.specs.Instance.{Instance}
 use Rattle.ttp_model.specs.Rules.{IsInstance}
 use Rattle.tt_choice.specs.declared.decision.Decision.{Decision}
@@ -21,6 +21,7 @@ few_children i c Place w ok is = omega (arith, length-unplaced i c ok, w.limits.
 few_children i c (Cap n) w ok is = omega (arith, (w.capacities n is.0).few)
 few_children i c (Pair p q) w ok is = omega arith
 few_children i c (Round m r) w ok is = omega arith
+few_children i c (Chan m) w ok is = omega arith
 
 -- a child's number is small
 pub small_number : (i : Instance) (c : Choice) (kind : Kind) (decisions : List Decision) (k : ℕ) → IsInstance i → IsChoice i c → IsOpen i c kind → decisions ≡ decisions_of i c kind → k < length decisions → k + 1 ≤ MOST_NODES

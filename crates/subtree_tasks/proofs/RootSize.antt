@@ -13,6 +13,7 @@ use Rattle.ttp_model.proofs.Totals.{total_le, total_more, total_bound}
 use Rattle.tt_choice.specs.Choice.{Choice, is_unordered, unordered_below, unordered_pairs, least_round, greatest_round}
 use Rattle.tt_choice.specs.Branches.{root_choice}
 use Rattle.tt_choice.specs.Sizes.{size_left, range_size}
+use Rattle.tt_choice.proofs.Root.{IsChoice-root}
 use Rattle.subtree_tasks.specs.Name.{root_name}
 use Rattle.subtree_tasks.specs.Task.{Task, root_task, IsTask}
 use Rattle.certificate.specs.declared.limits.TheConstants.{MOST_PAIRS, MOST_HALVINGS, MOST_BRANCHES_ABOVE}
@@ -60,18 +61,26 @@ caps_few i few =
     let nodes : length (root_choice i).fixed ≡ length i.nodes = length-replicate (length i.nodes) None in
     omega (arith, all, nodes, few)
 
-four : (a b c d : ℕ) → a ≤ MOST_NODES → b ≤ MOST_NODES → c ≤ MOST_PAIRS → d ≤ MOST_MESSAGES * MOST_HALVINGS → a + b + c + d ≤ MOST_BRANCHES_ABOVE
-four a b c d ha hb hc hd = omega arith
+channels_few : (i : Instance) → IsInstance i → count_by is_none (root_choice i).channels ≤ MOST_MESSAGES
+channels_few i w =
+    let all : count_by is_none (root_choice i).channels ≤ length (root_choice i).channels = count_by-le-length is_none (root_choice i).channels in
+    let messages : length (root_choice i).channels ≡ length i.messages = (IsChoice-root i w).channels_length in
+    omega (arith, all, messages, w.limits.messages)
+
+five : (a b c d e : ℕ) → a ≤ MOST_NODES → b ≤ MOST_NODES → c ≤ MOST_PAIRS → d ≤ MOST_MESSAGES * MOST_HALVINGS → e ≤ MOST_MESSAGES → a + b + c + d + e ≤ MOST_BRANCHES_ABOVE
+five a b c d e ha hb hc hd he = omega arith
 
 -- a branch for each node, one for each of their capacities, one for each two processes, and for each
--- message as many as its rounds can be halved
+-- message as many as its rounds can be halved, and one for its channel
 pub size_left-root : (i : Instance) → IsInstance i → size_left i (root_choice i) ≤ MOST_BRANCHES_ABOVE
 size_left-root i w =
-    four (length i.nodes - length (root_choice i).prefix) (count_by is_none (root_choice i).fixed) (unordered_pairs i (root_choice i)) (total (range_size (root_choice i)) (length i.messages))
+    five (length i.nodes - length (root_choice i).prefix) (count_by is_none (root_choice i).fixed) (unordered_pairs i (root_choice i))
+    (total (range_size (root_choice i)) (length i.messages)) (count_by is_none (root_choice i).channels)
     (omega (arith, w.limits.nodes))
     (caps_few i w.limits.nodes)
     (pairs_few i (root_choice i) w.limits.processes)
     (ranges_few i w.limits.messages (w.ranges AtCluster).horizon)
+    (channels_few i w)
 
 -- so the whole tree is a task
 pub root_is_task : (i : Instance) → IsInstance i → IsTask i root_task

@@ -5,7 +5,7 @@ use Rattle.ttp_model.specs.declared.step.Leaf.{Leaf}
 use Rattle.ttp_model.specs.Instance.{Instance}
 use Rattle.ttp_model.specs.Chains.{IsPathBound}
 use Rattle.tt_choice.specs.Choice.{Choice, IsComplete}
-use Rattle.step_logs.specs.PlansBelow.{IsPlanBelow}
+use Rattle.path_bounds.specs.PlansBelow.{IsPlanBelow}
 use Rattle.tt_infer.specs.Facts.{Facts}
 use Rattle.tt_infer.specs.Leaves.{ClosesLeaf}
 use Rattle.subtree_tasks.specs.declared.trial.Trial.{Trial}

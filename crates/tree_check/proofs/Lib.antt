@@ -1,5 +1,6 @@
 pub mod Bare
 pub mod Bounds
+pub mod OneChannel
 pub mod Turns
 pub mod Trees
 pub mod Seen

@@ -3,10 +3,13 @@ use Rattle.std.proofs.Common.{◌≡◌, ℕ, ◌≤◌, List, refl, sym, ap, su
 use Rattle.std.specs.List.Sorted.{IsPermutation}
 use Rattle.std.proofs.lemmas.List.Elements.{All-contains}
 use Rattle.std.proofs.lemmas.List.Sorted.{IsPermutation-sym, IsPermutation-trans, All-permutation, Contains-permutation}
-use Rattle.certificate.specs.declared.version.Version.TheVariants.{One}
+use Rattle.certificate.specs.declared.version.Version.{Version}
 use Rattle.certificate.specs.declared.limits.TheConstants.{MOST_BRANCHES_ABOVE}
 use Rattle.certificate.specs.Trees.{Trees, IsTree, preorder, trees_of}
-use Rattle.certificate.proofs.TreeLists.{trees_of-preorder}
+use Rattle.certificate.specs.Versions.{Allows, version_of_nodes}
+use Rattle.certificate.specs.Cert.{Cert}
+use Rattle.certificate.proofs.TreeLists.{trees_of-preorder, preorder-trees_of}
+use Rattle.certificate.proofs.Versions.{version_allows}
 use Rattle.subtree_tasks.specs.declared.piece.Piece.{Piece}
 use Rattle.tree_gathering.specs.Trees.{IsTreeOf, pieces_of}
 use Rattle.tree_gathering.specs.Gathering.{HasGoal, AreShallow, HasTreeNames, HaveGoals, HasWantedNames, IsOwn, IsGathered}
@@ -22,7 +25,11 @@ use Rattle.tree_gathering.proofs.Sorting.{sorted_exists}
 
 pub record IsAnswered (low : ℕ) (pieces sorted : List Piece) : Type 0 where
   pub is_tree : IsTree (trees_of (map (λ (p : Piece). p.node) sorted))
-  pub answer : IsGathered low pieces (record { version = One; low = low; tree = trees_of (map (λ (p : Piece). p.node) sorted) })
+  pub answer : IsGathered low pieces (record {
+    version = version_of_nodes (map (λ (p : Piece). p.node) sorted);
+    low = low;
+    tree = trees_of (map (λ (p : Piece). p.node) sorted);
+  })
 
 nodes_are : (sorted : List Piece) (found : IsListOf sorted) → trees_of (map (λ (p : Piece). p.node) sorted) ≡ found.tree
 nodes_are sorted found =
@@ -39,7 +46,7 @@ gathered low pieces sorted shallow same up complete own goals =
     record {
       is_tree = subst IsTree (sym (nodes_are sorted found)) (record { one = found.one; shallow = low_tree });
       answer = record {
-        version = refl;
+        version = ap version_of_nodes (sym (preorder-trees_of (map (λ (p : Piece). p.node) sorted)));
         bound = refl;
         tree = subst (IsTreeOf pieces) (sym (nodes_are sorted found)) whole;
         goals = All-permutation (λ (p : Piece). HasGoal low p.node) sorted pieces (IsPermutation-sym pieces sorted same) goals;
@@ -47,6 +54,9 @@ gathered low pieces sorted shallow same up complete own goals =
     }
 
 -- ---- the laws
+
+pub gathered_allows : (low : ℕ) (pieces : List Piece) (cert : Cert) → IsGathered low pieces cert → Allows cert.version cert.tree
+gathered_allows low pieces cert is = subst (λ (version : Version). Allows version cert.tree) (sym is.version) (version_allows cert.tree)
 
 pub names_make_a_tree : (pieces : List Piece) → HasTreeNames pieces → (tree : Trees) × IsTreeOf pieces tree
 names_make_a_tree pieces names =

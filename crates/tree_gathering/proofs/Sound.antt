@@ -1,5 +1,5 @@
 -- Pieces that have the names of a tree and no low leaf have no fault, and are answered once they are sorted.
-use Rattle.std.proofs.Common.{◌≡◌, ℕ, List, [], Result, Ok, Err, IfOk, IfErr, arith, ap, refl}
+use Rattle.std.proofs.Common.{◌≡◌, ℕ, List, [], Result, Ok, Err, IfOk, IfErr, arith, ap, ◌∙◌, refl}
 use Rattle.std.specs.List.Sorted.{IsPermutation}
 use Rattle.std.proofs.lemmas.List.Elements.{All-contains}
 use Rattle.std.proofs.lemmas.List.Sorted.{All-permutation}
@@ -8,7 +8,7 @@ use Rattle.subtree_tasks.specs.Account.{IsWholeTree}
 use Rattle.tree_gathering.specs.declared.fault.GatherFault.{GatherFault}
 use Rattle.tree_gathering.specs.declared.fault.GatherFault.TheVariants.{DoubledName, MissingName, StrayName, LowGoal, OutOfMemory}
 use Rattle.certificate.specs.Trees.{Trees}
-use Rattle.certificate.specs.declared.version.Version.TheVariants.{One}
+use Rattle.certificate.specs.Versions.{version_of_tree}
 use Rattle.certificate.specs.Cert.{Cert}
 use Rattle.tree_gathering.specs.Trees.{IsTreeOf}
 use Rattle.tree_gathering.specs.Gathering.{AreShallow, HasGoal, HasTreeNames, HaveGoals, IsFirstGatherFault, IsGathered}
@@ -28,11 +28,13 @@ no_fault low pieces OutOfMemory names goals is = refl
 pub whole_trees_are_sound : (pieces : List Piece) (low : ℕ) (fault : GatherFault) → IsWholeTree pieces [] → HaveGoals low pieces → IsFirstGatherFault low pieces fault → fault ≡ OutOfMemory
 whole_trees_are_sound pieces low fault whole goals is = no_fault low pieces fault (whole_tree_names pieces whole) goals is
 
-same_cert : (cert : Cert) (low : ℕ) (tree : Trees) → cert.version ≡ One → cert.low ≡ low → cert.tree ≡ tree → cert ≡ record { version = One; low = low; tree = tree }
-same_cert cert low tree a b c = λ i. record { version = a i; low = b i; tree = c i }
+same_cert : (cert : Cert) (low : ℕ) (tree : Trees) → cert.version ≡ version_of_tree cert.tree → cert.low ≡ low → cert.tree ≡ tree → cert ≡ record { version = version_of_tree tree; low = low; tree = tree }
+same_cert cert low tree a b c =
+    let version = a ∙ ap version_of_tree c in
+    λ i. record { version = version i; low = b i; tree = c i }
 
 pub only_answer : (low : ℕ) (pieces : List Piece) (r : Result Cert GatherFault) → IfOk r (IsGathered low pieces) → IfErr r (IsFirstGatherFault low pieces) → (tree : Trees) → IsTreeOf pieces tree → HaveGoals low pieces
-    → (r ≡ Err OutOfMemory → ⊥) → r ≡ Ok (record { version = One; low = low; tree = tree })
+    → (r ≡ Err OutOfMemory → ⊥) → r ≡ Ok (record { version = version_of_tree tree; low = low; tree = tree })
 only_answer low pieces (Ok cert) ok err tree is goals memory = ap Ok (same_cert cert low tree ok.version ok.bound (tree_is_one pieces cert.tree tree ok.tree is))
 only_answer low pieces (Err fault) ok err tree is goals memory = absurd (memory (ap Err (no_fault low pieces fault (tree_has_names pieces tree is) goals err)))
 

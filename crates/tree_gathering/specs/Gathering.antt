@@ -5,7 +5,7 @@ use Rattle.ttp_model.specs.declared.step.Leaf.{Leaf}
 use Rattle.certificate.specs.Limits.{most_branches_above}
 use Rattle.certificate.specs.declared.node.Node.{Node}
 use Rattle.certificate.specs.declared.node.Node.TheVariants as node
-use Rattle.certificate.specs.declared.version.Version.TheVariants.{One}
+use Rattle.certificate.specs.Versions.{version_of_tree}
 use Rattle.certificate.specs.Cert.{Cert}
 use Rattle.subtree_tasks.specs.declared.piece.Piece.{Piece}
 use Rattle.subtree_tasks.specs.Name.{Name, root_name}
@@ -89,9 +89,10 @@ IsFirstGatherFault low pieces StrayName = IsOnce pieces × HasWantedNames pieces
 IsFirstGatherFault low pieces LowGoal = HasTreeNames pieces × HasLowLeaf low pieces
 IsFirstGatherFault low pieces OutOfMemory = Unit {0}
 
--- a certificate of version 1 and of a bound whose tree is that of the pieces, with no goal below the bound
+-- a certificate of a bound whose tree is that of the pieces, with no goal below the bound, in version 1 where that allows all
+-- lines of the tree, and else in version 2
 pub record IsGathered (low : ℕ) (pieces : List Piece) (cert : Cert) : Type 0 where
-  pub version : cert.version ≡ One
+  pub version : cert.version ≡ version_of_tree cert.tree
   pub bound : cert.low ≡ low
   pub tree : IsTreeOf pieces cert.tree
   pub goals : HaveGoals low pieces

@@ -1,8 +1,8 @@
 //! The certificate of a tree that is given as pieces.
 
 ghost use Rattle.std.specs.Prelude.{◌≡◌, ◌≢◌, ◌↔◌, IsTrue, IfOk, OnOk, IfErr, MatchBool, map};
-ghost use Rattle.certificate.specs.declared.version.Version.TheVariants.{One};
 ghost use Rattle.certificate.specs.Trees.{Trees, IsTree, trees_of};
+ghost use Rattle.certificate.specs.Versions.{version_of_nodes, version_of_tree};
 ghost use Rattle.tree_gathering.specs.declared.fault.GatherFault.TheVariants.{OutOfMemory};
 ghost use Rattle.tree_gathering.specs.Trees.{IsTreeOf};
 ghost use Rattle.tree_gathering.specs.Gathering.{AreShallow, HasGoal, HasLowLeaf, HasTreeNames, HaveGoals, IsFirstGatherFault, IsGathered};
@@ -73,20 +73,27 @@ fn nodes_of(room: Vec<Node>, pieces: Vec<Piece>) -> Result<Vec<Node>, MemoryFaul
     Ok(nodes)
 }
 
-/// The certificate of the tree whose nodes in preorder are those of the pieces, in their order.
+/// The certificate of the tree whose nodes in preorder are those of the pieces, in their order, in the first version that has
+/// all its lines.
 fn certified(room: Vec<Node>, pieces: Vec<Piece>, low: u32) -> Result<Cert, GatherFault>
     requires { IsTree (trees_of (map (λ piece. piece.node) pieces.items)) }
     ensures ok { IfOk result
-        (λ cert. cert ≡ record { version = One; low = low; tree = trees_of (map (λ piece. piece.node) pieces.items) }) }
+        (λ cert. cert ≡ record {
+          version = version_of_nodes (map (λ piece. piece.node) pieces.items);
+          low = low;
+          tree = trees_of (map (λ piece. piece.node) pieces.items);
+        }) }
     ensures err { IfErr result (λ fault. fault ≡ OutOfMemory) }
 {
     let nodes = nodes_of(room, pieces)?;
-    Ok(Cert::new(Version::One, low, nodes))
+    let version = Version::of_nodes(nodes.as_slice());
+    Ok(Cert::new(version, low, nodes))
 }
 
 /// The certificate of this bound, in ticks, whose tree is that of the pieces, which may stand in any
 /// order: the answer exactly where they are a tree and no leaf's goal is below the bound. Else the first
-/// fault. Names have at most as many indices as a certificate has branches above a node.
+/// fault. Its version is the first where that allows all lines of the tree, and else the second. Names have at most as many
+/// indices as a certificate has branches above a node.
 ///
 /// Sorts the pieces and looks each name up twice. The nodes are moved, and memory is taken for their
 /// list alone and for one name at a time.
@@ -96,7 +103,7 @@ pub fn gather(alloc: Global, pieces: Vec<Piece>, low: u32) -> Result<Cert, Gathe
     ensures err { IfErr result (IsFirstGatherFault low pieces.items) }
     // The certificate of a tree without low leaves, unless memory is refused.
     ensures only { (tree : Trees) → IsTreeOf pieces.items tree → HaveGoals low pieces.items
-        → result ≢ Err OutOfMemory → result ≡ Ok (record { version = One; low = low; tree = tree }) }
+        → result ≢ Err OutOfMemory → result ≡ Ok (record { version = version_of_tree tree; low = low; tree = tree }) }
 {
     let mut pieces = pieces;
     sort_by_name(&mut pieces);

@@ -5,6 +5,7 @@ ghost use Rattle.ttp_model.specs.Instance.{Instance};
 ghost use Rattle.tt_choice.specs.Choice.{Choice};
 ghost use Rattle.certificate.specs.Trees.{Trees};
 ghost use Rattle.certificate.specs.Cert.{Cert};
+ghost use Rattle.certificate.specs.Versions.{Allows};
 ghost use Rattle.tree_check.specs.Proofs.{Proves};
 ghost use Rattle.subtree_tasks.specs.declared.piece.Piece.{Piece};
 ghost use Rattle.subtree_tasks.specs.Account.{IsWholeTree};
@@ -41,4 +42,10 @@ pub fn leaves_close_a_tree()
     ensures right { (i : Instance) (pieces closed : List Piece) → All IsLeafPiece closed → AreRight i pieces
         → ((piece : Piece) (c : Choice) → Contains closed piece → StandsAt i pieces piece.name c → IsRight i c piece.node)
         → AreRight i (pieces ++ closed) }
+{}
+
+/// A certificate that is gathered is in a version that allows all lines of its tree, so it has a text.
+pub fn gathered_certificates_have_texts()
+    ensures { (low : ℕ) (pieces : List Piece) (cert : Cert) → IsGathered low pieces cert
+        → Allows cert.version cert.tree }
 {}

@@ -8,4 +8,6 @@ mod names;
 
 pub use fault::GatherFault;
 pub use gathering::{gather, gather_whole};
-pub use laws::{leaves_close_a_tree, names_make_one_tree, whole_trees_prove};
+pub use laws::{
+    gathered_certificates_have_texts, leaves_close_a_tree, names_make_one_tree, whole_trees_prove,
+};

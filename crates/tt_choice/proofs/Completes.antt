@@ -3,7 +3,7 @@ use Rattle.std.proofs.Common.{◌≡◌, ℕ, ◌<◌, ◌==◌, length, IsSome,
 use Rattle.std.proofs.lemmas.Bool.{cases_Bool, eqb-true, or_left, or_right}
 use Rattle.ttp_model.specs.Instance.{Instance, node_of}
 use Rattle.ttp_model.proofs.Totals.{total_zero, total_none}
-use Rattle.tt_choice.specs.Choice.{Choice, fixed_cap, is_before, least_round, greatest_round, unordered_below, unordered_pairs, IsOrdered, IsChoice, IsComplete}
+use Rattle.tt_choice.specs.Choice.{Choice, fixed_cap, fixed_channel, is_before, least_round, greatest_round, unordered_below, unordered_pairs, IsOrdered, IsChoice, IsComplete}
 use Rattle.tt_choice.proofs.Pairs.{count_of, free_count, ordered_count, strange_count}
 
 -- no pair is left
@@ -34,12 +34,15 @@ none_from i c all =
       ]
     ]
 
-pub IsComplete-from : (i : Instance) (c : Choice) → IsChoice i c → length c.prefix ≡ length i.nodes → c.unordered ≡ 0 → ((n : ℕ) → n < length c.fixed → IsSome (fixed_cap c n)) → ((m : ℕ) → m < length c.hi → least_round c m ≡ greatest_round c m) → IsComplete i c
-IsComplete-from i c ok placed none fixed rounds = record {
+pub IsComplete-from : (i : Instance) (c : Choice) → IsChoice i c → length c.prefix ≡ length i.nodes → c.unordered ≡ 0
+    → ((n : ℕ) → n < length c.fixed → IsSome (fixed_cap c n)) → ((m : ℕ) → m < length c.channels → IsSome (fixed_channel c m))
+    → ((m : ℕ) → m < length c.hi → least_round c m ≡ greatest_round c m) → IsComplete i c
+IsComplete-from i c ok placed none fixed channels rounds = record {
   placed = placed;
   fixed = λ n h. fixed n (omega (arith, h, ok.fixed_length));
   ordered = ordered_from i c (sym ok.unordered ∙ none);
   rounds = λ m h. rounds m (omega (arith, h, ok.hi_length));
+  channels = λ m h. channels m (omega (arith, h, ok.channels_length));
 }
 
 pub unordered-IsComplete : (i : Instance) (c : Choice) → IsChoice i c → IsComplete i c → c.unordered ≡ 0

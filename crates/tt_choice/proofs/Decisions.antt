@@ -2,7 +2,7 @@
 use Rattle.std.proofs.Common.{◌≡◌, ℕ, zero, suc, ◌<◌, List, [], ◌∷◌, ◌++◌, arith, refl}
 use Rattle.ttp_model.specs.declared.plan.Plan.{Plan}
 use Rattle.ttp_model.specs.declared.step.Kind.{Kind}
-use Rattle.ttp_model.specs.declared.step.Kind.TheVariants.{Place, Cap, Pair, Round}
+use Rattle.ttp_model.specs.declared.step.Kind.TheVariants.{Place, Cap, Pair, Round, Chan}
 use Rattle.ttp_model.specs.Instance.{Instance}
 use Rattle.tt_choice.specs.declared.decision.Decision.{Decision}
 use Rattle.tt_choice.specs.declared.decision.Decision.TheVariants as decided
@@ -10,9 +10,9 @@ use Rattle.tt_choice.specs.Choice.{Choice, IsChoice, IsIn}
 use Rattle.tt_choice.specs.Branches.{IsOpen, children, child}
 use Rattle.tt_choice.specs.Decisions.{choice_after, IsOpenDecision, choice_after_all, AreOpenDecisions, decision_of}
 use Rattle.tt_choice.proofs.Unplaced.{IsUnplaced-listed}
-use Rattle.tt_choice.proofs.Children.{turned}
-use Rattle.tt_choice.proofs.Members.{IsIn-place, IsIn-fix, IsIn-order, IsIn-at_most, IsIn-at_least}
-use Rattle.tt_choice.proofs.Changes.{IsChoice-place, IsChoice-fix, IsChoice-order, IsChoice-at_most, IsChoice-at_least}
+use Rattle.tt_choice.proofs.Children.{turned, one_of_three}
+use Rattle.tt_choice.proofs.Members.{IsIn-place, IsIn-fix, IsIn-order, IsIn-at_most, IsIn-at_least, IsIn-fix_channel}
+use Rattle.tt_choice.proofs.Changes.{IsChoice-place, IsChoice-fix, IsChoice-order, IsChoice-at_most, IsChoice-at_least, IsChoice-fix_channel}
 
 -- it is a choice of the instance
 pub IsChoice-after : (i : Instance) (c : Choice) (d : Decision) → IsChoice i c → IsOpenDecision i c d → IsChoice i (choice_after i c d)
@@ -21,6 +21,7 @@ IsChoice-after i c (decided.Cap n k) ok is = IsChoice-fix i c n k ok is.free.0 i
 IsChoice-after i c (decided.Before p q) ok is = IsChoice-order i c p q ok is
 IsChoice-after i c (decided.AtMost m r) ok is = IsChoice-at_most i c m r ok is
 IsChoice-after i c (decided.AtLeast m r) ok is = IsChoice-at_least i c m r ok is.message is.to
+IsChoice-after i c (decided.Channel m k) ok is = IsChoice-fix_channel i c m k ok is.free.message is.free.free is.known
 
 pub IsChoice-after_all : (i : Instance) (c : Choice) (ds : List Decision) → IsChoice i c → AreOpenDecisions i c ds → IsChoice i (choice_after_all i c ds)
 IsChoice-after_all i c [] ok are = ok
@@ -33,6 +34,7 @@ IsIn-after i c (decided.Cap n k) plan ok is v = ((IsIn-fix i c plan n k ok is.fr
 IsIn-after i c (decided.Before p q) plan ok is v = ((IsIn-order i c plan p q ok is).0 v).0
 IsIn-after i c (decided.AtMost m r) plan ok is v = ((IsIn-at_most i c plan m r ok is.message is.below).0 v).0
 IsIn-after i c (decided.AtLeast m r) plan ok is v = ((IsIn-at_least i c plan m r ok is.message is.above).0 v).0
+IsIn-after i c (decided.Channel m k) plan ok is v = ((IsIn-fix_channel i c plan m k ok is.free.message is.free.free).0 v).0
 
 -- one decision more at the end
 pub after_all-more : (i : Instance) (c : Choice) (ds : List Decision) (d : Decision) → choice_after_all i c (ds ++ d ∷ []) ≡ choice_after i (choice_after_all i c ds) d
@@ -60,6 +62,7 @@ child_after i c (Pair p q) zero = refl
 child_after i c (Pair p q) (suc k) = refl
 child_after i c (Round m r) zero = refl
 child_after i c (Round m r) (suc k) = refl
+child_after i c (Chan m) k = refl
 
 pub decision_is_open : (i : Instance) (c : Choice) (kind : Kind) (k : ℕ) → IsOpen i c kind → k < children i c kind → IsOpenDecision i c (decision_of i c kind k)
 decision_is_open i c Place k is inside = IsUnplaced-listed i c k inside
@@ -68,3 +71,4 @@ decision_is_open i c (Pair p q) zero is inside = is
 decision_is_open i c (Pair p q) (suc k) is inside = turned i c p q is
 decision_is_open i c (Round m r) zero is inside = is
 decision_is_open i c (Round m r) (suc k) is inside = record { message = is.message; above = omega (arith, is.from); to = omega (arith, is.below) }
+decision_is_open i c (Chan m) k is inside = record { free = is; known = one_of_three k inside }

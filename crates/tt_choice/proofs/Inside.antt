@@ -2,11 +2,11 @@
 use Rattle.std.proofs.Common.{◌≡◌, ℕ, zero, suc, ◌+◌, ◌<◌, ◌≤◌, List, [], ◌∷◌, length, length-append, slice_index, Option, None, Some, arith, inl, inr, refl, ◌∙◌, get_or-set_other, get_or-set_same}
 use Rattle.std.proofs.lemmas.Bool.{cases_eq}
 use Rattle.ttp_model.specs.declared.step.Kind.{Kind}
-use Rattle.ttp_model.specs.declared.step.Kind.TheVariants.{Place, Cap, Pair, Round}
+use Rattle.ttp_model.specs.declared.step.Kind.TheVariants.{Place, Cap, Pair, Round, Chan}
 use Rattle.ttp_model.specs.Instance.{Instance, node_at}
 use Rattle.ttp_model.specs.Rules.{IsInstance}
-use Rattle.tt_choice.specs.Choice.{Choice, IsChoice, Agrees, BeginsWith, IsFixedTo, ArePair, fixed_cap, least_round, greatest_round}
-use Rattle.tt_choice.specs.Branches.{place_next, fix_option, order_pair, at_most, at_least, unplaced, IsOpen, children, child}
+use Rattle.tt_choice.specs.Choice.{Choice, IsChoice, Agrees, BeginsWith, IsFixedTo, ArePair, fixed_cap, fixed_channel, least_round, greatest_round}
+use Rattle.tt_choice.specs.Branches.{place_next, fix_option, order_pair, at_most, at_least, fix_channel, unplaced, IsOpen, children, child}
 use Rattle.tt_choice.specs.Extremes.{Measure, IsLeastOf, IsMostOf, start_at, end_at, cap_at, dur_at, start_least, start_most, end_least, end_most, cap_least, cap_most, dur_least}
 use Rattle.tt_choice.specs.Inside.{IsInside, IsKeptBy}
 use Rattle.tt_choice.proofs.Before.{put_kept}
@@ -17,9 +17,9 @@ use Rattle.tt_choice.proofs.Exact.{start_least_is_least, start_most_is_most, end
 pub begins_too : (i : Instance) (inner outer : Choice) (order : List ℕ) → IsInside i inner outer → BeginsWith inner.prefix order → BeginsWith outer.prefix order
 begins_too i inner outer order inside begins k h = begins k (omega (arith, h, inside.longer)) ∙ inside.prefix k h
 
-pub fixed_too : (one other : Option ℕ) (capacity : ℕ) → IsKeptBy one other → IsFixedTo other capacity → IsFixedTo one capacity
-fixed_too None other capacity kept fixed = tt
-fixed_too (Some one) other capacity kept fixed = rw kept at fixed
+pub fixed_too : (one other : Option ℕ) (number : ℕ) → IsKeptBy one other → IsFixedTo other number → IsFixedTo one number
+fixed_too None other number kept fixed = tt
+fixed_too (Some one) other number kept fixed = rw kept at fixed
 
 pub Agrees-outside : (i : Instance) (inner outer : Choice) (order caps : List ℕ) → IsInside i inner outer → Agrees i inner order caps → Agrees i outer order caps
 Agrees-outside i inner outer order caps inside agrees = record {
@@ -72,6 +72,7 @@ IsInside-self i c = record {
   pairs = λ p q is. is;
   from = λ m h. omega arith;
   until = λ m h. omega arith;
+  channels = λ m h. same_kept (fixed_channel c m);
 }
   where
     same_kept : (one : Option ℕ) → IsKeptBy one one
@@ -88,6 +89,7 @@ IsInside-place i c n =
       pairs = is.pairs;
       from = is.from;
       until = is.until;
+      channels = is.channels;
     }
 
 pub IsInside-fix : (i : Instance) (c : Choice) (n k : ℕ) → fixed_cap c n ≡ None → IsInside i (fix_option i c n k) c
@@ -103,6 +105,7 @@ IsInside-fix i c n k none =
       pairs = is.pairs;
       from = is.from;
       until = is.until;
+      channels = is.channels;
     }
 
 pub IsInside-order : (i : Instance) (c : Choice) (p q : ℕ) → IsChoice i c → ArePair i p q → IsInside i (order_pair c p q) c
@@ -115,6 +118,7 @@ IsInside-order i c p q ok pair =
       pairs = λ j k holds. put_kept c.before p q j k (omega (arith, pair.first, ok.processes)) (omega (arith, pair.second, ok.processes)) (rw ok.processes ok.tests) holds;
       from = is.from;
       until = is.until;
+      channels = is.channels;
     }
 
 pub IsInside-at_most : (i : Instance) (c : Choice) (m r : ℕ) → IsChoice i c → m < length i.messages → r ≤ greatest_round c m → IsInside i (at_most c m r) c
@@ -130,6 +134,7 @@ IsInside-at_most i c m r ok there below =
         | inl same ↦ rw (same, get_or-set_same c.hi m r 0 (omega (arith, there, ok.hi_length))) below
         | inr differ ↦ omega (arith, get_or-set_other c.hi m k r 0 differ)
       ];
+      channels = is.channels;
     }
 
 pub IsInside-at_least : (i : Instance) (c : Choice) (m r : ℕ) → IsChoice i c → m < length i.messages → least_round c m ≤ r → IsInside i (at_least c m r) c
@@ -145,6 +150,23 @@ IsInside-at_least i c m r ok there above =
         | inr differ ↦ omega (arith, get_or-set_other c.lo m k r 0 differ)
       ];
       until = is.until;
+      channels = is.channels;
+    }
+
+pub IsInside-fix_channel : (i : Instance) (c : Choice) (m k : ℕ) → fixed_channel c m ≡ None → IsInside i (fix_channel c m k) c
+IsInside-fix_channel i c m k none =
+    let is = IsInside-self i c in
+    record {
+      longer = is.longer;
+      prefix = is.prefix;
+      fixed = is.fixed;
+      pairs = is.pairs;
+      from = is.from;
+      until = is.until;
+      channels = λ n h. elim (cases_eq n m) [
+        | inl same ↦ rw (same, none) tt
+        | inr differ ↦ rw (get_or-set_other c.channels m n (Some k) None differ) (is.channels n h)
+      ];
     }
 
 -- and so each child is inside
@@ -155,3 +177,4 @@ IsInside-child i c (Pair p q) zero ok is there = IsInside-order i c p q ok is.pa
 IsInside-child i c (Pair p q) (suc k) ok is there = IsInside-order i c q p ok (turned i c p q is).pair
 IsInside-child i c (Round m r) zero ok is there = IsInside-at_most i c m r ok is.message (omega (arith, is.below))
 IsInside-child i c (Round m r) (suc k) ok is there = IsInside-at_least i c m (r + 1) ok is.message (omega (arith, is.from))
+IsInside-child i c (Chan m) k ok is there = IsInside-fix_channel i c m k is.free

@@ -18,4 +18,5 @@ pub mod Extend
 pub mod Exact
 pub mod Inside
 pub mod Places
+pub mod Channels
 pub mod kept

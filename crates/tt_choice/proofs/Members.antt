@@ -3,9 +3,9 @@ use Rattle.std.proofs.Common.{◌≡◌, ◌≢◌, ℕ, ◌+◌, ◌<◌, ◌�
 use Rattle.std.proofs.lemmas.Bool.{cases_eq, cases_lt}
 use Rattle.ttp_model.specs.declared.plan.Plan.{Plan}
 use Rattle.ttp_model.specs.Instance.{Instance, node_at}
-use Rattle.ttp_model.specs.Plans.{EndsBefore, round_of}
-use Rattle.tt_choice.specs.Choice.{Choice, fixed_cap, is_before, least_round, greatest_round, IsIn, IsChoice}
-use Rattle.tt_choice.specs.Branches.{place_next, fix_option, order_pair, at_most, at_least, IsUnorderedPair}
+use Rattle.ttp_model.specs.Plans.{EndsBefore, channel_of, round_of}
+use Rattle.tt_choice.specs.Choice.{Choice, fixed_cap, fixed_channel, is_before, least_round, greatest_round, IsIn, IsChoice}
+use Rattle.tt_choice.specs.Branches.{place_next, fix_option, order_pair, at_most, at_least, fix_channel, IsUnorderedPair}
 use Rattle.tt_choice.proofs.Extend.{first_part, last_part}
 use Rattle.tt_choice.proofs.Pairs.{pair_now, pair_then}
 
@@ -24,6 +24,7 @@ IsIn-place i c plan n = (old, new)
             fixed = is.fixed;
             pairs = is.pairs;
             ranges = is.ranges;
+            channels = is.channels;
           },
           last ∙ last_part c.prefix n (length c.prefix) refl,
         )
@@ -40,6 +41,7 @@ IsIn-place i c plan n = (old, new)
       fixed = is.0.fixed;
       pairs = is.0.pairs;
       ranges = is.0.ranges;
+      channels = is.0.channels;
     }
 
 pub IsIn-fix : (i : Instance) (c : Choice) (plan : Plan) (n k : ℕ) → IsChoice i c → n < length i.nodes → fixed_cap c n ≡ None → IsIn i (fix_option i c n k) plan ↔ (IsIn i c plan × (slice_index plan.caps n ≡ slice_index (node_at i n).capacities k))
@@ -57,6 +59,7 @@ IsIn-fix i c plan n k ok inside none = (old, new)
     others : (m : ℕ) → m ≢ n → fixed_cap (fix_option i c n k) m ≡ fixed_cap c m
     others m differ = get_or-set_other c.fixed n m (Some (slice_index (node_at i n).capacities k)) None differ
 
+    -- a plan of the new choice has the capacity, and was there before
     old : IsIn i (fix_option i c n k) plan → IsIn i c plan × (slice_index plan.caps n ≡ slice_index (node_at i n).capacities k)
     old is =
         let value = rw now_fixed at (is.fixed n inside) in (
@@ -69,6 +72,7 @@ IsIn-fix i c plan n k ok inside none = (old, new)
             ];
             pairs = is.pairs;
             ranges = is.ranges;
+            channels = is.channels;
           },
           value,
         )
@@ -83,6 +87,7 @@ IsIn-fix i c plan n k ok inside none = (old, new)
       ];
       pairs = is.0.pairs;
       ranges = is.0.ranges;
+      channels = is.0.channels;
     }
 
 pub IsIn-order : (i : Instance) (c : Choice) (plan : Plan) (p q : ℕ) → IsChoice i c → IsUnorderedPair i c p q → IsIn i (order_pair c p q) plan ↔ (IsIn i c plan × EndsBefore i plan p q)
@@ -105,6 +110,7 @@ IsIn-order i c plan p q ok is = (old, new)
         fixed = v.fixed;
         pairs = λ j k holds. v.pairs j k (kept j k holds);
         ranges = v.ranges;
+        channels = v.channels;
       },
       v.pairs p q (pair_now i c p q ok is.pair),
     )
@@ -122,6 +128,7 @@ IsIn-order i c plan p q ok is = (old, new)
         ]
       ];
       ranges = v.0.ranges;
+      channels = v.0.channels;
     }
 
 pub IsIn-at_most : (i : Instance) (c : Choice) (plan : Plan) (m r : ℕ) → IsChoice i c → m < length i.messages → r < greatest_round c m → IsIn i (at_most c m r) plan ↔ (IsIn i c plan × (round_of plan m ≤ r))
@@ -144,6 +151,7 @@ IsIn-at_most i c plan m r ok inside below = (old, new)
           | inl same ↦ rw same ((is.ranges m inside).0, omega (arith, (is.ranges m inside).1, here, below))
           | inr differ ↦ ((is.ranges k h).0, omega (arith, (is.ranges k h).1, others k differ))
         ];
+        channels = is.channels;
       },
       omega (arith, (is.ranges m inside).1, here),
     )
@@ -158,6 +166,7 @@ IsIn-at_most i c plan m r ok inside below = (old, new)
         | inl same ↦ rw same ((is.0.ranges m inside).0, omega (arith, is.1, here))
         | inr differ ↦ ((is.0.ranges k h).0, omega (arith, (is.0.ranges k h).1, others k differ))
       ];
+      channels = is.0.channels;
     }
 
 pub IsIn-at_least : (i : Instance) (c : Choice) (plan : Plan) (m r : ℕ) → IsChoice i c → m < length i.messages → least_round c m < r → IsIn i (at_least c m r) plan ↔ (IsIn i c plan × (r ≤ round_of plan m))
@@ -180,6 +189,7 @@ IsIn-at_least i c plan m r ok inside above = (old, new)
           | inl same ↦ rw same (omega (arith, (is.ranges m inside).0, here, above), (is.ranges m inside).1)
           | inr differ ↦ (omega (arith, (is.ranges k h).0, others k differ), (is.ranges k h).1)
         ];
+        channels = is.channels;
       },
       omega (arith, (is.ranges m inside).0, here),
     )
@@ -193,5 +203,45 @@ IsIn-at_least i c plan m r ok inside above = (old, new)
       ranges = λ k h. elim (cases_eq k m) [
         | inl same ↦ rw same (omega (arith, is.1, here), (is.0.ranges m inside).1)
         | inr differ ↦ (omega (arith, (is.0.ranges k h).0, others k differ), (is.0.ranges k h).1)
+      ];
+      channels = is.0.channels;
+    }
+
+pub IsIn-fix_channel : (i : Instance) (c : Choice) (plan : Plan) (m k : ℕ) → IsChoice i c → m < length i.messages → fixed_channel c m ≡ None → IsIn i (fix_channel c m k) plan ↔ (IsIn i c plan × (channel_of plan m ≡ k))
+IsIn-fix_channel i c plan m k ok inside none = (old, new)
+  where
+    now_fixed : fixed_channel (fix_channel c m k) m ≡ Some k
+    now_fixed = get_or-set_same c.channels m (Some k) None (omega (arith, inside, ok.channels_length))
+
+    others : (n : ℕ) → n ≢ m → fixed_channel (fix_channel c m k) n ≡ fixed_channel c n
+    others n differ = get_or-set_other c.channels m n (Some k) None differ
+
+    old : IsIn i (fix_channel c m k) plan → IsIn i c plan × (channel_of plan m ≡ k)
+    old is =
+        let value = rw now_fixed at (is.channels m inside) in (
+          record {
+            lengths = is.lengths;
+            prefix = is.prefix;
+            fixed = is.fixed;
+            pairs = is.pairs;
+            ranges = is.ranges;
+            channels = λ n h. elim (cases_eq n m) [
+              | inl same ↦ rw (same, none) tt
+              | inr differ ↦ rw (← others n differ) (is.channels n h)
+            ];
+          },
+          value,
+        )
+
+    new : IsIn i c plan × (channel_of plan m ≡ k) → IsIn i (fix_channel c m k) plan
+    new is = record {
+      lengths = is.0.lengths;
+      prefix = is.0.prefix;
+      fixed = is.0.fixed;
+      pairs = is.0.pairs;
+      ranges = is.0.ranges;
+      channels = λ n h. elim (cases_eq n m) [
+        | inl same ↦ rw (same, now_fixed) is.1
+        | inr differ ↦ rw (others n differ) (is.0.channels n h)
       ];
     }

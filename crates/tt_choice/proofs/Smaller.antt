@@ -3,11 +3,11 @@ use Rattle.std.proofs.Common.{◌≡◌, ℕ, zero, suc, ◌+◌, ◌-◌, ◌*�
 use Rattle.std.proofs.lemmas.Bool.{cases_eq}
 use Rattle.std.proofs.lemmas.List.Sums.{sum_by-set}
 use Rattle.ttp_model.specs.declared.step.Kind.{Kind}
-use Rattle.ttp_model.specs.declared.step.Kind.TheVariants.{Place, Cap, Pair, Round}
+use Rattle.ttp_model.specs.declared.step.Kind.TheVariants.{Place, Cap, Pair, Round, Chan}
 use Rattle.ttp_model.specs.Instance.{Instance, node_at}
 use Rattle.ttp_model.proofs.Totals.{total_le, total_less}
-use Rattle.tt_choice.specs.Choice.{Choice, fixed_cap, least_round, greatest_round, IsChoice}
-use Rattle.tt_choice.specs.Branches.{unplaced, fix_option, at_most, at_least, CutsRange, IsOpen, child}
+use Rattle.tt_choice.specs.Choice.{Choice, fixed_cap, fixed_channel, least_round, greatest_round, IsChoice}
+use Rattle.tt_choice.specs.Branches.{unplaced, fix_option, at_most, at_least, fix_channel, CutsRange, IsOpen, child}
 use Rattle.tt_choice.specs.Sizes.{range_size, size_left, Halves}
 use Rattle.tt_choice.proofs.Digits.{half_digits, digits_le}
 use Rattle.tt_choice.proofs.Pairs.{order_pair_left}
@@ -17,6 +17,12 @@ fewer_free : (i : Instance) (c : Choice) (n k : ℕ) → IsChoice i c → n < le
 fewer_free i c n k ok inside none =
     let was = ap {B = ℕ} (λ (o : Option ℕ). cond (is_none o) 1 0) none in
     let change = sum_by-set (λ (o : Option ℕ). cond (is_none o) 1 0) c.fixed n (Some (slice_index (node_at i n).capacities k)) None (omega (arith, inside, ok.fixed_length)) in
+    omega (arith, change, was)
+
+fewer_channels : (i : Instance) (c : Choice) (m k : ℕ) → IsChoice i c → m < length i.messages → fixed_channel c m ≡ None → count_by is_none (fix_channel c m k).channels + 1 ≡ count_by is_none c.channels
+fewer_channels i c m k ok inside none =
+    let was = ap {B = ℕ} (λ (o : Option ℕ). cond (is_none o) 1 0) none in
+    let change = sum_by-set (λ (o : Option ℕ). cond (is_none o) 1 0) c.channels m (Some k) None (omega (arith, inside, ok.channels_length)) in
     omega (arith, change, was)
 
 -- a range that ends sooner, or begins later
@@ -58,6 +64,7 @@ size_left-child i c (Round m r) zero ok is halves =
 size_left-child i c (Round m r) (suc k) ok is halves =
     let sizes = total_less (range_size (at_least c m (r + 1))) (range_size c) (length i.messages) m is.message (λ j h. shorter_at_least i c m r j ok is) (half_at_least i c m r ok is halves.1) in
     omega (arith, sizes)
+size_left-child i c (Chan m) k ok is halves = omega (arith, fewer_channels i c m k ok is.message is.free)
 
 -- a round that doesn't halve the range leaves no more than before
 pub size_left-child_le : (i : Instance) (c : Choice) (kind : Kind) (k : ℕ) → IsChoice i c → IsOpen i c kind → size_left i (child i c kind k) ≤ size_left i c
@@ -70,3 +77,4 @@ size_left-child_le i c (Round m r) zero ok is =
 size_left-child_le i c (Round m r) (suc k) ok is =
     let sizes = total_le (range_size (at_least c m (r + 1))) (range_size c) (length i.messages) (λ j h. shorter_at_least i c m r j ok is) in
     omega (arith, sizes)
+size_left-child_le i c (Chan m) k ok is = omega (arith, size_left-child i c (Chan m) k ok is tt)

@@ -5,11 +5,11 @@ use Rattle.ttp_model.specs.Instance.{Instance, node_at}
 use Rattle.tt_choice.specs.declared.decision.Decision.{Decision}
 use Rattle.tt_choice.specs.declared.decision.Decision.TheVariants as decided
 use Rattle.tt_choice.specs.declared.reversal.Reversal.{Reversal}
-use Rattle.tt_choice.specs.declared.reversal.Reversal.TheVariants.{Unplace, Free, Unorder, Most, Least}
+use Rattle.tt_choice.specs.declared.reversal.Reversal.TheVariants.{Unplace, Free, Unorder, Most, Least, FreeChannel}
 use Rattle.tt_choice.specs.Precedence.{place_in, put_before, take_back}
 use Rattle.tt_choice.specs.Choice.{Choice, IsChoice, bare}
-use Rattle.tt_choice.specs.Branches.{IsUnplaced, IsUnorderedPair, CutsRange}
-use Rattle.tt_choice.specs.Decisions.{choice_after, choice_after_all, IsFreeOption, IsOpenDecision, reversal_of, kept_after, taken_back, IsUndone}
+use Rattle.tt_choice.specs.Branches.{IsUnplaced, IsUnorderedPair, CutsRange, IsFreeChannel}
+use Rattle.tt_choice.specs.Decisions.{choice_after, choice_after_all, IsFreeOption, IsFreeOnChannel, IsOpenDecision, reversal_of, kept_after, taken_back, IsUndone}
 use Rattle.tt_choice.proofs.Before.{test_of}
 use Rattle.tt_choice.proofs.Decisions.{IsChoice-after}
 
@@ -29,6 +29,8 @@ IsChoice-keeping i c kept ok = record {
   hi_length = ok.hi_length;
   ranges = ok.ranges;
   within = ok.within;
+  channels_length = ok.channels_length;
+  channels = ok.channels;
 }
 
 pub IsUnplaced-keeping : (i : Instance) (c : Choice) (kept : List Reversal) (n : ℕ) → IsUnplaced i c n → IsUnplaced i (record c { kept = kept }) n
@@ -40,12 +42,16 @@ IsUnorderedPair-keeping i c kept p q is = record { pair = is.pair; not_before = 
 pub CutsRange-keeping : (i : Instance) (c : Choice) (kept : List Reversal) (m r : ℕ) → CutsRange i c m r → CutsRange i (record c { kept = kept }) m r
 CutsRange-keeping i c kept m r is = record { message = is.message; from = is.from; below = is.below }
 
+pub IsFreeChannel-keeping : (i : Instance) (c : Choice) (kept : List Reversal) (m : ℕ) → IsFreeChannel i c m → IsFreeChannel i (record c { kept = kept }) m
+IsFreeChannel-keeping i c kept m is = record { message = is.message; free = is.free }
+
 pub IsOpenDecision-keeping : (i : Instance) (c : Choice) (kept : List Reversal) (d : Decision) → IsOpenDecision i c d → IsOpenDecision i (record c { kept = kept }) d
 IsOpenDecision-keeping i c kept (decided.Place n) is = IsUnplaced-keeping i c kept n is
 IsOpenDecision-keeping i c kept (decided.Cap n k) is = record { free = is.free; option = is.option }
 IsOpenDecision-keeping i c kept (decided.Before p q) is = IsUnorderedPair-keeping i c kept p q is
 IsOpenDecision-keeping i c kept (decided.AtMost m r) is = CutsRange-keeping i c kept m r is
 IsOpenDecision-keeping i c kept (decided.AtLeast m r) is = record { message = is.message; above = is.above; to = is.to }
+IsOpenDecision-keeping i c kept (decided.Channel m k) is = record { free = IsFreeChannel-keeping i c kept m is.free; known = is.known }
 
 pub after-bare : (i : Instance) (c : Choice) (d : Decision) → choice_after i (bare c) d ≡ choice_after i c d
 after-bare i c (decided.Place n) = refl
@@ -53,6 +59,7 @@ after-bare i c (decided.Cap n k) = refl
 after-bare i c (decided.Before p q) = refl
 after-bare i c (decided.AtMost m r) = refl
 after-bare i c (decided.AtLeast m r) = refl
+after-bare i c (decided.Channel m k) = refl
 
 -- A choice that a change made keeps no decision, and is its own bare copy.
 pub none_kept-after : (i : Instance) (c : Choice) (d : Decision) → (choice_after i c d).kept ≡ []
@@ -61,6 +68,7 @@ none_kept-after i c (decided.Cap n k) = refl
 none_kept-after i c (decided.Before p q) = refl
 none_kept-after i c (decided.AtMost m r) = refl
 none_kept-after i c (decided.AtLeast m r) = refl
+none_kept-after i c (decided.Channel m k) = refl
 
 pub none_kept-after_all : (i : Instance) (c : Choice) (ds : List Decision) → c.kept ≡ [] → (choice_after_all i c ds).kept ≡ []
 none_kept-after_all i c [] none = none
@@ -90,6 +98,9 @@ taken_out i c p q ok is =
 round_again : (xs : List ℕ) (m r : ℕ) → slice_set (slice_set xs m r) m (slice_index xs m) ≡ xs
 round_again xs m r = set-set xs m r (slice_index xs m) ∙ set-get_or xs m 0
 
+channel_again : (i : Instance) (c : Choice) (m k : ℕ) → IsFreeOnChannel i c m k → slice_set (slice_set c.channels m (Some k)) m None ≡ c.channels
+channel_again i c m k is = set-set c.channels m (Some k) None ∙ (ap (slice_set c.channels m) (sym is.free.free) ∙ set-get_or c.channels m None)
+
 -- So is a choice that is decided on and taken back.
 pub taken_back-kept_after : (i : Instance) (c : Choice) (d : Decision) → IsChoice i c → IsOpenDecision i c d → record (taken_back (kept_after i c d) (reversal_of c d)) { kept = c.kept } ≡ c
 taken_back-kept_after i c (decided.Place n) ok is = λ j. record c { prefix = last_dropped c.prefix n j }
@@ -97,6 +108,7 @@ taken_back-kept_after i c (decided.Cap n k) ok is = λ j. record c { fixed = fre
 taken_back-kept_after i c (decided.Before p q) ok is = λ j. record c { before = taken_out i c p q ok is j }
 taken_back-kept_after i c (decided.AtMost m r) ok is = λ j. record c { hi = round_again c.hi m r j }
 taken_back-kept_after i c (decided.AtLeast m r) ok is = λ j. record c { lo = round_again c.lo m r j }
+taken_back-kept_after i c (decided.Channel m k) ok is = λ j. record c { channels = channel_again i c m k is j }
 
 pub undone-kept_after : (i : Instance) (c back : Choice) (d : Decision) → IsChoice i c → IsOpenDecision i c d → IsUndone (kept_after i c d) back → back ≡ c
 undone-kept_after i c back d ok is undone = undone c.kept (reversal_of c d) refl ∙ taken_back-kept_after i c d ok is
@@ -108,6 +120,7 @@ taken_same c kept (Free n) = refl
 taken_same c kept (Unorder p q unordered) = refl
 taken_same c kept (Most m r) = refl
 taken_same c kept (Least m r) = refl
+taken_same c kept (FreeChannel m) = refl
 
 pub undone : (old new : Choice) (kept : List Reversal) (r : Reversal) → old.kept ≡ kept ++ r ∷ [] → new ≡ record (taken_back (record old { kept = kept }) r) { kept = kept } → (i : Instance) (c : Choice) (d : Decision) → IsChoice i c → IsOpenDecision i c d → old ≡ kept_after i c d → new ≡ c
 undone old new kept r last made i c d ok is after =

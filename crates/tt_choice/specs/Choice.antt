@@ -1,17 +1,17 @@
 -- What is chosen so far, and which plans agree with it: a choice stands for a set of plans.
-use Rattle.std.specs.Prelude.{◌≡◌, ◌≢◌, ℕ, ◌*◌, ◌<◌, ◌≤◌, ◌⊎◌, ◌==◌, ◌&&◌, ◌||◌, not, if◌then◌else◌, List, [], length, slice_index, slice_index_or, Option, None, Some, IsSome, Bool, IsTrue, Contains}
+use Rattle.std.specs.Prelude.{◌≡◌, ◌≢◌, ℕ, ◌*◌, ◌<◌, ◌≤◌, ◌⊎◌, ◌==◌, ◌&&◌, ◌||◌, not, if◌then◌else◌, List, [], length, slice_index, slice_index_or, Option, None, Some, IsSome, Bool, IsTrue, IsFalse, Contains}
 use Rattle.ttp_model.specs.declared.plan.Plan.{Plan}
-use Rattle.ttp_model.specs.Instance.{Instance, node_at, node_of}
+use Rattle.ttp_model.specs.Instance.{Instance, node_at, message_at, node_of}
 use Rattle.ttp_model.specs.Lists.{HasNoRepeats}
-use Rattle.ttp_model.specs.Plans.{HasLengths, IsNodeOrder, HasOwnCapacity, EndsBefore, round_of}
+use Rattle.ttp_model.specs.Plans.{HasLengths, IsNodeOrder, HasOwnCapacity, EndsBefore, MayBeOn, round_of, channel_of}
 use Rattle.ttp_model.specs.Totals.{total}
 use Rattle.tt_choice.specs.declared.reversal.Reversal.{Reversal}
 use Rattle.tt_choice.specs.Precedence.{Precedence, goes_before}
 
 -- the first nodes of the slot order; by node a fixed capacity in bytes, or none; which processes go
 -- before which, and how many pairs of one node are in neither order; by message its least and its
--- greatest round; and what takes the kept decisions back, the first first, on which nothing that is
--- said of plans rests
+-- greatest round, and a fixed channel, or none; and what takes the kept decisions back, the first first,
+-- on which nothing that is said of plans rests
 pub record Choice : Type 0 where
   pub prefix : List ℕ
   pub fixed : List (Option ℕ)
@@ -19,6 +19,7 @@ pub record Choice : Type 0 where
   pub unordered : ℕ
   pub lo : List ℕ
   pub hi : List ℕ
+  pub channels : List (Option ℕ)
   pub kept : List Reversal
 
 -- the same, and no decision is kept
@@ -41,10 +42,14 @@ least_round c m = slice_index c.lo m
 abbrev pub greatest_round : Choice → ℕ → ℕ
 greatest_round c m = slice_index c.hi m
 
--- a capacity is the one that is fixed; any one where none is
+-- the channel that is fixed for a message; none past the last message
+abbrev pub fixed_channel : Choice → ℕ → Option ℕ
+fixed_channel c m = slice_index_or c.channels m None
+
+-- a capacity or a channel is the one that is fixed; any one where none is
 abbrev pub IsFixedTo : Option ℕ → ℕ → Type 0
-IsFixedTo None capacity = Unit {0}
-IsFixedTo (Some fixed) capacity = capacity ≡ fixed
+IsFixedTo None number = Unit {0}
+IsFixedTo (Some fixed) number = number ≡ fixed
 
 -- an order begins with these nodes
 abbrev pub BeginsWith : List ℕ → List ℕ → Type 0
@@ -69,11 +74,17 @@ pub record IsIn (i : Instance) (c : Choice) (plan : Plan) : Type 0 where
   pub fixed : (n : ℕ) → n < length i.nodes → IsFixedTo (fixed_cap c n) (slice_index plan.caps n)
   pub pairs : (p q : ℕ) → IsTrue (is_before c p q) → EndsBefore i plan p q
   pub ranges : (m : ℕ) → m < length i.messages → IsSentInRange c plan m
+  pub channels : (m : ℕ) → m < length i.messages → IsFixedTo (fixed_channel c m) (channel_of plan m)
 
 -- what is fixed for a node is one of its own capacities
 abbrev pub IsOption : Instance → ℕ → Option ℕ → Type 0
 IsOption i n None = Unit {0}
 IsOption i n (Some fixed) = Contains (node_at i n).capacities fixed
+
+-- what is fixed for a message is a channel that it may be on; none is of two, where it needn't be on both
+abbrev pub IsChannel : Instance → ℕ → Option ℕ → Type 0
+IsChannel i m None = (i.cluster.channels ≡ 2) × IsFalse (message_at i m).both
+IsChannel i m (Some fixed) = MayBeOn i m fixed
 
 -- two different processes of one node
 pub record ArePair (i : Instance) (p q : ℕ) : Type 0 where
@@ -109,6 +120,8 @@ pub record IsChoice (i : Instance) (c : Choice) : Type 0 where
   pub hi_length : length c.hi ≡ length i.messages
   pub ranges : (m : ℕ) → m < length i.messages → least_round c m ≤ greatest_round c m
   pub within : (m : ℕ) → m < length i.messages → greatest_round c m < i.cluster.horizon
+  pub channels_length : length c.channels ≡ length i.messages
+  pub channels : (m : ℕ) → m < length i.messages → IsChannel i m (fixed_channel c m)
 
 -- two processes of one node are chosen to run one way or the other
 abbrev pub IsOrdered : Instance → Choice → ℕ → ℕ → Type 0
@@ -120,3 +133,4 @@ pub record IsComplete (i : Instance) (c : Choice) : Type 0 where
   pub fixed : (n : ℕ) → n < length i.nodes → IsSome (fixed_cap c n)
   pub ordered : (p q : ℕ) → q < p → p < length i.processes → IsOrdered i c p q
   pub rounds : (m : ℕ) → m < length i.messages → least_round c m ≡ greatest_round c m
+  pub channels : (m : ℕ) → m < length i.messages → IsSome (fixed_channel c m)

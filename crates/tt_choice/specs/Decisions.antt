@@ -2,15 +2,16 @@
 use Rattle.std.specs.Prelude.{◌≡◌, ℕ, zero, suc, ◌+◌, ◌-◌, ◌<◌, ◌≤◌, List, [], ◌∷◌, ◌++◌, length, slice_index, slice_set, take, map, None}
 use Rattle.std.specs.List.{range_with_len}
 use Rattle.ttp_model.specs.declared.step.Kind.{Kind}
-use Rattle.ttp_model.specs.declared.step.Kind.TheVariants.{Place, Cap, Pair, Round}
+use Rattle.ttp_model.specs.declared.step.Kind.TheVariants.{Place, Cap, Pair, Round, Chan}
 use Rattle.ttp_model.specs.Instance.{Instance, node_at}
+use Rattle.ttp_model.specs.Limits.{both_channels}
 use Rattle.tt_choice.specs.declared.decision.Decision.{Decision}
 use Rattle.tt_choice.specs.declared.decision.Decision.TheVariants as decided
 use Rattle.tt_choice.specs.declared.reversal.Reversal.{Reversal}
-use Rattle.tt_choice.specs.declared.reversal.Reversal.TheVariants.{Unplace, Free, Unorder, Most, Least}
+use Rattle.tt_choice.specs.declared.reversal.Reversal.TheVariants.{Unplace, Free, Unorder, Most, Least, FreeChannel}
 use Rattle.tt_choice.specs.Precedence.{take_back}
 use Rattle.tt_choice.specs.Choice.{Choice, least_round, greatest_round}
-use Rattle.tt_choice.specs.Branches.{root_choice, place_next, fix_option, order_pair, at_most, at_least, unplaced, IsUnplaced, IsUnorderedPair, CutsRange, IsOpen, children}
+use Rattle.tt_choice.specs.Branches.{root_choice, place_next, fix_option, order_pair, at_most, at_least, fix_channel, unplaced, IsUnplaced, IsUnorderedPair, CutsRange, IsFreeChannel, IsOpen, children}
 
 -- the choice with one decision more
 abbrev pub choice_after : Instance → Choice → Decision → Choice
@@ -19,6 +20,7 @@ choice_after i c (decided.Cap n k) = fix_option i c n k
 choice_after i c (decided.Before p q) = order_pair c p q
 choice_after i c (decided.AtMost m r) = at_most c m r
 choice_after i c (decided.AtLeast m r) = at_least c m r
+choice_after i c (decided.Channel m k) = fix_channel c m k
 
 -- an option of a node whose capacity is free
 pub record IsFreeOption (i : Instance) (c : Choice) (n k : ℕ) : Type 0 where
@@ -31,6 +33,11 @@ pub record CutsFirst (i : Instance) (c : Choice) (m r : ℕ) : Type 0 where
   pub above : least_round c m < r
   pub to : r ≤ greatest_round c m
 
+-- a channel, or both, of a message whose channel isn't fixed
+pub record IsFreeOnChannel (i : Instance) (c : Choice) (m k : ℕ) : Type 0 where
+  pub free : IsFreeChannel i c m
+  pub known : k ≤ both_channels
+
 -- what is decided is there and isn't decided yet
 abbrev pub IsOpenDecision : Instance → Choice → Decision → Type 0
 IsOpenDecision i c (decided.Place n) = IsUnplaced i c n
@@ -38,6 +45,7 @@ IsOpenDecision i c (decided.Cap n k) = IsFreeOption i c n k
 IsOpenDecision i c (decided.Before p q) = IsUnorderedPair i c p q
 IsOpenDecision i c (decided.AtMost m r) = CutsRange i c m r
 IsOpenDecision i c (decided.AtLeast m r) = CutsFirst i c m r
+IsOpenDecision i c (decided.Channel m k) = IsFreeOnChannel i c m k
 
 -- the choice with all of these decisions more, one after another
 abbrev pub choice_after_all : Instance → Choice → List Decision → Choice
@@ -60,6 +68,7 @@ reversal_of c (decided.Cap n k) = Free n
 reversal_of c (decided.Before p q) = Unorder p q c.unordered
 reversal_of c (decided.AtMost m r) = Most m (greatest_round c m)
 reversal_of c (decided.AtLeast m r) = Least m (least_round c m)
+reversal_of c (decided.Channel m k) = FreeChannel m
 
 -- the choice with one decision more, which is kept after those that are
 abbrev pub kept_after : Instance → Choice → Decision → Choice
@@ -72,6 +81,7 @@ taken_back c (Free n) = record c { fixed = slice_set c.fixed n None; kept = [] }
 taken_back c (Unorder p q unordered) = record c { before = take_back c.before p q; unordered = unordered; kept = [] }
 taken_back c (Most m r) = at_most c m r
 taken_back c (Least m r) = at_least c m r
+taken_back c (FreeChannel m) = record c { channels = slice_set c.channels m None; kept = [] }
 
 -- what takes the last kept decision back makes this of a choice: those before it are still kept
 abbrev pub IsUndone : Choice → Choice → Type 0
@@ -86,6 +96,7 @@ decision_of i c (Pair p q) zero = decided.Before p q
 decision_of i c (Pair p q) (suc k) = decided.Before q p
 decision_of i c (Round m r) zero = decided.AtMost m r
 decision_of i c (Round m r) (suc k) = decided.AtLeast m (r + 1)
+decision_of i c (Chan m) k = decided.Channel m k
 
 -- the decisions of a branch, one for each child, in order
 abbrev pub decisions_of : Instance → Choice → Kind → List Decision

@@ -1,7 +1,7 @@
 -- Decisions of which some are kept, and what the kept ones alone say. Own profile.
-use Rattle.std.specs.Prelude.{ℕ, ◌+◌, ◌==◌, ◌&&◌, ◌||◌, nat_lt, not, List, [], ◌∷◌, length, Bool, true, false, IsTrue}
+use Rattle.std.specs.Prelude.{ℕ, ◌+◌, ◌==◌, ◌&&◌, ◌||◌, nat_lt, not, List, [], ◌∷◌, length, Option, None, Some, Bool, true, false, IsTrue}
 use Rattle.ttp_model.specs.declared.step.Kind.{Kind}
-use Rattle.ttp_model.specs.declared.step.Kind.TheVariants.{Place, Cap, Pair, Round}
+use Rattle.ttp_model.specs.declared.step.Kind.TheVariants.{Place, Cap, Pair, Round, Chan}
 use Rattle.ttp_model.specs.Instance.{Instance, node_at}
 use Rattle.tt_choice.specs.declared.decision.Decision.{Decision}
 use Rattle.tt_choice.specs.declared.decision.Decision.TheVariants as decided
@@ -29,6 +29,7 @@ takes_place (decided.Cap n k) = false
 takes_place (decided.Before p q) = false
 takes_place (decided.AtMost m r) = false
 takes_place (decided.AtLeast m r) = false
+takes_place (decided.Channel m k) = false
 
 -- places are kept from the first on: none behind one that isn't; `all` says whether those so far are
 abbrev pub KeepsPlaces : Bool → List Marked → Type 0
@@ -48,6 +49,7 @@ HasPlaces Place all = IsTrue all
 HasPlaces (Cap n) all = Unit {0}
 HasPlaces (Pair p q) all = Unit {0}
 HasPlaces (Round m r) all = Unit {0}
+HasPlaces (Chan m) all = Unit {0}
 
 -- a decision sets the least round of message m, its greatest round, or that p goes before q
 abbrev pub sets_least : ℕ → Decision → Bool
@@ -56,6 +58,7 @@ sets_least m (decided.Cap n k) = false
 sets_least m (decided.Before p q) = false
 sets_least m (decided.AtMost n r) = false
 sets_least m (decided.AtLeast n r) = n == m
+sets_least m (decided.Channel n k) = false
 
 abbrev pub sets_greatest : ℕ → Decision → Bool
 sets_greatest m (decided.Place n) = false
@@ -63,6 +66,7 @@ sets_greatest m (decided.Cap n k) = false
 sets_greatest m (decided.Before p q) = false
 sets_greatest m (decided.AtMost n r) = n == m
 sets_greatest m (decided.AtLeast n r) = false
+sets_greatest m (decided.Channel n k) = false
 
 abbrev pub sets_order : ℕ → ℕ → Decision → Bool
 sets_order p q (decided.Place n) = false
@@ -70,6 +74,7 @@ sets_order p q (decided.Cap n k) = false
 sets_order p q (decided.Before x y) = (x == p) && (y == q)
 sets_order p q (decided.AtMost n r) = false
 sets_order p q (decided.AtLeast n r) = false
+sets_order p q (decided.Channel n k) = false
 
 -- a decision fixes the capacity of node n above its least option, or below its greatest
 abbrev pub fixes_above : ℕ → Decision → Bool
@@ -78,6 +83,7 @@ fixes_above n (decided.Cap v k) = (v == n) && nat_lt 0 k
 fixes_above n (decided.Before p q) = false
 fixes_above n (decided.AtMost m r) = false
 fixes_above n (decided.AtLeast m r) = false
+fixes_above n (decided.Channel m k) = false
 
 abbrev pub fixes_below : Instance → ℕ → Decision → Bool
 fixes_below i n (decided.Place v) = false
@@ -85,6 +91,21 @@ fixes_below i n (decided.Cap v k) = (v == n) && nat_lt (k + 1) (length (node_at 
 fixes_below i n (decided.Before p q) = false
 fixes_below i n (decided.AtMost m r) = false
 fixes_below i n (decided.AtLeast m r) = false
+fixes_below i n (decided.Channel m k) = false
+
+-- a decision fixes the channel of message m to one that passes a test
+abbrev pub fixes_channel : (ℕ → Bool) → ℕ → Decision → Bool
+fixes_channel test m (decided.Place n) = false
+fixes_channel test m (decided.Cap n k) = false
+fixes_channel test m (decided.Before p q) = false
+fixes_channel test m (decided.AtMost n r) = false
+fixes_channel test m (decided.AtLeast n r) = false
+fixes_channel test m (decided.Channel n k) = (n == m) && test k
+
+-- a channel is fixed, and passes a test
+abbrev pub passes : (ℕ → Bool) → Option ℕ → Bool
+passes test None = false
+passes test (Some k) = test k
 
 -- whether the last of the decisions that a test picks is kept; what was so before them where it picks none
 abbrev pub last_kept : (Decision → Bool) → Bool → List Marked → Bool

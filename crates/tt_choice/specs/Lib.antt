@@ -7,6 +7,7 @@ pub mod Decisions
 pub mod Sizes
 pub mod Inside
 pub mod Kept
+pub mod Worked
 pub use Rattle.ttp_model.specs.Instance
 pub use Rattle.ttp_model.specs.Rules
 pub use Rattle.ttp_model.specs.Slots

@@ -3,7 +3,7 @@ use Rattle.std.specs.Prelude.{ℕ, ◌+◌, ◌-◌, ◌*◌, ◌≤◌, length,
 use Rattle.std.specs.Int.Digits.{digits_of}
 use Rattle.ttp_model.specs.Instance.{Instance}
 use Rattle.ttp_model.specs.declared.step.Kind.{Kind}
-use Rattle.ttp_model.specs.declared.step.Kind.TheVariants.{Place, Cap, Pair, Round}
+use Rattle.ttp_model.specs.declared.step.Kind.TheVariants.{Place, Cap, Pair, Round, Chan}
 use Rattle.ttp_model.specs.Totals.{total}
 use Rattle.tt_choice.specs.Choice.{Choice, least_round, greatest_round, unordered_pairs}
 
@@ -15,11 +15,11 @@ binary_digits n = length (digits_of 2 n)
 abbrev pub range_size : Choice → ℕ → ℕ
 range_size c m = binary_digits (greatest_round c m - least_round c m)
 
--- unplaced nodes, free capacities, pairs in neither order, and the sizes of all ranges
+-- unplaced nodes, free capacities, pairs in neither order, the sizes of all ranges, and free channels
 abbrev pub size_left : Instance → Choice → ℕ
 size_left i c =
     (length i.nodes - length c.prefix) + count_by is_none c.fixed + unordered_pairs i c
-    + total (range_size c) (length i.messages)
+    + total (range_size c) (length i.messages) + count_by is_none c.channels
 
 -- each side of a cut has at most half of the range
 abbrev pub Halves : Choice → Kind → Type 0
@@ -29,3 +29,4 @@ Halves c (Pair p q) = Unit {0}
 Halves c (Round m r) =
     (2 * (r - least_round c m) ≤ greatest_round c m - least_round c m)
     × (2 * (greatest_round c m - (r + 1)) ≤ greatest_round c m - least_round c m)
+Halves c (Chan m) = Unit {0}

@@ -1,11 +1,12 @@
 //! What of a plan is chosen so far?
 
-ghost use Rattle.std.specs.Prelude.{◌≡◌, ◌-◌, ◌<◌, ◌≤◌, [], length, IfOk, OnOk};
+ghost use Rattle.std.specs.Prelude.{◌≡◌, ◌-◌, ◌<◌, ◌≤◌, [], length, map, IfOk, OnOk};
+ghost use Rattle.std.specs.List.{range_with_len};
 ghost use Rattle.ttp_model.specs.declared.limits.TheConstants.{MOST_PROCESSES};
 ghost use Rattle.ttp_model.specs.Plans.{IsValid};
 ghost use Rattle.ttp_model.specs.declared.plan.Plan.{Plan};
-ghost use Rattle.tt_choice.specs.Choice.{IsChoice, IsIn, bare, fixed_cap, is_before, least_round, greatest_round, unordered_below, unordered_pairs};
-ghost use Rattle.tt_choice.specs.Branches.{open_choice, root_choice};
+ghost use Rattle.tt_choice.specs.Choice.{IsChoice, IsIn, bare, fixed_cap, fixed_channel, is_before, least_round, greatest_round, unordered_below, unordered_pairs};
+ghost use Rattle.tt_choice.specs.Branches.{open_choice, root_channel, root_choice};
 
 mod changes;
 mod decisions;
@@ -17,11 +18,11 @@ use crate::precedence::Precedence;
 use crate::reversal::Reversal;
 use std::alloc::Global;
 use std::marker::Model;
-use ttp_model::{Instance, MemoryFault};
+use ttp_model::{BOTH_CHANNELS, Instance, MemoryFault};
 
 /// A set of plans: those whose slot order begins with given nodes, whose capacities are the ones
 /// that are fixed, in which some processes of one node go before others, and whose messages are
-/// sent in given ranges of rounds.
+/// sent in given ranges of rounds, on the channels that are fixed.
 ///
 /// A choice is one of an instance, which each call that needs it is handed again.
 #[derive(Debug, Drop)]
@@ -38,6 +39,8 @@ pub struct Choice {
     lo: Vec<u32>,
     /// The greatest round of each message.
     hi: Vec<u32>,
+    /// The fixed channel of each message, 2 for both, or none.
+    channels: Vec<Option<u32>>,
     /// What takes the kept decisions back, the first first.
     kept: Vec<Reversal>,
 }
@@ -54,6 +57,7 @@ impl Model for Choice {
       unordered = s.unordered;
       lo = s.lo.items;
       hi = s.hi.items;
+      channels = s.channels.items;
       kept = s.kept.items;
     } };
 }
@@ -86,6 +90,7 @@ impl Choice {
             unordered: pairs_of_one_node(instance),
             lo: vec![in alloc; 0u32; messages]?,
             hi: vec![in alloc; instance.cluster().horizon - 1; messages]?,
+            channels: root_channels(alloc, instance)?,
             kept: Vec::new(alloc),
         })
     }
@@ -101,6 +106,7 @@ impl Choice {
             unordered: self.unordered,
             lo: Vec::from_slice(alloc, self.lo.as_slice())?,
             hi: Vec::from_slice(alloc, self.hi.as_slice())?,
+            channels: Vec::from_slice(alloc, self.channels.as_slice())?,
             kept: Vec::new(alloc),
         })
     }
@@ -135,6 +141,7 @@ impl Choice {
         self.unordered = other.unordered;
         refill(&mut self.lo, other.lo.as_slice())?;
         refill(&mut self.hi, other.hi.as_slice())?;
+        refill(&mut self.channels, other.channels.as_slice())?;
         Ok(())
     }
 
@@ -182,6 +189,14 @@ impl Choice {
     {
         self.hi[m as usize]
     }
+
+    /// The channel that is fixed for message `m`, 2 for both, if one is.
+    pub fn channel(&self, m: u32) -> Option<u32>
+        requires { m < length self.now.channels }
+        ensures { result ≡ fixed_channel self.now m }
+    {
+        self.channels[m as usize]
+    }
 }
 
 /// Puts these items in place of those that are there.
@@ -191,6 +206,34 @@ fn refill<T: Copy>(items: &mut Vec<T>, others: &[T]) -> Result<(), MemoryFault>
     items.clear();
     items.extend_from_slice(others)?;
     Ok(())
+}
+
+/// What is fixed of the channel of message `m` where nothing is chosen: the only one, or both where it
+/// is to be on both.
+fn root_channel(instance: &Instance, m: u32) -> Option<u32>
+    requires { m < length instance.now.messages }
+    ensures { result ≡ root_channel instance.now m }
+{
+    if instance.cluster().channels == 1 {
+        Some(0)
+    } else if instance.message_at(m as usize).both {
+        Some(BOTH_CHANNELS)
+    } else {
+        None
+    }
+}
+
+/// The same for each message.
+fn root_channels(alloc: Global, instance: &Instance) -> Result<Vec<Option<u32>>, MemoryFault>
+    ensures { IfOk result (λ channels. channels.items
+        ≡ map (root_channel instance.now) (range_with_len 0 (length instance.now.messages))) }
+{
+    let count = instance.messages().len() as u32;
+    let mut channels = Vec::with_capacity(alloc, count as usize)?;
+    for m in 0..count {
+        channels.push(root_channel(instance, m))?;
+    }
+    Ok(channels)
 }
 
 /// How many processes before `p` stand on its node.

@@ -13,4 +13,6 @@ pub enum Decision {
     AtMost(u32, u32),
     /// A message is sent in this round at least.
     AtLeast(u32, u32),
+    /// A message is on this channel, or on both where it is 2.
+    Channel(u32, u32),
 }

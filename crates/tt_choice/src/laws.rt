@@ -1,20 +1,20 @@
 //! What follows from the definitions alone? These functions do nothing: their contracts are laws.
 
-ghost use Rattle.std.specs.Prelude.{◌≡◌, ◌-◌, ◌<◌, ◌≤◌, ℕ, List, length, true, IsTrue};
+ghost use Rattle.std.specs.Prelude.{◌≡◌, ◌-◌, ◌<◌, ◌≤◌, ℕ, List, length, Bool, true, IsTrue, Some};
 ghost use Rattle.ttp_model.specs.declared.plan.Plan.{Plan};
 ghost use Rattle.ttp_model.specs.declared.step.Kind.{Kind};
 ghost use Rattle.ttp_model.specs.declared.step.Kind.TheVariants.{Place};
 ghost use Rattle.ttp_model.specs.Instance.{Instance};
 ghost use Rattle.ttp_model.specs.Rules.{IsInstance};
 ghost use Rattle.ttp_model.specs.Plans.{IsValid};
-ghost use Rattle.tt_choice.specs.Choice.{Choice, IsChoice, IsIn, is_before, least_round, greatest_round};
+ghost use Rattle.tt_choice.specs.Choice.{Choice, IsChoice, IsIn, fixed_channel, is_before, least_round, greatest_round};
 ghost use Rattle.tt_choice.specs.Branches.{IsOpen, children, child, root_choice};
 ghost use Rattle.tt_choice.specs.declared.decision.Decision.{Decision};
 ghost use Rattle.tt_choice.specs.Decisions.{choice_after, IsOpenDecision, choice_after_all, AreOpenDecisions, chosen, decision_of, reversal_of, kept_after, taken_back, IsUndone};
 ghost use Rattle.tt_choice.specs.Sizes.{size_left, Halves};
 ghost use Rattle.tt_choice.specs.Extremes.{IsLeastOf, IsMostOf, start_at, end_at, cap_least, cap_most, place_of, start_least, start_most, end_least, end_most};
 ghost use Rattle.tt_choice.specs.Inside.{IsInside};
-ghost use Rattle.tt_choice.specs.Kept.{Marked, all_of, kept_of, KeepsPlaces, last_kept, sets_least, sets_greatest, sets_order, fixes_above, fixes_below};
+ghost use Rattle.tt_choice.specs.Kept.{Marked, all_of, kept_of, KeepsPlaces, last_kept, sets_least, sets_greatest, sets_order, fixes_above, fixes_below, fixes_channel, passes};
 
 /// The search rests on this: the children of an open branch have all the valid plans of the
 /// choice and no others, and each leaves less to choose. A round has to halve its range for that,
@@ -59,6 +59,12 @@ pub fn decisions_are_taken_back()
         → IsUndone (kept_after i c decision) back → back ≡ c }
 {}
 
+/// In a cluster of one channel each message is fixed to it, whatever is chosen.
+pub fn the_only_channel_is_fixed()
+    ensures { (i : Instance) (c : Choice) (m : ℕ)
+        → i.cluster.channels ≡ 1 → IsChoice i c → m < length i.messages → fixed_channel c m ≡ Some 0 }
+{}
+
 /// A place has as many children as there are nodes beside the prefix.
 pub fn unplaced_nodes_are_the_rest()
     ensures { (i : Instance) (c : Choice)
@@ -82,7 +88,8 @@ pub fn sums_are_the_extremes()
 {}
 
 /// Of decisions some are kept, of places the first. These are open by themselves, and what all make is inside of what they make; and a round,
-/// an order, a capacity or the times of a slot are the same by both where the last of the decisions on it is kept.
+/// an order, a capacity, the times of a slot, or whether a channel is fixed that passes a test, are the same by both where the last of the
+/// decisions on it is kept.
 pub fn kept_decisions_say_alike()
     ensures are_open { (i : Instance) (ms : List Marked)
         → IsInstance i → AreOpenDecisions i (root_choice i) (all_of ms) → KeepsPlaces true ms
@@ -110,6 +117,10 @@ pub fn kept_decisions_say_alike()
         → IsInstance i → AreOpenDecisions i (root_choice i) (all_of ms) → KeepsPlaces true ms
         → (n : ℕ) → IsTrue (last_kept (fixes_below i n) true ms)
         → cap_most i (chosen i (all_of ms)) n ≡ cap_most i (chosen i (kept_of ms)) n }
+    ensures channels { (i : Instance) (ms : List Marked)
+        → IsInstance i → AreOpenDecisions i (root_choice i) (all_of ms) → KeepsPlaces true ms
+        → (test : ℕ → Bool) (m : ℕ) → IsTrue (last_kept (fixes_channel test m) true ms)
+        → passes test (fixed_channel (chosen i (all_of ms)) m) ≡ passes test (fixed_channel (chosen i (kept_of ms)) m) }
     ensures least_slot { (i : Instance) (ms : List Marked)
         → IsInstance i → AreOpenDecisions i (root_choice i) (all_of ms) → KeepsPlaces true ms
         → ((v : ℕ) → v < length i.nodes → IsTrue (last_kept (fixes_above v) true ms))

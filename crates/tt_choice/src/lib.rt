@@ -12,8 +12,11 @@ pub use choice::Choice;
 pub use decision::Decision;
 pub use laws::{
     children_share_the_plans, decisions_are_taken_back, decisions_lead_to_the_children,
-    kept_decisions_say_alike, sums_are_the_extremes, unplaced_nodes_are_the_rest,
+    kept_decisions_say_alike, sums_are_the_extremes, the_only_channel_is_fixed,
+    unplaced_nodes_are_the_rest,
 };
 pub use precedence::Precedence;
 pub use reversal::Reversal;
-pub use worked::{one_message_is_decided_and_undone, three_alike_may_be_ordered};
+pub use worked::{
+    a_channel_is_fixed_and_freed, one_message_is_decided_and_undone, three_alike_may_be_ordered,
+};

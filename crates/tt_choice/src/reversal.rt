@@ -18,4 +18,6 @@ pub enum Reversal {
     Most(u32, u32),
     /// The least round of a message is this one again.
     Least(u32, u32),
+    /// The channel of this message is free again.
+    FreeChannel(u32),
 }

@@ -1,5 +1,5 @@
 -- The steps that leave no plan are sound: their premises don't hold where the facts are true of a sought plan.
-use Rattle.std.proofs.Common.{◌≡◌, ℕ, zero, suc, ◌+◌, ◌-◌, ◌<◌, ◌≤◌, true, List, length, slice_index, arith, refl, add-one}
+use Rattle.std.proofs.Common.{◌≡◌, ℕ, zero, suc, ◌+◌, ◌-◌, ◌*◌, ◌<◌, ◌≤◌, true, List, length, slice_index, arith, refl, add-one}
 use Rattle.std.proofs.lemmas.Bool.{and_from, eq-eqb}
 use Rattle.std.proofs.Math.Nat.{mul-le-mul_left}
 use Rattle.ttp_model.specs.declared.plan.Plan.{Plan}
@@ -8,16 +8,17 @@ use Rattle.ttp_model.specs.Rules.{IsInstance}
 use Rattle.ttp_model.specs.Lists.{EachBelow}
 use Rattle.ttp_model.specs.Plans.{IsValid, start_of, round_of, channel_of, is_on, load_on, bytes_in, bytes_on}
 use Rattle.tt_choice.specs.Choice.{Choice}
+use Rattle.tt_choice.specs.Extremes.{cap_most}
 use Rattle.tt_choice.proofs.Bounds.{capacity_between}
 use Rattle.sought_plans.specs.Known.{Known, IsSought, AreTrueOf}
 use Rattle.sought_plans.specs.Premises.{IsRing}
 use Rattle.tt_infer.specs.Table.{IsProcess}
-use Rattle.ttp_model.specs.declared.step.Step.TheVariants.{XWindow, XRound, XCycle, XLoad, XFrame, XFrames}
+use Rattle.ttp_model.specs.declared.step.Step.TheVariants.{XWindow, XRound, XCycle, XLoad, XFrame, XFrames, XChannel}
 use Rattle.ttp_model.proofs.Totals.{term_in_total}
 use Rattle.ttp_model.proofs.Channels.{all_on, on_some_channel}
 use Rattle.tt_infer.proofs.Soundness.{IsSoundFor}
 use Rattle.tt_infer.proofs.Sending.{agrees, capacity_most}
-use Rattle.tt_infer.proofs.Loads.{loads_fit, bytes_fit}
+use Rattle.tt_infer.proofs.Loads.{loads_fit, copies_fit, counted_fit}
 use Rattle.tt_infer.proofs.Orders.{ahead_starts}
 
 -- a process ends a whole run after it starts
@@ -73,9 +74,18 @@ x_frame_sound i c goal f plan m w sought k there premise is =
     let capacity = capacity_most i c goal plan m w sought there in
     absurd (omega (arith, own, fit, capacity, premise))
 
--- a node has a frame a round
+-- a node has a frame a round, on each channel a half of it
+more_room : (channels rounds low high : ℕ) → low ≤ high → channels * (rounds * low) ≤ channels * (rounds * high)
+more_room channels rounds low high le = mul-le-mul_left channels (mul-le-mul_left rounds le)
+
 pub x_frames_sound : (i : Instance) (c : Choice) (goal : ℕ) (f : Known) (plan : Plan) (n a b : ℕ) → IsInstance i → IsSought i c goal plan → AreTrueOf i plan f → IsSoundFor i c goal f plan (XFrames n a b)
 x_frames_sound i c goal f plan n a b w sought t k there premise is =
     let capacity = (capacity_between i c plan.order plan.caps n w (agrees i c plan sought.settled.valid sought.chosen) there).1 in
-    let fit = bytes_fit i plan f n a b w sought.settled.valid t premise.span in
+    let fit = copies_fit i c plan f n a b sought.settled.valid sought.chosen t w premise.span in
+    absurd (omega (arith, fit, more_room i.cluster.channels (b - a) (slice_index plan.caps n) (cap_most i c n) capacity, premise.bytes))
+
+pub x_channel_sound : (i : Instance) (c : Choice) (goal : ℕ) (f : Known) (plan : Plan) (channel n a b : ℕ) → IsInstance i → IsSought i c goal plan → AreTrueOf i plan f → IsSoundFor i c goal f plan (XChannel channel n a b)
+x_channel_sound i c goal f plan channel n a b w sought t k there premise is =
+    let capacity = (capacity_between i c plan.order plan.caps n w (agrees i c plan sought.settled.valid sought.chosen) there.0).1 in
+    let fit = counted_fit i c plan f n a b sought.settled.valid sought.chosen t channel there.1.1 premise.span in
     absurd (omega (arith, fit, mul-le-mul_left (b - a) capacity, premise.bytes))

@@ -3,7 +3,7 @@ use Rattle.std.proofs.Common.{IsFalse, Result, Ok, Err, refl, ◌≡◌, ℕ, �
 use Rattle.std.proofs.lemmas.Bool.{cases_order, both_ways}
 use Rattle.std.proofs.Math.Nat.{le_antisymm}
 use Rattle.ttp_model.specs.declared.step.Step.{Step}
-use Rattle.ttp_model.specs.declared.step.Step.TheVariants.{EsRelease, EsLink, EsBefore, EsArrive, EsMessage, LoSend, LeOwn, LeLink, LeBefore, LeMessage, LeSend, HiArrive, OrdWindow, OrdTwin, UsSettled, XWindow, XRound, XCycle, XLoad, XFrame, XFrames, XLate, XSilent}
+use Rattle.ttp_model.specs.declared.step.Step.TheVariants.{EsRelease, EsLink, EsBefore, EsArrive, EsMessage, LoSend, LeOwn, LeLink, LeBefore, LeMessage, LeSend, HiArrive, OrdWindow, OrdTwin, UsSettled, XWindow, XRound, XCycle, XLoad, XFrame, XFrames, XChannel, XLate, XSilent}
 use Rattle.ttp_model.specs.Instance.{Instance}
 use Rattle.tt_choice.specs.Choice.{Choice}
 use Rattle.sought_plans.specs.Known.{Known}
@@ -53,6 +53,7 @@ concludes_one i c goal f (XCycle ps) j k one other = one ∙ sym other
 concludes_one i c goal f (XLoad n a b) j k one other = one ∙ sym other
 concludes_one i c goal f (XFrame m) j k one other = one ∙ sym other
 concludes_one i c goal f (XFrames n a b) j k one other = one ∙ sym other
+concludes_one i c goal f (XChannel channel n a b) j k one other = one ∙ sym other
 concludes_one i c goal f (XLate m r) j k one other = one ∙ sym other
 concludes_one i c goal f (XSilent a b) j k one other = one ∙ sym other
 

@@ -25,6 +25,7 @@ pub mod ThreeAlike
 pub mod ThreeInOrder
 pub mod LateExample
 pub mod TwoSilent
+pub mod TwoChannels
 pub mod InsideExample
 pub mod OneMessageRules
 pub mod monotone

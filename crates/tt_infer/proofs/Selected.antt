@@ -12,6 +12,20 @@ pub selected_split : (a b d : Bool) (w : ℕ) → (a ≡ true → (b ≡ true) �
 selected_split false b d w h = omega arith
 selected_split true b d w h = elim (h refl) [ inl is ↦ rw is (omega arith) | inr is ↦ rw is (omega arith) ]
 
+-- what is selected is no more than more that a wider test selects
+pub if_wider : (a b : Bool) (x y : ℕ) → (a ≡ true → b ≡ true) → x ≤ y → (if a then x else 0) ≤ (if b then y else 0)
+if_wider false b x y wider le = omega arith
+if_wider true b x y wider le = rw (wider refl) le
+
+-- or than its parts, or than nothing
+pub if_split : (a : Bool) (x y z : ℕ) → x ≤ y + z → (if a then x else 0) ≤ (if a then y else 0) + (if a then z else 0)
+if_split true x y z le = le
+if_split false x y z le = omega arith
+
+pub if_none : (a : Bool) (x : ℕ) → x ≡ 0 → (if a then x else 0) ≡ 0
+if_none true x none = none
+if_none false x none = refl
+
 -- what a test of a node and of two bounds tells
 pub span_tells : (m n a x y b : ℕ) → ((m == n) && (nat_le a x && nat_le y b)) ≡ true → (m ≡ n) × (a ≤ x) × (y ≤ b)
 span_tells m n a x y b h =

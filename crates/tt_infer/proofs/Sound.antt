@@ -2,7 +2,7 @@
 use Rattle.std.proofs.Common.{ℕ}
 use Rattle.ttp_model.specs.declared.plan.Plan.{Plan}
 use Rattle.ttp_model.specs.declared.step.Step.{Step}
-use Rattle.ttp_model.specs.declared.step.Step.TheVariants.{EsRelease, EsLink, EsBefore, EsArrive, EsMessage, LoSend, LeOwn, LeLink, LeBefore, LeMessage, LeSend, HiArrive, OrdWindow, OrdTwin, UsSettled, XWindow, XRound, XCycle, XLoad, XFrame, XFrames, XLate, XSilent}
+use Rattle.ttp_model.specs.declared.step.Step.TheVariants.{EsRelease, EsLink, EsBefore, EsArrive, EsMessage, LoSend, LeOwn, LeLink, LeBefore, LeMessage, LeSend, HiArrive, OrdWindow, OrdTwin, UsSettled, XWindow, XRound, XCycle, XLoad, XFrame, XFrames, XChannel, XLate, XSilent}
 use Rattle.ttp_model.specs.declared.error.Place.TheVariants.{AtLink}
 use Rattle.ttp_model.specs.Instance.{Instance}
 use Rattle.ttp_model.specs.Rules.{IsInstance}
@@ -16,7 +16,7 @@ use Rattle.tt_infer.proofs.Starts.{es_release_sound, es_link_sound, es_before_so
 use Rattle.tt_infer.proofs.Ends.{le_own_sound, le_link_sound, le_before_sound, le_message_sound, le_send_sound}
 use Rattle.tt_infer.proofs.Rounds.{lo_send_sound, hi_arrive_sound}
 use Rattle.tt_infer.proofs.Orders.{ord_window_sound}
-use Rattle.tt_infer.proofs.Closers.{x_window_sound, x_round_sound, x_cycle_sound, x_load_sound, x_frame_sound, x_frames_sound}
+use Rattle.tt_infer.proofs.Closers.{x_window_sound, x_round_sound, x_cycle_sound, x_load_sound, x_frame_sound, x_frames_sound, x_channel_sound}
 use Rattle.tt_infer.proofs.Twins.{ord_twin_sound}
 use Rattle.tt_infer.proofs.Waits.{us_settled_sound}
 use Rattle.tt_infer.proofs.LateMessages.{x_late_sound}
@@ -46,6 +46,7 @@ step_is_about i c goal f (XCycle ps) k w there premise is = rw is tt
 step_is_about i c goal f (XLoad n a b) k w there premise is = rw is tt
 step_is_about i c goal f (XFrame m) k w there premise is = rw is tt
 step_is_about i c goal f (XFrames n a b) k w there premise is = rw is tt
+step_is_about i c goal f (XChannel channel n a b) k w there premise is = rw is tt
 step_is_about i c goal f (XLate m r) k w there premise is = rw is tt
 step_is_about i c goal f (XSilent a b) k w there premise is = rw is tt
 
@@ -72,6 +73,7 @@ step_is_true i c goal f plan (XCycle ps) w ok sought t = x_cycle_sound i c goal 
 step_is_true i c goal f plan (XLoad n a b) w ok sought t = x_load_sound i c goal f plan n a b sought.settled.valid t
 step_is_true i c goal f plan (XFrame m) w ok sought t = x_frame_sound i c goal f plan m w sought
 step_is_true i c goal f plan (XFrames n a b) w ok sought t = x_frames_sound i c goal f plan n a b w sought t
+step_is_true i c goal f plan (XChannel channel n a b) w ok sought t = x_channel_sound i c goal f plan channel n a b w sought t
 step_is_true i c goal f plan (XLate m r) w ok sought t = x_late_sound i c goal f plan m r w ok sought t
 step_is_true i c goal f plan (XSilent a b) w ok sought t = x_silent_sound i c goal f plan a b ok sought
 

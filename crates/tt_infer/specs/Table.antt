@@ -1,7 +1,7 @@
 -- The steps of inference as a table: what each names, what it asks for, and what it concludes. Own profile.
 use Rattle.std.specs.Prelude.{◌≡◌, ℕ, ◌+◌, ◌-◌, ◌<◌, ◌≤◌, IsTrue, List, length, slice_index, min}
 use Rattle.ttp_model.specs.declared.step.Step.{Step}
-use Rattle.ttp_model.specs.declared.step.Step.TheVariants.{EsRelease, EsLink, EsBefore, EsArrive, EsMessage, LoSend, LeOwn, LeLink, LeBefore, LeMessage, LeSend, HiArrive, OrdWindow, OrdTwin, UsSettled, XWindow, XRound, XCycle, XLoad, XFrame, XFrames, XLate, XSilent}
+use Rattle.ttp_model.specs.declared.step.Step.TheVariants.{EsRelease, EsLink, EsBefore, EsArrive, EsMessage, LoSend, LeOwn, LeLink, LeBefore, LeMessage, LeSend, HiArrive, OrdWindow, OrdTwin, UsSettled, XWindow, XRound, XCycle, XLoad, XFrame, XFrames, XChannel, XLate, XSilent}
 use Rattle.ttp_model.specs.Lists.{EachBelow}
 use Rattle.ttp_model.specs.Instance.{Instance, process_at, message_at, link_at, source_of}
 use Rattle.tt_choice.specs.Choice.{Choice, ArePair}
@@ -9,7 +9,7 @@ use Rattle.tt_choice.specs.Extremes.{start_most, end_least, cap_most, dur_least}
 use Rattle.sought_plans.specs.Known.{Known, le_of, lo_of, top_of, bef_of}
 use Rattle.sought_plans.specs.Conclusions.{Conclusion, StartsFrom, EndsUntil, SentFrom, SentBefore, GoesFirst, NothingLeft, sharpened}
 use Rattle.sought_plans.specs.Dominance.{AreTwinsInOrder, HasRounds, IsGreatestWait, CouldBeEarlier, StandTurned}
-use Rattle.sought_plans.specs.Premises.{Receives, wcet_of, sender_of, least_end, most_start, least_ready, IsFirstChance, AreChances, IsRing, IsOverloaded, AreOverfull}
+use Rattle.sought_plans.specs.Premises.{Receives, wcet_of, sender_of, least_end, most_start, least_ready, IsFirstChance, AreChances, IsRing, IsOverloaded, AreOverfull, AreOverfullOn}
 
 -- a row: what the step names is there, its premise, and what it concludes
 pub record StepRow : Type 1 where
@@ -32,6 +32,10 @@ IsMessage i m = m < length i.messages
 
 abbrev pub IsNode : Instance → ℕ → Type 0
 IsNode i n = n < length i.nodes
+
+-- the node is there, and its frames have a half on this channel beside another
+abbrev pub HasHalf : Instance → ℕ → ℕ → Type 0
+HasHalf i n k = IsNode i n × ((2 ≤ i.cluster.channels) × (k < i.cluster.channels))
 
 -- two processes or more, which are there
 abbrev pub AreProcesses : Instance → List ℕ → Type 0
@@ -68,6 +72,7 @@ rule i c goal f (XCycle ps) = row (AreProcesses i ps) (IsRing i f ps) (Just Noth
 rule i c goal f (XLoad n a b) = row (IsNode i n) (IsOverloaded i f n a b) (Just NothingLeft)
 rule i c goal f (XFrame m) = row (IsMessage i m) (cap_most i c (source_of i m) < (message_at i m).bytes) (Just NothingLeft)
 rule i c goal f (XFrames n a b) = row (IsNode i n) (AreOverfull i c f n a b) (Just NothingLeft)
+rule i c goal f (XChannel k n a b) = row (HasHalf i n k) (AreOverfullOn i c f k n a b) (Just NothingLeft)
 rule i c goal f (XLate m r) = row (IsMessage i m) (CouldBeEarlier i c f m r) (Just NothingLeft)
 rule i c goal f (XSilent u v) = row (IsNode i u × IsNode i v) (StandTurned i c u v) (Just NothingLeft)
 

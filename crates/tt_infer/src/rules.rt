@@ -45,6 +45,7 @@ pub fn take(known: &mut Known, setting: &Setting, step: &Step) -> Result<(), Ste
         Step::XLoad(n, a, b) => loads::x_load(known, setting, *n, *a, *b),
         Step::XFrame(m) => closers::x_frame(known, setting, *m),
         Step::XFrames(n, a, b) => loads::x_frames(known, setting, *n, *a, *b),
+        Step::XChannel(k, n, a, b) => loads::x_channel(known, setting, *k, *n, *a, *b),
         Step::XLate(m, r) => dominance::x_late(known, setting, *m, *r),
         Step::XSilent(u, v) => dominance::x_silent(known, setting, *u, *v),
     }

@@ -1,16 +1,16 @@
 //! Steps on worked examples. These functions do nothing: their contracts are what the steps come to.
 
-ghost use Rattle.std.specs.Prelude.{◌≡◌, ◌∷◌, [], ℕ};
-ghost use Rattle.ttp_model.specs.declared.step.Step.TheVariants.{EsRelease, LoSend, EsArrive, LeOwn, LeSend, HiArrive, OrdTwin, UsSettled, XWindow, XRound, XLoad, XLate, XSilent};
+ghost use Rattle.std.specs.Prelude.{◌≡◌, ◌∷◌, [], ℕ, false};
+ghost use Rattle.ttp_model.specs.declared.step.Step.TheVariants.{EsRelease, LoSend, EsArrive, LeOwn, LeSend, HiArrive, OrdTwin, UsSettled, XWindow, XRound, XLoad, XFrames, XChannel, XLate, XSilent};
 ghost use Rattle.ttp_model.specs.Delays.{IsLowerBound};
-ghost use Rattle.ttp_model.specs.Worked.{one_message, three_alike};
+ghost use Rattle.ttp_model.specs.Worked.{one_message, three_alike, two_messages};
 ghost use Rattle.tt_choice.specs.Branches.{root_choice, at_least, place_next};
 ghost use Rattle.tt_choice.specs.Inside.{IsInside};
-ghost use Rattle.tt_infer.specs.declared.fault.StepFault.TheVariants.{NoPremise};
+ghost use Rattle.tt_infer.specs.declared.fault.StepFault.TheVariants.{NoPremise, NoSuchIndex};
 ghost use Rattle.sought_plans.specs.Known.{Known, first_facts};
 ghost use Rattle.tt_infer.specs.Leaves.{Lead, ClosesLeaf};
 ghost use Rattle.tt_infer.specs.Answers.{IsStepFault};
-ghost use Rattle.tt_infer.specs.Worked.{two_silent};
+ghost use Rattle.tt_infer.specs.Worked.{two_silent, on_one_channel, one_on_both};
 
 /// Process p takes 3 ticks, so its message is sent in round 1, from 4 to 7, and q ends at 9: five
 /// steps close the root choice at 9. At 10 they don't. No plan has a smaller delay, settled or not.
@@ -90,4 +90,27 @@ pub fn silent_twins_stand_in_order()
     }) }
     ensures in_order { (goal : ℕ) → IsStepFault two_silent (place_next (place_next (root_choice two_silent) 0) 1) goal
         (first_facts two_silent (place_next (place_next (root_choice two_silent) 0) 1)) (XSilent 0 1) NoPremise }
+{}
+
+/// Two messages that fill a frame each go in one round of two channels. Both on channel 0 are too much for
+/// it alone, and not for both halves of the frame. One of them on both channels beside the other, wherever
+/// that is, is too much for both halves, and for neither alone. Where there is one channel a step on one is
+/// refused.
+pub fn messages_of_two_channels_close()
+    ensures on_one { (goal : ℕ) → ClosesLeaf (two_messages false) on_one_channel (record {
+      goal = goal;
+      steps = XChannel 0 0 0 1 ∷ [];
+    }) }
+    ensures other { (goal : ℕ) → IsStepFault (two_messages false) on_one_channel goal
+        (first_facts (two_messages false) on_one_channel) (XChannel 1 0 0 1) NoPremise }
+    ensures carried { (goal : ℕ) → IsStepFault (two_messages false) on_one_channel goal
+        (first_facts (two_messages false) on_one_channel) (XFrames 0 0 1) NoPremise }
+    ensures on_both { (goal : ℕ) → ClosesLeaf (two_messages false) one_on_both (record {
+      goal = goal;
+      steps = XFrames 0 0 1 ∷ [];
+    }) }
+    ensures half { (goal : ℕ) → IsStepFault (two_messages false) one_on_both goal
+        (first_facts (two_messages false) one_on_both) (XChannel 0 0 0 1) NoPremise }
+    ensures alone { (goal : ℕ) → IsStepFault one_message (root_choice one_message) goal
+        (first_facts one_message (root_choice one_message)) (XChannel 0 0 0 1) NoSuchIndex }
 {}

@@ -8,7 +8,7 @@ mod reader;
 mod uses;
 mod way;
 
-pub use decision_paths::{Cut, Levels, Path};
+pub use decision_paths::{Cut, Levels, OnChannel, Path};
 pub use manner::{Manner, usual_manner};
 pub use needs::Needs;
 pub use reader::Reader;

@@ -4,7 +4,7 @@ use crate::given::Given;
 use crate::uses::Uses;
 use decision_paths::{Levels, Path};
 use std::alloc::Global;
-use ttp_model::{Instance, Leaf, MemoryFault, Step, has_link};
+use ttp_model::{BOTH_CHANNELS, Instance, Leaf, MemoryFault, Step, has_link};
 
 /// Reads leaves one after another. What an earlier step of a leaf gave isn't used of a branch: a leaf that was trimmed has no
 /// step that another one makes idle.
@@ -28,6 +28,14 @@ fn has_message(instance: &Instance, p: u32, q: u32) -> bool {
 fn ends_before(path: &Path, m: u32, r: u32) -> bool {
     match path.greatest(m) {
         Some(cut) => cut.round < r,
+        None => false,
+    }
+}
+
+/// Whether a branch says that a message is on both channels.
+fn is_put_on_both(path: &Path, m: u32) -> bool {
+    match path.channel(m) {
+        Some(on) => on.channel == BOTH_CHANNELS,
         None => false,
     }
 }
@@ -87,6 +95,7 @@ impl<'a> Reader<'a> {
             }
             Step::XRound(m) => self.rounds(path, *m, uses),
             Step::XFrames(n, a, b) => self.frames(path, *n, *a, *b, uses),
+            Step::XChannel(k, n, a, b) => self.frames_on(path, *k, *n, *a, *b, uses),
             Step::XLate(m, r) => self.late(path, *m, *r, uses),
         }
     }
@@ -159,11 +168,46 @@ impl<'a> Reader<'a> {
         uses.branch(path.below_most(n));
         for m in self.instance.messages_of(n) {
             if self.may_count(path, *m, a, b) {
-                self.greatest(path, *m, uses);
-                if a > 0 {
-                    self.least(path, *m, uses);
+                self.sending(path, *m, a, uses);
+                if is_put_on_both(path, *m) {
+                    uses.channel(path.channel(*m));
                 }
             }
+        }
+    }
+
+    /// That those of them that are on channel `k` are too many for it.
+    fn frames_on(&self, path: &Path, k: u32, n: u32, a: u32, b: u32, uses: &mut Uses) {
+        uses.branch(path.below_most(n));
+        for m in self.instance.messages_of(n) {
+            if self.may_count(path, *m, a, b) && self.counts_on(path, k, *m) {
+                self.sending(path, *m, a, uses);
+                uses.channel(path.channel(*m));
+            }
+        }
+    }
+
+    /// The rounds of a message that counts from round `a` on.
+    fn sending(&self, path: &Path, m: u32, a: u32, uses: &mut Uses) {
+        self.greatest(path, m, uses);
+        if a > 0 {
+            self.least(path, m, uses);
+        }
+    }
+
+    /// Whether a message is known to be on channel `k`: a branch fixed it, or it is to be on both.
+    fn counts_on(&self, path: &Path, k: u32, m: u32) -> bool {
+        match path.channel(m) {
+            Some(on) => on.channel == k || on.channel == BOTH_CHANNELS,
+            None => self.needs_both(m),
+        }
+    }
+
+    /// Whether a message is there and is to be on both channels.
+    fn needs_both(&self, m: u32) -> bool {
+        match self.instance.messages().get(m as usize) {
+            Some(message) => message.both,
+            None => false,
         }
     }
 

@@ -6,7 +6,7 @@ ghost use Rattle.decision_paths.specs.Levels.{has_level};
 ghost use Rattle.decision_paths.specs.Turns.{placed_of};
 ghost use Rattle.used_decisions.specs.Uses.{IsMore, HaveMarked};
 
-use decision_paths::{Cut, Levels, Path};
+use decision_paths::{Cut, Levels, OnChannel, Path};
 use std::alloc::Global;
 use ttp_model::MemoryFault;
 
@@ -60,6 +60,16 @@ impl Uses {
     {
         if let Some(cut) = cut {
             self.mark(cut.level);
+        }
+    }
+
+    /// Uses the channel of a message, if a branch fixed it.
+    pub fn channel(&mut self, channel: Option<OnChannel>)
+        ensures more { IsMore self.old self.new }
+        ensures told { IfSome channel (λ on. on.level < length self.old.levels → IsTrue (has_level self.new.levels on.level)) }
+    {
+        if let Some(on) = channel {
+            self.mark(on.level);
         }
     }
 

@@ -4,6 +4,7 @@ ghost use Rattle.std.specs.Prelude.{◌≡◌, ◌⊎◌, ◌<◌, IfSome, Some,
 ghost use Rattle.tt_choice.specs.Choice.{IsChoice, least_round, greatest_round};
 ghost use Rattle.branch_tree.specs.Branching.{IsBranching, MayBranch};
 
+use crate::branching::channels;
 use crate::branching::rounds::halved;
 use crate::failures::Failures;
 use tt_choice::Choice;
@@ -43,7 +44,7 @@ fn worse(known: Option<Crowd>, next: Crowd) -> Crowd
 }
 
 /// The branch on a message that is in an overfull frame, if there is one: of the node on which most subtrees were closed lately, of the
-/// earliest frame, with the fewest rounds to go to. Two passes over pairs of messages.
+/// earliest frame, with the fewest rounds to go to. Two passes over pairs of messages; with two channels some for each message of a frame.
 pub fn tightest_round(
     instance: &Instance,
     choice: &Choice,
@@ -67,7 +68,7 @@ pub fn tightest_round(
     }
 }
 
-/// The branch on a message, where its rounds are open and its frame is overfull.
+/// The branch on a message whose frame is overfull, where its rounds or the frame's channels are open.
 fn crowded(
     instance: &Instance,
     choice: &Choice,
@@ -81,6 +82,30 @@ fn crowded(
     ensures { IfSome result (λ crowd. IsBranching instance.now choice.now crowd.kind) }
 {
     let _messages = instance.messages();
+    let kind = if instance.cluster().channels == 1 {
+        overfull(instance, choice, facts, m)
+    } else {
+        channels::overfull(instance, choice, facts, m)
+    };
+    match kind {
+        Some(kind) => Some(Crowd {
+            kind,
+            failed: failures.at(instance.source_of(m as usize)),
+            first: facts.lo(m),
+            last: facts.top(m),
+        }),
+        None => None,
+    }
+}
+
+/// The branch on a message's rounds, where these are open and its frame is overfull on the only channel.
+fn overfull(instance: &Instance, choice: &Choice, facts: &Facts, m: u32) -> Option<Kind>
+    requires of { IsChoice instance.now choice.now }
+    requires facts { facts.now.instance ≡ instance.now }
+    requires message { m < length instance.now.messages }
+    ensures { MayBranch instance.now choice.now result }
+{
+    let _messages = instance.messages();
     if choice.lo(m) >= choice.hi(m) {
         return None;
     }
@@ -89,12 +114,7 @@ fn crowded(
     if load <= choice.cap_most(instance, node) {
         return None;
     }
-    Some(Crowd {
-        kind: halved(instance, choice, m),
-        failed: failures.at(node),
-        first: facts.lo(m),
-        last: facts.top(m),
-    })
+    Some(halved(instance, choice, m))
 }
 
 /// The bytes in the frame of node `n` in round `r`, where each message is sent as early as it can be.

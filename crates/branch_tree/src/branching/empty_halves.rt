@@ -5,6 +5,7 @@ ghost use Rattle.tt_choice.specs.Choice.{IsChoice};
 ghost use Rattle.branch_tree.specs.Branching.{MayBranch};
 
 use crate::branching::rounds::{halved, is_in_one_half};
+use sought_plans::copies;
 use tt_choice::Choice;
 use tt_infer::Facts;
 use ttp_model::{Instance, Kind};
@@ -48,7 +49,7 @@ fn ruled_out(instance: &Instance, choice: &Choice, facts: &Facts, m: u32) -> Opt
     None
 }
 
-/// Whether a message could be in a frame that is too small for all that could be in it.
+/// Whether a message could be in a frame that is too small, on all channels together, for all that could be in it.
 fn may_crowd(instance: &Instance, choice: &Choice, facts: &Facts, m: u32) -> bool
     requires of { IsChoice instance.now choice.now }
     requires facts { facts.now.instance ≡ instance.now }
@@ -58,8 +59,10 @@ fn may_crowd(instance: &Instance, choice: &Choice, facts: &Facts, m: u32) -> boo
     let mut bytes = 0;
     for k in instance.messages_of(node) {
         if facts.lo(*k) <= facts.top(m) && facts.lo(m) <= facts.top(*k) {
-            bytes += instance.message_at(*k as usize).bytes;
+            let own = instance.message_at(*k as usize).bytes;
+            bytes = own.saturating_mul(copies(choice, *k)).saturating_add(bytes);
         }
     }
-    bytes > choice.cap_most(instance, node)
+    let channels = instance.cluster().channels;
+    bytes > choice.cap_most(instance, node).saturating_mul(channels)
 }

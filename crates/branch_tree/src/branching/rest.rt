@@ -1,7 +1,7 @@
 //! What is left to choose where nothing conflicts?
 
 ghost use Rattle.std.specs.Prelude.{◌≡◌, ℕ, ◌<◌, length, IfNone, IsSome};
-ghost use Rattle.tt_choice.specs.Choice.{IsChoice, IsOrdered, fixed_cap, least_round, greatest_round};
+ghost use Rattle.tt_choice.specs.Choice.{IsChoice, IsOrdered, fixed_cap, fixed_channel, least_round, greatest_round};
 ghost use Rattle.branch_tree.specs.Branching.{Branches, MayBranch, OrderedBelow};
 
 use crate::branching::rounds::halved;
@@ -10,12 +10,13 @@ use tt_infer::Facts;
 use ttp_model::{Instance, Kind};
 
 /// An open branch, or none where nothing is left to choose: an order of two processes, then a round,
-/// then a node's place, then a capacity.
+/// then a node's place, then a capacity, then a channel.
 pub fn rest(instance: &Instance, choice: &Choice, facts: &Facts) -> Option<Kind>
     requires of { IsChoice instance.now choice.now }
     requires facts { facts.now.instance ≡ instance.now }
     ensures { Branches instance.now choice.now result }
 {
+    let _messages = instance.messages();
     if let Some(kind) = unordered_pair(instance, choice, facts) {
         return Some(kind);
     }
@@ -25,7 +26,10 @@ pub fn rest(instance: &Instance, choice: &Choice, facts: &Facts) -> Option<Kind>
     if choice.is_open(instance, &Kind::Place) {
         return Some(Kind::Place);
     }
-    free_cap(instance, choice)
+    if let Some(kind) = free_cap(instance, choice) {
+        return Some(kind);
+    }
+    free_channel(instance, choice)
 }
 
 /// The first two processes of one node in neither order.
@@ -92,6 +96,22 @@ fn free_cap(instance: &Instance, choice: &Choice) -> Option<Kind>
     for n in 0..count {
         if choice.fixed_cap(n).is_none() {
             return Some(Kind::Cap(n));
+        }
+    }
+    None
+}
+
+/// The first message whose channel is free.
+fn free_channel(instance: &Instance, choice: &Choice) -> Option<Kind>
+    requires { IsChoice instance.now choice.now }
+    ensures some { MayBranch instance.now choice.now result }
+    ensures none { IfNone result ((m : ℕ) → m < length instance.now.messages
+        → IsSome (fixed_channel choice.now m)) }
+{
+    let count = instance.messages().len() as u32;
+    for m in 0..count {
+        if choice.channel(m).is_none() {
+            return Some(Kind::Chan(m));
         }
     }
     None

@@ -4,7 +4,7 @@ use super::{Row, replay};
 use crate::instances::Small;
 use std::test::Fail;
 use tt_choice::Decision::{AtMost, Before};
-use tt_infer::StepFault::NoPremise;
+use tt_infer::StepFault::{NoPremise, NoSuchIndex};
 use worked_instances::PLAIN;
 
 /// Steps to a closer, and steps to one that is just not taken.
@@ -40,7 +40,7 @@ static ROWS: &[Row] = &[
         steps: &[("x-frame 0", Ok(()), "0..100 0..100 m 0..100 closed")],
     },
     Row {
-        label: "two messages that share one frame leave no plan",
+        label: "two messages that share one frame leave no plan, and one channel has no halves",
         small: Small::Overfull,
         decisions: &[AtMost(0, 0), AtMost(1, 0)],
         goal: 101,
@@ -48,6 +48,11 @@ static ROWS: &[Row] = &[
             (
                 "x-frames 0 0 2\nx-frames 0 1 1\nx-frames 1 0 1\nx-frames 0 1 0",
                 Err(NoPremise),
+                "0..100 0..100 m 0..1 m 0..1 open",
+            ),
+            (
+                "x-channel 0 0 0 1\nx-channel 1 0 0 1",
+                Err(NoSuchIndex),
                 "0..100 0..100 m 0..1 m 0..1 open",
             ),
             (

@@ -3,7 +3,7 @@
 use Rattle.std.proofs.Common.{◌≡◌, ◌≢◌, ℕ, ◌-◌, List, length, slice_index, Bool, true, false, IsTrue, IsFalse, arith, inl, inr, refl, ap, ap₂, subst, sym, ◌∙◌}
 use Rattle.std.proofs.lemmas.Bool.{cases_eq, both_ways, false≢true}
 use Rattle.ttp_model.specs.declared.step.Step.{Step}
-use Rattle.ttp_model.specs.declared.step.Step.TheVariants.{EsRelease, EsLink, EsBefore, EsArrive, EsMessage, LoSend, LeOwn, LeLink, LeBefore, LeMessage, LeSend, HiArrive, OrdWindow, OrdTwin, UsSettled, XWindow, XRound, XCycle, XLoad, XFrame, XFrames, XLate, XSilent}
+use Rattle.ttp_model.specs.declared.step.Step.TheVariants.{EsRelease, EsLink, EsBefore, EsArrive, EsMessage, LoSend, LeOwn, LeLink, LeBefore, LeMessage, LeSend, HiArrive, OrdWindow, OrdTwin, UsSettled, XWindow, XRound, XCycle, XLoad, XFrame, XFrames, XChannel, XLate, XSilent}
 use Rattle.ttp_model.specs.Instance.{Instance}
 use Rattle.tt_choice.specs.Choice.{Choice, ArePair}
 use Rattle.tt_choice.specs.Branches.{order_pair}
@@ -11,7 +11,7 @@ use Rattle.tt_choice.proofs.Before.{put_other}
 use Rattle.step_reads.specs.declared.fact.Fact.{Fact}
 use Rattle.step_reads.specs.declared.fact.Fact.TheVariants.{Start, End, FirstRound, LateRound, Order, Closed}
 use Rattle.step_reads.specs.declared.limit.Limit.{Limit}
-use Rattle.step_reads.specs.declared.limit.Limit.TheVariants.{Goal, LeastSlot, GreatestSlot, LeastFrame, GreatestFrame, Place}
+use Rattle.step_reads.specs.declared.limit.Limit.TheVariants.{Goal, LeastSlot, GreatestSlot, LeastFrame, GreatestFrame, Place, Copies, Counted}
 use Rattle.sought_plans.specs.Known.{Known, Fits, bef_of}
 use Rattle.sought_plans.specs.Premises.{IsAhead, IsRing}
 use Rattle.tt_infer.specs.Table.{rule, IsLawful}
@@ -96,7 +96,7 @@ module _ (i : Instance) (c : Choice) (goal : ℕ) (f : Known) (p q : ℕ) (unkno
   of_its_first : (x y : ℕ) → TellsWait f x y (Order p q) → UsSettled x ≡ UsSettled p
   of_its_first x y reads = elim reads [ inl order ↦ ap UsSettled (sym (first_same f p q x y order)) | inr end ↦ absurd (no_end f p q y end.1) ]
 
-  pub reads_unknown : (step : Step) → (rule i c goal f step).premise → ReadsFact i f step (Order p q) → step ≡ UsSettled p
+  pub reads_unknown : (step : Step) → (rule i c goal f step).premise → ReadsFact i c f step (Order p q) → step ≡ UsSettled p
   reads_unknown (EsRelease x) premise reads = absurd reads
   reads_unknown (EsLink l) premise reads = absurd (no_start f p q _ reads)
   reads_unknown (EsBefore x y) premise reads = elim reads [ inl start ↦ absurd (no_start f p q x start) | inr order ↦ absurd (not_known x y order premise) ]
@@ -121,6 +121,7 @@ module _ (i : Instance) (c : Choice) (goal : ℕ) (f : Known) (p q : ℕ) (unkno
   reads_unknown (XLoad n a b) premise reads = absurd (not_run a reads.0 reads.2.1)
   reads_unknown (XFrame m) premise reads = absurd reads
   reads_unknown (XFrames n a b) premise reads = absurd (not_sending a reads.0 reads.2.1)
+  reads_unknown (XChannel k n a b) premise reads = absurd (not_sending a reads.0 reads.2.1)
   reads_unknown (XLate m r) premise reads = elim reads [
     | inl own ↦ elim own [ inl first ↦ absurd (no_first f p q m first) | inr end ↦ absurd (no_end f p q _ end) ]
     | inr other ↦ absurd (not_kept_out r other.0 other.2.1)
@@ -154,10 +155,12 @@ module _ (i : Instance) (c : Choice) (goal : ℕ) (f : Known) (p q : ℕ) (pair 
   limits_alike (LeastFrame n) = refl
   limits_alike (GreatestFrame n) = refl
   limits_alike (Place v) = λ u is. is
+  limits_alike (Copies m) = refl
+  limits_alike (Counted m k) = refl
 
   pub lawful_ordered : (step : Step) (g : Known) → step ≢ UsSettled p → IsFalse (bef_of f p q) → IsLawful i c goal f step g → IsLawful i (order_pair c p q) goal (ordered f p q) step (ordered g p q)
   lawful_ordered step g other unknown lawful =
-      let unread = λ (fact : Fact) (reads : ReadsFact i f step fact) (is : fact ≡ Order p q). other (reads_unknown i c goal f p q unknown step lawful.premise (subst (ReadsFact i f step) is reads)) in
+      let unread = λ (fact : Fact) (reads : ReadsFact i c f step fact) (is : fact ≡ Order p q). other (reads_unknown i c goal f p q unknown step lawful.premise (subst (ReadsFact i c f step) is reads)) in
       let agree : AgreeOnReads i c goal f (order_pair c p q) goal (ordered f p q) step = record {
         facts = λ fact reads. alike_but_order fact (unread fact reads);
         limits = λ limit reads. limits_alike limit;

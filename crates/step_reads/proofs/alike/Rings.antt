@@ -7,6 +7,7 @@ use Rattle.ttp_model.proofs.Alike.{link_or_not}
 use Rattle.ttp_model.specs.declared.step.Step.TheVariants.{XCycle}
 use Rattle.step_reads.specs.declared.fact.Fact.{Fact}
 use Rattle.step_reads.specs.declared.fact.Fact.TheVariants.{Order}
+use Rattle.tt_choice.specs.Choice.{Choice}
 use Rattle.sought_plans.specs.Known.{Known, bef_of}
 use Rattle.sought_plans.specs.Premises.{IsAhead, IsRing}
 use Rattle.step_reads.specs.Reads.{AgreeOn, AreNeighbours, ReadsFact}
@@ -20,7 +21,7 @@ message_or_not i p q = like ((m : ℕ) × (m < length i.messages) × (((message_
 leads_or_not : (i : Instance) (p q : ℕ) → Decision (Leads i p q)
 leads_or_not i p q = one_of (HasLink i p q) (HasMessage i p q) (link_or_not i p q) (message_or_not i p q)
 
-module _ (i : Instance) (f g : Known) (ps : List ℕ) (agree : (fact : Fact) → ReadsFact i f (XCycle ps) fact → AgreeOn f g fact) where
+module _ (i : Instance) (c : Choice) (f g : Known) (ps : List ℕ) (agree : (fact : Fact) → ReadsFact i c f (XCycle ps) fact → AgreeOn f g fact) where
   ahead_alike : (p q : ℕ) → AreNeighbours ps p q → IsAhead i f p q → IsAhead i g p q
   ahead_alike p q neighbours is = elim is [
     | inr leads ↦ inr leads

@@ -3,20 +3,20 @@ use Rattle.std.proofs.Common.{◌≡◌, ℕ, ◌+◌, ◌-◌, ◌*◌, min, ar
 use Rattle.ttp_model.specs.Instance.{Instance, process_at, link_at, source_of}
 use Rattle.ttp_model.specs.Slots.{slot_duration}
 use Rattle.ttp_model.specs.declared.step.Step.{Step}
-use Rattle.ttp_model.specs.declared.step.Step.TheVariants.{EsRelease, EsLink, EsBefore, EsArrive, EsMessage, LoSend, LeOwn, LeLink, LeBefore, LeMessage, LeSend, HiArrive, OrdWindow, OrdTwin, UsSettled, XWindow, XRound, XCycle, XLoad, XFrame, XFrames, XLate, XSilent}
+use Rattle.ttp_model.specs.declared.step.Step.TheVariants.{EsRelease, EsLink, EsBefore, EsArrive, EsMessage, LoSend, LeOwn, LeLink, LeBefore, LeMessage, LeSend, HiArrive, OrdWindow, OrdTwin, UsSettled, XWindow, XRound, XCycle, XLoad, XFrame, XFrames, XChannel, XLate, XSilent}
 use Rattle.tt_choice.specs.Choice.{Choice}
 use Rattle.tt_choice.specs.Extremes.{start_most, end_least, cap_most, dur_least}
 use Rattle.step_reads.specs.declared.fact.Fact.TheVariants.{Start, End, FirstRound, LateRound, Order}
 use Rattle.step_reads.specs.declared.limit.Limit.TheVariants.{Goal, LeastSlot, GreatestSlot, LeastFrame, GreatestFrame, Place}
 use Rattle.sought_plans.specs.Known.{Known, es_of, le_of, lo_of, top_of}
 use Rattle.sought_plans.specs.Conclusions.{Conclusion, StartsFrom, EndsUntil, sharpened}
-use Rattle.sought_plans.specs.Premises.{wcet_of, sender_of, IsFirstChance, AreChances, IsOverloaded, AreOverfull}
+use Rattle.sought_plans.specs.Premises.{wcet_of, sender_of, IsFirstChance, AreChances, IsOverloaded, AreOverfull, AreOverfullOn}
 use Rattle.sought_plans.specs.Dominance.{StandTurned}
 use Rattle.tt_infer.specs.Table.{rule, IsLawful}
 use Rattle.step_reads.specs.Reads.{AgreeOnReads, Gives}
 use Rattle.step_reads.proofs.alike.Rings.{ring_alike}
 use Rattle.step_reads.proofs.alike.Waits.{rounds_alike, greatest_wait_alike}
-use Rattle.step_reads.proofs.alike.Loads.{load_alike, bytes_alike}
+use Rattle.step_reads.proofs.alike.Loads.{load_alike, copied_alike, counted_alike}
 use Rattle.step_reads.proofs.alike.Late.{earlier_alike}
 
 module _ (i : Instance) (c : Choice) (goal : ℕ) (f : Known) (d : Choice) (aim : ℕ) (g : Known) where
@@ -43,17 +43,24 @@ module _ (i : Instance) (c : Choice) (goal : ℕ) (f : Known) (d : Choice) (aim 
   there_alike (XLoad n a b) is = is
   there_alike (XFrame m) is = is
   there_alike (XFrames n a b) is = is
+  there_alike (XChannel k n a b) is = is
   there_alike (XLate m r) is = is
   there_alike (XSilent u v) is = is
 
   overloaded_alike : (n a b : ℕ) → AgreeOnReads i c goal f d aim g (XLoad n a b) → IsOverloaded i f n a b → IsOverloaded i g n a b
-  overloaded_alike n a b agree is = record { span = is.span; load = omega (arith, is.load, load_alike i f g n a b agree.facts) }
+  overloaded_alike n a b agree is = record { span = is.span; load = omega (arith, is.load, load_alike i c f g n a b agree.facts) }
 
   overfull_alike : (n a b : ℕ) → AgreeOnReads i c goal f d aim g (XFrames n a b) → AreOverfull i c f n a b → AreOverfull i d g n a b
   overfull_alike n a b agree is =
-      let frame : cap_most i c n ≡ cap_most i d n = agree.limits (GreatestFrame n) refl in
+      let frame : cap_most i c n ≡ cap_most i d n = agree.limits (GreatestFrame n) (inl refl) in
+      let room : i.cluster.channels * ((b - a) * cap_most i c n) ≡ i.cluster.channels * ((b - a) * cap_most i d n) = ap (λ cap. i.cluster.channels * ((b - a) * cap)) frame in
+      record { span = is.span; bytes = omega (arith, is.bytes, room, copied_alike i c goal f d aim g n a b agree) }
+
+  overfull_on_alike : (k n a b : ℕ) → AgreeOnReads i c goal f d aim g (XChannel k n a b) → AreOverfullOn i c f k n a b → AreOverfullOn i d g k n a b
+  overfull_on_alike k n a b agree is =
+      let frame : cap_most i c n ≡ cap_most i d n = agree.limits (GreatestFrame n) (inl refl) in
       let room : (b - a) * cap_most i c n ≡ (b - a) * cap_most i d n = ap (λ cap. (b - a) * cap) frame in
-      record { span = is.span; bytes = omega (arith, is.bytes, room, bytes_alike i f g n a b agree.facts) }
+      record { span = is.span; bytes = omega (arith, is.bytes, room, counted_alike i c goal f d aim g n a b k agree) }
 
   turned_alike : (u v : ℕ) → AgreeOnReads i c goal f d aim g (XSilent u v) → StandTurned i c u v → StandTurned i d u v
   turned_alike u v agree is = record { in_order = is.in_order; twins = is.twins; first = agree.limits (Place v) refl u is.first }
@@ -87,12 +94,13 @@ module _ (i : Instance) (c : Choice) (goal : ℕ) (f : Known) (d : Choice) (aim 
       let first : lo_of f m ≡ lo_of g m = agree.facts (FirstRound m) (inl refl) in
       let late : top_of f m ≡ top_of g m = agree.facts (LateRound m) (inr refl) in
       omega (arith, is, first, late)
-  premise_alike (XCycle ps) agree is = ring_alike i f g ps agree.facts is
+  premise_alike (XCycle ps) agree is = ring_alike i c f g ps agree.facts is
   premise_alike (XLoad n a b) agree is = overloaded_alike n a b agree is
   premise_alike (XFrame m) agree is =
       let frame : cap_most i c (source_of i m) ≡ cap_most i d (source_of i m) = agree.limits (GreatestFrame (source_of i m)) refl in
       omega (arith, is, frame)
   premise_alike (XFrames n a b) agree is = overfull_alike n a b agree is
+  premise_alike (XChannel k n a b) agree is = overfull_on_alike k n a b agree is
   premise_alike (XLate m r) agree is = earlier_alike i c goal f d aim g m r agree is
   premise_alike (XSilent u v) agree is = turned_alike u v agree is
 
@@ -147,6 +155,7 @@ module _ (i : Instance) (c : Choice) (goal : ℕ) (f : Known) (d : Choice) (aim 
   conclusion_alike (XLoad n a b) k agree is = is
   conclusion_alike (XFrame m) k agree is = is
   conclusion_alike (XFrames n a b) k agree is = is
+  conclusion_alike (XChannel channel n a b) k agree is = is
   conclusion_alike (XLate m r) k agree is = is
   conclusion_alike (XSilent u v) k agree is = is
 

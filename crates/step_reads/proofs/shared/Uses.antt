@@ -1,11 +1,13 @@
 -- A leaf closes what the decisions make that it uses.
-use Rattle.std.proofs.Common.{◌≡◌, ℕ, ◌+◌, ◌<◌, ◌≤◌, ◌==◌, List, [], ◌∷◌, ◌++◌, length, length-append, slice_index, map, true, arith, inl, inr, refl, ap, sym, ◌∙◌}
+use Rattle.std.proofs.Common.{◌≡◌, ℕ, ◌+◌, ◌<◌, ◌≤◌, ◌==◌, List, [], ◌∷◌, ◌++◌, length, length-append, slice_index, map, None, Some, Bool, true, false, arith, inl, inr, refl, ap, sym, ◌∙◌}
 use Rattle.std.proofs.lemmas.Bool.{cases_lt, both_ways, eq-eqb, eqb-true}
 use Rattle.std.proofs.lemmas.List.{get_or-map, get_or_past, length-map}
 use Rattle.std.proofs.lemmas.List.Sums.{passes_at_first, fails_before_first}
 use Rattle.ttp_model.specs.declared.step.Step.{Step}
 use Rattle.ttp_model.specs.declared.step.Leaf.{Leaf}
 use Rattle.ttp_model.specs.Instance.{Instance}
+use Rattle.ttp_model.specs.Limits.{both_channels}
+use Rattle.ttp_model.specs.Plans.{is_on}
 use Rattle.ttp_model.specs.Rules.{IsInstance}
 use Rattle.tt_choice.specs.Choice.{Choice, IsChoice}
 use Rattle.tt_choice.specs.Branches.{root_choice}
@@ -15,13 +17,14 @@ use Rattle.tt_choice.specs.Kept.{Marked, all_of, kept_of, KeepsPlaces}
 use Rattle.tt_choice.proofs.Decisions.{IsChoice-after_all}
 use Rattle.tt_choice.proofs.Extend.{first_part}
 use Rattle.tt_choice.proofs.Root.{IsChoice-root}
-use Rattle.tt_choice.proofs.kept.Law.{ends, kept_are_open, kept_is_outside, kept_least, kept_greatest, kept_order, kept_least_frame, kept_greatest_frame, kept_least_slot, kept_greatest_slot}
+use Rattle.tt_choice.proofs.kept.Law.{ends, kept_are_open, kept_is_outside, kept_least, kept_greatest, kept_order, kept_least_frame, kept_greatest_frame, kept_channel, kept_least_slot, kept_greatest_slot}
 use Rattle.step_reads.specs.declared.fact.Fact.{Fact}
 use Rattle.step_reads.specs.declared.fact.Fact.TheVariants.{Start, End, FirstRound, LateRound, Order, Closed}
 use Rattle.step_reads.specs.declared.limit.Limit.{Limit}
-use Rattle.step_reads.specs.declared.limit.Limit.TheVariants.{Goal, LeastSlot, GreatestSlot, LeastFrame, GreatestFrame, Place}
+use Rattle.step_reads.specs.declared.limit.Limit.TheVariants.{Goal, LeastSlot, GreatestSlot, LeastFrame, GreatestFrame, Place, Copies, Counted}
 use Rattle.sought_plans.specs.Known.{Known, first_facts, top_of}
 use Rattle.sought_plans.specs.Dominance.{StandsFirst}
+use Rattle.sought_plans.specs.Premises.{copies_of, is_fixed_on}
 use Rattle.tt_infer.specs.Leaves.{ClosesSharply}
 use Rattle.step_reads.specs.Reads.{GivesAlike}
 use Rattle.step_reads.specs.Shared.{SayAlike, ReadShared}
@@ -65,6 +68,10 @@ module _ (front rest order : List ℕ) (v u : ℕ) (is : order ≡ front ++ rest
     u_later = λ k below same. first.u_later k (omega (arith, below, no_later)) (in_front k (omega (arith, below, inside)) ∙ same);
   }
 
+-- a message that is fixed to one channel counts as often as one that isn't fixed
+as_often_as_none : (k : ℕ) → (k == both_channels) ≡ false → copies_of (Some k) ≡ copies_of None
+as_often_as_none k one = rw one refl
+
 module _ (i : Instance) (ms : List Marked) (goal : ℕ) (w : IsInstance i) (are : AreOpenDecisions i (root_choice i) (all_of ms)) (places : KeepsPlaces true ms) where
   all_choice : IsChoice i (chosen i (all_of ms))
   all_choice = IsChoice-after_all i (root_choice i) (all_of ms) (IsChoice-root i w) are
@@ -87,6 +94,8 @@ module _ (i : Instance) (ms : List Marked) (goal : ℕ) (w : IsInstance i) (are 
   gives_limit (LeastFrame n) kept = kept_least_frame i ms w are places n kept
   gives_limit (GreatestFrame n) kept = kept_greatest_frame i ms w are places n kept
   gives_limit (Place v) kept = λ u first. stands_alike (chosen i (kept_of ms)).prefix (ends i ms w are places).rest (chosen i (all_of ms)).prefix v u (ends i ms w are places).front kept first
+  gives_limit (Copies m) kept = kept_channel i ms w are places ℕ copies_of (λ k. k == both_channels) as_often_as_none m kept
+  gives_limit (Counted m k) kept = kept_channel i ms w are places Bool (is_fixed_on k) (is_on k) (λ _ off. off) m kept
 
   shared_kept : (f : Known) (before steps : List Step) → UseKept i ms goal f before steps → ReadShared i (chosen i (all_of ms)) (chosen i (kept_of ms)) goal f before steps
   shared_kept f before [] uses = tt

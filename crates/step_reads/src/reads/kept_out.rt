@@ -69,7 +69,7 @@ fn add_others(facts: &Facts, m: u32, r: u32, reads: &mut Vec<Fact>) -> Result<()
 /// Adds what shows that message `m` could be sent in round `r`: nothing where it isn't there.
 pub fn add_late(facts: &Facts, m: u32, r: u32, reads: &mut Vec<Fact>) -> Result<(), MemoryFault>
     ensures { m < length facts.now.instance.messages
-        → OnOk result (AddsFacts (ReadsFact facts.now.instance facts.now.known (XLate m r))
+        → OnOk result (AddsFacts (ReadsFact facts.now.instance facts.now.choice facts.now.known (XLate m r))
         reads.old.items reads.new.items) }
 {
     let instance = facts.instance();

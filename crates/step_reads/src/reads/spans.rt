@@ -1,13 +1,14 @@
 //! Which facts say what runs, or is sent, in a span?
 
 ghost use Rattle.std.specs.Prelude.{◌≡◌, ◌<◌, OnOk, length};
-ghost use Rattle.ttp_model.specs.declared.step.Step.TheVariants.{XLoad, XFrames};
+ghost use Rattle.ttp_model.specs.declared.step.Step.TheVariants.{XLoad, XFrames, XChannel};
 ghost use Rattle.sought_plans.specs.Premises.{runs_within, sent_within};
-ghost use Rattle.step_reads.specs.Reads.{BoundsRun, BoundsSending, ReadsFact};
-ghost use Rattle.step_reads.specs.Added.{AddsFacts, BoundsRunWithin, BoundsSendingWithin};
+ghost use Rattle.step_reads.specs.Reads.{BoundsRun, BoundsSending, ReadsFact, counted_within};
+ghost use Rattle.step_reads.specs.Added.{AddsFacts, BoundsCounted, BoundsRunWithin, BoundsSendingWithin};
 
 use crate::fact::Fact;
 use crate::reads::added::{add, add_two};
+use sought_plans::counts_on;
 use tt_infer::Facts;
 use ttp_model::MemoryFault;
 
@@ -45,6 +46,14 @@ fn sent_within(facts: &Facts, n: u32, a: u32, b: u32, m: u32) -> bool
     ensures { result ≡ sent_within facts.now.instance facts.now.known n a b m }
 {
     facts.instance().source_of(m as usize) == n && a <= facts.lo(m) && facts.top(m) <= b
+}
+
+/// The same, where it is fixed to channel `k` or to both.
+fn counted_within(facts: &Facts, k: u32, n: u32, a: u32, b: u32, m: u32) -> bool
+    requires { m < length facts.now.instance.messages }
+    ensures { result ≡ counted_within facts.now.instance facts.now.choice facts.now.known k n a b m }
+{
+    counts_on(facts.choice(), k, m) && sent_within(facts, n, a, b, m)
 }
 
 /// Adds the bounds of process `p`, where it is of node `n` and runs from `a` to `b`.
@@ -85,6 +94,26 @@ fn add_sending_within(
     Ok(())
 }
 
+/// Adds them where it is fixed to channel `k` or to both besides.
+fn add_counted(
+    facts: &Facts,
+    k: u32,
+    n: u32,
+    a: u32,
+    b: u32,
+    m: u32,
+    reads: &mut Vec<Fact>,
+) -> Result<(), MemoryFault>
+    requires { m < length facts.now.instance.messages }
+    ensures { OnOk result (AddsFacts (BoundsCounted facts.now.instance facts.now.choice facts.now.known k n a b m)
+        reads.old.items reads.new.items) }
+{
+    if counted_within(facts, k, n, a, b, m) {
+        return add_sending(reads, a, m);
+    }
+    Ok(())
+}
+
 /// Adds the bounds of the processes of node `n` that run from `a` to `b`. One pass over its processes.
 pub fn add_load(
     facts: &Facts,
@@ -93,7 +122,7 @@ pub fn add_load(
     b: u32,
     reads: &mut Vec<Fact>,
 ) -> Result<(), MemoryFault>
-    ensures { OnOk result (AddsFacts (ReadsFact facts.now.instance facts.now.known (XLoad n a b))
+    ensures { OnOk result (AddsFacts (ReadsFact facts.now.instance facts.now.choice facts.now.known (XLoad n a b))
         reads.old.items reads.new.items) }
 {
     let instance = facts.instance();
@@ -111,12 +140,31 @@ pub fn add_frames(
     b: u32,
     reads: &mut Vec<Fact>,
 ) -> Result<(), MemoryFault>
-    ensures { OnOk result (AddsFacts (ReadsFact facts.now.instance facts.now.known (XFrames n a b))
+    ensures { OnOk result (AddsFacts (ReadsFact facts.now.instance facts.now.choice facts.now.known (XFrames n a b))
         reads.old.items reads.new.items) }
 {
     let instance = facts.instance();
     for m in instance.messages_of(n) {
         add_sending_within(facts, n, a, b, *m, reads)?;
+    }
+    Ok(())
+}
+
+/// Adds the bounds of those that are fixed to channel `k` or to both. One pass over the messages of the node.
+pub fn add_channel(
+    facts: &Facts,
+    k: u32,
+    n: u32,
+    a: u32,
+    b: u32,
+    reads: &mut Vec<Fact>,
+) -> Result<(), MemoryFault>
+    ensures { OnOk result (AddsFacts (ReadsFact facts.now.instance facts.now.choice facts.now.known (XChannel k n a b))
+        reads.old.items reads.new.items) }
+{
+    let instance = facts.instance();
+    for m in instance.messages_of(n) {
+        add_counted(facts, k, n, a, b, *m, reads)?;
     }
     Ok(())
 }

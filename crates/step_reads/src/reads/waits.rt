@@ -86,7 +86,7 @@ fn add_arrivals(instance: &Instance, p: u32, reads: &mut Vec<Fact>) -> Result<()
 /// Adds what tells how long process `p` may have to wait: nothing where it isn't there.
 pub fn add_settled(facts: &Facts, p: u32, reads: &mut Vec<Fact>) -> Result<(), MemoryFault>
     ensures { p < length facts.now.instance.processes
-        → OnOk result (AddsFacts (ReadsFact facts.now.instance facts.now.known (UsSettled p))
+        → OnOk result (AddsFacts (ReadsFact facts.now.instance facts.now.choice facts.now.known (UsSettled p))
         reads.old.items reads.new.items) }
 {
     if p as usize >= facts.instance().processes().len() {

@@ -3,11 +3,11 @@ use Rattle.std.proofs.Common.{◌≡◌, ℕ, ◌<◌, ◌==◌, ◌&&◌, not, 
 use Rattle.std.specs.List.{list_any, range_with_len}
 use Rattle.std.proofs.lemmas.Bool.{false≢true}
 use Rattle.ttp_model.specs.declared.step.Kind.{Kind}
-use Rattle.ttp_model.specs.declared.step.Kind.TheVariants.{Place, Cap, Pair, Round}
+use Rattle.ttp_model.specs.declared.step.Kind.TheVariants.{Place, Cap, Pair, Round, Chan}
 use Rattle.ttp_model.specs.Instance.{Instance}
 use Rattle.tt_choice.specs.declared.decision.Decision.{Decision}
 use Rattle.tt_choice.specs.declared.decision.Decision.TheVariants as decided
-use Rattle.tt_choice.specs.Choice.{Choice, fixed_cap}
+use Rattle.tt_choice.specs.Choice.{Choice, fixed_cap, fixed_channel}
 use Rattle.tt_choice.specs.Branches.{IsOpen, children, unplaced}
 use Rattle.tt_choice.specs.Decisions.{decision_of}
 use Rattle.tt_choice.specs.Kept.{Marked, keep, drop, all_of, kept_of, takes_place, KeepsPlaces, places_kept, HasPlaces}
@@ -62,6 +62,14 @@ module _ (i : Instance) (all : Bool) (c d : Choice) (wide : IsWider i all c d) w
     count = refl;
     decision = round_alike i c d m r;
   }
+  branch_kept (Chan m) places is = record {
+    is_open = record {
+      message = is.message;
+      free = none_outside (fixed_channel d m) (fixed_channel c m) (wide.inside.channels m is.message) is.free;
+    };
+    count = refl;
+    decision = λ k. refl;
+  }
 
 -- a decision of a branch takes a place only where the branch does
 pub places_of : (i : Instance) (c : Choice) (kind : Kind) (k : ℕ) (all : Bool) → HasPlaces kind all → IsTrue (takes_place (decision_of i c kind k)) → IsTrue all
@@ -71,6 +79,7 @@ places_of i c (Pair p q) zero all places takes = no_place takes
 places_of i c (Pair p q) (suc k) all places takes = no_place takes
 places_of i c (Round m r) zero all places takes = no_place takes
 places_of i c (Round m r) (suc k) all places takes = no_place takes
+places_of i c (Chan m) k all places takes = no_place takes
 
 -- One decision more.
 pub all_of-keep : (ms : List Marked) (d : Decision) → all_of (ms ++ keep d ∷ []) ≡ all_of ms ++ d ∷ []

@@ -1,18 +1,18 @@
 -- What the kept of open decisions say, from the choice on in which nothing is chosen.
-use Rattle.std.proofs.Common.{◌≡◌, ℕ, ◌<◌, ◌≤◌, List, length, Bool, true, IsTrue, refl}
+use Rattle.std.proofs.Common.{◌≡◌, ℕ, ◌<◌, ◌≤◌, List, length, Option, None, Some, Bool, true, false, IsTrue, refl}
 use Rattle.ttp_model.specs.Instance.{Instance}
 use Rattle.ttp_model.specs.Rules.{IsInstance}
 use Rattle.tt_choice.specs.declared.decision.Decision.{Decision}
-use Rattle.tt_choice.specs.Choice.{Choice, is_before, least_round, greatest_round}
+use Rattle.tt_choice.specs.Choice.{Choice, fixed_channel, is_before, least_round, greatest_round}
 use Rattle.tt_choice.specs.Branches.{root_choice}
 use Rattle.tt_choice.specs.Decisions.{AreOpenDecisions, chosen}
 use Rattle.tt_choice.specs.Extremes.{cap_least, cap_most, place_of, start_least, start_most, end_least, end_most}
 use Rattle.tt_choice.specs.Inside.{IsInside}
-use Rattle.tt_choice.specs.Kept.{Marked, all_of, kept_of, KeepsPlaces, places_kept, last_kept, sets_least, sets_greatest, sets_order, fixes_above, fixes_below}
+use Rattle.tt_choice.specs.Kept.{Marked, all_of, kept_of, KeepsPlaces, places_kept, last_kept, sets_least, sets_greatest, sets_order, fixes_above, fixes_below, fixes_channel, passes}
 use Rattle.tt_choice.proofs.Root.{IsChoice-root}
 use Rattle.tt_choice.proofs.kept.Wider.{IsWider, wider_itself, open_kept, wider_kept_all}
 use Rattle.tt_choice.proofs.kept.Alike.{IsSetBy, alike_kept}
-use Rattle.tt_choice.proofs.kept.Said.{least_is_set, greatest_is_set, order_is_set, least_frame_is_set, greatest_frame_is_set}
+use Rattle.tt_choice.proofs.kept.Said.{least_is_set, greatest_is_set, order_is_set, least_frame_is_set, greatest_frame_is_set, channel_is_set}
 use Rattle.tt_choice.proofs.kept.Slots.{least_slot_alike, greatest_slot_alike}
 
 module _ (i : Instance) (ms : List Marked) (w : IsInstance i) (are : AreOpenDecisions i (root_choice i) (all_of ms)) (places : KeepsPlaces true ms) where
@@ -45,6 +45,12 @@ module _ (i : Instance) (ms : List Marked) (w : IsInstance i) (are : AreOpenDeci
 
   pub kept_greatest_frame : (n : ℕ) → IsTrue (last_kept (fixes_below i n) true ms) → cap_most i (chosen i (all_of ms)) n ≡ cap_most i (chosen i (kept_of ms)) n
   kept_greatest_frame n last = set_alike (λ c d. cap_most i c n ≡ cap_most i d n) (fixes_below i n) (greatest_frame_is_set i n) refl last
+
+  pub kept_channel : (X : Type 0) (tells : Option ℕ → X) (test : ℕ → Bool) → ((k : ℕ) → test k ≡ false → tells (Some k) ≡ tells None) → (m : ℕ) → IsTrue (last_kept (fixes_channel test m) true ms) → tells (fixed_channel (chosen i (all_of ms)) m) ≡ tells (fixed_channel (chosen i (kept_of ms)) m)
+  kept_channel X tells test as_none m last = set_alike (λ c d. tells (fixed_channel c m) ≡ tells (fixed_channel d m)) (fixes_channel test m) (channel_is_set i X tells test as_none m) refl last
+
+  pub kept_passes : (test : ℕ → Bool) (m : ℕ) → IsTrue (last_kept (fixes_channel test m) true ms) → passes test (fixed_channel (chosen i (all_of ms)) m) ≡ passes test (fixed_channel (chosen i (kept_of ms)) m)
+  kept_passes test m last = kept_channel Bool (passes test) test (λ k not. not) m last
 
   pub kept_least_slot : ((v : ℕ) → v < length i.nodes → IsTrue (last_kept (fixes_above v) true ms)) → (n : ℕ) → n < length i.nodes → place_of n (chosen i (all_of ms)).prefix ≤ length (chosen i (kept_of ms)).prefix → (r : ℕ) → (start_least i (chosen i (all_of ms)) n r ≡ start_least i (chosen i (kept_of ms)) n r) × (end_least i (chosen i (all_of ms)) n r ≡ end_least i (chosen i (kept_of ms)) n r)
   kept_least_slot above n there front =

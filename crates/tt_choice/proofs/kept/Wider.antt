@@ -7,14 +7,15 @@ use Rattle.ttp_model.specs.Instance.{Instance, node_at}
 use Rattle.tt_choice.specs.declared.decision.Decision.{Decision}
 use Rattle.tt_choice.specs.declared.decision.Decision.TheVariants as decided
 use Rattle.ttp_model.specs.declared.plan.Plan.{Plan}
-use Rattle.tt_choice.specs.Choice.{Choice, IsChoice, IsIn, ArePair, fixed_cap, is_before}
+use Rattle.ttp_model.specs.Plans.{channel_of}
+use Rattle.tt_choice.specs.Choice.{Choice, IsChoice, IsIn, ArePair, fixed_cap, fixed_channel, is_before}
 use Rattle.tt_choice.specs.Branches.{order_pair}
 use Rattle.tt_choice.specs.Decisions.{choice_after, choice_after_all, IsOpenDecision, AreOpenDecisions}
 use Rattle.tt_choice.specs.Inside.{IsInside, IsKeptBy}
 use Rattle.tt_choice.specs.Kept.{Marked, keep, drop, all_of, kept_of, takes_place, KeepsPlaces, places_kept}
 use Rattle.tt_choice.proofs.Before.{put_kept, put_only, put_same}
 use Rattle.tt_choice.proofs.Decisions.{IsChoice-after}
-use Rattle.tt_choice.proofs.Inside.{begins_too, fixed_too, IsInside-self, IsInside-place, IsInside-fix, IsInside-order, IsInside-at_most, IsInside-at_least}
+use Rattle.tt_choice.proofs.Inside.{begins_too, fixed_too, IsInside-self, IsInside-place, IsInside-fix, IsInside-order, IsInside-at_most, IsInside-at_least, IsInside-fix_channel}
 
 kept_twice : (one other last : Option ℕ) → IsKeptBy one other → IsKeptBy other last → IsKeptBy one last
 kept_twice None other last first second = tt
@@ -28,6 +29,7 @@ IsInside-trans i a b c first second = record {
   pairs = λ p q holds. first.pairs p q (second.pairs p q holds);
   from = λ m h. omega (arith, first.from m h, second.from m h);
   until = λ m h. omega (arith, first.until m h, second.until m h);
+  channels = λ m h. kept_twice (fixed_channel c m) (fixed_channel b m) (fixed_channel a m) (second.channels m h) (first.channels m h);
 }
 
 pub IsInside-after : (i : Instance) (c : Choice) (δ : Decision) → IsChoice i c → IsOpenDecision i c δ → IsInside i (choice_after i c δ) c
@@ -36,6 +38,7 @@ IsInside-after i c (decided.Cap n k) ok is = IsInside-fix i c n k is.free.1
 IsInside-after i c (decided.Before p q) ok is = IsInside-order i c p q ok is.pair
 IsInside-after i c (decided.AtMost m r) ok is = IsInside-at_most i c m r ok is.message (omega (arith, is.below))
 IsInside-after i c (decided.AtLeast m r) ok is = IsInside-at_least i c m r ok is.message (omega (arith, is.above))
+IsInside-after i c (decided.Channel m k) ok is = IsInside-fix_channel i c m k is.free.free
 
 -- plans in a choice are in each choice that it is inside of
 pub IsIn-outside : (i : Instance) (inner outer : Choice) (plan : Plan) → IsInside i inner outer → IsIn i inner plan → IsIn i outer plan
@@ -45,6 +48,7 @@ IsIn-outside i inner outer plan inside is = record {
   fixed = λ n h. fixed_too (fixed_cap outer n) (fixed_cap inner n) (slice_index plan.caps n) (inside.fixed n h) (is.fixed n h);
   pairs = λ p q holds. is.pairs p q (inside.pairs p q holds);
   ranges = λ m h. (omega (arith, inside.from m h, (is.ranges m h).0), omega (arith, inside.until m h, (is.ranges m h).1));
+  channels = λ m h. fixed_too (fixed_channel outer m) (fixed_channel inner m) (channel_of plan m) (inside.channels m h) (is.channels m h);
 }
 
 -- with more decisions a choice is inside the one without them
@@ -123,6 +127,13 @@ module _ (i : Instance) (all : Bool) (c d : Choice) (wide : IsWider i all c d) w
     above = omega (arith, is.above, wide.inside.from m is.message);
     to = omega (arith, is.to, wide.inside.until m is.message);
   }
+  open_wider (decided.Channel m k) places is = record {
+    free = record {
+      message = is.free.message;
+      free = none_outside (fixed_channel d m) (fixed_channel c m) (wide.inside.channels m is.free.message) is.free.free;
+    };
+    known = is.known;
+  }
 
   both_fixed : (n k m : ℕ) → n < length i.nodes → m < length i.nodes → IsKeptBy (fixed_cap (choice_after i d (decided.Cap n k)) m) (fixed_cap (choice_after i c (decided.Cap n k)) m)
   both_fixed n k m there h =
@@ -131,6 +142,12 @@ module _ (i : Instance) (all : Bool) (c d : Choice) (wide : IsWider i all c d) w
         | inl same ↦ rw (same, get_or-set_same d.fixed n option None (omega (arith, there, wide.also.fixed_length)), get_or-set_same c.fixed n option None (omega (arith, there, wide.well.fixed_length))) refl
         | inr differ ↦ rw (get_or-set_other d.fixed n m option None differ, get_or-set_other c.fixed n m option None differ) (wide.inside.fixed m h)
       ]
+
+  both_on_it : (m k n : ℕ) → m < length i.messages → n < length i.messages → IsKeptBy (fixed_channel (choice_after i d (decided.Channel m k)) n) (fixed_channel (choice_after i c (decided.Channel m k)) n)
+  both_on_it m k n there h = elim (cases_eq n m) [
+    | inl same ↦ rw (same, get_or-set_same d.channels m (Some k) None (omega (arith, there, wide.also.channels_length)), get_or-set_same c.channels m (Some k) None (omega (arith, there, wide.well.channels_length))) refl
+    | inr differ ↦ rw (get_or-set_other d.channels m n (Some k) None differ, get_or-set_other c.channels m n (Some k) None differ) (wide.inside.channels n h)
+  ]
 
   both_ordered : (p q : ℕ) → ArePair i p q → (j k : ℕ) → IsTrue (is_before (order_pair d p q) j k) → IsTrue (is_before (order_pair c p q) j k)
   both_ordered p q pair j k holds =
@@ -153,6 +170,7 @@ module _ (i : Instance) (all : Bool) (c d : Choice) (wide : IsWider i all c d) w
         pairs = wide.inside.pairs;
         from = wide.inside.from;
         until = wide.inside.until;
+        channels = wide.inside.channels;
       }
   inside_both (decided.Cap n k) places is = record {
     longer = wide.inside.longer;
@@ -161,6 +179,7 @@ module _ (i : Instance) (all : Bool) (c d : Choice) (wide : IsWider i all c d) w
     pairs = wide.inside.pairs;
     from = wide.inside.from;
     until = wide.inside.until;
+    channels = wide.inside.channels;
   }
   inside_both (decided.Before p q) places is = record {
     longer = wide.inside.longer;
@@ -169,6 +188,7 @@ module _ (i : Instance) (all : Bool) (c d : Choice) (wide : IsWider i all c d) w
     pairs = both_ordered p q is.pair;
     from = wide.inside.from;
     until = wide.inside.until;
+    channels = wide.inside.channels;
   }
   inside_both (decided.AtMost m r) places is = record {
     longer = wide.inside.longer;
@@ -180,6 +200,7 @@ module _ (i : Instance) (all : Bool) (c d : Choice) (wide : IsWider i all c d) w
       | inl same ↦ rw (same, get_or-set_same c.hi m r 0 (omega (arith, is.message, wide.well.hi_length)), get_or-set_same d.hi m r 0 (omega (arith, is.message, wide.also.hi_length))) (omega arith)
       | inr differ ↦ omega (arith, get_or-set_other c.hi m k r 0 differ, get_or-set_other d.hi m k r 0 differ, wide.inside.until k h)
     ];
+    channels = wide.inside.channels;
   }
   inside_both (decided.AtLeast m r) places is = record {
     longer = wide.inside.longer;
@@ -191,6 +212,16 @@ module _ (i : Instance) (all : Bool) (c d : Choice) (wide : IsWider i all c d) w
       | inr differ ↦ omega (arith, get_or-set_other c.lo m k r 0 differ, get_or-set_other d.lo m k r 0 differ, wide.inside.from k h)
     ];
     until = wide.inside.until;
+    channels = wide.inside.channels;
+  }
+  inside_both (decided.Channel m k) places is = record {
+    longer = wide.inside.longer;
+    prefix = wide.inside.prefix;
+    fixed = wide.inside.fixed;
+    pairs = wide.inside.pairs;
+    from = wide.inside.from;
+    until = wide.inside.until;
+    channels = λ n h. both_on_it m k n is.free.message h;
   }
 
   rest_both : (δ : Decision) → (IsTrue (takes_place δ) → IsTrue all) → (choice_after i c δ).prefix ≡ (choice_after i d δ).prefix ++ wide.rest
@@ -203,6 +234,7 @@ module _ (i : Instance) (all : Bool) (c d : Choice) (wide : IsWider i all c d) w
   rest_both (decided.Before p q) places = wide.front
   rest_both (decided.AtMost m r) places = wide.front
   rest_both (decided.AtLeast m r) places = wide.front
+  rest_both (decided.Channel m k) places = wide.front
 
   pub wider_kept : (δ : Decision) → (IsTrue (takes_place δ) → IsTrue all) → IsOpenDecision i c δ → IsWider i all (choice_after i c δ) (choice_after i d δ)
   wider_kept δ places is = record {
@@ -224,6 +256,7 @@ module _ (i : Instance) (all : Bool) (c d : Choice) (wide : IsWider i all c d) w
   rest_one (decided.Before p q) = (wide.rest, wide.front, λ holds. wide.whole (and_true all holds))
   rest_one (decided.AtMost m r) = (wide.rest, wide.front, λ holds. wide.whole (and_true all holds))
   rest_one (decided.AtLeast m r) = (wide.rest, wide.front, λ holds. wide.whole (and_true all holds))
+  rest_one (decided.Channel m k) = (wide.rest, wide.front, λ holds. wide.whole (and_true all holds))
 
   -- and with one that isn't
   pub wider_dropped : (δ : Decision) → IsOpenDecision i c δ → IsWider i (all && not (takes_place δ)) (choice_after i c δ) d

@@ -1,12 +1,13 @@
 //! What does one more decision change? A choice that keeps decisions is changed by `decide` and `undo` alone.
 
-ghost use Rattle.std.specs.Prelude.{◌≡◌, ◌<◌, ◌≤◌, ◌↔◌, [], length, slice_index, IsOk, OnOk, OnErr};
+ghost use Rattle.std.specs.Prelude.{◌≡◌, ◌<◌, ◌≤◌, ◌↔◌, [], length, slice_index, None, IsOk, OnOk, OnErr};
 ghost use Rattle.ttp_model.specs.Instance.{Instance, node_at};
-ghost use Rattle.ttp_model.specs.Plans.{EndsBefore, round_of};
+ghost use Rattle.ttp_model.specs.Limits.{both_channels};
+ghost use Rattle.ttp_model.specs.Plans.{EndsBefore, channel_of, round_of};
 ghost use Rattle.ttp_model.specs.declared.plan.Plan.{Plan};
-ghost use Rattle.tt_choice.specs.Choice.{IsChoice, IsIn, least_round, greatest_round};
+ghost use Rattle.tt_choice.specs.Choice.{IsChoice, IsIn, fixed_channel, least_round, greatest_round};
 ghost use Rattle.tt_choice.specs.Decisions.{choice_after, IsOpenDecision};
-ghost use Rattle.tt_choice.specs.Branches.{IsUnplaced, IsOpen, place_next, fix_option, order_pair, at_most, at_least};
+ghost use Rattle.tt_choice.specs.Branches.{IsUnplaced, IsOpen, place_next, fix_option, order_pair, at_most, at_least, fix_channel};
 
 use crate::choice::Choice;
 use crate::decision::Decision;
@@ -48,6 +49,10 @@ impl Choice {
             }
             Decision::AtLeast(m, r) => {
                 self.rounds_at_least(m, r);
+                Ok(())
+            }
+            Decision::Channel(m, k) => {
+                self.fix_channel(m, k);
                 Ok(())
             }
         }
@@ -143,5 +148,19 @@ impl Choice {
             → IsIn i self.new plan ↔ (IsIn i self.old plan × (r ≤ round_of plan m)) }
     {
         self.lo[m as usize] = r;
+    }
+
+    /// Fixes the channel of message `m`, or both where `k` is 2. Takes no memory.
+    pub fn fix_channel(&mut self, m: u32, k: u32)
+        requires message { m < length self.old.channels }
+        requires bare { self.old.kept ≡ [] }
+        requires free { fixed_channel self.old m ≡ None }
+        requires known { k ≤ both_channels }
+        ensures value { self.new ≡ fix_channel self.old m k }
+        ensures choice { (i : Instance) → IsChoice i self.old → IsChoice i self.new }
+        ensures plans { (i : Instance) (plan : Plan) → IsChoice i self.old
+            → IsIn i self.new plan ↔ (IsIn i self.old plan × (channel_of plan m ≡ k)) }
+    {
+        self.channels[m as usize] = Some(k);
     }
 }

@@ -9,7 +9,7 @@ ghost use Rattle.tt_choice.specs.Decisions.{decisions_of};
 use crate::choice::Choice;
 use crate::decision::Decision;
 use std::alloc::Global;
-use ttp_model::{Instance, Kind, MemoryFault};
+use ttp_model::{BOTH_CHANNELS, Instance, Kind, MemoryFault};
 
 impl Choice {
     /// The decisions of an open branch, in order: each leads to a child.
@@ -32,6 +32,11 @@ impl Choice {
             Kind::Round(m, r) => {
                 vec![in alloc; Decision::AtMost(m, r), Decision::AtLeast(m, r + 1)]?
             }
+            Kind::Chan(m) => vec![in alloc;
+                Decision::Channel(m, 0),
+                Decision::Channel(m, 1),
+                Decision::Channel(m, BOTH_CHANNELS),
+            ]?,
         };
         Ok(decisions)
     }

@@ -2,15 +2,16 @@
 
 ghost use Rattle.std.specs.Prelude.{◌≡◌, ℕ, ◌*◌, ◌<◌, ◌≤◌, ◌↔◌, IsTrue, IsSome, length, count_by, is_none, Some, None};
 ghost use Rattle.ttp_model.specs.declared.limits.TheConstants.{MOST_NODES, MOST_MESSAGES};
+ghost use Rattle.ttp_model.specs.Limits.{both_channels};
 ghost use Rattle.ttp_model.specs.Totals.{total};
-ghost use Rattle.tt_choice.specs.Choice.{IsChoice, IsComplete, fixed_cap, least_round, greatest_round};
+ghost use Rattle.tt_choice.specs.Choice.{IsChoice, IsComplete, fixed_cap, fixed_channel, least_round, greatest_round};
 ghost use Rattle.tt_choice.specs.Branches.{IsOpen, IsUnplaced, IsUnorderedPair, CutsRange};
 ghost use Rattle.tt_choice.specs.Decisions.{IsFreeOption, CutsFirst, IsOpenDecision};
 ghost use Rattle.tt_choice.specs.Sizes.{size_left, range_size, binary_digits};
 
 use crate::choice::Choice;
 use crate::decision::Decision;
-use ttp_model::{Instance, Kind};
+use ttp_model::{BOTH_CHANNELS, Instance, Kind};
 
 /// How many binary digits a number has.
 fn binary_digits(n: u32) -> usize
@@ -32,6 +33,7 @@ impl Choice {
             Kind::Cap(n) => self.is_free(n),
             Kind::Pair(p, q) => self.is_unordered_pair(instance, p, q),
             Kind::Round(m, r) => self.cuts_range(m, r),
+            Kind::Chan(m) => self.is_free_channel(m),
         }
     }
 
@@ -47,6 +49,7 @@ impl Choice {
             Decision::Before(p, q) => self.is_unordered_pair(instance, p, q),
             Decision::AtMost(m, r) => self.cuts_range(m, r),
             Decision::AtLeast(m, r) => self.cuts_first(m, r),
+            Decision::Channel(m, k) => self.is_free_on(m, k),
         }
     }
 
@@ -111,7 +114,22 @@ impl Choice {
         (m as usize) < self.hi.len() && self.lo[m as usize] < r && r <= self.hi[m as usize]
     }
 
-    /// Whether nothing but the starts is left to choose. One pass over the nodes and one over the
+    /// Whether the channel of message `m` is free, and `k` is a channel, or 2 for both.
+    fn is_free_on(&self, m: u32, k: u32) -> bool
+        ensures { IsTrue result ↔ ((m < length self.now.channels)
+            × (fixed_channel self.now m ≡ None) × (k ≤ both_channels)) }
+    {
+        self.is_free_channel(m) && k <= BOTH_CHANNELS
+    }
+
+    /// Whether message `m` is there and its channel is free.
+    fn is_free_channel(&self, m: u32) -> bool
+        ensures { IsTrue result ↔ ((m < length self.now.channels) × (fixed_channel self.now m ≡ None)) }
+    {
+        (m as usize) < self.channels.len() && self.channels[m as usize].is_none()
+    }
+
+    /// Whether nothing but the starts is left to choose. One pass over the nodes and two over the
     /// messages.
     pub fn is_complete(&self, instance: &Instance) -> bool
         requires of { IsChoice instance.now self.now }
@@ -126,6 +144,9 @@ impl Choice {
         if !self.all_fixed() {
             return false;
         }
+        if !self.all_on_channels() {
+            return false;
+        }
         self.all_rounds()
     }
 
@@ -136,6 +157,19 @@ impl Choice {
     {
         for n in 0..self.fixed.len() {
             if self.fixed[n].is_none() {
+                return false;
+            }
+        }
+        true
+    }
+
+    /// Whether the channel of each message is fixed.
+    fn all_on_channels(&self) -> bool
+        ensures { IsTrue result
+            ↔ ((m : ℕ) → m < length self.now.channels → IsSome (fixed_channel self.now m)) }
+    {
+        for m in 0..self.channels.len() {
+            if self.channels[m].is_none() {
                 return false;
             }
         }
@@ -157,14 +191,18 @@ impl Choice {
     }
 
     /// How much is left to choose: unplaced nodes, free capacities, pairs of one node in neither
-    /// order, and for each message the binary digits of how far its range goes. One pass over the
-    /// nodes and one over the messages; the pairs are counted as they are ordered.
+    /// order, for each message the binary digits of how far its range goes, and free channels. One pass
+    /// over the nodes and two over the messages; the pairs are counted as they are ordered.
     pub fn size_left(&self, instance: &Instance) -> usize
         requires of { IsChoice instance.now self.now }
         ensures { result ≡ size_left instance.now self.now }
     {
         let unplaced = instance.nodes().len() - self.prefix.len();
-        unplaced + self.free_caps(instance) + self.unordered as usize + self.range_sizes(instance)
+        unplaced
+            + self.free_caps(instance)
+            + self.unordered as usize
+            + self.range_sizes(instance)
+            + self.free_channels(instance)
     }
 
     /// How many capacities are free.
@@ -177,6 +215,22 @@ impl Choice {
         let mut free = 0;
         for fixed in self.fixed.as_slice() {
             if fixed.is_none() {
+                free += 1;
+            }
+        }
+        free
+    }
+
+    /// How many channels are free.
+    fn free_channels(&self, instance: &Instance) -> usize
+        requires of { IsChoice instance.now self.now }
+        ensures value { result ≡ count_by is_none self.now.channels }
+        ensures few { result ≤ MOST_MESSAGES }
+    {
+        let _messages = instance.messages();
+        let mut free = 0;
+        for channel in self.channels.as_slice() {
+            if channel.is_none() {
                 free += 1;
             }
         }

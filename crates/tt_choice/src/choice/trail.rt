@@ -83,6 +83,7 @@ impl Choice {
             },
             Decision::AtMost(m, _) => Reversal::Most(m, self.hi(m)),
             Decision::AtLeast(m, _) => Reversal::Least(m, self.lo(m)),
+            Decision::Channel(m, _) => Reversal::FreeChannel(m),
         }
     }
 
@@ -105,6 +106,7 @@ impl Choice {
             }
             Reversal::Most(m, r) => write_at(&mut self.hi, m, r),
             Reversal::Least(m, r) => write_at(&mut self.lo, m, r),
+            Reversal::FreeChannel(m) => write_at(&mut self.channels, m, None),
         }
     }
 }

@@ -1,15 +1,16 @@
 //! Do more processes run in a span, or more bytes go in some rounds, than there is room for?
 
-ghost use Rattle.std.specs.Prelude.{◌≡◌, ◌≤◌, ◌<◌, length, IsFalse};
-ghost use Rattle.ttp_model.specs.declared.step.Step.TheVariants.{XLoad, XFrames};
-ghost use Rattle.ttp_model.specs.declared.limits.TheConstants.{MOST_TICKS, MOST_BYTES};
+ghost use Rattle.std.specs.Prelude.{◌≡◌, ◌≤◌, ◌<◌, ◌↔◌, length, IsTrue, IsFalse};
+ghost use Rattle.ttp_model.specs.declared.step.Step.TheVariants.{XLoad, XFrames, XChannel};
+ghost use Rattle.ttp_model.specs.declared.limits.TheConstants.{MOST_TICKS};
 ghost use Rattle.ttp_model.specs.Totals.{total};
-ghost use Rattle.sought_plans.specs.Premises.{load_within, bytes_within};
+ghost use Rattle.sought_plans.specs.Premises.{load_within};
 ghost use Rattle.tt_infer.specs.Setting.{TakesOf};
+ghost use Rattle.tt_infer.specs.Table.{HasHalf};
 ghost use Rattle.sought_plans.specs.Known.{Fits};
 
 use crate::fault::StepFault;
-use sought_plans::{Known, Setting};
+use sought_plans::{Known, Setting, bytes_in_frames, bytes_on_channel};
 use ttp_model::Instance;
 
 /// How long process `p` runs on node `n` from `a` to `b`: 0 where it is another's, starts earlier or
@@ -56,35 +57,7 @@ pub fn x_load(known: &mut Known, setting: &Setting, n: u32, a: u32, b: u32) -> R
     Ok(())
 }
 
-/// How many bytes message `m` puts into frames of node `n` from round `a` on and before `b`: 0 where
-/// it is another's, or may be sent earlier or later.
-fn bytes_within(known: &Known, instance: &Instance, n: u32, a: u32, b: u32, m: u32) -> u64
-    requires fits { Fits instance.now known.now }
-    requires message { m < length instance.now.messages }
-    ensures value { result ≡ bytes_within instance.now known.now n a b m }
-    ensures bound { result ≤ MOST_BYTES }
-{
-    if instance.source_of(m as usize) == n && a <= known.lo(m) && known.top(m) <= b {
-        u64::from(instance.message_at(m as usize).bytes)
-    } else {
-        0
-    }
-}
-
-/// How many bytes go into frames of node `n` from round `a` on and before `b`. One pass over its
-/// messages.
-fn bytes_of(known: &Known, instance: &Instance, n: u32, a: u32, b: u32) -> u64
-    requires { Fits instance.now known.now }
-    ensures { result ≡ total (bytes_within instance.now known.now n a b) (length instance.now.messages) }
-{
-    let mut sum = 0;
-    for m in instance.messages_of(n) {
-        sum += bytes_within(known, instance, n, a, b, *m);
-    }
-    sum
-}
-
-/// The messages that a node sends in some rounds are more than its frames can carry.
+/// The messages that a node sends in some rounds are more than its frames can carry, on all channels.
 pub fn x_frames(
     known: &mut Known,
     setting: &Setting,
@@ -96,14 +69,51 @@ pub fn x_frames(
     requires open { IsFalse known.old.closed }
     ensures { TakesOf setting.now known.old (XFrames n a b) known.new result }
 {
-    if n as usize >= setting.instance().nodes().len() {
+    let instance = setting.instance();
+    if n as usize >= instance.nodes().len() {
+        return Err(StepFault::NoSuchIndex);
+    }
+    if b < a {
+        return Err(StepFault::NoPremise);
+    }
+    let frames = u64::from(b - a) * u64::from(setting.cap_most(n));
+    let room = u64::from(instance.cluster().channels) * frames;
+    if bytes_in_frames(known, setting, n, a, b) <= room {
+        return Err(StepFault::NoPremise);
+    }
+    known.close(instance);
+    Ok(())
+}
+
+/// Whether node `n` is there, and its frames have a half on channel `k` beside another.
+fn has_half(instance: &Instance, n: u32, k: u32) -> bool
+    ensures { IsTrue result ↔ HasHalf instance.now n k }
+{
+    let channels = instance.cluster().channels;
+    (n as usize) < instance.nodes().len() && channels >= 2 && k < channels
+}
+
+/// Those that are fixed to channel `k` are more than its frames can carry there.
+pub fn x_channel(
+    known: &mut Known,
+    setting: &Setting,
+    k: u32,
+    n: u32,
+    a: u32,
+    b: u32,
+) -> Result<(), StepFault>
+    requires fits { Fits setting.now.instance known.old }
+    requires open { IsFalse known.old.closed }
+    ensures { TakesOf setting.now known.old (XChannel k n a b) known.new result }
+{
+    if !has_half(setting.instance(), n, k) {
         return Err(StepFault::NoSuchIndex);
     }
     if b < a {
         return Err(StepFault::NoPremise);
     }
     let room = u64::from(b - a) * u64::from(setting.cap_most(n));
-    if bytes_of(known, setting.instance(), n, a, b) <= room {
+    if bytes_on_channel(known, setting, k, n, a, b) <= room {
         return Err(StepFault::NoPremise);
     }
     known.close(setting.instance());

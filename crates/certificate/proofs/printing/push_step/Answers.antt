@@ -121,6 +121,12 @@ returns-in-XFrames-clause-text c = step_pushed c.push_line-in-XFrames.result c.a
 pub returns-in-XFrames-clause-fits : goal.returns-in-XFrames-clause-fits
 returns-in-XFrames-clause-fits c = step_fits c.in-XFrames.is c.push_line-in-XFrames.ensures.fit tt
 
+pub returns-in-XChannel-clause-text : goal.returns-in-XChannel-clause-text
+returns-in-XChannel-clause-text c = step_pushed c.push_line-in-XChannel.result c.args.text.now.items c.push_line-in-XChannel.new.text.items c.in-XChannel.is c.push_line-in-XChannel.ensures.line
+
+pub returns-in-XChannel-clause-fits : goal.returns-in-XChannel-clause-fits
+returns-in-XChannel-clause-fits c = step_fits c.in-XChannel.is c.push_line-in-XChannel.ensures.fit tt
+
 pub returns-in-XLate-clause-text : goal.returns-in-XLate-clause-text
 returns-in-XLate-clause-text c = step_pushed c.push_line-in-XLate.result c.args.text.now.items c.push_line-in-XLate.new.text.items c.in-XLate.is c.push_line-in-XLate.ensures.line
 

@@ -5,5 +5,5 @@ use Rattle.earliest_starts.proofs.loads.overfull.Given as goal
 
 abbrev pub invariant-loop-n : goal.invariant-loop-n
 invariant-loop-n l =
-    (k r : ℕ) → k < l.n
-    → total (fixed_bytes l.instance l.choice k r 0) (length l.instance.messages) ≤ slice_index (fixed_caps l.choice) k
+    (n r k : ℕ) → n < l.n → k < l.instance.cluster.channels
+    → total (fixed_bytes l.instance l.choice n r k) (length l.instance.messages) ≤ slice_index (fixed_caps l.choice) n

@@ -6,5 +6,5 @@ use Rattle.load_bounds.proofs.loads.sendings_of.Given as goal
 abbrev pub invariant-loop-m : goal.invariant-loop-m
 invariant-loop-m l = record {
   few : length l.sendings ≤ l.m;
-  so_far : AreSendings l.facts.instance l.facts.known l.node l.m l.sendings;
+  so_far : AreSendings l.facts.instance l.facts.choice l.facts.known l.node l.m l.sendings;
 }

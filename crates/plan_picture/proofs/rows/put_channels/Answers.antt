@@ -1,5 +1,5 @@
-use Rattle.std.proofs.Common.{◌≡◌, arith}
-use Rattle.plan_picture.specs.Canvas.{channels}
+use Rattle.std.proofs.Common.{◌≡◌, ap, arith}
+use Rattle.ttp_model.specs.declared.parts.Cluster.{Cluster}
 use Rattle.plan_picture.specs.Rows.{channel_text, channels_text}
 use Rattle.plan_picture.proofs.Growing.{range_grows}
 use Rattle.plan_picture.proofs.rows.put_channels.Goals as goal
@@ -10,5 +10,5 @@ loop-channel-preserved c = range_grows _ _ _ (channel_text c.args.canvas.now) c.
 pub returns : goal.returns
 unfolding channels_text
 returns c =
-    let all : c.loop-channel.channel ≡ channels = omega arith in
+    let all : c.loop-channel.channel ≡ c.args.instance.now.cluster.channels = omega (arith, ap (λ (x : Cluster). x.channels) c.cluster.ensures.value) in
     rw all at c.loop-channel.invariant

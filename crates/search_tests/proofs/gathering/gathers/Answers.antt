@@ -2,5 +2,5 @@ use Rattle.std.proofs.Common.{subst}
 use Rattle.tree_gathering.specs.Gathering.{AreShallow}
 use Rattle.search_tests.proofs.gathering.gathers.Goals as goal
 
-pub gather-requires : goal.gather-requires
-gather-requires c = subst AreShallow c.as_slice.ensures.value c.if-not-are_shallow.ensures
+pub gathered_text-requires : goal.gathered_text-requires
+gathered_text-requires c = subst AreShallow c.as_slice.ensures.value c.if-not-are_shallow.ensures

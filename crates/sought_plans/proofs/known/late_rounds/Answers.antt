@@ -1,5 +1,5 @@
 use Rattle.std.proofs.Common.{◌+◌}
-use Rattle.sought_plans.proofs.Copies.{mapped_more, mapped}
+use Rattle.sought_plans.proofs.CopiedLists.{mapped_more, mapped}
 use Rattle.sought_plans.proofs.known.late_rounds.Goals as goal
 
 pub loop-m-preserved : goal.loop-m-preserved

@@ -1,4 +1,4 @@
-use Rattle.sought_plans.proofs.Copies.{copied_more, copied}
+use Rattle.sought_plans.proofs.CopiedLists.{copied_more, copied}
 use Rattle.sought_plans.proofs.known.least_rounds.Goals as goal
 
 pub loop-m-preserved : goal.loop-m-preserved

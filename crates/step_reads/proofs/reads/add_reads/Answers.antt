@@ -79,6 +79,9 @@ returns-in-XFrame c = rw c.in-XFrame.is (λ there. adds_none (λ fact. ⊥) _ (�
 pub returns-in-XFrames : goal.returns-in-XFrames
 returns-in-XFrames c = rw c.in-XFrames.is (λ there. c.add_frames.ensures)
 
+pub returns-in-XChannel : goal.returns-in-XChannel
+returns-in-XChannel c = rw c.in-XChannel.is (λ there. c.add_channel.ensures)
+
 pub returns-in-XLate : goal.returns-in-XLate
 returns-in-XLate c = rw c.in-XLate.is c.add_late.ensures
 

@@ -63,6 +63,9 @@ returns-in-XFrame c = rw c.in-XFrame.is c.x_frame.ensures
 pub returns-in-XFrames : goal.returns-in-XFrames
 returns-in-XFrames c = rw c.in-XFrames.is c.x_frames.ensures
 
+pub returns-in-XChannel : goal.returns-in-XChannel
+returns-in-XChannel c = rw c.in-XChannel.is c.x_channel.ensures
+
 pub returns-in-XLate : goal.returns-in-XLate
 returns-in-XLate c = rw c.in-XLate.is c.x_late.ensures
 

@@ -1,4 +1,4 @@
-use Rattle.tt_choice.specs.declared.decision.Decision.TheVariants.{Before, AtMost, AtLeast}
+use Rattle.tt_choice.specs.declared.decision.Decision.TheVariants.{Before, AtMost, AtLeast, Channel}
 use Rattle.decision_paths.proofs.Told.{told_as}
 use Rattle.decision_paths.proofs.tables.Tables.tell.Goals as goal
 
@@ -10,3 +10,6 @@ returns-in-AtMost-clause-ok c = λ turns are. told_as c.args.instance.now turns 
 
 pub returns-in-AtLeast-clause-ok : goal.returns-in-AtLeast-clause-ok
 returns-in-AtLeast-clause-ok c = λ turns are. told_as c.args.instance.now turns c.args.turn (AtLeast c.in-AtLeast.m c.in-AtLeast.round) _ _ c.in-AtLeast.is (c.tell_least.ensures c.args.instance.now turns are)
+
+pub returns-in-Channel-clause-ok : goal.returns-in-Channel-clause-ok
+returns-in-Channel-clause-ok c = λ turns are. told_as c.args.instance.now turns c.args.turn (Channel c.in-Channel.m c.in-Channel.channel) _ _ c.in-Channel.is (c.tell_channel.ensures c.args.instance.now turns are)

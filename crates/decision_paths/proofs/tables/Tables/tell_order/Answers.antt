@@ -11,7 +11,7 @@ returns c = λ turns are.
     let i = c.args.instance.now in
     let t = c.args.self.now in
     let n = length i.processes in record {
-      tables = rw (c.put_at.ensures, c.order_place-place.ensures) (order_told i turns t.order.items t.above_least.items t.below_most.items t.before.items t.least.items t.greatest.items c.args.p c.args.q c.args.level are);
+      tables = rw (c.put_at.ensures, c.order_place-place.ensures) (order_told i turns t.order.items t.above_least.items t.below_most.items t.before.items t.least.items t.greatest.items t.channels.items c.args.p c.args.q c.args.level are);
       stood_so = λ first second.
           let there = order_inside n c.args.p c.args.q first second in
           c.branch-stood.ensures

@@ -22,6 +22,14 @@ overflow_cast-len g c =
     let split : IsSplit i t c.look-goal.result c.in-Ok-Split.kind c.in-Ok-Split.tasks.items = subst (IsWorked i t c.look-goal.result) c.in-Ok-Split.field-0-is c.in-Ok-Split.ensures.worked in
     omega (arith, c.len.ensures, c.in-Ok-Split.tasks.ok.0, split.branch.just, few_children i (choice_of i t) c.in-Ok-Split.kind c.nodes-nodes.ensures.instance (task_choice i t c.nodes-nodes.ensures.instance c.requires.task) split.branch.is_open)
 
+pub push_all-left-requires : goal.push_all-left-requires
+push_all-left-requires g c =
+    let i = c.args.instance.now in
+    let t = c.args.task in
+    let kids = c.in-Ok-Split.tasks.items in
+    let split : IsSplit i t c.look-goal.result c.in-Ok-Split.kind kids = subst (IsWorked i t c.look-goal.result) c.in-Ok-Split.field-0-is c.in-Ok-Split.ensures.worked in
+    subst (λ (j : Instance). All (IsTask j) kids) c.requires.of split.each
+
 pub returns-then-is_err-clause-back : goal.returns-then-is_err-clause-back
 returns-then-is_err-clause-back g c = (
   refl,

@@ -15,6 +15,9 @@ use Rattle.pool_worker.proofs.Turns.{same_hand_still, account_leaves, account_wo
 use Rattle.pool_worker.proofs.Watches.{follows_still}
 use Rattle.pool_worker.proofs.run.Run.turn.Goals as goal
 
+pub make-requires-clause-task : goal.make-requires-clause-task
+make-requires-clause-task g c = subst (λ (j : Instance). IsTask j c.in-Some.task) (sym c.requires.of) c.in-Some.ensures.task
+
 pub returns-else-is_empty-clause-goes_on : goal.returns-else-is_empty-clause-goes_on
 returns-else-is_empty-clause-goes_on g c = λ hand watch run.
     let i = c.args.instance.now in

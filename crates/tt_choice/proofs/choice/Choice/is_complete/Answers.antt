@@ -15,6 +15,7 @@ returns c =
     let same = ap (λ (s : Choice). s.unordered) c.self.view_is in
     let count = ap length c.nodes.ensures.value in
     let all_placed : length c.args.self.now.prefix ≡ length c.args.instance.now.nodes = omega (arith, count, ap length c.prefix.ensures) in (
-      λ rounds. IsComplete-from _ _ ok all_placed (omega (arith, same)) (c.all_fixed.ensures.0 c.if-not-all_fixed.false) (c.all_rounds.ensures.0 rounds),
+      λ rounds. IsComplete-from _ _ ok all_placed (omega (arith, same)) (c.all_fixed.ensures.0 c.if-not-all_fixed.false)
+          (c.all_on_channels.ensures.0 c.if-not-all_on_channels.false) (c.all_rounds.ensures.0 rounds),
       λ is. c.all_rounds.ensures.1 (λ m h. is.rounds m (omega (arith, h, ok.hi_length))),
     )

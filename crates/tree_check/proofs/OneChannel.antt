@@ -1,0 +1,91 @@
+-- With one channel no line of what proves a bound speaks of channels: none is free, and no step counts by channel.
+use Rattle.std.proofs.Common.{◌≡◌, ℕ, suc, ◌≤◌, true, List, [], ◌∷◌, ◌++◌, None, Some, All, refl, arith}
+use Rattle.std.proofs.lemmas.List.Elements.{All-nil, All-cons, All-append}
+use Rattle.ttp_model.specs.declared.step.Kind.{Kind}
+use Rattle.ttp_model.specs.declared.step.Kind.TheVariants.{Place, Cap, Pair, Round, Chan}
+use Rattle.ttp_model.specs.declared.step.Step.{Step}
+use Rattle.ttp_model.specs.declared.step.Step.TheVariants.{EsRelease, EsLink, EsBefore, EsArrive, EsMessage, LoSend, LeOwn, LeLink, LeBefore, LeMessage, LeSend, HiArrive, OrdWindow, OrdTwin, UsSettled, XWindow, XRound, XCycle, XLoad, XFrame, XFrames, XChannel, XLate, XSilent}
+use Rattle.ttp_model.specs.Instance.{Instance}
+use Rattle.ttp_model.specs.Rules.{IsInstance}
+use Rattle.tt_choice.specs.Choice.{Choice, IsChoice, fixed_channel}
+use Rattle.tt_choice.specs.Branches.{IsOpen, root_choice}
+use Rattle.tt_choice.proofs.Channels.{only_channel}
+use Rattle.tt_choice.proofs.Root.{IsChoice-root}
+use Rattle.sought_plans.specs.Known.{Known, first_facts}
+use Rattle.tt_infer.specs.Table.{rule}
+use Rattle.tt_infer.specs.Leaves.{Lead}
+use Rattle.certificate.specs.declared.node.Node.{Node}
+use Rattle.certificate.specs.declared.node.Node.TheVariants.{Branch, Leaf}
+use Rattle.certificate.specs.declared.version.Version.TheVariants.{One}
+use Rattle.certificate.specs.Trees.{Trees, none, grow, preorder}
+use Rattle.certificate.specs.Versions.{allows_kind, allows_step, AllowsStep, AllowsNode, Allows}
+use Rattle.certificate.specs.Cert.{Cert}
+use Rattle.tree_check.specs.Proofs.{choices_below, Suits, AreProofs, Proves}
+use Rattle.tree_check.proofs.Bounds.{below_are}
+
+module _ (i : Instance) (alone : i.cluster.channels ≡ 1) where
+  open_kind : (c : Choice) (kind : Kind) → IsChoice i c → IsOpen i c kind → allows_kind One kind ≡ true
+  open_kind c Place ok is = refl
+  open_kind c (Cap n) ok is = refl
+  open_kind c (Pair p q) ok is = refl
+  open_kind c (Round m r) ok is = refl
+  open_kind c (Chan m) ok is =
+      let free : fixed_channel c m ≡ None = is.free in
+      let fixed : fixed_channel c m ≡ Some 0 = only_channel i c m alone ok is.message in
+      absurd cc
+
+  lawful_step : (c : Choice) (goal : ℕ) (f : Known) (step : Step) → (rule i c goal f step).there → allows_step One step ≡ true
+  lawful_step c goal f (EsRelease p) there = refl
+  lawful_step c goal f (EsLink l) there = refl
+  lawful_step c goal f (EsBefore p q) there = refl
+  lawful_step c goal f (EsArrive m q) there = refl
+  lawful_step c goal f (EsMessage m q) there = refl
+  lawful_step c goal f (LoSend m) there = refl
+  lawful_step c goal f (LeOwn p) there = refl
+  lawful_step c goal f (LeLink l) there = refl
+  lawful_step c goal f (LeBefore p q) there = refl
+  lawful_step c goal f (LeMessage m q) there = refl
+  lawful_step c goal f (LeSend m) there = refl
+  lawful_step c goal f (HiArrive m q) there = refl
+  lawful_step c goal f (OrdWindow p q) there = refl
+  lawful_step c goal f (OrdTwin p q) there = refl
+  lawful_step c goal f (UsSettled p) there = refl
+  lawful_step c goal f (XWindow p) there = refl
+  lawful_step c goal f (XRound m) there = refl
+  lawful_step c goal f (XCycle ps) there = refl
+  lawful_step c goal f (XLoad n a b) there = refl
+  lawful_step c goal f (XFrame m) there = refl
+  lawful_step c goal f (XFrames n a b) there = refl
+  lawful_step c goal f (XChannel k n a b) there =
+      let two : 2 ≤ i.cluster.channels = there.1.0 in
+      absurd (omega (arith, alone, two))
+  lawful_step c goal f (XLate m r) there = refl
+  lawful_step c goal f (XSilent u v) there = refl
+
+  lawful_steps : (c : Choice) (goal : ℕ) (f : Known) (steps : List Step) (g : Known) → Lead i c goal f steps g → All (AllowsStep One) steps
+  lawful_steps c goal f [] g lead = All-nil (AllowsStep One)
+  lawful_steps c goal f (step ∷ steps) g lead =
+      All-cons (AllowsStep One) step steps (lawful_step c goal f step lead.1.1.there) (lawful_steps c goal lead.1.0 steps g lead.1.2)
+
+  suiting_node : (low : ℕ) (c : Choice) (node : Node) → IsChoice i c → Suits i low c node → AllowsNode One node
+  suiting_node low c (Branch branch) ok suits = record { head = open_kind c branch.kind ok suits.is_open; steps = All-nil (AllowsStep One) }
+  suiting_node low c (Leaf leaf) ok suits =
+      record { head = refl; steps = lawful_steps c leaf.goal (first_facts i c) leaf.steps suits.closes.0 suits.closes.1 }
+
+  proof_lines : (low : ℕ) (cs : List Choice) (trees : Trees) → All (IsChoice i) cs → AreProofs i low cs trees → Allows One trees
+  proof_lines low [] none ok are = All-nil (AllowsNode One)
+  proof_lines low [] (grow node below beside) ok are = absurd are
+  proof_lines low (c ∷ cs) none ok are = absurd are
+  proof_lines low (c ∷ cs) (grow node below beside) ok are =
+      let first : IsChoice i c = ok 0 c (omega arith) in
+      let others : All (IsChoice i) cs = λ k d h. ok (suc k) d (omega (arith, h)) in
+      let under = proof_lines low (choices_below i c node) below (below_are i low c node first are.0) are.1.0 in
+      let next = proof_lines low cs beside others are.1.1 in
+      All-cons (AllowsNode One) node (preorder below ++ preorder beside) (suiting_node low c node first are.0)
+      (All-append (AllowsNode One) (preorder below) (preorder beside) under next)
+
+-- so version 1 allows them all
+pub one_channel_is_allowed : (i : Instance) (cert : Cert) → IsInstance i → i.cluster.channels ≡ 1 → Proves i cert → Allows One cert.tree
+one_channel_is_allowed i cert w alone proves =
+    let root = All-cons (IsChoice i) (root_choice i) [] (IsChoice-root i w) (λ k d h. absurd (omega (arith, h))) in
+    proof_lines i alone cert.low (root_choice i ∷ []) cert.tree root proves.tree
