@@ -5,6 +5,7 @@ ghost use Rattle.tt_choice.specs.Choice.{IsChoice};
 
 use crate::decisions::chosen;
 use crate::instances::Small;
+use crate::kept_decisions::{expect_line, line};
 use std::alloc::Global;
 use std::process::Abort;
 use std::test::Fail;
@@ -220,6 +221,93 @@ static ROWS: &[Row] = &[
         ],
     },
     Row {
+        label: "of two channels none is fixed where nothing is chosen",
+        small: Small::TwoChannels(false),
+        decisions: &[],
+        asked: &[
+            Asked::Channel(0, None),
+            Asked::Channel(1, None),
+            Asked::Open(Kind::Chan(0), true),
+            Asked::Open(Kind::Chan(1), true),
+            Asked::Open(Kind::Chan(2), false),
+            Asked::MayBe(Channel(0, 0), true),
+            Asked::MayBe(Channel(0, 1), true),
+            Asked::MayBe(Channel(1, 2), true),
+            Asked::MayBe(Channel(1, 3), false),
+            Asked::MayBe(Channel(2, 0), false),
+            Asked::Left(21),
+        ],
+    },
+    Row {
+        label: "a message that is to be on both channels is fixed to both",
+        small: Small::TwoChannels(true),
+        decisions: &[],
+        asked: &[
+            Asked::Channel(0, None),
+            Asked::Channel(1, Some(2)),
+            Asked::Open(Kind::Chan(0), true),
+            Asked::Open(Kind::Chan(1), false),
+            Asked::MayBe(Channel(1, 0), false),
+            Asked::MayBe(Channel(1, 2), false),
+            Asked::Left(20),
+        ],
+    },
+    Row {
+        label: "a channel that is fixed is open no more, and the other message's is",
+        small: Small::TwoChannels(false),
+        decisions: &[Channel(1, 1)],
+        asked: &[
+            Asked::Channel(0, None),
+            Asked::Channel(1, Some(1)),
+            Asked::Open(Kind::Chan(0), true),
+            Asked::Open(Kind::Chan(1), false),
+            Asked::MayBe(Channel(0, 2), true),
+            Asked::MayBe(Channel(1, 1), false),
+            Asked::MayBe(Channel(1, 2), false),
+            Asked::Left(20),
+        ],
+    },
+    Row {
+        label: "a choice is not complete while a channel is open",
+        small: Small::TwoChannels(false),
+        decisions: &[
+            AtMost(0, 0),
+            AtMost(1, 0),
+            Place(1),
+            Place(0),
+            Cap(0, 0),
+            Cap(1, 0),
+            Before(1, 2),
+            Channel(1, 0),
+        ],
+        asked: &[
+            Asked::Left(1),
+            Asked::Channel(0, None),
+            Asked::Channel(1, Some(0)),
+            Asked::Open(Kind::Chan(0), true),
+        ],
+    },
+    Row {
+        label: "a choice is complete when each channel is fixed too",
+        small: Small::TwoChannels(false),
+        decisions: &[
+            Channel(1, 2),
+            Channel(0, 0),
+            AtMost(0, 0),
+            AtMost(1, 0),
+            Place(1),
+            Place(0),
+            Cap(0, 0),
+            Cap(1, 0),
+            Before(1, 2),
+        ],
+        asked: &[
+            Asked::Left(0),
+            Asked::Channel(0, Some(0)),
+            Asked::Channel(1, Some(2)),
+        ],
+    },
+    Row {
         label: "a link orders no pair",
         small: Small::ThreeLengths,
         decisions: &[],
@@ -332,6 +420,25 @@ fn expect_changed(
     Ok(())
 }
 
+/// Checks that the choice is the first one again where an open decision was made and taken back.
+fn expect_undone(
+    rt: &impl Abort,
+    alloc: Global,
+    i: &Instance,
+    root: &Choice,
+    decision: Decision,
+) -> Result<(), MemoryFault>
+    requires { IsChoice i.now root.now }
+{
+    let before = line(alloc, i, root)?;
+    let mut child = copied(alloc, i, root)?;
+    assert!(rt; child.is_open_decision(i, decision));
+    child.decide(alloc, i, decision)?;
+    assert_eq!(rt; child.kept(), 1);
+    child.undo();
+    expect_line(rt, alloc, i, &child, before.as_str(), true)
+}
+
 /// Checks the decisions of a branch at the choice in which nothing is chosen, and the choices that they lead to.
 fn expect_branch_at(
     rt: &impl Abort,
@@ -345,6 +452,7 @@ fn expect_branch_at(
     expect_decisions(rt, alloc, i, root, branch)?;
     for (decision, asked) in branch.decisions.iter().zip(branch.children) {
         expect_kept(rt, alloc, i, root, *decision, branch.label, asked)?;
+        expect_undone(rt, alloc, i, root, *decision)?;
         expect_changed(rt, alloc, i, *decision, branch.label, asked)?;
     }
     Ok(())
@@ -393,6 +501,17 @@ pub static BRANCHES: &[Branch] = &[
         children: &[
             &[Asked::Placed(&[]), Asked::Rounds(0, 0, 4)],
             &[Asked::Placed(&[]), Asked::Rounds(0, 5, 99)],
+        ],
+    },
+    Branch {
+        label: "the children of a message's channel are either, and both",
+        small: Small::TwoChannels(false),
+        kind: Kind::Chan(1),
+        decisions: &[Channel(1, 0), Channel(1, 1), Channel(1, 2)],
+        children: &[
+            &[Asked::Channel(0, None), Asked::Channel(1, Some(0))],
+            &[Asked::Channel(0, None), Asked::Channel(1, Some(1))],
+            &[Asked::Channel(0, None), Asked::Channel(1, Some(2))],
         ],
     },
     Branch {

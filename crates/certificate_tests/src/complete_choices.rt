@@ -9,7 +9,7 @@ use std::alloc::Global;
 use std::process::Abort;
 use std::test::Fail;
 use tt_choice::Decision;
-use tt_choice::Decision::{AtLeast, AtMost, Before, Cap, Place};
+use tt_choice::Decision::{AtLeast, AtMost, Before, Cap, Channel, Place};
 use ttp_model::{Instance, MemoryFault};
 use worked_instances::PLAIN;
 
@@ -160,6 +160,54 @@ pub static ROWS: &[Row] = &[
             AtMost(1, 0),
         ],
         answer: Answer::Frame(0, 0, 0),
+    },
+    Row {
+        label: "two messages go in one slot, on a channel each",
+        small: Small::TwoChannels(false),
+        decisions: &[
+            Place(1),
+            Cap(1, 0),
+            Place(0),
+            Cap(0, 0),
+            Before(1, 2),
+            AtMost(0, 0),
+            AtMost(1, 0),
+            Channel(0, 1),
+            Channel(1, 0),
+        ],
+        answer: Answer::Plan(&[0, 4, 5], 6),
+    },
+    Row {
+        label: "two messages do not fit into one frame on the first channel",
+        small: Small::TwoChannels(false),
+        decisions: &[
+            Place(1),
+            Cap(1, 0),
+            Place(0),
+            Cap(0, 0),
+            Before(1, 2),
+            AtMost(0, 0),
+            AtMost(1, 0),
+            Channel(0, 0),
+            Channel(1, 0),
+        ],
+        answer: Answer::Frame(0, 0, 0),
+    },
+    Row {
+        label: "nor does one on both channels beside one on the second",
+        small: Small::TwoChannels(false),
+        decisions: &[
+            Place(1),
+            Cap(1, 0),
+            Place(0),
+            Cap(0, 0),
+            Before(1, 2),
+            AtMost(0, 0),
+            AtMost(1, 0),
+            Channel(0, 2),
+            Channel(1, 1),
+        ],
+        answer: Answer::Frame(0, 0, 1),
     },
     Row {
         label: "a process that goes first ends in time",

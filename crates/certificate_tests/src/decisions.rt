@@ -52,18 +52,20 @@ pub fn next(seed: u32) -> u32 {
     seed.wrapping_mul(1_664_525).wrapping_add(1_013_904_223)
 }
 
-/// Some decision, which needn't be open.
+/// Some decision, which needn't be open. It may be on a channel where there are two.
 pub fn some_decision(i: &Instance, seed: u32) -> Decision {
     let first = next(seed) >> 8;
     let second = next(next(seed)) >> 8;
     let p = below(first, i.processes().len());
     let m = below(first, i.messages().len());
     let n = below(first, i.nodes().len());
-    match (seed >> 8) % 5 {
+    let kinds = if i.cluster().channels == 2 { 6 } else { 5 };
+    match (seed >> 8) % kinds {
         0 => Decision::Place(n),
         1 => Decision::Cap(n, below(second, 3)),
         2 => Decision::Before(p, below(second, i.processes().len())),
         3 => Decision::AtMost(m, below(second, 40)),
-        _ => Decision::AtLeast(m, below(second, 20)),
+        4 => Decision::AtLeast(m, below(second, 20)),
+        _ => Decision::Channel(m, below(second, 4)),
     }
 }

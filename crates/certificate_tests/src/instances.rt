@@ -5,6 +5,13 @@ use std::alloc::{AllocError, Global};
 use ttp_model::{Cluster, Instance, ModelError};
 use worked_instances::{
     Draft, PLAIN, deadline, no_frame, one_message, overfull, three_alike, three_linked, two_alike,
+    two_messages,
+};
+
+/// The plain cluster with two channels.
+pub const TWO_CHANNELS: Cluster = Cluster {
+    channels: 2,
+    ..PLAIN
 };
 
 /// A part of an instance. Parts of one kind have indices from 0 in their order.
@@ -22,7 +29,7 @@ pub enum Part {
     Message(&'static str, u32, u32, u32),
 }
 
-/// A small instance. The first seven are worked instances.
+/// A small instance. The first eight are worked instances.
 #[derive(Clone, Copy)]
 pub enum Small {
     OneMessage(Cluster),
@@ -32,6 +39,8 @@ pub enum Small {
     ThreeAlike,
     ThreeLinked,
     Deadline,
+    /// The one of two channels, where the second message is to be on both or needn't.
+    TwoChannels(bool),
     TwoOptions,
     ThreeLengths,
     ThreeAfterOne,
@@ -45,6 +54,8 @@ pub enum Small {
     TwoSenders,
     /// These parts on the plain cluster.
     Of(&'static [Part]),
+    /// These parts on the same with two channels.
+    OnTwo(&'static [Part]),
 }
 
 impl Small {
@@ -57,7 +68,9 @@ impl Small {
             Small::ThreeAlike => three_alike(alloc),
             Small::ThreeLinked => three_linked(alloc),
             Small::Deadline => deadline(alloc),
+            Small::TwoChannels(both) => two_messages(alloc, both),
             Small::ThereAndBack(cluster) => made_of(alloc, cluster, THERE_AND_BACK),
+            Small::OnTwo(parts) => made_of(alloc, TWO_CHANNELS, parts),
             other => made_of(alloc, PLAIN, other.parts()),
         }
     }

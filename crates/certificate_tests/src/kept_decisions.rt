@@ -4,7 +4,7 @@ ghost use Rattle.std.specs.Prelude.{◌≡◌, OnOk};
 ghost use Rattle.tt_choice.specs.Choice.{IsChoice};
 
 use crate::decisions::{next, some_decision};
-use crate::instances::Small;
+use crate::instances::{Small, TWO_CHANNELS};
 use std::alloc::{AllocError, Global};
 use std::process::Abort;
 use std::test::Fail;
@@ -138,6 +138,9 @@ static ROWS: &[Small] = &[
     Small::SilentNodes,
     Small::ThereAndBack(PLAIN),
     Small::NearlyAlike,
+    Small::TwoChannels(false),
+    Small::TwoChannels(true),
+    Small::ThereAndBack(TWO_CHANNELS),
 ];
 
 #[test]

@@ -8,7 +8,7 @@ use std::alloc::{AllocError, Global};
 use std::process::Abort;
 use std::test::Fail;
 use tt_choice::Decision;
-use tt_choice::Decision::{AtMost, Cap, Place};
+use tt_choice::Decision::{AtMost, Cap, Channel, Place};
 use tt_infer::{Facts, StepFault};
 use ttp_model::{Instance, MemoryFault, Step};
 
@@ -263,6 +263,87 @@ pub static ROWS: &[Row] = &[
             (Processes(0), "None"),
             (Messages(0), "Some(XFrames(0, 0, 1))"),
         ],
+    },
+    Row {
+        label: "two messages do not fit into one frame on their channel",
+        small: Small::TwoChannels(false),
+        decisions: &[AtMost(0, 0), AtMost(1, 0), Channel(0, 1), Channel(1, 1)],
+        goal: 101,
+        loads: &[
+            (Messages(1), "None"),
+            (Messages(2), "None"),
+            (Messages(0), "Some(XChannel(1, 0, 0, 1))"),
+        ],
+    },
+    Row {
+        label: "each on a channel of its own they do",
+        small: Small::TwoChannels(false),
+        decisions: &[AtMost(0, 0), AtMost(1, 0), Channel(0, 1), Channel(1, 0)],
+        goal: 101,
+        loads: &[(Messages(0), "None")],
+    },
+    Row {
+        label: "one on both channels and one on either do not fit, on no channel by itself",
+        small: Small::TwoChannels(true),
+        decisions: &[AtMost(0, 0), AtMost(1, 0)],
+        goal: 101,
+        loads: &[(Messages(0), "Some(XFrames(0, 0, 1))")],
+    },
+    Row {
+        label: "the first channel with too much is told",
+        small: Small::TwoChannels(true),
+        decisions: &[AtMost(0, 0), AtMost(1, 0), Channel(0, 2)],
+        goal: 101,
+        loads: &[(Messages(0), "Some(XChannel(0, 0, 0, 1))")],
+    },
+    Row {
+        label: "frames of two rounds hold twice as much on a channel, and not four messages",
+        small: Small::OnTwo(&[
+            Node("A", &[4]),
+            B,
+            SENDER,
+            RECEIVER,
+            Message("m0", 0, 1, 3),
+            Message("m1", 0, 1, 3),
+            Message("m2", 0, 1, 2),
+            Message("m3", 0, 1, 1),
+        ]),
+        decisions: &[
+            AtMost(0, 1),
+            AtMost(1, 1),
+            AtMost(2, 1),
+            AtMost(3, 1),
+            Channel(0, 1),
+            Channel(1, 1),
+            Channel(2, 1),
+            Channel(3, 1),
+        ],
+        goal: 101,
+        loads: &[(Messages(0), "Some(XChannel(1, 0, 0, 2))")],
+    },
+    Row {
+        label: "three of them fit, whichever channel the fourth is on",
+        small: Small::OnTwo(&[
+            Node("A", &[4]),
+            B,
+            SENDER,
+            RECEIVER,
+            Message("m0", 0, 1, 3),
+            Message("m1", 0, 1, 3),
+            Message("m2", 0, 1, 2),
+            Message("m3", 0, 1, 1),
+        ]),
+        decisions: &[
+            AtMost(0, 1),
+            AtMost(1, 1),
+            AtMost(2, 1),
+            AtMost(3, 1),
+            Channel(0, 1),
+            Channel(1, 1),
+            Channel(2, 1),
+        ],
+        goal: 101,
+        loads: &[(Messages(0), "None")],
     },
     Row {
         label: "frames of two rounds hold twice as much: three messages",

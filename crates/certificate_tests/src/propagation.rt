@@ -13,7 +13,7 @@ use path_bounds::{Reached, best_goal, path_bound, propagate};
 use std::alloc::Global;
 use std::process::Abort;
 use std::test::Fail;
-use tt_choice::Decision::{AtLeast, AtMost, Before};
+use tt_choice::Decision::{AtLeast, AtMost, Before, Channel};
 use tt_choice::{Choice, Decision};
 use tt_infer::Facts;
 use ttp_model::{Cluster, Instance, Leaf, MOST_TICKS, MemoryFault, Step};
@@ -272,6 +272,34 @@ static ROWS: &[Row] = &[
         small: Small::NoFrame,
         decisions: &[],
         asked: &[Asked::Leaf(101, 101), Asked::Steps(101, 1)],
+    },
+    Row {
+        label: "two messages go at once where no channel is fixed",
+        small: Small::TwoChannels(false),
+        decisions: &[],
+        asked: &[
+            Asked::PathBound(5),
+            Asked::Closes(6, true),
+            Asked::Closes(7, false),
+        ],
+    },
+    Row {
+        label: "and on a channel each",
+        small: Small::TwoChannels(false),
+        decisions: &[Channel(0, 1), Channel(1, 0)],
+        asked: &[Asked::Closes(6, true), Asked::Closes(7, false)],
+    },
+    Row {
+        label: "on one channel they take two rounds",
+        small: Small::TwoChannels(false),
+        decisions: &[Channel(0, 1), Channel(1, 1)],
+        asked: &[Asked::Closes(8, true), Asked::Closes(10, false)],
+    },
+    Row {
+        label: "and so they do where one of them is on both",
+        small: Small::TwoChannels(true),
+        decisions: &[],
+        asked: &[Asked::Closes(8, true), Asked::Closes(10, false)],
     },
     // Processes that wait for each other in a ring of links, orders and messages are seen at once: what is known doesn't climb
     // round by round up to the horizon.

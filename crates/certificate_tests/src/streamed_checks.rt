@@ -22,6 +22,10 @@ const PACES: &[Pace] = &[(1, 1), (2, 100_000), (2_048, 7)];
 const TWO_FAULTS: &str =
     "ttcert 1\nlow 9\nround 0 1\nleaf 8 5\nes-release 0\nlo-send 0\nes-arrive 0 1\nle-own 1\nx-window 1\nleaf 101 0\n";
 
+/// No plan of two messages on two channels has a delay below 6, by the channels of each.
+pub const BY_CHANNELS: &str =
+    "ttcert 2\nlow 6\nchan 0 3\nchan 1 3\nleaf 6 5\nle-own 1\nle-own 2\nhi-arrive 0 1\nhi-arrive 1 2\nx-channel 0 0 0 1\nleaf 6 5\nes-message 0 1\nes-message 1 2\nle-own 1\nle-own 2\nx-load 1 4 5\nleaf 6 5\nle-own 1\nle-own 2\nhi-arrive 0 1\nhi-arrive 1 2\nx-channel 0 0 0 1\nleaf 6 5\nes-message 0 1\nes-message 1 2\nle-own 1\nle-own 2\nx-load 1 4 5\nleaf 6 5\nle-own 1\nle-own 2\nhi-arrive 0 1\nhi-arrive 1 2\nx-frames 0 0 1\n";
+
 /// What the check says of a text that is read as a whole.
 pub fn whole_answer(alloc: Global, i: &Instance, text: &[u8]) -> Result<u32, StreamFault> {
     let cert = match read(alloc, text) {
@@ -59,12 +63,26 @@ fn expect_same(
     Ok(())
 }
 
+/// Checks that they say the same of each prefix of a text.
+fn expect_same_prefixes(
+    rt: &(impl Abort + Threads + Sync),
+    alloc: Global,
+    (small, text): (Small, &str),
+) -> Result<(), Fail> {
+    let i = small.build(alloc)?;
+    let bytes = text.as_bytes();
+    for length in 0..bytes.len().saturating_add(1) {
+        expect_same(rt, alloc, &i, &bytes[..length])?;
+    }
+    Ok(())
+}
+
 #[test]
 fn each_prefix_is_answered_as_a_whole_text(rt: HostRuntime) -> Result<(), Fail> {
-    let i = Small::OneMessage(PLAIN).build(rt.alloc())?;
-    let bytes = TWO_FAULTS.as_bytes();
-    for length in 0..bytes.len().saturating_add(1) {
-        expect_same(&rt, rt.alloc(), &i, &bytes[..length])?;
+    let one_channel = (Small::OneMessage(PLAIN), TWO_FAULTS);
+    let two_channels = (Small::TwoChannels(false), BY_CHANNELS);
+    for row in [one_channel, two_channels] {
+        expect_same_prefixes(&rt, rt.alloc(), row)?;
     }
     Ok(())
 }
@@ -78,6 +96,8 @@ static FAULTS: &[(&str, StreamFault)] = &[
     ("ttcert 1\nlow 102\nleaf 9 0\n", StreamFault::Cert(CertFault::LowTooGreat)),
     ("ttcert 1\nlow 102\nleaf 9 0\nleaf 9 0\n", StreamFault::Text(CertTextError::At { line: 4, fault: LineFault::Trailing })),
     ("ttcert 1\nlow 9\nplace 0\nplace 0\n", StreamFault::Text(CertTextError::At { line: 4, fault: LineFault::Trailing })),
+    ("ttcert 2\nlow 9\nchan 0 3\nleaf 8 0\nleaf 9 0\nleaf 9 0\n", StreamFault::Cert(CertFault::At { line: 3, fault: NodeFault::NotOpen })),
+    ("ttcert 2\nlow 9\nchan 0 3\nleaf 9 0\nleaf 9 0\nchan 0 2\n", StreamFault::Text(CertTextError::At { line: 6, fault: LineFault::Form })),
 ];
 
 /// Checks what is said of a text at each pace.
@@ -258,6 +278,27 @@ fn line_by(number: u64, count: usize) -> usize {
     }
 }
 
+/// Each of these is some fault where it is put in the place of some line of `BY_CHANNELS`.
+const CHANNEL_DAMAGES: &[Damage] = &[
+    Damage::Becomes(""),
+    Damage::Becomes("x\n"),
+    Damage::Becomes("ttcert 1\n"),
+    Damage::Becomes("low 102\n"),
+    Damage::Becomes("place 3\n"),
+    Damage::Becomes("chan 0 3\n"),
+    Damage::Becomes("chan 1 3\n"),
+    Damage::Becomes("chan 2 3\n"),
+    Damage::Becomes("chan 0 2\n"),
+    Damage::Becomes("chan 4294967296 3\n"),
+    Damage::Becomes("leaf 5 5\n"),
+    Damage::Becomes("le-own 0\n"),
+    Damage::Becomes("x-frames 0 0 1\n"),
+    Damage::Becomes("x-channel 0 0 0 1\n"),
+    Damage::Becomes("x-channel 1 0 0 1\n"),
+    Damage::Becomes("x-channel 2 0 0 1\n"),
+    Damage::EndsTheText,
+];
+
 /// What is said of a damaged copy, read as a whole and as a stream.
 fn copy_answer(
     rt: &(impl Abort + Threads + Sync),
@@ -273,16 +314,14 @@ fn copy_answer(
     whole
 }
 
-/// The same of the copy of a text whose line is named by a number.
+/// The same of the copy of a text in which this line is damaged so.
 fn damaged_answer(
     rt: &(impl Abort + Threads + Sync),
     alloc: Global,
     i: &Instance,
     whole: &str,
-    (copy, number): (u32, u64),
+    (copy, at, damage): (u32, usize, Damage),
 ) -> Result<Result<u32, StreamFault>, AllocError> {
-    let damage = DAMAGES[copy as usize % DAMAGES.len()];
-    let at = line_by(number, whole.lines().count());
     let text = damaged(alloc, whole, at, damage)?;
     Ok(copy_answer(rt, alloc, i, text.as_str(), copy))
 }
@@ -299,9 +338,32 @@ fn kinds_of_copies(
     let mut number = 1;
     for copy in 0..copies {
         number = after(number);
-        let answer = damaged_answer(rt, alloc, i, whole, (copy, number))?;
+        let at = line_by(number, whole.lines().count());
+        let damage = DAMAGES[copy as usize % DAMAGES.len()];
+        let answer = damaged_answer(rt, alloc, i, whole, (copy, at, damage))?;
         let kind = &mut kinds[kind_of(answer)];
         *kind = kind.saturating_add(1);
+    }
+    Ok(kinds)
+}
+
+/// The same of copies in which each line of the text is damaged in each of these ways.
+fn kinds_of_all(
+    rt: &(impl Abort + Threads + Sync),
+    alloc: Global,
+    i: &Instance,
+    whole: &str,
+    damages: &[Damage],
+) -> Result<[u32; 13], AllocError> {
+    let mut kinds = [0u32; 13];
+    let mut copy: u32 = 0;
+    for at in 0..whole.lines().count() {
+        for damage in damages {
+            copy = copy.wrapping_add(1);
+            let answer = damaged_answer(rt, alloc, i, whole, (copy, at, *damage))?;
+            let kind = &mut kinds[kind_of(answer)];
+            *kind = kind.saturating_add(1);
+        }
     }
     Ok(kinds)
 }
@@ -341,5 +403,20 @@ fn damaged_copies_are_answered_as_whole_texts(rt: HostRuntime) -> Result<(), Fai
 #[test]
 fn damaged_copies_of_a_large_text_are_answered_so_too(rt: HostRuntime) -> Result<(), Fail> {
     kinds_of(&rt, rt.alloc(), 1_000, 30)?;
+    Ok(())
+}
+
+/// How often there was an answer of each kind to damaged copies of the certificate by channels.
+fn kinds_by_channels(rt: &(impl Abort + Threads + Sync), alloc: Global) -> Result<[u32; 13], Fail> {
+    let i = Small::TwoChannels(false).build(alloc)?;
+    Ok(kinds_of_all(rt, alloc, &i, BY_CHANNELS, CHANNEL_DAMAGES)?)
+}
+
+#[test]
+fn damaged_copies_that_speak_of_channels_are_answered_so_too(rt: HostRuntime) -> Result<(), Fail> {
+    let kinds = kinds_by_channels(&rt, rt.alloc())?;
+    for kind in 0..12 {
+        assert!(rt; kinds[kind] > 0, "{kinds:?}");
+    }
     Ok(())
 }

@@ -1,7 +1,7 @@
 //! Certificates of small instances: what is said of one in memory, and of its text as it is read.
 
 use crate::instances::Small;
-use crate::streamed_checks::{Pace, streamed_answer, whole_answer};
+use crate::streamed_checks::{BY_CHANNELS, Pace, streamed_answer, whole_answer};
 use cert_check::{CertFault, NodeFault, StreamFault};
 use std::alloc::Global;
 use std::process::Abort;
@@ -103,6 +103,82 @@ static ROWS: &[Row] = &[
     ),
 ];
 
+/// The worked instance of two channels.
+const TWO_CHANNELS: Small = Small::TwoChannels(false);
+
+/// No plan of two messages on two channels has a delay below 6: by their channels, and by one leaf. Then a channel is decided that
+/// is fixed, or isn't there, or a half of a frame is said to be overfull that isn't, or to be there. Either version is taken for
+/// each instance.
+static CHANNELS: &[Row] = &[
+    (TWO_CHANNELS, BY_CHANNELS, Ok(6)),
+    (
+        TWO_CHANNELS,
+        "ttcert 1\nlow 6\nleaf 6 5\nes-message 0 1\nes-message 1 2\nle-own 1\nle-own 2\nx-load 1 4 5\n",
+        Ok(6),
+    ),
+    (
+        ONE_MESSAGE,
+        "ttcert 2\nlow 9\nleaf 9 5\nes-release 0\nlo-send 0\nes-arrive 0 1\nle-own 1\nx-window 1\n",
+        Ok(9),
+    ),
+    (
+        ONE_MESSAGE,
+        "ttcert 2\nlow 9\nchan 0 3\nleaf 9 0\nleaf 9 0\nleaf 9 0\n",
+        Err(CertFault::At {
+            line: 3,
+            fault: NodeFault::NotOpen,
+        }),
+    ),
+    (
+        ONE_MESSAGE,
+        "ttcert 2\nlow 9\nleaf 9 1\nx-channel 0 0 0 1\n",
+        Err(CertFault::At {
+            line: 4,
+            fault: NodeFault::RefusedStep,
+        }),
+    ),
+    (
+        Small::TwoChannels(true),
+        "ttcert 2\nlow 6\nchan 1 3\nleaf 6 0\nleaf 6 0\nleaf 6 0\n",
+        Err(CertFault::At {
+            line: 3,
+            fault: NodeFault::NotOpen,
+        }),
+    ),
+    (
+        TWO_CHANNELS,
+        "ttcert 2\nlow 6\nchan 1 3\nchan 1 3\nleaf 6 0\nleaf 6 0\nleaf 6 0\nleaf 6 0\nleaf 6 0\n",
+        Err(CertFault::At {
+            line: 4,
+            fault: NodeFault::NotOpen,
+        }),
+    ),
+    (
+        TWO_CHANNELS,
+        "ttcert 2\nlow 6\nchan 2 3\nleaf 6 0\nleaf 6 0\nleaf 6 0\n",
+        Err(CertFault::At {
+            line: 3,
+            fault: NodeFault::NotOpen,
+        }),
+    ),
+    (
+        TWO_CHANNELS,
+        "ttcert 2\nlow 6\nleaf 6 5\nle-own 1\nle-own 2\nhi-arrive 0 1\nhi-arrive 1 2\nx-channel 0 0 0 1\n",
+        Err(CertFault::At {
+            line: 8,
+            fault: NodeFault::RefusedStep,
+        }),
+    ),
+    (
+        TWO_CHANNELS,
+        "ttcert 2\nlow 6\nleaf 6 1\nx-channel 2 0 0 1\n",
+        Err(CertFault::At {
+            line: 4,
+            fault: NodeFault::RefusedStep,
+        }),
+    ),
+];
+
 /// How many leaves are judged together, and how many bytes a reader gives a call.
 const PACES: &[Pace] = &[
     (1, 1),
@@ -145,8 +221,10 @@ pub fn expect(rt: &(impl Abort + Threads + Sync), alloc: Global, row: &Row) -> R
 
 #[test]
 fn a_certificate_in_memory_is_judged_as_its_text_is(rt: HostRuntime) -> Result<(), Fail> {
-    for row in ROWS {
-        expect(&rt, rt.alloc(), row)?;
+    for rows in [ROWS, CHANNELS] {
+        for row in rows {
+            expect(&rt, rt.alloc(), row)?;
+        }
     }
     Ok(())
 }

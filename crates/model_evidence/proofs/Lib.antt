@@ -12,3 +12,4 @@ pub mod Judged
 pub mod JustValid
 pub mod Allowed
 pub mod TwoChannels
+pub mod TwoMessages

@@ -1,5 +1,6 @@
 //! What the lower crates answer just where a wrong answer would differ: each function calls one of
-//! theirs, and its contract doesn't follow from a weaker one. Those of `edges` and `two_channels` call nothing, and say which plans are valid.
+//! theirs, and its contract doesn't follow from a weaker one. Those of `edges` and most of `two_channels` call nothing, and say which
+//! plans are valid.
 #![tactic(auto)]
 
 mod choices;
@@ -61,5 +62,5 @@ pub use steps::{
 pub use texts::{
     node_of_first_process, precision_past_32_bits, process_without_node_and_time, unknown_key,
 };
-pub use two_channels::{faults_on_two_channels, frames_on_two_channels};
+pub use two_channels::{faults_on_two_channels, frames_on_two_channels, plans_on_two_channels};
 pub use windows::permits_its_end;

@@ -289,8 +289,8 @@ const CLUSTERS: &[Limit] = &[
     ),
     (
         "channels",
-        with_cluster!(channels: 1),
         with_cluster!(channels: 2),
+        with_cluster!(channels: 3),
         "OutOfRange(AtCluster)",
     ),
     (

@@ -6,43 +6,106 @@ use plan_format::{LineFault, PlanTextError, print, read};
 use std::alloc::Global;
 use std::process::Abort;
 use std::test::Fail;
-use ttp_model::{Instance, MemoryFault};
-use worked_instances::{PLAIN, one_message};
+use ttp_model::{Instance, MemoryFault, Plan};
+use worked_instances::{PLAIN, one_message, two_messages};
 
-/// A process p on A sends m to q on B, in two rounds of 4 ticks.
-const TEXT: &str =
-    "ttplan 1\ndelay 9\norder A B\ncap A 2\ncap B 0\nstart p 0\nstart q 7\nround m 1\n";
+/// The text of a plan, its lists and its delay, and texts that are refused at a line.
+#[derive(Clone, Copy)]
+struct Spelled {
+    text: &'static str,
+    lists: Lists<'static>,
+    delay: u64,
+    refused: &'static [(&'static str, u32, LineFault)],
+}
 
-/// The same with a line of the channel, which no line tells where there is one, and in the version of two channels. Each is
-/// refused at this line.
-const REFUSED: &[(&str, u32, LineFault)] = &[
-    (
-        "ttplan 1\ndelay 9\norder A B\ncap A 2\ncap B 0\nstart p 0\nstart q 7\nround m 1\nchan m 0\n",
-        9,
-        LineFault::Trailing,
-    ),
-    (
-        "ttplan 2\ndelay 9\norder A B\ncap A 2\ncap B 0\nstart p 0\nstart q 7\nround m 1\nchan m 0\n",
-        1,
-        LineFault::Form,
-    ),
-];
+/// A process p on A sends m to q on B, in two rounds of 4 ticks. No line tells the channel where there is one, and its text isn't
+/// of the version of two.
+const ONE_CHANNEL: Spelled = Spelled {
+    text: "ttplan 1\ndelay 9\norder A B\ncap A 2\ncap B 0\nstart p 0\nstart q 7\nround m 1\n",
+    lists: [&[0, 1], &[2, 0], &[0, 7], &[1], &[0]],
+    delay: 9,
+    refused: &[
+        (
+            "ttplan 1\ndelay 9\norder A B\ncap A 2\ncap B 0\nstart p 0\nstart q 7\nround m 1\nchan m 0\n",
+            9,
+            LineFault::Trailing,
+        ),
+        (
+            "ttplan 2\ndelay 9\norder A B\ncap A 2\ncap B 0\nstart p 0\nstart q 7\nround m 1\nchan m 0\n",
+            1,
+            LineFault::Form,
+        ),
+    ],
+};
+
+/// On two channels p on A sends m to q and l to r, which are on B, in one round. A line tells each message's channel, in words for
+/// both, and its text isn't of the version of one.
+const TWO_CHANNELS: Spelled = Spelled {
+    text: "ttplan 2\ndelay 6\norder B A\ncap A 2\ncap B 0\nstart p 0\nstart q 4\nstart r 5\nround m 0\nround l 0\nchan m 0\nchan l 1\n",
+    lists: [&[1, 0], &[2, 0], &[0, 4, 5], &[0, 0], &[0, 1]],
+    delay: 6,
+    refused: &[
+        (
+            "ttplan 1\ndelay 6\norder B A\ncap A 2\ncap B 0\nstart p 0\nstart q 4\nstart r 5\nround m 0\nround l 0\nchan m 0\nchan l 1\n",
+            1,
+            LineFault::Form,
+        ),
+        (
+            "ttplan 2\ndelay 6\norder B A\ncap A 2\ncap B 0\nstart p 0\nstart q 4\nstart r 5\nround m 0\nround l 0\nchan m 2\nchan l 1\n",
+            11,
+            LineFault::Form,
+        ),
+        (
+            "ttplan 2\ndelay 6\norder B A\ncap A 2\ncap B 0\nstart p 0\nstart q 4\nstart r 5\nround m 0\nround l 0\nchan m both\nchan l Both\n",
+            12,
+            LineFault::Form,
+        ),
+        (
+            "ttplan 2\ndelay 6\norder B A\ncap A 2\ncap B 0\nstart p 0\nstart q 4\nstart r 5\nround m 0\nround l 0\nchan m 0\nchan l 1\nchan l 1\n",
+            13,
+            LineFault::Trailing,
+        ),
+    ],
+};
+
+/// A message on both channels, in a round of its own.
+const BOTH_CHANNELS: Spelled = Spelled {
+    text: "ttplan 2\ndelay 9\norder B A\ncap A 2\ncap B 0\nstart p 0\nstart q 4\nstart r 8\nround m 0\nround l 1\nchan m 1\nchan l both\n",
+    lists: [&[1, 0], &[2, 0], &[0, 4, 8], &[0, 1], &[1, 2]],
+    delay: 9,
+    refused: &[],
+};
+
+/// Whether a plan has these lists.
+fn has_lists(plan: &Plan, [order, caps, starts, rounds, channels]: Lists) -> bool {
+    plan.order.as_slice() == order
+        && plan.caps.as_slice() == caps
+        && plan.starts.as_slice() == starts
+        && plan.rounds.as_slice() == rounds
+        && plan.channels.as_slice() == channels
+}
 
 /// The text is read as the plan with its delay.
-fn is_read(rt: &impl Abort, alloc: Global, instance: &Instance) -> Result<(), PlanTextError> {
-    let (plan, delay) = read(alloc, instance, TEXT.as_bytes())?;
-    let layout = (plan.order.as_slice(), plan.caps.as_slice());
-    same(rt, TEXT, layout, ([0, 1].as_slice(), [2, 0].as_slice()));
-    let times = (plan.starts.as_slice(), plan.rounds.as_slice());
-    same(rt, TEXT, times, ([0, 7].as_slice(), [1].as_slice()));
-    same(rt, TEXT, plan.channels.as_slice(), [0].as_slice());
-    same(rt, TEXT, delay, 9);
+fn is_read(
+    rt: &impl Abort,
+    alloc: Global,
+    instance: &Instance,
+    spelled: &Spelled,
+) -> Result<(), PlanTextError> {
+    let (plan, delay) = read(alloc, instance, spelled.text.as_bytes())?;
+    assert!(rt; has_lists(&plan, spelled.lists), "{plan:?}");
+    same(rt, spelled.text, u64::from(delay), spelled.delay);
     Ok(())
 }
 
 /// Each of the other texts is refused where it should be.
-fn are_refused(rt: &impl Abort, alloc: Global, instance: &Instance) -> Result<(), PlanTextError> {
-    for (text, line, fault) in REFUSED {
+fn are_refused(
+    rt: &impl Abort,
+    alloc: Global,
+    instance: &Instance,
+    spelled: &Spelled,
+) -> Result<(), PlanTextError> {
+    for (text, line, fault) in spelled.refused {
         let found = read(alloc, instance, text.as_bytes()).err();
         if found == Some(PlanTextError::OutOfMemory) {
             return Err(PlanTextError::OutOfMemory);
@@ -57,11 +120,28 @@ fn are_refused(rt: &impl Abort, alloc: Global, instance: &Instance) -> Result<()
 }
 
 /// The plan is written as the text.
-fn is_written(rt: &impl Abort, alloc: Global, instance: &Instance) -> Result<(), MemoryFault> {
-    let lists: Lists = [&[0, 1], &[2, 0], &[0, 7], &[1]];
-    let plan = valid_plan(rt, alloc, instance, lists, 9)?;
+fn is_written(
+    rt: &impl Abort,
+    alloc: Global,
+    instance: &Instance,
+    spelled: &Spelled,
+) -> Result<(), MemoryFault> {
+    let plan = valid_plan(rt, alloc, instance, spelled.lists, spelled.delay)?;
     let text = print(alloc, instance, &plan)?;
-    same(rt, TEXT, text.as_slice(), TEXT.as_bytes());
+    same(rt, spelled.text, text.as_slice(), spelled.text.as_bytes());
+    Ok(())
+}
+
+/// The text and the plan are each other's, and the other texts are no plan's.
+fn is_spelled(
+    rt: &impl Abort,
+    alloc: Global,
+    instance: &Instance,
+    spelled: &Spelled,
+) -> Result<(), Fail> {
+    is_read(rt, alloc, instance, spelled)?;
+    is_written(rt, alloc, instance, spelled)?;
+    are_refused(rt, alloc, instance, spelled)?;
     Ok(())
 }
 
@@ -69,8 +149,14 @@ fn is_written(rt: &impl Abort, alloc: Global, instance: &Instance) -> Result<(),
 #[test]
 fn the_eight_lines_are_a_plan_and_its_delay(rt: HostRuntime) -> Result<(), Fail> {
     let instance = one_message(rt.alloc(), PLAIN)?;
-    is_read(&rt, rt.alloc(), &instance)?;
-    is_written(&rt, rt.alloc(), &instance)?;
-    are_refused(&rt, rt.alloc(), &instance)?;
+    is_spelled(&rt, rt.alloc(), &instance, &ONE_CHANNEL)
+}
+
+#[test]
+fn a_line_tells_each_message_its_channel_where_there_are_two(rt: HostRuntime) -> Result<(), Fail> {
+    let instance = two_messages(rt.alloc(), false)?;
+    for spelled in &[TWO_CHANNELS, BOTH_CHANNELS] {
+        is_spelled(&rt, rt.alloc(), &instance, spelled)?;
+    }
     Ok(())
 }

@@ -2,20 +2,19 @@
 
 use crate::building::{LAWFUL, Tables, build};
 use crate::outcomes::same;
-use crate::plans::Lists;
+use crate::plans::{Lists, plan_of};
 use plan_check::{PlanFault, PlanPart, check};
 use std::alloc::{AllocError, Global};
 use std::process::Abort;
 use std::test::Fail;
-use ttp_model::{Instance, Numbers};
-use worked_instances::{overfull, plan};
+use ttp_model::Instance;
+use worked_instances::overfull;
 
 /// The delay of a valid plan, or the rule that another one breaks first.
 type Verdict = Result<u64, PlanFault>;
 
 fn verdict(alloc: Global, instance: &Instance, lists: Lists) -> Result<Verdict, AllocError> {
-    let [order, caps, starts, rounds] = lists;
-    let plan = plan(alloc, order, caps, starts, rounds)?;
+    let plan = plan_of(alloc, lists)?;
     Ok(check(instance, &plan))
 }
 
@@ -25,39 +24,45 @@ type Refused = (Lists<'static>, PlanFault);
 /// Lists are judged before times: one that is a number too short or too long, and orders that aren't the nodes'.
 const WRONG_LISTS: &[Refused] = &[
     (
-        [&[0, 1], &[2, 0], &[0, 7], &[]],
+        [&[0, 1], &[2, 0], &[0, 7], &[], &[0]],
         PlanFault::WrongLength(PlanPart::Rounds),
     ),
     (
-        [&[0, 1], &[2, 0], &[0, 7], &[1, 1]],
+        [&[0, 1], &[2, 0], &[0, 7], &[1, 1], &[0]],
         PlanFault::WrongLength(PlanPart::Rounds),
     ),
     (
-        [&[0, 1], &[2, 0], &[0], &[1]],
+        [&[0, 1], &[2, 0], &[0], &[1], &[0]],
         PlanFault::WrongLength(PlanPart::Starts),
     ),
     (
-        [&[0, 1], &[2, 0], &[0, 7, 9], &[1]],
+        [&[0, 1], &[2, 0], &[0, 7, 9], &[1], &[0]],
         PlanFault::WrongLength(PlanPart::Starts),
     ),
     (
-        [&[0, 1], &[2], &[0, 7], &[1]],
+        [&[0, 1], &[2], &[0, 7], &[1], &[0]],
         PlanFault::WrongLength(PlanPart::Capacities),
     ),
     (
-        [&[0, 1], &[2, 0, 0], &[0, 7], &[1]],
+        [&[0, 1], &[2, 0, 0], &[0, 7], &[1], &[0]],
         PlanFault::WrongLength(PlanPart::Capacities),
     ),
     (
-        [&[0], &[2, 0], &[0], &[]],
+        [&[0], &[2, 0], &[0], &[], &[0]],
         PlanFault::WrongLength(PlanPart::Order),
     ),
     (
-        [&[0, 1, 0], &[2, 0], &[0, 7], &[1]],
+        [&[0, 1, 0], &[2, 0], &[0, 7], &[1], &[0]],
         PlanFault::WrongLength(PlanPart::Order),
     ),
-    ([&[1, 1], &[3, 0], &[9, 0], &[0]], PlanFault::WrongOrder(1)),
-    ([&[2, 1], &[2, 0], &[0, 7], &[1]], PlanFault::WrongOrder(0)),
+    (
+        [&[1, 1], &[3, 0], &[9, 0], &[0], &[0]],
+        PlanFault::WrongOrder(1),
+    ),
+    (
+        [&[2, 1], &[2, 0], &[0, 7], &[1], &[0]],
+        PlanFault::WrongOrder(0),
+    ),
 ];
 
 /// Three nodes, of which the last has no process.
@@ -69,11 +74,11 @@ const THREE_NODES: Tables = Tables {
 /// A node that stands in the order again, though not just behind itself, and one that isn't there.
 const WRONG_ORDERS: &[Refused] = &[
     (
-        [&[0, 1, 0], &[2, 0, 0], &[0, 7], &[1]],
+        [&[0, 1, 0], &[2, 0, 0], &[0, 7], &[1], &[0]],
         PlanFault::WrongOrder(2),
     ),
     (
-        [&[2, 0, 3], &[2, 0, 0], &[0, 7], &[1]],
+        [&[2, 0, 3], &[2, 0, 0], &[0, 7], &[1], &[0]],
         PlanFault::WrongOrder(2),
     ),
 ];
@@ -128,11 +133,10 @@ fn are_refused_on(
     lists: Lists,
     rows: &[(&[u32], PlanFault)],
 ) -> Result<(), Fail> {
-    let [order, caps, starts, rounds] = lists;
+    let [order, caps, starts, rounds, _channels] = lists;
     for (channels, fault) in rows {
-        let mut plan = plan(alloc, order, caps, starts, rounds)?;
-        plan.channels = Numbers::new(Vec::from_slice(alloc, channels)?);
-        same(rt, channels, check(instance, &plan), Err(*fault));
+        let found = verdict(alloc, instance, [order, caps, starts, rounds, channels])?;
+        same(rt, channels, found, Err(*fault));
     }
     Ok(())
 }
@@ -140,9 +144,9 @@ fn are_refused_on(
 #[test]
 fn a_message_is_on_the_only_channel(rt: HostRuntime) -> Result<(), Fail> {
     let lawful = build(rt.alloc(), &LAWFUL)?;
-    let lists: Lists = [&[0, 1], &[2, 0], &[0, 7], &[1]];
+    let lists: Lists = [&[0, 1], &[2, 0], &[0, 7], &[1], &[0]];
     are_refused_on(&rt, rt.alloc(), &lawful, lists, WRONG_CHANNELS)?;
     let shared = overfull(rt.alloc())?;
-    let lists: Lists = [&[0, 1], &[4, 0], &[0, 11], &[1, 1]];
+    let lists: Lists = [&[0, 1], &[4, 0], &[0, 11], &[1, 1], &[0, 0]];
     are_refused_on(&rt, rt.alloc(), &shared, lists, SHARED_FRAMES)
 }

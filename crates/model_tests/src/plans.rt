@@ -9,11 +9,19 @@ use medl_tables::{Medl, MemoryFault};
 use plan_check::check;
 use std::alloc::{AllocError, Global};
 use std::process::Abort;
-use ttp_model::{Instance, Plan};
+use ttp_model::{Instance, Numbers, Plan};
 use worked_instances::plan;
 
-/// The order, the capacities, the starts and the rounds of a plan.
-pub type Lists<'a> = [&'a [u32]; 4];
+/// The order, the capacities, the starts, the rounds and the channels of a plan.
+pub type Lists<'a> = [&'a [u32]; 5];
+
+/// The plan of these lists, whatever it breaks.
+pub fn plan_of(alloc: Global, lists: Lists) -> Result<Plan, AllocError> {
+    let [order, caps, starts, rounds, channels] = lists;
+    let mut plan = plan(alloc, order, caps, starts, rounds)?;
+    plan.channels = Numbers::new(Vec::from_slice(alloc, channels)?);
+    Ok(plan)
+}
 
 /// The plan of these lists, which is valid and has this delay.
 pub fn valid_plan(
@@ -25,8 +33,7 @@ pub fn valid_plan(
 ) -> Result<Plan, AllocError>
     ensures { IfOk result (IsValid instance.now) }
 {
-    let [order, caps, starts, rounds] = lists;
-    let plan = plan(alloc, order, caps, starts, rounds)?;
+    let plan = plan_of(alloc, lists)?;
     let found = check(instance, &plan).expect(rt, "a valid plan");
     same(rt, "the delay", found, delay);
     Ok(plan)

@@ -7,7 +7,8 @@ use membership_replay::{Loss, ReplayFault, print, replay};
 use std::alloc::Global;
 use std::process::Abort;
 use std::test::Fail;
-use ttp_model::MOST_TICKS;
+use ttp_model::{Cluster, MOST_TICKS};
+use worked_instances::PLAIN;
 
 /// Nodes A, B and C with frames of 1 tick, and a process of 3 ticks: one round.
 const THREE: Tables = Tables {
@@ -51,7 +52,7 @@ struct Cycle {
 /// Three nodes that lose nothing.
 const ALL_STAY: Cycle = Cycle {
     parts: THREE,
-    lists: [&[0, 1, 2], &[0, 0, 0], &[0], &[]],
+    lists: [&[0, 1, 2], &[0, 0, 0], &[0], &[], &[]],
     delay: 3,
     losses: &[],
     told: Ok((
@@ -95,7 +96,7 @@ const AT_SENDER: Cycle = Cycle {
 /// Two nodes are too few, whatever is lost.
 const TOO_FEW: Cycle = Cycle {
     parts: TWO,
-    lists: [&[0, 1], &[0, 0], &[0], &[]],
+    lists: [&[0, 1], &[0, 0], &[0], &[], &[]],
     losses: losses![(7, 7)],
     told: Err(ReplayFault::TooFewNodes),
     ..ALL_STAY
@@ -104,7 +105,7 @@ const TOO_FEW: Cycle = Cycle {
 /// A message that arrives.
 const DELIVERED: Cycle = Cycle {
     parts: DELIVERY,
-    lists: [&[0, 1, 2], &[2, 0, 0], &[0, 8], &[1]],
+    lists: [&[0, 1, 2], &[2, 0, 0], &[0, 8], &[1], &[0]],
     delay: 10,
     losses: &[],
     told: Ok((
@@ -119,24 +120,50 @@ const DELIVERED: Cycle = Cycle {
 
 /// The same, where its frame is lost.
 const LOST: Cycle = Cycle {
-    losses: losses![(1, 1)],
-    told: Ok((
-        6,
-        3,
-        b"ttreplay 1\n\
-        slot 0 0 A sent\nslot 0 1 B sent\nack A\nslot 0 2 C sent\nack B\n\
-        slot 1 0 A sent\ndrop B A\nack C\nslot 1 1 B sent\ndoubt A\ndrop C B\n\
-        slot 1 2 C sent\nack A\ndrop A B\ndrop B C\n\
-        member A A C\nmember B B\nmember C A C\n",
-    )),
+    losses: ITS_FRAME,
+    told: TOLD_OF_LOSS,
     ..DELIVERED
+};
+
+/// The frame is lost at the message's receiver, on however many channels it is.
+const ITS_FRAME: &[Loss] = losses![(1, 1)];
+
+/// What is told then.
+const TOLD_OF_LOSS: Result<(usize, usize, &[u8]), ReplayFault> = Ok((
+    6,
+    3,
+    b"ttreplay 1\n\
+    slot 0 0 A sent\nslot 0 1 B sent\nack A\nslot 0 2 C sent\nack B\n\
+    slot 1 0 A sent\ndrop B A\nack C\nslot 1 1 B sent\ndoubt A\ndrop C B\n\
+    slot 1 2 C sent\nack A\ndrop A B\ndrop B C\n\
+    member A A C\nmember B B\nmember C A C\n",
+));
+
+/// A bus of two channels. A message that is on both is told of once.
+const ON_BOTH: Cycle = Cycle {
+    parts: Tables {
+        cluster: Cluster {
+            channels: 2,
+            ..PLAIN
+        },
+        ..DELIVERY
+    },
+    lists: [&[0, 1, 2], &[2, 0, 0], &[0, 8], &[1], &[2]],
+    ..DELIVERED
+};
+
+/// Its frame is lost on both.
+const LOST_ON_BOTH: Cycle = Cycle {
+    losses: ITS_FRAME,
+    told: TOLD_OF_LOSS,
+    ..ON_BOTH
 };
 
 /// What is told of cycles in which nothing is delivered.
 const CYCLES: &[Cycle] = &[ONE_LEAVES, ALL_STAY, OUTSIDE, AT_SENDER, TOO_FEW];
 
 /// The same of a message.
-const DELIVERIES: &[Cycle] = &[DELIVERED, LOST];
+const DELIVERIES: &[Cycle] = &[DELIVERED, LOST, ON_BOTH, LOST_ON_BOTH];
 
 /// This is told of the cycle, unless memory is refused.
 fn is_told(rt: &impl Abort, alloc: Global, cycle: &Cycle) -> Result<(), Fail> {

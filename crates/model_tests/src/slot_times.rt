@@ -41,7 +41,7 @@ const TIMES: &[Times] = &[
     // In order A, B the slot of A begins each round; a slot that begins at the time itself is early enough.
     (
         one_process!(&[("A", &[2]), ("B", &[0])]),
-        [&[0, 1], &[2, 0], &[0], &[]],
+        [&[0, 1], &[2, 0], &[0], &[], &[]],
         4,
         &[
             Slot::Lasts(0, 1, 4, 7),
@@ -59,21 +59,21 @@ const TIMES: &[Times] = &[
     // In order B, A it begins a tick later.
     (
         one_process!(&[("A", &[2]), ("B", &[0])]),
-        [&[1, 0], &[2, 0], &[0], &[]],
+        [&[1, 0], &[2, 0], &[0], &[], &[]],
         4,
         &[Slot::Lasts(0, 0, 1, 4), Slot::Lasts(1, 2, 8, 9)],
     ),
     // The greater capacity of A lengthens its slot.
     (
         one_process!(&[("A", &[2, 4]), ("B", &[0])]),
-        [&[1, 0], &[4, 0], &[0], &[]],
+        [&[1, 0], &[4, 0], &[0], &[], &[]],
         6,
         &[Slot::Lasts(0, 0, 1, 6)],
     ),
     // The greater capacity of B delays the slot of A.
     (
         one_process!(&[("A", &[2]), ("B", &[0, 1])]),
-        [&[1, 0], &[2, 1], &[0], &[]],
+        [&[1, 0], &[2, 1], &[0], &[], &[]],
         5,
         &[Slot::Lasts(0, 0, 2, 5)],
     ),

@@ -34,14 +34,14 @@ type Written = (Tables, Lists<'static>, u64, &'static [u8]);
 const WRITTEN: &[Written] = &[
     (
         LAWFUL,
-        [&[0, 1], &[2, 0], &[0, 7], &[1]],
+        [&[0, 1], &[2, 0], &[0, 7], &[1], &[0]],
         9,
         b"ttguard 1\nwindow 0 A 0 3\nwindow 0 B 3 4\nwindow 1 A 4 7\nwindow 1 B 7 8\nwindow 2 A 8 11\nwindow 2 B 11 12\n",
     ),
     // The precision is left on both sides of the frame.
     (
         LONG_PROCESS,
-        [&[0], &[3], &[0], &[]],
+        [&[0], &[3], &[0], &[], &[]],
         11,
         b"ttguard 1\nwindow 0 A 2 10\nwindow 1 A 12 20\n",
     ),

@@ -1,5 +1,5 @@
 -- What a log that began with the first facts appends.
-use Rattle.std.proofs.Common.{◌≡◌, ℕ, ◌<◌, List, length, Result, IfOk, ap, sym, ◌∙◌}
+use Rattle.std.proofs.Common.{◌≡◌, ℕ, List, Result, IfOk, ap, sym, ◌∙◌}
 use Rattle.ttp_model.specs.declared.error.MemoryFault.{MemoryFault}
 use Rattle.ttp_model.specs.declared.step.Step.{Step}
 use Rattle.ttp_model.specs.Instance.{Instance}

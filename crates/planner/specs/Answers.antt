@@ -1,5 +1,5 @@
 -- What an answer to an instance says: a least plan, no plan, or bounds, each with a tree that proves it.
-use Rattle.std.specs.Prelude.{◌≡◌, ℕ, ◌+◌, ◌≤◌, ◌<◌, ◌⊎◌, ◌==◌, if◌then◌else◌, min, count_by, Bool, false, Option, None, Some, nat_le, Contains, All}
+use Rattle.std.specs.Prelude.{◌≡◌, ℕ, ◌+◌, ◌≤◌, ◌<◌, ◌==◌, if◌then◌else◌, min, count_by, Bool, false, Option, None, Some, nat_le, Contains, All}
 use Rattle.ttp_model.specs.declared.plan.Plan.{Plan}
 use Rattle.ttp_model.specs.Instance.{Instance}
 use Rattle.ttp_model.specs.Delays.{delay, IsLowerBound, IsLeastDelay, HasNoPlan}

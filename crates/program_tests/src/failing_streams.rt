@@ -4,7 +4,8 @@ ghost use Rattle.std.specs.Prelude.{◌≤◌, IfOk};
 
 use crate::told::Asked::{Check, Draw, Replay, Schedule, Tables, Verify};
 use crate::told::{
-    Asked, CLUSTER, FIRST, FIRST_CERTIFICATE, FIRST_PARTS, FIRST_PLAN, THREE, THREE_PLAN, Told,
+    Asked, CLUSTER, FIRST, FIRST_CERTIFICATE, FIRST_PARTS, FIRST_PLAN, THREE, THREE_PLAN,
+    TWO_CHANNELS, TWO_CHANNELS_BOTH, TWO_CHANNELS_BOTH_CERTIFICATE, TWO_CHANNELS_PLAN, Told,
     joined,
 };
 use command_streams::End;
@@ -291,6 +292,11 @@ static ROWS: &[Row] = &[
     (Command::OfTwo(Draw(All)), FIRST, FIRST_PLAN),
     (Command::OfBundle, &[CLUSTER, FIRST_PARTS, "%%\n", FIRST_PLAN], ""),
     (Command::Search, FIRST, ""),
+    (Command::OfTwo(Verify), TWO_CHANNELS, TWO_CHANNELS_PLAN),
+    (Command::OfTwo(Tables), TWO_CHANNELS, TWO_CHANNELS_PLAN),
+    (Command::OfTwo(Schedule(Slots)), TWO_CHANNELS, TWO_CHANNELS_PLAN),
+    (Command::OfTwo(Check), TWO_CHANNELS_BOTH, TWO_CHANNELS_BOTH_CERTIFICATE),
+    (Command::Search, TWO_CHANNELS, ""),
 ];
 
 /// The first failure of a command's streams that is told otherwise, where calls move at most so many bytes.

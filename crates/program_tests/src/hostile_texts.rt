@@ -1,7 +1,10 @@
 //! Texts that break off.
 
 use crate::told::Asked::{Check, Verify};
-use crate::told::{Asked, FIRST, FIRST_CERTIFICATE, FIRST_PLAN, Told, joined};
+use crate::told::{
+    Asked, FIRST, FIRST_CERTIFICATE, FIRST_PLAN, TWO_CHANNELS, TWO_CHANNELS_BOTH,
+    TWO_CHANNELS_BOTH_CERTIFICATE, TWO_CHANNELS_PLAN, Told, joined,
+};
 use std::alloc::{Alloc, AllocError, Global};
 use std::test::Fail;
 use std::thread::Threads;
@@ -37,10 +40,11 @@ fn ends_early(
 fn wrong_prefix(
     rt: &(impl Alloc<A = Global> + Threads + Sync),
     command: Asked,
+    instance: &[&str],
     text: &[u8],
     code: &str,
 ) -> Result<Option<usize>, AllocError> {
-    let instance = joined(rt.alloc(), FIRST)?;
+    let instance = joined(rt.alloc(), instance)?;
     for length in 0..text.len() {
         if !ends_early(rt, command, instance.as_bytes(), &text[..length], code)? {
             return Ok(Some(length));
@@ -114,13 +118,28 @@ fn wrong_instance_prefix(
 fn hostile_texts(rt: HostRuntime) -> Result<(), Fail> {
     let plan = FIRST_PLAN.as_bytes();
     assert_eq!(rt; plan.len(), 73);
-    assert_eq!(rt; wrong_prefix(&rt, Verify, plan, "plan F5")?, None);
+    assert_eq!(rt; wrong_prefix(&rt, Verify, FIRST, plan, "plan F5")?, None);
     let certificate = FIRST_CERTIFICATE.as_bytes();
     assert_eq!(rt; certificate.len(), 81);
     assert_eq!(rt;
-        wrong_prefix(&rt, Check, certificate, "certificate G5")?,
+        wrong_prefix(&rt, Check, FIRST, certificate, "certificate G5")?,
         None
     );
     assert_eq!(rt; wrong_instance_prefix(&rt)?, None);
+    Ok(())
+}
+
+#[test]
+fn texts_of_two_channels_break_off(rt: HostRuntime) -> Result<(), Fail> {
+    let plan = TWO_CHANNELS_PLAN.as_bytes();
+    let certificate = TWO_CHANNELS_BOTH_CERTIFICATE.as_bytes();
+    assert_eq!(rt;
+        wrong_prefix(&rt, Verify, TWO_CHANNELS, plan, "plan F5")?,
+        None
+    );
+    assert_eq!(rt;
+        wrong_prefix(&rt, Check, TWO_CHANNELS_BOTH, certificate, "certificate G5")?,
+        None
+    );
     Ok(())
 }

@@ -27,3 +27,5 @@ mod solves;
 mod streams;
 #[cfg(test)]
 mod told;
+#[cfg(test)]
+mod two_channels;

@@ -1,15 +1,18 @@
 //! Commands in which memory is refused: each test is run with each allocation refused in turn. A command that says so ends its test
 //! with that, so a run that meets no refusal passes by the answers alone.
 
+use crate::solves::CLUSTER_BEFORE_HORIZON;
 use crate::told::Asked::{Check, Draw, Replay, Schedule, Tables, Verify};
 use crate::told::{
     ALL_RECEIVED, Asked, CLUSTER, FIRST, FIRST_CERTIFICATE, FIRST_PARTS, FIRST_PICTURE, FIRST_PLAN,
-    FIRST_PROCESSES, FIRST_TABLES, THREE, THREE_PLAN, joined,
+    FIRST_PROCESSES, FIRST_TABLES, THREE, THREE_PLAN, TWO_CHANNELS, TWO_CHANNELS_BOTH,
+    TWO_CHANNELS_BOTH_CERTIFICATE, TWO_CHANNELS_PARTS, TWO_CHANNELS_PLAN, TWO_CHANNELS_SLOTS,
+    TWO_CHANNELS_TABLES, joined,
 };
 use command_streams::{End, report, status};
 use plan_commands::{judge_run, verify_bundle};
 use plan_picture::Shown::Used;
-use plan_sheets::Table::Processes;
+use plan_sheets::Table::{Processes, Slots};
 use solve_command::{Options, solve_run};
 use std::alloc::{Alloc, Global};
 use std::io::Cursor;
@@ -95,26 +98,60 @@ fn judgement_tells(rt: &(impl Alloc<A = Global> + Threads + Sync)) -> Result<boo
     is_told(&end, &out, "least 9\n")
 }
 
+/// A search of an instance in parts: a plan that it may find, what each one begins with, what certificates begin with, and what a
+/// whole one does.
+#[derive(Clone, Copy)]
+struct Search {
+    instance: &'static [&'static str],
+    plan: &'static str,
+    head: &'static str,
+    version: &'static str,
+    bound: &'static str,
+}
+
+const OF_FIRST: Search = Search {
+    instance: FIRST,
+    plan: FIRST_PLAN,
+    head: FIRST_PLAN,
+    version: "ttcert 1\nlow ",
+    bound: "ttcert 1\nlow 9\n",
+};
+
+/// Its shortest plans differ in who is first and on which channel, and so in no length. By a horizon of few rounds the certificate
+/// has few branches.
+const OF_TWO_CHANNELS: Search = Search {
+    instance: &[
+        CLUSTER_BEFORE_HORIZON,
+        "horizon = 7\nchannels = 2\n",
+        TWO_CHANNELS_PARTS,
+    ],
+    plan: TWO_CHANNELS_PLAN,
+    head: "ttplan 2\ndelay 6\norder B A\n",
+    version: "ttcert 2\nlow ",
+    bound: "ttcert 2\nlow 6\n",
+};
+
 /// Whether a search with this status says that memory was refused: it has written nothing, or bounds and a certificate.
-fn is_refused(status: u8, out: &Page, certificate: &Page, error: &Page) -> bool {
+fn is_refused(search: Search, status: u8, out: &Page, certificate: &Page, error: &Page) -> bool {
     match status {
         4 => has(out, "") && has(error, "memory\n"),
         7 => has(out, "") && has(error, "solve thread\n"),
         11 => begins(out, "stopped memory ")
-            && begins(certificate, "ttcert 1\nlow ")
+            && begins(certificate, search.version)
             && has(error, ""),
         _ => false,
     }
 }
 
 /// Whether a search that ended so has written the plan and a certificate. One that says that memory was refused ends the test.
-fn is_found(end: &End, out: &Page, certificate: &Page) -> Result<bool, Fail> {
+fn is_found(search: Search, end: &End, out: &Page, certificate: &Page) -> Result<bool, Fail> {
     let mut error = page();
     report(end, &mut error)?;
-    if is_refused(status(end), out, certificate, &error) {
+    if is_refused(search, status(end), out, certificate, &error) {
         return Err(MemoryFault.into());
     }
-    let is_whole = has(out, FIRST_PLAN) && begins(certificate, "ttcert 1\nlow 9\n");
+    let is_plan = begins(out, search.head) && out.position() as usize == search.plan.len();
+    let is_whole = is_plan && begins(certificate, search.bound);
     Ok(status(end) == 0 && is_whole && has(&error, ""))
 }
 
@@ -122,9 +159,10 @@ fn is_found(end: &End, out: &Page, certificate: &Page) -> Result<bool, Fail> {
 fn search_finds<R: Threads + Wait + Sync>(
     rt: &R,
     alloc: Global,
+    search: Search,
     workers: u32,
 ) -> Result<bool, Fail> {
-    let instance = joined(alloc, FIRST)?;
+    let instance = joined(alloc, search.instance)?;
     let (mut out, mut certificate) = (page(), page());
     let options = Options {
         workers,
@@ -138,7 +176,7 @@ fn search_finds<R: Threads + Wait + Sync>(
         Some(&mut certificate),
         &mut out,
     );
-    is_found(&end, &out, &certificate)
+    is_found(search, &end, &out, &certificate)
 }
 
 #[rattlefmt::skip]
@@ -149,6 +187,14 @@ static ANSWERS: &[Row] = &[
     (Replay(&[]), THREE, &[THREE_PLAN], ALL_RECEIVED),
     (Schedule(Processes), FIRST, &[FIRST_PLAN], FIRST_PROCESSES),
     (Draw(Used), FIRST, &[FIRST_PLAN], FIRST_PICTURE),
+];
+
+#[rattlefmt::skip]
+static ANSWERS_OF_TWO_CHANNELS: &[Row] = &[
+    (Verify, TWO_CHANNELS, &[TWO_CHANNELS_PLAN], "valid 6\n"),
+    (Tables, TWO_CHANNELS, &[TWO_CHANNELS_PLAN], TWO_CHANNELS_TABLES),
+    (Schedule(Slots), TWO_CHANNELS, &[TWO_CHANNELS_PLAN], TWO_CHANNELS_SLOTS),
+    (Check, TWO_CHANNELS_BOTH, &[TWO_CHANNELS_BOTH_CERTIFICATE], "bound 9\n"),
 ];
 
 #[test]
@@ -174,7 +220,29 @@ fn judgement_refused_in_turn(rt: HostRuntime) -> Result<(), Fail> {
 #[test]
 fn search_refused_in_turn(rt: HostRuntime) -> Result<(), Fail> {
     for workers in [1, 2] {
-        assert!(rt; search_finds(&rt, rt.alloc(), workers)?, "{workers}");
+        assert!(rt;
+            search_finds(&rt, rt.alloc(), OF_FIRST, workers)?,
+            "{workers}"
+        );
+    }
+    Ok(())
+}
+
+#[test]
+fn two_channels_refused_in_turn(rt: HostRuntime) -> Result<(), Fail> {
+    for (k, row) in ANSWERS_OF_TWO_CHANNELS.iter().enumerate() {
+        assert!(rt; tells(&rt, *row)?, "row {k}");
+    }
+    Ok(())
+}
+
+#[test]
+fn search_of_two_channels_refused_in_turn(rt: HostRuntime) -> Result<(), Fail> {
+    for workers in [1, 2] {
+        assert!(rt;
+            search_finds(&rt, rt.alloc(), OF_TWO_CHANNELS, workers)?,
+            "{workers}"
+        );
     }
     Ok(())
 }

@@ -65,6 +65,16 @@ fn wrong_line(alloc: Global) -> Option<usize> {
         (Refused(Fault::LossForm(3)), "usage loss 3\n", 2),
         (Refused(Fault::Memory), "memory\n", 4),
         (Refused(Fault::StatedDelay(9)), "plan D1 9\n", 5),
+        (
+            Refused(Fault::Plan(PlanFault::OverfullOn(3, 4, 1))),
+            "plan V10 3 4 1\n",
+            5,
+        ),
+        (
+            Refused(Fault::Plan(PlanFault::WrongChannel(2))),
+            "plan V11 2\n",
+            5,
+        ),
         (Refused(Fault::TooFewNodes), "replay N1\n", 5),
         (Refused(Fault::WrongLoss(0)), "replay N2 0\n", 5),
         (
@@ -150,16 +160,6 @@ fn wrong_line_of_no_text(alloc: Global) -> Option<usize> {
         (
             Refused(Fault::Plan(PlanFault::WrongLength(PlanPart::Channels))),
             "plan V1 4\n",
-            5,
-        ),
-        (
-            Refused(Fault::Plan(PlanFault::OverfullOn(3, 4, 1))),
-            "plan V10 3 4 1\n",
-            5,
-        ),
-        (
-            Refused(Fault::Plan(PlanFault::WrongChannel(2))),
-            "plan V11 2\n",
             5,
         ),
         (

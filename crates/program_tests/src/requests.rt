@@ -1,6 +1,9 @@
 //! Which words ask for which command, and which are refused.
 
-use crate::told::{ALL_RECEIVED, FIRST_CERTIFICATE, FIRST_PLAN, FIRST_TABLES};
+use crate::told::{
+    ALL_RECEIVED, FIRST_CERTIFICATE, FIRST_PLAN, FIRST_TABLES, TWO_CHANNELS_BOTH_CERTIFICATE,
+    TWO_CHANNELS_PLAN, TWO_CHANNELS_TABLES,
+};
 use command_words::{VERSION, refuse, request_in};
 use std::alloc::{AllocError, Global};
 use std::str::from_utf8;
@@ -192,6 +195,9 @@ static TEXTS: &[(&str, &str)] = &[
     (FIRST_TABLES, "ttmedl 1\n"),
     (FIRST_TABLES, "ttguard 1\n"),
     (ALL_RECEIVED, "ttreplay 1\n"),
+    (TWO_CHANNELS_PLAN, "ttplan 2\n"),
+    (TWO_CHANNELS_BOTH_CERTIFICATE, "ttcert 2\n"),
+    (TWO_CHANNELS_TABLES, "ttmedl 2\n"),
 ];
 
 /// The first text that lacks its line, or whose line the version lacks.

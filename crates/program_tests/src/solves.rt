@@ -117,17 +117,18 @@ impl Answered {
         Ok(told.is(line.as_str(), 0))
     }
 
-    /// Whether it is a valid plan of this delay, with these lines behind it, and is certified.
-    fn is_shortest(
+    /// Whether it is a valid plan of this version and delay, with these lines behind them, and is certified.
+    pub fn is_shortest(
         &self,
         rt: &(impl Alloc<A = Global> + Threads + Sync),
+        version: u32,
         delay: u32,
         lines: &str,
     ) -> Result<bool, AllocError> {
         let Ok(plan) = from_utf8(self.told.out.as_slice()) else {
             return Ok(false);
         };
-        let head = format!(in rt.alloc(); "ttplan 1\ndelay {delay}\n{lines}")?;
+        let head = format!(in rt.alloc(); "ttplan {version}\ndelay {delay}\n{lines}")?;
         Ok(
             self.told.is(plan, 0)
                 && plan.starts_with(head.as_str())
@@ -212,7 +213,7 @@ fn wrong_plan(
 ) -> Result<Option<usize>, AllocError> {
     for (k, &(instance, delay, lines)) in all.iter().enumerate() {
         let answer = solved(rt, instance, AMPLE)?;
-        if !answer.is_shortest(rt, delay, lines)? {
+        if !answer.is_shortest(rt, 1, delay, lines)? {
             return Ok(Some(k));
         }
     }
@@ -268,7 +269,7 @@ fn standing_at(
 ) -> Result<Standing, AllocError> {
     let instance = [TWO_WITH_LARGER_A, ONE_TO_TWO, TWO_MESSAGES, CLUSTER];
     let answer = solved(rt, &instance, Options { workers: 1, budget })?;
-    if answer.is_shortest(rt, 8, "order B A\ncap A 4\n")? {
+    if answer.is_shortest(rt, 1, 8, "order B A\ncap A 4\n")? {
         return Ok(Standing::Known);
     }
     if answer.is_stopped_around(rt, 8)? {

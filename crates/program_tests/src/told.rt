@@ -34,6 +34,43 @@ pub const FIRST_PICTURE: &str =
 pub const FIRST_CERTIFICATE: &str =
     "ttcert 1\nlow 9\nleaf 9 5\nes-release 0\nlo-send 0\nes-arrive 0 1\nle-own 1\nx-window 1\n";
 
+/// A bus of two channels: p on A sends m1 to q1 and m2 to q2, both on B, and each of A's frames holds one of them.
+pub const TWO_CHANNELS: &[&str] = &[CLUSTER, "channels = 2\n", TWO_CHANNELS_PARTS];
+
+pub const TWO_CHANNELS_PARTS: &str =
+    "[[node]]\nname = \"A\"\ncapacities = [2]\n[[node]]\nname = \"B\"\ncapacities = [0]\n[[process]]\nname = \"p\"\nnode = \"A\"\nwcet = 1\n[[process]]\nname = \"q1\"\nnode = \"B\"\nwcet = 1\n[[process]]\nname = \"q2\"\nnode = \"B\"\nwcet = 1\n[[message]]\nname = \"m1\"\nfrom = \"p\"\nto = [\"q1\"]\nbytes = 2\n[[message]]\nname = \"m2\"\nfrom = \"p\"\nto = [\"q2\"]\nbytes = 2\n";
+
+/// The same, where m2 is to be on both channels.
+pub const TWO_CHANNELS_BOTH: &[&str] = &[
+    CLUSTER,
+    "channels = 2\n",
+    TWO_CHANNELS_PARTS,
+    "both = true\n",
+];
+
+/// A plan of it but for the lines of channels, the plan with m1 on channel 0 and m2 on channel 1, and its tables and slots.
+pub const TWO_CHANNELS_LINES: &str =
+    "ttplan 2\ndelay 6\norder B A\ncap A 2\ncap B 0\nstart p 0\nstart q1 4\nstart q2 5\nround m1 0\nround m2 0\n";
+
+pub const TWO_CHANNELS_PLAN: &str =
+    "ttplan 2\ndelay 6\norder B A\ncap A 2\ncap B 0\nstart p 0\nstart q1 4\nstart q2 5\nround m1 0\nround m2 0\nchan m1 0\nchan m2 1\n";
+
+pub const TWO_CHANNELS_TABLES: &str =
+    "ttmedl 2\nrounds 2\nnode A\nrow 0 0 B 0\nrow 0 1 A 2 m1:0:0 m2:1:0\nrow 1 0 B 0\nrow 1 1 A 2\nnode B\nrow 0 0 B 0\nrow 0 1 A 2 m1:0:0 m2:1:0\nrow 1 0 B 0\nrow 1 1 A 2\nttguard 1\nwindow 0 B 0 1\nwindow 0 A 1 4\nwindow 1 B 4 5\nwindow 1 A 5 8\n";
+
+pub const TWO_CHANNELS_SLOTS: &str =
+    "round,position,channel,node,start,frame,frame_end,end,capacity,used,messages\n0,0,0,B,0,0,1,1,0,0,\n0,0,1,B,0,0,1,1,0,0,\n0,1,0,A,1,1,4,4,2,2,m1\n0,1,1,A,1,1,4,4,2,2,m2\n1,0,0,B,4,4,5,5,0,0,\n1,0,1,B,4,4,5,5,0,0,\n1,1,0,A,5,5,8,8,2,0,\n1,1,1,A,5,5,8,8,2,0,\n";
+
+/// Where m2 is to be on both channels: a plan, when each message is there, and a certificate of the plan's delay.
+pub const TWO_CHANNELS_BOTH_PLAN: &str =
+    "ttplan 2\ndelay 9\norder B A\ncap A 2\ncap B 0\nstart p 0\nstart q1 4\nstart q2 8\nround m1 0\nround m2 1\nchan m1 0\nchan m2 both\n";
+
+pub const TWO_CHANNELS_BOTH_MESSAGES: &str =
+    "message,sender,receiver,bytes,round,channel,node,ready,slot,slot_end,arrived,needed\nm1,p,q1,2,0,0,A,1,1,4,4,4\nm2,p,q2,2,1,both,A,1,5,8,8,8\n";
+
+pub const TWO_CHANNELS_BOTH_CERTIFICATE: &str =
+    "ttcert 2\nlow 9\nplace 2\nleaf 9 9\nlo-send 0\nlo-send 1\nes-arrive 0 1\nes-arrive 1 2\nle-own 1\nle-own 2\nord-window 1 2\nes-before 1 2\nx-window 2\nround 0 0\nround 1 0\nchan 0 3\nleaf 101 1\nx-channel 0 0 0 1\nleaf 101 1\nx-channel 1 0 0 1\nleaf 101 1\nx-channel 0 0 0 1\nleaf 9 3\nes-arrive 1 2\nle-own 2\nx-window 2\nleaf 9 3\nes-arrive 0 1\nle-own 1\nx-window 1\n";
+
 /// A process of 3 ticks on one of three nodes, and the traces where all frames are received and where A's is lost.
 pub const THREE: &[&str] = &[
     CLUSTER,

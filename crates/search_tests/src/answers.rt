@@ -2,15 +2,16 @@
 
 use crate::books::Books;
 use crate::instances::Sample;
+use certificate::{Cert, Version};
 use planner::{Manner, Options, Outcome, SolveFault, Why, solve, solve_in, solve_with};
 use std::alloc::Global;
 use std::sync::Wait;
 use std::test::Fail;
 use std::thread::Threads;
 use tree_check::check;
-use ttp_model::{Instance, Plan};
+use ttp_model::{BOTH_CHANNELS, Instance, Plan};
 
-/// An answer in ticks. Its plan has the delay that is stated, and its certificate proves the bound.
+/// An answer in ticks. Its plan has the delay that is stated, and its certificate proves the bound, in its instance's version.
 #[derive(Clone, Copy)]
 pub struct Answer {
     /// Why the search stopped, where it doesn't know the least delay.
@@ -21,6 +22,8 @@ pub struct Answer {
     pub delay: Option<u64>,
     /// How many nodes the certificate has.
     pub nodes: u64,
+    /// How many channels the plan's messages are on; none where there is no plan.
+    pub channels: u32,
 }
 
 impl Answer {
@@ -54,20 +57,47 @@ fn judged(instance: &Instance, plan: &Plan, delay: u64) -> Result<u64, Fail> {
     Err("the plan hasn't this delay".into())
 }
 
+/// Whether a plan's messages are on this channel, be it beside the other one.
+fn is_used(plan: &Plan, channel: u32) -> bool {
+    let channels = plan.channels.as_slice();
+    channels
+        .iter()
+        .any(|number| *number == channel || *number == BOTH_CHANNELS)
+}
+
+/// How many channels a plan's messages are on.
+fn channels_of(plan: &Plan) -> u32 {
+    u32::from(is_used(plan, 0)) + u32::from(is_used(plan, 1))
+}
+
+/// The bound that a certificate proves; an error where it proves none, or is in another version than the instance's.
+fn proved(alloc: Global, instance: &Instance, cert: &Cert) -> Result<u64, Fail> {
+    let version = match instance.cluster().channels {
+        1 => Version::One,
+        _ => Version::Two,
+    };
+    if cert.version() != version {
+        return Err("the certificate is in another version".into());
+    }
+    Ok(u64::from(check(alloc, instance, cert)?))
+}
+
 /// An outcome in numbers; an error where its plan or its certificate is wrong.
 pub fn read(alloc: Global, instance: &Instance, outcome: &Outcome) -> Result<Answer, Fail> {
     match outcome {
         Outcome::Optimal { plan, delay, cert } => Ok(Answer {
             stopped: None,
-            low: u64::from(check(alloc, instance, cert)?),
+            low: proved(alloc, instance, cert)?,
             delay: Some(judged(instance, plan, *delay)?),
             nodes: cert.nodes().len() as u64,
+            channels: channels_of(plan),
         }),
         Outcome::Infeasible { cert } => Ok(Answer {
             stopped: None,
-            low: u64::from(check(alloc, instance, cert)?),
+            low: proved(alloc, instance, cert)?,
             delay: None,
             nodes: cert.nodes().len() as u64,
+            channels: 0,
         }),
         Outcome::Stopped {
             why,
@@ -75,18 +105,19 @@ pub fn read(alloc: Global, instance: &Instance, outcome: &Outcome) -> Result<Ans
             best,
             cert,
         } => {
-            if check(alloc, instance, cert)? != *low {
+            if proved(alloc, instance, cert)? != u64::from(*low) {
                 return Err("the certificate proves another bound".into());
             }
-            let delay = match best {
-                Some((plan, delay)) => Some(judged(instance, plan, *delay)?),
-                None => None,
+            let (delay, channels) = match best {
+                Some((plan, delay)) => (Some(judged(instance, plan, *delay)?), channels_of(plan)),
+                None => (None, 0),
             };
             Ok(Answer {
                 stopped: Some(*why),
                 low: u64::from(*low),
                 delay,
                 nodes: cert.nodes().len() as u64,
+                channels,
             })
         }
     }

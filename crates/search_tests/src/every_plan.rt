@@ -1,6 +1,6 @@
 //! Least delays of worked examples, by trying every plan of them.
 
-use crate::instances::{ONE_MESSAGE, Sample, THREE_ALIKE};
+use crate::instances::{DOUBLED, ONE_MESSAGE, Sample, THREE_ALIKE, TWO_CHANNELS};
 use exhaustive::least_delay;
 use std::alloc::Global;
 use std::test::Fail;
@@ -65,6 +65,38 @@ const LEAST: &[(Sample, Option<u64>)] = &[
             ..TWO_MESSAGES
         },
         Some(9),
+    ),
+    (
+        Sample {
+            name: "two messages, a channel each",
+            horizon: 6,
+            ..TWO_CHANNELS
+        },
+        Some(6),
+    ),
+    (
+        Sample {
+            name: "two channels within 5 ticks",
+            horizon: 5,
+            ..TWO_CHANNELS
+        },
+        None,
+    ),
+    (
+        Sample {
+            name: "two messages, one on both channels",
+            horizon: 9,
+            ..DOUBLED
+        },
+        Some(9),
+    ),
+    (
+        Sample {
+            name: "one on both channels within 8 ticks",
+            horizon: 8,
+            ..DOUBLED
+        },
+        None,
     ),
     (RELEASED_LATE, Some(5)),
     (

@@ -57,36 +57,51 @@ impl Draws {
 /// How many there are of each: few enough for every plan to be tried.
 #[derive(Clone, Copy)]
 struct Sizes {
+    channels: u32,
     nodes: u32,
     processes: u32,
     messages: u32,
 }
 
 const ONE_NODE: Sizes = Sizes {
+    channels: 1,
     nodes: 1,
     processes: 3,
     messages: 0,
 };
 
 const TWO_MESSAGES: Sizes = Sizes {
+    channels: 1,
     nodes: 2,
     processes: 2,
     messages: 2,
 };
 
 const THREE_PROCESSES: Sizes = Sizes {
+    channels: 1,
     nodes: 2,
     processes: 3,
     messages: 1,
 };
 
 const THREE_NODES: Sizes = Sizes {
+    channels: 1,
     nodes: 3,
     processes: 2,
     messages: 1,
 };
 
-fn cluster(draws: &mut Draws) -> Cluster {
+/// The same sizes on a bus of two channels.
+macro_rules! on_two {
+    ($sizes:expr) => {
+        Sizes {
+            channels: 2,
+            ..$sizes
+        }
+    };
+}
+
+fn cluster(draws: &mut Draws, channels: u32) -> Cluster {
     let precision = draws.seldom();
     Cluster {
         precision,
@@ -97,7 +112,7 @@ fn cluster(draws: &mut Draws) -> Cluster {
         copy_out: draws.rarely(),
         copy_in: draws.rarely(),
         horizon: 8 + draws.up_to(4),
-        channels: 1,
+        channels,
     }
 }
 
@@ -191,16 +206,21 @@ fn links(
     Ok(links)
 }
 
-/// At most `count` messages of 1 or 2 bytes.
+/// Whether a message is to be on both channels: where there are two, at one time in three.
+fn is_doubled(draws: &mut Draws, channels: u32) -> bool {
+    channels == 2 && draws.up_to(2) == 0
+}
+
+/// At most as many messages as there may be, of 1 or 2 bytes.
 fn messages(
     alloc: Global,
     draws: &mut Draws,
     processes: &[Process],
     backwards: bool,
-    count: u32,
+    sizes: Sizes,
 ) -> Result<Vec<Message>, Fail> {
     let mut messages = Vec::new(alloc);
-    for number in 0..count {
+    for number in 0..sizes.messages {
         let near = if processes.len() > 2 {
             draws.up_to(1)
         } else {
@@ -218,7 +238,7 @@ fn messages(
                 name: name(alloc, "m", number as usize)?,
                 receivers: Numbers::new(receivers),
                 bytes: 1 + draws.rarely(),
-                both: false,
+                both: is_doubled(draws, sizes.channels),
             })?;
         }
     }
@@ -228,82 +248,166 @@ fn messages(
 /// The instance of a number.
 fn instance(alloc: Global, sizes: Sizes, number: u32) -> Result<Instance, Fail> {
     let mut draws = Draws::new(number);
-    let cluster = cluster(&mut draws);
+    let cluster = cluster(&mut draws, sizes.channels);
     let nodes = nodes(alloc, &mut draws, sizes.nodes)?;
     let processes = processes(alloc, &mut draws, sizes)?;
     let backwards = draws.up_to(1) == 1;
     let links = links(alloc, &mut draws, processes.as_slice(), backwards)?;
-    let messages = messages(
-        alloc,
-        &mut draws,
-        processes.as_slice(),
-        backwards,
-        sizes.messages,
-    )?;
+    let messages = messages(alloc, &mut draws, processes.as_slice(), backwards, sizes)?;
     Ok(Instance::build(alloc, cluster, nodes, processes, links, messages)?)
 }
 
-/// One worker, and more subtrees than any of these instances has.
-const BUDGET: Options = Options {
-    workers: 1,
-    budget: 100_000,
-};
+/// More subtrees than any of these instances has.
+const BUDGET: u64 = 100_000;
 
-/// The least delay of an instance, and whether it has that answer too where it is solved in both manners.
+/// What came of an instance.
+#[derive(Clone, Copy)]
+struct Found {
+    /// Its least delay, by trying every plan.
+    least: Option<u64>,
+    /// Whether each search has that answer too.
+    is_same: bool,
+    /// Whether the shortest plan that one worker finds has messages on both channels.
+    is_on_both: bool,
+}
+
+/// The least delay of an instance, and what is answered by so many workers each, in both manners.
 fn compared<R: Threads + Wait + Sync>(
     rt: &R,
     alloc: Global,
-    sizes: Sizes,
-    number: u32,
-) -> Result<(Option<u64>, bool), Fail> {
-    let instance = instance(alloc, sizes, number)?;
-    let least = least_delay(alloc, &instance)?;
+    instance: &Instance,
+    counts: &[u32],
+) -> Result<Found, Fail> {
+    let least = least_delay(alloc, instance)?;
     let low = least.unwrap_or(u64::from(instance.past_horizon()));
     let mut is_same = true;
-    for manner in MANNERS {
-        let answer = solved(rt, alloc, &instance, BUDGET, *manner)??;
-        is_same = is_same && answer.is_least(least) && answer.low == low;
+    let mut is_on_both = false;
+    for workers in counts {
+        let (workers, budget) = (*workers, BUDGET);
+        for manner in MANNERS {
+            let answer = solved(rt, alloc, instance, Options { workers, budget }, *manner)??;
+            is_same = is_same && answer.is_least(least) && answer.low == low;
+            is_on_both = is_on_both || workers == 1 && answer.channels == 2;
+        }
     }
-    Ok((least, is_same))
+    Ok(Found {
+        least,
+        is_same,
+        is_on_both,
+    })
 }
 
-/// How many instances of each sizes there are.
-const INSTANCES: u32 = 40;
+/// The same of the instance of a number.
+fn compared_at<R: Threads + Wait + Sync>(
+    rt: &R,
+    alloc: Global,
+    row: &Row,
+    number: u32,
+) -> Result<Found, Fail> {
+    let instance = instance(alloc, row.sizes, number)?;
+    compared(rt, alloc, &instance, row.workers)
+}
 
-/// Compares instances, some of which have a plan and some have none.
-fn compare<R: Abort + Threads + Wait + Sync>(
+/// Instances of some sizes, and how many workers solve them.
+#[derive(Clone, Copy)]
+struct Row {
+    sizes: Sizes,
+    /// How many instances there are: those of the first numbers.
+    count: u32,
+    workers: &'static [u32],
+    /// At least how many have a shortest plan on both channels.
+    on_both: u32,
+}
+
+/// Compares the instances of a row, some of which have a plan and some have none.
+fn compare<R: Abort + Threads + Wait + Sync>(rt: &R, alloc: Global, row: &Row) -> Result<(), Fail> {
+    let mut with = 0u32;
+    let mut on_both = 0u32;
+    for number in 0..row.count {
+        let found = compared_at(rt, alloc, row, number)?;
+        assert!(rt; found.is_same, "instance {number}");
+        with = with.saturating_add(u32::from(found.least.is_some()));
+        on_both = on_both.saturating_add(u32::from(found.is_on_both));
+    }
+    let without = row.count.saturating_sub(with);
+    let are_many = with >= 10 && without >= 3 && on_both >= row.on_both;
+    assert!(rt; are_many, "{with} with a plan, {on_both} on both channels");
+    Ok(())
+}
+
+/// Compares forty instances of one channel, by one worker.
+fn compare_forty<R: Abort + Threads + Wait + Sync>(
     rt: &R,
     alloc: Global,
     sizes: Sizes,
 ) -> Result<(), Fail> {
-    let mut with = 0u32;
-    for number in 0..INSTANCES {
-        let (least, is_same) = compared(rt, alloc, sizes, number)?;
-        assert!(rt; is_same, "instance {number}");
-        if least.is_some() {
-            with = with.saturating_add(1);
-        }
-    }
-    assert!(rt; with >= 10 && with <= INSTANCES - 3, "{with} with a plan");
-    Ok(())
+    let row = Row {
+        sizes,
+        count: 40,
+        workers: &[1],
+        on_both: 0,
+    };
+    compare(rt, alloc, &row)
 }
 
 #[test]
 fn on_one_node_every_plan_was_thought_of(rt: HostRuntime) -> Result<(), Fail> {
-    compare(&rt, rt.alloc(), ONE_NODE)
+    compare_forty(&rt, rt.alloc(), ONE_NODE)
 }
 
 #[test]
 fn with_two_messages_every_plan_was_thought_of(rt: HostRuntime) -> Result<(), Fail> {
-    compare(&rt, rt.alloc(), TWO_MESSAGES)
+    compare_forty(&rt, rt.alloc(), TWO_MESSAGES)
 }
 
 #[test]
 fn with_three_processes_every_plan_was_thought_of(rt: HostRuntime) -> Result<(), Fail> {
-    compare(&rt, rt.alloc(), THREE_PROCESSES)
+    compare_forty(&rt, rt.alloc(), THREE_PROCESSES)
 }
 
 #[test]
 fn on_three_nodes_every_plan_was_thought_of(rt: HostRuntime) -> Result<(), Fail> {
-    compare(&rt, rt.alloc(), THREE_NODES)
+    compare_forty(&rt, rt.alloc(), THREE_NODES)
+}
+
+/// How many workers solve each instance of two channels.
+const COUNTS: &[u32] = &[1, 2, 16];
+
+/// A hundred instances of two channels, most of which have two messages.
+const TWO_MESSAGES_ON_TWO: Row = Row {
+    sizes: on_two!(TWO_MESSAGES),
+    count: 100,
+    workers: COUNTS,
+    on_both: 20,
+};
+
+/// A hundred of which none has more than one.
+const ONE_MESSAGE_ON_TWO: &[Row] = &[
+    Row {
+        sizes: on_two!(THREE_PROCESSES),
+        count: 50,
+        workers: COUNTS,
+        on_both: 0,
+    },
+    Row {
+        sizes: on_two!(THREE_NODES),
+        count: 50,
+        workers: COUNTS,
+        on_both: 0,
+    },
+];
+
+#[test]
+fn with_two_messages_on_two_channels_every_plan_was_thought_of(
+    rt: HostRuntime,
+) -> Result<(), Fail> {
+    compare(&rt, rt.alloc(), &TWO_MESSAGES_ON_TWO)
+}
+
+#[test]
+fn with_one_message_on_two_channels_every_plan_was_thought_of(rt: HostRuntime) -> Result<(), Fail> {
+    for row in ONE_MESSAGE_ON_TWO {
+        compare(&rt, rt.alloc(), row)?;
+    }
+    Ok(())
 }

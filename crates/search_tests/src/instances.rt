@@ -12,6 +12,7 @@ use worked_instances::PLAIN;
 pub struct Sample {
     pub name: &'static str,
     pub horizon: u32,
+    pub channels: u32,
     /// Each node's capacities.
     pub nodes: &'static [&'static [u32]],
     /// Each process's node and time, and the ticks from which and by which it runs.
@@ -20,6 +21,8 @@ pub struct Sample {
     pub links: &'static [(u32, u32)],
     /// Each message's sender, receiver and bytes.
     pub messages: &'static [(u32, u32, u32)],
+    /// Which messages are to be on both channels.
+    pub doubled: &'static [u32],
 }
 
 /// A release and a deadline.
@@ -32,10 +35,12 @@ const ANY: Window = (0, MOST_TICKS);
 pub const ONE_MESSAGE: Sample = Sample {
     name: "one message",
     horizon: 100,
+    channels: 1,
     nodes: &[&[2], &[0]],
     processes: &[(0, 3, ANY), (1, 2, ANY)],
     links: &[],
     messages: &[(0, 1, 2)],
+    doubled: &[],
 };
 
 /// Three processes of 2 ticks on one node.
@@ -91,6 +96,21 @@ pub const TWO_RECEIVERS: Sample = Sample {
     processes: &[(0, 1, ANY), (1, 1, ANY), (1, 1, ANY)],
     messages: &[(0, 1, 2), (0, 2, 2)],
     ..NO_FRAME
+};
+
+/// The same on a bus of two channels, where the slot carries 2 bytes on each.
+pub const TWO_CHANNELS: Sample = Sample {
+    name: "two channels",
+    channels: 2,
+    nodes: &[&[2], &[0]],
+    ..TWO_RECEIVERS
+};
+
+/// The same where the second message is to be on both.
+pub const DOUBLED: Sample = Sample {
+    name: "two channels, a message on both",
+    doubled: &[1],
+    ..TWO_CHANNELS
 };
 
 /// A process of 1 tick on node 0 sends 2 bytes to one of 1 tick on node 1.
@@ -200,6 +220,8 @@ pub const LEAST_DELAYS: &[(Sample, Option<u64>)] = &[
     (OVERFULL, Some(13)),
     (UNEQUAL, Some(5)),
     (TWO_RECEIVERS, Some(8)),
+    (TWO_CHANNELS, Some(6)),
+    (DOUBLED, Some(9)),
     (
         Sample {
             name: "short receiver after two ticks, of two lengths",
@@ -262,15 +284,19 @@ fn links(alloc: Global, rows: &[(u32, u32)]) -> Result<Vec<Link>, AllocError> {
     Ok(links)
 }
 
-fn messages(alloc: Global, rows: &[(u32, u32, u32)]) -> Result<Vec<Message>, AllocError> {
+fn messages(
+    alloc: Global,
+    rows: &[(u32, u32, u32)],
+    doubled: &[u32],
+) -> Result<Vec<Message>, AllocError> {
     let mut messages = Vec::new(alloc);
-    for (sender, receiver, bytes) in rows {
+    for (number, (sender, receiver, bytes)) in rows.iter().enumerate() {
         messages.push(Message {
-            name: name(alloc, "m", messages.len())?,
+            name: name(alloc, "m", number)?,
             sender: *sender,
             receivers: Numbers::new(vec![in alloc; *receiver]?),
             bytes: *bytes,
-            both: false,
+            both: doubled.iter().any(|message| *message as usize == number),
         })?;
     }
     Ok(messages)
@@ -280,12 +306,13 @@ impl Sample {
     pub fn build(&self, alloc: Global) -> Result<Instance, ModelError> {
         let cluster = Cluster {
             horizon: self.horizon,
+            channels: self.channels,
             ..PLAIN
         };
         let nodes = nodes(alloc, self.nodes)?;
         let processes = processes(alloc, self.processes)?;
         let links = links(alloc, self.links)?;
-        let messages = messages(alloc, self.messages)?;
+        let messages = messages(alloc, self.messages, self.doubled)?;
         Instance::build(alloc, cluster, nodes, processes, links, messages)
     }
 }

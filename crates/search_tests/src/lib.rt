@@ -36,4 +36,6 @@ mod subtrees;
 #[cfg(test)]
 mod trees;
 #[cfg(test)]
+mod two_channels;
+#[cfg(test)]
 mod two_workers;

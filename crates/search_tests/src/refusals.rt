@@ -3,7 +3,7 @@
 ghost use Rattle.std.specs.Prelude.{◌≡◌};
 
 use crate::answers::{MANNERS, solved};
-use crate::instances::TWO_RECEIVERS;
+use crate::instances::{Sample, TWO_CHANNELS, TWO_RECEIVERS};
 use crate::one_thread::lone_report;
 use crate::trees::{Indices, add_name, add_pieces, add_tasks, are_tree};
 use planner::{Manner, Options, SolveFault, Why};
@@ -16,7 +16,7 @@ use std::thread::Threads;
 use steal_pool::{Hand, Searched};
 use ttp_model::{Instance, MemoryFault};
 
-/// What is told of an instance whose least delay is 8.
+/// What is told of an instance whose least delay is known.
 #[derive(Clone, Copy, PartialEq, Eq)]
 enum Told {
     /// That it is least.
@@ -64,36 +64,55 @@ impl Tally {
     }
 }
 
-/// What so many workers tell.
+/// What so many workers tell of an instance with this least delay.
 fn told_by_workers<R: Threads + Wait + Sync>(
     rt: &R,
     alloc: Global,
-    instance: &Instance,
+    (instance, least): (&Instance, u64),
     workers: u32,
     manner: Manner,
 ) -> Result<Told, Fail> {
     let budget = 1_000;
     Ok(
         match solved(rt, alloc, instance, Options { workers, budget }, manner)? {
-            Ok(answer) if answer.is_least(Some(8)) => Told::Least,
-            Ok(answer) if answer.is_right(8, Why::Memory) => Told::Refused,
+            Ok(answer) if answer.is_least(Some(least)) => Told::Least,
+            Ok(answer) if answer.is_right(least, Why::Memory) => Told::Refused,
             Ok(_) => Told::Wrong,
             Err(SolveFault::Memory | SolveFault::Thread) => Told::Refused,
         },
     )
 }
 
+/// What is told by one worker and by two, in both manners, of an instance with this least delay.
+fn tell<R: Threads + Wait + Sync>(
+    rt: &R,
+    alloc: Global,
+    sample: &Sample,
+    least: u64,
+) -> Result<Tally, Fail> {
+    let instance = sample.build(alloc)?;
+    let mut tally = Tally::none();
+    for workers in &[1, 2] {
+        for manner in MANNERS {
+            tally.add(told_by_workers(rt, alloc, (&instance, least), *workers, *manner)?);
+        }
+    }
+    Ok(tally)
+}
+
 /// Run with each allocation refused in turn: the answer is the same, or has bounds that hold, or the refusal is told. Where none
 /// is refused, the answer is that 8 ticks are least.
 #[test]
 fn refused_in_turn(rt: HostRuntime) -> Result<(), Fail> {
-    let instance = TWO_RECEIVERS.build(rt.alloc())?;
-    let mut tally = Tally::none();
-    for workers in &[1, 2] {
-        for manner in MANNERS {
-            tally.add(told_by_workers(&rt, rt.alloc(), &instance, *workers, *manner)?);
-        }
-    }
+    let tally = tell(&rt, rt.alloc(), &TWO_RECEIVERS, 8)?;
+    assert!(rt; tally.is_right());
+    tally.end()
+}
+
+/// The same on two channels, where 6 ticks are least.
+#[test]
+fn two_channels_refused_in_turn(rt: HostRuntime) -> Result<(), Fail> {
+    let tally = tell(&rt, rt.alloc(), &TWO_CHANNELS, 6)?;
     assert!(rt; tally.is_right());
     tally.end()
 }

@@ -1,9 +1,9 @@
 -- How often messages count, by the channels that are fixed for them.
-use Rattle.std.proofs.Common.{◌≡◌, ℕ, ◌*◌, ◌<◌, ◌≤◌, ◌==◌, if◌then◌else◌, Bool, true, false, length, Option, None, Some, arith, refl}
+use Rattle.std.proofs.Common.{◌≡◌, ℕ, ◌<◌, ◌≤◌, ◌==◌, if◌then◌else◌, Bool, true, false, length, Option, None, Some, arith, refl}
 use Rattle.ttp_model.specs.Instance.{Instance}
 use Rattle.ttp_model.specs.Totals.{total}
 use Rattle.ttp_model.proofs.Totals.{total_same}
-use Rattle.tt_choice.specs.Choice.{Choice, IsChoice, fixed_channel}
+use Rattle.tt_choice.specs.Choice.{Choice, IsChoice}
 use Rattle.tt_choice.proofs.Channels.{only_channel}
 use Rattle.sought_plans.specs.Known.{Known}
 use Rattle.sought_plans.specs.Premises.{bytes_within, copies_of, copies, bytes_copied}

@@ -136,7 +136,7 @@ fn carried_over<'a>(
     ensures { IfOk result (FollowsFrom level.now.facts.instance
         (choice_after level.now.facts.instance level.now.facts.choice decision) level.now.facts.goal) }
 {
-    // No other decision leaves all as it is but for an order.
+    // No other decision keeps its log: a channel could, since no step that sharpens reads one.
     if let Decision::Before(p, q) = decision {
         let facts = level.facts();
         let _instance = facts.instance();

@@ -1,5 +1,5 @@
 -- Two messages that fill a frame each, in one round of two channels: what is too much for a half, and what for both.
-use Rattle.std.proofs.Common.{◌≡◌, ℕ, ◌<◌, [], ◌∷◌, false, arith, refl}
+use Rattle.std.proofs.Common.{ℕ, ◌<◌, [], ◌∷◌, false, arith, refl}
 use Rattle.ttp_model.specs.declared.step.Step.TheVariants.{XFrames, XChannel}
 use Rattle.ttp_model.specs.Worked.{one_message, two_messages}
 use Rattle.tt_choice.specs.Branches.{root_choice}

@@ -4,7 +4,6 @@ pub mod TurnSteps
 pub mod Paths
 pub mod ClosedWalks
 pub mod RuleOrder
-pub mod OneChannel
 pub mod Channels
 pub mod Elements
 pub mod KeyedNumbers

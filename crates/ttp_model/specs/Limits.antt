@@ -44,7 +44,7 @@ most_bytes = 1000
 
 -- the channels of a cluster
 abbrev pub most_channels : ℕ
-most_channels = 1
+most_channels = 2
 
 -- what stands in a plan for both channels
 abbrev pub both_channels : ℕ

@@ -34,7 +34,7 @@ pub const MOST_PER_BYTE: u32 = 1_000;
 pub const MOST_BYTES: u32 = 1_000;
 
 /// The channels of a cluster.
-pub const MOST_CHANNELS: u32 = 1;
+pub const MOST_CHANNELS: u32 = 2;
 
 /// The number that stands in a plan for both channels.
 pub const BOTH_CHANNELS: u32 = 2;

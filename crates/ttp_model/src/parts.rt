@@ -23,7 +23,7 @@ pub struct Cluster {
     pub copy_in: u32,
     /// The latest end of any process, 1 to 1,000,000.
     pub horizon: u32,
-    /// How many channels the bus has: 1.
+    /// How many channels the bus has: 1 or 2.
     pub channels: u32,
 }
 

@@ -1,5 +1,5 @@
 -- An instance with one more part, which stands last in its list.
-use Rattle.std.specs.Prelude.{ℕ, List, [], ◌∷◌, ◌++◌, false}
+use Rattle.std.specs.Prelude.{ℕ, Bool, List, [], ◌∷◌, ◌++◌, false}
 use Rattle.ttp_model.specs.Instance.{Instance}
 
 -- with a node of these capacities
@@ -23,9 +23,13 @@ with_process i name node wcet = with_process_within i name node wcet 0 1000000
 abbrev pub with_link : Instance → ℕ → ℕ → Instance
 with_link i before after = record i { links = i.links ++ (record { before = before; after = after } ∷ []) }
 
--- with a message of so many bytes to one receiver
-abbrev pub with_message : Instance → List ℕ → ℕ → ℕ → ℕ → Instance
-with_message i name sender receiver bytes = record i {
+-- with a message of so many bytes to one receiver, which is to be on both channels or needn't
+abbrev pub with_message_on : Instance → List ℕ → ℕ → ℕ → ℕ → Bool → Instance
+with_message_on i name sender receiver bytes both = record i {
   messages = i.messages
-      ++ (record { name = name; sender = sender; receivers = receiver ∷ []; bytes = bytes; both = false } ∷ []);
+      ++ (record { name = name; sender = sender; receivers = receiver ∷ []; bytes = bytes; both = both } ∷ []);
 }
+
+-- with one that needs one channel alone
+abbrev pub with_message : Instance → List ℕ → ℕ → ℕ → ℕ → Instance
+with_message i name sender receiver bytes = with_message_on i name sender receiver bytes false

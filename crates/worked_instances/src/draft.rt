@@ -3,7 +3,7 @@
 ghost use Rattle.std.specs.Prelude.{◌≡◌, IfErr, IfOk, []};
 ghost use Rattle.ttp_model.specs.Instance.{instance_with};
 ghost use Rattle.ttp_model.specs.Refusals.{IsRefusal};
-ghost use Rattle.worked_instances.specs.Drafts.{with_link, with_message, with_node, with_process, with_process_within};
+ghost use Rattle.worked_instances.specs.Drafts.{with_link, with_message, with_message_on, with_node, with_process, with_process_within};
 
 use std::alloc::{AllocError, Global};
 use std::marker::Model;
@@ -107,15 +107,29 @@ impl Draft {
         Ok(self)
     }
 
-    /// With one more message, which has one receiver.
+    /// With one more message, which has one receiver and needs one channel alone.
     pub fn message(
-        mut self,
+        self,
         name: &str,
         sender: u32,
         receiver: u32,
         bytes: u32,
     ) -> Result<Self, AllocError>
         ensures { IfOk result (λ draft. draft ≡ with_message self name.now sender receiver bytes) }
+    {
+        self.message_on(name, sender, receiver, bytes, false)
+    }
+
+    /// With one more message, which has one receiver and is to be on both channels or needn't.
+    pub fn message_on(
+        mut self,
+        name: &str,
+        sender: u32,
+        receiver: u32,
+        bytes: u32,
+        both: bool,
+    ) -> Result<Self, AllocError>
+        ensures { IfOk result (λ draft. draft ≡ with_message_on self name.now sender receiver bytes both) }
     {
         let name = Name::new(String::from_str(self.alloc, name)?);
         let receivers = Numbers::new(vec![in self.alloc; receiver]?);
@@ -124,7 +138,7 @@ impl Draft {
             sender,
             receivers,
             bytes,
-            both: false,
+            both,
         })?;
         Ok(self)
     }

@@ -2,7 +2,7 @@
 //! plain cluster.
 
 ghost use Rattle.std.specs.Prelude.{◌≡◌, IfOk};
-ghost use Rattle.ttp_model.specs.Worked.{three_alike};
+ghost use Rattle.ttp_model.specs.Worked.{three_alike, two_messages};
 ghost use Rattle.worked_instances.specs.Instances.{in_a_hurry, one_message_on, overfull, three_linked, too_large, two_alike};
 
 use crate::draft::{Draft, PLAIN};
@@ -34,6 +34,26 @@ pub fn overfull(alloc: Global) -> Result<Instance, ModelError>
         .process("q", 1, 1)?
         .message("m1", 0, 1, 2)?
         .message("m2", 0, 1, 3)?
+        .build()
+}
+
+/// On a bus of two channels process p of 1 tick on A sends 2 bytes to each of q and r of 1 tick on B, and A's frames hold 2. The
+/// second message is to be on both channels, and the shortest plan takes 9 ticks, or needn't, and it takes 6.
+pub fn two_messages(alloc: Global, both: bool) -> Result<Instance, ModelError>
+    ensures { IfOk result (λ i. i ≡ two_messages both) }
+{
+    let cluster = Cluster {
+        channels: 2,
+        ..PLAIN
+    };
+    Draft::of(alloc, cluster)
+        .node("A", &[2])?
+        .node("B", &[0])?
+        .process("p", 0, 1)?
+        .process("q", 1, 1)?
+        .process("r", 1, 1)?
+        .message("m", 0, 1, 2)?
+        .message_on("l", 0, 2, 2, both)?
         .build()
 }
 

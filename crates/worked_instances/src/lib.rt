@@ -7,6 +7,6 @@ mod plans;
 
 pub use draft::{Draft, PLAIN};
 pub use instances::{
-    deadline, no_frame, one_message, overfull, three_alike, three_linked, two_alike,
+    deadline, no_frame, one_message, overfull, three_alike, three_linked, two_alike, two_messages,
 };
 pub use plans::plan;

@@ -3,9 +3,14 @@
 use super::{Row, replay};
 use crate::instances::Small;
 use std::test::Fail;
-use tt_choice::Decision::{AtMost, Before};
+use tt_choice::Decision::{AtMost, Before, Channel};
 use tt_infer::StepFault::{NoPremise, NoSuchIndex};
 use worked_instances::PLAIN;
+
+/// What is known of two messages on two channels where both go in round 0, and once no plan is left.
+const IN_ONE_ROUND: &str = "0..100 0..100 0..100 m 0..1 m 0..1 open";
+
+const NOT_IN_ONE_ROUND: &str = "0..100 0..100 0..100 m 0..1 m 0..1 closed";
 
 /// Steps to a closer, and steps to one that is just not taken.
 static ROWS: &[Row] = &[
@@ -60,6 +65,60 @@ static ROWS: &[Row] = &[
                 Ok(()),
                 "0..100 0..100 m 0..1 m 0..1 closed",
             ),
+        ],
+    },
+    Row {
+        label: "messages whose channels are not fixed fill both halves of a frame, and no more",
+        small: Small::TwoChannels(false),
+        decisions: &[AtMost(0, 0), AtMost(1, 0)],
+        goal: 101,
+        steps: &[(
+            "x-frames 0 0 1\nx-channel 0 0 0 1\nx-channel 1 0 0 1",
+            Err(NoPremise),
+            IN_ONE_ROUND,
+        )],
+    },
+    Row {
+        label: "two messages on the first channel leave no plan, by that half alone",
+        small: Small::TwoChannels(false),
+        decisions: &[AtMost(0, 0), AtMost(1, 0), Channel(0, 0), Channel(1, 0)],
+        goal: 101,
+        steps: &[
+            (
+                "x-channel 2 0 0 1\nx-channel 4294967295 0 0 1\nx-channel 0 2 0 1",
+                Err(NoSuchIndex),
+                IN_ONE_ROUND,
+            ),
+            (
+                "x-frames 0 0 1\nx-channel 1 0 0 1\nx-channel 0 1 0 1\nx-channel 0 0 0 2\nx-channel 0 0 1 2\nx-channel 0 0 1 0",
+                Err(NoPremise),
+                IN_ONE_ROUND,
+            ),
+            ("x-channel 0 0 0 1", Ok(()), NOT_IN_ONE_ROUND),
+        ],
+    },
+    Row {
+        label: "a message on both channels counts in the half of one that is on the second",
+        small: Small::TwoChannels(false),
+        decisions: &[AtMost(0, 0), AtMost(1, 0), Channel(0, 2), Channel(1, 1)],
+        goal: 101,
+        steps: &[
+            ("x-channel 0 0 0 1", Err(NoPremise), IN_ONE_ROUND),
+            ("x-channel 1 0 0 1", Ok(()), NOT_IN_ONE_ROUND),
+        ],
+    },
+    Row {
+        label: "a message on both channels counts twice in a frame beside one on either",
+        small: Small::TwoChannels(true),
+        decisions: &[AtMost(0, 0), AtMost(1, 0)],
+        goal: 101,
+        steps: &[
+            (
+                "x-channel 0 0 0 1\nx-channel 1 0 0 1\nx-frames 0 0 2",
+                Err(NoPremise),
+                IN_ONE_ROUND,
+            ),
+            ("x-frames 0 0 1", Ok(()), NOT_IN_ONE_ROUND),
         ],
     },
     Row {

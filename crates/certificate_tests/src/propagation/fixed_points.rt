@@ -11,7 +11,7 @@ use path_bounds::{Reached, propagate};
 use std::alloc::{AllocError, Global};
 use std::process::Abort;
 use std::test::Fail;
-use tt_choice::Decision::{AtLeast, AtMost, Before};
+use tt_choice::Decision::{AtLeast, AtMost, Before, Channel};
 use tt_choice::{Choice, Decision};
 use tt_infer::Facts;
 use ttp_model::{Instance, Step};
@@ -269,6 +269,12 @@ static OPEN: &[Row] = &[
     (
         Small::ThereAndBack(PLAIN),
         &[Before(0, 1), Before(2, 3), AtMost(1, 9)],
+        60,
+    ),
+    (Small::TwoChannels(false), &[], 80),
+    (
+        Small::TwoChannels(false),
+        &[Channel(0, 2), AtMost(0, 1), Channel(1, 1)],
         60,
     ),
 ];

@@ -2,7 +2,7 @@
 
 use super::fixed_points::expect_reached;
 use crate::decisions::{chosen, next, some_decision};
-use crate::instances::Small;
+use crate::instances::{Small, TWO_CHANNELS};
 use crate::kept_decisions::{expect_line, line};
 use path_bounds::Propagator;
 use std::alloc::{AllocError, Global};
@@ -214,6 +214,9 @@ static ROWS: &[(Small, u32)] = &[
     (Small::SilentNodes, 40),
     (Small::ThereAndBack(PLAIN), 60),
     (Small::TwoSenders, 60),
+    (Small::TwoChannels(false), 40),
+    (Small::TwoChannels(true), 40),
+    (Small::ThereAndBack(TWO_CHANNELS), 60),
 ];
 
 #[test]

@@ -1,5 +1,5 @@
 -- Inside a choice no less has to run in a span, and no fewer bytes have to go into frames.
-use Rattle.std.proofs.Common.{◌≡◌, ℕ, ◌-◌, ◌*◌, ◌≤◌, length, Option, None, Some, true, arith, refl, mul-le-mul}
+use Rattle.std.proofs.Common.{◌≡◌, ℕ, ◌-◌, ◌≤◌, length, Option, None, Some, true, arith, refl, mul-le-mul}
 use Rattle.std.proofs.lemmas.Bool.{false≢true, and_from, eq-eqb, le-leb}
 use Rattle.std.proofs.Math.Nat.{mul-le-mul_left}
 use Rattle.ttp_model.specs.declared.step.Step.TheVariants.{XLoad, XFrames, XChannel}

@@ -1,4 +1,4 @@
-use Rattle.std.proofs.Common.{rules, ◌≡◌, ◌<◌, ◌∷◌, [], length, slice_set, subst}
+use Rattle.std.proofs.Common.{rules, ◌<◌, ◌∷◌, [], length, slice_set, subst}
 use Rattle.std.specs.List.Sorted.{IsPermutation}
 use Rattle.subtree_tasks.specs.Task.{Task}
 use Rattle.steal_pool.specs.Hand.{all_pushed}

@@ -1,5 +1,5 @@
-use Rattle.std.proofs.Common.{◌≡◌, ◌≤◌, ℕ, length, slice_index, arith, below_more}
-use Rattle.ttp_model.specs.Network.{is_received_by, received_by}
+use Rattle.std.proofs.Common.{◌≤◌, ℕ, length, slice_index, arith, below_more}
+use Rattle.ttp_model.specs.Network.{is_received_by}
 use Rattle.ttp_model.proofs.Raising.{raised_none, raised_more}
 use Rattle.ttp_model.proofs.Indices.{raised_listed}
 use Rattle.sought_plans.specs.Known.{top_of}

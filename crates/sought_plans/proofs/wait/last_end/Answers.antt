@@ -1,6 +1,5 @@
-use Rattle.std.proofs.Common.{◌≡◌, ℕ, length, slice_index, arith}
+use Rattle.std.proofs.Common.{ℕ, length, slice_index, arith}
 use Rattle.std.proofs.lemmas.Bool.{both_ways}
-use Rattle.std.proofs.lemmas.Bool.Decides.{eqb_tells}
 use Rattle.ttp_model.specs.Instance.{process_at, node_of}
 use Rattle.ttp_model.specs.Network.{is_on}
 use Rattle.ttp_model.proofs.Raising.{raised_none, raised_later, raised_same}
