@@ -179,6 +179,8 @@ def random_step(dice, instance, facts):
         numbers = [n, dice.choice(facts.lo or [0]), dice.choice(facts.top or [0])]
     elif kind == b"channel":
         numbers = [dice.choice([0, 0, 0, 1, 1, 1, 2]), n, dice.choice(facts.lo or [0]), dice.choice(facts.top or [0])]
+    elif kind == b"mirror":
+        numbers = [dice.choice([m, *(k for k, channel in enumerate(facts.channels) if channel == 1)])]
     elif kind == b"late":
         numbers = [m, max(0, (facts.lo[m] if m < len(facts.lo) else 0) - dice.choice([0, 1, 1, 1, 2, 3]))]
     elif kind == b"silent":
@@ -195,9 +197,10 @@ def random_step(dice, instance, facts):
 
 
 def nearly_lawful(instance, facts):
-    """Steps that would leave nothing if one start, end or round were sharper by one."""
+    """Steps that would leave nothing if one start, end or round were sharper by one, or no message before one on channel 1 in its way."""
     windows = [b"x-window %d" % p for p, process in enumerate(instance.processes) if facts.es[p] + process.wcet == facts.le[p]]
-    return windows + [b"x-round %d" % m for m in range(len(facts.lo)) if facts.lo[m] + 1 == facts.top[m]]
+    mirrors = [b"x-mirror %d" % m for m, channel in enumerate(facts.channels) if channel == 1]
+    return windows + mirrors + [b"x-round %d" % m for m in range(len(facts.lo)) if facts.lo[m] + 1 == facts.top[m]]
 
 
 def leaf_lines(dice, instance, choice, low):

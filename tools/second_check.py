@@ -733,7 +733,7 @@ STEPS = {
     b"es-release": 1, b"es-link": 1, b"es-before": 2, b"es-arrive": 2, b"es-message": 2, b"lo-send": 1, b"le-own": 1,
     b"le-link": 1, b"le-before": 2, b"le-message": 2, b"le-send": 1, b"hi-arrive": 2, b"ord-window": 2, b"ord-twin": 2,
     b"us-settled": 1, b"x-window": 1, b"x-round": 1, b"x-load": 3, b"x-frame": 1, b"x-frames": 3,
-    b"x-channel": 4, b"x-late": 2, b"x-silent": 2}
+    b"x-channel": 4, b"x-late": 2, b"x-silent": 2, b"x-mirror": 1}
 
 
 def certificate_fault(code, line):
@@ -752,7 +752,7 @@ def is_node(word, numbers):
 
 # Version 1 has no lines that speak of channels.
 def is_step_of_1(word, numbers):
-    return word != b"x-channel" and is_step(word, numbers)
+    return word not in (b"x-channel", b"x-mirror") and is_step(word, numbers)
 
 
 def is_node_of_1(word, numbers):
@@ -1103,6 +1103,16 @@ class Facts:
         if not (u < v and are_silent_twins(self.instance, u, v) and v in self.order):
             return False
         return self.closes(u not in self.order or self.order.index(u) > self.order.index(v))
+
+    def keeps_aside(self, k, m):
+        """Whether message k is fixed to both channels, or certainly in another round than m."""
+        return self.channels[k] == BOTH or self.top[k] <= self.lo[m] or self.top[m] <= self.lo[k]
+
+    def x_mirror(self, m):
+        if not self.message(m) or self.channels[m] != 1:
+            return False
+        lower = [k for k in self.instance.sent_by[self.instance.sender_node(m)] if k < m]
+        return self.closes(all(self.keeps_aside(k, m) for k in lower))
 
 
 STEP_FUNCTIONS = {word: getattr(Facts, word.decode().replace("-", "_")) for word in (*STEPS, b"x-cycle")}

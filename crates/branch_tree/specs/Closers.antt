@@ -1,14 +1,14 @@
 -- The step that closes a complete choice without a plan, or at a goal within its plan's delay. Own profile.
 use Rattle.std.specs.Prelude.{ℕ, ◌+◌, ◌==◌, if◌then◌else◌, List, [], ◌∷◌, ◌++◌, All}
 use Rattle.ttp_model.specs.declared.step.Step.{Step}
-use Rattle.ttp_model.specs.declared.step.Step.TheVariants.{EsRelease, EsLink, EsBefore, EsArrive, EsMessage, LoSend, LeOwn, LeLink, LeBefore, LeMessage, LeSend, HiArrive, OrdWindow, OrdTwin, UsSettled, XWindow, XRound, XCycle, XLoad, XFrame, XFrames, XChannel, XLate, XSilent}
+use Rattle.ttp_model.specs.declared.step.Step.TheVariants.{EsRelease, EsLink, EsBefore, EsArrive, EsMessage, LoSend, LeOwn, LeLink, LeBefore, LeMessage, LeSend, HiArrive, OrdWindow, OrdTwin, UsSettled, XWindow, XRound, XCycle, XLoad, XFrame, XFrames, XChannel, XLate, XSilent, XMirror}
 use Rattle.ttp_model.specs.Instance.{Instance}
 use Rattle.tt_choice.specs.Choice.{Choice}
 use Rattle.tt_infer.specs.Leaves.{ClosesLeaf}
 use Rattle.earliest_starts.specs.declared.clash.Clash.{Clash}
 use Rattle.earliest_starts.specs.declared.clash.Clash.TheVariants.{Cycle, Round, Window, Frame}
 
--- the four steps that are true of settled plans alone
+-- the five steps that are true of settled plans alone
 abbrev pub IsDominance : Step → Type 0
 IsDominance (EsRelease p) = ⊥
 IsDominance (EsLink l) = ⊥
@@ -34,6 +34,7 @@ IsDominance (XFrames n a b) = ⊥
 IsDominance (XChannel k n a b) = ⊥
 IsDominance (XLate m r) = Unit {0}
 IsDominance (XSilent u v) = Unit {0}
+IsDominance (XMirror m) = Unit {0}
 
 -- the step that closes the choice for a clash: for an overfull frame that of its one channel, where there are two
 abbrev pub closer_of : Instance → Clash → Step

@@ -38,6 +38,7 @@ fn node_of(instance: &Instance, closer: &Step) -> Option<u32> {
     match closer {
         Step::XWindow(p) => home(instance, *p),
         Step::XRound(m) | Step::XFrame(m) | Step::XLate(m, _) => source(instance, *m),
+        Step::XMirror(m) => source(instance, *m),
         Step::XLoad(n, _, _) | Step::XFrames(n, _, _) | Step::XChannel(_, n, _, _) => Some(*n),
         Step::XCycle(_) | Step::XSilent(_, _) => None,
         // They don't close.

@@ -7,7 +7,7 @@ use Rattle.std.proofs.lemmas.Slice.Eq.{bytes_eq-Decides}
 use Rattle.ttp_model.specs.declared.step.Kind.{Kind}
 use Rattle.ttp_model.specs.declared.step.Kind.TheVariants.{Place, Cap, Pair, Round, Chan}
 use Rattle.ttp_model.specs.declared.step.Step.{Step}
-use Rattle.ttp_model.specs.declared.step.Step.TheVariants.{EsRelease, EsLink, EsBefore, EsArrive, EsMessage, LoSend, LeOwn, LeLink, LeBefore, LeMessage, LeSend, HiArrive, OrdWindow, OrdTwin, UsSettled, XWindow, XRound, XCycle, XLoad, XFrame, XFrames, XChannel, XLate, XSilent}
+use Rattle.ttp_model.specs.declared.step.Step.TheVariants.{EsRelease, EsLink, EsBefore, EsArrive, EsMessage, LoSend, LeOwn, LeLink, LeBefore, LeMessage, LeSend, HiArrive, OrdWindow, OrdTwin, UsSettled, XWindow, XRound, XCycle, XLoad, XFrame, XFrames, XChannel, XLate, XSilent, XMirror}
 use Rattle.certificate.specs.declared.branch.Branch.{Branch}
 use Rattle.certificate.specs.declared.head.Head.{Head}
 use Rattle.certificate.specs.declared.head.Head.TheVariants.{OfBranch, OfLeaf}
@@ -90,7 +90,7 @@ two a b more = omega arith
 
 pub steps_said : (ns : List ℕ) → Each (λ step. ((step_words step).1 ≡ ns) × IsLong step) (steps_with ns)
 steps_said [] = tt
-steps_said (a ∷ []) = ((refl, tt), ((refl, tt), ((refl, tt), ((refl, tt), ((refl, tt), ((refl, tt), ((refl, tt), ((refl, tt), ((refl, tt), ((refl, tt), tt))))))))))
+steps_said (a ∷ []) = ((refl, tt), ((refl, tt), ((refl, tt), ((refl, tt), ((refl, tt), ((refl, tt), ((refl, tt), ((refl, tt), ((refl, tt), ((refl, tt), ((refl, tt), tt)))))))))))
 steps_said (a ∷ b ∷ []) =
     ((refl, tt), ((refl, tt), ((refl, tt), ((refl, tt), ((refl, tt), ((refl, tt), ((refl, tt), ((refl, tt), ((refl, tt), ((refl, tt), ((refl, two a b []), tt)))))))))))
 steps_said (a ∷ b ∷ c ∷ []) = ((refl, tt), ((refl, tt), ((refl, two a b (c ∷ [])), tt)))
@@ -127,3 +127,4 @@ step_sayable (XFrames n a b) long = record { keyword = refl; some = some_of n (a
 step_sayable (XChannel k n a b) long = record { keyword = refl; some = some_of k (n ∷ a ∷ b ∷ []); again = refl }
 step_sayable (XLate m r) long = record { keyword = refl; some = some_of m (r ∷ []); again = refl }
 step_sayable (XSilent u v) long = record { keyword = refl; some = some_of u (v ∷ []); again = refl }
+step_sayable (XMirror m) long = record { keyword = refl; some = some_of m []; again = refl }

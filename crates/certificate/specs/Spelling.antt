@@ -2,7 +2,7 @@
 use Rattle.std.specs.Prelude.{◌≡◌, ℕ, ◌<◌, ◌≤◌, ◌^◌, List, ◌∷◌, ◌++◌, [], length, All, decimal}
 use Rattle.std.specs.List.{flat_map}
 use Rattle.ttp_model.specs.declared.step.Step.{Step}
-use Rattle.ttp_model.specs.declared.step.Step.TheVariants.{EsRelease, EsLink, EsBefore, EsArrive, EsMessage, LoSend, LeOwn, LeLink, LeBefore, LeMessage, LeSend, HiArrive, OrdWindow, OrdTwin, UsSettled, XWindow, XRound, XCycle, XLoad, XFrame, XFrames, XChannel, XLate, XSilent}
+use Rattle.ttp_model.specs.declared.step.Step.TheVariants.{EsRelease, EsLink, EsBefore, EsArrive, EsMessage, LoSend, LeOwn, LeLink, LeBefore, LeMessage, LeSend, HiArrive, OrdWindow, OrdTwin, UsSettled, XWindow, XRound, XCycle, XLoad, XFrame, XFrames, XChannel, XLate, XSilent, XMirror}
 use Rattle.certificate.specs.declared.node.Node.{Node}
 use Rattle.certificate.specs.Trees.{IsTree, preorder}
 use Rattle.certificate.specs.Cert.{Cert}
@@ -61,6 +61,7 @@ IsLong (XFrames n a b) = Unit {0}
 IsLong (XChannel k n a b) = Unit {0}
 IsLong (XLate m r) = Unit {0}
 IsLong (XSilent u v) = Unit {0}
+IsLong (XMirror m) = Unit {0}
 
 pub record StepHasText (step : Step) : Type 0 where
   pub numbers : Fit (step_words step).1

@@ -3,7 +3,7 @@ use Rattle.std.specs.Prelude.{ℕ, List, [], ◌∷◌, length, codes, if◌then
 use Rattle.ttp_model.specs.declared.step.Kind.{Kind}
 use Rattle.ttp_model.specs.declared.step.Kind.TheVariants.{Place, Cap, Pair, Round, Chan}
 use Rattle.ttp_model.specs.declared.step.Step.{Step}
-use Rattle.ttp_model.specs.declared.step.Step.TheVariants.{EsRelease, EsLink, EsBefore, EsArrive, EsMessage, LoSend, LeOwn, LeLink, LeBefore, LeMessage, LeSend, HiArrive, OrdWindow, OrdTwin, UsSettled, XWindow, XRound, XCycle, XLoad, XFrame, XFrames, XChannel, XLate, XSilent}
+use Rattle.ttp_model.specs.declared.step.Step.TheVariants.{EsRelease, EsLink, EsBefore, EsArrive, EsMessage, LoSend, LeOwn, LeLink, LeBefore, LeMessage, LeSend, HiArrive, OrdWindow, OrdTwin, UsSettled, XWindow, XRound, XCycle, XLoad, XFrame, XFrames, XChannel, XLate, XSilent, XMirror}
 use Rattle.certificate.specs.declared.head.Head.{Head}
 use Rattle.certificate.specs.declared.head.Head.TheVariants.{OfBranch, OfLeaf}
 use Rattle.certificate.specs.declared.node.Node.{Node}
@@ -58,6 +58,7 @@ step_words (XFrames n a b) = (codes "x-frames", n ∷ a ∷ b ∷ [])
 step_words (XChannel k n a b) = (codes "x-channel", k ∷ n ∷ a ∷ b ∷ [])
 step_words (XLate m r) = (codes "x-late", m ∷ r ∷ [])
 step_words (XSilent u v) = (codes "x-silent", u ∷ v ∷ [])
+step_words (XMirror m) = (codes "x-mirror", m ∷ [])
 
 -- ---- what can be said with so many numbers
 
@@ -81,7 +82,7 @@ abbrev pub steps_with : List ℕ → List Step
 steps_with [] = []
 steps_with (a ∷ []) =
     EsRelease a ∷ EsLink a ∷ LoSend a ∷ LeOwn a ∷ LeLink a ∷ LeSend a
-    ∷ UsSettled a ∷ XWindow a ∷ XRound a ∷ XFrame a ∷ []
+    ∷ UsSettled a ∷ XWindow a ∷ XRound a ∷ XFrame a ∷ XMirror a ∷ []
 steps_with (a ∷ b ∷ []) =
     EsBefore a b ∷ EsArrive a b ∷ EsMessage a b ∷ LeBefore a b ∷ LeMessage a b ∷ HiArrive a b
     ∷ OrdWindow a b ∷ OrdTwin a b ∷ XLate a b ∷ XSilent a b ∷ XCycle (a ∷ b ∷ []) ∷ []

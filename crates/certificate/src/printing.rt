@@ -64,6 +64,7 @@ fn push_step(text: &mut Vec<u8>, step: &Step) -> Result<(), AllocError>
         Step::XChannel(k, n, a, b) => push_line(text, b"x-channel", &[*k, *n, *a, *b]),
         Step::XLate(m, r) => push_line(text, b"x-late", &[*m, *r]),
         Step::XSilent(u, v) => push_line(text, b"x-silent", &[*u, *v]),
+        Step::XMirror(m) => push_line(text, b"x-mirror", &[*m]),
     }
 }
 

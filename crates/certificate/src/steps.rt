@@ -47,6 +47,9 @@ fn with_one(keyword: &[u8], a: u32) -> Option<Step>
     if keyword == b"x-frame".as_slice() {
         return Some(Step::XFrame(a));
     }
+    if keyword == b"x-mirror".as_slice() {
+        return Some(Step::XMirror(a));
+    }
     None
 }
 

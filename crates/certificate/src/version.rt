@@ -93,7 +93,7 @@ impl Version {
             | Step::XFrames(_, _, _)
             | Step::XLate(_, _)
             | Step::XSilent(_, _) => true,
-            Step::XChannel(_, _, _, _) => self.allows_channels(),
+            Step::XChannel(_, _, _, _) | Step::XMirror(_) => self.allows_channels(),
         }
     }
 

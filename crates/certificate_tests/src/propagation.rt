@@ -286,13 +286,37 @@ static ROWS: &[Row] = &[
     Row {
         label: "and on a channel each",
         small: Small::TwoChannels(false),
-        decisions: &[Channel(0, 1), Channel(1, 0)],
+        decisions: &[Channel(0, 0), Channel(1, 1)],
         asked: &[Asked::Closes(6, true), Asked::Closes(7, false)],
+    },
+    Row {
+        label: "also where the first one may be on whichever the second one leaves",
+        small: Small::TwoChannels(false),
+        decisions: &[Channel(1, 1)],
+        asked: &[Asked::Closes(6, true), Asked::Closes(7, false)],
+    },
+    Row {
+        label: "on channel 1 the first message leads a turned frame, and a leaf says so in one step",
+        small: Small::TwoChannels(false),
+        decisions: &[Channel(0, 1)],
+        asked: &[Asked::Leaf(101, 101), Asked::Steps(101, 1)],
+    },
+    Row {
+        label: "so does the second one behind the first on both",
+        small: Small::TwoChannels(false),
+        decisions: &[Channel(1, 1), Channel(0, 2)],
+        asked: &[Asked::Leaf(101, 101), Asked::Steps(101, 1)],
+    },
+    Row {
+        label: "or where the first one is sent before it",
+        small: Small::TwoChannels(false),
+        decisions: &[Channel(1, 1), AtLeast(1, 1), AtMost(0, 0)],
+        asked: &[Asked::Leaf(101, 101), Asked::Steps(101, 1)],
     },
     Row {
         label: "on one channel they take two rounds",
         small: Small::TwoChannels(false),
-        decisions: &[Channel(0, 1), Channel(1, 1)],
+        decisions: &[Channel(0, 0), Channel(1, 0)],
         asked: &[Asked::Closes(8, true), Asked::Closes(10, false)],
     },
     Row {

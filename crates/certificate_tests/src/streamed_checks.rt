@@ -296,6 +296,7 @@ const CHANNEL_DAMAGES: &[Damage] = &[
     Damage::Becomes("x-channel 0 0 0 1\n"),
     Damage::Becomes("x-channel 1 0 0 1\n"),
     Damage::Becomes("x-channel 2 0 0 1\n"),
+    Damage::Becomes("x-mirror 0\n"),
     Damage::EndsTheText,
 ];
 

@@ -179,6 +179,48 @@ static CHANNELS: &[Row] = &[
     ),
 ];
 
+/// No plan of two messages on two channels has a delay below 6, and no settled one has the first message on channel 1, whatever its
+/// delay, nor the second one behind the first on both. Then the same is said where it isn't so.
+pub static TURNED: &[Row] = &[
+    (
+        TWO_CHANNELS,
+        "ttcert 2\nlow 6\nchan 0 3\nleaf 6 5\nes-message 0 1\nes-message 1 2\nle-own 1\nle-own 2\nx-load 1 4 5\nleaf 101 1\nx-mirror 0\nchan 1 3\nleaf 6 5\nes-message 0 1\nes-message 1 2\nle-own 1\nle-own 2\nx-load 1 4 5\nleaf 101 1\nx-mirror 1\nleaf 6 5\nes-message 0 1\nes-message 1 2\nle-own 1\nle-own 2\nx-load 1 4 5\n",
+        Ok(6),
+    ),
+    (
+        TWO_CHANNELS,
+        "ttcert 2\nlow 6\nleaf 6 1\nx-mirror 0\n",
+        Err(CertFault::At {
+            line: 4,
+            fault: NodeFault::RefusedStep,
+        }),
+    ),
+    (
+        TWO_CHANNELS,
+        "ttcert 2\nlow 6\nchan 0 3\nleaf 101 1\nx-mirror 0\nleaf 101 1\nx-mirror 0\nleaf 101 1\nx-mirror 0\n",
+        Err(CertFault::At {
+            line: 5,
+            fault: NodeFault::RefusedStep,
+        }),
+    ),
+    (
+        TWO_CHANNELS,
+        "ttcert 2\nlow 6\nchan 1 3\nleaf 6 5\nes-message 0 1\nes-message 1 2\nle-own 1\nle-own 2\nx-load 1 4 5\nleaf 101 1\nx-mirror 1\nleaf 101 1\nx-mirror 1\n",
+        Err(CertFault::At {
+            line: 11,
+            fault: NodeFault::RefusedStep,
+        }),
+    ),
+    (
+        ONE_MESSAGE,
+        "ttcert 2\nlow 9\nleaf 101 1\nx-mirror 0\n",
+        Err(CertFault::At {
+            line: 4,
+            fault: NodeFault::RefusedStep,
+        }),
+    ),
+];
+
 /// How many leaves are judged together, and how many bytes a reader gives a call.
 const PACES: &[Pace] = &[
     (1, 1),

@@ -8,3 +8,4 @@ pub mod JudgementsTold
 pub mod Transfers
 pub mod ChannelLines
 pub mod FirstSteps
+pub mod SettledFrames

@@ -38,7 +38,8 @@ pub use events::{
 };
 pub use judgements::{bounds_are_told_in_order, delay_told_is_the_least, none_is_told_of_no_plan};
 pub use plans::{
-    printed_text_spells_the_plan, settled_frames_fit, settled_messages_arrive, text_spells_the_plan,
+    printed_text_spells_the_plan, settled_frames_are_not_turned, settled_frames_fit,
+    settled_messages_arrive, text_spells_the_plan,
 };
 pub use propagations::{
     bound_counts_a_transfer, closed_is_told_of_steps_that_close, log_of_an_order_leads_there,

@@ -1,7 +1,8 @@
 //! What is read of a plan's text and printed of a plan, and what a settled plan keeps.
 
-ghost use Rattle.std.specs.Prelude.{ℕ, ◌<◌, IfOk, length};
+ghost use Rattle.std.specs.Prelude.{ℕ, ◌<◌, IfOk, IsFalse, length};
 ghost use Rattle.ttp_model.specs.Delays.{delay};
+ghost use Rattle.ttp_model.specs.Moves.{leads_turned};
 ghost use Rattle.ttp_model.specs.Plans.{FitsFrame, HasArrivedEverywhere, IsValid};
 ghost use Rattle.plan_format.specs.Spelling.{SpellsPlan};
 
@@ -31,6 +32,19 @@ pub fn settled_messages_arrive(
     requires { IsValid instance.now plan }
     ensures { IfOk result (λ settled. (m : ℕ) → m < length instance.now.messages → HasArrivedEverywhere instance.now settled m) }
 {
+    settle(alloc, instance, plan)
+}
+
+/// None of its frames is turned: the first message of a frame that is on one channel alone is not on channel 1.
+pub fn settled_frames_are_not_turned(
+    alloc: Global,
+    instance: &Instance,
+    plan: Plan,
+) -> Result<Plan, (Plan, MemoryFault)>
+    requires { IsValid instance.now plan }
+    ensures { IfOk result (λ settled. (m : ℕ) → m < length instance.now.messages → IsFalse (leads_turned instance.now settled m)) }
+{
+    let _messages = instance.messages();
     settle(alloc, instance, plan)
 }
 

@@ -44,6 +44,7 @@ pub fn copy_of_step(alloc: Global, step: &Step) -> Result<Step, MemoryFault>
         Step::XChannel(k, n, a, b) => Step::XChannel(*k, *n, *a, *b),
         Step::XLate(m, r) => Step::XLate(*m, *r),
         Step::XSilent(u, v) => Step::XSilent(*u, *v),
+        Step::XMirror(m) => Step::XMirror(*m),
     })
 }
 

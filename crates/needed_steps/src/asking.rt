@@ -1,6 +1,8 @@
 //! How sharp has what a step reads to be?
 
-use crate::closers::{ask_earlier, ask_frames, ask_load, ask_no_round, ask_ring, ask_window};
+use crate::closers::{
+    ask_earlier, ask_frames, ask_load, ask_mirror, ask_no_round, ask_ring, ask_window,
+};
 use crate::ends::{
     ask_missed, ask_receiver_start, ask_second_start, ask_sending, ask_settled, ask_start,
 };
@@ -38,5 +40,6 @@ pub fn ask(needs: &mut Needs, moment: &Moment, step: &Step, need: u32) {
         Step::XFrames(n, a, b) => ask_frames(needs, moment, None, *n, *a, *b),
         Step::XChannel(k, n, a, b) => ask_frames(needs, moment, Some(*k), *n, *a, *b),
         Step::XLate(m, r) => ask_earlier(needs, moment, *m, *r),
+        Step::XMirror(m) => ask_mirror(needs, moment, *m),
     }
 }

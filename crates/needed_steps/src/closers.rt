@@ -29,18 +29,56 @@ pub fn ask_window(needs: &mut Needs, moment: &Moment, p: u32, q: u32, ticks: u64
     }
 }
 
+/// Asks that message `early` has no round from the first one of message `late` on; that `early` has no round at all, where it is `late`.
+fn ask_in_turn(needs: &mut Needs, moment: &Moment, early: u32, late: u32) {
+    let first_late = u64::from(moment.first.late_round(early));
+    let first_round = u64::from(moment.first.first_round(late));
+    let round = u64::from(moment.now.first_round(late));
+    if first_late <= round {
+        needs.sent_from(late, first_late);
+    } else if first_round >= u64::from(moment.now.late_round(early)) {
+        needs.sent_before(early, first_round);
+    } else {
+        needs.sent_from(late, round);
+        needs.sent_before(early, round);
+    }
+}
+
 /// Asks that message `m` has no round.
 pub fn ask_no_round(needs: &mut Needs, moment: &Moment, m: u32) {
-    let first_late = u64::from(moment.first.late_round(m));
-    let first_round = u64::from(moment.first.first_round(m));
-    let round = u64::from(moment.now.first_round(m));
-    if first_late <= round {
-        needs.sent_from(m, first_late);
-    } else if first_round >= u64::from(moment.now.late_round(m)) {
-        needs.sent_before(m, first_round);
+    ask_in_turn(needs, moment, m, m);
+}
+
+/// Asks that each lower message of the node of message `m` is in none of its rounds, but for those that are on both channels.
+pub fn ask_mirror(needs: &mut Needs, moment: &Moment, m: u32) {
+    let facts = moment.facts;
+    let instance = facts.instance();
+    if m as usize >= instance.messages().len() {
+        return;
+    }
+    for k in instance.messages_of(instance.source_of(m as usize)) {
+        if *k < m && !is_on_both(facts, *k) {
+            ask_apart(needs, moment, m, *k);
+        }
+    }
+}
+
+/// Whether message `k` is fixed to both channels.
+fn is_on_both(facts: &Facts, k: u32) -> bool
+    requires { k < length facts.now.instance.messages }
+{
+    match facts.choice().channel(k) {
+        Some(fixed) => fixed == BOTH_CHANNELS,
+        None => false,
+    }
+}
+
+/// Asks that messages `m` and `k` are in no round together, in the turn that is known of them.
+fn ask_apart(needs: &mut Needs, moment: &Moment, m: u32, k: u32) {
+    if moment.now.late_round(k) <= moment.now.first_round(m) {
+        ask_in_turn(needs, moment, k, m);
     } else {
-        needs.sent_from(m, round);
-        needs.sent_before(m, round);
+        ask_in_turn(needs, moment, m, k);
     }
 }
 

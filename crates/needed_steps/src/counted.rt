@@ -32,7 +32,8 @@ pub fn add_counted(facts: &Facts, step: &Step, counted: &mut Vec<Fact>) -> Resul
         | Step::XRound(_)
         | Step::XLoad(_, _, _)
         | Step::XFrame(_)
-        | Step::XSilent(_, _) => add_reads(facts, step, counted),
+        | Step::XSilent(_, _)
+        | Step::XMirror(_) => add_reads(facts, step, counted),
     }
 }
 

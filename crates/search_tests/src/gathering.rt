@@ -23,6 +23,8 @@ enum Part {
     Leaf(u32),
     /// A leaf at a goal with one step, which is of channel 1.
     OnChannel(u32),
+    /// The same with one by which a frame's channels would be exchanged.
+    Turned(u32),
 }
 
 impl Part {
@@ -37,6 +39,13 @@ impl Part {
             }),
             Part::OnChannel(goal) => {
                 let steps = vec![in alloc; Step::XChannel(1, 0, 2, 3)]?;
+                Node::Leaf(Leaf {
+                    goal,
+                    steps: Steps::new(steps),
+                })
+            }
+            Part::Turned(goal) => {
+                let steps = vec![in alloc; Step::XMirror(3)]?;
                 Node::Leaf(Leaf {
                     goal,
                     steps: Steps::new(steps),
@@ -149,6 +158,15 @@ const TREES: &[(Parts, u32, &str)] = &[
         ],
         9,
         "ttcert 2\nlow 9\nplace 2\nleaf 9 0\nleaf 9 1\nx-channel 1 0 2 3\n",
+    ),
+    (
+        &[
+            (&[1], Part::Leaf(9)),
+            (&[0], Part::Turned(101)),
+            (&[], Part::Place(2)),
+        ],
+        9,
+        "ttcert 2\nlow 9\nplace 2\nleaf 101 1\nx-mirror 3\nleaf 9 0\n",
     ),
 ];
 

@@ -1,11 +1,12 @@
--- What the four steps ask for that are true of settled plans alone. Own profile.
-use Rattle.std.specs.Prelude.{◌≡◌, ◌≢◌, ℕ, ◌+◌, ◌-◌, ◌<◌, ◌≤◌, ◌==◌, ◌&&◌, ◌||◌, nat_le, nat_lt, if◌then◌else◌, Bool, IsFalse, List, length, slice_index}
+-- What the five steps ask for that are true of settled plans alone. Own profile.
+use Rattle.std.specs.Prelude.{◌≡◌, ◌≢◌, ℕ, ◌+◌, ◌-◌, ◌<◌, ◌≤◌, ◌==◌, ◌&&◌, ◌||◌, nat_le, nat_lt, if◌then◌else◌, ◌⊎◌, Bool, IsFalse, List, Some, length, slice_index}
+use Rattle.ttp_model.specs.Limits.{both_channels}
 use Rattle.ttp_model.specs.Instance.{Instance, process_at, message_at, node_of, source_of}
 use Rattle.ttp_model.specs.Lists.{EachBelow}
 use Rattle.ttp_model.specs.Graph.{HasLink}
 use Rattle.ttp_model.specs.Twins.{AreTwins, AreSilentTwins}
 use Rattle.ttp_model.specs.Totals.{total}
-use Rattle.tt_choice.specs.Choice.{Choice}
+use Rattle.tt_choice.specs.Choice.{Choice, fixed_channel}
 use Rattle.tt_choice.specs.Extremes.{start_least, end_most, cap_least}
 use Rattle.sought_plans.specs.Known.{Known, le_of, lo_of, top_of, bef_of}
 use Rattle.sought_plans.specs.Premises.{Receives, sender_of}
@@ -74,3 +75,12 @@ pub record StandTurned (i : Instance) (c : Choice) (u v : ℕ) : Type 0 where
   pub in_order : u < v
   pub twins : AreSilentTwins i u v
   pub first : StandsFirst c.prefix v u
+
+-- message k is fixed to both channels, or in none of the rounds in which m is
+abbrev pub KeepsAside : Choice → Known → ℕ → ℕ → Type 0
+KeepsAside c f m k = (fixed_channel c k ≡ Some both_channels) ⊎ ((top_of f k ≤ lo_of f m) ⊎ (top_of f m ≤ lo_of f k))
+
+-- message m is fixed to channel 1, and each lower one of its node keeps aside: m leads a turned frame, wherever it is sent
+pub record IsMirrored (i : Instance) (c : Choice) (f : Known) (m : ℕ) : Type 0 where
+  pub second : fixed_channel c m ≡ Some 1
+  pub lower : EachBelow m (λ k. source_of i k ≡ source_of i m → KeepsAside c f m k)

@@ -320,7 +320,7 @@ impl Agenda {
         Ok(())
     }
 
-    /// Adds the closers of loads, and of messages that could go out earlier, for each node of which
+    /// Adds the closers of loads, of messages that could go out earlier and of those on channel 1, for each node of which
     /// more may be known.
     fn add_loads(&mut self, facts: &Facts, steps: &mut Vec<Step>) -> Result<(), MemoryFault> {
         let count = facts.instance().nodes().len() as u32;
@@ -336,6 +336,7 @@ impl Agenda {
                 if let Some(step) = frame_load(facts, n) {
                     steps.push(step)?;
                 }
+                add_mirrors(facts, n, steps)?;
             }
         }
         Ok(())
@@ -407,4 +408,29 @@ fn add_late_of(
         }
     }
     Ok(())
+}
+
+/// Adds the closers of the messages of node `n` that are fixed to channel 1: each leads a turned frame, where no lower one of the node may
+/// lead it.
+fn add_mirrors(facts: &Facts, n: u32, steps: &mut Vec<Step>) -> Result<(), MemoryFault> {
+    let instance = facts.instance();
+    if instance.cluster().channels < 2 {
+        return Ok(());
+    }
+    for m in instance.messages_of(n) {
+        if is_on_second(facts, *m) {
+            steps.push(Step::XMirror(*m))?;
+        }
+    }
+    Ok(())
+}
+
+/// Whether message `m` is fixed to channel 1 alone.
+fn is_on_second(facts: &Facts, m: u32) -> bool
+    requires { m < length facts.now.instance.messages }
+{
+    match facts.choice().channel(m) {
+        Some(fixed) => fixed == 1,
+        None => false,
+    }
 }

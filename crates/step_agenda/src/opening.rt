@@ -25,7 +25,8 @@ fn add_opening(facts: &Facts, steps: &mut Vec<Step>) -> Result<(), MemoryFault> 
     add_frames(instance, steps)
 }
 
-/// Adds the steps that read what a decision changes beside the facts: where slots stand and how long they are.
+/// Adds the steps that read what a decision changes beside the facts: where slots stand and how long they are, and who leads a turned
+/// frame.
 pub fn add_slot_steps(
     facts: &Facts,
     decision: Decision,
@@ -40,6 +41,7 @@ pub fn add_slot_steps(
             add_transfers(facts.instance(), steps)?;
             add_frames(facts.instance(), steps)
         }
+        Decision::Channel(m, 1) => add(steps, Step::XMirror(m)),
         Decision::Before(_, _)
         | Decision::AtMost(_, _)
         | Decision::AtLeast(_, _)

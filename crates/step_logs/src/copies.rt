@@ -54,6 +54,7 @@ fn copied(alloc: Global, step: &Step) -> Result<Step, MemoryFault>
         Step::XChannel(k, n, a, b) => Ok(Step::XChannel(*k, *n, *a, *b)),
         Step::XLate(m, r) => Ok(Step::XLate(*m, *r)),
         Step::XSilent(u, v) => Ok(Step::XSilent(*u, *v)),
+        Step::XMirror(m) => Ok(Step::XMirror(*m)),
     }
 }
 

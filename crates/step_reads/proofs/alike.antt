@@ -2,4 +2,5 @@ pub mod Rings
 pub mod Waits
 pub mod Loads
 pub mod Late
+pub mod Mirrors
 pub mod Steps

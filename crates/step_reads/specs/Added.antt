@@ -1,12 +1,12 @@
 -- Facts that are added to a list, and what one process, message or pair adds to those that a step reads.
 use Rattle.std.specs.Prelude.{◌≡◌, ℕ, ◌+◌, ◌⊎◌, List, slice_index, Contains, IsTrue}
-use Rattle.ttp_model.specs.Instance.{Instance}
+use Rattle.ttp_model.specs.Instance.{Instance, source_of}
 use Rattle.ttp_model.specs.Graph.{Leads}
 use Rattle.tt_choice.specs.Choice.{Choice}
 use Rattle.sought_plans.specs.Known.{Known}
 use Rattle.sought_plans.specs.Premises.{runs_within, sent_within}
 use Rattle.sought_plans.specs.Dominance.{IsSentTo}
-use Rattle.step_reads.specs.Reads.{BoundsRun, BoundsSending, counted_within, IsRival, TellsWait, IsOtherOf, KeepsOut}
+use Rattle.step_reads.specs.Reads.{BoundsRun, BoundsSending, counted_within, IsRival, TellsWait, IsOtherOf, KeepsOut, TellsApart}
 use Rattle.step_reads.specs.declared.fact.Fact.{Fact}
 use Rattle.step_reads.specs.declared.fact.Fact.TheVariants.{LateRound, Order}
 
@@ -47,3 +47,7 @@ OrdersPair i p q fact = (¬ Leads i p q) × (fact ≡ Order p q)
 -- the same of a process in a list and the one behind it
 abbrev pub OrdersNext : Instance → List ℕ → ℕ → Fact → Type 0
 OrdersNext i ps k fact = OrdersPair i (slice_index ps k) (slice_index ps (k + 1)) fact
+
+-- what tells that messages m and k are in no round together, where k is of m's node
+abbrev pub TellsOneNodeApart : Instance → Known → ℕ → ℕ → Fact → Type 0
+TellsOneNodeApart i f m k fact = (source_of i k ≡ source_of i m) × TellsApart f m k fact

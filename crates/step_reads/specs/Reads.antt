@@ -1,7 +1,7 @@
 -- What each step reads: of what is known, and of the choice and its goal beside it. Own profile.
 use Rattle.std.specs.Prelude.{◌≡◌, ◌≢◌, ℕ, ◌+◌, ◌-◌, ◌<◌, ◌≤◌, ◌⊎◌, ◌&&◌, List, length, slice_index, Bool, IsTrue, IsFalse}
 use Rattle.ttp_model.specs.declared.step.Step.{Step}
-use Rattle.ttp_model.specs.declared.step.Step.TheVariants.{EsRelease, EsLink, EsBefore, EsArrive, EsMessage, LoSend, LeOwn, LeLink, LeBefore, LeMessage, LeSend, HiArrive, OrdWindow, OrdTwin, UsSettled, XWindow, XRound, XCycle, XLoad, XFrame, XFrames, XChannel, XLate, XSilent}
+use Rattle.ttp_model.specs.declared.step.Step.TheVariants.{EsRelease, EsLink, EsBefore, EsArrive, EsMessage, LoSend, LeOwn, LeLink, LeBefore, LeMessage, LeSend, HiArrive, OrdWindow, OrdTwin, UsSettled, XWindow, XRound, XCycle, XLoad, XFrame, XFrames, XChannel, XLate, XSilent, XMirror}
 use Rattle.ttp_model.specs.Instance.{Instance, link_at, node_of, source_of}
 use Rattle.ttp_model.specs.Graph.{HasLink, Leads}
 use Rattle.tt_choice.specs.Choice.{Choice}
@@ -90,6 +90,17 @@ pub record IsOtherOf (i : Instance) (m k : ℕ) : Type 0 where
   pub other : k ≢ m
   pub one_node : source_of i k ≡ source_of i m
 
+-- what tells that messages m and k are in no round together, where the rounds tell it: that k is sent before m, or else that m is
+-- sent before k
+abbrev pub TellsApart : Known → ℕ → ℕ → Fact → Type 0
+TellsApart f m k fact =
+    ((top_of f k ≤ lo_of f m) × ((fact ≡ LateRound k) ⊎ (fact ≡ FirstRound m)))
+    ⊎ ((lo_of f m < top_of f k) × (top_of f m ≤ lo_of f k) × ((fact ≡ LateRound m) ⊎ (fact ≡ FirstRound k)))
+
+-- and where they don't tell it: both may be in one round
+abbrev pub MayMeet : Known → ℕ → ℕ → Type 0
+MayMeet f m k = (lo_of f m < top_of f k) × (lo_of f k < top_of f m)
+
 -- The facts that a step reads at a choice, where this is known before it.
 abbrev pub ReadsFact : Instance → Choice → Known → Step → Fact → Type 0
 ReadsFact i c f (EsRelease p) fact = ⊥
@@ -123,6 +134,7 @@ ReadsFact i c f (XLate m r) fact =
     ((fact ≡ FirstRound m) ⊎ (fact ≡ End (sender_of i m)))
     ⊎ OfSome (length i.messages) (λ k told. IsOtherOf i m k × KeepsOut f r k told) fact
 ReadsFact i c f (XSilent u v) fact = ⊥
+ReadsFact i c f (XMirror m) fact = OfSome m (λ k told. (source_of i k ≡ source_of i m) × TellsApart f m k told) fact
 
 -- The limits that it reads.
 abbrev pub ReadsLimit : Instance → Choice → Known → Step → Limit → Type 0
@@ -152,6 +164,9 @@ ReadsLimit i c f (XChannel k n a b) limit =
     (limit ≡ GreatestFrame n) ⊎ ((m : ℕ) × (m < length i.messages) × IsTrue (counted_within i c f k n a b m) × (limit ≡ Counted m k))
 ReadsLimit i c f (XLate m r) limit = (limit ≡ LeastSlot (source_of i m)) ⊎ (limit ≡ LeastFrame (source_of i m))
 ReadsLimit i c f (XSilent u v) limit = limit ≡ Place v
+ReadsLimit i c f (XMirror m) limit =
+    ((limit ≡ Copies m) ⊎ (limit ≡ Counted m 1))
+    ⊎ ((k : ℕ) × (k < m) × (source_of i k ≡ source_of i m) × MayMeet f m k × (limit ≡ Copies k))
 
 -- two choices with their goals, and what is known at each, agree on all that a step reads at the first
 pub record AgreeOnReads (i : Instance) (c : Choice) (goal : ℕ) (f : Known) (d : Choice) (aim : ℕ) (g : Known) (step : Step) : Type 0 where

@@ -1,7 +1,7 @@
 -- Which of the known facts a step is about, and how far that fact is known.
 use Rattle.std.specs.Prelude.{ℕ, if◌then◌else◌}
 use Rattle.ttp_model.specs.declared.step.Step.{Step}
-use Rattle.ttp_model.specs.declared.step.Step.TheVariants.{EsRelease, EsLink, EsBefore, EsArrive, EsMessage, LoSend, LeOwn, LeLink, LeBefore, LeMessage, LeSend, HiArrive, OrdWindow, OrdTwin, UsSettled, XWindow, XRound, XCycle, XLoad, XFrame, XFrames, XChannel, XLate, XSilent}
+use Rattle.ttp_model.specs.declared.step.Step.TheVariants.{EsRelease, EsLink, EsBefore, EsArrive, EsMessage, LoSend, LeOwn, LeLink, LeBefore, LeMessage, LeSend, HiArrive, OrdWindow, OrdTwin, UsSettled, XWindow, XRound, XCycle, XLoad, XFrame, XFrames, XChannel, XLate, XSilent, XMirror}
 use Rattle.ttp_model.specs.Instance.{Instance, link_at}
 use Rattle.sought_plans.specs.Known.{Known, es_of, le_of, lo_of, top_of, bef_of}
 use Rattle.sought_plans.specs.Conclusions.{Conclusion, StartsFrom, EndsUntil, SentFrom, SentBefore, GoesFirst, NothingLeft}
@@ -44,6 +44,7 @@ target i (XFrames n a b) = Closed
 target i (XChannel k n a b) = Closed
 target i (XLate m r) = Closed
 target i (XSilent u v) = Closed
+target i (XMirror m) = Closed
 
 -- how far a fact is known: a time, a round, or whether it is
 abbrev pub known_value : Known → Fact → ℕ

@@ -81,7 +81,8 @@ pub fn target(instance: &Instance, step: &Step) -> Fact
         | Step::XFrames(..)
         | Step::XChannel(..)
         | Step::XLate(..)
-        | Step::XSilent(..) => Fact::Closed,
+        | Step::XSilent(..)
+        | Step::XMirror(_) => Fact::Closed,
     }
 }
 

@@ -6,6 +6,7 @@ ghost use Rattle.step_reads.specs.Reads.{ReadsFact};
 ghost use Rattle.step_reads.specs.Added.{AddsFacts};
 
 mod added;
+mod apart;
 mod kept_out;
 mod rings;
 mod spans;
@@ -13,6 +14,7 @@ mod waits;
 
 use crate::fact::{Fact, link_after, link_before, sender};
 use added::{add, add_two};
+use apart::add_mirror;
 use kept_out::add_late;
 use rings::add_ring;
 use spans::{add_channel, add_frames, add_load};
@@ -52,5 +54,6 @@ pub fn add_reads(facts: &Facts, step: &Step, reads: &mut Vec<Fact>) -> Result<()
         Step::XChannel(k, n, a, b) => add_channel(facts, *k, *n, *a, *b, reads),
         Step::XLate(m, r) => add_late(facts, *m, *r, reads),
         Step::XSilent(_, _) => Ok(()),
+        Step::XMirror(m) => add_mirror(facts, *m, reads),
     }
 }

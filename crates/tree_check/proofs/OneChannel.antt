@@ -1,10 +1,10 @@
--- With one channel no line of what proves a bound speaks of channels: none is free, and no step counts by channel.
-use Rattle.std.proofs.Common.{◌≡◌, ℕ, suc, ◌≤◌, true, List, [], ◌∷◌, ◌++◌, None, Some, All, refl, arith}
+-- With one channel no line of what proves a bound speaks of channels: none is free, no step counts by channel, and no message is on the second.
+use Rattle.std.proofs.Common.{◌≡◌, ℕ, suc, ◌≤◌, true, List, [], ◌∷◌, ◌++◌, Option, None, Some, unwrap_or, All, refl, arith, ap, sym, ◌∙◌}
 use Rattle.std.proofs.lemmas.List.Elements.{All-nil, All-cons, All-append}
 use Rattle.ttp_model.specs.declared.step.Kind.{Kind}
 use Rattle.ttp_model.specs.declared.step.Kind.TheVariants.{Place, Cap, Pair, Round, Chan}
 use Rattle.ttp_model.specs.declared.step.Step.{Step}
-use Rattle.ttp_model.specs.declared.step.Step.TheVariants.{EsRelease, EsLink, EsBefore, EsArrive, EsMessage, LoSend, LeOwn, LeLink, LeBefore, LeMessage, LeSend, HiArrive, OrdWindow, OrdTwin, UsSettled, XWindow, XRound, XCycle, XLoad, XFrame, XFrames, XChannel, XLate, XSilent}
+use Rattle.ttp_model.specs.declared.step.Step.TheVariants.{EsRelease, EsLink, EsBefore, EsArrive, EsMessage, LoSend, LeOwn, LeLink, LeBefore, LeMessage, LeSend, HiArrive, OrdWindow, OrdTwin, UsSettled, XWindow, XRound, XCycle, XLoad, XFrame, XFrames, XChannel, XLate, XSilent, XMirror}
 use Rattle.ttp_model.specs.Instance.{Instance}
 use Rattle.ttp_model.specs.Rules.{IsInstance}
 use Rattle.tt_choice.specs.Choice.{Choice, IsChoice, fixed_channel}
@@ -34,43 +34,47 @@ module _ (i : Instance) (alone : i.cluster.channels ≡ 1) where
       let fixed : fixed_channel c m ≡ Some 0 = only_channel i c m alone ok is.message in
       absurd cc
 
-  lawful_step : (c : Choice) (goal : ℕ) (f : Known) (step : Step) → (rule i c goal f step).there → allows_step One step ≡ true
-  lawful_step c goal f (EsRelease p) there = refl
-  lawful_step c goal f (EsLink l) there = refl
-  lawful_step c goal f (EsBefore p q) there = refl
-  lawful_step c goal f (EsArrive m q) there = refl
-  lawful_step c goal f (EsMessage m q) there = refl
-  lawful_step c goal f (LoSend m) there = refl
-  lawful_step c goal f (LeOwn p) there = refl
-  lawful_step c goal f (LeLink l) there = refl
-  lawful_step c goal f (LeBefore p q) there = refl
-  lawful_step c goal f (LeMessage m q) there = refl
-  lawful_step c goal f (LeSend m) there = refl
-  lawful_step c goal f (HiArrive m q) there = refl
-  lawful_step c goal f (OrdWindow p q) there = refl
-  lawful_step c goal f (OrdTwin p q) there = refl
-  lawful_step c goal f (UsSettled p) there = refl
-  lawful_step c goal f (XWindow p) there = refl
-  lawful_step c goal f (XRound m) there = refl
-  lawful_step c goal f (XCycle ps) there = refl
-  lawful_step c goal f (XLoad n a b) there = refl
-  lawful_step c goal f (XFrame m) there = refl
-  lawful_step c goal f (XFrames n a b) there = refl
-  lawful_step c goal f (XChannel k n a b) there =
+  lawful_step : (c : Choice) (goal : ℕ) (f : Known) (step : Step) → IsChoice i c → (rule i c goal f step).there → (rule i c goal f step).premise → allows_step One step ≡ true
+  lawful_step c goal f (EsRelease p) ok there premise = refl
+  lawful_step c goal f (EsLink l) ok there premise = refl
+  lawful_step c goal f (EsBefore p q) ok there premise = refl
+  lawful_step c goal f (EsArrive m q) ok there premise = refl
+  lawful_step c goal f (EsMessage m q) ok there premise = refl
+  lawful_step c goal f (LoSend m) ok there premise = refl
+  lawful_step c goal f (LeOwn p) ok there premise = refl
+  lawful_step c goal f (LeLink l) ok there premise = refl
+  lawful_step c goal f (LeBefore p q) ok there premise = refl
+  lawful_step c goal f (LeMessage m q) ok there premise = refl
+  lawful_step c goal f (LeSend m) ok there premise = refl
+  lawful_step c goal f (HiArrive m q) ok there premise = refl
+  lawful_step c goal f (OrdWindow p q) ok there premise = refl
+  lawful_step c goal f (OrdTwin p q) ok there premise = refl
+  lawful_step c goal f (UsSettled p) ok there premise = refl
+  lawful_step c goal f (XWindow p) ok there premise = refl
+  lawful_step c goal f (XRound m) ok there premise = refl
+  lawful_step c goal f (XCycle ps) ok there premise = refl
+  lawful_step c goal f (XLoad n a b) ok there premise = refl
+  lawful_step c goal f (XFrame m) ok there premise = refl
+  lawful_step c goal f (XFrames n a b) ok there premise = refl
+  lawful_step c goal f (XChannel k n a b) ok there premise =
       let two : 2 ≤ i.cluster.channels = there.1.0 in
       absurd (omega (arith, alone, two))
-  lawful_step c goal f (XLate m r) there = refl
-  lawful_step c goal f (XSilent u v) there = refl
+  lawful_step c goal f (XLate m r) ok there premise = refl
+  lawful_step c goal f (XSilent u v) ok there premise = refl
+  lawful_step c goal f (XMirror m) ok there premise =
+      let second : fixed_channel c m ≡ Some 1 = premise.second in
+      let same : 0 ≡ 1 = ap (λ (o : Option ℕ). unwrap_or o 0) (sym (only_channel i c m alone ok there) ∙ second) in
+      absurd (omega (arith, same))
 
-  lawful_steps : (c : Choice) (goal : ℕ) (f : Known) (steps : List Step) (g : Known) → Lead i c goal f steps g → All (AllowsStep One) steps
-  lawful_steps c goal f [] g lead = All-nil (AllowsStep One)
-  lawful_steps c goal f (step ∷ steps) g lead =
-      All-cons (AllowsStep One) step steps (lawful_step c goal f step lead.1.1.there) (lawful_steps c goal lead.1.0 steps g lead.1.2)
+  lawful_steps : (c : Choice) (goal : ℕ) (f : Known) (steps : List Step) (g : Known) → IsChoice i c → Lead i c goal f steps g → All (AllowsStep One) steps
+  lawful_steps c goal f [] g ok lead = All-nil (AllowsStep One)
+  lawful_steps c goal f (step ∷ steps) g ok lead =
+      All-cons (AllowsStep One) step steps (lawful_step c goal f step ok lead.1.1.there lead.1.1.premise) (lawful_steps c goal lead.1.0 steps g ok lead.1.2)
 
   suiting_node : (low : ℕ) (c : Choice) (node : Node) → IsChoice i c → Suits i low c node → AllowsNode One node
   suiting_node low c (Branch branch) ok suits = record { head = open_kind c branch.kind ok suits.is_open; steps = All-nil (AllowsStep One) }
   suiting_node low c (Leaf leaf) ok suits =
-      record { head = refl; steps = lawful_steps c leaf.goal (first_facts i c) leaf.steps suits.closes.0 suits.closes.1 }
+      record { head = refl; steps = lawful_steps c leaf.goal (first_facts i c) leaf.steps suits.closes.0 ok suits.closes.1 }
 
   proof_lines : (low : ℕ) (cs : List Choice) (trees : Trees) → All (IsChoice i) cs → AreProofs i low cs trees → Allows One trees
   proof_lines low [] none ok are = All-nil (AllowsNode One)

@@ -4,7 +4,7 @@ use Rattle.std.proofs.Common.{◌≡◌, ℕ, zero, suc, ◌+◌, ◌<◌, ◌�
 use Rattle.std.proofs.lemmas.Bool.{cases_Bool, cases_order, leb-true, leb-false, le-leb, both_ways}
 use Rattle.std.proofs.Math.Nat.{mul-le-mul_left}
 use Rattle.ttp_model.specs.declared.step.Step.{Step}
-use Rattle.ttp_model.specs.declared.step.Step.TheVariants.{EsRelease, EsLink, EsBefore, EsArrive, EsMessage, LoSend, LeOwn, LeLink, LeBefore, LeMessage, LeSend, HiArrive, OrdWindow, OrdTwin, UsSettled, XWindow, XRound, XCycle, XLoad, XFrame, XFrames, XChannel, XLate, XSilent}
+use Rattle.ttp_model.specs.declared.step.Step.TheVariants.{EsRelease, EsLink, EsBefore, EsArrive, EsMessage, LoSend, LeOwn, LeLink, LeBefore, LeMessage, LeSend, HiArrive, OrdWindow, OrdTwin, UsSettled, XWindow, XRound, XCycle, XLoad, XFrame, XFrames, XChannel, XLate, XSilent, XMirror}
 use Rattle.ttp_model.specs.declared.error.Place.TheVariants.{AtCluster}
 use Rattle.ttp_model.specs.Instance.{Instance, source_of}
 use Rattle.ttp_model.specs.Rules.{IsInstance}
@@ -123,3 +123,4 @@ concludes_some i c goal f (XFrames n a b) w premise = (_, refl)
 concludes_some i c goal f (XChannel k n a b) w premise = (_, refl)
 concludes_some i c goal f (XLate m r) w premise = (_, refl)
 concludes_some i c goal f (XSilent a b) w premise = (_, refl)
+concludes_some i c goal f (XMirror m) w premise = (_, refl)

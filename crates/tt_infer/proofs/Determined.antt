@@ -3,7 +3,7 @@ use Rattle.std.proofs.Common.{IsFalse, Result, Ok, Err, refl, ◌≡◌, ℕ, �
 use Rattle.std.proofs.lemmas.Bool.{cases_order, both_ways}
 use Rattle.std.proofs.Math.Nat.{le_antisymm}
 use Rattle.ttp_model.specs.declared.step.Step.{Step}
-use Rattle.ttp_model.specs.declared.step.Step.TheVariants.{EsRelease, EsLink, EsBefore, EsArrive, EsMessage, LoSend, LeOwn, LeLink, LeBefore, LeMessage, LeSend, HiArrive, OrdWindow, OrdTwin, UsSettled, XWindow, XRound, XCycle, XLoad, XFrame, XFrames, XChannel, XLate, XSilent}
+use Rattle.ttp_model.specs.declared.step.Step.TheVariants.{EsRelease, EsLink, EsBefore, EsArrive, EsMessage, LoSend, LeOwn, LeLink, LeBefore, LeMessage, LeSend, HiArrive, OrdWindow, OrdTwin, UsSettled, XWindow, XRound, XCycle, XLoad, XFrame, XFrames, XChannel, XLate, XSilent, XMirror}
 use Rattle.ttp_model.specs.Instance.{Instance}
 use Rattle.tt_choice.specs.Choice.{Choice}
 use Rattle.sought_plans.specs.Known.{Known}
@@ -56,6 +56,7 @@ concludes_one i c goal f (XFrames n a b) j k one other = one ∙ sym other
 concludes_one i c goal f (XChannel channel n a b) j k one other = one ∙ sym other
 concludes_one i c goal f (XLate m r) j k one other = one ∙ sym other
 concludes_one i c goal f (XSilent a b) j k one other = one ∙ sym other
+concludes_one i c goal f (XMirror m) j k one other = one ∙ sym other
 
 pub IsLawful-determined : (i : Instance) (c : Choice) (goal : ℕ) (f : Known) (step : Step) (g h : Known) → IsLawful i c goal f step g → IsLawful i c goal f step h → g ≡ h
 IsLawful-determined i c goal f step g h one other =

@@ -54,7 +54,7 @@ none_is_late i c plan f m r w ok settled inside t hm could =
     } in
     let sooner : r < round_of plan m = omega (arith, could.earlier, t.lo m hm) in
     let move : SendsEarlier i plan (sent plan m r) = record { message = m; round = r; is_there = hm; earlier = sooner; moved_is = refl } in
-    settled.rests (sent plan m r) (inl (inr move)) (sent_valid i plan m r v hm (omega (arith, sooner)) can)
+    settled.rests (sent plan m r) (inl (inl (inr move))) (sent_valid i plan m r v hm (omega (arith, sooner)) can)
 
 pub x_late_sound : (i : Instance) (c : Choice) (goal : ℕ) (f : Known) (plan : Plan) (m r : ℕ) → IsInstance i → IsChoice i c → IsSought i c goal plan → AreTrueOf i plan f → IsSoundFor i c goal f plan (XLate m r)
 x_late_sound i c goal f plan m r w ok sought t k there premise is =

@@ -10,6 +10,7 @@ pub mod Closers
 pub mod Twins
 pub mod Waits
 pub mod LateMessages
+pub mod Mirrors
 pub mod SilentTwins
 pub mod Keeps
 pub mod Sound
@@ -26,6 +27,7 @@ pub mod ThreeInOrder
 pub mod LateExample
 pub mod TwoSilent
 pub mod TwoChannels
+pub mod Mirrored
 pub mod InsideExample
 pub mod OneMessageRules
 pub mod monotone

@@ -27,7 +27,7 @@ none_stand_turned i c plan u v ok settled inside turned =
       ]
     ] in
     let move : SwapsSilentTwins i plan (exchanged plan u v) = record { first = u; second = v; twins = turned.twins; in_order = turned.in_order; later = omega (arith, later, v_at); moved_is = refl } in
-    settled.rests (exchanged plan u v) (inr (inr move)) (exchanged_valid i plan u v settled.valid turned.twins)
+    settled.rests (exchanged plan u v) (inl (inr (inr move))) (exchanged_valid i plan u v settled.valid turned.twins)
 
 pub x_silent_sound : (i : Instance) (c : Choice) (goal : ℕ) (f : Known) (plan : Plan) (u v : ℕ) → IsChoice i c → IsSought i c goal plan → IsSoundFor i c goal f plan (XSilent u v)
 x_silent_sound i c goal f plan u v ok sought k there premise is =

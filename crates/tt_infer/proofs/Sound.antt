@@ -2,7 +2,7 @@
 use Rattle.std.proofs.Common.{ℕ}
 use Rattle.ttp_model.specs.declared.plan.Plan.{Plan}
 use Rattle.ttp_model.specs.declared.step.Step.{Step}
-use Rattle.ttp_model.specs.declared.step.Step.TheVariants.{EsRelease, EsLink, EsBefore, EsArrive, EsMessage, LoSend, LeOwn, LeLink, LeBefore, LeMessage, LeSend, HiArrive, OrdWindow, OrdTwin, UsSettled, XWindow, XRound, XCycle, XLoad, XFrame, XFrames, XChannel, XLate, XSilent}
+use Rattle.ttp_model.specs.declared.step.Step.TheVariants.{EsRelease, EsLink, EsBefore, EsArrive, EsMessage, LoSend, LeOwn, LeLink, LeBefore, LeMessage, LeSend, HiArrive, OrdWindow, OrdTwin, UsSettled, XWindow, XRound, XCycle, XLoad, XFrame, XFrames, XChannel, XLate, XSilent, XMirror}
 use Rattle.ttp_model.specs.declared.error.Place.TheVariants.{AtLink}
 use Rattle.ttp_model.specs.Instance.{Instance}
 use Rattle.ttp_model.specs.Rules.{IsInstance}
@@ -21,6 +21,7 @@ use Rattle.tt_infer.proofs.Twins.{ord_twin_sound}
 use Rattle.tt_infer.proofs.Waits.{us_settled_sound}
 use Rattle.tt_infer.proofs.LateMessages.{x_late_sound}
 use Rattle.tt_infer.proofs.SilentTwins.{x_silent_sound}
+use Rattle.tt_infer.proofs.Mirrors.{x_mirror_sound}
 use Rattle.tt_infer.proofs.Keeps.{AreTrueOf-sharpened, Fits-sharpened}
 
 -- what a step concludes is about what the instance has
@@ -49,6 +50,7 @@ step_is_about i c goal f (XFrames n a b) k w there premise is = rw is tt
 step_is_about i c goal f (XChannel channel n a b) k w there premise is = rw is tt
 step_is_about i c goal f (XLate m r) k w there premise is = rw is tt
 step_is_about i c goal f (XSilent a b) k w there premise is = rw is tt
+step_is_about i c goal f (XMirror m) k w there premise is = rw is tt
 
 -- and is true of each sought plan of which the facts are true
 pub step_is_true : (i : Instance) (c : Choice) (goal : ℕ) (f : Known) (plan : Plan) (step : Step) → IsInstance i → IsChoice i c → IsSought i c goal plan → AreTrueOf i plan f → IsSoundFor i c goal f plan step
@@ -76,6 +78,7 @@ step_is_true i c goal f plan (XFrames n a b) w ok sought t = x_frames_sound i c 
 step_is_true i c goal f plan (XChannel channel n a b) w ok sought t = x_channel_sound i c goal f plan channel n a b w sought t
 step_is_true i c goal f plan (XLate m r) w ok sought t = x_late_sound i c goal f plan m r w ok sought t
 step_is_true i c goal f plan (XSilent a b) w ok sought t = x_silent_sound i c goal f plan a b ok sought
+step_is_true i c goal f plan (XMirror m) w ok sought t = x_mirror_sound i c goal f plan m w sought t
 
 -- after a lawful step the facts are about the instance
 pub Fits-step : (i : Instance) (c : Choice) (goal : ℕ) (f : Known) (step : Step) (g : Known) → Fits i f → IsLawful i c goal f step g → Fits i g

@@ -20,7 +20,7 @@ twins_in_order i plan p q w settled twins lt = elim (two_apart i plan p q settle
   | inr second ↦
       let long = (w.ranges (AtProcess q) twins.q_is).wcet_least in
       let move : SwapsTwins i plan (swapped plan p q) = record { first = p; second = q; twins = twins; in_order = lt; later = omega (arith, second, long); moved_is = refl } in
-      absurd (settled.rests (swapped plan p q) (inr (inl move)) (swapped_valid i plan p q w settled.valid twins))
+      absurd (settled.rests (swapped plan p q) (inl (inr (inl move))) (swapped_valid i plan p q w settled.valid twins))
 ]
 
 pub ord_twin_sound : (i : Instance) (c : Choice) (goal : ℕ) (f : Known) (plan : Plan) (p q : ℕ) → IsInstance i → IsSought i c goal plan → IsSoundFor i c goal f plan (OrdTwin p q)

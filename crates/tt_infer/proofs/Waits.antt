@@ -50,7 +50,7 @@ starts_by i c plan f p time w ok settled inside t hp wait = elim (cases_lt time 
       let sooner : ℕ = start_of plan p - 1 in
       let move : StartsEarlier i plan (started plan p sooner) = record { process = p; is_there = hp; above = omega (arith, later); moved_is = refl } in
       let can = can_start i c plan f p time w ok settled.valid inside t hp wait sooner (omega (arith, later)) in
-      absurd (settled.rests (started plan p sooner) (inl (inl move)) (started_valid i plan p sooner w settled.valid hp (omega arith) can))
+      absurd (settled.rests (started plan p sooner) (inl (inl (inl move))) (started_valid i plan p sooner w settled.valid hp (omega arith) can))
   | inr over ↦ over
 ]
 

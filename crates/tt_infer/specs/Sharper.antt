@@ -1,7 +1,7 @@
 -- When at least as much is known, and when steps lead on in the same way there. Own profile.
 use Rattle.std.specs.Prelude.{◌≡◌, ℕ, ◌≤◌, List, [], ◌∷◌, ◌++◌, IsTrue}
 use Rattle.ttp_model.specs.declared.step.Step.{Step}
-use Rattle.ttp_model.specs.declared.step.Step.TheVariants.{EsRelease, EsLink, EsBefore, EsArrive, EsMessage, LoSend, LeOwn, LeLink, LeBefore, LeMessage, LeSend, HiArrive, OrdWindow, OrdTwin, UsSettled, XWindow, XRound, XCycle, XLoad, XFrame, XFrames, XChannel, XLate, XSilent}
+use Rattle.ttp_model.specs.declared.step.Step.TheVariants.{EsRelease, EsLink, EsBefore, EsArrive, EsMessage, LoSend, LeOwn, LeLink, LeBefore, LeMessage, LeSend, HiArrive, OrdWindow, OrdTwin, UsSettled, XWindow, XRound, XCycle, XLoad, XFrame, XFrames, XChannel, XLate, XSilent, XMirror}
 use Rattle.ttp_model.specs.Instance.{Instance}
 use Rattle.tt_choice.specs.Choice.{Choice}
 use Rattle.sought_plans.specs.Known.{Known, es_of, le_of, lo_of, top_of, bef_of}
@@ -45,6 +45,7 @@ AsksForRounds (XFrames n a b) = ⊥
 AsksForRounds (XChannel k n a b) = ⊥
 AsksForRounds (XLate m r) = ⊥
 AsksForRounds (XSilent u v) = ⊥
+AsksForRounds (XMirror m) = ⊥
 
 -- a step leads on to where at least as much is known as g tells
 pub record LeadsAsFar (i : Instance) (c : Choice) (goal : ℕ) (f : Known) (step : Step) (g : Known) : Type 0 where

@@ -1,14 +1,14 @@
 -- The steps of inference as a table: what each names, what it asks for, and what it concludes. Own profile.
 use Rattle.std.specs.Prelude.{◌≡◌, ℕ, ◌+◌, ◌-◌, ◌<◌, ◌≤◌, IsTrue, List, length, slice_index, min}
 use Rattle.ttp_model.specs.declared.step.Step.{Step}
-use Rattle.ttp_model.specs.declared.step.Step.TheVariants.{EsRelease, EsLink, EsBefore, EsArrive, EsMessage, LoSend, LeOwn, LeLink, LeBefore, LeMessage, LeSend, HiArrive, OrdWindow, OrdTwin, UsSettled, XWindow, XRound, XCycle, XLoad, XFrame, XFrames, XChannel, XLate, XSilent}
+use Rattle.ttp_model.specs.declared.step.Step.TheVariants.{EsRelease, EsLink, EsBefore, EsArrive, EsMessage, LoSend, LeOwn, LeLink, LeBefore, LeMessage, LeSend, HiArrive, OrdWindow, OrdTwin, UsSettled, XWindow, XRound, XCycle, XLoad, XFrame, XFrames, XChannel, XLate, XSilent, XMirror}
 use Rattle.ttp_model.specs.Lists.{EachBelow}
 use Rattle.ttp_model.specs.Instance.{Instance, process_at, message_at, link_at, source_of}
 use Rattle.tt_choice.specs.Choice.{Choice, ArePair}
 use Rattle.tt_choice.specs.Extremes.{start_most, end_least, cap_most, dur_least}
 use Rattle.sought_plans.specs.Known.{Known, le_of, lo_of, top_of, bef_of}
 use Rattle.sought_plans.specs.Conclusions.{Conclusion, StartsFrom, EndsUntil, SentFrom, SentBefore, GoesFirst, NothingLeft, sharpened}
-use Rattle.sought_plans.specs.Dominance.{AreTwinsInOrder, HasRounds, IsGreatestWait, CouldBeEarlier, StandTurned}
+use Rattle.sought_plans.specs.Dominance.{AreTwinsInOrder, HasRounds, IsGreatestWait, CouldBeEarlier, StandTurned, IsMirrored}
 use Rattle.sought_plans.specs.Premises.{Receives, wcet_of, sender_of, least_end, most_start, least_ready, IsFirstChance, AreChances, IsRing, IsOverloaded, AreOverfull, AreOverfullOn}
 
 -- a row: what the step names is there, its premise, and what it concludes
@@ -75,6 +75,7 @@ rule i c goal f (XFrames n a b) = row (IsNode i n) (AreOverfull i c f n a b) (Ju
 rule i c goal f (XChannel k n a b) = row (HasHalf i n k) (AreOverfullOn i c f k n a b) (Just NothingLeft)
 rule i c goal f (XLate m r) = row (IsMessage i m) (CouldBeEarlier i c f m r) (Just NothingLeft)
 rule i c goal f (XSilent u v) = row (IsNode i u × IsNode i v) (StandTurned i c u v) (Just NothingLeft)
+rule i c goal f (XMirror m) = row (IsMessage i m) (IsMirrored i c f m) (Just NothingLeft)
 
 -- a step of the table: what it names is there, its premise holds, and what is known after it is what
 -- was known before, sharpened by its conclusion

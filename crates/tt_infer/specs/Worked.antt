@@ -23,3 +23,13 @@ on_one_channel = fix_channel (fix_channel in_one_round 0 0) 1 0
 
 abbrev pub one_on_both : Choice
 one_on_both = fix_channel in_one_round 0 2
+
+-- in whatever round, the first on channel 1, or the second there, or the second there and the first on both
+abbrev pub first_on_second : Choice
+first_on_second = fix_channel (root_choice (two_messages false)) 0 1
+
+abbrev pub next_on_second : Choice
+next_on_second = fix_channel (root_choice (two_messages false)) 1 1
+
+abbrev pub next_behind_both : Choice
+next_behind_both = fix_channel next_on_second 0 2

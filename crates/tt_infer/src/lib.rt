@@ -16,7 +16,7 @@ pub use laws::{
     steps_are_sound, steps_lead_as_far_inside, steps_only_sharpen,
 };
 pub use worked::{
-    messages_of_two_channels_close, one_message_closes_at_9, one_message_closes_inside,
-    one_message_is_not_sent_late, silent_twins_stand_in_order, three_alike_close_at_6,
-    three_alike_end_by_2_4_6,
+    messages_lead_on_the_first_channel, messages_of_two_channels_close, one_message_closes_at_9,
+    one_message_closes_inside, one_message_is_not_sent_late, silent_twins_stand_in_order,
+    three_alike_close_at_6, three_alike_end_by_2_4_6,
 };

@@ -48,5 +48,6 @@ pub fn take(known: &mut Known, setting: &Setting, step: &Step) -> Result<(), Ste
         Step::XChannel(k, n, a, b) => loads::x_channel(known, setting, *k, *n, *a, *b),
         Step::XLate(m, r) => dominance::x_late(known, setting, *m, *r),
         Step::XSilent(u, v) => dominance::x_silent(known, setting, *u, *v),
+        Step::XMirror(m) => dominance::x_mirror(known, setting, *m),
     }
 }

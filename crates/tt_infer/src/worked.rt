@@ -1,7 +1,7 @@
 //! Steps on worked examples. These functions do nothing: their contracts are what the steps come to.
 
 ghost use Rattle.std.specs.Prelude.{◌≡◌, ◌∷◌, [], ℕ, false};
-ghost use Rattle.ttp_model.specs.declared.step.Step.TheVariants.{EsRelease, LoSend, EsArrive, LeOwn, LeSend, HiArrive, OrdTwin, UsSettled, XWindow, XRound, XLoad, XFrames, XChannel, XLate, XSilent};
+ghost use Rattle.ttp_model.specs.declared.step.Step.TheVariants.{EsRelease, LoSend, EsArrive, LeOwn, LeSend, HiArrive, OrdTwin, UsSettled, XWindow, XRound, XLoad, XFrames, XChannel, XLate, XSilent, XMirror};
 ghost use Rattle.ttp_model.specs.Delays.{IsLowerBound};
 ghost use Rattle.ttp_model.specs.Worked.{one_message, three_alike, two_messages};
 ghost use Rattle.tt_choice.specs.Branches.{root_choice, at_least, place_next};
@@ -10,7 +10,7 @@ ghost use Rattle.tt_infer.specs.declared.fault.StepFault.TheVariants.{NoPremise,
 ghost use Rattle.sought_plans.specs.Known.{Known, first_facts};
 ghost use Rattle.tt_infer.specs.Leaves.{Lead, ClosesLeaf};
 ghost use Rattle.tt_infer.specs.Answers.{IsStepFault};
-ghost use Rattle.tt_infer.specs.Worked.{two_silent, on_one_channel, one_on_both};
+ghost use Rattle.tt_infer.specs.Worked.{two_silent, on_one_channel, one_on_both, first_on_second, next_on_second, next_behind_both};
 
 /// Process p takes 3 ticks, so its message is sent in round 1, from 4 to 7, and q ends at 9: five
 /// steps close the root choice at 9. At 10 they don't. No plan has a smaller delay, settled or not.
@@ -113,4 +113,18 @@ pub fn messages_of_two_channels_close()
         (first_facts (two_messages false) one_on_both) (XChannel 0 0 0 1) NoPremise }
     ensures alone { (goal : ℕ) → IsStepFault one_message (root_choice one_message) goal
         (first_facts one_message (root_choice one_message)) (XChannel 0 0 0 1) NoSuchIndex }
+{}
+
+/// A settled plan has the first message that is on one channel alone on channel 0, in each frame: one step closes the choice in which
+/// the first of two is on channel 1, and that in which the second is and the first on both, at each goal. It is refused where no channel
+/// is chosen, where the first may lead the frame of the second, and where there is one channel.
+pub fn messages_lead_on_the_first_channel()
+    ensures first { (goal : ℕ) → ClosesLeaf (two_messages false) first_on_second (record { goal = goal; steps = XMirror 0 ∷ [] }) }
+    ensures behind_both { (goal : ℕ) → ClosesLeaf (two_messages false) next_behind_both (record { goal = goal; steps = XMirror 1 ∷ [] }) }
+    ensures free { (goal : ℕ) → IsStepFault (two_messages false) (root_choice (two_messages false)) goal
+        (first_facts (two_messages false) (root_choice (two_messages false))) (XMirror 0) NoPremise }
+    ensures behind_free { (goal : ℕ) → IsStepFault (two_messages false) next_on_second goal
+        (first_facts (two_messages false) next_on_second) (XMirror 1) NoPremise }
+    ensures alone { (goal : ℕ) → IsStepFault one_message (root_choice one_message) goal
+        (first_facts one_message (root_choice one_message)) (XMirror 0) NoPremise }
 {}

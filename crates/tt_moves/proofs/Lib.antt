@@ -4,3 +4,4 @@ pub mod EarlierRounds
 pub mod Swaps
 pub mod ExchangedTwins
 pub mod ExchangedSilentTwins
+pub mod TurnedFrames

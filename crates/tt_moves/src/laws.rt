@@ -1,12 +1,12 @@
 //! What follows from the definitions alone? These functions do nothing: their contracts are laws.
 
-ghost use Rattle.std.specs.Prelude.{◌<◌, ◌≤◌, ℕ, length};
+ghost use Rattle.std.specs.Prelude.{◌<◌, ◌≤◌, IsTrue, ℕ, length};
 ghost use Rattle.ttp_model.specs.declared.plan.Plan.{Plan};
 ghost use Rattle.ttp_model.specs.Instance.{Instance};
 ghost use Rattle.ttp_model.specs.Rules.{IsInstance};
 ghost use Rattle.ttp_model.specs.Plans.{IsValid, round_of, start_of};
 ghost use Rattle.ttp_model.specs.Twins.{AreSilentTwins, AreTwins};
-ghost use Rattle.ttp_model.specs.Moves.{exchanged, sent, started, swapped};
+ghost use Rattle.ttp_model.specs.Moves.{exchanged, leads_turned, sent, started, swapped, turned};
 ghost use Rattle.tt_moves.specs.Earlier.{CanBeSent, CanStart};
 
 /// A plan stays valid where a process starts earlier, at a time by which all is over that it waits
@@ -36,4 +36,11 @@ pub fn exchanged_twins_stay_valid()
 pub fn exchanged_silent_twins_stay_valid()
     ensures { (i : Instance) (plan : Plan) (u v : ℕ)
         → IsValid i plan → AreSilentTwins i u v → IsValid i (exchanged plan u v) }
+{}
+
+/// A plan stays valid where the channels of a turned frame are exchanged: both halves of a frame have the same capacity.
+pub fn turned_frames_stay_valid()
+    ensures { (i : Instance) (plan : Plan) (m : ℕ)
+        → IsInstance i → IsValid i plan → m < length i.messages → IsTrue (leads_turned i plan m)
+        → IsValid i (turned i plan m) }
 {}

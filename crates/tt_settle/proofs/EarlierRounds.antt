@@ -18,7 +18,7 @@ module _ (i : Instance) (plan : Plan) (m r : ℕ) (w : IsInstance i) (v : IsVali
   better_sent sooner is_ready room =
       let can : CanBeSent i plan m r = record { ready = is_ready; fits = λ c within on. omega (arith, comes i plan m r v hm c on (λ is. omega (arith, is, sooner)), room c within on) } in
       let move : SendsEarlier i plan (sent plan m r) = record { message = m; round = r; is_there = hm; earlier = sooner; moved_is = refl } in
-      better_by_move i plan (sent plan m r) w v (sent_valid i plan m r v hm (omega (arith, sooner)) can) (inl (inr move))
+      better_by_move i plan (sent plan m r) w v (sent_valid i plan m r v hm (omega (arith, sooner)) can) (inl (inl (inr move)))
 
   -- an earlier round in which it isn't ready or has no room won't do
   not_sent : r < round_of plan m → (ready_at i plan m ≤ slot_of i plan m r → ¬ HasRoom i plan m r) → ¬ IsValid i (sent plan m r)

@@ -71,7 +71,7 @@ module _ (i : Instance) (plan : Plan) (p time : ℕ) (w : IsInstance i) (v : IsV
   ticks (suc k) late is sooner =
       let after : late ≡ time + k + 1 = omega (arith, is) in
       rw after (one_more (started plan p (time + k + 1)) (started plan p (time + k)) (started plan p time)
-      (inl (inl (tick (time + k) (omega arith) (omega (arith, after, sooner)))))
+      (inl (inl (inl (tick (time + k) (omega arith) (omega (arith, after, sooner))))))
       (started_valid i plan p (time + k) w v hp (omega (arith, after, sooner)) (can_start (time + k) (omega arith)))
       (ticks k (time + k) refl (omega (arith, after, sooner))))
 

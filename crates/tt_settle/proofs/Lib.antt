@@ -5,3 +5,5 @@ pub mod EarlierRounds
 pub mod Swapping
 pub mod Passing
 pub mod Listed
+pub mod Turning
+pub mod Exchanging

@@ -6,7 +6,7 @@ use Rattle.ttp_model.specs.Instance.{Instance, message_at}
 use Rattle.ttp_model.specs.Plans.{IsValid, start_of, round_of}
 use Rattle.ttp_model.specs.Delays.{delay}
 use Rattle.ttp_model.specs.Twins.{AreTwins, AreSilentTwins}
-use Rattle.ttp_model.specs.Moves.{IsLighter, MovesLead, exchanged, position_of, sent, started, swapped, weight}
+use Rattle.ttp_model.specs.Moves.{IsLighter, MovesLead, exchanged, leads_turned, position_of, sent, started, swapped, turned, weight}
 
 -- process p can't start a tick earlier
 abbrev pub RestsAtStart : Instance → Plan → ℕ → Type 0
@@ -28,6 +28,10 @@ RestsAmongTwins i plan p = (q : ℕ) → p < q → q < length i.processes → Re
 abbrev pub RestAsSilentTwins : Instance → Plan → ℕ → ℕ → Type 0
 RestAsSilentTwins i plan u v = AreSilentTwins i u v → position_of plan v < position_of plan u → ¬ IsValid i (exchanged plan u v)
 
+-- message m doesn't lead a turned frame whose channels can be exchanged
+abbrev pub RestsOnChannel : Instance → Plan → ℕ → Type 0
+RestsOnChannel i plan m = IsTrue (leads_turned i plan m) → ¬ IsValid i (turned i plan m)
+
 -- process p can't start earlier, nor any message that it sends be sent earlier
 pub record RestsWithMessages (i : Instance) (plan : Plan) (p : ℕ) : Type 0 where
   pub start : RestsAtStart i plan p
@@ -47,6 +51,7 @@ pub record RestsWhole (i : Instance) (plan : Plan) : Type 0 where
   pub in_time : RestsInTime i plan
   pub twins : EachBelow (length i.processes) (RestsAmongTwins i plan)
   pub silent_twins : EachBelow (length i.nodes) (λ v. EachBelow v (λ u. RestAsSilentTwins i plan u v))
+  pub channels : EachBelow (length i.messages) (RestsOnChannel i plan)
 
 -- another plan, to which moves lead, is valid, ends no later and is lighter
 pub record IsBetter (i : Instance) (plan better : Plan) : Type 0 where

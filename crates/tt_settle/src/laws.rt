@@ -1,12 +1,12 @@
 //! What follows from the definitions alone? These functions do nothing: their contracts are laws.
 
-ghost use Rattle.std.specs.Prelude.{◌≡◌, ◌+◌, ◌≤◌, ◌⊎◌, ℕ};
+ghost use Rattle.std.specs.Prelude.{◌≡◌, ◌+◌, ◌≤◌, ◌⊎◌, ◌↔◌, ℕ};
 ghost use Rattle.ttp_model.specs.declared.plan.Plan.{Plan};
 ghost use Rattle.ttp_model.specs.Instance.{Instance};
 ghost use Rattle.ttp_model.specs.Rules.{IsInstance};
 ghost use Rattle.ttp_model.specs.Plans.{IsValid};
 ghost use Rattle.ttp_model.specs.Delays.{delay};
-ghost use Rattle.ttp_model.specs.Moves.{Move, MovesLead, IsLighter, IsSettled, weight};
+ghost use Rattle.ttp_model.specs.Moves.{Move, MoveOnChannels, MovesLead, IsLighter, IsSettled, weight};
 
 /// Each move from a valid plan to a valid plan lowers the weight.
 pub fn moves_lower_the_weight()
@@ -44,4 +44,11 @@ pub fn a_settled_plan_is_reached()
     ensures { (i : Instance) (plan : Plan)
         → IsInstance i → IsValid i plan
         → (settled : Plan) × MovesLead i plan settled × IsSettled i settled }
+{}
+
+/// With one channel no frame of a valid plan is turned: a plan is settled exactly where it is valid and none of the four moves that
+/// leave messages on their channels gives a valid plan.
+pub fn one_channel_turns_no_frame()
+    ensures { (i : Instance) (plan : Plan) → i.cluster.channels ≡ 1
+        → IsSettled i plan ↔ (IsValid i plan × ((moved : Plan) → MoveOnChannels i plan moved → ¬ IsValid i moved)) }
 {}

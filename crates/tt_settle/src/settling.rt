@@ -6,13 +6,13 @@ ghost use Rattle.ttp_model.specs.Delays.{delay};
 ghost use Rattle.ttp_model.specs.Moves.{IsSettled, MovesLead};
 ghost use Rattle.tt_settle.specs.Settling.{IsTried, RestsWhole};
 
-use crate::{passes, swaps};
+use crate::{passes, swaps, turns};
 use std::alloc::Global;
 use ttp_model::{Instance, MemoryFault, Plan};
 
 /// A settled plan, to which the moves lead from a valid one, with no larger delay.
 ///
-/// It goes through the four kinds of moves in turn, until none is left. A process goes at once to
+/// It goes through the five kinds of moves in turn, until none is left. A process goes at once to
 /// the end of what it waits for, and a message to the first round that has room for it, however
 /// many ticks lie between. The plan is changed in place: no memory is taken, so the error never
 /// comes.
@@ -56,6 +56,7 @@ fn try_moves(instance: &Instance, plan: Plan) -> (Plan, bool)
 {
     let (plan, ordered) = swaps::order_twins(instance, plan);
     let (plan, exchanged) = swaps::order_silent_twins(instance, plan);
+    let (plan, turned) = turns::turn_frames(instance, plan);
     let (plan, earlier) = passes::go_earlier(instance, plan);
-    (plan, ordered | exchanged | earlier)
+    (plan, ordered | exchanged | turned | earlier)
 }

@@ -8,7 +8,7 @@ use Rattle.ttp_model.specs.Instance.{Instance}
 use Rattle.ttp_model.specs.Rules.{IsInstance}
 use Rattle.ttp_model.specs.Plans.{IsValid, start_of, end_of}
 use Rattle.ttp_model.specs.Delays.{delay}
-use Rattle.ttp_model.specs.Moves.{Move, StartsEarlier, SendsEarlier, SwapsTwins, SwapsSilentTwins}
+use Rattle.ttp_model.specs.Moves.{Move, StartsEarlier, SendsEarlier, SwapsTwins, SwapsSilentTwins, TurnsFrame}
 use Rattle.ttp_model.proofs.ValidPlans.{greatest_each, greatest_reached}
 
 -- what no element of a list is past after one of them is lowered
@@ -44,6 +44,9 @@ module _ (i : Instance) (plan moved : Plan) (w : IsInstance i) (v : IsValid i pl
   swaps_silent_twins : SwapsSilentTwins i plan moved → delay i moved ≤ delay i plan
   swaps_silent_twins move = by_starts (λ p inside. let is : start_of moved p ≡ start_of plan p = ap (λ m. start_of m p) move.moved_is in omega (arith, is))
 
+  turns_frame : TurnsFrame i plan moved → delay i moved ≤ delay i plan
+  turns_frame move = by_starts (λ p inside. let is : start_of moved p ≡ start_of plan p = ap (λ m. start_of m p) move.moved_is in omega (arith, is))
+
   swaps_twins : SwapsTwins i plan moved → delay i moved ≤ delay i plan
   swaps_twins move = ends_by each
     where
@@ -61,7 +64,8 @@ module _ (i : Instance) (plan moved : Plan) (w : IsInstance i) (v : IsValid i pl
           ]
 
 pub keeps_delay : (i : Instance) (plan moved : Plan) → IsInstance i → IsValid i plan → IsValid i moved → Move i plan moved → delay i moved ≤ delay i plan
-keeps_delay i plan moved w v after (inl (inl move)) = starts_earlier i plan moved w v move
-keeps_delay i plan moved w v after (inl (inr move)) = sends_earlier i plan moved w v move
-keeps_delay i plan moved w v after (inr (inl move)) = swaps_twins i plan moved w v move
-keeps_delay i plan moved w v after (inr (inr move)) = swaps_silent_twins i plan moved w v move
+keeps_delay i plan moved w v after (inl (inl (inl move))) = starts_earlier i plan moved w v move
+keeps_delay i plan moved w v after (inl (inl (inr move))) = sends_earlier i plan moved w v move
+keeps_delay i plan moved w v after (inl (inr (inl move))) = swaps_twins i plan moved w v move
+keeps_delay i plan moved w v after (inl (inr (inr move))) = swaps_silent_twins i plan moved w v move
+keeps_delay i plan moved w v after (inr move) = turns_frame i plan moved w v move

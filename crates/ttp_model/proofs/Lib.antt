@@ -26,6 +26,7 @@ pub mod Descent
 pub mod NextMoves
 pub mod Delays
 pub mod Positions
+pub mod TurnedFrames
 pub mod Lighter
 pub mod Reached
 pub mod Walks

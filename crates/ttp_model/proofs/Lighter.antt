@@ -7,10 +7,11 @@ use Rattle.ttp_model.specs.declared.plan.Plan.{Plan}
 use Rattle.ttp_model.specs.Instance.{Instance}
 use Rattle.ttp_model.specs.Rules.{IsInstance}
 use Rattle.ttp_model.specs.Plans.{IsValid, start_of}
-use Rattle.ttp_model.specs.Moves.{Move, StartsEarlier, SendsEarlier, SwapsTwins, SwapsSilentTwins, IsLighter, weight, time_weight, start_weight, position_weight, position_of}
+use Rattle.ttp_model.specs.Moves.{Move, StartsEarlier, SendsEarlier, SwapsTwins, SwapsSilentTwins, TurnsFrame, IsLighter, weight, time_weight, start_weight, position_weight, turned_frames, position_of}
 use Rattle.ttp_model.proofs.PlanNumbers.{start_below_horizon}
 use Rattle.ttp_model.proofs.Totals.{total_two_places}
 use Rattle.ttp_model.proofs.Positions.{position_is, position_inside}
+use Rattle.ttp_model.proofs.TurnedFrames.{one_less_turned}
 
 times_less : (e x y : ℕ) → y < x → suc e * y < suc e * x
 times_less e x y less = omega (arith, suc-mul e x, suc-mul e y, mul-le-mul_left e (le_of_lt less))
@@ -57,7 +58,7 @@ module _ (i : Instance) (plan moved : Plan) (w : IsInstance i) (v : IsValid i pl
       let crossed = crossed_less a b (i.cluster.horizon - start_of plan b) (i.cluster.horizon - start_of plan a) move.in_order (omega (arith, move.later, early)) in
       let first : a * (i.cluster.horizon - start_of moved a) ≡ a * (i.cluster.horizon - start_of plan b) = ap (λ s. a * (i.cluster.horizon - s)) places.0 in
       let second : b * (i.cluster.horizon - start_of moved b) ≡ b * (i.cluster.horizon - start_of plan a) = ap (λ s. b * (i.cluster.horizon - s)) places.1 in
-      inr (omega (arith, rounds, kept), omega (arith, positions, weights, crossed, first, second))
+      inr (omega (arith, rounds, kept), inl (omega (arith, positions, weights, crossed, first, second)))
 
   swaps_silent_twins : SwapsSilentTwins i plan moved → IsLighter (weight i moved) (weight i plan)
   swaps_silent_twins move =
@@ -84,10 +85,17 @@ module _ (i : Instance) (plan moved : Plan) (w : IsInstance i) (v : IsValid i pl
       let crossed = crossed_less u other (length i.nodes - b) (length i.nodes - a) move.in_order (omega (arith, move.later, at_u.0, v.lengths.order)) in
       let first : u * (length i.nodes - position_of moved u) ≡ u * (length i.nodes - b) = ap (λ s. u * (length i.nodes - s)) u_then in
       let second : other * (length i.nodes - position_of moved other) ≡ other * (length i.nodes - a) = ap (λ s. other * (length i.nodes - s)) other_then in
-      inr (times, omega (arith, starts, weights, crossed, first, second))
+      inr (times, inl (omega (arith, starts, weights, crossed, first, second)))
+
+  turns_frame : TurnsFrame i plan moved → IsLighter (weight i moved) (weight i plan)
+  turns_frame move =
+      let times : time_weight moved ≡ time_weight plan = ap time_weight move.moved_is in
+      let twins : start_weight i moved + position_weight i moved ≡ start_weight i plan + position_weight i plan = ap (λ m. start_weight i m + position_weight i m) move.moved_is in
+      inr (times, inr (twins, omega (arith, ap (turned_frames i) move.moved_is, one_less_turned i plan move.message move.is_there move.leads)))
 
 pub lowers_weight : (i : Instance) (plan moved : Plan) → IsInstance i → IsValid i plan → IsValid i moved → Move i plan moved → IsLighter (weight i moved) (weight i plan)
-lowers_weight i plan moved w v after (inl (inl move)) = starts_earlier i plan moved w v after move
-lowers_weight i plan moved w v after (inl (inr move)) = sends_earlier i plan moved w v after move
-lowers_weight i plan moved w v after (inr (inl move)) = swaps_twins i plan moved w v after move
-lowers_weight i plan moved w v after (inr (inr move)) = swaps_silent_twins i plan moved w v after move
+lowers_weight i plan moved w v after (inl (inl (inl move))) = starts_earlier i plan moved w v after move
+lowers_weight i plan moved w v after (inl (inl (inr move))) = sends_earlier i plan moved w v after move
+lowers_weight i plan moved w v after (inl (inr (inl move))) = swaps_twins i plan moved w v after move
+lowers_weight i plan moved w v after (inl (inr (inr move))) = swaps_silent_twins i plan moved w v after move
+lowers_weight i plan moved w v after (inr move) = turns_frame i plan moved w v after move

@@ -1,21 +1,27 @@
 -- The moves lead from each valid plan to a settled one. On the way plans stay valid, end no later and grow lighter.
-use Rattle.std.proofs.Common.{◌≡◌, ℕ, ◌≤◌, ◌⊎◌, arith, inl, inr, refl, ◌∙◌}
+use Rattle.std.proofs.Common.{◌≡◌, ◌<◌, ◌≤◌, ◌⊎◌, arith, inl, inr, refl, ◌∙◌}
 use Rattle.ttp_model.specs.declared.plan.Plan.{Plan}
 use Rattle.ttp_model.specs.Instance.{Instance}
 use Rattle.ttp_model.specs.Rules.{IsInstance}
 use Rattle.ttp_model.specs.Plans.{IsValid}
 use Rattle.ttp_model.specs.Delays.{delay}
-use Rattle.ttp_model.specs.Moves.{Move, MovesLead, none, one_more, IsLighter, IsSettled, weight}
+use Rattle.ttp_model.specs.Moves.{Move, MovesLead, none, one_more, Weight, IsLighter, IsSettled, weight}
 use Rattle.ttp_model.proofs.Descent.{by_weight}
 use Rattle.ttp_model.proofs.NextMoves.{move_or_none}
 use Rattle.ttp_model.proofs.Delays.{keeps_delay}
 use Rattle.ttp_model.proofs.Lighter.{lowers_weight}
 
-pub lighter_still : (a b c : ℕ × ℕ) → IsLighter b a → IsLighter c b → IsLighter c a
+pub lighter_still : (a b c : Weight) → IsLighter b a → IsLighter c b → IsLighter c a
 lighter_still a b c (inl one) (inl two) = inl (omega (arith, one, two))
 lighter_still a b c (inl one) (inr two) = inl (omega (arith, one, two.0))
 lighter_still a b c (inr one) (inl two) = inl (omega (arith, one.0, two))
-lighter_still a b c (inr one) (inr two) = inr (two.0 ∙ one.0, omega (arith, one.1, two.1))
+lighter_still a b c (inr one) (inr two) = inr (two.0 ∙ one.0, second one.1 two.1)
+  where
+    second : (b.twins < a.twins) ⊎ ((b.twins ≡ a.twins) × (b.frames < a.frames)) → (c.twins < b.twins) ⊎ ((c.twins ≡ b.twins) × (c.frames < b.frames)) → (c.twins < a.twins) ⊎ ((c.twins ≡ a.twins) × (c.frames < a.frames))
+    second (inl one) (inl two) = inl (omega (arith, one, two))
+    second (inl one) (inr two) = inl (omega (arith, one, two.0))
+    second (inr one) (inl two) = inl (omega (arith, one.0, two))
+    second (inr one) (inr two) = inr (two.0 ∙ one.0, omega (arith, one.1, two.1))
 
 -- moves that lead on after others
 pub leads_on : (i : Instance) (plan next last : Plan) → MovesLead i plan next → MovesLead i next last → MovesLead i plan last

@@ -100,7 +100,7 @@ exchange = record { first = 0; second = 2; twins = outer_twins; in_order = lit< 
 
 -- one starts a tick earlier, then it and another exchange their starts
 pub two_moves : MovesLead three_alike (three_alike_plan (5 ∷ 2 ∷ 0 ∷ [])) (three_alike_plan (0 ∷ 2 ∷ 4 ∷ []))
-two_moves = one_more _ (three_alike_plan (4 ∷ 2 ∷ 0 ∷ [])) _ (inl (inl earlier)) turned_valid (one_more _ (three_alike_plan (0 ∷ 2 ∷ 4 ∷ [])) _ (inr (inl exchange)) first_valid (none _))
+two_moves = one_more _ (three_alike_plan (4 ∷ 2 ∷ 0 ∷ [])) _ (inl (inl (inl earlier))) turned_valid (one_more _ (three_alike_plan (0 ∷ 2 ∷ 4 ∷ [])) _ (inl (inr (inl exchange))) first_valid (none _))
 
 no_earlier_start : (p : ℕ) (moved : Plan) → p < 3 → 0 < start_of (three_alike_plan (0 ∷ 2 ∷ 4 ∷ [])) p → moved ≡ started (three_alike_plan (0 ∷ 2 ∷ 4 ∷ [])) p (start_of (three_alike_plan (0 ∷ 2 ∷ 4 ∷ [])) p - 1) → ¬ IsValid three_alike moved
 no_earlier_start zero moved lt above is v = absurd (omega arith)
@@ -119,10 +119,11 @@ in_order (suc (suc a)) b less inside later = omega arith
 in_order a (suc (suc (suc b))) less inside later = omega arith
 
 no_move : (moved : Plan) → Move three_alike (three_alike_plan (0 ∷ 2 ∷ 4 ∷ [])) moved → ¬ IsValid three_alike moved
-no_move moved (inl (inl move)) v = no_earlier_start move.process moved move.is_there move.above move.moved_is v
-no_move moved (inl (inr move)) v = omega (arith, move.is_there)
-no_move moved (inr (inl move)) v = in_order move.first move.second move.in_order move.twins.q_is move.later
-no_move moved (inr (inr move)) v = omega (arith, move.twins.v_is, move.in_order)
+no_move moved (inl (inl (inl move))) v = no_earlier_start move.process moved move.is_there move.above move.moved_is v
+no_move moved (inl (inl (inr move))) v = omega (arith, move.is_there)
+no_move moved (inl (inr (inl move))) v = in_order move.first move.second move.in_order move.twins.q_is move.later
+no_move moved (inl (inr (inr move))) v = omega (arith, move.twins.v_is, move.in_order)
+no_move moved (inr move) v = omega (arith, move.is_there)
 
 pub first_settled : IsSettled three_alike (three_alike_plan (0 ∷ 2 ∷ 4 ∷ []))
 first_settled = record { valid = first_valid; rests = no_move }

@@ -97,6 +97,7 @@ impl<'a> Reader<'a> {
             Step::XFrames(n, a, b) => self.frames(path, *n, *a, *b, uses),
             Step::XChannel(k, n, a, b) => self.frames_on(path, *k, *n, *a, *b, uses),
             Step::XLate(m, r) => self.late(path, *m, *r, uses),
+            Step::XMirror(m) => self.mirror(path, *m, uses),
         }
     }
 
@@ -264,6 +265,28 @@ impl<'a> Reader<'a> {
         match path.least(m) {
             Some(cut) => r < cut.round && !self.given.has_least(m),
             None => false,
+        }
+    }
+
+    /// That a message is on channel 1, and that no lower one of its node may lead its frame.
+    fn mirror(&self, path: &Path, m: u32, uses: &mut Uses) {
+        if let Some(n) = self.source(m) {
+            uses.channel(path.channel(m));
+            for k in self.instance.messages_of(n) {
+                if *k < m {
+                    self.aside(path, m, *k, uses);
+                }
+            }
+        }
+    }
+
+    /// That a message is on both channels, or else in no round together with another.
+    fn aside(&self, path: &Path, m: u32, k: u32, uses: &mut Uses) {
+        if is_put_on_both(path, k) {
+            uses.channel(path.channel(k));
+        } else if !self.needs_both(k) {
+            self.rounds(path, k, uses);
+            self.rounds(path, m, uses);
         }
     }
 

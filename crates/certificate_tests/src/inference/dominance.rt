@@ -1,11 +1,12 @@
 //! Steps on settled plans alone: what is known after each, and each cause for which one is refused.
 
 use super::{Row, replay};
-use crate::instances::Small;
+use crate::instances::Part::{Message, Node, Process};
+use crate::instances::{Small, TWO_CHANNELS};
 use crate::{settled_plans, verdicts};
 use std::test::Fail;
-use tt_choice::Decision::{AtLeast, AtMost, Place};
-use tt_infer::StepFault::{NoPremise, NoSuchIndex};
+use tt_choice::Decision::{AtLeast, AtMost, Channel, Place};
+use tt_infer::StepFault::{AlreadyClosed, NoPremise, NoSuchIndex};
 use ttp_model::Cluster;
 use worked_instances::PLAIN;
 
@@ -35,6 +36,16 @@ const SILENT: &str = "0..100 0..100 m 0..100 open";
 
 /// The same once no plan is left.
 const SILENT_CLOSED: &str = "0..100 0..100 m 0..100 closed";
+
+/// What is known of two messages of one node, and once no plan is left.
+const TWO: &str = "0..100 0..100 0..100 m 0..100 m 0..100 open";
+
+const TWO_CLOSED: &str = "0..100 0..100 0..100 m 0..100 m 0..100 closed";
+
+/// The same of messages of two nodes.
+const THERE_AND_BACK: &str = "0..100 0..100 0..100 0..100 m 0..100 m 0..100 open";
+
+const THERE_AND_BACK_CLOSED: &str = "0..100 0..100 0..100 0..100 m 0..100 m 0..100 closed";
 
 /// Steps that only settled plans make true.
 static ROWS: &[Row] = &[
@@ -179,6 +190,226 @@ static ROWS: &[Row] = &[
         steps: &[("x-silent 0 1", Err(NoPremise), SILENT)],
     },
 ];
+
+/// Messages that lead turned frames, and such as may not.
+static TURNED: &[Row] = &[
+    Row {
+        label: "a message leads a turned frame on channel 1: where no channel is fixed",
+        small: Small::TwoChannels(false),
+        decisions: &[],
+        goal: 101,
+        steps: &[
+            ("x-mirror 0\nx-mirror 1", Err(NoPremise), TWO),
+            (
+                "x-mirror 2\nx-mirror 9\nx-mirror 4294967295",
+                Err(NoSuchIndex),
+                TWO,
+            ),
+        ],
+    },
+    Row {
+        label: "a message leads a turned frame on channel 1: the first message",
+        small: Small::TwoChannels(false),
+        decisions: &[Channel(0, 1)],
+        goal: 101,
+        steps: &[
+            ("x-mirror 1", Err(NoPremise), TWO),
+            ("x-mirror 2", Err(NoSuchIndex), TWO),
+            ("x-mirror 0", Ok(()), TWO_CLOSED),
+            (
+                "x-mirror 0\nx-mirror 1\nx-mirror 2",
+                Err(AlreadyClosed),
+                TWO_CLOSED,
+            ),
+        ],
+    },
+    Row {
+        label: "a message leads a turned frame on channel 1: at the least goal",
+        small: Small::TwoChannels(false),
+        decisions: &[Channel(0, 1)],
+        goal: 0,
+        steps: &[("x-mirror 0", Ok(()), TWO_CLOSED)],
+    },
+    Row {
+        label: "a message leads a turned frame on channel 1: at the greatest goal",
+        small: Small::TwoChannels(false),
+        decisions: &[Channel(0, 1), Channel(1, 0)],
+        goal: 4_294_967_295,
+        steps: &[("x-mirror 0", Ok(()), TWO_CLOSED)],
+    },
+    Row {
+        label: "a message leads a turned frame on channel 1: where it is on channel 0",
+        small: Small::TwoChannels(false),
+        decisions: &[Channel(0, 0)],
+        goal: 101,
+        steps: &[("x-mirror 0\nx-mirror 1", Err(NoPremise), TWO)],
+    },
+    Row {
+        label: "a message leads a turned frame on channel 1: where it is on both",
+        small: Small::TwoChannels(false),
+        decisions: &[Channel(0, 2)],
+        goal: 101,
+        steps: &[("x-mirror 0\nx-mirror 1", Err(NoPremise), TWO)],
+    },
+    Row {
+        label: "a message leads a turned frame on channel 1: where it is to be on both",
+        small: Small::TwoChannels(true),
+        decisions: &[],
+        goal: 101,
+        steps: &[("x-mirror 0\nx-mirror 1", Err(NoPremise), TWO)],
+    },
+    Row {
+        label: "a message leads a turned frame on channel 1: where there is one channel",
+        small: Small::TwoMessages,
+        decisions: &[],
+        goal: 101,
+        steps: &[
+            ("x-mirror 0\nx-mirror 1", Err(NoPremise), TWO),
+            ("x-mirror 2", Err(NoSuchIndex), TWO),
+        ],
+    },
+    Row {
+        label: "a message behind another one leads its frame: where the other one may",
+        small: Small::TwoChannels(false),
+        decisions: &[Channel(1, 1)],
+        goal: 101,
+        steps: &[("x-mirror 0\nx-mirror 1", Err(NoPremise), TWO)],
+    },
+    Row {
+        label: "a message behind another one leads its frame: where the other one is on channel 0",
+        small: Small::TwoChannels(false),
+        decisions: &[Channel(0, 0), Channel(1, 1)],
+        goal: 101,
+        steps: &[("x-mirror 0\nx-mirror 1", Err(NoPremise), TWO)],
+    },
+    Row {
+        label: "a message behind another one leads its frame: where the other one is on channel 1 too",
+        small: Small::TwoChannels(false),
+        decisions: &[Channel(0, 1), Channel(1, 1)],
+        goal: 101,
+        steps: &[
+            ("x-mirror 1", Err(NoPremise), TWO),
+            ("x-mirror 0", Ok(()), TWO_CLOSED),
+        ],
+    },
+    Row {
+        label: "a message behind another one leads its frame: where the other one is on both",
+        small: Small::TwoChannels(false),
+        decisions: &[Channel(0, 2), Channel(1, 1)],
+        goal: 101,
+        steps: &[
+            ("x-mirror 0", Err(NoPremise), TWO),
+            ("x-mirror 1", Ok(()), TWO_CLOSED),
+        ],
+    },
+    Row {
+        label: "a message behind another one leads its frame: where the other one may be sent with it",
+        small: Small::TwoChannels(false),
+        decisions: &[Channel(1, 1), AtMost(0, 1), AtLeast(1, 1)],
+        goal: 101,
+        steps: &[(
+            "x-mirror 1",
+            Err(NoPremise),
+            "0..100 0..100 0..100 m 0..2 m 1..100 open",
+        )],
+    },
+    Row {
+        label: "a message behind another one leads its frame: where the other one is sent before it",
+        small: Small::TwoChannels(false),
+        decisions: &[Channel(1, 1), AtMost(0, 0), AtLeast(1, 1)],
+        goal: 101,
+        steps: &[(
+            "x-mirror 1",
+            Ok(()),
+            "0..100 0..100 0..100 m 0..1 m 1..100 closed",
+        )],
+    },
+    Row {
+        label: "a message behind another one leads its frame: where it may be sent with the other one",
+        small: Small::TwoChannels(false),
+        decisions: &[Channel(1, 1), AtMost(1, 1), AtLeast(0, 1)],
+        goal: 101,
+        steps: &[(
+            "x-mirror 1",
+            Err(NoPremise),
+            "0..100 0..100 0..100 m 1..100 m 0..2 open",
+        )],
+    },
+    Row {
+        label: "a message behind another one leads its frame: where it is sent before the other one",
+        small: Small::TwoChannels(false),
+        decisions: &[Channel(1, 1), AtMost(1, 0), AtLeast(0, 1)],
+        goal: 101,
+        steps: &[(
+            "x-mirror 1",
+            Ok(()),
+            "0..100 0..100 0..100 m 1..100 m 0..1 closed",
+        )],
+    },
+    // A goes first, so that its slot of round 0 begins before the sender has ended.
+    Row {
+        label: "a message behind another one leads its frame: once a step says that it is sent later",
+        small: Small::TwoChannels(false),
+        decisions: &[Place(0), Channel(1, 1), AtMost(0, 0)],
+        goal: 101,
+        steps: &[
+            (
+                "x-mirror 1",
+                Err(NoPremise),
+                "0..100 0..100 0..100 m 0..1 m 0..100 open",
+            ),
+            (
+                "lo-send 1",
+                Ok(()),
+                "0..100 0..100 0..100 m 0..1 m 1..100 open",
+            ),
+            (
+                "x-mirror 1",
+                Ok(()),
+                "0..100 0..100 0..100 m 0..1 m 1..100 closed",
+            ),
+        ],
+    },
+    Row {
+        label: "a message behind one of another node leads its frame",
+        small: Small::ThereAndBack(TWO_CHANNELS),
+        decisions: &[Channel(1, 1)],
+        goal: 101,
+        steps: &[
+            ("x-mirror 0", Err(NoPremise), THERE_AND_BACK),
+            ("x-mirror 1", Ok(()), THERE_AND_BACK_CLOSED),
+        ],
+    },
+    Row {
+        label: "a message behind one of another process of its node may not",
+        small: Small::OnTwo(&[
+            Node("A", &[4]),
+            Node("B", &[0]),
+            Process("p", 0, 1),
+            Process("r", 0, 2),
+            Process("q", 1, 1),
+            Message("m1", 1, 2, 2),
+            Message("m2", 0, 2, 2),
+        ]),
+        decisions: &[Channel(1, 1)],
+        goal: 101,
+        steps: &[("x-mirror 0\nx-mirror 1", Err(NoPremise), TWO)],
+    },
+];
+
+#[test]
+fn mirror_rows(rt: HostRuntime) -> Result<(), Fail> {
+    for row in TURNED {
+        replay(&rt, rt.alloc(), row)?;
+    }
+    for row in verdicts::TURNED {
+        verdicts::expect(&rt, rt.alloc(), row)?;
+    }
+    for row in settled_plans::TURNED {
+        settled_plans::expect(&rt, rt.alloc(), row)?;
+    }
+    Ok(())
+}
 
 #[test]
 fn dominance_rows(rt: HostRuntime) -> Result<(), Fail> {

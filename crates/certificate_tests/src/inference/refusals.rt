@@ -29,7 +29,7 @@ static ROWS: &[Row] = &[
                 FIRST,
             ),
             (
-                "le-send 1\nx-round 1\nx-frame 1\nx-late 1 0\nx-load 2 0 1\nx-frames 2 0 1\nx-channel 0 2 0 1\nx-silent 0 2\nx-silent 2 0",
+                "le-send 1\nx-round 1\nx-frame 1\nx-late 1 0\nx-load 2 0 1\nx-frames 2 0 1\nx-channel 0 2 0 1\nx-silent 0 2\nx-silent 2 0\nx-mirror 1",
                 Err(NoSuchIndex),
                 FIRST,
             ),
@@ -73,7 +73,7 @@ static ROWS: &[Row] = &[
         decisions: &[],
         goal: 3,
         steps: &[(
-            "x-cycle 0 1\nx-window 0\nx-round 0\nx-frame 0\nx-frames 0 0 1\nx-load 0 0 3\nx-late 0 0\nx-silent 0 1",
+            "x-cycle 0 1\nx-window 0\nx-round 0\nx-frame 0\nx-frames 0 0 1\nx-load 0 0 3\nx-late 0 0\nx-silent 0 1\nx-mirror 0",
             Err(NoPremise),
             FIRST,
         )],
@@ -149,7 +149,7 @@ static ROWS: &[Row] = &[
             ("le-own 0", Ok(()), "0..2 0..100 m 0..100 open"),
             ("x-window 0", Ok(()), CLOSED),
             (
-                "x-cycle 0 1\nx-window 0\nx-round 0\nx-load 0 1 0\nx-frame 0\nx-frames 9 0 1\nx-channel 0 9 0 1\nx-late 0 0\nx-silent 0 0",
+                "x-cycle 0 1\nx-window 0\nx-round 0\nx-load 0 1 0\nx-frame 0\nx-frames 9 0 1\nx-channel 0 9 0 1\nx-late 0 0\nx-silent 0 0\nx-mirror 9",
                 Err(AlreadyClosed),
                 CLOSED,
             ),

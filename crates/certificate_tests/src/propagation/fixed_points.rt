@@ -42,6 +42,7 @@ static OF_ONE: &[(&str, Named)] = &[
     ("x-window", Processes),
     ("x-round", Messages),
     ("x-frame", Messages),
+    ("x-mirror", Messages),
 ];
 
 /// Steps that name two things. Those that name an interval are closers of loads, which `node_load` and `frame_load` find.
@@ -274,7 +275,7 @@ static OPEN: &[Row] = &[
     (Small::TwoChannels(false), &[], 80),
     (
         Small::TwoChannels(false),
-        &[Channel(0, 2), AtMost(0, 1), Channel(1, 1)],
+        &[Channel(0, 2), AtMost(0, 1), Channel(1, 0)],
         60,
     ),
 ];

@@ -3,7 +3,7 @@
 use Rattle.std.proofs.Common.{◌≡◌, ◌≢◌, ℕ, ◌-◌, List, length, slice_index, Bool, true, false, IsTrue, IsFalse, arith, inl, inr, refl, ap, ap₂, subst, sym, ◌∙◌}
 use Rattle.std.proofs.lemmas.Bool.{cases_eq, both_ways, false≢true}
 use Rattle.ttp_model.specs.declared.step.Step.{Step}
-use Rattle.ttp_model.specs.declared.step.Step.TheVariants.{EsRelease, EsLink, EsBefore, EsArrive, EsMessage, LoSend, LeOwn, LeLink, LeBefore, LeMessage, LeSend, HiArrive, OrdWindow, OrdTwin, UsSettled, XWindow, XRound, XCycle, XLoad, XFrame, XFrames, XChannel, XLate, XSilent}
+use Rattle.ttp_model.specs.declared.step.Step.TheVariants.{EsRelease, EsLink, EsBefore, EsArrive, EsMessage, LoSend, LeOwn, LeLink, LeBefore, LeMessage, LeSend, HiArrive, OrdWindow, OrdTwin, UsSettled, XWindow, XRound, XCycle, XLoad, XFrame, XFrames, XChannel, XLate, XSilent, XMirror}
 use Rattle.ttp_model.specs.Instance.{Instance}
 use Rattle.tt_choice.specs.Choice.{Choice, ArePair}
 use Rattle.tt_choice.specs.Branches.{order_pair}
@@ -15,7 +15,7 @@ use Rattle.step_reads.specs.declared.limit.Limit.TheVariants.{Goal, LeastSlot, G
 use Rattle.sought_plans.specs.Known.{Known, Fits, bef_of}
 use Rattle.sought_plans.specs.Premises.{IsAhead, IsRing}
 use Rattle.tt_infer.specs.Table.{rule, IsLawful}
-use Rattle.step_reads.specs.Reads.{AgreeOn, AgreeOnReads, AreNeighbours, BoundsRun, BoundsSending, GivesAlike, IsKnownPair, KeepsOut, ReadsFact, TellsWait}
+use Rattle.step_reads.specs.Reads.{AgreeOn, AgreeOnReads, AreNeighbours, BoundsRun, BoundsSending, GivesAlike, IsKnownPair, KeepsOut, ReadsFact, TellsApart, TellsWait}
 use Rattle.step_reads.proofs.alike.Steps.{gives_alike}
 use Rattle.step_logs.proofs.one_order.Known.{ordered, sharpened_ordered}
 
@@ -93,6 +93,12 @@ module _ (i : Instance) (c : Choice) (goal : ℕ) (f : Known) (p q : ℕ) (unkno
   not_kept_out : (r k : ℕ) → ¬ KeepsOut f r k (Order p q)
   not_kept_out r k reads = elim reads [ inl first ↦ no_first f p q k first.1 | inr late ↦ no_late f p q k late.2 ]
 
+  not_apart : (m k : ℕ) → ¬ TellsApart f m k (Order p q)
+  not_apart m k reads = elim reads [
+    | inl before ↦ elim before.1 [ inl late ↦ no_late f p q k late | inr first ↦ no_first f p q m first ]
+    | inr behind ↦ elim behind.2 [ inl late ↦ no_late f p q m late | inr first ↦ no_first f p q k first ]
+  ]
+
   of_its_first : (x y : ℕ) → TellsWait f x y (Order p q) → UsSettled x ≡ UsSettled p
   of_its_first x y reads = elim reads [ inl order ↦ ap UsSettled (sym (first_same f p q x y order)) | inr end ↦ absurd (no_end f p q y end.1) ]
 
@@ -127,6 +133,7 @@ module _ (i : Instance) (c : Choice) (goal : ℕ) (f : Known) (p q : ℕ) (unkno
     | inr other ↦ absurd (not_kept_out r other.0 other.2.1)
   ]
   reads_unknown (XSilent u v) premise reads = absurd reads
+  reads_unknown (XMirror m) premise reads = absurd (not_apart m reads.0 reads.2.1)
 
 module _ (i : Instance) (c : Choice) (goal : ℕ) (f : Known) (p q : ℕ) (pair : ArePair i p q) (fits : Fits i f) where
   other_order : (x y : ℕ) → Order x y ≢ Order p q → bef_of f x y ≡ bef_of (ordered f p q) x y

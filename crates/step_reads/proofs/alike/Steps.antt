@@ -3,7 +3,7 @@ use Rattle.std.proofs.Common.{◌≡◌, ℕ, ◌+◌, ◌-◌, ◌*◌, min, ar
 use Rattle.ttp_model.specs.Instance.{Instance, process_at, link_at, source_of}
 use Rattle.ttp_model.specs.Slots.{slot_duration}
 use Rattle.ttp_model.specs.declared.step.Step.{Step}
-use Rattle.ttp_model.specs.declared.step.Step.TheVariants.{EsRelease, EsLink, EsBefore, EsArrive, EsMessage, LoSend, LeOwn, LeLink, LeBefore, LeMessage, LeSend, HiArrive, OrdWindow, OrdTwin, UsSettled, XWindow, XRound, XCycle, XLoad, XFrame, XFrames, XChannel, XLate, XSilent}
+use Rattle.ttp_model.specs.declared.step.Step.TheVariants.{EsRelease, EsLink, EsBefore, EsArrive, EsMessage, LoSend, LeOwn, LeLink, LeBefore, LeMessage, LeSend, HiArrive, OrdWindow, OrdTwin, UsSettled, XWindow, XRound, XCycle, XLoad, XFrame, XFrames, XChannel, XLate, XSilent, XMirror}
 use Rattle.tt_choice.specs.Choice.{Choice}
 use Rattle.tt_choice.specs.Extremes.{start_most, end_least, cap_most, dur_least}
 use Rattle.step_reads.specs.declared.fact.Fact.TheVariants.{Start, End, FirstRound, LateRound, Order}
@@ -18,6 +18,7 @@ use Rattle.step_reads.proofs.alike.Rings.{ring_alike}
 use Rattle.step_reads.proofs.alike.Waits.{rounds_alike, greatest_wait_alike}
 use Rattle.step_reads.proofs.alike.Loads.{load_alike, copied_alike, counted_alike}
 use Rattle.step_reads.proofs.alike.Late.{earlier_alike}
+use Rattle.step_reads.proofs.alike.Mirrors.{mirrored_alike}
 
 module _ (i : Instance) (c : Choice) (goal : ℕ) (f : Known) (d : Choice) (aim : ℕ) (g : Known) where
   -- what a step names doesn't rest on what is known
@@ -46,6 +47,7 @@ module _ (i : Instance) (c : Choice) (goal : ℕ) (f : Known) (d : Choice) (aim 
   there_alike (XChannel k n a b) is = is
   there_alike (XLate m r) is = is
   there_alike (XSilent u v) is = is
+  there_alike (XMirror m) is = is
 
   overloaded_alike : (n a b : ℕ) → AgreeOnReads i c goal f d aim g (XLoad n a b) → IsOverloaded i f n a b → IsOverloaded i g n a b
   overloaded_alike n a b agree is = record { span = is.span; load = omega (arith, is.load, load_alike i c f g n a b agree.facts) }
@@ -103,6 +105,7 @@ module _ (i : Instance) (c : Choice) (goal : ℕ) (f : Known) (d : Choice) (aim 
   premise_alike (XChannel k n a b) agree is = overfull_on_alike k n a b agree is
   premise_alike (XLate m r) agree is = earlier_alike i c goal f d aim g m r agree is
   premise_alike (XSilent u v) agree is = turned_alike u v agree is
+  premise_alike (XMirror m) agree is = mirrored_alike i c goal f d aim g m agree is
 
   chance_alike : (m r : ℕ) → AgreeOnReads i c goal f d aim g (LoSend m) → IsFirstChance i c f m r → IsFirstChance i d g m r
   chance_alike m r agree is =
@@ -158,6 +161,7 @@ module _ (i : Instance) (c : Choice) (goal : ℕ) (f : Known) (d : Choice) (aim 
   conclusion_alike (XChannel channel n a b) k agree is = is
   conclusion_alike (XLate m r) k agree is = is
   conclusion_alike (XSilent u v) k agree is = is
+  conclusion_alike (XMirror m) k agree is = is
 
   pub gives_alike : (step : Step) (k : Conclusion) → AgreeOnReads i c goal f d aim g step → Gives i c goal f step k → Gives i d aim g step k
   gives_alike step k agree gives = record {

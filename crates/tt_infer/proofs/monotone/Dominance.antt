@@ -1,14 +1,17 @@
--- A message that could be sent earlier could be so inside, and silent twins that stand turned stand so inside.
-use Rattle.std.proofs.Common.{◌≡◌, ℕ, ◌<◌, ◌≤◌, ◌==◌, ◌&&◌, ◌||◌, nat_le, nat_lt, Bool, true, false, length, arith, refl, ◌∙◌, sym}
+-- A message that could be sent earlier could be so inside; silent twins that stand turned, and a message that leads a turned frame, do so inside.
+use Rattle.std.proofs.Common.{◌≡◌, ℕ, ◌<◌, ◌≤◌, ◌==◌, ◌&&◌, ◌||◌, nat_le, nat_lt, Bool, true, false, Some, length, arith, inl, inr, refl, subst, ◌∙◌, sym}
 use Rattle.std.proofs.lemmas.Bool.{and_from, and_parts, leb-true, le-leb, ltb-true, lt-ltb}
-use Rattle.ttp_model.specs.declared.step.Step.TheVariants.{XLate, XSilent}
+use Rattle.ttp_model.specs.declared.step.Step.TheVariants.{XLate, XSilent, XMirror}
+use Rattle.ttp_model.specs.Limits.{both_channels}
 use Rattle.ttp_model.specs.Instance.{message_at, source_of}
 use Rattle.ttp_model.specs.Totals.{total}
 use Rattle.ttp_model.proofs.Totals.{total_le}
+use Rattle.tt_choice.specs.Choice.{fixed_channel}
+use Rattle.tt_choice.specs.Inside.{IsKeptBy}
 use Rattle.sought_plans.specs.Known.{Known, lo_of, top_of}
 use Rattle.sought_plans.specs.Conclusions.{NothingLeft}
 use Rattle.sought_plans.specs.Premises.{sender_of}
-use Rattle.sought_plans.specs.Dominance.{may_be_beside, bytes_beside, CouldBeEarlier, StandTurned}
+use Rattle.sought_plans.specs.Dominance.{may_be_beside, bytes_beside, CouldBeEarlier, StandTurned, KeepsAside, IsMirrored}
 use Rattle.tt_infer.specs.Table.{IsMessage}
 use Rattle.tt_infer.proofs.Selected.{selected_le}
 use Rattle.tt_infer.proofs.monotone.Nested.{Nested, AreKnown, IsKept}
@@ -70,3 +73,21 @@ turned_inside s u v is =
 
 pub x_silent_kept : (s : Nested) (f h : Known) (u v : ℕ) → IsKept s f h (XSilent u v)
 x_silent_kept s f h u v k there premise is = record { there = there; premise = turned_inside s u v premise; conclusion = NothingLeft; concludes = refl; stronger = is }
+
+-- what is fixed outside is so inside
+fixed_inside : (s : Nested) (m number : ℕ) → IsMessage s.instance m → fixed_channel s.outer m ≡ Some number → fixed_channel s.inner m ≡ Some number
+fixed_inside s m number there fixed = subst (λ o. IsKeptBy o (fixed_channel s.inner m)) fixed (s.inside.channels m there)
+
+aside_inside : (s : Nested) (f h : Known) (m k : ℕ) → AreKnown s f h → IsMessage s.instance k → KeepsAside s.outer f m k → KeepsAside s.inner h m k
+aside_inside s f h m k t there (inl both) = inl (fixed_inside s k both_channels there both)
+aside_inside s f h m k t there (inr (inl before)) = inr (inl (omega (arith, before, t.sharper.top k, t.sharper.lo m)))
+aside_inside s f h m k t there (inr (inr behind)) = inr (inr (omega (arith, behind, t.sharper.top m, t.sharper.lo k)))
+
+mirrored_inside : (s : Nested) (f h : Known) (m : ℕ) → AreKnown s f h → IsMessage s.instance m → IsMirrored s.instance s.outer f m → IsMirrored s.instance s.inner h m
+mirrored_inside s f h m t there is = record {
+  second = fixed_inside s m 1 there is.second;
+  lower = λ k below node. aside_inside s f h m k t (omega (arith, below, there)) (is.lower k below node);
+}
+
+pub x_mirror_kept : (s : Nested) (f h : Known) (m : ℕ) → AreKnown s f h → IsKept s f h (XMirror m)
+x_mirror_kept s f h m t k there premise is = record { there = there; premise = mirrored_inside s f h m t there premise; conclusion = NothingLeft; concludes = refl; stronger = is }

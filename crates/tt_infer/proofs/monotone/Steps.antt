@@ -1,7 +1,7 @@
 -- Each step leads as far inside, or asks for a round where a message has none left; and so do lists of steps.
 use Rattle.std.proofs.Common.{◌≡◌, ℕ, ◌<◌, ◌≤◌, ◌⊎◌, List, [], ◌∷◌, length, IsFalse, arith, inl, inr, refl, ap, ◌∙◌}
 use Rattle.ttp_model.specs.declared.step.Step.{Step}
-use Rattle.ttp_model.specs.declared.step.Step.TheVariants.{EsRelease, EsLink, EsBefore, EsArrive, EsMessage, LoSend, LeOwn, LeLink, LeBefore, LeMessage, LeSend, HiArrive, OrdWindow, OrdTwin, UsSettled, XWindow, XRound, XCycle, XLoad, XFrame, XFrames, XChannel, XLate, XSilent}
+use Rattle.ttp_model.specs.declared.step.Step.TheVariants.{EsRelease, EsLink, EsBefore, EsArrive, EsMessage, LoSend, LeOwn, LeLink, LeBefore, LeMessage, LeSend, HiArrive, OrdWindow, OrdTwin, UsSettled, XWindow, XRound, XCycle, XLoad, XFrame, XFrames, XChannel, XLate, XSilent, XMirror}
 use Rattle.ttp_model.proofs.Decide.{equal, some_below}
 use Rattle.sought_plans.specs.Known.{Known, top_of}
 use Rattle.sought_plans.specs.Conclusions.{NothingLeft, sharpened}
@@ -18,7 +18,7 @@ use Rattle.tt_infer.proofs.monotone.Orders.{ord_window_kept, ord_twin_kept}
 use Rattle.tt_infer.proofs.monotone.Waits.{us_settled_kept}
 use Rattle.tt_infer.proofs.monotone.Closers.{x_window_kept, x_round_kept, x_cycle_kept, x_frame_kept}
 use Rattle.tt_infer.proofs.monotone.Loads.{x_load_kept, x_frames_kept, x_channel_kept}
-use Rattle.tt_infer.proofs.monotone.Dominance.{x_late_kept, x_silent_kept}
+use Rattle.tt_infer.proofs.monotone.Dominance.{x_late_kept, x_silent_kept, x_mirror_kept}
 
 -- a message has no round left, or each has one
 rounds_left : (s : Nested) (h : Known) → ((m : ℕ) × (m < length s.instance.messages) × (top_of h m ≡ 0)) ⊎ ((m : ℕ) → m < length s.instance.messages → 1 ≤ top_of h m)
@@ -79,6 +79,7 @@ step_served s f h (XFrames n a b) t = inl (x_frames_kept s f h n a b t)
 step_served s f h (XChannel k n a b) t = inl (x_channel_kept s f h k n a b t)
 step_served s f h (XLate m r) t = inl (x_late_kept s f h m r t)
 step_served s f h (XSilent u v) t = inl (x_silent_kept s f h u v)
+step_served s f h (XMirror m) t = inl (x_mirror_kept s f h m t)
 
 matched_leads : (s : Nested) (f h : Known) (step : Step) (g : Known) → AreKnown s f h → (lawful : IsLawful s.instance s.outer s.goal f step g) → IsMatched s h step lawful.conclusion → LeadsAsFar s.instance s.inner s.aim h step g
 matched_leads s f h step g t lawful match =

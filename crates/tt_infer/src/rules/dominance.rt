@@ -1,14 +1,14 @@
 //! What is true of settled plans alone?
 
 ghost use Rattle.std.specs.Prelude.{◌↔◌, IsFalse, IsTrue};
-ghost use Rattle.ttp_model.specs.declared.step.Step.TheVariants.{OrdTwin, UsSettled, XLate, XSilent};
+ghost use Rattle.ttp_model.specs.declared.step.Step.TheVariants.{OrdTwin, UsSettled, XLate, XSilent, XMirror};
 ghost use Rattle.sought_plans.specs.Dominance.{StandsFirst};
 ghost use Rattle.tt_infer.specs.Setting.{TakesOf};
 ghost use Rattle.sought_plans.specs.Known.{Fits};
 
 use crate::fault::StepFault;
 use crate::indices::are_pair;
-use sought_plans::{Known, Setting, could_be_earlier, greatest_wait};
+use sought_plans::{Known, Setting, could_be_earlier, greatest_wait, is_mirrored};
 use tt_moves::{silent_twins, twins};
 
 /// Of twins the first goes first: else they would exchange their starts.
@@ -94,5 +94,21 @@ pub fn x_silent(known: &mut Known, setting: &Setting, u: u32, v: u32) -> Result<
         return Err(StepFault::NoPremise);
     }
     known.close(instance);
+    Ok(())
+}
+
+/// No message leads a turned frame: else the frame's channels would be exchanged.
+pub fn x_mirror(known: &mut Known, setting: &Setting, m: u32) -> Result<(), StepFault>
+    requires fits { Fits setting.now.instance known.old }
+    requires open { IsFalse known.old.closed }
+    ensures { TakesOf setting.now known.old (XMirror m) known.new result }
+{
+    if m as usize >= setting.instance().messages().len() {
+        return Err(StepFault::NoSuchIndex);
+    }
+    if !is_mirrored(known, setting, m) {
+        return Err(StepFault::NoPremise);
+    }
+    known.close(setting.instance());
     Ok(())
 }

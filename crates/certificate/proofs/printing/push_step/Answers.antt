@@ -138,3 +138,9 @@ returns-in-XSilent-clause-text c = step_pushed c.push_line-in-XSilent.result c.a
 
 pub returns-in-XSilent-clause-fits : goal.returns-in-XSilent-clause-fits
 returns-in-XSilent-clause-fits c = step_fits c.in-XSilent.is c.push_line-in-XSilent.ensures.fit tt
+
+pub returns-in-XMirror-clause-text : goal.returns-in-XMirror-clause-text
+returns-in-XMirror-clause-text c = step_pushed c.push_line-in-XMirror.result c.args.text.now.items c.push_line-in-XMirror.new.text.items c.in-XMirror.is c.push_line-in-XMirror.ensures.line
+
+pub returns-in-XMirror-clause-fits : goal.returns-in-XMirror-clause-fits
+returns-in-XMirror-clause-fits c = step_fits c.in-XMirror.is c.push_line-in-XMirror.ensures.fit tt

@@ -87,3 +87,6 @@ returns-in-XLate c = rw c.in-XLate.is c.add_late.ensures
 
 pub returns-in-XSilent : goal.returns-in-XSilent
 returns-in-XSilent c = rw c.in-XSilent.is (λ there. adds_none (λ fact. ⊥) _ (λ fact is. is))
+
+pub returns-in-XMirror : goal.returns-in-XMirror
+returns-in-XMirror c = rw c.in-XMirror.is c.add_mirror.ensures

@@ -71,3 +71,6 @@ returns-in-XLate c = rw c.in-XLate.is c.x_late.ensures
 
 pub returns-in-XSilent : goal.returns-in-XSilent
 returns-in-XSilent c = rw c.in-XSilent.is c.x_silent.ensures
+
+pub returns-in-XMirror : goal.returns-in-XMirror
+returns-in-XMirror c = rw c.in-XMirror.is c.x_mirror.ensures
