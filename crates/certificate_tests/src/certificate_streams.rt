@@ -79,9 +79,9 @@ fn said(alloc: Global, bytes: &[u8]) -> Result<String, SourceFault> {
 /// Checks that a stream says what the whole text does.
 fn expect_same(rt: &impl Abort, alloc: Global, text: &[u8]) {
     let whole = said(alloc, text);
-    for count in [1, 2, 7, 100_000] {
-        let found = streamed(alloc, Slow::giving(count, text));
-        assert!(rt; found == whole, "{count}: {found:?}; {whole:?}");
+    for count in &[1, 2, 7, 100_000] {
+        let found = streamed(alloc, Slow::giving(*count, text));
+        assert!(rt; found == whole, "{count} bytes a call");
     }
 }
 
@@ -116,17 +116,13 @@ fn a_stream_says_what_the_whole_text_does(rt: HostRuntime) {
     }
 }
 
+/// And a line may be longer than a block.
 #[test]
 fn a_stream_goes_as_deep_as_a_text(rt: HostRuntime) -> Result<(), Fail> {
-    for (branches, leaves) in [(4736, 4737), (4737, 1)] {
-        let text = deep(rt.alloc(), branches, leaves)?;
+    for (branches, leaves) in &[(4736, 4737), (4737, 1)] {
+        let text = deep(rt.alloc(), *branches, *leaves)?;
         expect_same(&rt, rt.alloc(), text.as_slice());
     }
-    Ok(())
-}
-
-#[test]
-fn a_line_may_be_longer_than_a_block(rt: HostRuntime) -> Result<(), Fail> {
     let mut text = Vec::from_slice(rt.alloc(), b"ttcert 1\nlow 0\nleaf 0 2\nx-cycle 1 2")?;
     for _ in 0..20_000 {
         text.extend_from_slice(b" 3")?;
@@ -136,35 +132,35 @@ fn a_line_may_be_longer_than_a_block(rt: HostRuntime) -> Result<(), Fail> {
     Ok(())
 }
 
+/// Texts that a reader fails in.
+const FAILING: &[&str] = &[
+    TWO_LEAVES,
+    "ttcert 3\nlow 0\n",
+    "ttcert 1\nlow 0\nleaf 0 0\nx",
+];
+
+/// The first lines of texts without an end.
+const ENDLESS: &[&str] = &[
+    "ttcert 1\nlow 0\nleaf 0 0\n",
+    "ttcert 3\n",
+    "ttcert 1\nlow 0\nplace 0 0\n",
+];
+
 #[test]
-fn a_failed_read_goes_before_a_fault_of_the_text(rt: HostRuntime) -> Result<(), Fail> {
-    for text in [
-        TWO_LEAVES,
-        "ttcert 3\nlow 0\n",
-        "ttcert 1\nlow 0\nleaf 0 0\nx",
-    ] {
+fn a_failed_read_and_a_text_that_is_too_long_go_before_a_fault_of_the_text(rt: HostRuntime) {
+    for text in FAILING {
         let bytes = text.as_bytes();
         for calls_left in 0..bytes.len() {
             let reader = Slow::failing_after(calls_left, bytes);
             let fault = streamed(rt.alloc(), reader).err();
-            assert!(rt; fault == Some(SourceFault::Read), "{calls_left}: {fault:?}");
+            assert!(rt; fault == Some(SourceFault::Read), "{text}: {calls_left}");
         }
     }
-    Ok(())
-}
-
-#[test]
-fn a_text_that_is_too_long_goes_before_its_fault(rt: HostRuntime) -> Result<(), Fail> {
-    for first in [
-        "ttcert 1\nlow 0\nleaf 0 0\n",
-        "ttcert 3\n",
-        "ttcert 1\nlow 0\nplace 0 0\n",
-    ] {
+    for text in ENDLESS {
         let reader = Endless {
-            first: first.as_bytes(),
+            first: text.as_bytes(),
         };
         let fault = streamed(rt.alloc(), reader).err();
-        assert!(rt; fault == Some(SourceFault::TooLong), "{first}: {fault:?}");
+        assert!(rt; fault == Some(SourceFault::TooLong), "{text}");
     }
-    Ok(())
 }

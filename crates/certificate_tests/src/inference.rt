@@ -58,19 +58,14 @@ fn add_orders(facts: &Facts, text: &mut String) -> Result<(), AllocError> {
     Ok(())
 }
 
-/// Adds what is known, as a line: of each process how early it starts and how late it ends, of each
+/// What is known, as a line: of each process how early it starts and how late it ends, of each
 /// message its least round and the first that is too late, and which processes go before which.
-fn add_line(facts: &Facts, text: &mut String) -> Result<(), AllocError> {
-    add_processes(facts, text)?;
-    add_messages(facts, text)?;
-    add_orders(facts, text)?;
-    text.push_str(if facts.closed() { "closed" } else { "open" })
-}
-
-/// What is known, as a line.
 fn line(alloc: Global, facts: &Facts) -> Result<String, AllocError> {
     let mut text = String::new(alloc);
-    add_line(facts, &mut text)?;
+    add_processes(facts, &mut text)?;
+    add_messages(facts, &mut text)?;
+    add_orders(facts, &mut text)?;
+    text.push_str(if facts.closed() { "closed" } else { "open" })?;
     Ok(text)
 }
 
@@ -101,26 +96,11 @@ fn expect_step(
     let answer = facts.apply(step);
     let known = line(alloc, facts)?;
     let is_right = answer == wanted.0 && known.as_str() == wanted.1;
-    assert!(rt; is_right, "{label}: {step:?}: {answer:?}, {known}");
+    assert!(rt; is_right, "{label}: {step:?}: {known}");
     Ok(())
 }
 
-/// Checks the answer to each of these steps, and what is known after each.
-fn expect_steps(
-    rt: &impl Abort,
-    alloc: Global,
-    facts: &mut Facts,
-    label: &str,
-    steps: &[Step],
-    wanted: (Result<(), StepFault>, &str),
-) -> Result<(), Fail> {
-    for step in steps {
-        expect_step(rt, alloc, facts, label, step, wanted)?;
-    }
-    Ok(())
-}
-
-/// Checks the same of the steps of some lines.
+/// Checks the same of each step of some lines.
 fn expect(
     rt: &impl Abort,
     alloc: Global,
@@ -129,26 +109,34 @@ fn expect(
     (lines, answer, known): &Steps,
 ) -> Result<(), Fail> {
     let cert = cert_of(alloc, lines)?;
-    let steps = leaf_steps(rt, &cert);
-    expect_steps(rt, alloc, facts, label, steps, (*answer, known))
-}
-
-/// Takes the steps of a row one after another.
-fn replay_all(rt: &impl Abort, alloc: Global, facts: &mut Facts, row: &Row) -> Result<(), Fail> {
-    for steps in row.steps {
-        expect(rt, alloc, facts, row.label, steps)?;
+    for step in leaf_steps(rt, &cert) {
+        expect_step(rt, alloc, facts, label, step, (*answer, known))?;
     }
     Ok(())
 }
 
-/// The same from what is known at first on the row's instance.
+/// Takes the steps of a row one after another, from what is known at first on its instance.
 fn replay_on(rt: &impl Abort, alloc: Global, i: &Instance, row: &Row) -> Result<(), Fail> {
     let mut facts = first_facts(rt, alloc, i, row.decisions, row.goal)?;
-    replay_all(rt, alloc, &mut facts, row)
+    for steps in row.steps {
+        expect(rt, alloc, &mut facts, row.label, steps)?;
+    }
+    Ok(())
 }
 
 /// The same of the row alone.
 fn replay(rt: &impl Abort, alloc: Global, row: &Row) -> Result<(), Fail> {
     let i = row.small.build(alloc)?;
     replay_on(rt, alloc, &i, row)
+}
+
+/// Steps that are taken, steps after which no plan is left, and steps that are refused.
+#[test]
+fn step_rows(rt: HostRuntime) -> Result<(), Fail> {
+    for rows in &[chains::ROWS, closers::ROWS, refusals::ROWS] {
+        for row in *rows {
+            replay(&rt, rt.alloc(), row)?;
+        }
+    }
+    Ok(())
 }

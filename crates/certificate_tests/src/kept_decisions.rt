@@ -48,23 +48,16 @@ fn add_messages(i: &Instance, choice: &Choice, text: &mut String) -> Result<(), 
     Ok(())
 }
 
-/// Adds all that the readers of a choice tell: the nodes that are placed, the capacity of each node where one is fixed, the
+/// All that the readers of a choice tell, as a line: the nodes that are placed, the capacity of each node where one is fixed, the
 /// least and the greatest round of each message and its channel, the orders, and how much is left to choose.
-fn add_line(i: &Instance, choice: &Choice, text: &mut String) -> Result<(), AllocError>
-    requires { IsChoice i.now choice.now }
-{
-    add_nodes(i, choice, text)?;
-    add_messages(i, choice, text)?;
-    add_orders(choice, i.processes().len() as u32, text)?;
-    write!(text, " {}", choice.size_left(i))
-}
-
-/// All that the readers of a choice tell, as a line.
 pub fn line(alloc: Global, i: &Instance, choice: &Choice) -> Result<String, AllocError>
     requires { IsChoice i.now choice.now }
 {
     let mut text = String::new(alloc);
-    add_line(i, choice, &mut text)?;
+    add_nodes(i, choice, &mut text)?;
+    add_messages(i, choice, &mut text)?;
+    add_orders(choice, i.processes().len() as u32, &mut text)?;
+    write!(text, " {}", choice.size_left(i))?;
     Ok(text)
 }
 
@@ -111,21 +104,16 @@ fn goes_there_and_back(
     expect_line(rt, alloc, i, choice, before.as_str(), false)?;
     let made = goes_there_and_back(rt, alloc, i, choice, tries - 1, next(seed))?;
     choice.undo();
-    assert_eq!(rt; choice.kept(), kept);
+    assert!(rt; choice.kept() == kept);
     expect_line(rt, alloc, i, choice, before.as_str(), true)?;
     Ok(made.saturating_add(1))
 }
 
-/// How many decisions are made of an instance, and taken back.
-fn made_on(rt: &impl Abort, alloc: Global, i: &Instance, seed: u32) -> Result<u32, MemoryFault> {
-    let mut choice = Choice::root(alloc, i)?;
-    goes_there_and_back(rt, alloc, i, &mut choice, 60, seed)
-}
-
-/// The same of a small instance.
+/// How many decisions are made of a small instance, and taken back.
 fn made(rt: &impl Abort, alloc: Global, small: Small, seed: u32) -> Result<u32, Fail> {
     let i = small.build(alloc)?;
-    Ok(made_on(rt, alloc, &i, seed)?)
+    let mut choice = Choice::root(alloc, &i)?;
+    Ok(goes_there_and_back(rt, alloc, &i, &mut choice, 60, seed)?)
 }
 
 static ROWS: &[Small] = &[

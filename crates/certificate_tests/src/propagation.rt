@@ -36,35 +36,12 @@ enum Asked {
     Fewer(u32),
 }
 
-/// The steps by which propagation closes a choice at a goal, if it does.
-fn closing_steps(
-    alloc: Global,
-    i: &Instance,
-    choice: &Choice,
-    goal: u32,
-) -> Result<Option<Vec<Step>>, MemoryFault>
-    requires { IsChoice i.now choice.now }
-{
-    let mut steps = Vec::new(alloc);
-    match propagate(alloc, i, choice, goal, &mut steps)? {
-        Reached::Closed => Ok(Some(steps)),
-        Reached::At(_) => Ok(None),
-    }
-}
-
-/// How many steps propagation takes to close a choice at a goal, if it does.
-fn closing_count(
-    alloc: Global,
-    i: &Instance,
-    choice: &Choice,
-    goal: u32,
-) -> Result<Option<usize>, MemoryFault>
-    requires { IsChoice i.now choice.now }
-{
-    match closing_steps(alloc, i, choice, goal)? {
-        Some(steps) => Ok(Some(steps.len())),
-        None => Ok(None),
-    }
+/// The steps by which propagation closes a choice: how many they are, and of the last one the message and the round, if by it a message is
+/// late where the round could take it.
+#[derive(Clone, Copy)]
+struct Closing {
+    count: usize,
+    late: Option<(u32, u32)>,
 }
 
 /// The message and the round of a step by which the message is late where the round could take it.
@@ -76,18 +53,22 @@ fn late(step: Option<&Step>) -> Option<(u32, u32)> {
     None
 }
 
-/// Those of the step by which propagation closes a choice at a goal at last, if it is such a one.
-fn last_late(
+/// The steps by which propagation closes a choice at a goal, if it does.
+fn closed_at(
     alloc: Global,
     i: &Instance,
     choice: &Choice,
     goal: u32,
-) -> Result<Option<(u32, u32)>, MemoryFault>
+) -> Result<Option<Closing>, MemoryFault>
     requires { IsChoice i.now choice.now }
 {
-    match closing_steps(alloc, i, choice, goal)? {
-        Some(steps) => Ok(late(steps.last())),
-        None => Ok(None),
+    let mut steps = Vec::new(alloc);
+    match propagate(alloc, i, choice, goal, &mut steps)? {
+        Reached::Closed => Ok(Some(Closing {
+            count: steps.len(),
+            late: late(steps.last()),
+        })),
+        Reached::At(_) => Ok(None),
     }
 }
 
@@ -130,8 +111,8 @@ fn has_fewer(
     requires { IsChoice i.now choice.now }
 {
     let (_goal, steps) = leaf_size(rt, alloc, i, choice, goal)?;
-    match closing_count(alloc, i, choice, goal)? {
-        Some(all) => Ok(steps < all),
+    match closed_at(alloc, i, choice, goal)? {
+        Some(all) => Ok(steps < all.count),
         None => Ok(false),
     }
 }
@@ -148,10 +129,11 @@ fn holds(
 {
     match asked {
         Asked::PathBound(bound) => Ok(path_bound(alloc, i)? == bound),
-        Asked::Closes(goal, closes) => Ok(
-            closing_count(alloc, i, choice, goal)?.is_some() == closes,
-        ),
-        Asked::Late(goal, m, r) => Ok(last_late(alloc, i, choice, goal)? == Some((m, r))),
+        Asked::Closes(goal, closes) => Ok(closed_at(alloc, i, choice, goal)?.is_some() == closes),
+        Asked::Late(goal, m, r) => match closed_at(alloc, i, choice, goal)? {
+            Some(Closing { late, .. }) => Ok(late == Some((m, r))),
+            None => Ok(false),
+        },
         Asked::Leaf(top, goal) => Ok(leaf_size(rt, alloc, i, choice, top)?.0 == goal),
         Asked::Steps(top, most) => Ok(leaf_size(rt, alloc, i, choice, top)?.1 <= most),
         Asked::Fewer(goal) => has_fewer(rt, alloc, i, choice, goal),
@@ -183,16 +165,12 @@ fn expect_all(
     Ok(())
 }
 
-/// Checks what is answered of the choice of a row on its instance.
-fn expect_on(rt: &impl Abort, alloc: Global, i: &Instance, row: &Row) -> Result<(), MemoryFault> {
-    let choice = chosen(rt, alloc, i, row.decisions)?;
-    expect_all(rt, alloc, i, &choice, row)
-}
-
 /// Checks what is answered of the choice of a row.
 pub fn expect(rt: &impl Abort, alloc: Global, row: &Row) -> Result<(), Fail> {
     let i = row.small.build(alloc)?;
-    Ok(expect_on(rt, alloc, &i, row)?)
+    let choice = chosen(rt, alloc, &i, row.decisions)?;
+    expect_all(rt, alloc, &i, &choice, row)?;
+    Ok(())
 }
 
 /// A cluster with the greatest horizon.
@@ -354,8 +332,8 @@ static ROWS: &[Row] = &[
 
 #[test]
 fn bounds_rows(rt: HostRuntime) -> Result<(), Fail> {
-    for rows in [ONE_MESSAGE, ROWS] {
-        for row in rows {
+    for rows in &[ONE_MESSAGE, ROWS] {
+        for row in *rows {
             expect(&rt, rt.alloc(), row)?;
         }
     }

@@ -56,14 +56,14 @@ fn is_settled(plan: &Plan, row: &Row) -> bool {
 fn expect_on(rt: &impl Abort, alloc: Global, i: &Instance, row: &Row) -> Result<(), MemoryFault> {
     let plan = plan_of(alloc, row)?;
     let Ok(delay) = check(i, &plan) else {
-        panic!(rt; "{} isn't valid: {plan:?}", row.label);
+        panic!(rt; "{} isn't valid", row.label);
     };
-    assert_eq!(rt; delay, row.delay, "{}", row.label);
+    assert!(rt; delay == row.delay, "{}", row.label);
     let found = match settle(alloc, i, plan) {
         Ok(found) => found,
         Err((_, fault)) => return Err(fault),
     };
-    assert!(rt; is_settled(&found, row), "{}: {found:?}", row.label);
+    assert!(rt; is_settled(&found, row), "{}", row.label);
     Ok(())
 }
 
@@ -73,7 +73,8 @@ pub fn expect(rt: &impl Abort, alloc: Global, row: &Row) -> Result<(), Fail> {
     Ok(expect_on(rt, alloc, &i, row)?)
 }
 
-pub static WORKED: &[Row] = &[
+/// `dominance_rows` checks these.
+pub static ROWS: &[Row] = &[
     Row {
         label: "three alike start in their order",
         small: Small::ThreeAlike,
@@ -148,9 +149,6 @@ pub static TURNED: &[Row] = &[
         delay: 10,
         to: (&[1, 0], &[2, 0], &[0, 1, 8, 4, 5], &[1, 0, 0], &[0, 0, 1]),
     },
-];
-
-static ROWS: &[Row] = &[
     Row {
         label: "three alike start in their order, and at once",
         small: Small::ThreeAlike,
@@ -201,11 +199,3 @@ static ROWS: &[Row] = &[
         to: (&[1, 2, 0], &[2, 3, 0], &[0, 8], &[0], &[0]),
     },
 ];
-
-#[test]
-fn settled_plan_rows(rt: HostRuntime) -> Result<(), Fail> {
-    for row in ROWS {
-        expect(&rt, rt.alloc(), row)?;
-    }
-    Ok(())
-}

@@ -14,12 +14,20 @@ use ttp_model::Instance;
 use worked_instances::PLAIN;
 
 /// How many leaves are judged together, and how many bytes a reader gives a call.
-pub type Pace = (usize, usize);
+type Pace = (usize, usize);
 
-const PACES: &[Pace] = &[(1, 1), (2, 100_000), (2_048, 7)];
+const PACES: &[Pace] = &[
+    (1, 1),
+    (2, 1),
+    (2_048, 1),
+    (2_048, 7),
+    (1, 100_000),
+    (2, 100_000),
+    (2_048, 100_000),
+];
 
 /// A branch whose first leaf is below the bound, and whose second has none of its steps.
-const TWO_FAULTS: &str =
+pub const TWO_FAULTS: &str =
     "ttcert 1\nlow 9\nround 0 1\nleaf 8 5\nes-release 0\nlo-send 0\nes-arrive 0 1\nle-own 1\nx-window 1\nleaf 101 0\n";
 
 /// No plan of two messages on two channels has a delay below 6, by the channels of each.
@@ -27,7 +35,7 @@ pub const BY_CHANNELS: &str =
     "ttcert 2\nlow 6\nchan 0 3\nchan 1 3\nleaf 6 5\nle-own 1\nle-own 2\nhi-arrive 0 1\nhi-arrive 1 2\nx-channel 0 0 0 1\nleaf 6 5\nes-message 0 1\nes-message 1 2\nle-own 1\nle-own 2\nx-load 1 4 5\nleaf 6 5\nle-own 1\nle-own 2\nhi-arrive 0 1\nhi-arrive 1 2\nx-channel 0 0 0 1\nleaf 6 5\nes-message 0 1\nes-message 1 2\nle-own 1\nle-own 2\nx-load 1 4 5\nleaf 6 5\nle-own 1\nle-own 2\nhi-arrive 0 1\nhi-arrive 1 2\nx-frames 0 0 1\n";
 
 /// What the check says of a text that is read as a whole.
-pub fn whole_answer(alloc: Global, i: &Instance, text: &[u8]) -> Result<u32, StreamFault> {
+fn whole_answer(alloc: Global, i: &Instance, text: &[u8]) -> Result<u32, StreamFault> {
     let cert = match read(alloc, text) {
         Ok(cert) => cert,
         Err(error) => return Err(StreamFault::Text(error)),
@@ -39,7 +47,7 @@ pub fn whole_answer(alloc: Global, i: &Instance, text: &[u8]) -> Result<u32, Str
 }
 
 /// What it says of the same text as it is read.
-pub fn streamed_answer(
+fn streamed_answer(
     rt: &(impl Threads + Sync),
     alloc: Global,
     i: &Instance,
@@ -49,84 +57,46 @@ pub fn streamed_answer(
     check_stream(rt, alloc, i, &mut Slow::giving(at_once, text), batch)
 }
 
-/// Checks that the two say the same at each pace.
-fn expect_same(
+/// What the check says of a text as a whole, which it says at each pace.
+pub fn answer(
     rt: &(impl Abort + Threads + Sync),
     alloc: Global,
     i: &Instance,
     text: &[u8],
-) -> Result<(), Fail> {
+) -> Result<u32, StreamFault> {
     let whole = whole_answer(alloc, i, text);
-    for pace in PACES {
-        assert_eq!(rt; streamed_answer(rt, alloc, i, text, *pace), whole);
+    for (k, pace) in PACES.iter().enumerate() {
+        let streamed = streamed_answer(rt, alloc, i, text, *pace);
+        assert!(rt; streamed == whole, "pace {k}, {} bytes", text.len());
     }
-    Ok(())
+    whole
 }
 
-/// Checks that they say the same of each prefix of a text.
-fn expect_same_prefixes(
+/// Texts whose prefixes are checked.
+pub static BROKEN_OFF: &[(Small, &str)] = &[
+    (Small::OneMessage(PLAIN), TWO_FAULTS),
+    (Small::TwoChannels(false), BY_CHANNELS),
+];
+
+/// Checks that the same is said of each prefix of a text, read as a whole and at each pace.
+pub fn expect_same_prefixes(
     rt: &(impl Abort + Threads + Sync),
     alloc: Global,
-    (small, text): (Small, &str),
+    (small, text): &(Small, &str),
 ) -> Result<(), Fail> {
     let i = small.build(alloc)?;
     let bytes = text.as_bytes();
     for length in 0..bytes.len().saturating_add(1) {
-        expect_same(rt, alloc, &i, &bytes[..length])?;
+        let _ = answer(rt, alloc, &i, &bytes[..length]);
     }
     Ok(())
 }
 
+/// A failed read goes before all other faults, and a text that is too long before the faults of the text and the certificate.
 #[test]
-fn each_prefix_is_answered_as_a_whole_text(rt: HostRuntime) -> Result<(), Fail> {
-    let one_channel = (Small::OneMessage(PLAIN), TWO_FAULTS);
-    let two_channels = (Small::TwoChannels(false), BY_CHANNELS);
-    for row in [one_channel, two_channels] {
-        expect_same_prefixes(&rt, rt.alloc(), row)?;
-    }
-    Ok(())
-}
-
-/// Texts with a fault of the certificate, and the fault that goes first.
-#[rattlefmt::skip]
-static FAULTS: &[(&str, StreamFault)] = &[
-    (TWO_FAULTS, StreamFault::Cert(CertFault::At { line: 4, fault: NodeFault::LowGoal })),
-    ("ttcert 1\nlow 9\nplace 2\nleaf 8 0\nleaf 9 x\n", StreamFault::Text(CertTextError::At { line: 5, fault: LineFault::Form })),
-    ("ttcert 1\nlow 9\nplace 2\nplace 2\nleaf 9 0\n", StreamFault::Text(CertTextError::At { line: 6, fault: LineFault::EarlyEnd })),
-    ("ttcert 1\nlow 102\nleaf 9 0\n", StreamFault::Cert(CertFault::LowTooGreat)),
-    ("ttcert 1\nlow 102\nleaf 9 0\nleaf 9 0\n", StreamFault::Text(CertTextError::At { line: 4, fault: LineFault::Trailing })),
-    ("ttcert 1\nlow 9\nplace 0\nplace 0\n", StreamFault::Text(CertTextError::At { line: 4, fault: LineFault::Trailing })),
-    ("ttcert 2\nlow 9\nchan 0 3\nleaf 8 0\nleaf 9 0\nleaf 9 0\n", StreamFault::Cert(CertFault::At { line: 3, fault: NodeFault::NotOpen })),
-    ("ttcert 2\nlow 9\nchan 0 3\nleaf 9 0\nleaf 9 0\nchan 0 2\n", StreamFault::Text(CertTextError::At { line: 6, fault: LineFault::Form })),
-];
-
-/// Checks what is said of a text at each pace.
-fn expect_fault(
-    rt: &(impl Abort + Threads + Sync),
-    alloc: Global,
-    i: &Instance,
-    text: &str,
-    fault: StreamFault,
-) {
-    for pace in PACES {
-        let answer = streamed_answer(rt, alloc, i, text.as_bytes(), *pace);
-        assert_eq!(rt; answer, Err(fault), "{text}");
-    }
-}
-
-#[test]
-fn a_fault_of_the_text_goes_before_one_of_the_certificate(rt: HostRuntime) -> Result<(), Fail> {
+fn a_fault_of_the_reader_goes_before_all_others(rt: HostRuntime) -> Result<(), Fail> {
     let i = Small::OneMessage(PLAIN).build(rt.alloc())?;
-    for (text, fault) in FAULTS {
-        expect_fault(&rt, rt.alloc(), &i, text, *fault);
-    }
-    Ok(())
-}
-
-#[test]
-fn a_failed_read_goes_before_all_other_faults(rt: HostRuntime) -> Result<(), Fail> {
-    let i = Small::OneMessage(PLAIN).build(rt.alloc())?;
-    for text in [
+    for text in &[
         TWO_FAULTS,
         "ttcert 1\nlow 102\nleaf 9 0\n",
         "ttcert 3\nlow 9\nleaf 9 0\n",
@@ -135,25 +105,11 @@ fn a_failed_read_goes_before_all_other_faults(rt: HostRuntime) -> Result<(), Fai
         for calls in 0..bytes.len().saturating_add(1) {
             let mut reader = Slow::failing_after(calls, bytes);
             let answer = check_stream(&rt, rt.alloc(), &i, &mut reader, 2);
-            assert_eq!(rt; answer, Err(StreamFault::Read), "{calls}");
+            assert!(rt; answer == Err(StreamFault::Read), "{text}: {calls}");
         }
-    }
-    Ok(())
-}
-
-#[test]
-fn a_text_that_is_too_long_goes_before_its_other_faults(rt: HostRuntime) -> Result<(), Fail> {
-    let i = Small::OneMessage(PLAIN).build(rt.alloc())?;
-    for text in [
-        TWO_FAULTS,
-        "ttcert 1\nlow 102\nleaf 9 0\n",
-        "ttcert 3\nlow 9\nleaf 9 0\n",
-    ] {
-        let mut reader = Endless {
-            first: text.as_bytes(),
-        };
+        let mut reader = Endless { first: bytes };
         let answer = check_stream(&rt, rt.alloc(), &i, &mut reader, 2);
-        assert_eq!(rt; answer, Err(StreamFault::TooLong), "{text}");
+        assert!(rt; answer == Err(StreamFault::TooLong), "{text}");
     }
     Ok(())
 }
@@ -311,7 +267,7 @@ fn copy_answer(
     let whole = whole_answer(alloc, i, text.as_bytes());
     let pace = [(1, 4_096), (2, 511), (2_048, 100_000)][copy as usize % 3];
     let streamed = streamed_answer(rt, alloc, i, text.as_bytes(), pace);
-    assert_eq!(rt; streamed, whole, "{copy}");
+    assert!(rt; streamed == whole, "{copy}");
     whole
 }
 
@@ -370,18 +326,6 @@ fn kinds_of_all(
 }
 
 /// The same of the certificate that takes rounds one by one, with so many steps more a leaf.
-fn kinds_on(
-    rt: &(impl Abort + Threads + Sync),
-    alloc: Global,
-    i: &Instance,
-    more: u32,
-    copies: u32,
-) -> Result<[u32; 13], AllocError> {
-    let whole = round_by_round(alloc, more)?;
-    kinds_of_copies(rt, alloc, i, whole.as_str(), copies)
-}
-
-/// The same of its instance.
 fn kinds_of(
     rt: &(impl Abort + Threads + Sync),
     alloc: Global,
@@ -389,14 +333,15 @@ fn kinds_of(
     copies: u32,
 ) -> Result<[u32; 13], Fail> {
     let i = Small::OneMessage(PLAIN).build(alloc)?;
-    Ok(kinds_on(rt, alloc, &i, more, copies)?)
+    let whole = round_by_round(alloc, more)?;
+    Ok(kinds_of_copies(rt, alloc, &i, whole.as_str(), copies)?)
 }
 
 #[test]
 fn damaged_copies_are_answered_as_whole_texts(rt: HostRuntime) -> Result<(), Fail> {
     let kinds = kinds_of(&rt, rt.alloc(), 5, 500)?;
     for kind in 0..12 {
-        assert!(rt; kinds[kind] > 0, "{kinds:?}");
+        assert!(rt; kinds[kind] > 0, "no answer of kind {kind}");
     }
     Ok(())
 }
@@ -417,7 +362,7 @@ fn kinds_by_channels(rt: &(impl Abort + Threads + Sync), alloc: Global) -> Resul
 fn damaged_copies_that_speak_of_channels_are_answered_so_too(rt: HostRuntime) -> Result<(), Fail> {
     let kinds = kinds_by_channels(&rt, rt.alloc())?;
     for kind in 0..12 {
-        assert!(rt; kinds[kind] > 0, "{kinds:?}");
+        assert!(rt; kinds[kind] > 0, "no answer of kind {kind}");
     }
     Ok(())
 }

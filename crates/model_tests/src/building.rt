@@ -3,10 +3,8 @@
 use crate::outcomes::same;
 use std::alloc::{AllocError, Global};
 use std::test::Fail;
-use ttp_model::{
-    Cluster, Instance, Link, MOST_TICKS, Message, ModelError, Name, Node, Numbers, Process, is_name,
-};
-use worked_instances::PLAIN;
+use ttp_model::{Cluster, Instance, Link, MOST_TICKS, ModelError, is_name};
+use worked_instances::{Draft, PLAIN};
 
 /// The tables of an instance in few words.
 #[derive(Clone, Copy)]
@@ -33,78 +31,29 @@ pub const LAWFUL: Tables = Tables {
     both: false,
 };
 
-fn name(alloc: Global, text: &str) -> Result<Name, AllocError> {
-    Ok(Name::new(String::from_str(alloc, text)?))
-}
-
-fn numbers(alloc: Global, items: &[u32]) -> Result<Numbers, AllocError> {
-    Ok(Numbers::new(Vec::from_slice(alloc, items)?))
-}
-
-fn nodes(alloc: Global, rows: &[(&str, &[u32])]) -> Result<Vec<Node>, AllocError> {
-    let mut nodes = Vec::new(alloc);
-    for (text, capacities) in rows {
-        let name = name(alloc, text)?;
-        let capacities = numbers(alloc, capacities)?;
-        nodes.push(Node { name, capacities })?;
-    }
-    Ok(nodes)
-}
-
-fn processes(alloc: Global, rows: &[(&str, u32, u32, u32)]) -> Result<Vec<Process>, AllocError> {
-    let mut processes = Vec::new(alloc);
-    for (text, node, wcet, deadline) in rows {
-        processes.push(Process {
-            name: name(alloc, text)?,
-            node: *node,
-            wcet: *wcet,
-            release: 0,
-            deadline: *deadline,
-        })?;
-    }
-    Ok(processes)
-}
-
-fn messages(
-    alloc: Global,
-    rows: &[(&str, &[u32], u32)],
-    both: bool,
-) -> Result<Vec<Message>, AllocError> {
-    let mut messages = Vec::new(alloc);
-    for (text, receivers, bytes) in rows {
-        let name = name(alloc, text)?;
-        let receivers = numbers(alloc, receivers)?;
-        messages.push(Message {
-            name,
-            sender: 0,
-            receivers,
-            bytes: *bytes,
-            both,
-        })?;
-    }
-    Ok(messages)
-}
-
 /// The instance of these tables, or the rule that they break first.
 pub fn build(alloc: Global, tables: &Tables) -> Result<Instance, ModelError> {
-    let nodes = nodes(alloc, tables.nodes)?;
-    let processes = processes(alloc, tables.processes)?;
-    let links = Vec::from_slice(alloc, tables.links)?;
-    let messages = messages(alloc, tables.messages, tables.both)?;
-    Instance::build(alloc, tables.cluster, nodes, processes, links, messages)
+    let mut draft = Draft::of(alloc, tables.cluster);
+    for (name, capacities) in tables.nodes {
+        draft = draft.node(name, capacities)?;
+    }
+    for (name, node, wcet, deadline) in tables.processes {
+        draft = draft.process_within(name, *node, *wcet, (0, *deadline))?;
+    }
+    for link in tables.links {
+        draft = draft.link(link.before, link.after)?;
+    }
+    for (name, receivers, bytes) in tables.messages {
+        draft = draft.message_to(name, 0, receivers, *bytes, tables.both)?;
+    }
+    draft.build()
 }
 
 #[test]
 fn lawful_tables_are_an_instance_and_are_read_back(rt: HostRuntime) -> Result<(), Fail> {
-    let instance = build(rt.alloc(), &LAWFUL)?;
-    let found = [
-        instance.cluster().horizon as usize,
-        instance.nodes().len(),
-        instance.processes().len(),
-        instance.links().len(),
-        instance.messages().len(),
-    ];
-    same(&rt, "the horizon, and how many", found, [100, 2, 2, 0, 1]);
+    let i = build(rt.alloc(), &LAWFUL)?;
+    assert!(rt; i.cluster().horizon == 100 && i.nodes().len() == 2 && i.processes().len() == 2);
+    assert!(rt; i.links().is_empty() && i.messages().len() == 1);
     Ok(())
 }
 

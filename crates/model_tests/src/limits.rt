@@ -4,10 +4,8 @@ use crate::building::verdict;
 use crate::outcomes::same;
 use std::alloc::{AllocError, Global};
 use std::test::Fail;
-use ttp_model::{
-    Cluster, Instance, Link, MOST_TICKS, Message, ModelError, Name, Node, Numbers, Process,
-};
-use worked_instances::PLAIN;
+use ttp_model::{Cluster, Instance, MOST_TICKS, ModelError};
+use worked_instances::{Draft, PLAIN};
 
 /// How much of everything an instance has. The first half of its processes is on node 0 and sends.
 #[derive(Clone, Copy)]
@@ -43,7 +41,7 @@ const SMALL: Sizes = Sizes {
 };
 
 /// A name of so many bytes that ends with the index.
-fn name(alloc: Global, length: usize, index: usize) -> Result<Name, AllocError> {
+fn name(alloc: Global, length: usize, index: usize) -> Result<String, AllocError> {
     let mut text = String::new(alloc);
     for _ in 4..length {
         text.push('n')?;
@@ -52,67 +50,31 @@ fn name(alloc: Global, length: usize, index: usize) -> Result<Name, AllocError> 
         let digit = (index / place % 10) as u8;
         text.push(char::from(b'a' + digit))?;
     }
-    Ok(Name::new(text))
-}
-
-fn nodes(alloc: Global, sizes: &Sizes) -> Result<Vec<Node>, AllocError> {
-    let mut nodes = Vec::new(alloc);
-    for n in 0..sizes.nodes {
-        nodes.push(Node {
-            name: name(alloc, sizes.name_bytes, n)?,
-            capacities: Numbers::new(Vec::from_slice(alloc, sizes.capacities)?),
-        })?;
-    }
-    Ok(nodes)
-}
-
-fn processes(alloc: Global, sizes: &Sizes) -> Result<Vec<Process>, AllocError> {
-    let mut processes = Vec::new(alloc);
-    for p in 0..sizes.processes {
-        processes.push(Process {
-            name: name(alloc, sizes.name_bytes, p as usize)?,
-            node: u32::from(p + 1 == sizes.processes),
-            wcet: sizes.wcet,
-            release: sizes.release,
-            deadline: sizes.deadline,
-        })?;
-    }
-    Ok(processes)
-}
-
-fn links(alloc: Global, sizes: &Sizes) -> Result<Vec<Link>, AllocError> {
-    let mut links = Vec::new(alloc);
-    for _ in 0..sizes.links {
-        links.push(Link {
-            before: 0,
-            after: 1,
-        })?;
-    }
-    Ok(links)
-}
-
-fn messages(alloc: Global, sizes: &Sizes) -> Result<Vec<Message>, AllocError> {
-    let mut messages = Vec::new(alloc);
-    for m in 0..sizes.messages {
-        let last = sizes.processes.saturating_sub(1);
-        messages.push(Message {
-            name: name(alloc, sizes.name_bytes, m)?,
-            sender: 0,
-            receivers: Numbers::new(vec![in alloc; last]?),
-            bytes: sizes.bytes,
-            both: false,
-        })?;
-    }
-    Ok(messages)
+    Ok(text)
 }
 
 /// The instance of these sizes, or the rule that they break first.
 fn build(alloc: Global, sizes: &Sizes) -> Result<Instance, ModelError> {
-    let nodes = nodes(alloc, sizes)?;
-    let processes = processes(alloc, sizes)?;
-    let links = links(alloc, sizes)?;
-    let messages = messages(alloc, sizes)?;
-    Instance::build(alloc, sizes.cluster, nodes, processes, links, messages)
+    let mut draft = Draft::of(alloc, sizes.cluster);
+    for n in 0..sizes.nodes {
+        let name = name(alloc, sizes.name_bytes, n)?;
+        draft = draft.node(name.as_str(), sizes.capacities)?;
+    }
+    for p in 0..sizes.processes {
+        let name = name(alloc, sizes.name_bytes, p as usize)?;
+        let node = u32::from(p + 1 == sizes.processes);
+        let window = (sizes.release, sizes.deadline);
+        draft = draft.process_within(name.as_str(), node, sizes.wcet, window)?;
+    }
+    for _ in 0..sizes.links {
+        draft = draft.link(0, 1)?;
+    }
+    let last = sizes.processes.saturating_sub(1);
+    for m in 0..sizes.messages {
+        let name = name(alloc, sizes.name_bytes, m)?;
+        draft = draft.message(name.as_str(), 0, last, sizes.bytes)?;
+    }
+    draft.build()
 }
 
 /// The least sizes, where some are others.

@@ -71,7 +71,7 @@ fn are_written(rt: &impl Abort, alloc: Global, written: &Written) -> Result<(), 
     let instance = build(alloc, parts)?;
     let medl = tables(rt, alloc, &instance, *lists, *delay)?;
     let text = print(alloc, &instance, &medl)?;
-    same(rt, lists, text.as_slice(), *lines);
+    same(rt, "tables", text.as_slice(), *lines);
     Ok(())
 }
 

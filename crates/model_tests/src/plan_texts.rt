@@ -93,8 +93,12 @@ fn is_read(
     spelled: &Spelled,
 ) -> Result<(), PlanTextError> {
     let (plan, delay) = read(alloc, instance, spelled.text.as_bytes())?;
-    assert!(rt; has_lists(&plan, spelled.lists), "{plan:?}");
-    same(rt, spelled.text, u64::from(delay), spelled.delay);
+    let is_delay = u64::from(delay) == spelled.delay;
+    assert!(rt;
+        is_delay && has_lists(&plan, spelled.lists),
+        "{}",
+        spelled.text
+    );
     Ok(())
 }
 
@@ -114,7 +118,7 @@ fn are_refused(
             line: *line,
             fault: *fault,
         };
-        same(rt, text, found, Some(wanted));
+        assert!(rt; found == Some(wanted), "{text}");
     }
     Ok(())
 }

@@ -1,14 +1,12 @@
 //! Which verdicts do plans get that no text spells?
 
 use crate::building::{LAWFUL, Tables, build};
-use crate::outcomes::same;
 use crate::plans::{Lists, plan_of};
 use plan_check::{PlanFault, PlanPart, check};
 use std::alloc::{AllocError, Global};
 use std::process::Abort;
 use std::test::Fail;
-use ttp_model::Instance;
-use worked_instances::overfull;
+use ttp_model::{Instance, MOST_TICKS};
 
 /// The delay of a valid plan, or the rule that another one breaks first.
 type Verdict = Result<u64, PlanFault>;
@@ -83,70 +81,75 @@ const WRONG_ORDERS: &[Refused] = &[
     ),
 ];
 
+/// A plan of one message with these channels.
+macro_rules! of_one {
+    ($channels:expr) => {
+        [&[0, 1], &[2, 0], &[0, 7], &[1], $channels]
+    };
+}
+
+/// Channels of the only message: there is channel 0 alone.
+const WRONG_CHANNELS: &[Refused] = &[
+    (of_one!(&[]), PlanFault::WrongLength(PlanPart::Channels)),
+    (of_one!(&[0, 0]), PlanFault::WrongLength(PlanPart::Channels)),
+    (of_one!(&[1]), PlanFault::WrongChannel(0)),
+    (of_one!(&[2]), PlanFault::WrongChannel(0)),
+    (of_one!(&[4_294_967_295]), PlanFault::WrongChannel(0)),
+];
+
+/// A process on node A sends 2 bytes and 3 to one on node B, and A's frames hold 4.
+const TWO_MESSAGES: Tables = Tables {
+    nodes: &[("A", &[4]), ("B", &[0])],
+    processes: &[("p", 0, 1, MOST_TICKS), ("q", 1, 1, MOST_TICKS)],
+    messages: &[("m1", &[1], 2), ("m2", &[1], 3)],
+    ..LAWFUL
+};
+
+/// A plan of both in one frame, with these channels.
+macro_rules! of_two {
+    ($channels:expr) => {
+        [&[0, 1], &[4, 0], &[0, 11], &[1, 1], $channels]
+    };
+}
+
+/// Channels of two messages that share a frame with room for either alone. A frame has those of number 0 and 2, and is judged before
+/// channels are.
+const SHARED_FRAMES: &[Refused] = &[
+    (of_two!(&[0, 0]), PlanFault::Overfull(0, 1)),
+    (of_two!(&[2, 0]), PlanFault::Overfull(0, 1)),
+    (of_two!(&[0, 2]), PlanFault::Overfull(0, 1)),
+    (of_two!(&[2, 2]), PlanFault::Overfull(0, 1)),
+    (of_two!(&[1, 0]), PlanFault::WrongChannel(0)),
+    (of_two!(&[0, 1]), PlanFault::WrongChannel(1)),
+    (of_two!(&[2, 3]), PlanFault::WrongChannel(0)),
+];
+
+/// Plans of these instances that are refused.
+const REFUSED: &[(&str, Tables, &[Refused])] = &[
+    ("lists", LAWFUL, WRONG_LISTS),
+    ("orders", THREE_NODES, WRONG_ORDERS),
+    ("channels", LAWFUL, WRONG_CHANNELS),
+    ("frames", TWO_MESSAGES, SHARED_FRAMES),
+];
+
 /// Each of these plans is refused for the rule beside it.
 fn are_refused(
     rt: &impl Abort,
     alloc: Global,
-    tables: &Tables,
-    rows: &[Refused],
+    (what, tables, rows): &(&str, Tables, &[Refused]),
 ) -> Result<(), Fail> {
     let instance = build(alloc, tables)?;
-    for (lists, fault) in rows {
+    for (k, (lists, fault)) in rows.iter().enumerate() {
         let found = verdict(alloc, &instance, *lists)?;
-        same(rt, lists, found, Err(*fault));
+        assert!(rt; found == Err(*fault), "{what} {k}");
     }
     Ok(())
 }
 
 #[test]
-fn lists_that_no_text_spells_are_refused(rt: HostRuntime) -> Result<(), Fail> {
-    are_refused(&rt, rt.alloc(), &LAWFUL, WRONG_LISTS)?;
-    are_refused(&rt, rt.alloc(), &THREE_NODES, WRONG_ORDERS)
-}
-
-/// Channels of the only message, and the rule that a plan breaks by them: there is channel 0 alone.
-const WRONG_CHANNELS: &[(&[u32], PlanFault)] = &[
-    (&[], PlanFault::WrongLength(PlanPart::Channels)),
-    (&[0, 0], PlanFault::WrongLength(PlanPart::Channels)),
-    (&[1], PlanFault::WrongChannel(0)),
-    (&[2], PlanFault::WrongChannel(0)),
-    (&[4_294_967_295], PlanFault::WrongChannel(0)),
-];
-
-/// Channels of two messages that share a frame with room for either alone. A frame has those of number 0 and 2, and is judged before
-/// channels are.
-const SHARED_FRAMES: &[(&[u32], PlanFault)] = &[
-    (&[0, 0], PlanFault::Overfull(0, 1)),
-    (&[2, 0], PlanFault::Overfull(0, 1)),
-    (&[0, 2], PlanFault::Overfull(0, 1)),
-    (&[2, 2], PlanFault::Overfull(0, 1)),
-    (&[1, 0], PlanFault::WrongChannel(0)),
-    (&[0, 1], PlanFault::WrongChannel(1)),
-    (&[2, 3], PlanFault::WrongChannel(0)),
-];
-
-/// The plan of these lists is refused with each of these channels, for the rule beside them.
-fn are_refused_on(
-    rt: &impl Abort,
-    alloc: Global,
-    instance: &Instance,
-    lists: Lists,
-    rows: &[(&[u32], PlanFault)],
-) -> Result<(), Fail> {
-    let [order, caps, starts, rounds, _channels] = lists;
-    for (channels, fault) in rows {
-        let found = verdict(alloc, instance, [order, caps, starts, rounds, channels])?;
-        same(rt, channels, found, Err(*fault));
+fn what_no_text_spells_is_refused(rt: HostRuntime) -> Result<(), Fail> {
+    for row in REFUSED {
+        are_refused(&rt, rt.alloc(), row)?;
     }
     Ok(())
-}
-
-#[test]
-fn a_message_is_on_the_only_channel(rt: HostRuntime) -> Result<(), Fail> {
-    let lawful = build(rt.alloc(), &LAWFUL)?;
-    let lists: Lists = [&[0, 1], &[2, 0], &[0, 7], &[1], &[0]];
-    are_refused_on(&rt, rt.alloc(), &lawful, lists, WRONG_CHANNELS)?;
-    let shared = overfull(rt.alloc())?;
-    let lists: Lists = [&[0, 1], &[4, 0], &[0, 11], &[1, 1], &[0, 0]];
-    are_refused_on(&rt, rt.alloc(), &shared, lists, SHARED_FRAMES)
 }

@@ -1,13 +1,12 @@
 //! What happens in worked cycles where frames are lost, and how is it written?
 
 use crate::building::{LAWFUL, Tables, build};
-use crate::outcomes::same;
 use crate::plans::{Lists, tables};
-use membership_replay::{Loss, ReplayFault, print, replay};
+use membership_replay::{Loss, ReplayFault, Trace, print, replay};
 use std::alloc::Global;
 use std::process::Abort;
 use std::test::Fail;
-use ttp_model::{Cluster, MOST_TICKS};
+use ttp_model::{Cluster, Instance, MOST_TICKS};
 use worked_instances::PLAIN;
 
 /// Nodes A, B and C with frames of 1 tick, and a process of 3 ticks: one round.
@@ -45,9 +44,11 @@ struct Cycle {
     lists: Lists<'static>,
     delay: u64,
     losses: &'static [Loss],
-    /// How many slots and states of nodes its trace has, and the lines.
-    told: Result<(usize, usize, &'static [u8]), ReplayFault>,
+    told: Told,
 }
+
+/// How many slots and states of nodes a trace has, and the lines; or why there is none.
+type Told = Result<(usize, usize, &'static [u8]), ReplayFault>;
 
 /// Three nodes that lose nothing.
 const ALL_STAY: Cycle = Cycle {
@@ -129,7 +130,7 @@ const LOST: Cycle = Cycle {
 const ITS_FRAME: &[Loss] = losses![(1, 1)];
 
 /// What is told then.
-const TOLD_OF_LOSS: Result<(usize, usize, &[u8]), ReplayFault> = Ok((
+const TOLD_OF_LOSS: Told = Ok((
     6,
     3,
     b"ttreplay 1\n\
@@ -165,22 +166,27 @@ const CYCLES: &[Cycle] = &[ONE_LEAVES, ALL_STAY, OUTSIDE, AT_SENDER, TOO_FEW];
 /// The same of a message.
 const DELIVERIES: &[Cycle] = &[DELIVERED, LOST, ON_BOTH, LOST_ON_BOTH];
 
-/// This is told of the cycle, unless memory is refused.
-fn is_told(rt: &impl Abort, alloc: Global, cycle: &Cycle) -> Result<(), Fail> {
+/// Whether a trace is told so.
+fn is_trace(alloc: Global, instance: &Instance, trace: &Trace, told: Told) -> Result<bool, Fail> {
+    let Ok((slots, states, lines)) = told else {
+        return Ok(false);
+    };
+    let text = print(alloc, instance, trace)?;
+    let is_long = trace.slots().len() == slots && trace.states().len() == states;
+    Ok(is_long && text.as_slice() == lines)
+}
+
+/// Whether this is told of the cycle, unless memory is refused.
+fn is_told(rt: &impl Abort, alloc: Global, cycle: &Cycle) -> Result<bool, Fail> {
     let instance = build(alloc, &cycle.parts)?;
     let medl = tables(rt, alloc, &instance, cycle.lists, cycle.delay)?;
     match replay(alloc, &instance, &medl, cycle.losses) {
-        Ok(trace) => {
-            let text = print(alloc, &instance, &trace)?;
-            let found = (trace.slots().len(), trace.states().len(), text.as_slice());
-            same(rt, cycle.losses, Ok(found), cycle.told);
-            Ok(())
-        }
+        Ok(trace) => is_trace(alloc, &instance, &trace, cycle.told),
         Err(ReplayFault::OutOfMemory) => Err(ReplayFault::OutOfMemory.into()),
-        Err(fault) => {
-            same(rt, cycle.losses, Err(fault), cycle.told);
-            Ok(())
-        }
+        Err(fault) => match cycle.told {
+            Ok(_) => Ok(false),
+            Err(wanted) => Ok(wanted == fault),
+        },
     }
 }
 
@@ -188,8 +194,8 @@ fn is_told(rt: &impl Abort, alloc: Global, cycle: &Cycle) -> Result<(), Fail> {
 fn a_message_is_delivered_in_its_round_where_its_frame_is_not_lost(
     rt: HostRuntime,
 ) -> Result<(), Fail> {
-    for cycle in DELIVERIES {
-        is_told(&rt, rt.alloc(), cycle)?;
+    for (k, cycle) in DELIVERIES.iter().enumerate() {
+        assert!(rt; is_told(&rt, rt.alloc(), cycle)?, "cycle {k}");
     }
     Ok(())
 }
@@ -198,8 +204,8 @@ fn a_message_is_delivered_in_its_round_where_its_frame_is_not_lost(
 fn a_loss_is_of_the_cycle_and_a_node_leaves_whose_frame_is_lost_everywhere(
     rt: HostRuntime,
 ) -> Result<(), Fail> {
-    for cycle in CYCLES {
-        is_told(&rt, rt.alloc(), cycle)?;
+    for (k, cycle) in CYCLES.iter().enumerate() {
+        assert!(rt; is_told(&rt, rt.alloc(), cycle)?, "cycle {k}");
     }
     Ok(())
 }

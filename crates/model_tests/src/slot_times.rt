@@ -14,7 +14,7 @@ use tt_layout::Layout;
 use ttp_model::{Instance, MOST_TICKS, Plan};
 
 /// What is known of a slot.
-#[derive(Clone, Copy, Debug)]
+#[derive(Clone, Copy)]
 enum Slot {
     /// The node's slot in this round is from this tick until that one.
     Lasts(u32, u32, u64, u64),
@@ -109,8 +109,8 @@ fn slots_are(rt: &impl Abort, layout: &Layout, round: u64, slots: &[Slot])
     requires { length layout.now.caps ≡ 2 }
 {
     same(rt, "the round", layout.round_length(), round);
-    for slot in slots {
-        same(rt, slot, is_of(*slot, layout), true);
+    for (k, slot) in slots.iter().enumerate() {
+        assert!(rt; is_of(*slot, layout), "slot {k}");
     }
 }
 

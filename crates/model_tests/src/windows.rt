@@ -61,7 +61,7 @@ fn are_written(rt: &impl Abort, alloc: Global, written: &Written) -> Result<(), 
     let instance = build(alloc, parts)?;
     let plan = valid_plan(rt, alloc, &instance, *lists, *delay)?;
     let text = text_of(alloc, &instance, &plan)?;
-    same(rt, lists, text.as_slice(), *lines);
+    same(rt, "windows", text.as_slice(), *lines);
     Ok(())
 }
 

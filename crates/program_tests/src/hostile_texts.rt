@@ -3,25 +3,11 @@
 use crate::told::Asked::{Check, Verify};
 use crate::told::{
     Asked, FIRST, FIRST_CERTIFICATE, FIRST_PLAN, TWO_CHANNELS, TWO_CHANNELS_BOTH,
-    TWO_CHANNELS_BOTH_CERTIFICATE, TWO_CHANNELS_PLAN, Told, joined,
+    TWO_CHANNELS_BOTH_CERTIFICATE, TWO_CHANNELS_PLAN, joined,
 };
 use std::alloc::{Alloc, AllocError, Global};
 use std::test::Fail;
 use std::thread::Threads;
-
-/// What a command tells of two texts in bytes.
-fn told(
-    rt: &(impl Alloc<A = Global> + Threads + Sync),
-    command: Asked,
-    instance: &[u8],
-    second: &[u8],
-) -> Told {
-    let mut instance = instance;
-    let mut second = second;
-    let mut out = Vec::new(rt.alloc());
-    let end = command.end(rt, &mut instance, &mut second, &mut out);
-    Told::at(rt.alloc(), &end, out)
-}
 
 /// Whether a second text is told by this code to end early on its last line, the one behind its last line's end.
 fn ends_early(
@@ -33,24 +19,40 @@ fn ends_early(
 ) -> Result<bool, AllocError> {
     let ends = second.iter().filter(|byte| **byte == b'\n').count();
     let line = format!(in rt.alloc(); "{code} {}\n", ends.saturating_add(1))?;
-    Ok(told(rt, command, instance, second).is(line.as_str(), 5))
+    Ok(command.told(rt, instance, second).is(line.as_str(), 5))
 }
 
-/// The length of the first proper prefix of a second text of which something else is told.
+/// A command, an instance in parts, a second text, its length, and the code that tells that it ends early.
+type Row = (
+    Asked<'static>,
+    &'static [&'static str],
+    &'static str,
+    usize,
+    &'static str,
+);
+
+#[rattlefmt::skip]
+static ROWS: &[Row] = &[
+    (Verify, FIRST, FIRST_PLAN, 73, "plan F5"),
+    (Check, FIRST, FIRST_CERTIFICATE, 81, "certificate G5"),
+    (Verify, TWO_CHANNELS, TWO_CHANNELS_PLAN, 117, "plan F5"),
+    (Check, TWO_CHANNELS_BOTH, TWO_CHANNELS_BOTH_CERTIFICATE, 340, "certificate G5"),
+];
+
+/// The length of the first proper prefix of a row's second text of which something else is told, or of the text if that isn't the
+/// one that is stated.
 fn wrong_prefix(
     rt: &(impl Alloc<A = Global> + Threads + Sync),
-    command: Asked,
-    instance: &[&str],
-    text: &[u8],
-    code: &str,
+    (command, instance, text, stated, code): &Row,
 ) -> Result<Option<usize>, AllocError> {
     let instance = joined(rt.alloc(), instance)?;
+    let text = text.as_bytes();
     for length in 0..text.len() {
-        if !ends_early(rt, command, instance.as_bytes(), &text[..length], code)? {
+        if !ends_early(rt, *command, instance.as_bytes(), &text[..length], code)? {
             return Ok(Some(length));
         }
     }
-    Ok(None)
+    Ok((text.len() != *stated).then_some(text.len()))
 }
 
 /// From this length on and below the next, a prefix of the first instance is told this, with this status.
@@ -107,7 +109,8 @@ fn wrong_instance_prefix(
     let bytes = instance.as_bytes();
     for length in 0..bytes.len().saturating_add(1) {
         let (text, status) = of_prefix(length);
-        if !told(rt, Verify, &bytes[..length], FIRST_PLAN.as_bytes()).is(text, status) {
+        let told = Verify.told(rt, &bytes[..length], FIRST_PLAN.as_bytes());
+        if !told.is(text, status) {
             return Ok(Some(length));
         }
     }
@@ -116,30 +119,11 @@ fn wrong_instance_prefix(
 
 #[test]
 fn hostile_texts(rt: HostRuntime) -> Result<(), Fail> {
-    let plan = FIRST_PLAN.as_bytes();
-    assert_eq!(rt; plan.len(), 73);
-    assert_eq!(rt; wrong_prefix(&rt, Verify, FIRST, plan, "plan F5")?, None);
-    let certificate = FIRST_CERTIFICATE.as_bytes();
-    assert_eq!(rt; certificate.len(), 81);
-    assert_eq!(rt;
-        wrong_prefix(&rt, Check, FIRST, certificate, "certificate G5")?,
-        None
-    );
-    assert_eq!(rt; wrong_instance_prefix(&rt)?, None);
-    Ok(())
-}
-
-#[test]
-fn texts_of_two_channels_break_off(rt: HostRuntime) -> Result<(), Fail> {
-    let plan = TWO_CHANNELS_PLAN.as_bytes();
-    let certificate = TWO_CHANNELS_BOTH_CERTIFICATE.as_bytes();
-    assert_eq!(rt;
-        wrong_prefix(&rt, Verify, TWO_CHANNELS, plan, "plan F5")?,
-        None
-    );
-    assert_eq!(rt;
-        wrong_prefix(&rt, Check, TWO_CHANNELS_BOTH, certificate, "certificate G5")?,
-        None
-    );
+    for row in ROWS {
+        let wrong = wrong_prefix(&rt, row)?;
+        assert!(rt; wrong.is_none(), "{} of {}: {wrong:?}", row.4, row.3);
+    }
+    let wrong = wrong_instance_prefix(&rt)?;
+    assert!(rt; wrong.is_none(), "the instance: {wrong:?}");
     Ok(())
 }

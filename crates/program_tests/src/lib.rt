@@ -2,13 +2,9 @@
 #![tactic(auto)]
 
 #[cfg(test)]
-mod bundles;
-#[cfg(test)]
 mod failing_streams;
 #[cfg(test)]
 mod hostile_texts;
-#[cfg(test)]
-mod judgements;
 #[cfg(test)]
 mod limits;
 #[cfg(test)]
@@ -20,11 +16,7 @@ mod reports;
 #[cfg(test)]
 mod requests;
 #[cfg(test)]
-mod solve_streams;
-#[cfg(test)]
 mod solves;
-#[cfg(test)]
-mod streams;
 #[cfg(test)]
 mod told;
 #[cfg(test)]

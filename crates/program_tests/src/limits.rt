@@ -70,7 +70,7 @@ fn told(
     match filled {
         Filled::Instance(length) => {
             let instance = comment(rt.alloc(), length)?;
-            Ok(Verify.told(rt, instance.as_str(), FIRST_PLAN))
+            Ok(Verify.told(rt, instance.as_bytes(), FIRST_PLAN.as_bytes()))
         }
         Filled::Bundle(length) => {
             let bundle = comment(rt.alloc(), length)?;

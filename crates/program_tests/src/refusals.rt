@@ -74,14 +74,6 @@ fn tells(
     is_told(&end, &out, text)
 }
 
-/// The same of a bundle.
-fn bundle_tells(alloc: Global) -> Result<bool, Fail> {
-    let bundle = joined(alloc, &[CLUSTER, FIRST_PARTS, "%%\n", FIRST_PLAN])?;
-    let mut out = page();
-    let end = verify_bundle(alloc, &mut bundle.as_bytes(), &mut out);
-    is_told(&end, &out, "valid 9\n")
-}
-
 /// The same of a judgement, in which the plan stands behind the line of a search that was stopped.
 fn judgement_tells(rt: &(impl Alloc<A = Global> + Threads + Sync)) -> Result<bool, Fail> {
     let instance = joined(rt.alloc(), FIRST)?;
@@ -207,7 +199,10 @@ fn refused_in_turn(rt: HostRuntime) -> Result<(), Fail> {
 
 #[test]
 fn bundle_refused_in_turn(rt: HostRuntime) -> Result<(), Fail> {
-    assert!(rt; bundle_tells(rt.alloc())?);
+    let bundle = joined(rt.alloc(), &[CLUSTER, FIRST_PARTS, "%%\n", FIRST_PLAN])?;
+    let mut out = page();
+    let end = verify_bundle(rt.alloc(), &mut bundle.as_bytes(), &mut out);
+    assert!(rt; is_told(&end, &out, "valid 9\n")?);
     Ok(())
 }
 

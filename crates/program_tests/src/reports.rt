@@ -1,13 +1,12 @@
 //! Which line and status does a refusal have, and what stands on standard error where it isn't written in full?
 
-use crate::streams::FullWriter;
+use crate::failing_streams::{Calls, Keeper};
 use certificate::CertTextError;
 use command_streams::End::Refused;
 use command_streams::{End, Fault, SearchFault, Sink, Source, report, status};
 use instance_text::TextError;
 use plan_format::PlanTextError;
 use std::alloc::Global;
-use std::test::Fail;
 use tree_check::CertFault;
 use ttp_model::{ModelError, Place, PlanFault, PlanPart};
 
@@ -15,7 +14,13 @@ use ttp_model::{ModelError, Place, PlanFault, PlanPart};
 /// failure isn't told just where a part is lacking.
 fn wrong_room(alloc: Global, end: &End, line: &[u8]) -> Option<usize> {
     for room in 0..line.len() + 1 {
-        let mut error = FullWriter::with_room(alloc, room);
+        let calls = Calls {
+            most: 1,
+            left: room,
+            is_full: true,
+            failed: false,
+        };
+        let mut error = Keeper::new(alloc, calls);
         let told = report(end, &mut error);
         let is_whole = room == line.len();
         if told.is_ok() != is_whole || error.taken.as_slice() != &line[..room] {
@@ -25,18 +30,14 @@ fn wrong_room(alloc: Global, end: &End, line: &[u8]) -> Option<usize> {
     None
 }
 
+/// Nothing is told of an end without a fault.
 #[test]
-fn a_full_standard_error_has_a_prefix_of_the_line(rt: HostRuntime) -> Result<(), Fail> {
+fn a_full_standard_error_has_a_prefix_of_the_line(rt: HostRuntime) {
     let end = Refused(Fault::WrongLoss(12));
-    assert_eq!(rt; wrong_room(rt.alloc(), &end, b"replay N2 12\n"), None);
-    Ok(())
-}
-
-#[test]
-fn nothing_is_told_of_an_end_without_a_fault(rt: HostRuntime) -> Result<(), Fail> {
-    let mut error = FullWriter::with_room(rt.alloc(), 0);
-    assert!(rt; report(&End::Absent, &mut error).is_ok());
-    Ok(())
+    let wrong = wrong_room(rt.alloc(), &end, b"replay N2 12\n");
+    assert!(rt; wrong.is_none(), "{wrong:?}");
+    let wrong = wrong_room(rt.alloc(), &End::Absent, b"");
+    assert!(rt; wrong.is_none(), "{wrong:?}");
 }
 
 /// Whether an end has this status and this line, which is written in full where the writer takes it.
@@ -194,8 +195,9 @@ fn wrong_line_of_no_text(alloc: Global) -> Option<usize> {
 }
 
 #[test]
-fn each_fault_beside_those_of_texts_has_its_line(rt: HostRuntime) -> Result<(), Fail> {
-    assert_eq!(rt; wrong_line(rt.alloc()), None);
-    assert_eq!(rt; wrong_line_of_no_text(rt.alloc()), None);
-    Ok(())
+fn each_fault_beside_those_of_texts_has_its_line(rt: HostRuntime) {
+    let wrong = wrong_line(rt.alloc());
+    assert!(rt; wrong.is_none(), "{wrong:?}");
+    let wrong = wrong_line_of_no_text(rt.alloc());
+    assert!(rt; wrong.is_none(), "{wrong:?}");
 }

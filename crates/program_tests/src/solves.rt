@@ -97,11 +97,8 @@ impl Answered {
         rt: &(impl Alloc<A = Global> + Threads + Sync),
         low: u32,
     ) -> Result<bool, AllocError> {
-        let Ok(certificate) = from_utf8(self.certificate.as_slice()) else {
-            return Ok(false);
-        };
         let line = format!(in rt.alloc(); "bound {low}\n")?;
-        let told = Asked::Check.told(rt, self.instance.as_str(), certificate);
+        let told = Asked::Check.told(rt, self.instance.as_bytes(), self.certificate.as_slice());
         Ok(told.is(line.as_str(), 0))
     }
 
@@ -113,7 +110,7 @@ impl Answered {
         delay: u32,
     ) -> Result<bool, AllocError> {
         let line = format!(in rt.alloc(); "valid {delay}\n")?;
-        let told = Asked::Verify.told(rt, self.instance.as_str(), plan);
+        let told = Asked::Verify.told(rt, self.instance.as_bytes(), plan.as_bytes());
         Ok(told.is(line.as_str(), 0))
     }
 
@@ -135,15 +132,6 @@ impl Answered {
                 && self.has_valid(rt, plan, delay)?
                 && self.is_proved(rt, delay)?,
         )
-    }
-
-    /// Whether it is that there is no plan, certified at this bound.
-    fn is_none(
-        &self,
-        rt: &(impl Alloc<A = Global> + Threads + Sync),
-        low: u32,
-    ) -> Result<bool, AllocError> {
-        Ok(self.told.is("none\n", 10) && self.is_proved(rt, low)?)
     }
 
     /// Whether a delay and a text are those of no plan, or of one that is above the bound and not below the least.
@@ -189,74 +177,50 @@ fn stopped_in(text: &str) -> Option<(u32, &str, &str)> {
     Some((low.parse().ok()?, best, plan))
 }
 
-/// An instance in parts, and the delay of its shortest plans, of which the one found has these lines behind the delay.
-type Shortest = (&'static [&'static str], u32, &'static str);
+/// An instance in parts, and the delay of its shortest plans, of which the one found has these lines behind the delay; or that it has no
+/// plan, and the bound that its certificate proves.
+type Searched = (&'static [&'static str], u32, Option<&'static str>);
 
 #[rattlefmt::skip]
-static SHORTEST: &[Shortest] = &[
-    (&[TWO_WITH_LARGER_A, ONE_TO_TWO, TWO_MESSAGES, CLUSTER], 8, "order B A\ncap A 4\n"),
-    (&[TWO, ONE_TO_TWO, TWO_MESSAGES, CLUSTER], 9, ""),
-    (&[TWO_WITH_LARGER_B, TWO_TO_ONE, MESSAGE, CLUSTER], 6, "order B A\ncap A 2\ncap B 1\n"),
-    (&[TWO, TWO_TO_ONE, MESSAGE, CLUSTER], 8, "order A B\n"),
-    (&[TWO, ONE_TO_ONE, MESSAGE, CLUSTER], 5, "order B A\n"),
-    (&[ALONE, RELEASED, CLUSTER], 7, ""),
-    (&[ALONE, URGENT, CLUSTER], 5, "order A\ncap A 0\nstart p 2\nstart q 0\n"),
-    (&[ALONE, THREE_ALIKE, CLUSTER], 6, ""),
-    (FIRST, 9, FIRST_LINES),
-    (&[CLUSTER_BEFORE_HORIZON, "horizon = 9\n", FIRST_PARTS], 9, FIRST_LINES),
+static SEARCHED: &[Searched] = &[
+    (&[TWO_WITH_LARGER_A, ONE_TO_TWO, TWO_MESSAGES, CLUSTER], 8, Some("order B A\ncap A 4\n")),
+    (&[TWO, ONE_TO_TWO, TWO_MESSAGES, CLUSTER], 9, Some("")),
+    (&[TWO_WITH_LARGER_B, TWO_TO_ONE, MESSAGE, CLUSTER], 6, Some("order B A\ncap A 2\ncap B 1\n")),
+    (&[TWO, TWO_TO_ONE, MESSAGE, CLUSTER], 8, Some("order A B\n")),
+    (&[TWO, ONE_TO_ONE, MESSAGE, CLUSTER], 5, Some("order B A\n")),
+    (&[ALONE, RELEASED, CLUSTER], 7, Some("")),
+    (&[ALONE, URGENT, CLUSTER], 5, Some("order A\ncap A 0\nstart p 2\nstart q 0\n")),
+    (&[ALONE, THREE_ALIKE, CLUSTER], 6, Some("")),
+    (FIRST, 9, Some(FIRST_LINES)),
+    (&[CLUSTER_BEFORE_HORIZON, "horizon = 9\n", FIRST_PARTS], 9, Some(FIRST_LINES)),
+    (&[CLUSTER_BEFORE_HORIZON, "horizon = 8\n", FIRST_PARTS], 9, None),
+    (&[TWO_WITH_LARGER_A, ONE_TO_ONE, LARGE_MESSAGE, CLUSTER], 101, None),
 ];
 
-/// The first of these instances for which something else is found.
-fn wrong_plan(
+/// Whether just this is found of an instance.
+fn is_found(
     rt: &(impl Alloc<A = Global> + Threads + Wait + Sync),
-    all: &[Shortest],
-) -> Result<Option<usize>, AllocError> {
-    for (k, &(instance, delay, lines)) in all.iter().enumerate() {
-        let answer = solved(rt, instance, AMPLE)?;
-        if !answer.is_shortest(rt, 1, delay, lines)? {
-            return Ok(Some(k));
-        }
+    (instance, ticks, lines): &Searched,
+) -> Result<bool, AllocError> {
+    let answer = solved(rt, instance, AMPLE)?;
+    match lines {
+        Some(lines) => answer.is_shortest(rt, 1, *ticks, lines),
+        None => Ok(answer.told.is("none\n", 10) && answer.is_proved(rt, *ticks)?),
     }
-    Ok(None)
 }
 
 #[test]
-fn shortest_plans_are_found_and_certified(rt: HostRuntime) -> Result<(), Fail> {
-    assert_eq!(rt; wrong_plan(&rt, SHORTEST)?, None);
-    Ok(())
-}
-
-/// An instance in parts that has no plan, and the bound that its certificate proves.
-type Planless = (&'static [&'static str], u32);
-
-#[rattlefmt::skip]
-static PLANLESS: &[Planless] = &[
-    (&[CLUSTER_BEFORE_HORIZON, "horizon = 8\n", FIRST_PARTS], 9),
-    (&[TWO_WITH_LARGER_A, ONE_TO_ONE, LARGE_MESSAGE, CLUSTER], 101),
-];
-
-/// The first of these instances for which something else is found.
-fn wrong_none(
-    rt: &(impl Alloc<A = Global> + Threads + Wait + Sync),
-    all: &[Planless],
-) -> Result<Option<usize>, AllocError> {
-    for (k, &(instance, low)) in all.iter().enumerate() {
-        let answer = solved(rt, instance, AMPLE)?;
-        if !answer.is_none(rt, low)? {
-            return Ok(Some(k));
-        }
+fn shortest_plans_are_found_and_certified_or_that_there_is_none(
+    rt: HostRuntime,
+) -> Result<(), Fail> {
+    for (k, row) in SEARCHED.iter().enumerate() {
+        assert!(rt; is_found(&rt, row)?, "row {k}");
     }
-    Ok(None)
-}
-
-#[test]
-fn where_no_plan_is_valid_none_is_found(rt: HostRuntime) -> Result<(), Fail> {
-    assert_eq!(rt; wrong_none(&rt, PLANLESS)?, None);
     Ok(())
 }
 
 /// What a budget of subtrees leads to, of an instance whose least delay is 8.
-#[derive(Clone, Copy, Debug, PartialEq, Eq)]
+#[derive(Clone, Copy)]
 enum Standing {
     Known,
     Bounded,
@@ -278,14 +242,15 @@ fn standing_at(
     Ok(Standing::Wrong)
 }
 
-/// The first budget that gives no bounds, with what it gives.
-fn first_unbounded(
+/// The first budget with which the answer is known; none where a smaller one gives no bounds.
+fn first_known(
     rt: &(impl Alloc<A = Global> + Threads + Wait + Sync),
-) -> Result<Option<(u64, Standing)>, AllocError> {
+) -> Result<Option<u64>, AllocError> {
     for budget in 0..1000 {
-        let standing = standing_at(rt, budget)?;
-        if standing != Standing::Bounded {
-            return Ok(Some((budget, standing)));
+        match standing_at(rt, budget)? {
+            Standing::Known => return Ok(Some(budget)),
+            Standing::Bounded => {}
+            Standing::Wrong => return Ok(None),
         }
     }
     Ok(None)
@@ -293,50 +258,43 @@ fn first_unbounded(
 
 #[test]
 fn every_budget_gives_bounds_until_the_answer_is_known(rt: HostRuntime) -> Result<(), Fail> {
-    let unbounded = first_unbounded(&rt)?;
-    assert!(rt;
-        matches!(unbounded, Some((1.., Standing::Known))),
-        "{unbounded:?}"
-    );
+    let known = first_known(&rt)?;
+    assert!(rt; matches!(known, Some(1..)), "{known:?}");
     Ok(())
 }
 
-/// Whether without a budget the first example is answered by a bound of at least its path bound.
-fn is_stopped_at_once(
+/// An instance in parts, a budget with which it is stopped, what is told then, one of these, and its least delay.
+type Stopped = (&'static [&'static str], u64, &'static [&'static str], u32);
+
+#[rattlefmt::skip]
+static STOPPED: &[Stopped] = &[
+    // Without a budget there is a bound of at least the path bound.
+    (FIRST, 0, &["stopped budget 8 none\n", "stopped budget 9 none\n"], 9),
+    // No plan is looked for before the search where there is little to choose, so one subtree of the tree of one process that is
+    // released at 2 isn't enough to end: with a plan of 7 ticks that is found before, the root would be closed at once.
+    (&[ALONE, RELEASED, CLUSTER], 1, &["stopped budget 7 none\n"], 7),
+];
+
+/// Whether a search is stopped so.
+fn is_stopped(
     rt: &(impl Alloc<A = Global> + Threads + Wait + Sync),
+    (instance, budget, lines, least): &Stopped,
 ) -> Result<bool, AllocError> {
-    let none = Options {
-        workers: 1,
-        budget: 0,
-    };
-    let answer = solved(rt, FIRST, none)?;
-    let is_told = answer.told.is("stopped budget 8 none\n", 11)
-        || answer.told.is("stopped budget 9 none\n", 11);
-    Ok(is_told && answer.is_stopped_around(rt, 9)?)
+    let (workers, budget) = (1, *budget);
+    let answer = solved(rt, instance, Options { workers, budget })?;
+    let mut is_told = false;
+    for line in *lines {
+        is_told = is_told || answer.told.is(line, 11);
+    }
+    Ok(is_told && answer.is_stopped_around(rt, *least)?)
 }
 
 #[test]
-fn without_a_budget_the_search_is_stopped(rt: HostRuntime) -> Result<(), Fail> {
-    assert!(rt; is_stopped_at_once(&rt)?);
-    Ok(())
-}
-
-/// Whether one subtree of the tree of one process that is released at 2 isn't enough to end: with a plan of 7 ticks that is
-/// found before, the root would be closed at once.
-fn is_open_behind_its_root(
-    rt: &(impl Alloc<A = Global> + Threads + Wait + Sync),
-) -> Result<bool, AllocError> {
-    let one = Options {
-        workers: 1,
-        budget: 1,
-    };
-    let answer = solved(rt, &[ALONE, RELEASED, CLUSTER], one)?;
-    Ok(answer.told.is("stopped budget 7 none\n", 11))
-}
-
-/// No plan is looked for before the search where there is little to choose.
-#[test]
-fn a_small_instance_is_searched_from_its_horizon(rt: HostRuntime) -> Result<(), Fail> {
-    assert!(rt; is_open_behind_its_root(&rt)?);
+fn a_search_is_stopped_by_its_budget_and_looks_for_no_plan_before(
+    rt: HostRuntime,
+) -> Result<(), Fail> {
+    for (k, row) in STOPPED.iter().enumerate() {
+        assert!(rt; is_stopped(&rt, row)?, "row {k}");
+    }
     Ok(())
 }

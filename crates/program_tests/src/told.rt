@@ -162,20 +162,17 @@ impl<'a> Asked<'a> {
         }
     }
 
-    /// What it tells of two texts.
+    /// What it tells of two texts in bytes.
     pub fn told(
         self,
         rt: &(impl Alloc<A = Global> + Threads + Sync),
-        instance: &str,
-        second: &str,
+        instance: &[u8],
+        second: &[u8],
     ) -> Told {
+        let mut instance = instance;
+        let mut second = second;
         let mut out = Vec::new(rt.alloc());
-        let end = self.end(
-            rt,
-            &mut instance.as_bytes(),
-            &mut second.as_bytes(),
-            &mut out,
-        );
+        let end = self.end(rt, &mut instance, &mut second, &mut out);
         Told::at(rt.alloc(), &end, out)
     }
 }

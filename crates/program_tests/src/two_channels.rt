@@ -24,7 +24,7 @@ type Row = (
 );
 
 #[rattlefmt::skip]
-static PLANS: &[Row] = &[
+static ROWS: &[Row] = &[
     (Verify, TWO_CHANNELS, &[TWO_CHANNELS_PLAN], "valid 6\n", 0),
     (Verify, TWO_CHANNELS, &[TWO_CHANNELS_LINES, "chan m1 1\nchan m2 0\n"], "valid 6\n", 0),
     (Verify, TWO_CHANNELS, &[TWO_CHANNELS_LINES, "chan m1 0\nchan m2 0\n"], "plan V10 0 0 0\n", 5),
@@ -35,45 +35,28 @@ static PLANS: &[Row] = &[
     (Verify, TWO_CHANNELS, &[FIRST_PLAN], "plan F1 1\n", 5),
     (Verify, TWO_CHANNELS_BOTH, &[TWO_CHANNELS_BOTH_PLAN], "valid 9\n", 0),
     (Verify, TWO_CHANNELS_BOTH, &[TWO_CHANNELS_PLAN], "plan V11 1\n", 5),
-];
-
-#[rattlefmt::skip]
-static INSTANCES: &[Row] = &[
     (Verify, &[CLUSTER, FIRST_PARTS, "both = true\n"], &[FIRST_PLAN], "instance M15 message 0\n", 3),
     (Verify, &[CLUSTER, FIRST_PARTS, "both = 1\n"], &[FIRST_PLAN], "instance T4 message 0 both\n", 3),
     (Verify, &[CLUSTER, "channels = 0\n", FIRST_PARTS], &[FIRST_PLAN], "instance M5 cluster\n", 3),
     (Verify, &[CLUSTER, "channels = 1\n", FIRST_PARTS], &[FIRST_PLAN], "valid 9\n", 0),
     (Verify, &[CLUSTER, "channels = 2\n", FIRST_PARTS], &[FIRST_PLAN], "plan F1 1\n", 5),
     (Verify, &[CLUSTER, "channels = 3\n", FIRST_PARTS], &[FIRST_PLAN], "instance M5 cluster\n", 3),
-];
-
-#[rattlefmt::skip]
-static TABLES: &[Row] = &[
     (Tables, TWO_CHANNELS, &[TWO_CHANNELS_PLAN], TWO_CHANNELS_TABLES, 0),
     (Schedule(Slots), TWO_CHANNELS, &[TWO_CHANNELS_PLAN], TWO_CHANNELS_SLOTS, 0),
     (Schedule(Messages), TWO_CHANNELS_BOTH, &[TWO_CHANNELS_BOTH_PLAN], TWO_CHANNELS_BOTH_MESSAGES, 0),
-];
-
-#[rattlefmt::skip]
-static CERTIFICATES: &[Row] = &[
     (Check, TWO_CHANNELS_BOTH, &[TWO_CHANNELS_BOTH_CERTIFICATE], "bound 9\n", 0),
     (Check, TWO_CHANNELS, &[TWO_CHANNELS_BOTH_CERTIFICATE], "certificate C4 18\n", 5),
 ];
 
-/// The first of these rows of which something else is told.
-fn wrong_row(
+/// Whether this is told of a row's texts.
+fn is_told(
     rt: &(impl Alloc<A = Global> + Threads + Sync),
-    rows: &[Row],
-) -> Result<Option<usize>, AllocError> {
-    for (k, &(command, instance, second, text, status)) in rows.iter().enumerate() {
-        let instance = joined(rt.alloc(), instance)?;
-        let second = joined(rt.alloc(), second)?;
-        let told = command.told(rt, instance.as_str(), second.as_str());
-        if !told.is(text, status) {
-            return Ok(Some(k));
-        }
-    }
-    Ok(None)
+    (command, instance, second, text, status): &Row,
+) -> Result<bool, AllocError> {
+    let instance = joined(rt.alloc(), instance)?;
+    let second = joined(rt.alloc(), second)?;
+    let told = command.told(rt, instance.as_bytes(), second.as_bytes());
+    Ok(told.is(text, *status))
 }
 
 /// Whether a search finds a plan of this delay, and both texts are of version 2.
@@ -96,18 +79,12 @@ fn is_found(
 
 #[test]
 fn two_channels(rt: HostRuntime) -> Result<(), Fail> {
-    assert_eq!(rt; wrong_row(&rt, PLANS)?, None);
-    assert_eq!(rt; wrong_row(&rt, INSTANCES)?, None);
-    assert_eq!(rt; wrong_row(&rt, TABLES)?, None);
-    assert_eq!(rt; wrong_row(&rt, CERTIFICATES)?, None);
-    Ok(())
-}
-
-#[test]
-fn searches_use_both_channels(rt: HostRuntime) -> Result<(), Fail> {
-    for workers in [1, 2, 16] {
-        assert!(rt; is_found(&rt, TWO_CHANNELS, workers, 6)?, "{workers}");
-        assert!(rt; is_found(&rt, TWO_CHANNELS_BOTH, workers, 9)?, "{workers}");
+    for (k, row) in ROWS.iter().enumerate() {
+        assert!(rt; is_told(&rt, row)?, "row {k}");
+    }
+    for workers in &[1, 2, 16] {
+        assert!(rt; is_found(&rt, TWO_CHANNELS, *workers, 6)?, "{workers}");
+        assert!(rt; is_found(&rt, TWO_CHANNELS_BOTH, *workers, 9)?, "{workers}");
     }
     Ok(())
 }

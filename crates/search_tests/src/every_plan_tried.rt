@@ -6,12 +6,13 @@ use crate::answers::{MANNERS, solved};
 use crate::instances::name;
 use exhaustive::least_delay;
 use planner::Options;
-use std::alloc::Global;
+use std::alloc::{AllocError, Global};
 use std::process::Abort;
 use std::sync::Wait;
 use std::test::Fail;
 use std::thread::Threads;
-use ttp_model::{Cluster, Instance, Link, Message, Node, Numbers, Process};
+use ttp_model::{Cluster, Instance};
+use worked_instances::Draft;
 
 /// A linear congruence: numbers that look like chance, the same in each run.
 #[derive(Drop)]
@@ -116,29 +117,28 @@ fn cluster(draws: &mut Draws, channels: u32) -> Cluster {
     }
 }
 
-/// One or two capacities of at most 3 bytes.
-fn capacities(alloc: Global, draws: &mut Draws) -> Result<Numbers, Fail> {
-    let least = draws.up_to(7).div_ceil(4);
-    let mut capacities = vec![in alloc; least]?;
-    if draws.up_to(1) == 0 {
-        capacities.push(least + 1)?;
-    }
-    Ok(Numbers::new(capacities))
-}
-
-fn nodes(alloc: Global, draws: &mut Draws, count: u32) -> Result<Vec<Node>, Fail> {
-    let mut nodes = Vec::new(alloc);
+/// With nodes that have one or two capacities of at most 3 bytes.
+fn with_nodes(
+    alloc: Global,
+    draws: &mut Draws,
+    draft: Draft,
+    count: u32,
+) -> Result<Draft, AllocError> {
+    let mut draft = draft;
     for number in 0..count {
-        nodes.push(Node {
-            name: name(alloc, "n", number as usize)?,
-            capacities: capacities(alloc, draws)?,
-        })?;
+        let name = name(alloc, "n", number as usize)?;
+        let least = draws.up_to(7).div_ceil(4);
+        draft = if draws.up_to(1) == 0 {
+            draft.node(name.as_str(), &[least, least + 1])?
+        } else {
+            draft.node(name.as_str(), &[least])?
+        };
     }
-    Ok(nodes)
+    Ok(draft)
 }
 
-/// A process that can end in time, some with a deadline of their own.
-fn process(alloc: Global, draws: &mut Draws, number: u32, nodes: u32) -> Result<Process, Fail> {
+/// The node, the time and the window of a process that can end in time, some with a deadline of their own.
+fn process(draws: &mut Draws, number: u32, nodes: u32) -> (u32, u32, (u32, u32)) {
     let node = (number % 100 + draws.seldom()) % nodes.max(1);
     let wcet = 1 + draws.rarely() + draws.rarely();
     let release = draws.rarely() * draws.up_to(3);
@@ -146,64 +146,67 @@ fn process(alloc: Global, draws: &mut Draws, number: u32, nodes: u32) -> Result<
         0 => 1_000,
         _ => release + wcet + draws.up_to(3),
     };
-    Ok(Process {
-        name: name(alloc, "p", number as usize)?,
-        node,
-        wcet,
-        release,
-        deadline,
-    })
+    (node, wcet, (release, deadline))
 }
 
-fn processes(alloc: Global, draws: &mut Draws, sizes: Sizes) -> Result<Vec<Process>, Fail> {
-    let mut processes = Vec::new(alloc);
+/// With processes, each of which adds its node.
+fn with_processes(
+    alloc: Global,
+    draws: &mut Draws,
+    draft: Draft,
+    sizes: Sizes,
+    homes: &mut Vec<u32>,
+) -> Result<Draft, AllocError> {
+    let mut draft = draft;
     for number in 0..sizes.processes {
-        processes.push(process(alloc, draws, number, sizes.nodes)?)?;
+        let (node, wcet, window) = process(draws, number, sizes.nodes);
+        homes.push(node)?;
+        let name = name(alloc, "p", number as usize)?;
+        draft = draft.process_within(name.as_str(), node, wcet, window)?;
     }
-    Ok(processes)
+    Ok(draft)
 }
 
-/// Some of the processes after one in the list, or before it if the graph runs backwards: those of
+/// Of processes on these nodes some after one in the list, or before it if the graph runs backwards: those of
 /// its node, or those of the others.
 fn followers(
     alloc: Global,
     draws: &mut Draws,
-    processes: &[Process],
+    homes: &[u32],
     backwards: bool,
     from: usize,
     on_its_node: bool,
 ) -> Result<Vec<u32>, Fail> {
     let mut followers = Vec::new(alloc);
-    let Some(first) = processes.get(from) else {
+    let Some(home) = homes.get(from) else {
         return Ok(followers);
     };
-    for (to, process) in processes.iter().enumerate() {
+    for (to, node) in homes.iter().enumerate() {
         let follows = if backwards { to < from } else { from < to };
-        if follows && (process.node == first.node) == on_its_node && draws.up_to(4) > 0 {
+        if follows && (*node == *home) == on_its_node && draws.up_to(4) > 0 {
             followers.push(u32::try_from(to)?)?;
         }
     }
     Ok(followers)
 }
 
-/// At most one link from each process.
-fn links(
+/// With at most one link from each process.
+fn with_links(
     alloc: Global,
     draws: &mut Draws,
-    processes: &[Process],
+    draft: Draft,
+    homes: &[u32],
     backwards: bool,
-) -> Result<Vec<Link>, Fail> {
-    let mut links = Vec::new(alloc);
-    for before in 0..processes.len() {
-        let followers = followers(alloc, draws, processes, backwards, before, true)?;
+) -> Result<Draft, Fail> {
+    let mut draft = draft;
+    for before in 0..homes.len() {
+        let followers = followers(alloc, draws, homes, backwards, before, true)?;
+        let before = u32::try_from(before)?;
         if let Some(after) = followers.as_slice().first() {
-            links.push(Link {
-                before: u32::try_from(before)?,
-                after: *after,
-            })?;
+            draft = draft.link(before, *after)?;
         }
     }
-    Ok(links)
+    Ok(draft)
 }
 
 /// Whether a message is to be on both channels: where there are two, at one time in three.
@@ -211,50 +214,46 @@ fn is_doubled(draws: &mut Draws, channels: u32) -> bool {
     channels == 2 && draws.up_to(2) == 0
 }
 
-/// At most as many messages as there may be, of 1 or 2 bytes.
-fn messages(
+/// With at most as many messages as there may be, of 1 or 2 bytes.
+fn with_messages(
     alloc: Global,
     draws: &mut Draws,
-    processes: &[Process],
+    draft: Draft,
+    homes: &[u32],
     backwards: bool,
     sizes: Sizes,
-) -> Result<Vec<Message>, Fail> {
-    let mut messages = Vec::new(alloc);
+) -> Result<Draft, Fail> {
+    let mut draft = draft;
     for number in 0..sizes.messages {
-        let near = if processes.len() > 2 {
-            draws.up_to(1)
-        } else {
-            0
-        };
+        let near = if homes.len() > 2 { draws.up_to(1) } else { 0 };
         let sender = if backwards {
-            processes.len().saturating_sub(1 + near as usize)
+            homes.len().saturating_sub(1 + near as usize)
         } else {
             near as usize
         };
-        let receivers = followers(alloc, draws, processes, backwards, sender, false)?;
+        let receivers = followers(alloc, draws, homes, backwards, sender, false)?;
         if !receivers.is_empty() {
-            messages.push(Message {
-                sender: u32::try_from(sender)?,
-                name: name(alloc, "m", number as usize)?,
-                receivers: Numbers::new(receivers),
-                bytes: 1 + draws.rarely(),
-                both: is_doubled(draws, sizes.channels),
-            })?;
+            let sender = u32::try_from(sender)?;
+            let name = name(alloc, "m", number as usize)?;
+            let bytes = 1 + draws.rarely();
+            let both = is_doubled(draws, sizes.channels);
+            draft = draft.message_to(name.as_str(), sender, receivers.as_slice(), bytes, both)?;
         }
     }
-    Ok(messages)
+    Ok(draft)
 }
 
 /// The instance of a number.
 fn instance(alloc: Global, sizes: Sizes, number: u32) -> Result<Instance, Fail> {
     let mut draws = Draws::new(number);
+    let mut homes = Vec::new(alloc);
     let cluster = cluster(&mut draws, sizes.channels);
-    let nodes = nodes(alloc, &mut draws, sizes.nodes)?;
-    let processes = processes(alloc, &mut draws, sizes)?;
+    let draft = with_nodes(alloc, &mut draws, Draft::of(alloc, cluster), sizes.nodes)?;
+    let draft = with_processes(alloc, &mut draws, draft, sizes, &mut homes)?;
     let backwards = draws.up_to(1) == 1;
-    let links = links(alloc, &mut draws, processes.as_slice(), backwards)?;
-    let messages = messages(alloc, &mut draws, processes.as_slice(), backwards, sizes)?;
-    Ok(Instance::build(alloc, cluster, nodes, processes, links, messages)?)
+    let draft = with_links(alloc, &mut draws, draft, homes.as_slice(), backwards)?;
+    let draft = with_messages(alloc, &mut draws, draft, homes.as_slice(), backwards, sizes)?;
+    Ok(draft.build()?)
 }
 
 /// More subtrees than any of these instances has.
@@ -271,21 +270,22 @@ struct Found {
     is_on_both: bool,
 }
 
-/// The least delay of an instance, and what is answered by so many workers each, in both manners.
+/// The least delay of the instance of a number, and what is answered by so many workers each, in both manners.
 fn compared<R: Threads + Wait + Sync>(
     rt: &R,
     alloc: Global,
-    instance: &Instance,
-    counts: &[u32],
+    row: &Row,
+    number: u32,
 ) -> Result<Found, Fail> {
-    let least = least_delay(alloc, instance)?;
+    let instance = instance(alloc, row.sizes, number)?;
+    let least = least_delay(alloc, &instance)?;
     let low = least.unwrap_or(u64::from(instance.past_horizon()));
     let mut is_same = true;
     let mut is_on_both = false;
-    for workers in counts {
+    for workers in row.workers {
         let (workers, budget) = (*workers, BUDGET);
         for manner in MANNERS {
-            let answer = solved(rt, alloc, instance, Options { workers, budget }, *manner)??;
+            let answer = solved(rt, alloc, &instance, Options { workers, budget }, *manner)??;
             is_same = is_same && answer.is_least(least) && answer.low == low;
             is_on_both = is_on_both || workers == 1 && answer.channels == 2;
         }
@@ -295,17 +295,6 @@ fn compared<R: Threads + Wait + Sync>(
         is_same,
         is_on_both,
     })
-}
-
-/// The same of the instance of a number.
-fn compared_at<R: Threads + Wait + Sync>(
-    rt: &R,
-    alloc: Global,
-    row: &Row,
-    number: u32,
-) -> Result<Found, Fail> {
-    let instance = instance(alloc, row.sizes, number)?;
-    compared(rt, alloc, &instance, row.workers)
 }
 
 /// Instances of some sizes, and how many workers solve them.
@@ -324,7 +313,7 @@ fn compare<R: Abort + Threads + Wait + Sync>(rt: &R, alloc: Global, row: &Row) -
     let mut with = 0u32;
     let mut on_both = 0u32;
     for number in 0..row.count {
-        let found = compared_at(rt, alloc, row, number)?;
+        let found = compared(rt, alloc, row, number)?;
         assert!(rt; found.is_same, "instance {number}");
         with = with.saturating_add(u32::from(found.least.is_some()));
         on_both = on_both.saturating_add(u32::from(found.is_on_both));
@@ -335,39 +324,31 @@ fn compare<R: Abort + Threads + Wait + Sync>(rt: &R, alloc: Global, row: &Row) -
     Ok(())
 }
 
-/// Compares forty instances of one channel, by one worker.
-fn compare_forty<R: Abort + Threads + Wait + Sync>(
-    rt: &R,
-    alloc: Global,
-    sizes: Sizes,
-) -> Result<(), Fail> {
-    let row = Row {
-        sizes,
-        count: 40,
-        workers: &[1],
-        on_both: 0,
+/// Forty instances of one channel, by one worker.
+macro_rules! forty {
+    ($sizes:expr) => {
+        Row {
+            sizes: $sizes,
+            count: 40,
+            workers: &[1],
+            on_both: 0,
+        }
     };
-    compare(rt, alloc, &row)
 }
 
-#[test]
-fn on_one_node_every_plan_was_thought_of(rt: HostRuntime) -> Result<(), Fail> {
-    compare_forty(&rt, rt.alloc(), ONE_NODE)
-}
+const ON_ONE_CHANNEL: &[Row] = &[
+    forty!(ONE_NODE),
+    forty!(TWO_MESSAGES),
+    forty!(THREE_PROCESSES),
+    forty!(THREE_NODES),
+];
 
 #[test]
-fn with_two_messages_every_plan_was_thought_of(rt: HostRuntime) -> Result<(), Fail> {
-    compare_forty(&rt, rt.alloc(), TWO_MESSAGES)
-}
-
-#[test]
-fn with_three_processes_every_plan_was_thought_of(rt: HostRuntime) -> Result<(), Fail> {
-    compare_forty(&rt, rt.alloc(), THREE_PROCESSES)
-}
-
-#[test]
-fn on_three_nodes_every_plan_was_thought_of(rt: HostRuntime) -> Result<(), Fail> {
-    compare_forty(&rt, rt.alloc(), THREE_NODES)
+fn on_one_channel_every_plan_was_thought_of(rt: HostRuntime) -> Result<(), Fail> {
+    for row in ON_ONE_CHANNEL {
+        compare(&rt, rt.alloc(), row)?;
+    }
+    Ok(())
 }
 
 /// How many workers solve each instance of two channels.

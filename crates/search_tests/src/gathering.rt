@@ -8,7 +8,7 @@ use certificate::{Branch, MOST_BRANCHES_ABOVE, Node, print};
 use planner::{GatherFault, gather};
 use std::alloc::{AllocError, Global};
 use std::test::Fail;
-use ttp_model::{Kind, Leaf, Step, Steps};
+use ttp_model::{Kind, Leaf, MemoryFault, Step, Steps};
 
 /// What stands at a name.
 #[derive(Clone, Copy)]
@@ -56,7 +56,7 @@ impl Part {
 }
 
 /// The name of this way from the root.
-fn name(alloc: Global, way: &[u32]) -> Result<Name, Fail> {
+fn name(alloc: Global, way: &[u32]) -> Result<Name, MemoryFault> {
     let mut name = Name::root(alloc);
     for index in way {
         name = name.child(alloc, *index)?;
@@ -68,7 +68,7 @@ fn name(alloc: Global, way: &[u32]) -> Result<Name, Fail> {
 type Parts = &'static [(&'static [u32], Part)];
 
 /// What stands at the ends of these ways.
-fn pieces(alloc: Global, parts: Parts) -> Result<Vec<Piece>, Fail> {
+fn pieces(alloc: Global, parts: Parts) -> Result<Vec<Piece>, MemoryFault> {
     let mut pieces = Vec::new(alloc);
     for (way, part) in parts {
         let name = name(alloc, way)?;

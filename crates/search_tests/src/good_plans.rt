@@ -3,7 +3,6 @@
 use crate::instances::{LEAST_DELAYS, ONE_ORDER, ONE_WAITS, Sample, THREE_ALIKE};
 use good_plan::good_plan;
 use std::alloc::Global;
-use std::process::Abort;
 use std::test::Fail;
 use std::thread::Threads;
 use ttp_model::Plan;
@@ -32,18 +31,6 @@ fn has_delay(
     }
 }
 
-#[test]
-fn shortest_plans_are_found(rt: HostRuntime) -> Result<(), Fail> {
-    for (sample, least) in LEAST_DELAYS {
-        assert!(rt;
-            has_delay(&rt, rt.alloc(), sample, *least)?,
-            "{}",
-            sample.name
-        );
-    }
-    Ok(())
-}
-
 /// A plan's delay, starts and rounds.
 type Good = (u64, &'static [u32], &'static [u32]);
 
@@ -70,20 +57,24 @@ fn is_found(
     }
 }
 
-/// So many workers find these plans.
-fn find_plans(rt: &(impl Abort + Threads + Sync), alloc: Global, workers: u32) -> Result<(), Fail> {
-    for (sample, good) in GOOD_PLANS {
+/// And several workers find the same.
+#[test]
+fn shortest_plans_are_found(rt: HostRuntime) -> Result<(), Fail> {
+    for (sample, least) in LEAST_DELAYS {
         assert!(rt;
-            is_found(rt, alloc, sample, workers, *good)?,
-            "{} by {workers}",
+            has_delay(&rt, rt.alloc(), sample, *least)?,
+            "{}",
             sample.name
         );
     }
+    for workers in &[1, 4] {
+        for (sample, good) in GOOD_PLANS {
+            assert!(rt;
+                is_found(&rt, rt.alloc(), sample, *workers, *good)?,
+                "{} by {workers}",
+                sample.name
+            );
+        }
+    }
     Ok(())
-}
-
-#[test]
-fn several_workers_find_the_same(rt: HostRuntime) -> Result<(), Fail> {
-    find_plans(&rt, rt.alloc(), 1)?;
-    find_plans(&rt, rt.alloc(), 4)
 }

@@ -2,11 +2,11 @@
 //! nothing.
 
 use crate::core_events::Act;
-use crate::trees::{Indices, add_name, add_pieces, children, children_of};
+use crate::trees::{Indices, add_name, add_pieces, are_tree};
 use search_core::{Hand, Illegal, Reply, Worker, World};
 use std::alloc::Global;
 use std::test::Fail;
-use ttp_model::Kind;
+use ttp_model::{Kind, MemoryFault};
 
 /// How many searches there are.
 const SEARCHES: u32 = 2_000;
@@ -112,7 +112,7 @@ fn add_children(
     names: &mut Vec<Indices>,
     first: &[u32],
     count: u32,
-) -> Result<(), Fail> {
+) -> Result<(), MemoryFault> {
     if let Some((index, parent)) = first.split_last() {
         for k in 0..count {
             let mut name = Vec::from_slice(alloc, parent)?;
@@ -124,7 +124,7 @@ fn add_children(
 }
 
 /// The names in a hand.
-fn add_held(alloc: Global, names: &mut Vec<Indices>, hand: &Hand) -> Result<(), Fail> {
+fn add_held(alloc: Global, names: &mut Vec<Indices>, hand: &Hand) -> Result<(), MemoryFault> {
     match hand {
         Hand::Task(name) => Ok(add_name(alloc, names, name.as_slice())?),
         Hand::Children(brood) => {
@@ -136,7 +136,7 @@ fn add_held(alloc: Global, names: &mut Vec<Indices>, hand: &Hand) -> Result<(), 
 }
 
 /// The names that a worker has, of pieces and of what is open.
-fn add_names(alloc: Global, names: &mut Vec<Indices>, worker: &Worker) -> Result<(), Fail> {
+fn add_names(alloc: Global, names: &mut Vec<Indices>, worker: &Worker) -> Result<(), MemoryFault> {
     for name in worker.deque() {
         add_name(alloc, names, name.as_slice())?;
     }
@@ -147,40 +147,15 @@ fn add_names(alloc: Global, names: &mut Vec<Indices>, worker: &Worker) -> Result
     add_held(alloc, names, worker.hand())
 }
 
-/// Whether a name is the root's, or that of a branch's child.
-fn is_wanted(world: &World, name: &[u32]) -> bool {
-    match name.split_last() {
-        None => true,
-        Some((index, parent)) => world
-            .workers()
-            .iter()
-            .any(|worker| *index < children_of(worker.pieces(), parent)),
-    }
-}
-
-/// How many children all branches have.
-fn all_children(world: &World) -> usize {
-    let mut count = 0usize;
-    for worker in world.workers() {
-        count = count.saturating_add(children(worker.pieces()));
-    }
-    count
-}
-
-/// Whether the names of pieces and those that are open are a tree's, each once: no name is there twice, each is wanted, and
-/// they are as many as are wanted.
-fn is_tree(alloc: Global, world: &World) -> Result<bool, Fail> {
+/// Whether the names of pieces and those that are open are a tree's, each once.
+fn is_tree(alloc: Global, world: &World) -> Result<bool, MemoryFault> {
     let mut names = Vec::new(alloc);
+    let mut pieces = Vec::new(alloc);
     for worker in world.workers() {
         add_names(alloc, &mut names, worker)?;
+        pieces.push(worker.pieces())?;
     }
-    for (place, name) in names.iter().enumerate() {
-        let twice = names[..place].iter().any(|other| other == name);
-        if twice || !is_wanted(world, name.as_slice()) {
-            return Ok(false);
-        }
-    }
-    Ok(names.len() == all_children(world).saturating_add(1))
+    Ok(are_tree(names.as_slice(), pieces.as_slice()))
 }
 
 /// How many events were done, and how many were refused.
@@ -205,7 +180,7 @@ fn is_right(alloc: Global, world: &mut World, act: Act, tally: &mut Tally) -> Re
     let reply = world.step(alloc, act.event(alloc));
     tally.add(&reply);
     if reply.is_ok() {
-        return is_tree(alloc, world);
+        return Ok(is_tree(alloc, world)?);
     }
     let after = format!(in alloc; "{world:?}")?;
     Ok(before.as_str() == after.as_str())

@@ -1,11 +1,8 @@
 //! Which small instances are searched, and how long do their shortest plans take?
 
 use std::alloc::{AllocError, Global};
-use std::test::Fail;
-use ttp_model::{
-    Cluster, Instance, Link, MOST_TICKS, Message, ModelError, Name, Node, Numbers, Process,
-};
-use worked_instances::PLAIN;
+use ttp_model::{Cluster, Instance, MOST_TICKS, ModelError};
+use worked_instances::{Draft, PLAIN};
 
 /// A small instance on the plain cluster. Names tell nothing: they are made of a letter and a place.
 #[derive(Clone, Copy)]
@@ -245,74 +242,41 @@ pub const LEAST_DELAYS: &[(Sample, Option<u64>)] = &[
 ];
 
 /// The name of a letter and a number.
-pub fn name(alloc: Global, letter: &str, number: usize) -> Result<Name, AllocError> {
-    Ok(Name::new(format!(in alloc; "{letter}{number}")?))
-}
-
-fn nodes(alloc: Global, rows: &[&[u32]]) -> Result<Vec<Node>, AllocError> {
-    let mut nodes = Vec::new(alloc);
-    for capacities in rows {
-        let capacities = Numbers::new(Vec::from_slice(alloc, capacities)?);
-        let name = name(alloc, "n", nodes.len())?;
-        nodes.push(Node { name, capacities })?;
-    }
-    Ok(nodes)
-}
-
-fn processes(alloc: Global, rows: &[(u32, u32, Window)]) -> Result<Vec<Process>, AllocError> {
-    let mut processes = Vec::new(alloc);
-    for (node, wcet, (release, deadline)) in rows {
-        processes.push(Process {
-            name: name(alloc, "p", processes.len())?,
-            node: *node,
-            wcet: *wcet,
-            release: *release,
-            deadline: *deadline,
-        })?;
-    }
-    Ok(processes)
-}
-
-fn links(alloc: Global, rows: &[(u32, u32)]) -> Result<Vec<Link>, AllocError> {
-    let mut links = Vec::new(alloc);
-    for (before, after) in rows {
-        links.push(Link {
-            before: *before,
-            after: *after,
-        })?;
-    }
-    Ok(links)
-}
-
-fn messages(
-    alloc: Global,
-    rows: &[(u32, u32, u32)],
-    doubled: &[u32],
-) -> Result<Vec<Message>, AllocError> {
-    let mut messages = Vec::new(alloc);
-    for (number, (sender, receiver, bytes)) in rows.iter().enumerate() {
-        messages.push(Message {
-            name: name(alloc, "m", number)?,
-            sender: *sender,
-            receivers: Numbers::new(vec![in alloc; *receiver]?),
-            bytes: *bytes,
-            both: doubled.iter().any(|message| *message as usize == number),
-        })?;
-    }
-    Ok(messages)
+pub fn name(alloc: Global, letter: &str, number: usize) -> Result<String, AllocError> {
+    format!(in alloc; "{letter}{number}")
 }
 
 impl Sample {
+    /// Whether this message is to be on both channels.
+    fn is_doubled(&self, number: usize) -> bool {
+        self.doubled
+            .iter()
+            .any(|message| *message as usize == number)
+    }
+
     pub fn build(&self, alloc: Global) -> Result<Instance, ModelError> {
         let cluster = Cluster {
             horizon: self.horizon,
             channels: self.channels,
             ..PLAIN
         };
-        let nodes = nodes(alloc, self.nodes)?;
-        let processes = processes(alloc, self.processes)?;
-        let links = links(alloc, self.links)?;
-        let messages = messages(alloc, self.messages, self.doubled)?;
-        Instance::build(alloc, cluster, nodes, processes, links, messages)
+        let mut draft = Draft::of(alloc, cluster);
+        for (k, capacities) in self.nodes.iter().enumerate() {
+            let name = name(alloc, "n", k)?;
+            draft = draft.node(name.as_str(), capacities)?;
+        }
+        for (k, (node, wcet, window)) in self.processes.iter().enumerate() {
+            let name = name(alloc, "p", k)?;
+            draft = draft.process_within(name.as_str(), *node, *wcet, *window)?;
+        }
+        for (before, after) in self.links {
+            draft = draft.link(*before, *after)?;
+        }
+        for (k, (sender, receiver, bytes)) in self.messages.iter().enumerate() {
+            let name = name(alloc, "m", k)?;
+            let both = self.is_doubled(k);
+            draft = draft.message_on(name.as_str(), *sender, *receiver, *bytes, both)?;
+        }
+        draft.build()
     }
 }

@@ -64,16 +64,12 @@ fn leave_path_bound<R: Threads + Wait + Sync>(
     Ok(answer.stopped == Some(Why::Budget) && matches!(answer.low, 8 | 9) && answer.delay.is_none())
 }
 
+/// Workers without a budget leave the path bound, and three bound two messages with each budget.
 #[test]
-fn workers_without_a_budget_leave_the_path_bound(rt: HostRuntime) -> Result<(), Fail> {
+fn each_budget_gives_bounds(rt: HostRuntime) -> Result<(), Fail> {
     for workers in &[1, 2, 16] {
         assert!(rt; leave_path_bound(&rt, rt.alloc(), *workers)?, "{workers}");
     }
-    Ok(())
-}
-
-#[test]
-fn each_budget_of_three_workers_bounds_two_messages(rt: HostRuntime) -> Result<(), Fail> {
     let workers = 3;
     for budget in 0..60 {
         let options = Options { workers, budget };
@@ -145,7 +141,7 @@ fn work_shares<R: Threads + Wait + Sync>(
 #[test]
 fn each_worker_works_its_share(rt: HostRuntime) -> Result<(), Fail> {
     for shares in SHARES {
-        assert!(rt; work_shares(&rt, rt.alloc(), shares)?, "{shares:?}");
+        assert!(rt; work_shares(&rt, rt.alloc(), shares)?, "{}", shares.len());
     }
     Ok(())
 }

@@ -17,7 +17,7 @@ use steal_pool::{Hand, Searched};
 use ttp_model::{Instance, MemoryFault};
 
 /// What is told of an instance whose least delay is known.
-#[derive(Clone, Copy, PartialEq, Eq)]
+#[derive(Clone, Copy)]
 enum Told {
     /// That it is least.
     Least,
@@ -151,7 +151,7 @@ fn told_in<J: Searched>(alloc: Global, report: &mut Report<J>) -> Result<Told, F
     add_rest(alloc, &mut names, &report.rest)?;
     let held = names.len();
     add_left(alloc, &mut names, &mut report.hand)?;
-    let is_tree = are_tree(names.as_slice(), report.pieces.as_slice());
+    let is_tree = are_tree(names.as_slice(), &[report.pieces.as_slice()]);
     let is_found = matches!(&report.best, Some((_plan, delay)) if *delay == 8);
     Ok(match report.ending {
         Ending::Idle if is_tree && is_found && done == names.len() => Told::Least,

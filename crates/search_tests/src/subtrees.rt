@@ -9,7 +9,7 @@ use branch_tree::{Task, Worked, close_left, work};
 use certificate::Node;
 use std::alloc::Global;
 use std::test::Fail;
-use ttp_model::{Instance, Kind};
+use ttp_model::{Instance, Kind, MemoryFault};
 
 /// What a search came to.
 #[derive(Drop)]
@@ -23,13 +23,13 @@ struct Tree {
 }
 
 /// Works a task, or tells that memory was refused.
-fn worked(alloc: Global, instance: &Instance, task: Task, goal: u32) -> Result<Worked, Fail>
+fn worked(alloc: Global, instance: &Instance, task: Task, goal: u32) -> Result<Worked, MemoryFault>
     requires { IsTask instance.now task }
     ensures { IfOk result (IsWorked instance.now task goal) }
 {
     match work(alloc, instance, task, goal) {
         Ok(worked) => Ok(worked),
-        Err((_task, fault)) => Err(Fail::from(fault)),
+        Err((_task, fault)) => Err(fault),
     }
 }
 
@@ -41,7 +41,7 @@ fn turn(
     goal: u32,
     left: &mut Vec<Task>,
     tree: &mut Tree,
-) -> Result<u32, Fail>
+) -> Result<u32, MemoryFault>
     requires task { IsTask instance.now task }
     requires left { All (IsTask instance.now) left.old.items }
     ensures { OnOk result (All (IsTask instance.now) left.new.items) }
@@ -66,7 +66,7 @@ fn turn(
 
 /// Works so many tasks at most, one after another, the newest first, each at the least delay found so
 /// far, at first at one tick past the horizon.
-fn begun(alloc: Global, instance: &Instance, turns: u32) -> Result<Tree, Fail> {
+fn begun(alloc: Global, instance: &Instance, turns: u32) -> Result<Tree, MemoryFault> {
     let mut tree = Tree {
         least: None,
         branches: Vec::new(alloc),
@@ -167,17 +167,13 @@ fn is_like(alloc: Global, sample: &Sample, turns: u32, like: Like) -> Result<boo
     Ok(like.is_of(&begun(alloc, &instance, turns)?))
 }
 
+/// Trees lead to the least delay, their branches come in this order, and their leaves are at the goal.
 #[test]
-fn trees_lead_to_the_least_delay(rt: HostRuntime) -> Result<(), Fail> {
+fn trees_are_like_those_that_are_known(rt: HostRuntime) -> Result<(), Fail> {
     for (sample, least) in LEAST_DELAYS {
         let leads = is_like(rt.alloc(), sample, ALL_TURNS, Like::Least(*least))?;
         assert!(rt; leads, "{}", sample.name);
     }
-    Ok(())
-}
-
-#[test]
-fn branches_come_in_this_order_and_leaves_are_at_the_goal(rt: HostRuntime) -> Result<(), Fail> {
     for (what, sample, turns, like) in TREES {
         assert!(rt; is_like(rt.alloc(), sample, *turns, *like)?, "{what}");
     }
@@ -190,14 +186,14 @@ fn is_closed_at(
     instance: &Instance,
     top: u32,
     goals: [u32; 2],
-) -> Result<bool, Fail> {
+) -> Result<bool, MemoryFault> {
     let root = Task::root(alloc, instance)?;
     match close_left(alloc, instance, root, top) {
         Ok(piece) => Ok(match &piece.node {
             Node::Leaf(leaf) => leaf.goal == goals[0] || leaf.goal == goals[1],
             Node::Branch(_) => false,
         }),
-        Err((_task, fault)) => Err(Fail::from(fault)),
+        Err((_task, fault)) => Err(fault),
     }
 }
 

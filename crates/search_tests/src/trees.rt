@@ -37,40 +37,44 @@ pub fn add_tasks(
 }
 
 /// How many children the branch of this name has, of these pieces; 0 where there is no such branch.
-pub fn children_of(pieces: &[Piece], name: &[u32]) -> u32 {
-    for piece in pieces {
-        if piece.name.as_slice() == name {
-            return piece.node.children();
+fn children_of(lists: &[&[Piece]], name: &[u32]) -> u32 {
+    for pieces in lists {
+        for piece in *pieces {
+            if piece.name.as_slice() == name {
+                return piece.node.children();
+            }
         }
     }
     0
 }
 
 /// How many children the branches among pieces have.
-pub fn children(pieces: &[Piece]) -> usize {
+fn children(lists: &[&[Piece]]) -> usize {
     let mut count = 0usize;
-    for piece in pieces {
-        count = count.saturating_add(piece.node.children() as usize);
+    for pieces in lists {
+        for piece in *pieces {
+            count = count.saturating_add(piece.node.children() as usize);
+        }
     }
     count
 }
 
 /// Whether a name is the root's, or that of a child of a branch among these pieces.
-fn is_child(pieces: &[Piece], name: &[u32]) -> bool {
+fn is_child(lists: &[&[Piece]], name: &[u32]) -> bool {
     match name.split_last() {
         None => true,
-        Some((index, parent)) => *index < children_of(pieces, parent),
+        Some((index, parent)) => *index < children_of(lists, parent),
     }
 }
 
-/// Whether these are the names of the root and of all children of the branches among these pieces, each once: none is there
-/// twice, each is one of these, and they are as many.
-pub fn are_tree(names: &[Indices], pieces: &[Piece]) -> bool {
+/// Whether these are the names of the root and of all children of the branches among the pieces of these lists, each once: none is
+/// there twice, each is one of these, and they are as many.
+pub fn are_tree(names: &[Indices], lists: &[&[Piece]]) -> bool {
     for (place, name) in names.iter().enumerate() {
         let is_twice = names[..place].iter().any(|other| other == name);
-        if is_twice || !is_child(pieces, name.as_slice()) {
+        if is_twice || !is_child(lists, name.as_slice()) {
             return false;
         }
     }
-    names.len() == children(pieces).saturating_add(1)
+    names.len() == children(lists).saturating_add(1)
 }

@@ -126,8 +126,8 @@ fn two_channels(rt: HostRuntime) -> Result<(), Fail> {
     for row in REFUSED {
         assert!(rt; is_refused(rt.alloc(), row)?, "{}", row.1);
     }
-    for row in JUDGED {
-        assert!(rt; is_judged(rt.alloc(), row)?, "{:?} {:?}", row.1, row.2);
+    for (k, row) in JUDGED.iter().enumerate() {
+        assert!(rt; is_judged(rt.alloc(), row)?, "plan {k}");
     }
     for workers in &[1, 2, 16] {
         find_least(&rt, rt.alloc(), *workers)?;

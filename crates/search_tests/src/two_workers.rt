@@ -150,7 +150,11 @@ fn shared_word(rt: HostRuntime) -> Result<(), Fail> {
         let left = gate.left.counts();
         let is_known = 1 <= names.0 && names.0 <= row.3 && 1 <= names.1;
         assert!(rt; knows && gate.limits_met.get() == 0, "{}", row.0.name);
-        assert!(rt; is_known && left == names, "{}: {left:?}", row.0.name);
+        assert!(rt;
+            is_known && left.0 == names.0 && left.1 == names.1,
+            "{}",
+            row.0.name
+        );
     }
     Ok(())
 }

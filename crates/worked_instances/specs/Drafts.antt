@@ -23,12 +23,16 @@ with_process i name node wcet = with_process_within i name node wcet 0 1000000
 abbrev pub with_link : Instance → ℕ → ℕ → Instance
 with_link i before after = record i { links = i.links ++ (record { before = before; after = after } ∷ []) }
 
--- with a message of so many bytes to one receiver, which is to be on both channels or needn't
-abbrev pub with_message_on : Instance → List ℕ → ℕ → ℕ → ℕ → Bool → Instance
-with_message_on i name sender receiver bytes both = record i {
+-- with a message of so many bytes to these receivers, which is to be on both channels or needn't
+abbrev pub with_message_to : Instance → List ℕ → ℕ → List ℕ → ℕ → Bool → Instance
+with_message_to i name sender receivers bytes both = record i {
   messages = i.messages
-      ++ (record { name = name; sender = sender; receivers = receiver ∷ []; bytes = bytes; both = both } ∷ []);
+      ++ (record { name = name; sender = sender; receivers = receivers; bytes = bytes; both = both } ∷ []);
 }
+
+-- with one that has one receiver
+abbrev pub with_message_on : Instance → List ℕ → ℕ → ℕ → ℕ → Bool → Instance
+with_message_on i name sender receiver bytes both = with_message_to i name sender (receiver ∷ []) bytes both
 
 -- with one that needs one channel alone
 abbrev pub with_message : Instance → List ℕ → ℕ → ℕ → ℕ → Instance

@@ -3,7 +3,7 @@
 ghost use Rattle.std.specs.Prelude.{◌≡◌, IfErr, IfOk, []};
 ghost use Rattle.ttp_model.specs.Instance.{instance_with};
 ghost use Rattle.ttp_model.specs.Refusals.{IsRefusal};
-ghost use Rattle.worked_instances.specs.Drafts.{with_link, with_message, with_message_on, with_node, with_process, with_process_within};
+ghost use Rattle.worked_instances.specs.Drafts.{with_link, with_message, with_message_on, with_message_to, with_node, with_process, with_process_within};
 
 use std::alloc::{AllocError, Global};
 use std::marker::Model;
@@ -122,7 +122,7 @@ impl Draft {
 
     /// With one more message, which has one receiver and is to be on both channels or needn't.
     pub fn message_on(
-        mut self,
+        self,
         name: &str,
         sender: u32,
         receiver: u32,
@@ -131,8 +131,22 @@ impl Draft {
     ) -> Result<Self, AllocError>
         ensures { IfOk result (λ draft. draft ≡ with_message_on self name.now sender receiver bytes both) }
     {
+        self.message_to(name, sender, &[receiver], bytes, both)
+    }
+
+    /// With one more message, which has these receivers and is to be on both channels or needn't.
+    pub fn message_to(
+        mut self,
+        name: &str,
+        sender: u32,
+        receivers: &[u32],
+        bytes: u32,
+        both: bool,
+    ) -> Result<Self, AllocError>
+        ensures { IfOk result (λ draft. draft ≡ with_message_to self name.now sender receivers.now bytes both) }
+    {
         let name = Name::new(String::from_str(self.alloc, name)?);
-        let receivers = Numbers::new(vec![in self.alloc; receiver]?);
+        let receivers = Numbers::new(Vec::from_slice(self.alloc, receivers)?);
         self.messages.push(Message {
             name,
             sender,

@@ -1,35 +1,26 @@
 //! Steps one after another, and what is known after each.
 
-use super::{Row, line, replay};
+use super::{Row, line};
 use crate::decisions::first_facts;
 use crate::instances::Small;
-use std::alloc::{AllocError, Global};
-use std::process::Abort;
 use std::test::Fail;
 use tt_choice::Decision::Before;
-use tt_infer::Facts;
 use ttp_model::Cluster;
 use worked_instances::PLAIN;
 
-/// Checks what the facts are about: their goal, whether the last process goes before the second one by the choice, and how many
+/// What the facts are about, their goal, whether the last process goes before the second one by the choice, and how many
 /// links there are; and what is known.
-fn expect_first(rt: &impl Abort, alloc: Global, facts: &Facts) -> Result<(), AllocError> {
-    let is_before = facts.choice().is_before(2, 1);
-    let subject = (facts.goal(), is_before, facts.instance().links().len());
-    let known = line(alloc, facts)?;
-    let wanted = "0..100 0..100 0..100 2<1 open";
-    assert!(rt;
-        subject == (7, true, 1) && known.as_str() == wanted,
-        "{subject:?}: {known}"
-    );
-    Ok(())
-}
-
 #[test]
 fn at_first_all_is_open(rt: HostRuntime) -> Result<(), Fail> {
     let i = Small::ThreeLinked.build(rt.alloc())?;
     let facts = first_facts(&rt, rt.alloc(), &i, &[Before(2, 1)], 7)?;
-    expect_first(&rt, rt.alloc(), &facts)?;
+    assert!(rt; facts.goal() == 7 && facts.choice().is_before(2, 1));
+    assert!(rt; facts.instance().links().len() == 1);
+    let known = line(rt.alloc(), &facts)?;
+    assert!(rt;
+        known.as_str() == "0..100 0..100 0..100 2<1 open",
+        "{known}"
+    );
     Ok(())
 }
 
@@ -47,7 +38,7 @@ const SHORT: Cluster = Cluster {
 };
 
 /// Steps that bound starts, ends and rounds, and that order processes.
-static ROWS: &[Row] = &[
+pub(super) static ROWS: &[Row] = &[
     Row {
         label: "a receiver cannot end before tick nine",
         small: Small::OneMessage(PLAIN),
@@ -132,11 +123,3 @@ static ROWS: &[Row] = &[
         ],
     },
 ];
-
-#[test]
-fn chain_rows(rt: HostRuntime) -> Result<(), Fail> {
-    for row in ROWS {
-        replay(&rt, rt.alloc(), row)?;
-    }
-    Ok(())
-}

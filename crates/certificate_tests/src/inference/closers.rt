@@ -1,8 +1,7 @@
 //! Steps after which no plan is left, and how close they come to not being taken.
 
-use super::{Row, replay};
+use super::Row;
 use crate::instances::Small;
-use std::test::Fail;
 use tt_choice::Decision::{AtMost, Before, Channel};
 use tt_infer::StepFault::{NoPremise, NoSuchIndex};
 use worked_instances::PLAIN;
@@ -13,7 +12,7 @@ const IN_ONE_ROUND: &str = "0..100 0..100 0..100 m 0..1 m 0..1 open";
 const NOT_IN_ONE_ROUND: &str = "0..100 0..100 0..100 m 0..1 m 0..1 closed";
 
 /// Steps to a closer, and steps to one that is just not taken.
-static ROWS: &[Row] = &[
+pub(super) static ROWS: &[Row] = &[
     Row {
         label: "a window that is just long enough is left",
         small: Small::OneMessage(PLAIN),
@@ -195,11 +194,3 @@ static ROWS: &[Row] = &[
         ],
     },
 ];
-
-#[test]
-fn closer_rows(rt: HostRuntime) -> Result<(), Fail> {
-    for row in ROWS {
-        replay(&rt, rt.alloc(), row)?;
-    }
-    Ok(())
-}

@@ -419,7 +419,7 @@ fn dominance_rows(rt: HostRuntime) -> Result<(), Fail> {
     for row in verdicts::DOMINANCE {
         verdicts::expect(&rt, rt.alloc(), row)?;
     }
-    for row in settled_plans::WORKED {
+    for row in settled_plans::ROWS {
         settled_plans::expect(&rt, rt.alloc(), row)?;
     }
     Ok(())

@@ -1,8 +1,7 @@
 //! Steps that are refused, for each reason. A refused step changes nothing that is known.
 
-use super::{Row, replay};
+use super::Row;
 use crate::instances::Small;
-use std::test::Fail;
 use tt_infer::StepFault::{AlreadyClosed, NoPremise, NoSuchIndex};
 use worked_instances::PLAIN;
 
@@ -16,7 +15,7 @@ const CLOSED: &str = "0..2 0..100 m 0..100 closed";
 const THREE: &str = "0..100 0..100 0..100 open";
 
 /// Steps that are refused, and those before them.
-static ROWS: &[Row] = &[
+pub(super) static ROWS: &[Row] = &[
     Row {
         label: "what is named has to be there",
         small: Small::OneMessage(PLAIN),
@@ -156,11 +155,3 @@ static ROWS: &[Row] = &[
         ],
     },
 ];
-
-#[test]
-fn refusal_rows(rt: HostRuntime) -> Result<(), Fail> {
-    for row in ROWS {
-        replay(&rt, rt.alloc(), row)?;
-    }
-    Ok(())
-}

@@ -94,21 +94,15 @@ fn add_pairs(
     Ok(())
 }
 
-/// Adds all steps of the instance that are tried, each on a line.
-fn add_steps(text: &mut String, i: &Instance) -> Result<(), AllocError> {
-    for (word, named) in OF_ONE {
-        add_each(text, word, count_of(i, *named))?;
-    }
-    for (word, first, second) in OF_TWO {
-        add_pairs(text, word, count_of(i, *first), count_of(i, *second))?;
-    }
-    Ok(())
-}
-
 /// All steps of the instance that are tried, as a leaf.
 fn all_steps(alloc: Global, i: &Instance) -> Result<Cert, Fail> {
     let mut lines = String::new(alloc);
-    add_steps(&mut lines, i)?;
+    for (word, named) in OF_ONE {
+        add_each(&mut lines, word, count_of(i, *named))?;
+    }
+    for (word, first, second) in OF_TWO {
+        add_pairs(&mut lines, word, count_of(i, *first), count_of(i, *second))?;
+    }
     cert_of(alloc, lines.as_str().trim_end())
 }
 
@@ -230,24 +224,14 @@ fn open_goals(rt: &impl Abort, alloc: Global, i: &Instance, choice: &Choice) -> 
     Ok(open)
 }
 
-/// At how many goals the choice of these decisions is open.
-fn open_goals_after(
-    rt: &impl Abort,
-    alloc: Global,
-    i: &Instance,
-    decisions: &[Decision],
-) -> Result<u32, Fail> {
-    let choice = chosen(rt, alloc, i, decisions)?;
-    open_goals(rt, alloc, i, &choice)
-}
-
 /// A small instance, what is decided of it, and more than how many goals are open then.
 type Row = (Small, &'static [Decision], u32);
 
 /// Checks that so many goals are open.
 fn expect(rt: &impl Abort, alloc: Global, &(small, decisions, most): &Row) -> Result<(), Fail> {
     let i = small.build(alloc)?;
-    let open = open_goals_after(rt, alloc, &i, decisions)?;
+    let choice = chosen(rt, alloc, &i, decisions)?;
+    let open = open_goals(rt, alloc, &i, &choice)?;
     assert!(rt;
         open > most,
         "{open} goals are open, and not more than {most}"

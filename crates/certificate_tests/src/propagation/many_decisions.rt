@@ -73,8 +73,8 @@ fn go_there(
     for q in 1..PROCESSES {
         order(rt, alloc, propagator, q)?;
     }
-    assert_eq!(rt; propagator.decisions().len(), DECISIONS);
-    assert_eq!(rt; propagator.facts().starts().get(62).copied(), Some(1_953));
+    assert!(rt; propagator.decisions().len() == DECISIONS);
+    assert!(rt; propagator.facts().starts().get(62).copied() == Some(1_953));
     Ok(())
 }
 
@@ -98,15 +98,10 @@ fn expect_there_and_back(
     Ok(expect_told(rt, alloc, propagator, before.as_str())?)
 }
 
-/// The same of what is known of an instance at first.
-fn expect_on(rt: &impl Abort, alloc: Global, i: &Instance) -> Result<(), MemoryFault> {
-    let mut propagator = Propagator::start(alloc, i, GOAL)?;
-    expect_there_and_back(rt, alloc, &mut propagator)
-}
-
 #[test]
 fn two_thousand_decisions_are_taken_back(rt: HostRuntime) -> Result<(), Fail> {
     let i = crowd(rt.alloc())?;
-    expect_on(&rt, rt.alloc(), &i)?;
+    let mut propagator = Propagator::start(rt.alloc(), &i, GOAL)?;
+    expect_there_and_back(&rt, rt.alloc(), &mut propagator)?;
     Ok(())
 }

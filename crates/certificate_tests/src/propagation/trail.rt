@@ -35,18 +35,13 @@ fn add_known(facts: &Facts, text: &mut String) -> Result<(), AllocError> {
     Ok(())
 }
 
-/// Adds the decisions, the choice that they make, what is known, and the log.
-fn add_all(propagator: &Propagator, text: &mut String) -> Result<(), AllocError> {
-    let facts = propagator.facts();
-    write!(text, "{:?} {:?} ", propagator.decisions(), facts.choice())?;
-    add_known(facts, text)?;
-    write!(text, " {:?}", propagator.log())
-}
-
-/// All that a propagation has come to.
+/// All that a propagation has come to: the decisions, the choice that they make, what is known, and the log.
 pub fn told(alloc: Global, propagator: &Propagator) -> Result<String, AllocError> {
     let mut text = String::new(alloc);
-    add_all(propagator, &mut text)?;
+    let facts = propagator.facts();
+    write!(text, "{:?} {:?} ", propagator.decisions(), facts.choice())?;
+    add_known(facts, &mut text)?;
+    write!(text, " {:?}", propagator.log())?;
     Ok(text)
 }
 
@@ -58,7 +53,7 @@ pub fn expect_told(
     wanted: &str,
 ) -> Result<(), AllocError> {
     let now = told(alloc, propagator)?;
-    assert_eq!(rt; now.as_str(), wanted);
+    assert!(rt; now.as_str() == wanted, "{now}; {wanted}");
     Ok(())
 }
 
@@ -180,19 +175,7 @@ fn go_there_and_back(
     go_back(rt, alloc, propagator, before.as_slice())
 }
 
-/// How many decisions are made of the plans of an instance below a goal, and taken back.
-fn made_on(
-    rt: &impl Abort,
-    alloc: Global,
-    i: &Instance,
-    goal: u32,
-    seed: u32,
-) -> Result<usize, Fail> {
-    let mut propagator = Propagator::start(alloc, i, goal)?;
-    go_there_and_back(rt, alloc, &mut propagator, seed)
-}
-
-/// The same of a small instance.
+/// How many decisions are made of the plans of a small instance below a goal, and taken back.
 fn made(
     rt: &impl Abort,
     alloc: Global,
@@ -200,7 +183,8 @@ fn made(
     seed: u32,
 ) -> Result<usize, Fail> {
     let i = small.build(alloc)?;
-    made_on(rt, alloc, &i, goal, seed)
+    let mut propagator = Propagator::start(alloc, &i, goal)?;
+    go_there_and_back(rt, alloc, &mut propagator, seed)
 }
 
 /// Instances, with a goal above their least delay.

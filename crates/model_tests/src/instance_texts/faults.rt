@@ -15,7 +15,7 @@ fn is_told(
     words: &str,
 ) -> Result<(), AllocError> {
     let told = error.to_string(alloc)?;
-    same(rt, error, told.as_str(), words);
+    same(rt, "a fault", told.as_str(), words);
     Ok(())
 }
 

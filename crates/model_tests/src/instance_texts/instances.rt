@@ -1,7 +1,6 @@
 //! Which instances do texts state?
 
 use super::TEXT;
-use crate::outcomes::same;
 use instance_text::read;
 use std::alloc::Global;
 use std::process::Abort;
@@ -12,11 +11,12 @@ use worked_instances::{Draft, PLAIN, one_message};
 /// The text states this instance.
 fn states(rt: &impl Abort, alloc: Global, text: &str, wanted: &Instance) -> Result<(), Fail> {
     let stated = read(alloc, text.as_bytes())?;
-    same(rt, text, stated.cluster(), wanted.cluster());
-    same(rt, text, stated.nodes(), wanted.nodes());
-    same(rt, text, stated.processes(), wanted.processes());
-    same(rt, text, stated.links(), wanted.links());
-    same(rt, text, stated.messages(), wanted.messages());
+    let is_same = stated.cluster() == wanted.cluster()
+        && stated.nodes() == wanted.nodes()
+        && stated.processes() == wanted.processes()
+        && stated.links() == wanted.links()
+        && stated.messages() == wanted.messages();
+    assert!(rt; is_same, "{text}");
     Ok(())
 }
 
