@@ -1,5 +1,5 @@
 -- How a propagation comes to the decisions of a task, and what it says of the task's choice then.
-use Rattle.std.proofs.Common.{◌≡◌, ℕ, ◌<◌, ◌≤◌, List, length, slice_index_or, take, IsTrue, IsFalse, arith, sym, ap, subst, ◌∙◌}
+use Rattle.std.proofs.Common.{◌≡◌, ℕ, ◌<◌, ◌≤◌, List, [], length, slice_index_or, take, IsTrue, IsFalse, arith, refl, sym, ap, subst, ◌∙◌}
 use Rattle.std.proofs.lemmas.List.{length-take, length-take-le, take_all}
 use Rattle.ttp_model.specs.declared.step.Leaf.{Leaf}
 use Rattle.ttp_model.specs.Instance.{Instance}
@@ -9,14 +9,21 @@ use Rattle.tt_choice.specs.Branches.{root_choice}
 use Rattle.tt_choice.specs.Decisions.{IsOpenDecision, AreOpenDecisions, chosen}
 use Rattle.tt_infer.specs.Facts.{Facts}
 use Rattle.tt_infer.specs.Leaves.{ClosesLeaf}
-use Rattle.path_bounds.specs.Propagator.{Propagator, IsPropagation, IsLog}
+use Rattle.path_bounds.specs.Propagator.{Propagator, IsPropagation, IsLog, IsStarted}
 use Rattle.subtree_tasks.specs.Trials.{IsLeft, ClosesAt}
-use Rattle.branch_tree.specs.Workbench.{ComesTo}
+use Rattle.branch_tree.specs.Workbench.{ComesTo, IsAt}
 use Rattle.subtree_tasks.proofs.Chosen.{open_at}
 
 -- the first of a list are no more than all
 pub no_more : (xs ds : List Decision) → xs ≡ take (length xs) ds → length xs ≤ length ds
 no_more xs ds is = omega (arith, ap length is, length-take (length xs) ds)
+
+-- a propagation that has made no decision is at its goal, and has made the first of any
+pub started_at : (i : Instance) (goal : ℕ) (p : Propagator) → IsStarted i goal p → IsAt i goal p
+started_at i goal p is = record { instance = is.instance; goal_is = is.goal_is }
+
+pub none_made : (ds : List Decision) (p : Propagator) → p.decisions ≡ [] → p.decisions ≡ take (length p.decisions) ds
+none_made ds p none = subst (λ (made : List Decision). made ≡ take (length made) ds) (sym none) refl
 
 -- the next decision is open
 pub next_open : (i : Instance) (p : Propagator) (ds : List Decision) (k : ℕ) (d : Decision) → IsPropagation p → p.instance ≡ i → AreOpenDecisions i (root_choice i) ds → p.decisions ≡ take k ds → k < length ds → IsOpenDecision p.instance p.current.facts.choice (slice_index_or ds k d)

@@ -17,4 +17,4 @@ pub use laws::{clashes_are_closed_by_their_closers, plans_are_closed_up_to_their
 pub use subtree_tasks::{Name, Piece, Task, names_stand_once, one_choice_stands};
 pub use workbench::Workbench;
 pub use worked::Worked;
-pub use working::{close_left, work, work_on};
+pub use working::{close_left, close_left_by, is_closed_below, root_bound, work, work_on};

@@ -1,6 +1,6 @@
 //! What is kept between two subtrees?
 
-ghost use Rattle.std.specs.Prelude.{◌≡◌, ◌≤◌, None, Some, IfOk, OnOk, length, take};
+ghost use Rattle.std.specs.Prelude.{◌≡◌, ◌≤◌, None, Some, IfOk, OnOk, IsTrue, length, take};
 ghost use Rattle.tt_choice.specs.Branches.{root_choice};
 ghost use Rattle.tt_choice.specs.Decisions.{AreOpenDecisions};
 ghost use Rattle.branch_tree.specs.Workbench.{IsWorkbenchOf, IsAt, ComesTo};
@@ -35,15 +35,18 @@ fn shared(a: &[Decision], b: &[Decision]) -> usize
     count
 }
 
-/// Takes decisions back until so many are left.
-fn take_back(kept: &mut Propagator, count: usize)
+/// Takes decisions back until those that are left are the first of these. Whether it came so far by what is kept.
+fn take_back(kept: &mut Propagator, decisions: &[Decision]) -> bool
     ensures instance { kept.new.instance ≡ kept.old.instance }
     ensures goal { kept.new.goal ≡ kept.old.goal }
-    ensures decisions { kept.new.decisions ≡ take count kept.old.decisions }
+    ensures first { IsTrue result → kept.new.decisions ≡ take (length kept.new.decisions) decisions.now }
 {
-    while kept.decisions().len() > count {
-        kept.undo();
+    while shared(kept.decisions(), decisions) < kept.decisions().len() {
+        if !kept.undo() {
+            return false;
+        }
     }
+    true
 }
 
 /// Makes the rest of these decisions, as long as a plan may be left.
@@ -92,6 +95,26 @@ impl<'a> Workbench<'a> {
         Propagator::start(alloc, instance, goal)
     }
 
+    /// What is kept, where it is at this goal in ticks, as far as its decisions are the first of these; else a propagation before any.
+    fn go_back(
+        &mut self,
+        alloc: Global,
+        instance: &'a Instance,
+        decisions: &[Decision],
+        goal: u32,
+    ) -> Result<Propagator<'a>, MemoryFault>
+        requires { IsWorkbenchOf instance.now self.old }
+        ensures at { IfOk result (IsAt instance.now goal) }
+        ensures first { IfOk result (λ p. p.decisions ≡ take (length p.decisions) decisions.now) }
+        ensures nothing { self.new.kept ≡ None }
+    {
+        let mut kept = self.take_up(alloc, instance, goal)?;
+        if take_back(&mut kept, decisions) {
+            return Ok(kept);
+        }
+        Propagator::start(alloc, instance, goal)
+    }
+
     /// Goes on from what is kept to these decisions, as long as a plan may be left, at a goal in ticks. Nothing is kept until
     /// it is put back.
     pub(crate) fn reach(
@@ -106,9 +129,7 @@ impl<'a> Workbench<'a> {
         ensures comes { IfOk result (ComesTo instance.now goal decisions.now) }
         ensures nothing { self.new.kept ≡ None }
     {
-        let mut kept = self.take_up(alloc, instance, goal)?;
-        let same = shared(kept.decisions(), decisions);
-        take_back(&mut kept, same);
+        let mut kept = self.go_back(alloc, instance, decisions, goal)?;
         go_on(alloc, &mut kept, decisions)?;
         Ok(kept)
     }

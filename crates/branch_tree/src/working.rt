@@ -1,10 +1,11 @@
 //! What is a task worked into?
 
-ghost use Rattle.std.specs.Prelude.{◌≡◌, ℕ, ◌<◌, ◌≤◌, length, Some, IfOk, IfErr};
+ghost use Rattle.std.specs.Prelude.{◌≡◌, ℕ, ◌<◌, ◌≤◌, min, length, Some, IfOk, IfErr};
 ghost use Rattle.ttp_model.specs.declared.plan.Plan.{Plan};
 ghost use Rattle.ttp_model.specs.declared.step.Kind.TheVariants.{Place};
 ghost use Rattle.ttp_model.specs.Chains.{IsPathBound};
 ghost use Rattle.tt_choice.specs.Choice.{IsChoice, IsComplete};
+ghost use Rattle.tt_infer.specs.Leaves.{ClosesLeaf};
 ghost use Rattle.path_bounds.specs.PlansBelow.{IsPlanBelow};
 ghost use Rattle.branch_tree.specs.Branching.{Branches};
 ghost use Rattle.subtree_tasks.specs.Task.{choice_of, root_task, IsTask};
@@ -18,11 +19,11 @@ use crate::lessons::Lessons;
 use crate::workbench::Workbench;
 use crate::worked::Worked;
 use certificate::Node;
-use path_bounds::{Propagator, best_goal};
+use path_bounds::{Propagator, best_goal, leaf_by};
 use std::alloc::Global;
 use subtree_tasks::{Piece, Task, Trial, child_tasks, tried};
 use tt_choice::Choice;
-use ttp_model::{Instance, Kind, MemoryFault};
+use ttp_model::{Instance, Kind, Leaf, MemoryFault, Step};
 
 /// Works a task at a goal in ticks: closes it where propagation can, splits it where something is
 /// left to choose, and else gives the earliest plan of its choice, settled. So a task with nothing
@@ -174,15 +175,78 @@ pub fn close_left(
     ensures piece { IfOk result (IsLeftClosed instance.now task top) }
     ensures back { IfErr result (λ refused. refused.0 ≡ task) }
 {
-    let choice = match task.choice(alloc, instance) {
-        Ok(choice) => choice,
-        Err(fault) => return Err((task, fault)),
-    };
-    match best_goal(alloc, instance, &choice, top) {
+    close_left_by(alloc, instance, task, top, &[])
+}
+
+/// The same by the steps of another leaf, where they close it at `top` itself: that costs far less than a propagation.
+pub fn close_left_by(
+    alloc: Global,
+    instance: &Instance,
+    task: Task,
+    top: u32,
+    steps: &[Step],
+) -> Result<Piece, (Task, MemoryFault)>
+    requires { IsTask instance.now task }
+    ensures piece { IfOk result (IsLeftClosed instance.now task top) }
+    ensures back { IfErr result (λ refused. refused.0 ≡ task) }
+{
+    match left_leaf(alloc, instance, &task, top, steps) {
         Ok(leaf) => Ok(Piece {
             name: task.into_name(),
             node: Node::Leaf(leaf),
         }),
         Err(fault) => Err((task, fault)),
     }
+}
+
+/// The leaf that closes it.
+fn left_leaf(
+    alloc: Global,
+    instance: &Instance,
+    task: &Task,
+    top: u32,
+    steps: &[Step],
+) -> Result<Leaf, MemoryFault>
+    requires { IsTask instance.now task.now }
+    ensures closes { IfOk result (ClosesLeaf instance.now (choice_of instance.now task.now)) }
+    ensures most { IfOk result (λ leaf. leaf.goal ≤ top) }
+    ensures least { IfOk result (λ leaf. (bound : ℕ) → IsPathBound instance.now bound
+        → min top bound ≤ leaf.goal) }
+{
+    let choice = task.choice(alloc, instance)?;
+    if !steps.is_empty() {
+        if let Some(leaf) = leaf_by(alloc, instance, &choice, top, steps)? {
+            return Ok(leaf);
+        }
+    }
+    best_goal(alloc, instance, &choice, top)
+}
+
+/// The greatest goal of at most `top` ticks at which propagation closes the whole tree: no plan has a delay below it.
+pub fn root_bound(alloc: Global, instance: &Instance, top: u32) -> Result<u32, MemoryFault>
+    ensures { IfOk result (λ goal. goal ≤ top) }
+{
+    let root = Task::root(alloc, instance)?;
+    let leaf = left_leaf(alloc, instance, &root, top, &[])?;
+    Ok(leaf.goal)
+}
+
+/// Whether propagation closes a task at a goal in ticks. It goes on from what is kept of the task before. For the choice of a task alone:
+/// what is said of plans is what a leaf says.
+pub fn is_closed_below<'a>(
+    alloc: Global,
+    instance: &'a Instance,
+    bench: &mut Workbench<'a>,
+    task: &Task,
+    goal: u32,
+) -> Result<bool, MemoryFault>
+    requires task { IsTask instance.now task.now }
+    requires bench { IsWorkbenchOf instance.now bench.old }
+    ensures { IsWorkbenchOf instance.now bench.new }
+{
+    let reached = bench.reach(alloc, instance, task.decisions(), goal)?;
+    let is_closed = reached.closed();
+    let lessons = bench.take_lessons();
+    bench.keep(reached, lessons);
+    Ok(is_closed)
 }

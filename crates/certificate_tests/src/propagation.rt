@@ -9,7 +9,7 @@ ghost use Rattle.tt_choice.specs.Choice.{IsChoice};
 use crate::decisions::chosen;
 use crate::instances::Small;
 use crate::loads;
-use path_bounds::{Reached, best_goal, path_bound, propagate};
+use path_bounds::{Reached, best_goal, leaf_by, path_bound, propagate};
 use std::alloc::Global;
 use std::process::Abort;
 use std::test::Fail;
@@ -72,7 +72,7 @@ fn closed_at(
     }
 }
 
-/// Whether the leaf's steps close the choice at its goal, one after another.
+/// Whether the leaf's steps close the choice at its goal, one after another, and so give a leaf again.
 fn replays(alloc: Global, i: &Instance, choice: &Choice, leaf: &Leaf) -> Result<bool, MemoryFault>
     requires { IsChoice i.now choice.now }
 {
@@ -82,7 +82,8 @@ fn replays(alloc: Global, i: &Instance, choice: &Choice, leaf: &Leaf) -> Result<
             return Ok(false);
         }
     }
-    Ok(facts.closed())
+    let again = leaf_by(alloc, i, choice, leaf.goal, leaf.steps.as_slice())?;
+    Ok(facts.closed() && again.is_some())
 }
 
 /// The goal of the leaf that closes a choice up to a top, and how many steps it has. They do close it.

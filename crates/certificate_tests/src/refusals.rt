@@ -3,7 +3,7 @@
 
 use crate::choices::{BRANCHES, expect_branch};
 use crate::instances::Small;
-use crate::propagation::trail::{decide, undo};
+use crate::propagation::trail::decide;
 use crate::{complete_choices, propagation};
 use path_bounds::Propagator;
 use std::alloc::Global;
@@ -44,7 +44,7 @@ fn expect_there_and_back(
     expect_starts(rt, propagator, &[0, 7], false);
     assert!(rt; decide(alloc, propagator, Place(1))?);
     expect_leaf(rt, alloc, propagator, 10)?;
-    undo(propagator);
+    assert!(rt; propagator.undo());
     expect_starts(rt, propagator, &[0, 7], false);
     Ok(())
 }

@@ -9,9 +9,10 @@ use crate::chains::path_bound;
 use crate::propagation::propagate;
 use crate::reached::Reached;
 use std::alloc::Global;
-use step_logs::closed_leaf;
+use step_logs::{Journal, closed_leaf};
 use tt_choice::Choice;
-use ttp_model::{Instance, Leaf, MemoryFault, Step};
+use tt_infer::Facts;
+use ttp_model::{Instance, Leaf, MemoryFault, Step, Steps};
 
 /// Steps that close the choice at a goal in ticks, where propagation finds them: always so at a goal
 /// of at most the path bound.
@@ -108,5 +109,31 @@ pub fn best_goal(
     match found {
         Some(steps) => closed_leaf(alloc, instance, choice, top, steps),
         None => leaf_below(alloc, instance, choice, top),
+    }
+}
+
+/// A leaf of the choice at a goal in ticks by the steps of another leaf, which may be of anything: those that sharpen what is known as
+/// they are tried one after another, where they close the choice. Costs what they cost.
+pub fn leaf_by(
+    alloc: Global,
+    instance: &Instance,
+    choice: &Choice,
+    goal: u32,
+    steps: &[Step],
+) -> Result<Option<Leaf>, MemoryFault>
+    requires { IsChoice instance.now choice.now }
+    ensures closes { IfOk result (λ found. IfSome found (ClosesLeaf instance.now choice.now)) }
+    ensures goal { IfOk result (λ found. IfSome found (λ leaf. leaf.goal ≡ goal)) }
+{
+    let _processes = instance.processes();
+    let first = Facts::new(alloc, instance, choice, goal)?;
+    let mut journal = Journal::new(first, Vec::new(alloc), Vec::new(alloc));
+    journal.sweep(alloc, steps)?;
+    match journal.closing_steps() {
+        Some(kept) => Ok(Some(Leaf {
+            goal,
+            steps: Steps::new(kept),
+        })),
+        None => Ok(None),
     }
 }

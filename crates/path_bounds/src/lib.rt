@@ -7,7 +7,7 @@ mod propagation;
 mod reached;
 
 pub use chains::path_bound;
-pub use goals::best_goal;
+pub use goals::{best_goal, leaf_by};
 pub use propagation::propagate;
 pub use reached::Reached;
 pub use step_logs::{Propagator, Supposition, closed_leaf};

@@ -7,10 +7,10 @@ ghost use Rattle.subtree_tasks.specs.Task.{IsTask};
 ghost use Rattle.branch_tree.specs.Work.{IsLeftClosed};
 ghost use Rattle.planner.specs.Closing.{AreClosed};
 
-use branch_tree::{Piece, Task, close_left};
+use branch_tree::{Piece, Task, close_left_by};
 use certificate::Node;
 use std::alloc::Global;
-use ttp_model::{Instance, MemoryFault};
+use ttp_model::{Instance, MemoryFault, Step};
 
 /// The lesser of a leaf's goal and a tick.
 fn lowered(piece: &Piece, low: u32) -> u32
@@ -22,12 +22,29 @@ fn lowered(piece: &Piece, low: u32) -> u32
     }
 }
 
-/// Closes one task at a goal of at most `top` ticks.
-fn close(alloc: Global, instance: &Instance, task: Task, top: u32) -> Result<Piece, MemoryFault>
+/// The steps of the last leaf; none where there is none.
+fn last_steps(closed: &[Piece]) -> &[Step] {
+    match closed.last() {
+        Some(piece) => match &piece.node {
+            Node::Leaf(leaf) => leaf.steps.as_slice(),
+            Node::Branch(_) => &[],
+        },
+        None => &[],
+    }
+}
+
+/// Closes one task at a goal of at most `top` ticks, where they do by these steps.
+fn close(
+    alloc: Global,
+    instance: &Instance,
+    task: Task,
+    top: u32,
+    steps: &[Step],
+) -> Result<Piece, MemoryFault>
     requires { IsTask instance.now task }
     ensures { IfOk result (IsLeftClosed instance.now task top) }
 {
-    match close_left(alloc, instance, task, top) {
+    match close_left_by(alloc, instance, task, top, steps) {
         Ok(piece) => Ok(piece),
         Err((_, fault)) => Err(fault),
     }
@@ -35,7 +52,7 @@ fn close(alloc: Global, instance: &Instance, task: Task, top: u32) -> Result<Pie
 
 /// Closes tasks at goals of at most `top` ticks, in order: their leaves, and the least of `top` and
 /// the leaves' goals. None is closed higher than one before it, since the least is all that counts: so most of them take one
-/// propagation.
+/// propagation, or are closed by the very steps of the one before it.
 pub fn close_all(
     alloc: Global,
     instance: &Instance,
@@ -48,7 +65,7 @@ pub fn close_all(
     let mut closed = Vec::with_capacity(alloc, tasks.len())?;
     let mut low = top;
     for task in tasks {
-        let piece = close(alloc, instance, task, low)?;
+        let piece = close(alloc, instance, task, low, last_steps(&closed))?;
         low = lowered(&piece, low);
         closed.push(piece)?;
     }

@@ -99,24 +99,57 @@ fn concluded(
     Ok(answer(why, best, limit, low, told))
 }
 
+/// What of a budget the workers have: in a search that isn't plain the last quarter is for the bound.
+fn workers_part(budget: u64, manner: Manner) -> u64
+    ensures { result ≤ budget }
+{
+    match manner {
+        Manner::Plain => budget,
+        Manner::Sparing => budget - budget / 4,
+    }
+}
+
+/// Works what workers left of a tree: with what they had of the budget on as they did, and with the rest so that the bound rises.
+fn go_on(
+    alloc: Global,
+    instance: &Instance,
+    options: Options,
+    search: &mut Search,
+    part: u64,
+) -> Why
+    requires searching { IsSearching instance.now search.old.pieces.items search.old.tasks.items search.old.best }
+    requires within { length search.old.pieces.items ≤ part }
+    requires part { part ≤ options.budget }
+    ensures searching { IsSearching instance.now search.new.pieces.items search.new.tasks.items search.new.best }
+    ensures within { length search.new.pieces.items ≤ options.budget }
+    ensures cause { IsWorkedOut options.budget search.new.pieces.items result }
+{
+    match search.go(alloc, instance, part) {
+        Why::Budget => search.rise(alloc, instance, options.budget),
+        Why::Memory => Why::Memory,
+    }
+}
+
 /// Works what workers left of a tree, and tells what it shows.
 fn worked_out(
     alloc: Global,
     instance: &Instance,
     options: Options,
     search: Search,
+    part: u64,
     reserve: Reserve,
     manner: Manner,
 ) -> Result<Outcome, SolveFault>
     requires searching { IsSearching instance.now search.pieces.items search.tasks.items search.best }
-    requires within { length search.pieces.items ≤ options.budget }
+    requires within { length search.pieces.items ≤ part }
+    requires part { part ≤ options.budget }
     ensures answer { IfOk result (IsOutcome instance.now options) }
     ensures shows { IfOk result (Shows instance.now) }
     ensures err { IfErr result (λ e. e ≡ fault.Memory) }
 {
     let _nodes = instance.nodes();
     let mut search = search;
-    let why = search.go(alloc, instance, options.budget);
+    let why = go_on(alloc, instance, options, &mut search, part);
     reserve.give_back();
     let outcome = concluded(alloc, instance, options, search, why)?;
     match manner {
@@ -156,10 +189,15 @@ pub fn solve_in<R: Threads + Wait + Sync, G: Gate + Sync>(
     let _nodes = instance.nodes();
     let reserve = Reserve::begin(alloc)?;
     let first = first_plan(rt, alloc, instance, options, manner)?;
-    let search = searched::<Brand, G, R>(rt, alloc, instance, options, manner, first, gate)?;
+    let part = workers_part(options.budget, manner);
+    let theirs = Options {
+        budget: part,
+        ..options
+    };
+    let search = searched::<Brand, G, R>(rt, alloc, instance, theirs, manner, first, gate)?;
     match lean_proof(alloc, instance, manner, &search) {
         Some(cert) => Ok(settled(instance, options, search.best, cert)),
-        None => worked_out(alloc, instance, options, search, reserve, manner),
+        None => worked_out(alloc, instance, options, search, part, reserve, manner),
     }
 }
 

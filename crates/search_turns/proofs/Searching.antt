@@ -4,7 +4,7 @@ use Rattle.std.specs.List.Sorted.{IsPermutation}
 use Rattle.std.proofs.lemmas.Grind.{flat_map-append}
 use Rattle.std.proofs.lemmas.List.{append-nil, map-append}
 use Rattle.std.proofs.lemmas.List.Elements.{All-head, All-tail, All-cons, All-nil, All-append, All-push, All-weaker, Contains-append_right}
-use Rattle.std.proofs.lemmas.List.Sorted.{IsPermutation-trans, IsPermutation-append_left, IsPermutation-append_right, IsPermutation-append_comm}
+use Rattle.std.proofs.lemmas.List.Sorted.{IsPermutation-sym, IsPermutation-trans, IsPermutation-append_left, IsPermutation-append_right, IsPermutation-append_comm, All-permutation}
 use Rattle.ttp_model.specs.declared.plan.Plan.{Plan}
 use Rattle.ttp_model.specs.Instance.{Instance}
 use Rattle.ttp_model.specs.Rules.{IsInstance}
@@ -70,3 +70,15 @@ works i made front turn old new kids s is same each lower goal found =
 
 pub found_small : (i : Instance) (plan : Plan) (ticks : ℕ) → IsInstance i → IsPlanFound i plan ticks → ticks ≤ i.cluster.horizon
 found_small i plan ticks w is = omega (arith, is.delay_is, delay_small i plan w is.settled.valid)
+
+-- the open tasks may stand in any order
+pub in_any_order : (i : Instance) (made : List Piece) (tasks others : List Task) (best : Option (Plan × ℕ)) → IsPermutation tasks others → IsSearching i made tasks best → IsSearching i made others best
+in_any_order i made tasks others best moved s = record {
+  turns = s.turns;
+  each = s.each;
+  pieces = s.pieces;
+  account = IsPermutation-trans _ _ _ (IsPermutation-append_right (tasks_of s.turns) others tasks (IsPermutation-sym tasks others moved)) s.account;
+  open_tasks = All-permutation (IsTask i) tasks others moved s.open_tasks;
+  goals = s.goals;
+  found = s.found;
+}

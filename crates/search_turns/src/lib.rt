@@ -3,6 +3,7 @@
 
 mod ends;
 mod outcome;
+mod rising;
 mod search;
 
 pub use ends::answer;

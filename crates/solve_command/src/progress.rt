@@ -1,7 +1,6 @@
 //! How far is a search?
 
-use branch_tree::{Name, Task, close_left};
-use certificate::Node;
+use branch_tree::{Name, root_bound};
 use planner::{FreeGate, Gate};
 use std::alloc::{AllocError, Global};
 use std::fmt;
@@ -111,20 +110,6 @@ pub struct Progress<'a, S: Clock + Eprint> {
     last: AtomicU64,
 }
 
-/// A delay in ticks that no plan of the instance is below; 0 where memory was refused.
-fn bound(alloc: Global, instance: &Instance) -> u32 {
-    let Ok(root) = Task::root(alloc, instance) else {
-        return 0;
-    };
-    match close_left(alloc, instance, root, instance.past_horizon()) {
-        Ok(piece) => match &piece.node {
-            Node::Leaf(leaf) => leaf.goal,
-            Node::Branch(_) => 0,
-        },
-        Err(_) => 0,
-    }
-}
-
 /// A count of nothing for each of so many workers.
 fn no_shares(alloc: Global, workers: u32) -> Result<Vec<AtomicU64>, AllocError> {
     let mut shares = Vec::with_capacity(alloc, workers as usize)?;
@@ -230,7 +215,7 @@ impl<'a, S: Clock + Eprint> Gate for Progress<'a, S> {
 
 impl<'a, S: Clock + Eprint> Follower for Progress<'a, S> {
     fn begin(&self, alloc: Global, instance: &Instance) {
-        let low = bound(alloc, instance);
+        let low = root_bound(alloc, instance, instance.past_horizon()).unwrap_or(0);
         self.low.store(u64::from(low), Ordering::SeqCst);
         let seconds = self.millis() / 1000;
         self.told.store(seconds, Ordering::SeqCst);

@@ -1,7 +1,6 @@
 -- Logs that go on after decisions.
-use Rattle.std.proofs.Common.{◌≡◌, ℕ, ◌<◌, ◌^◌, List, [], ◌∷◌, ◌++◌, length, slice_index_or, take, Option, None, Some, IsSome, option_to_list, IsTrue, IsFalse, arith, inl, inr, refl, ap, sym, subst, ◌∙◌}
-use Rattle.std.proofs.lemmas.Bool.{cases_lt, false≢true}
-use Rattle.std.proofs.lemmas.List.{length-append, take-append-le, get_or_append_left, get_or_push, take_all}
+use Rattle.std.proofs.Common.{◌≡◌, ℕ, suc, ◌<◌, ◌^◌, List, [], ◌∷◌, ◌++◌, length, take, drop, All, Some, IsTrue, IsFalse, arith, inl, inr, refl, ap, sym, subst, ◌∙◌}
+use Rattle.std.proofs.lemmas.List.Elements.{All-nil, All-append, All-push, All-pop, All-take, All-drop}
 use Rattle.ttp_model.specs.declared.plan.Plan.{Plan}
 use Rattle.ttp_model.specs.declared.step.Step.{Step}
 use Rattle.ttp_model.specs.Instance.{Instance}
@@ -11,14 +10,14 @@ use Rattle.tt_choice.specs.declared.decision.Decision.{Decision}
 use Rattle.tt_choice.specs.Choice.{Choice, IsChoice, IsComplete, bare}
 use Rattle.tt_choice.specs.Branches.{root_choice}
 use Rattle.tt_choice.specs.Decisions.{choice_after, IsOpenDecision, chosen}
-use Rattle.tt_choice.proofs.Decisions.{after_all-more, open-more, open-front}
+use Rattle.tt_choice.proofs.Decisions.{after_all-more, open-more}
 use Rattle.tt_choice.proofs.Trail.{IsChoice-keeping, bare-same, none_kept-after_all}
 use Rattle.sought_plans.specs.Known.{first_facts}
 use Rattle.tt_infer.specs.Facts.{Facts, AreFacts, after}
 use Rattle.tt_infer.specs.Leaves.{LeadSharply, ClosesLeaf}
 use Rattle.step_logs.specs.Journal.{Journal, Advances}
 use Rattle.step_logs.specs.PlansBelow.{IsPlanBelow}
-use Rattle.step_logs.specs.Propagator.{IsLog, first_log, FollowsFrom, Propagator, IsPropagation, Undoes}
+use Rattle.step_logs.specs.Propagator.{IsLog, first_log, FollowsFrom, Checkpoint, IsCheckpoint, checkpoint_of, IsThinned, Propagator, IsPropagation}
 use Rattle.step_logs.proofs.Counts.{closes_log, closes_of}
 
 -- where a log that began without steps leads
@@ -45,86 +44,57 @@ level_of s d i chosen_so_far c goal first room start end i_is chosen_is c_is goa
     (subst (λ (k : Instance). IsLog k c goal end) i_is here))
 
 -- before any decision
-pub started : (i : Instance) (goal : ℕ) (log : Journal) → IsInstance i → IsLog i (root_choice i) goal log → IsPropagation (record { instance = i; goal = goal; decisions = []; earlier = []; current = log })
+pub started : (i : Instance) (goal : ℕ) (log : Journal) → IsInstance i → IsLog i (root_choice i) goal log → IsPropagation (record { instance = i; goal = goal; decisions = []; kept = []; current = log })
 started i goal log w is = record {
   instance = w;
   decisions = tt;
   current = is;
-  count = refl;
-  earlier = λ k d h. absurd (omega (arith, h));
+  kept = All-nil (IsCheckpoint i goal);
 }
 
+-- what is left of the checkpoints is so too
+thinned_are : (i : Instance) (goal : ℕ) (old new : List Checkpoint) → IsThinned old new → All (IsCheckpoint i goal) old → All (IsCheckpoint i goal) new
+thinned_are i goal old new (inl same) all = subst (All (IsCheckpoint i goal)) (sym same) all
+thinned_are i goal old new (inr gone) all =
+    let k = gone.0 in
+    subst (All (IsCheckpoint i goal)) (sym gone.2)
+    (All-append (IsCheckpoint i goal) (take k old) (drop (suc k) old) (All-take (IsCheckpoint i goal) k old all) (All-drop (IsCheckpoint i goal) (suc k) old all))
+
 -- one decision more
-pub decides : (p : Propagator) (d : Decision) (log : Journal) → IsPropagation p → IsOpenDecision p.instance (chosen p.instance p.decisions) d → IsLog p.instance (choice_after p.instance (chosen p.instance p.decisions) d) p.goal log → IsPropagation (record p { decisions = p.decisions ++ d ∷ []; earlier = p.earlier ++ p.current ∷ []; current = log })
-decides p d log is fresh next = record {
+decides : (p : Propagator) (d : Decision) (before : List Checkpoint) (log : Journal) → IsPropagation p → IsOpenDecision p.instance (chosen p.instance p.decisions) d → IsThinned p.kept before → IsLog p.instance (choice_after p.instance (chosen p.instance p.decisions) d) p.goal log → IsPropagation (record p { decisions = p.decisions ++ d ∷ []; kept = before ++ checkpoint_of p ∷ []; current = log })
+decides p d before log is fresh thinned next = record {
   instance = is.instance;
   decisions = open-more p.instance (root_choice p.instance) p.decisions d is.decisions fresh;
   current = rw (after_all-more p.instance (root_choice p.instance) p.decisions d) next;
-  count = omega (arith, length-append p.earlier (p.current ∷ []), length-append p.decisions (d ∷ []), is.count);
-  earlier = earlier;
+  kept = All-push (IsCheckpoint p.instance p.goal) before (checkpoint_of p) (thinned_are p.instance p.goal p.kept before thinned is.kept) (record { decisions = is.decisions; log = is.current });
 }
-  where
-    earlier : (k : ℕ) (other : Journal) → k < length (p.earlier ++ p.current ∷ []) → IsLog p.instance (chosen p.instance (take k (p.decisions ++ d ∷ []))) p.goal (slice_index_or (p.earlier ++ p.current ∷ []) k other)
-    earlier k other h = elim (cases_lt k (length p.earlier)) [
-      | inl below ↦
-          rw (get_or_append_left p.earlier (p.current ∷ []) other k below, take-append-le k p.decisions (d ∷ []) (omega (arith, below, is.count))) (is.earlier k other below)
-      | inr over ↦
-          let last : length p.earlier ≡ k = omega (arith, over, h, length-append p.earlier (p.current ∷ [])) in
-          rw (get_or_push p.earlier p.current other k last, take-append-le k p.decisions (d ∷ []) (omega (arith, last, is.count)), take_all k p.decisions (omega (arith, last, is.count))) is.current
-    ]
 
--- one decision less
-pub undone : (p : Propagator) (ds : List Decision) (d : Decision) (logs : List Journal) (log : Journal) → IsPropagation p → p.decisions ≡ ds ++ d ∷ [] → p.earlier ≡ logs ++ log ∷ [] → IsPropagation (record p { decisions = ds; earlier = logs; current = log })
-undone p ds d logs log is all kept = record {
-  instance = is.instance;
-  decisions = open-front p.instance (root_choice p.instance) ds (d ∷ []) (rw all at is.decisions);
-  current = current;
-  count = count;
-  earlier = earlier;
-}
-  where
-    count : length logs ≡ length ds
-    count = omega (arith, is.count, ap length all, ap length kept, length-append logs (log ∷ []), length-append ds (d ∷ []))
+-- back to the last checkpoint
+undone : (p : Propagator) (rest : List Checkpoint) (before : Checkpoint) → IsPropagation p → p.kept ≡ rest ++ before ∷ [] → IsPropagation (record p { decisions = before.decisions; kept = rest; current = before.log })
+undone p rest before is kept =
+    let both = All-pop (IsCheckpoint p.instance p.goal) p.kept rest (Some before) kept is.kept in
+    record { instance = is.instance; decisions = both.1.decisions; current = both.1.log; kept = both.0 }
 
-    logged : (k : ℕ) (other : Journal) → k < length (logs ++ log ∷ []) → IsLog p.instance (chosen p.instance (take k (ds ++ d ∷ []))) p.goal (slice_index_or (logs ++ log ∷ []) k other)
-    logged k other h = rw (kept, all) at is.earlier k other h
-
-    current : IsLog p.instance (chosen p.instance ds) p.goal log
-    current =
-        let taken : take (length logs) (ds ++ d ∷ []) ≡ ds = take-append-le (length logs) ds (d ∷ []) (omega (arith, count)) ∙ take_all (length logs) ds (omega (arith, count)) in
-        let last = logged (length logs) log (omega (arith, length-append logs (log ∷ []))) in
-        subst (λ (l : Journal). IsLog p.instance (chosen p.instance ds) p.goal l) (get_or_push logs log log (length logs) refl)
-        (subst (λ (xs : List Decision). IsLog p.instance (chosen p.instance xs) p.goal (slice_index_or (logs ++ log ∷ []) (length logs) log)) taken last)
-
-    earlier : (k : ℕ) (other : Journal) → k < length logs → IsLog p.instance (chosen p.instance (take k ds)) p.goal (slice_index_or logs k other)
-    earlier k other h =
-        let taken : take k (ds ++ d ∷ []) ≡ take k ds = take-append-le k ds (d ∷ []) (omega (arith, h, count)) in
-        let kept_at = logged k other (omega (arith, h, length-append logs (log ∷ []))) in
-        subst (λ (l : Journal). IsLog p.instance (chosen p.instance (take k ds)) p.goal l) (get_or_append_left logs (log ∷ []) other k h)
-        (subst (λ (xs : List Decision). IsLog p.instance (chosen p.instance xs) p.goal (slice_index_or (logs ++ log ∷ []) k other)) taken kept_at)
-
-pub undone_of : (p : Propagator) (ds : List Decision) (last : Option Decision) (logs : List Journal) (log : Journal) → IsPropagation p → IsSome last → p.decisions ≡ ds ++ option_to_list last → p.earlier ≡ logs ++ log ∷ [] → IsPropagation (record p { decisions = ds; earlier = logs; current = log })
-undone_of p ds None logs log is some all kept = absurd (false≢true some)
-undone_of p ds (Some d) logs log is some all kept = undone p ds d logs log is all kept
-
-pub undoes_of : (p q : Propagator) (last : Option Decision) → IsSome last → q.instance ≡ p.instance → q.goal ≡ p.goal → p.decisions ≡ q.decisions ++ option_to_list last → p.earlier ≡ q.earlier ++ q.current ∷ [] → Undoes p q
-undoes_of p q None some instance goal decisions earlier = absurd (false≢true some)
-undoes_of p q (Some d) some instance goal decisions earlier = record { instance = instance; goal = goal; last = d; decisions = decisions; earlier = earlier }
+-- the same, as a body makes it
+pub undone_of : (p : Propagator) (rest : List Checkpoint) (before : Checkpoint) (ds : List Decision) (log current : Journal) → IsPropagation p → p.kept ≡ rest ++ before ∷ [] → before ≡ record { decisions = ds; log = log } → current ≡ log → IsPropagation (record p { decisions = ds; kept = rest; current = current })
+undone_of p rest before ds log current is kept before_is current_is =
+    subst (λ (l : Journal). IsPropagation (record p { decisions = ds; kept = rest; current = l })) (sym current_is)
+    (subst (λ (c : Checkpoint). IsPropagation (record p { decisions = c.decisions; kept = rest; current = c.log })) before_is (undone p rest before is kept))
 
 -- what closes
 pub closes : (i : Instance) (c : Choice) (goal : ℕ) (log : Journal) → IsInstance i → IsLog i c goal log → IsTrue log.facts.known.closed → ClosesLeaf i c (record { goal = goal; steps = log.steps }) × (length log.steps < 2 ^ 32)
 closes i c goal log w is closed = closes_log i c w is.choice goal log.steps log.facts.known is.lead closed
 
 -- The same, as a body makes it.
-pub decides_of : (p : Propagator) (d : Decision) (ds : List Decision) (logs : List Journal) (before next current : Journal) → IsPropagation p → IsOpenDecision p.instance p.current.facts.choice d → ds ≡ p.decisions ++ d ∷ [] → logs ≡ p.earlier ++ before ∷ [] → before ≡ p.current → current ≡ next → IsLog p.current.facts.instance (choice_after p.current.facts.instance p.current.facts.choice d) p.current.facts.goal next → IsPropagation (record p { decisions = ds; earlier = logs; current = current })
-decides_of p d ds logs before next current is fresh ds_is logs_is before_is current_is log =
+pub decides_of : (p : Propagator) (d : Decision) (ds : List Decision) (before all : List Checkpoint) (made : Checkpoint) (next current : Journal) → IsPropagation p → IsOpenDecision p.instance p.current.facts.choice d → ds ≡ p.decisions ++ d ∷ [] → IsThinned p.kept before → all ≡ before ++ made ∷ [] → made ≡ checkpoint_of p → current ≡ next → IsLog p.current.facts.instance (choice_after p.current.facts.instance p.current.facts.choice d) p.current.facts.goal next → IsPropagation (record p { decisions = ds; kept = all; current = current })
+decides_of p d ds before all made next current is fresh ds_is thinned all_is made_is current_is log =
     let at = is.current.facts in
     let is_open : IsOpenDecision p.instance (chosen p.instance p.decisions) d = subst (λ (s : Facts). IsOpenDecision p.instance s.choice d) at fresh in
     let here : IsLog p.instance (choice_after p.instance (chosen p.instance p.decisions) d) p.goal next = subst (λ (s : Facts). IsLog s.instance (choice_after s.instance s.choice d) s.goal next) at log in
-    let logged : logs ≡ p.earlier ++ p.current ∷ [] = logs_is ∙ ap (λ (l : Journal). p.earlier ++ l ∷ []) before_is in
-    subst (λ (xs : List Decision). IsPropagation (record p { decisions = xs; earlier = logs; current = current })) (sym ds_is)
-    (subst (λ (ls : List Journal). IsPropagation (record p { decisions = p.decisions ++ d ∷ []; earlier = ls; current = current })) (sym logged)
-    (subst (λ (l : Journal). IsPropagation (record p { decisions = p.decisions ++ d ∷ []; earlier = p.earlier ++ p.current ∷ []; current = l })) (sym current_is) (decides p d next is is_open here)))
+    let kept : all ≡ before ++ checkpoint_of p ∷ [] = all_is ∙ ap (λ (c : Checkpoint). before ++ c ∷ []) made_is in
+    subst (λ (xs : List Decision). IsPropagation (record p { decisions = xs; kept = all; current = current })) (sym ds_is)
+    (subst (λ (cs : List Checkpoint). IsPropagation (record p { decisions = p.decisions ++ d ∷ []; kept = cs; current = current })) (sym kept)
+    (subst (λ (l : Journal). IsPropagation (record p { decisions = p.decisions ++ d ∷ []; kept = before ++ checkpoint_of p ∷ []; current = l })) (sym current_is) (decides p d before next is is_open thinned here)))
 
 pub above_at : (p : Propagator) → IsPropagation p → IsFalse p.current.facts.known.closed → (bound : ℕ) → IsPathBound p.current.facts.instance bound → bound < p.current.facts.goal
 above_at p is left bound at =
@@ -132,13 +102,13 @@ above_at p is left bound at =
     let here : bound < p.goal = is.current.above left bound (subst (λ (s : Facts). IsPathBound s.instance bound) same at) in
     omega (arith, here, ap (λ (s : Facts). s.goal) same)
 
-pub started_of : (i : Instance) (goal : ℕ) (c : Choice) (first : Facts) (room : List Step) (start end : Journal) (ds : List Decision) (logs : List Journal) → IsInstance i → c ≡ root_choice i → start ≡ record { facts = first; steps = room } → first ≡ record { instance = i; choice = c; goal = goal; known = first_facts i c } → room ≡ [] → Advances start end → IsChoice i c → (IsFalse end.facts.known.closed → (bound : ℕ) → IsPathBound i bound → bound < start.facts.goal) → (IsComplete i c → IsFalse end.facts.known.closed → (plan : Plan) × IsPlanBelow i c start.facts.goal plan) → ds ≡ [] → logs ≡ [] → IsPropagation (record { instance = i; goal = goal; decisions = ds; earlier = logs; current = end })
-started_of i goal c first room start end ds logs w c_is start_is first_is room_is advances ok above finds ds_is logs_is =
+pub started_of : (i : Instance) (goal : ℕ) (c : Choice) (first : Facts) (room : List Step) (start end : Journal) (ds : List Decision) (kept : List Checkpoint) → IsInstance i → c ≡ root_choice i → start ≡ record { facts = first; steps = room } → first ≡ record { instance = i; choice = c; goal = goal; known = first_facts i c } → room ≡ [] → Advances start end → IsChoice i c → (IsFalse end.facts.known.closed → (bound : ℕ) → IsPathBound i bound → bound < start.facts.goal) → (IsComplete i c → IsFalse end.facts.known.closed → (plan : Plan) × IsPlanBelow i c start.facts.goal plan) → ds ≡ [] → kept ≡ [] → IsPropagation (record { instance = i; goal = goal; decisions = ds; kept = kept; current = end })
+started_of i goal c first room start end ds kept w c_is start_is first_is room_is advances ok above finds ds_is kept_is =
     let begins : start ≡ record { facts = record { instance = i; choice = c; goal = goal; known = first_facts i c }; steps = [] } = start_is ∙ (λ j. record { facts = first_is j; steps = room_is j }) in
     let at : start.facts.goal ≡ goal = ap (λ (log : Journal). log.facts.goal) begins in
     let here : IsLog i c goal end = log_of i c goal start end begins advances ok (λ left bound is. omega (arith, above left bound is, at)) (λ done left. subst (λ (g : ℕ). (plan : Plan) × IsPlanBelow i c g plan) at (finds done left)) in
-    subst (λ (xs : List Decision). IsPropagation (record { instance = i; goal = goal; decisions = xs; earlier = logs; current = end })) (sym ds_is)
-    (subst (λ (ls : List Journal). IsPropagation (record { instance = i; goal = goal; decisions = []; earlier = ls; current = end })) (sym logs_is)
+    subst (λ (xs : List Decision). IsPropagation (record { instance = i; goal = goal; decisions = xs; kept = kept; current = end })) (sym ds_is)
+    (subst (λ (cs : List Checkpoint). IsPropagation (record { instance = i; goal = goal; decisions = []; kept = cs; current = end })) (sym kept_is)
     (started i goal end w (subst (λ (x : Choice). IsLog i x goal end) c_is here)))
 
 -- a log that is kept follows from the first facts

@@ -1,5 +1,6 @@
 -- A propagation that goes on after decisions, each of which can be taken back.
-use Rattle.std.specs.Prelude.{◌≡◌, ℕ, ◌<◌, List, [], ◌∷◌, ◌++◌, length, slice_index_or, take, IsFalse}
+use Rattle.std.specs.Prelude.{◌≡◌, ℕ, ◌+◌, ◌<◌, ◌≤◌, ◌⊎◌, List, [], ◌∷◌, ◌++◌, length, All, IsFalse}
+use Rattle.std.specs.List.{remove}
 use Rattle.ttp_model.specs.declared.plan.Plan.{Plan}
 use Rattle.ttp_model.specs.Instance.{Instance}
 use Rattle.ttp_model.specs.Rules.{IsInstance}
@@ -35,22 +36,43 @@ first_log i c goal = record { facts = record { instance = i; choice = c; goal = 
 abbrev pub FollowsFrom : Instance → Choice → ℕ → Journal → Type 0
 FollowsFrom i c goal log = Advances (first_log i c goal) log
 
--- an instance, a goal in ticks, and the decisions so far; what was known before each of them, and what is known now
+-- what was known once some decisions were made
+pub record Checkpoint : Type 0 where
+  pub decisions : List Decision
+  pub log : Journal
+
+-- an instance, a goal in ticks, and the decisions so far; what was known after fewer of them, the fewest first, as far as that is
+-- kept, and what is known now
 pub record Propagator : Type 0 where
   pub instance : Instance
   pub goal : ℕ
   pub decisions : List Decision
-  pub earlier : List Journal
+  pub kept : List Checkpoint
   pub current : Journal
 
--- each decision was open, and each log is one of the choice that the decisions before it make
+-- each of the decisions was open, and the log is one of the choice that they make
+pub record IsCheckpoint (i : Instance) (goal : ℕ) (c : Checkpoint) : Type 0 where
+  pub decisions : AreOpenDecisions i (root_choice i) c.decisions
+  pub log : IsLog i (chosen i c.decisions) goal c.log
+
+-- what stands, to be kept
+abbrev pub checkpoint_of : Propagator → Checkpoint
+checkpoint_of p = record { decisions = p.decisions; log = p.current }
+
+-- each decision was open, and the log is one of the choice that they make; all that is kept is so too
 pub record IsPropagation (p : Propagator) : Type 0 where
   pub instance : IsInstance p.instance
   pub decisions : AreOpenDecisions p.instance (root_choice p.instance) p.decisions
   pub current : IsLog p.instance (chosen p.instance p.decisions) p.goal p.current
-  pub count : length p.earlier ≡ length p.decisions
-  pub earlier : (k : ℕ) (d : Journal) → k < length p.earlier
-      → IsLog p.instance (chosen p.instance (take k p.decisions)) p.goal (slice_index_or p.earlier k d)
+  pub kept : All (IsCheckpoint p.instance p.goal) p.kept
+
+-- how many checkpoints are kept at least, where there were as many
+abbrev pub recent_checkpoints : ℕ
+recent_checkpoints = 64
+
+-- all are still kept, or all but one that so many came after
+abbrev pub IsThinned : List Checkpoint → List Checkpoint → Type 0
+IsThinned old new = (new ≡ old) ⊎ ((k : ℕ) × (k + recent_checkpoints ≤ length old) × (new ≡ remove old k))
 
 -- nothing is decided
 pub record IsStarted (i : Instance) (goal : ℕ) (p : Propagator) : Type 0 where
@@ -63,15 +85,15 @@ pub record Decides (d : Decision) (old new : Propagator) : Type 0 where
   pub instance : new.instance ≡ old.instance
   pub goal : new.goal ≡ old.goal
   pub decisions : new.decisions ≡ old.decisions ++ d ∷ []
-  pub earlier : new.earlier ≡ old.earlier ++ old.current ∷ []
+  pub before : List Checkpoint
+  pub thinned : IsThinned old.kept before
+  pub kept : new.kept ≡ before ++ checkpoint_of old ∷ []
 
--- the last decision is taken back: what was known before it is known again
+-- what is known is again what was known at the last checkpoint, after its decisions
 pub record Undoes (old new : Propagator) : Type 0 where
   pub instance : new.instance ≡ old.instance
   pub goal : new.goal ≡ old.goal
-  pub last : Decision
-  pub decisions : old.decisions ≡ new.decisions ++ last ∷ []
-  pub earlier : old.earlier ≡ new.earlier ++ new.current ∷ []
+  pub kept : old.kept ≡ new.kept ++ checkpoint_of new ∷ []
 
 -- what would be known of the plans below the goal in which one process goes before another
 pub record IsSupposition (s : Propagator) (p q : ℕ) (facts : Facts) : Type 0 where

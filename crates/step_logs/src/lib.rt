@@ -2,6 +2,7 @@
 #![tactic(auto)]
 
 mod acceleration;
+mod checkpoint;
 mod copies;
 mod journal;
 mod propagator;

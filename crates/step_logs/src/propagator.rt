@@ -1,6 +1,6 @@
 //! How does propagation go on after a decision?
 
-ghost use Rattle.std.specs.Prelude.{◌≡◌, ◌≢◌, ◌<◌, ◌≤◌, ℕ, [], IfOk, OnOk, OnErr, IsTrue, IsFalse, length, Contains};
+ghost use Rattle.std.specs.Prelude.{◌≡◌, ◌≢◌, ◌<◌, ◌≤◌, ℕ, [], IfOk, OnOk, OnErr, IsTrue, IsFalse, Contains, vec_len, vec_capacity};
 ghost use Rattle.ttp_model.specs.declared.plan.Plan.{Plan};
 ghost use Rattle.ttp_model.specs.declared.step.Step.TheVariants.{UsSettled};
 ghost use Rattle.ttp_model.specs.Chains.{IsPathBound};
@@ -10,9 +10,10 @@ ghost use Rattle.tt_choice.specs.Decisions.{choice_after, IsOpenDecision};
 ghost use Rattle.tt_infer.specs.Leaves.{ClosesLeaf};
 ghost use Rattle.step_logs.specs.Journal.{Journal, Advances};
 ghost use Rattle.step_logs.specs.PlansBelow.{IsPlanBelow};
-ghost use Rattle.step_logs.specs.Propagator.{Begins, FollowsFrom, IsPropagation, IsStarted, Decides, Undoes, IsLog, IsSupposition};
+ghost use Rattle.step_logs.specs.Propagator.{Begins, FollowsFrom, IsPropagation, IsStarted, IsThinned, Decides, Undoes, IsLog, IsSupposition};
 
 use crate::acceleration::{go_on, suppose};
+use crate::checkpoint::Checkpoint;
 use crate::journal::Journal;
 use crate::standstill::{complete, reach};
 use crate::supposition::Supposition;
@@ -26,16 +27,19 @@ use tt_choice::{Choice, Decision};
 use tt_infer::Facts;
 use ttp_model::{Instance, Leaf, MemoryFault, Step};
 
-/// What is known of the plans below a goal, after decisions that can be taken back one by one: what was known before each
-/// is kept.
+/// So many checkpoints are kept of the last decisions, and of those before that of every one in as many.
+const RECENT: usize = 64;
+
+/// What is known of the plans below a goal, after decisions that can be taken back: what was known before each of the last ones
+/// is kept, and before some of the others.
 #[derive(Drop)]
 pub struct Propagator<'a> {
     instance: &'a Instance,
     /// In ticks.
     goal: u32,
     decisions: Vec<Decision>,
-    /// What was known before each decision.
-    earlier: Vec<Journal<'a>>,
+    /// What was known before decisions.
+    kept: Vec<Checkpoint<'a>>,
     current: Journal<'a>,
     /// What was known after decisions that were taken back, for its memory.
     spare: Vec<Journal<'a>>,
@@ -52,7 +56,7 @@ impl<'a> Model for Propagator<'a> {
       instance = s.instance.now;
       goal = s.goal;
       decisions = s.decisions.items;
-      earlier = s.earlier.items;
+      kept = s.kept.items;
       current = s.current;
     } };
 
@@ -60,7 +64,7 @@ impl<'a> Model for Propagator<'a> {
       instance = s.instance.now;
       goal = s.goal;
       decisions = s.decisions.items;
-      earlier = s.earlier.items;
+      kept = s.kept.items;
       current = s.current;
     }) };
 }
@@ -88,6 +92,25 @@ fn keep<'a>(spare: &mut Vec<Journal<'a>>, room: Journal<'a>) {
     if spare.len() < spare.capacity() {
         spare.push_reserved(room);
     }
+}
+
+/// Lets one checkpoint go, where there is one that is no longer among the last and isn't to stay. Its memory may be used again.
+fn thin<'a>(kept: &mut Vec<Checkpoint<'a>>, spare: &mut Vec<Journal<'a>>)
+    ensures thinned { IsThinned kept.old.items kept.new.items }
+    ensures room { vec_capacity kept.new ≡ vec_capacity kept.old }
+    ensures fewer { vec_len kept.new ≤ vec_len kept.old }
+{
+    let count = kept.len();
+    if count < RECENT {
+        return;
+    }
+    let first = count - RECENT;
+    if kept[first].count() % RECENT == 0 {
+        return;
+    }
+    let gone = kept.remove(first);
+    let (_decisions, log) = gone.into_parts();
+    keep(spare, log);
 }
 
 /// Where nothing is left to choose, sharpens what is known until the steps that decide that sharpen no more.
@@ -189,7 +212,7 @@ impl<'a> Propagator<'a> {
             instance,
             goal,
             decisions: Vec::new(alloc),
-            earlier: Vec::new(alloc),
+            kept: Vec::new(alloc),
             current,
             spare: Vec::new(alloc),
             agenda,
@@ -213,27 +236,33 @@ impl<'a> Propagator<'a> {
         ensures err { OnErr result (self.new ≡ self.old) }
     {
         self.decisions.reserve(1)?;
-        self.earlier.reserve(1)?;
-        self.spare.reserve(self.earlier.len() + 1)?;
+        self.kept.reserve(1)?;
+        self.spare.reserve(self.kept.len() + 1)?;
+        let made = Vec::from_slice(alloc, self.decisions.as_slice())?;
         let room = room(alloc, &mut self.spare, &self.current)?;
         let next = next_level(alloc, &mut self.agenda, room, &self.current, decision)?;
+        thin(&mut self.kept, &mut self.spare);
         let before = mem::replace(&mut self.current, next);
-        self.earlier.push_reserved(before);
+        self.kept.push_reserved(Checkpoint::new(made, before));
         self.decisions.push_reserved(decision);
         Ok(())
     }
 
-    /// Takes the last decision back. Takes no memory.
-    pub fn undo(&mut self)
-        requires { 0 < length self.old.decisions }
-        ensures { Undoes self.old self.new }
+    /// Takes the last decision back, or, where what was known before it isn't kept, as many as lead back to what is. Whether anything
+    /// is kept. Takes no memory.
+    pub fn undo(&mut self) -> bool
+        ensures undone { IsTrue result → Undoes self.old self.new }
+        ensures same { IsFalse result → self.new ≡ self.old }
+        ensures none { IsFalse result → self.old.kept ≡ [] }
     {
-        let _last = self.decisions.pop();
-        let before = self.earlier.pop();
-        if let Some(before) = before {
-            let room = mem::replace(&mut self.current, before);
-            keep(&mut self.spare, room);
-        }
+        let Some(before) = self.kept.pop() else {
+            return false;
+        };
+        let (decisions, log) = before.into_parts();
+        self.decisions = decisions;
+        let room = mem::replace(&mut self.current, log);
+        keep(&mut self.spare, room);
+        true
     }
 
     /// What would be known, as far as that is found at once, if process `p` went before `q`: what is known is copied and that

@@ -1,6 +1,6 @@
 //! What is known once as many decisions are taken back as an instance can hardly have more of.
 
-use super::trail::{decide, expect_told, told, undo};
+use super::trail::{decide, expect_told, told};
 use path_bounds::Propagator;
 use std::alloc::{AllocError, Global};
 use std::process::Abort;
@@ -78,12 +78,15 @@ fn go_there(
     Ok(())
 }
 
-/// Takes all decisions back.
-fn go_back(propagator: &mut Propagator) {
-    let made = propagator.decisions().len();
-    for _decision in 0..made {
-        undo(propagator);
+/// What was known is kept of the last 64 decisions, and of every 64th of the others, from the first on.
+const KEPT: usize = 95;
+
+/// Takes all decisions back, in so many steps.
+fn go_back(rt: &impl Abort, propagator: &mut Propagator) {
+    for step in 0..KEPT {
+        assert!(rt; propagator.undo(), "{step}");
     }
+    assert!(rt; !propagator.undo());
 }
 
 /// Makes all decisions and takes them back: just what was known before them is known again.
@@ -94,7 +97,7 @@ fn expect_there_and_back(
 ) -> Result<(), MemoryFault> {
     let before = told(alloc, propagator)?;
     go_there(rt, alloc, propagator)?;
-    go_back(propagator);
+    go_back(rt, propagator);
     Ok(expect_told(rt, alloc, propagator, before.as_str())?)
 }
 

@@ -107,13 +107,6 @@ pub fn decide(
     Ok(true)
 }
 
-/// Takes the last decision back, where there is one.
-pub fn undo(propagator: &mut Propagator) {
-    if !propagator.decisions().is_empty() {
-        propagator.undo();
-    }
-}
-
 /// Makes a decision, where it is open and a plan may be left, and keeps what was come to before it.
 fn go_on(
     rt: &impl Abort,
@@ -157,7 +150,7 @@ fn go_back(
     before: &[String],
 ) -> Result<usize, Fail> {
     for earlier in before.iter().rev() {
-        undo(propagator);
+        assert!(rt; propagator.undo());
         expect_told(rt, alloc, propagator, earlier.as_str())?;
     }
     Ok(before.len())

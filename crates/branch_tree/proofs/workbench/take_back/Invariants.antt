@@ -1,12 +1,11 @@
-use Rattle.std.proofs.Common.{◌≡◌, length, take}
+use Rattle.std.proofs.Common.{◌≡◌, length}
 use Rattle.branch_tree.proofs.workbench.take_back.Given as goal
 
 abbrev pub invariant-loop-kept : goal.invariant-loop-kept
 invariant-loop-kept l = record {
   instance : l.kept.instance ≡ l.initial.kept.instance;
   goal : l.kept.goal ≡ l.initial.kept.goal;
-  first : take l.count l.kept.decisions ≡ take l.count l.initial.kept.decisions;
 }
 
 abbrev pub decreases-loop-kept : goal.decreases-loop-kept
-decreases-loop-kept l = length l.kept.decisions
+decreases-loop-kept l = length l.kept.kept

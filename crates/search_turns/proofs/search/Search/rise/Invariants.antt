@@ -1,0 +1,12 @@
+use Rattle.std.proofs.Common.{◌≡◌, ◌+◌, length}
+use Rattle.branch_tree.specs.Workbench.{IsWorkbenchOf}
+use Rattle.search_turns.specs.Searching.{IsSearching}
+use Rattle.search_turns.proofs.search.Search.rise.Given as goal
+
+abbrev pub invariant-loop-turn : goal.invariant-loop-turn
+invariant-loop-turn l = record {
+  searching : IsSearching l.instance l.self.pieces.items l.self.tasks.items l.self.best;
+  bench : IsWorkbenchOf l.instance l.bench;
+  rising : IsWorkbenchOf l.instance l.rising.bench;
+  count : length l.self.pieces.items ≡ length l.initial.self.pieces.items + l._turn;
+}
