@@ -12,7 +12,7 @@ use ttp_model::{Instance, MemoryFault};
 const STEPS: u32 = 32;
 
 /// So many tasks are tried at most for each that is worked.
-const TRIES: u64 = 8;
+const TRIES: u64 = 16;
 
 /// The goal to which the bound is to rise next, and of the tasks that are left which are closed there.
 #[derive(Drop)]
