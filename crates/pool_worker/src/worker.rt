@@ -6,7 +6,9 @@ ghost use Rattle.steal_pool.specs.Hand.{IsSameHand};
 ghost use Rattle.pool_worker.specs.declared.report.Ending.TheVariants as ending;
 ghost use Rattle.pool_worker.specs.Goals.{goals_of, AreGoals};
 ghost use Rattle.pool_worker.specs.Best.{OffersBest};
+ghost use Rattle.branch_tree.specs.Workbench.{IsWorkbenchOf};
 ghost use Rattle.pool_worker.specs.Report.{HasAccount};
+ghost use Rattle.pool_worker.specs.Run.{GoesOn};
 ghost use Rattle.used_decisions.specs.Manners.{usual_manner};
 ghost use Rattle.used_decisions.specs.declared.manner.Manner.TheVariants.{Plain};
 
@@ -63,6 +65,56 @@ impl<J: Searched> Run<J> {
             ending,
         }
     }
+
+    /// Takes turns until `budget` tasks are worked, memory is refused, none was found for long, or a million were left one after
+    /// another: what is in hand then, and why it ended.
+    fn turns<'a, G: Gate>(
+        &mut self,
+        alloc: Global,
+        instance: &'a Instance,
+        bench: &mut Workbench<'a>,
+        needs: &mut Needs<'a>,
+        word: &Incumbent,
+        budget: u64,
+        manner: Manner,
+        gate: &G,
+    ) -> (Rest, Ending)
+        requires of { instance.now ≡ J.instance }
+        requires watch { IsOther word.now self.old.watch }
+        requires bench { IsWorkbenchOf instance.now bench.old }
+        requires within { vec_len self.old.pieces ≤ budget }
+        ensures goes_on { GoesOn instance.now self.old self.new result.0 }
+        ensures plain { manner ≡ Plain → self.new.spared.items ≡ self.old.spared.items }
+        ensures within { vec_len self.new.pieces ≤ budget }
+        ensures ending { result.1 ≡ ending.Budget → vec_len self.new.pieces ≡ budget }
+    {
+        let (mut idle, mut spared) = (0, 0);
+        let backoff = Backoff::new();
+        while (self.pieces.len() as u64) < budget && idle < SWEEPS && spared < MOST_SPARED {
+            match self.turn(alloc, instance, bench, needs, word, manner, gate) {
+                Sweep::Idle => {
+                    idle += 1;
+                    wait(&backoff);
+                }
+                Sweep::Worked => {
+                    idle = 0;
+                    spared = 0;
+                    backoff.reset();
+                }
+                Sweep::Spared => {
+                    spared += 1;
+                    idle = 0;
+                }
+                Sweep::Ended(rest) => return (rest, Ending::Memory),
+            }
+        }
+        let ending = if (self.pieces.len() as u64) < budget {
+            Ending::Idle
+        } else {
+            Ending::Budget
+        };
+        (Rest::Nothing, ending)
+    }
 }
 
 /// Takes tasks of a pool and works them as `run_worker` does, in this manner.
@@ -101,36 +153,11 @@ pub fn run_worker_in<J: Searched, G: Gate>(
     };
     let mut bench = Workbench::new();
     let mut needs = Needs::new();
-    let (mut worked, mut idle, mut spared) = (0, 0, 0);
-    let backoff = Backoff::new();
-    while worked < budget && idle < SWEEPS && spared < MOST_SPARED {
-        match run.turn(alloc, instance, &mut bench, &mut needs, word, manner, gate) {
-            Sweep::Idle => {
-                idle += 1;
-                wait(&backoff);
-            }
-            Sweep::Worked => {
-                worked += 1;
-                idle = 0;
-                spared = 0;
-                backoff.reset();
-            }
-            Sweep::Spared => {
-                spared += 1;
-                idle = 0;
-            }
-            Sweep::Ended(rest) => {
-                let worked = run.pieces.len() as u64;
-                return run.report(rest, worked, Ending::Memory);
-            }
-        }
-    }
-    let ending = if worked < budget {
-        Ending::Idle
-    } else {
-        Ending::Budget
-    };
-    run.report(Rest::Nothing, worked, ending)
+    let (rest, ending) = run.turns(
+        alloc, instance, &mut bench, &mut needs, word, budget, manner, gate,
+    );
+    let worked = run.pieces.len() as u64;
+    run.report(rest, worked, ending)
 }
 
 /// Takes tasks of a pool and works them, each at the best delay that is known by then, until `budget` of them are worked,
