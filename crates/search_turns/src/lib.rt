@@ -8,4 +8,5 @@ mod search;
 
 pub use ends::answer;
 pub use outcome::{Options, Outcome, SolveFault, Why};
+pub use rising::Order;
 pub use search::{Search, limit};

@@ -14,6 +14,16 @@ const STEPS: u32 = 32;
 /// So many tasks are tried at most for each that is worked.
 const TRIES: u64 = 16;
 
+/// Which of the tasks that are left is worked next.
+#[derive(Clone, Copy, Debug, PartialEq, Eq)]
+pub enum Order {
+    /// The newest.
+    Newest,
+    /// The newest that propagation doesn't close at a goal above the bound of the whole tree; once it closes all there the goal rises,
+    /// and so does the bound.
+    Rising,
+}
+
 /// The goal to which the bound is to rise next, and of the tasks that are left which are closed there.
 #[derive(Drop)]
 pub struct Rising<'a> {
@@ -29,17 +39,25 @@ pub struct Rising<'a> {
 }
 
 impl<'a> Rising<'a> {
-    /// Begins at the bound of the whole tree, for so many turns. Where memory is refused for that bound, no task is tried.
-    pub fn new(alloc: Global, instance: &'a Instance, most: u32, turns: u64) -> Self
+    /// Begins at the bound of the whole tree, for so many turns. Where the newest is worked, and where memory is refused for that
+    /// bound, no task is tried.
+    pub fn new(alloc: Global, instance: &'a Instance, order: Order, most: u32, turns: u64) -> Self
         ensures { IsWorkbenchOf instance.now result.bench }
     {
+        let (least, tries) = match order {
+            Order::Newest => (most, 0),
+            Order::Rising => (
+                root_bound(alloc, instance, most).unwrap_or(most),
+                turns.saturating_mul(TRIES),
+            ),
+        };
         Rising {
             bench: Workbench::new(),
-            least: root_bound(alloc, instance, most).unwrap_or(most),
+            least,
             most,
             step: 1,
             closed: Vec::new(alloc),
-            tries: turns.saturating_mul(TRIES),
+            tries,
         }
     }
 

@@ -6,7 +6,7 @@ ghost use Rattle.branch_tree.specs.Workbench.{IsWorkbenchOf};
 ghost use Rattle.search_turns.specs.Searching.{limit_of, IsFound, IsWorkedOut, IsSearching};
 
 use crate::outcome::Why;
-use crate::rising::Rising;
+use crate::rising::{Order, Rising};
 use branch_tree::{Piece, Task, Workbench, Worked, work_on};
 use certificate::{Branch, Node};
 use std::alloc::Global;
@@ -111,23 +111,6 @@ impl Search {
         }
     }
 
-    /// Works tasks until `budget` pieces are made, or memory is refused. Why it ended, where tasks are left.
-    pub fn go(&mut self, alloc: Global, instance: &Instance, budget: u64) -> Why
-        requires searching { IsSearching instance.now self.old.pieces.items self.old.tasks.items self.old.best }
-        requires within { length self.old.pieces.items ≤ budget }
-        ensures searching { IsSearching instance.now self.new.pieces.items self.new.tasks.items self.new.best }
-        ensures within { length self.new.pieces.items ≤ budget }
-        ensures cause { IsWorkedOut budget self.new.pieces.items result }
-    {
-        let mut bench = Workbench::new();
-        for _turn in 0..budget - self.pieces.len() as u64 {
-            if !self.turn(alloc, instance, &mut bench) {
-                return Why::Memory;
-            }
-        }
-        Why::Budget
-    }
-
     /// Makes the task that is to be worked next the newest.
     fn bring<'a>(&mut self, alloc: Global, instance: &'a Instance, rising: &mut Rising<'a>)
         requires searching { IsSearching instance.now self.old.pieces.items self.old.tasks.items self.old.best }
@@ -143,9 +126,8 @@ impl Search {
         }
     }
 
-    /// The same as `go` in another order, by which the bound rises: a task is worked where propagation doesn't close it at a goal above the
-    /// bound of the whole tree, and once it closes all there the goal rises.
-    pub fn rise(&mut self, alloc: Global, instance: &Instance, budget: u64) -> Why
+    /// Works tasks in this order until `budget` pieces are made, or memory is refused. Why it ended, where tasks are left.
+    pub fn go(&mut self, alloc: Global, instance: &Instance, budget: u64, order: Order) -> Why
         requires searching { IsSearching instance.now self.old.pieces.items self.old.tasks.items self.old.best }
         requires within { length self.old.pieces.items ≤ budget }
         ensures searching { IsSearching instance.now self.new.pieces.items self.new.tasks.items self.new.best }
@@ -155,7 +137,7 @@ impl Search {
         let mut bench = Workbench::new();
         let turns = budget - self.pieces.len() as u64;
         let most = limit(instance, &self.best);
-        let mut rising = Rising::new(alloc, instance, most, turns);
+        let mut rising = Rising::new(alloc, instance, order, most, turns);
         for _turn in 0..turns {
             self.bring(alloc, instance, &mut rising);
             if !self.turn(alloc, instance, &mut bench) {

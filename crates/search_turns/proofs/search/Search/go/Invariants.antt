@@ -7,5 +7,6 @@ abbrev pub invariant-loop-turn : goal.invariant-loop-turn
 invariant-loop-turn l = record {
   searching : IsSearching l.instance l.self.pieces.items l.self.tasks.items l.self.best;
   bench : IsWorkbenchOf l.instance l.bench;
+  rising : IsWorkbenchOf l.instance l.rising.bench;
   count : length l.self.pieces.items ≡ length l.initial.self.pieces.items + l._turn;
 }
