@@ -5,3 +5,4 @@ pub mod Workbenches
 pub mod CompleteSteps
 pub mod ClosedClashes
 pub mod OneMessageChoices
+pub mod RootBounds

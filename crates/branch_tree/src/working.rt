@@ -4,6 +4,7 @@ ghost use Rattle.std.specs.Prelude.{◌≡◌, ℕ, ◌<◌, ◌≤◌, min, len
 ghost use Rattle.ttp_model.specs.declared.plan.Plan.{Plan};
 ghost use Rattle.ttp_model.specs.declared.step.Kind.TheVariants.{Place};
 ghost use Rattle.ttp_model.specs.Chains.{IsPathBound};
+ghost use Rattle.ttp_model.specs.Delays.{IsLowerBound};
 ghost use Rattle.tt_choice.specs.Choice.{IsChoice, IsComplete};
 ghost use Rattle.tt_infer.specs.Leaves.{ClosesLeaf};
 ghost use Rattle.path_bounds.specs.PlansBelow.{IsPlanBelow};
@@ -224,8 +225,10 @@ fn left_leaf(
 
 /// The greatest goal of at most `top` ticks at which propagation closes the whole tree: no plan has a delay below it.
 pub fn root_bound(alloc: Global, instance: &Instance, top: u32) -> Result<u32, MemoryFault>
-    ensures { IfOk result (λ goal. goal ≤ top) }
+    ensures bound { IfOk result (λ goal. IsLowerBound instance.now goal) }
+    ensures most { IfOk result (λ goal. goal ≤ top) }
 {
+    let _nodes = instance.nodes();
     let root = Task::root(alloc, instance)?;
     let leaf = left_leaf(alloc, instance, &root, top, &[])?;
     Ok(leaf.goal)
