@@ -24,7 +24,7 @@ ROOT = pathlib.Path(__file__).resolve().parent.parent
 sys.path.insert(0, str(ROOT / "tools"))
 import second_check  # noqa: E402
 
-NUMBERS = [0, 1, 2, 3, 5, 8, 9, 16, 17, 63, 64, 65, 99, 100, 101, 102, 1000, 1001, 10000, 10001, 1000000, 1000001,
+NUMBERS = [0, 1, 2, 3, 5, 8, 9, 32, 33, 255, 256, 257, 99, 100, 101, 102, 1000, 1001, 10000, 10001, 1000000, 1000001,
            4294967295, 4294967296, 2**63 - 1, 2**63, -1, -(2**63) - 1]
 SPELLINGS = ["00", "01", "+1", "-0", "0x10", "0o7", "0b11", "1_0", "1__0", "1e3", "1.5", "inf", "true", '"1"', "'q'", "[1]",
              "[]", "{}", "{a = 1}", "2024-01-01", "12:00:00", "", '"""x"""', "[[1]]", '["q", 1]', '[4294967296, "x"]']
@@ -192,7 +192,7 @@ def random_step(dice, instance, facts):
     else:
         numbers = [p]
     if dice.random() < 0.003:
-        numbers[dice.randrange(len(numbers))] = dice.choice([16, 64, 128, 256, 4294967295, 4294967296])
+        numbers[dice.randrange(len(numbers))] = dice.choice([32, 256, 512, 1024, 4294967295, 4294967296])
     return word, numbers
 
 

@@ -29,12 +29,12 @@ import sys
 import tomllib
 from dataclasses import dataclass, replace
 
-INSTANCE_BYTES, PLAN_BYTES, CERTIFICATE_BYTES = 1_048_576, 65_536, 268_435_456
+INSTANCE_BYTES, PLAN_BYTES, CERTIFICATE_BYTES = 8_388_608, 131_072, 268_435_456
 STOPPED_BYTES = len("stopped budget 4294967295 4294967295\n")
 NUMBER_MOST = 4_294_967_295
 TICKS_MOST = 1_000_000
 NESTING_MOST = 80  # of brackets in brackets, and of a key's parts
-BRANCHES_MOST = 4_736
+BRANCHES_MOST = 43_456
 CHANNELS_MOST = 2
 CHANNEL_WORDS = b"0", b"1", b"both"
 BOTH = CHANNEL_WORDS.index(b"both")
@@ -231,8 +231,8 @@ class Instance:
 
     def faults(self):
         """The codes M1 to M13 and M15 with their places, the one that is told first."""
-        lists = (("node", self.nodes, 1, 16), ("process", self.processes, 1, 64),
-                 ("link", self.links, 0, 256), ("message", self.messages, 0, 128))
+        lists = (("node", self.nodes, 1, 32), ("process", self.processes, 1, 256),
+                 ("link", self.links, 0, 1024), ("message", self.messages, 0, 512))
         for word, things, least, most in lists:
             if not least <= len(things) <= most:
                 yield "M1", (word,)
@@ -594,16 +594,20 @@ class Canvas:
         return f'<line{before} x1="{self.place(start)}" y1="{top}" x2="{self.place(end)}" y2="{bottom}"'
 
     def rectangle(self, row, n, start, length):
-        return f'<rect class="n{n}" x="{start}" y="{top_of(row)}" width="{length}" height="24"/>'
+        return f'<rect class="n{colour_of(n)}" x="{start}" y="{top_of(row)}" width="{length}" height="24"/>'
 
     def name(self, row, n, start, length, name, behind=""):
         return (f'<svg x="{start}" y="{top_of(row)}" width="{length}" height="24">'
                 f'<svg width="{self.cycle}" height="24" viewBox="0 0 {self.across} 24" preserveAspectRatio="none">'
-                f'<text class="t{n}" x="4" y="16">{name}</text>{behind}</svg></svg>')
+                f'<text class="t{colour_of(n)}" x="4" y="16">{name}</text>{behind}</svg></svg>')
 
 
 def top_of(row):
     return 57 + 34 * row
+
+
+def colour_of(n):
+    return n % len(COLOURS)
 
 
 def picture_rows(instance, canvas):
@@ -614,7 +618,7 @@ def picture_rows(instance, canvas):
             yield f'<svg y="{top}" width="116" height="24"><text x="8" y="16">channel {row}</text></svg>'
             continue
         name = instance.nodes[n].name
-        yield (f'<rect class="n{n}" x="8" y="{top}" width="8" height="24"/><svg y="{top}" width="116" height="24">'
+        yield (f'<rect class="n{colour_of(n)}" x="8" y="{top}" width="8" height="24"/><svg y="{top}" width="116" height="24">'
                f'<title>{name}</title><text x="22" y="16">{name}</text></svg>')
 
 

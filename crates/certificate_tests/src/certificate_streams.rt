@@ -76,10 +76,16 @@ fn said(alloc: Global, bytes: &[u8]) -> Result<String, SourceFault> {
     Ok(text)
 }
 
-/// Checks that a stream says what the whole text does.
-fn expect_same(rt: &impl Abort, alloc: Global, text: &[u8]) {
+/// How many bytes a reader gives a call.
+const SMALL: &[usize] = &[1, 2, 7, 100_000];
+
+/// The same of a large text, which takes long where they are few.
+const LARGE: &[usize] = &[511, 100_000];
+
+/// Checks that a stream says what the whole text does, where a reader gives so many bytes a call.
+fn expect_same(rt: &impl Abort, alloc: Global, text: &[u8], counts: &[usize]) {
     let whole = said(alloc, text);
-    for count in &[1, 2, 7, 100_000] {
+    for count in counts {
         let found = streamed(alloc, Slow::giving(*count, text));
         assert!(rt; found == whole, "{count} bytes a call");
     }
@@ -109,26 +115,26 @@ const TEXTS: &[&str] = &[
 #[test]
 fn a_stream_says_what_the_whole_text_does(rt: HostRuntime) {
     for text in TEXTS {
-        expect_same(&rt, rt.alloc(), text.as_bytes());
+        expect_same(&rt, rt.alloc(), text.as_bytes(), SMALL);
     }
     for len in 0..TWO_LEAVES.len() {
-        expect_same(&rt, rt.alloc(), &TWO_LEAVES.as_bytes()[..len]);
+        expect_same(&rt, rt.alloc(), &TWO_LEAVES.as_bytes()[..len], SMALL);
     }
 }
 
 /// And a line may be longer than a block.
 #[test]
 fn a_stream_goes_as_deep_as_a_text(rt: HostRuntime) -> Result<(), Fail> {
-    for (branches, leaves) in &[(4736, 4737), (4737, 1)] {
+    for (branches, leaves) in &[(43_456, 43_457), (43_457, 1)] {
         let text = deep(rt.alloc(), *branches, *leaves)?;
-        expect_same(&rt, rt.alloc(), text.as_slice());
+        expect_same(&rt, rt.alloc(), text.as_slice(), LARGE);
     }
     let mut text = Vec::from_slice(rt.alloc(), b"ttcert 1\nlow 0\nleaf 0 2\nx-cycle 1 2")?;
     for _ in 0..20_000 {
         text.extend_from_slice(b" 3")?;
     }
     text.extend_from_slice(b"\nx-round 0\n")?;
-    expect_same(&rt, rt.alloc(), text.as_slice());
+    expect_same(&rt, rt.alloc(), text.as_slice(), SMALL);
     Ok(())
 }
 

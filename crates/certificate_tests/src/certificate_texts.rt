@@ -137,22 +137,10 @@ fn deep_nodes(rt: &impl Abort, alloc: Global, branches: u32, leaves: u32) -> Res
     written_again(rt, alloc, text.as_slice())
 }
 
-/// The first fault of such a text.
-fn deep_fault(
-    alloc: Global,
-    branches: u32,
-    leaves: u32,
-) -> Result<Option<CertTextError>, AllocError> {
-    let text = deep(alloc, branches, leaves)?;
-    Ok(read(alloc, text.as_slice()).err())
-}
-
+/// And below no more: `limits` in `verdicts.rt`.
 #[test]
-fn a_node_stands_below_4736_branches_at_most(rt: HostRuntime) -> Result<(), Fail> {
-    assert!(rt; deep_nodes(&rt, rt.alloc(), 4736, 4737)? == 9473);
-    let fault = LineFault::Depth;
-    let wanted = CertTextError::At { line: 4740, fault };
-    assert!(rt; deep_fault(rt.alloc(), 4737, 1)? == Some(wanted));
+fn a_node_may_stand_below_43456_branches(rt: HostRuntime) -> Result<(), Fail> {
+    assert!(rt; deep_nodes(&rt, rt.alloc(), 43_456, 43_457)? == 86_913);
     Ok(())
 }
 

@@ -35,7 +35,7 @@ pub const BY_CHANNELS: &str =
     "ttcert 2\nlow 6\nchan 0 3\nchan 1 3\nleaf 6 5\nle-own 1\nle-own 2\nhi-arrive 0 1\nhi-arrive 1 2\nx-channel 0 0 0 1\nleaf 6 5\nes-message 0 1\nes-message 1 2\nle-own 1\nle-own 2\nx-load 1 4 5\nleaf 6 5\nle-own 1\nle-own 2\nhi-arrive 0 1\nhi-arrive 1 2\nx-channel 0 0 0 1\nleaf 6 5\nes-message 0 1\nes-message 1 2\nle-own 1\nle-own 2\nx-load 1 4 5\nleaf 6 5\nle-own 1\nle-own 2\nhi-arrive 0 1\nhi-arrive 1 2\nx-frames 0 0 1\n";
 
 /// What the check says of a text that is read as a whole.
-fn whole_answer(alloc: Global, i: &Instance, text: &[u8]) -> Result<u32, StreamFault> {
+pub fn whole_answer(alloc: Global, i: &Instance, text: &[u8]) -> Result<u32, StreamFault> {
     let cert = match read(alloc, text) {
         Ok(cert) => cert,
         Err(error) => return Err(StreamFault::Text(error)),
@@ -47,7 +47,7 @@ fn whole_answer(alloc: Global, i: &Instance, text: &[u8]) -> Result<u32, StreamF
 }
 
 /// What it says of the same text as it is read.
-fn streamed_answer(
+pub fn streamed_answer(
     rt: &(impl Threads + Sync),
     alloc: Global,
     i: &Instance,

@@ -1,13 +1,18 @@
 //! Certificates of small instances: what is said of one in memory, and of its text as it is read.
 
+use crate::certificate_texts::deep;
 use crate::instances::Small;
-use crate::streamed_checks::{BROKEN_OFF, BY_CHANNELS, TWO_FAULTS, answer, expect_same_prefixes};
+use crate::streamed_checks::{
+    BROKEN_OFF, BY_CHANNELS, TWO_FAULTS, answer, expect_same_prefixes, streamed_answer,
+    whole_answer,
+};
 use cert_check::{CertFault, NodeFault, StreamFault};
 use certificate::{CertTextError, LineFault};
-use std::alloc::Global;
+use std::alloc::{AllocError, Global};
 use std::process::Abort;
 use std::test::Fail;
 use std::thread::Threads;
+use ttp_model::Instance;
 use worked_instances::PLAIN;
 
 /// A small instance, a certificate's text, and what the check says of it.
@@ -224,6 +229,44 @@ fn a_certificate_in_memory_is_judged_as_its_text_is(rt: HostRuntime) -> Result<(
     }
     for row in BROKEN_OFF {
         expect_same_prefixes(&rt, rt.alloc(), row)?;
+    }
+    Ok(())
+}
+
+/// How many branches stand one below another, how many leaves behind them, and what the check says of it.
+type Deep = (u32, u32, Result<u32, StreamFault>);
+
+/// No more than 43,456 branches stand above a node. At that depth the first fault is that of the second branch, which is on the same
+/// round as the first; a node that is deeper is a fault of the text, which goes before it.
+#[rattlefmt::skip]
+const DEEP: &[Deep] = &[
+    (43_456, 43_457, refused!(4, NotOpen)),
+    (43_457, 1, misread!(43_460, Depth)),
+];
+
+/// Checks what the check says of a row's text, as a whole and as it is read.
+fn expect_deep(
+    rt: &(impl Abort + Threads + Sync),
+    alloc: Global,
+    i: &Instance,
+    (branches, leaves, wanted): &Deep,
+) -> Result<(), AllocError> {
+    let text = deep(alloc, *branches, *leaves)?;
+    let whole = whole_answer(alloc, i, text.as_slice());
+    let streamed = streamed_answer(rt, alloc, i, text.as_slice(), (512, 4_096));
+    assert!(rt;
+        whole == *wanted && streamed == *wanted,
+        "{branches} branches"
+    );
+    Ok(())
+}
+
+/// A certificate of the greatest depth is judged to its first fault, whole and as it is read.
+#[test]
+fn limits(rt: HostRuntime) -> Result<(), Fail> {
+    let i = ONE_MESSAGE.build(rt.alloc())?;
+    for row in DEEP {
+        expect_deep(&rt, rt.alloc(), &i, row)?;
     }
     Ok(())
 }

@@ -14,8 +14,8 @@ pub record IsSplitAtLine (bundle : List ℕ) : Type 0 where
   pub line : BeginsLine bundle at
   pub text : take 3 (drop at bundle) ≡ codes "%%\n"
 
--- of a reader nothing was taken that has such a line behind at most 1,048,576 bytes
+-- of a reader nothing was taken that has such a line behind at most 8,388,608 bytes
 pub record LacksLine (old new : Option (List ℕ)) : Type 0 where
   pub bytes : List ℕ
   pub taken : Consumes old new bytes
-  pub lacks : (at : ℕ) → at ≤ 1048576 → BeginsLine bytes at → take 3 (drop at bytes) ≢ codes "%%\n"
+  pub lacks : (at : ℕ) → at ≤ 8388608 → BeginsLine bytes at → take 3 (drop at bytes) ≢ codes "%%\n"

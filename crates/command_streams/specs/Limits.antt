@@ -3,11 +3,11 @@ use Rattle.std.specs.Prelude.{ℕ}
 
 -- an instance's text
 abbrev pub instance_limit : ℕ
-instance_limit = 1048576
+instance_limit = 8388608
 
 -- a plan's
 abbrev pub plan_limit : ℕ
-plan_limit = 65536
+plan_limit = 131072
 
 -- a certificate's
 abbrev pub certificate_limit : ℕ

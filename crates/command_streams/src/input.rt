@@ -14,7 +14,7 @@ use std::io::Read;
 use ttp_model::Instance;
 
 /// The bytes of an instance's text, at most.
-pub const INSTANCE_LIMIT: usize = 1_048_576;
+pub const INSTANCE_LIMIT: usize = 8_388_608;
 
 /// Why the taking ended.
 #[derive(Clone, Copy, Debug, PartialEq, Eq)]

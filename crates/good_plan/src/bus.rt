@@ -3,6 +3,7 @@
 use crate::draft::Draft;
 use crate::network::Network;
 use crate::table::Table;
+use std::ops::Range;
 use ttp_model::BOTH_CHANNELS;
 
 /// The round of a frame that carries nothing yet.
@@ -36,6 +37,8 @@ pub struct Bus {
     /// The frames that carry something, node after node: which round, and how many bytes so far on the first channel.
     rounds: Table,
     loads: Table,
+    /// By node, the first of its frames that isn't too early for what it sends next.
+    passed: Table,
     /// Whether there is a second channel, and how many bytes they carry there.
     has_second: bool,
     second_loads: Table,
@@ -54,6 +57,7 @@ impl Bus {
             round_length: 1,
             rounds: frames,
             loads: frames,
+            passed: slots,
             has_second,
             second_loads,
         }
@@ -69,6 +73,7 @@ impl Bus {
             self.capacities.set(node, capacity);
             time = time.saturating_add(network.slot_length(capacity));
             self.ends.set(node, time);
+            self.passed.set(node, network.frames_of(node).start as u64);
         }
         self.round_length = time.max(1);
         self.rounds.fill(UNUSED);
@@ -104,7 +109,7 @@ impl Bus {
         };
         let mut passes = draft.holds.at(m);
         let mut next = first;
-        for frame in network.frames_of(node) {
+        for frame in self.frames_from(network, node, first) {
             if self.rounds.at(frame) == UNUSED {
                 self.rounds.set(frame, next);
             }
@@ -121,6 +126,21 @@ impl Bus {
             next = round.saturating_add(1).max(first);
         }
         (first, if parcel.both { BOTH } else { FIRST })
+    }
+
+    /// The frames of a node that are of this round or later, or carry nothing yet. A node never asks for an earlier round than before, as its
+    /// processes run one after another.
+    fn frames_from(&mut self, network: &Network, node: usize, first: u64) -> Range<usize> {
+        let end = network.frames_of(node).end;
+        let mut begin = end;
+        for frame in self.passed.place_at(node)..end {
+            if self.rounds.at(frame) >= first {
+                begin = frame;
+                break;
+            }
+        }
+        self.passed.set(node, begin as u64);
+        begin..end
     }
 
     /// The channel on which a frame has room for a message, as a plan tells it: the first that has. A message that is to be on

@@ -106,11 +106,9 @@ impl Climb {
         let lateness = self.timetable.lateness;
         let delay = self.timetable.delay;
         if (lateness, delay) < self.best.rank() {
-            self.best = Summit {
-                draft: self.draft,
-                lateness,
-                delay,
-            };
+            self.best.draft.take_over(&self.draft);
+            self.best.lateness = lateness;
+            self.best.delay = delay;
         }
         true
     }
@@ -118,6 +116,6 @@ impl Climb {
     /// Goes on from the schedule that was made.
     fn stay(&mut self) {
         self.cost = self.timetable.cost();
-        self.path = self.timetable.path;
+        self.path.take_over(&self.timetable.path);
     }
 }

@@ -20,6 +20,20 @@ const PARTIES: u64 = 3;
 /// How many climbs such a party has.
 const PARTY: u64 = 4;
 
+/// An instance is small up to so many nodes, processes, links and messages.
+const SMALL_NODES: usize = 16;
+
+const SMALL_PROCESSES: usize = 64;
+
+const SMALL_LINKS: usize = 256;
+
+const SMALL_MESSAGES: usize = 128;
+
+/// So many parts are looked at in the schedules of a climb at most, for a small instance and for a larger one.
+const PARTS_OF_SMALL: u64 = 1_000_000;
+
+const PARTS_OF_LARGE: u64 = 10_000_000;
+
 /// Where the sequences of numbers begin.
 const SEED: u64 = 11_000;
 
@@ -115,12 +129,26 @@ fn pace(instance: &Instance, number: u64) -> Pace {
     }
 }
 
-/// How many schedules a climb tries: more where more can be changed, but fewer where each takes long.
+/// Whether an instance is small.
+fn is_small(instance: &Instance) -> bool {
+    instance.nodes().len() <= SMALL_NODES
+        && instance.processes().len() <= SMALL_PROCESSES
+        && instance.links().len() <= SMALL_LINKS
+        && instance.messages().len() <= SMALL_MESSAGES
+}
+
+/// How many schedules a climb tries: more where more can be changed, but fewer where each takes long. Of a larger instance each
+/// takes long, and these would be too few.
 fn turns(instance: &Instance) -> u64 {
     let parts = (instance.processes().len() as u64)
         .saturating_add(instance.links().len() as u64)
         .saturating_add(instance.messages().len() as u64);
-    let most = 1_000_000 / parts.saturating_add(10).max(1);
+    let all = if is_small(instance) {
+        PARTS_OF_SMALL
+    } else {
+        PARTS_OF_LARGE
+    };
+    let most = all / parts.saturating_add(10).max(1);
     parts.saturating_mul(500).min(most)
 }
 

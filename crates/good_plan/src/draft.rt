@@ -50,6 +50,15 @@ impl Draft {
         draft
     }
 
+    /// Becomes the same as another one of the same instance.
+    pub fn take_over(&mut self, other: &Draft) {
+        self.order.take_over(&other.order);
+        self.options.take_over(&other.options);
+        self.line.take_over(&other.line);
+        self.places.take_over(&other.places);
+        self.holds.take_over(&other.holds);
+    }
+
     /// The capacity of a node in bytes.
     pub fn capacity(&self, network: &Network, node: usize) -> u64 {
         network.capacity_at(node, self.options.place_at(node))

@@ -11,8 +11,8 @@ use tt_settle::settle;
 use ttp_model::{Instance, MemoryFault, Plan, delay};
 
 /// A settled plan with its delay in ticks, if a climb leads to one: often a good one, at times
-/// one of the shortest. Takes some tenths of a second at most. That none is found says nothing. Climbs go side by side where
-/// there are several workers, which changes nothing of what is found.
+/// one of the shortest. Takes some tenths of a second, of a large instance some three. That none is found says nothing. Climbs go side
+/// by side where there are several workers, which changes nothing of what is found.
 pub fn good_plan<R: Threads + Sync>(
     rt: &R,
     alloc: Global,

@@ -42,6 +42,16 @@ impl Path {
         self.most = 0;
     }
 
+    /// Takes what another one has noted of the same processes and messages.
+    pub fn take_over(&mut self, other: &Path) {
+        self.blockers.take_over(&other.blockers);
+        self.firsts.take_over(&other.firsts);
+        self.rounds.take_over(&other.rounds);
+        self.last = other.last;
+        self.latest = other.latest;
+        self.most = other.most;
+    }
+
     pub fn block(&mut self, process: usize, by: usize) {
         self.blockers.set(process, by as u64);
     }

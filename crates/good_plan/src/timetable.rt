@@ -72,8 +72,8 @@ impl Timetable {
         self.least = 0;
         self.lateness = 0;
         self.path.begin();
-        self.starts = network.releases;
-        self.waiting = network.waits;
+        self.starts.take_over(&network.releases);
+        self.waiting.take_over(&network.waits);
         self.queue.clear();
         for p in 0..network.homes.len() {
             if draft.has_neighbour_before(network, p) {
@@ -133,11 +133,15 @@ impl Timetable {
 
     /// Sends the messages of a process that ends at this time.
     fn send(&mut self, network: &Network, draft: &Draft, p: usize, end: u64) {
+        let messages = network.outgoing.row(p);
+        if messages.is_empty() {
+            return;
+        }
         let cluster = network.instance.cluster();
         let node = network.homes.place_at(p);
         let ready = end.saturating_add(u64::from(cluster.copy_out));
         let first = self.bus.first_round(node, ready);
-        for m in network.outgoing.row(p) {
+        for m in messages {
             let m = *m as usize;
             let (round, channel) = self.bus.load(network, draft, node, m, first);
             self.rounds.set(m, round);

@@ -28,12 +28,12 @@ fn excess_from(demands: &[Demand], rate: u32, from: u32) -> Option<u32>
     None
 }
 
-/// An interval with more demand than `rate` for each tick or round of it. For each demand a pass over
-/// them.
-pub fn excess(mut demands: Demands, rate: u32) -> Option<(u32, u32)>
+/// An interval with more demand than `rate` for each tick or round of it. Sorts the demands; for each of
+/// them a pass over all.
+pub fn excess(demands: &mut Demands, rate: u32) -> Option<(u32, u32)>
     ensures { MatchOption result
-        ((a b : ℕ) → ¬ IsExcess rate demands a b)
-        (λ ends. IsExcess rate demands ends.0 ends.1) }
+        ((a b : ℕ) → ¬ IsExcess rate demands.old a b)
+        (λ ends. IsExcess rate demands.old ends.0 ends.1) }
 {
     demands.sort();
     let sorted = demands.as_slice();

@@ -95,7 +95,8 @@ pub fn node_load(facts: &Facts, node: u32) -> Option<Step>
     if node as usize >= facts.instance().nodes().len() {
         return None;
     }
-    match excess(runs_of(facts, node), 1) {
+    let mut runs = runs_of(facts, node);
+    match excess(&mut runs, 1) {
         Some((a, b)) => Some(Step::XLoad(node, a, b)),
         None => None,
     }
@@ -111,7 +112,8 @@ fn whole_load(facts: &Facts, node: u32) -> Option<Step>
     let instance = facts.instance();
     let channels = instance.cluster().channels;
     let capacity = facts.choice().cap_most(instance, node);
-    match excess(sendings_of(facts, node), channels * capacity) {
+    let mut sendings = sendings_of(facts, node);
+    match excess(&mut sendings, channels * capacity) {
         Some((a, b)) => Some(Step::XFrames(node, a, b)),
         None => None,
     }
@@ -127,7 +129,8 @@ fn load_on(facts: &Facts, channel: u32, node: u32) -> Option<Step>
 {
     let instance = facts.instance();
     let capacity = facts.choice().cap_most(instance, node);
-    match excess(sendings_on(facts, channel, node), capacity) {
+    let mut sendings = sendings_on(facts, channel, node);
+    match excess(&mut sendings, capacity) {
         Some((a, b)) => Some(Step::XChannel(channel, node, a, b)),
         None => None,
     }

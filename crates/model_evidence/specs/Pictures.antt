@@ -10,10 +10,10 @@ use Rattle.tt_layout.specs.Cycle.{cycle_rounds}
 abbrev pub row_top : ℕ → ℕ
 row_top row = 52 + 34 * row + 5
 
--- a rectangle in a row, in the colour of a node, from a tick on and so many ticks long
+-- a rectangle in a row, in the colour of a node, of which there are sixteen, from a tick on and so many ticks long
 abbrev pub rectangle_at : ℕ → ℕ → ℕ → ℕ → List ℕ
 rectangle_at row node start ticks =
-    codes "<rect class=\"n" ++ decimal node ++ codes "\" x=\"" ++ decimal start ++ codes "\" y=\"" ++ decimal (row_top row)
+    codes "<rect class=\"n" ++ decimal (node % 16) ++ codes "\" x=\"" ++ decimal start ++ codes "\" y=\"" ++ decimal (row_top row)
     ++ codes "\" width=\"" ++ decimal ticks ++ codes "\" height=\"24\"/>"
 
 -- that of a process: the rows of the channels come first, and those of the nodes follow

@@ -44,7 +44,7 @@ pub use plans::{
     processes_that_touch, start_before_the_message, start_past_its_release,
 };
 pub use rules::{
-    Tables, linked_both_ways, received_at_home, received_by_nobody, sixty_five_processes,
+    Tables, linked_both_ways, one_process_too_many, received_at_home, received_by_nobody,
     with_short_lead,
 };
 pub use schedules::{

@@ -27,8 +27,8 @@ impl Model for Tables {
 }
 
 /// One process more than there may be.
-pub fn sixty_five_processes(alloc: Global, tables: Tables) -> Result<Instance, ModelError>
-    ensures { length tables.processes ≡ 65 → IsErr result }
+pub fn one_process_too_many(alloc: Global, tables: Tables) -> Result<Instance, ModelError>
+    ensures { length tables.processes ≡ 257 → IsErr result }
 {
     Instance::build(
         alloc,

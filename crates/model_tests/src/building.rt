@@ -111,8 +111,8 @@ const BROKEN: &[(&str, Tables, &str)] = &[
         "Length(Processes)",
     ),
     (
-        "17 nodes of one name",
-        with!(nodes: &[("A", NO_BYTES); 17]),
+        "33 nodes of one name",
+        with!(nodes: &[("A", NO_BYTES); 33]),
         "Length(Nodes)",
     ),
     (

@@ -49,24 +49,31 @@ fn add_rounds(facts: &Facts, found: &mut Vec<Step>) -> Result<(), MemoryFault> {
 }
 
 /// The processes of node `n`, each from its earliest start until its latest end.
-fn set_to_processes(spans: &mut Spans, facts: &Facts, n: u32) {
+fn set_to_processes(spans: &mut Spans, facts: &Facts, n: u32) -> Result<(), MemoryFault> {
     let instance = facts.instance();
     spans.clear();
     for p in instance.processes_on(n) {
         let wcet = instance.process_at(*p as usize).wcet;
-        spans.add(facts.es(*p), facts.le(*p), u64::from(wcet));
+        spans.add(facts.es(*p), facts.le(*p), u64::from(wcet))?;
     }
+    Ok(())
 }
 
 /// The messages of node `n` that count on a channel, or on all together, each from its least round until the first that is too late.
-fn set_to_messages(spans: &mut Spans, facts: &Facts, channel: Option<u32>, n: u32) {
+fn set_to_messages(
+    spans: &mut Spans,
+    facts: &Facts,
+    channel: Option<u32>,
+    n: u32,
+) -> Result<(), MemoryFault> {
     spans.clear();
     for m in facts.instance().messages_of(n) {
         let bytes = bytes_counted(facts, channel, *m);
         if bytes > 0 {
-            spans.add(facts.lo(*m), facts.top(*m), bytes);
+            spans.add(facts.lo(*m), facts.top(*m), bytes)?;
         }
     }
+    Ok(())
 }
 
 /// Adds the closers of node `n` whose processes don't fit into an interval of ticks.
@@ -76,8 +83,9 @@ fn add_loads(
     n: u32,
     found: &mut Vec<Step>,
 ) -> Result<(), MemoryFault> {
-    set_to_processes(spans, facts, n);
-    for interval in spans.overfull(1)? {
+    set_to_processes(spans, facts, n)?;
+    spans.find_overfull(1)?;
+    for interval in spans.overfull() {
         add(found, Step::XLoad(n, interval.from, interval.until))?;
     }
     Ok(())
@@ -90,8 +98,9 @@ fn add_frames(
     n: u32,
     found: &mut Vec<Step>,
 ) -> Result<(), MemoryFault> {
-    set_to_messages(spans, facts, None, n);
-    for interval in spans.overfull(most_carried(facts, None, n, 1))? {
+    set_to_messages(spans, facts, None, n)?;
+    spans.find_overfull(most_carried(facts, None, n, 1))?;
+    for interval in spans.overfull() {
         add(found, Step::XFrames(n, interval.from, interval.until))?;
     }
     Ok(())
@@ -122,8 +131,9 @@ fn add_channel(
     n: u32,
     found: &mut Vec<Step>,
 ) -> Result<(), MemoryFault> {
-    set_to_messages(spans, facts, Some(k), n);
-    for interval in spans.overfull(most_carried(facts, Some(k), n, 1))? {
+    set_to_messages(spans, facts, Some(k), n)?;
+    spans.find_overfull(most_carried(facts, Some(k), n, 1))?;
+    for interval in spans.overfull() {
         add(found, Step::XChannel(k, n, interval.from, interval.until))?;
     }
     Ok(())

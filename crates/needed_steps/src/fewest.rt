@@ -38,6 +38,9 @@ pub struct Fewest {
     targets: Vec<Fact>,
     marked: Vec<bool>,
     needs: Needs,
+    /// What is known before the step that is looked at, and what at first.
+    before_step: Values,
+    at_first: Values,
     closings: Closings,
     /// The weights of closers with their places, those that are looked at first; of a given one none.
     light: Vec<(u32, Option<usize>)>,
@@ -67,6 +70,8 @@ impl Fewest {
             targets: Vec::new(alloc),
             marked: Vec::new(alloc),
             needs: Needs::none(alloc, instance)?,
+            before_step: Values::none(alloc, instance)?,
+            at_first: Values::none(alloc, instance)?,
             closings: Closings::none(alloc),
             light: Vec::new(alloc),
             weights: Weights::none(alloc, instance)?,
@@ -90,11 +95,11 @@ impl Fewest {
         self.closings.find(log.facts)?;
         self.weigh(log, given, most)?;
         self.set_targets(log)?;
-        let last = self.last_moment(log);
-        let Some(place) = self.place_of_fewest(log, last, given) else {
+        self.set_first(log);
+        let Some(place) = self.place_of_fewest(log, given) else {
             return Ok(None);
         };
-        let count = self.mark_at(log, last, place, given, usize::MAX);
+        let count = self.mark_at(log, place, given, usize::MAX);
         let closer = self.closings.take(place);
         Ok(Some(Found { count, closer }))
     }
@@ -134,27 +139,14 @@ impl Fewest {
         Ok(())
     }
 
-    /// What is known after the last step of a log.
-    fn last_moment<'b, 'a>(&self, log: Log<'b, 'a>) -> Moment<'b, 'a> {
-        let now = Values::of(log.facts);
-        let mut first = now;
-        for k in (0..self.targets.len()).rev() {
-            first.put(self.targets[k], log.before(k));
-        }
-        Moment {
-            facts: log.facts,
-            now,
-            first,
-        }
+    /// Takes note of what is known at first, before the steps of a log.
+    fn set_first(&mut self, log: Log) {
+        self.at_first.set_to_known(log.facts);
+        go_back(&mut self.at_first, log, self.targets.as_slice());
     }
 
     /// The place of the closer that needs the fewest steps, if there is one: none of the given one.
-    fn place_of_fewest(
-        &mut self,
-        log: Log,
-        last: Moment,
-        given: Option<&Step>,
-    ) -> Option<Option<usize>> {
+    fn place_of_fewest(&mut self, log: Log, given: Option<&Step>) -> Option<Option<usize>> {
         if let [only] = self.light.as_slice() {
             return Some(only.1);
         }
@@ -165,7 +157,7 @@ impl Fewest {
                 Some(entry) => entry.1,
                 None => return found,
             };
-            let count = self.mark_at(log, last, place, given, fewest);
+            let count = self.mark_at(log, place, given, fewest);
             if count < fewest {
                 fewest = count;
                 found = Some(place);
@@ -179,37 +171,58 @@ impl Fewest {
     fn mark_at(
         &mut self,
         log: Log,
-        last: Moment,
         place: Option<usize>,
         given: Option<&Step>,
         most: usize,
     ) -> usize {
         self.marked.as_mut_slice().fill(false);
         self.needs.clear();
-        match closer_at(&self.closings, place, given) {
-            Some(closer) => ask(&mut self.needs, &last, closer, 0),
-            None => return most,
-        }
-        self.mark_needed(log, last, most)
+        self.before_step.set_to_known(log.facts);
+        let Some(closer) = closer_at(&self.closings, place, given) else {
+            return most;
+        };
+        let last = Moment {
+            facts: log.facts,
+            now: &self.before_step,
+            first: &self.at_first,
+        };
+        ask(&mut self.needs, &last, closer, 0);
+        self.mark_needed(log, most)
     }
 
     /// Marks the steps that are needed, the last first, until so many are. How many are marked.
-    fn mark_needed(&mut self, log: Log, last: Moment, most: usize) -> usize {
-        let mut moment = last;
+    fn mark_needed(&mut self, log: Log, most: usize) -> usize {
         let mut count = 0usize;
         for k in (0..log.steps.len()).rev() {
             if count >= most || k >= self.targets.len() || k >= self.marked.len() {
                 return count;
             }
             let known = log.before(k);
-            moment.go_back(self.targets[k], known);
+            self.before_step.put(self.targets[k], known);
             if let Some(need) = self.needs.take(self.targets[k], known) {
                 self.marked[k] = true;
                 count += 1;
-                ask(&mut self.needs, &moment, &log.steps[k], need);
+                self.ask_before(log.facts, &log.steps[k], need);
             }
         }
         count
+    }
+
+    /// Asks for what a step reads, so that it says of its fact what is needed.
+    fn ask_before(&mut self, facts: &Facts, step: &Step, need: u32) {
+        let moment = Moment {
+            facts,
+            now: &self.before_step,
+            first: &self.at_first,
+        };
+        ask(&mut self.needs, &moment, step, need);
+    }
+}
+
+/// Goes back before the steps of a log, whose facts these are.
+fn go_back(values: &mut Values, log: Log, targets: &[Fact]) {
+    for k in (0..targets.len()).rev() {
+        values.put(targets[k], log.before(k));
     }
 }
 

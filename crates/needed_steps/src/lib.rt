@@ -10,6 +10,7 @@ mod fewest;
 mod marks;
 mod moment;
 mod needs;
+mod order_set;
 mod slots;
 mod spans;
 mod starts;

@@ -17,6 +17,8 @@ pub trait Marked {
 pub struct Marks {
     marked: Vec<bool>,
     wanted: FactSet,
+    /// Whether something was wanted before.
+    is_used: bool,
     /// What one step rests on, in room that is used again.
     counted: Vec<Fact>,
 }
@@ -27,6 +29,7 @@ impl Marks {
         Ok(Marks {
             marked: Vec::new(alloc),
             wanted: FactSet::none(alloc, instance)?,
+            is_used: false,
             counted: Vec::new(alloc),
         })
     }
@@ -43,7 +46,10 @@ impl Marks {
     fn begin(&mut self, steps: usize) -> Result<(), MemoryFault> {
         self.marked.clear();
         self.marked.resize(steps, false)?;
-        self.wanted.clear();
+        if self.is_used {
+            self.wanted.clear();
+        }
+        self.is_used = true;
         Ok(())
     }
 

@@ -1,7 +1,6 @@
 //! What is known before a step of a log?
 
 use crate::values::Values;
-use step_reads::Fact;
 use tt_infer::Facts;
 use ttp_model::Instance;
 
@@ -10,8 +9,8 @@ use ttp_model::Instance;
 pub struct Moment<'b, 'a> {
     /// What is known after the last step.
     pub facts: &'b Facts<'a>,
-    pub now: Values,
-    pub first: Values,
+    pub now: &'b Values,
+    pub first: &'b Values,
 }
 
 impl<'b, 'a> Moment<'b, 'a> {
@@ -27,10 +26,5 @@ impl<'b, 'a> Moment<'b, 'a> {
         } else {
             0
         }
-    }
-
-    /// Goes back before a step that sharpened a fact from this value.
-    pub fn go_back(&mut self, fact: Fact, value: u32) {
-        self.now.put(fact, value);
     }
 }

@@ -1,8 +1,9 @@
 //! How sharp has each fact to be?
 
+use crate::order_set::OrderSet;
 use crate::values::Values;
 use std::alloc::Global;
-use step_reads::{Fact, FactSet};
+use step_reads::Fact;
 use ttp_model::{Instance, MemoryFault};
 
 /// How sharp facts have to be, so that steps say enough which were looked at.
@@ -10,7 +11,7 @@ use ttp_model::{Instance, MemoryFault};
 pub struct Needs {
     /// Starts and first rounds have to be known at least so late, ends and late rounds so early.
     values: Values,
-    orders: FactSet,
+    orders: OrderSet,
 }
 
 /// A time or a round in 32 bits: the greatest number where it is past them.
@@ -33,15 +34,17 @@ fn loosest(fact: Fact) -> u32 {
 impl Needs {
     /// Nothing is needed.
     pub fn none(alloc: Global, instance: &Instance) -> Result<Self, MemoryFault> {
+        let mut values = Values::none(alloc, instance)?;
+        values.widen();
         Ok(Needs {
-            values: Values::widest(),
-            orders: FactSet::none(alloc, instance)?,
+            values,
+            orders: OrderSet::none(alloc, instance)?,
         })
     }
 
     /// Needs nothing any more.
     pub fn clear(&mut self) {
-        self.values = Values::widest();
+        self.values.widen();
         self.orders.clear();
     }
 
@@ -71,7 +74,7 @@ impl Needs {
 
     /// Process `p` has to end before `q` starts.
     pub fn go_first(&mut self, p: u32, q: u32) {
-        let _known = self.orders.insert(Fact::Order(p, q));
+        self.orders.insert(p, q);
     }
 
     /// How sharp a fact has to be that is known so far without a step, if that isn't enough: the step is needed, and then no
@@ -81,7 +84,7 @@ impl Needs {
         let lacks = match fact {
             Fact::Start(_) | Fact::FirstRound(_) => known < need,
             Fact::End(_) | Fact::LateRound(_) => need < known,
-            Fact::Order(_, _) => self.orders.remove(fact),
+            Fact::Order(p, q) => self.orders.has(p, q),
             Fact::Closed => true,
         };
         if !lacks {

@@ -1,23 +1,29 @@
 //! How far is what known of each process and message?
 
+use std::alloc::Global;
 use step_reads::Fact;
 use tt_infer::Facts;
-use ttp_model::{MOST_MESSAGES, MOST_PROCESSES};
+use ttp_model::{Instance, MemoryFault};
+
+/// No list has this place.
+const NOWHERE: usize = usize::MAX;
 
 /// A time in ticks for the start and the end of each process, and a round for the first one of each message and for the first one
-/// that is too late. Of what no instance can have it is 0.
-#[derive(Clone, Copy)]
+/// that is too late, in memory that is used again. Of what isn't there it is 0.
+#[derive(Drop)]
 pub struct Values {
-    starts: [u32; MOST_PROCESSES],
-    ends: [u32; MOST_PROCESSES],
-    first_rounds: [u32; MOST_MESSAGES],
-    late_rounds: [u32; MOST_MESSAGES],
+    /// How many processes there are.
+    processes: u32,
+    /// The starts of all processes, and then the first rounds of all messages.
+    least: Vec<u32>,
+    /// Their ends, and then their late rounds.
+    most: Vec<u32>,
 }
 
-/// Writes a list over the beginning of another one, as far as that goes.
-fn write_over(values: &mut [u32], others: &[u32]) {
-    for k in 0..others.len() {
-        put(values, k, others[k]);
+/// Writes a list over a part of another one from a place on, where it has so much room.
+fn write_over(values: &mut [u32], from: usize, others: &[u32]) {
+    if from <= values.len() && others.len() <= values.len() - from {
+        values[from..from + others.len()].copy_from_slice(others);
     }
 }
 
@@ -34,40 +40,67 @@ fn at(values: &[u32], at: usize) -> u32 {
 }
 
 impl Values {
-    /// Starts and first rounds of 0, and ends and late rounds past all others.
-    pub fn widest() -> Self {
-        Values {
-            starts: [0; MOST_PROCESSES],
-            ends: [u32::MAX; MOST_PROCESSES],
-            first_rounds: [0; MOST_MESSAGES],
-            late_rounds: [u32::MAX; MOST_MESSAGES],
+    /// All are 0.
+    pub fn none(alloc: Global, instance: &Instance) -> Result<Self, MemoryFault> {
+        let count = instance.processes().len() + instance.messages().len();
+        let least = vec![in alloc; 0u32; count]?;
+        let most = vec![in alloc; 0u32; count]?;
+        Ok(Values {
+            processes: instance.processes().len() as u32,
+            least,
+            most,
+        })
+    }
+
+    /// All are 0 again.
+    pub fn clear(&mut self) {
+        self.least.as_mut_slice().fill(0);
+        self.most.as_mut_slice().fill(0);
+    }
+
+    /// Starts and first rounds are 0, and ends and late rounds past all others.
+    pub fn widen(&mut self) {
+        self.least.as_mut_slice().fill(0);
+        self.most.as_mut_slice().fill(u32::MAX);
+    }
+
+    /// So far are these facts known.
+    pub fn set_to_known(&mut self, facts: &Facts) {
+        let messages = self.processes as usize;
+        write_over(self.least.as_mut_slice(), 0, facts.starts());
+        write_over(self.least.as_mut_slice(), messages, facts.first_rounds());
+        write_over(self.most.as_mut_slice(), 0, facts.ends());
+        write_over(self.most.as_mut_slice(), messages, facts.late_rounds());
+    }
+
+    /// Where the start and the end of a process stand.
+    fn of_process(&self, p: u32) -> usize {
+        if p < self.processes {
+            p as usize
+        } else {
+            NOWHERE
         }
     }
 
-    /// How far these facts are known.
-    pub fn of(facts: &Facts) -> Self {
-        let mut values = Values::widest();
-        write_over(&mut values.starts, facts.starts());
-        write_over(&mut values.ends, facts.ends());
-        write_over(&mut values.first_rounds, facts.first_rounds());
-        write_over(&mut values.late_rounds, facts.late_rounds());
-        values
+    /// Where the two rounds of a message stand.
+    fn of_message(&self, m: u32) -> usize {
+        self.processes as usize + m as usize
     }
 
     pub fn start(&self, p: u32) -> u32 {
-        at(&self.starts, p as usize)
+        at(self.least.as_slice(), self.of_process(p))
     }
 
     pub fn end(&self, p: u32) -> u32 {
-        at(&self.ends, p as usize)
+        at(self.most.as_slice(), self.of_process(p))
     }
 
     pub fn first_round(&self, m: u32) -> u32 {
-        at(&self.first_rounds, m as usize)
+        at(self.least.as_slice(), self.of_message(m))
     }
 
     pub fn late_round(&self, m: u32) -> u32 {
-        at(&self.late_rounds, m as usize)
+        at(self.most.as_slice(), self.of_message(m))
     }
 
     /// How far a fact is known: 0 of an order, and of whether no plan is left.
@@ -84,10 +117,22 @@ impl Values {
     /// Writes how far a fact is known, if it is of one process or message.
     pub fn put(&mut self, fact: Fact, value: u32) {
         match fact {
-            Fact::Start(p) => put(&mut self.starts, p as usize, value),
-            Fact::End(p) => put(&mut self.ends, p as usize, value),
-            Fact::FirstRound(m) => put(&mut self.first_rounds, m as usize, value),
-            Fact::LateRound(m) => put(&mut self.late_rounds, m as usize, value),
+            Fact::Start(p) => {
+                let place = self.of_process(p);
+                put(self.least.as_mut_slice(), place, value);
+            }
+            Fact::End(p) => {
+                let place = self.of_process(p);
+                put(self.most.as_mut_slice(), place, value);
+            }
+            Fact::FirstRound(m) => {
+                let place = self.of_message(m);
+                put(self.least.as_mut_slice(), place, value);
+            }
+            Fact::LateRound(m) => {
+                let place = self.of_message(m);
+                put(self.most.as_mut_slice(), place, value);
+            }
             Fact::Order(_, _) | Fact::Closed => {}
         }
     }

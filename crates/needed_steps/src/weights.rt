@@ -1,23 +1,24 @@
 //! How many steps does each fact rest on?
 
 use crate::counted::add_counted;
+use crate::values::Values;
 use std::alloc::Global;
 use step_reads::{Fact, target};
 use tt_infer::Facts;
-use ttp_model::{Instance, MOST_MESSAGES, MOST_PROCESSES, MemoryFault, Step};
+use ttp_model::{Instance, MemoryFault, Step};
 
 /// By fact, how many steps of a log it rests on: a step that several others read counts once for each. Of what no step has sharpened
 /// it is 0.
 #[derive(Drop)]
 pub struct Weights {
-    starts: [u32; MOST_PROCESSES],
-    ends: [u32; MOST_PROCESSES],
-    first_rounds: [u32; MOST_MESSAGES],
-    late_rounds: [u32; MOST_MESSAGES],
+    /// Those of starts, ends and rounds.
+    values: Values,
     /// How many processes there are.
     processes: u32,
-    /// A row for each process, one after another.
+    /// Those of orders: a row for each process, one after another.
     orders: Vec<u32>,
+    /// Where orders have a weight.
+    weighed: Vec<usize>,
     /// What one step rests on, in room that is used again.
     counted: Vec<Fact>,
 }
@@ -34,18 +35,23 @@ fn at(weights: &[u32], at: usize) -> u32 {
     if at < weights.len() { weights[at] } else { 0 }
 }
 
+/// Makes the weights at these places 0.
+fn lift(weights: &mut [u32], places: &[usize]) {
+    for place in places {
+        put(weights, *place, 0);
+    }
+}
+
 impl Weights {
     /// Nothing rests on any step.
     pub fn none(alloc: Global, instance: &Instance) -> Result<Self, MemoryFault> {
         let processes = instance.processes().len() as u32;
         let count = processes as usize * processes as usize;
         Ok(Weights {
-            starts: [0; MOST_PROCESSES],
-            ends: [0; MOST_PROCESSES],
-            first_rounds: [0; MOST_MESSAGES],
-            late_rounds: [0; MOST_MESSAGES],
+            values: Values::none(alloc, instance)?,
             processes,
             orders: vec![in alloc; 0u32; count]?,
+            weighed: Vec::new(alloc),
             counted: Vec::new(alloc),
         })
     }
@@ -55,7 +61,7 @@ impl Weights {
         self.clear();
         for step in steps {
             let weight = self.of_step(facts, step)?.saturating_add(1);
-            self.set(target(facts.instance(), step), weight);
+            self.set(target(facts.instance(), step), weight)?;
         }
         Ok(())
     }
@@ -73,11 +79,9 @@ impl Weights {
 
     /// Forgets all weights.
     fn clear(&mut self) {
-        self.starts = [0; MOST_PROCESSES];
-        self.ends = [0; MOST_PROCESSES];
-        self.first_rounds = [0; MOST_MESSAGES];
-        self.late_rounds = [0; MOST_MESSAGES];
-        self.orders.as_mut_slice().fill(0);
+        self.values.clear();
+        lift(self.orders.as_mut_slice(), self.weighed.as_slice());
+        self.weighed.clear();
     }
 
     /// Where an order stands: past all where a process isn't there.
@@ -90,28 +94,26 @@ impl Weights {
     }
 
     /// A fact has this weight from now on.
-    fn set(&mut self, fact: Fact, weight: u32) {
+    fn set(&mut self, fact: Fact, weight: u32) -> Result<(), MemoryFault> {
         match fact {
-            Fact::Start(p) => put(&mut self.starts, p as usize, weight),
-            Fact::End(p) => put(&mut self.ends, p as usize, weight),
-            Fact::FirstRound(m) => put(&mut self.first_rounds, m as usize, weight),
-            Fact::LateRound(m) => put(&mut self.late_rounds, m as usize, weight),
             Fact::Order(p, q) => {
                 let place = self.place(p, q);
+                self.weighed.push(place)?;
                 put(self.orders.as_mut_slice(), place, weight);
             }
+            Fact::Start(_) | Fact::End(_) => self.values.put(fact, weight),
+            Fact::FirstRound(_) | Fact::LateRound(_) => self.values.put(fact, weight),
             Fact::Closed => {}
         }
+        Ok(())
     }
 
     /// The weight of a fact.
     fn of(&self, fact: Fact) -> u32 {
         match fact {
-            Fact::Start(p) => at(&self.starts, p as usize),
-            Fact::End(p) => at(&self.ends, p as usize),
-            Fact::FirstRound(m) => at(&self.first_rounds, m as usize),
-            Fact::LateRound(m) => at(&self.late_rounds, m as usize),
             Fact::Order(p, q) => at(self.orders.as_slice(), self.place(p, q)),
+            Fact::Start(_) | Fact::End(_) => self.values.of_fact(fact),
+            Fact::FirstRound(_) | Fact::LateRound(_) => self.values.of_fact(fact),
             Fact::Closed => 0,
         }
     }

@@ -15,7 +15,7 @@ use std::io::{Read, Write};
 use ttp_model::{Instance, Plan};
 
 /// The bytes of a plan's text, at most.
-pub const PLAN_LIMIT: usize = 65_536;
+pub const PLAN_LIMIT: usize = 131_072;
 
 /// An instance, and a valid plan of it that states its own delay.
 #[derive(Debug, Drop)]

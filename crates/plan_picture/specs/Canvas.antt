@@ -30,6 +30,10 @@ row_of i n = i.cluster.channels + n
 abbrev pub top_of : ℕ → ℕ
 top_of row = 52 + 34 * row + 5
 
+-- the colour of a node: there are sixteen, and behind the last one the first comes again
+abbrev pub colour_of : ℕ → ℕ
+colour_of n = n % 16
+
 -- where a tick is, in tenths of a pixel from the left, rounded down
 abbrev pub place_of : Canvas → ℕ → ℕ
 place_of c tick = tick * (10 * c.across) / c.cycle + 1200

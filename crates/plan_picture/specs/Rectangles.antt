@@ -2,12 +2,13 @@
 use Rattle.std.specs.Prelude.{ℕ, List, ◌++◌, codes, decimal}
 use Rattle.plan_picture.specs.declared.canvas.Canvas.{Canvas}
 use Rattle.plan_picture.specs.declared.rectangle.Rectangle.{Rectangle}
-use Rattle.plan_picture.specs.Canvas.{top_of}
+use Rattle.plan_picture.specs.Canvas.{colour_of, top_of}
 
 -- itself, in the colour of its node
 unfoldable pub rectangle_text : Rectangle → List ℕ
 rectangle_text r =
-    codes "<rect class=\"n" ++ (decimal r.node ++ (codes "\" x=\"" ++ (decimal r.start ++ (codes "\" y=\"" ++ (decimal (top_of r.row) ++ (codes "\" width=\"" ++ (decimal r.length ++ codes "\" height=\"24\"/>")))))))
+    codes "<rect class=\"n" ++ (decimal (colour_of r.node) ++ (codes "\" x=\"" ++ (decimal r.start
+    ++ (codes "\" y=\"" ++ (decimal (top_of r.row) ++ (codes "\" width=\"" ++ (decimal r.length ++ codes "\" height=\"24\"/>")))))))
 
 -- an svg element at its ticks
 unfoldable pub frame_text : ℕ → ℕ → ℕ → List ℕ
@@ -17,7 +18,8 @@ frame_text start top length =
 -- one whose units are pixels, with the beginning of a text on the colour of a node
 unfoldable pub pixels_text : ℕ → ℕ → ℕ → List ℕ
 pixels_text cycle across node =
-    codes "<svg width=\"" ++ (decimal cycle ++ (codes "\" height=\"24\" viewBox=\"0 0 " ++ (decimal across ++ (codes " 24\" preserveAspectRatio=\"none\"><text class=\"t" ++ (decimal node ++ codes "\" x=\"4\" y=\"16\">")))))
+    codes "<svg width=\"" ++ (decimal cycle ++ (codes "\" height=\"24\" viewBox=\"0 0 " ++ (decimal across
+    ++ (codes " 24\" preserveAspectRatio=\"none\"><text class=\"t" ++ (decimal (colour_of node) ++ codes "\" x=\"4\" y=\"16\">")))))
 
 -- what begins a text that is cut off at the rectangle: the second in the first
 unfoldable pub opening_text : Canvas → Rectangle → List ℕ

@@ -3,7 +3,7 @@ use Rattle.std.specs.Prelude.{ℕ, List, ◌++◌, codes, decimal, length}
 use Rattle.std.specs.List.{flat_map, range_with_len}
 use Rattle.ttp_model.specs.Instance.{Instance, node_at}
 use Rattle.plan_picture.specs.declared.canvas.Canvas.{Canvas}
-use Rattle.plan_picture.specs.Canvas.{row_of, top_of}
+use Rattle.plan_picture.specs.Canvas.{colour_of, row_of, top_of}
 
 -- the ground of a row
 unfoldable pub track_text : Canvas → ℕ → List ℕ
@@ -18,7 +18,7 @@ channel_text c channel =
 -- the colour of a node, so far down
 unfoldable pub colour_text : ℕ → ℕ → List ℕ
 colour_text n top =
-    codes "<rect class=\"n" ++ (decimal n ++ (codes "\" x=\"8\" y=\"" ++ (decimal top ++ codes "\" width=\"8\" height=\"24\"/>")))
+    codes "<rect class=\"n" ++ (decimal (colour_of n) ++ (codes "\" x=\"8\" y=\"" ++ (decimal top ++ codes "\" width=\"8\" height=\"24\"/>")))
 
 -- its name
 unfoldable pub label_text : List ℕ → ℕ → List ℕ

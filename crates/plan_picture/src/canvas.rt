@@ -17,6 +17,9 @@ pub const MOST_WIDTH: u32 = 10_000;
 /// No cycle has more ticks, by far; ten times so many by the pixels of a picture are a number of 64 bits.
 pub const MOST_CYCLE: u64 = 100_000_000_000_000;
 
+/// How many colours nodes have: behind the last one the first comes again.
+pub const COLOURS: u32 = 16;
+
 /// The pixels on the left of tick 0, where names stand.
 const LEFT: u32 = 120;
 /// The pixels on the right of the cycle's end.

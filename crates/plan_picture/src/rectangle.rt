@@ -3,7 +3,7 @@
 ghost use Rattle.std.specs.Prelude.{◌≡◌, ◌++◌, OnOk, Some, string_bytes};
 ghost use Rattle.plan_picture.specs.Rectangles.{frame_text, opened_text, opening_text, pixels_text, rectangle_text};
 
-use crate::canvas::{Canvas, top_of};
+use crate::canvas::{COLOURS, Canvas, top_of};
 use std::alloc::AllocError;
 use std::fmt;
 
@@ -25,10 +25,11 @@ impl fmt::Display for Rectangle {
 
     #[tactic(auto, unfolding(crate::specs::Rectangles::rectangle_text))]
     fn fmt<W: fmt::Write>(&self, f: &mut fmt::Formatter<W>) -> fmt::Result {
-        let (node, start, top, length) = (self.node, self.start, top_of(self.row), self.length);
+        let (start, top, length) = (self.start, top_of(self.row), self.length);
+        let colour = self.node % COLOURS;
         write!(
             f,
-            "<rect class=\"n{node}\" x=\"{start}\" y=\"{top}\" width=\"{length}\" height=\"24\"/>"
+            "<rect class=\"n{colour}\" x=\"{start}\" y=\"{top}\" width=\"{length}\" height=\"24\"/>"
         )
     }
 }
@@ -96,10 +97,10 @@ impl fmt::Display for Pixels {
 
     #[tactic(auto, unfolding(crate::specs::Rectangles::pixels_text))]
     fn fmt<W: fmt::Write>(&self, f: &mut fmt::Formatter<W>) -> fmt::Result {
-        let (cycle, across, node) = (self.cycle, self.across, self.node);
+        let (cycle, across, colour) = (self.cycle, self.across, self.node % COLOURS);
         write!(
             f,
-            "<svg width=\"{cycle}\" height=\"24\" viewBox=\"0 0 {across} 24\" preserveAspectRatio=\"none\"><text class=\"t{node}\" x=\"4\" y=\"16\">"
+            "<svg width=\"{cycle}\" height=\"24\" viewBox=\"0 0 {across} 24\" preserveAspectRatio=\"none\"><text class=\"t{colour}\" x=\"4\" y=\"16\">"
         )
     }
 }

@@ -3,7 +3,7 @@
 ghost use Rattle.std.specs.Prelude.{◌≡◌, ◌++◌, ◌<◌, OnOk, length, string_bytes};
 ghost use Rattle.plan_picture.specs.Rows.{channel_text, channels_text, colour_text, label_text, node_text, nodes_text, rows_text, track_text};
 
-use crate::canvas::{Canvas, row_of, top_of};
+use crate::canvas::{COLOURS, Canvas, row_of, top_of};
 use std::alloc::AllocError;
 use ttp_model::Instance;
 
@@ -87,9 +87,10 @@ fn put_node(
 fn put_colour(text: &mut String, node: usize, top: u64) -> Result<(), AllocError>
     ensures { OnOk result (string_bytes text.new ≡ string_bytes text.old ++ colour_text node top) }
 {
+    let colour = node % COLOURS as usize;
     write!(
         text,
-        "<rect class=\"n{node}\" x=\"8\" y=\"{top}\" width=\"8\" height=\"24\"/>"
+        "<rect class=\"n{colour}\" x=\"8\" y=\"{top}\" width=\"8\" height=\"24\"/>"
     )
 }
 

@@ -169,7 +169,7 @@ pub fn searched<J: Searched + Send + Sync, G: Gate + Sync, R: Threads + Wait>(
     tell(&word, &mut opening, &first, instance);
     let jobs = deal(alloc, &word, &mut opening, hands, options.budget)?;
     let crew = Crew::begin(alloc, jobs.len(), opening, first)?;
-    let reserve = Reserve::begin(alloc)?;
+    let reserve = Reserve::begin(alloc, instance)?;
     let reports = run_all(rt, alloc, instance, &word, gate, manner, jobs)?;
     reserve.give_back();
     let crew = crew.add_all(&word, reports)?;

@@ -1,11 +1,43 @@
 //! What is kept so that a search can end where memory runs out?
 
 use std::alloc::Global;
-use ttp_model::MemoryFault;
+use ttp_model::{Instance, MemoryFault};
 
-/// How many bytes: the lists of some ten thousand open tasks, a propagation, or the tables of a subtree that is closed take
+/// How many bytes at least: the lists of some ten thousand open tasks, a propagation, or the tables of a subtree that is closed take
 /// a part of them. What grows with the tree is kept beside its pieces, as room in their list.
-const BYTES: usize = 4 << 20;
+const LEAST_BYTES: usize = 4 << 20;
+
+/// The bytes of a step.
+const STEP_BYTES: usize = 32;
+
+/// How many steps a propagation tries for each receiver of a message until none of them sharpens.
+const RECEIVER_STEPS: usize = 2;
+
+/// How many times the bytes of these steps are kept: a list that grows may have twice the room that it needs, beside the one before
+/// it, and the steps that sharpen stand in another.
+const TIMES: usize = 4;
+
+/// How many receivers messages have in all.
+fn receivers(instance: &Instance) -> usize {
+    let mut count: usize = 0;
+    for message in instance.messages() {
+        count = count.saturating_add(message.receivers.as_slice().len());
+    }
+    count
+}
+
+/// How many bytes are kept: what a propagation may take, with steps for each receiver and one for each order of two processes.
+fn bytes(instance: &Instance) -> usize {
+    let processes = instance.processes().len();
+    let orders = processes.saturating_mul(processes);
+    let steps = receivers(instance)
+        .saturating_mul(RECEIVER_STEPS)
+        .saturating_add(orders);
+    steps
+        .saturating_mul(STEP_BYTES)
+        .saturating_mul(TIMES)
+        .max(LEAST_BYTES)
+}
 
 /// Memory that is taken before a search, and given back once memory is refused. A block as large as this is the system's
 /// again as soon as it is given back, so that a list can grow by it.
@@ -15,8 +47,8 @@ pub struct Reserve {
 }
 
 impl Reserve {
-    pub fn begin(alloc: Global) -> Result<Self, MemoryFault> {
-        let room = Vec::with_capacity(alloc, BYTES)?;
+    pub fn begin(alloc: Global, instance: &Instance) -> Result<Self, MemoryFault> {
+        let room = Vec::with_capacity(alloc, bytes(instance))?;
         Ok(Reserve { room })
     }
 

@@ -20,7 +20,7 @@ use branch_tree::Piece;
 use certificate::{Cert, Node};
 use good_plan::good_plan;
 use pool_worker::{FreeGate, Gate};
-use search_turns::{Options, Outcome, Search, SolveFault, Why, answer, limit};
+use search_turns::{Options, Order, Outcome, Search, SolveFault, Why, answer, limit};
 use std::alloc::Global;
 use std::marker::{Brand, Sync};
 use std::sync::Wait;
@@ -124,8 +124,8 @@ fn go_on(
     ensures within { length search.new.pieces.items ≤ options.budget }
     ensures cause { IsWorkedOut options.budget search.new.pieces.items result }
 {
-    match search.go(alloc, instance, part) {
-        Why::Budget => search.rise(alloc, instance, options.budget),
+    match search.go(alloc, instance, part, Order::Newest) {
+        Why::Budget => search.go(alloc, instance, options.budget, Order::Rising),
         Why::Memory => Why::Memory,
     }
 }
@@ -187,7 +187,7 @@ pub fn solve_in<R: Threads + Wait + Sync, G: Gate + Sync>(
     ensures shows { IfOk result (Shows instance.now) }
 {
     let _nodes = instance.nodes();
-    let reserve = Reserve::begin(alloc)?;
+    let reserve = Reserve::begin(alloc, instance)?;
     let first = first_plan(rt, alloc, instance, options, manner)?;
     let part = workers_part(options.budget, manner);
     let theirs = Options {

@@ -1,7 +1,7 @@
 //! Texts of as many bytes as are read, and of one more.
 
 use crate::told::Asked::Verify;
-use crate::told::{CLUSTER, FIRST_PARTS, FIRST_PLAN, Told, joined};
+use crate::told::{CLUSTER, FIRST_PARTS, FIRST_PLAN, Told};
 use plan_commands::verify_bundle;
 use std::alloc::{Alloc, AllocError, Global};
 use std::test::Fail;
@@ -21,43 +21,37 @@ type Row = (Filled, &'static str, u8);
 
 #[rattlefmt::skip]
 static ROWS: &[Row] = &[
-    (Filled::Instance(1_048_576), "instance T3 top cluster\n", 3),
-    (Filled::Instance(1_048_577), "read instance\n", 6),
-    (Filled::Bundle(1_048_577), "read instance\n", 6),
-    (Filled::Parts(1_048_576, 65_536), "plan F6 9\n", 5),
-    (Filled::Parts(1_048_576, 65_537), "read plan\n", 6),
-    (Filled::Parts(1_048_577, 65_536), "read instance\n", 6),
+    (Filled::Instance(8_388_608), "instance T3 top cluster\n", 3),
+    (Filled::Instance(8_388_609), "read instance\n", 6),
+    (Filled::Bundle(8_388_609), "read instance\n", 6),
+    (Filled::Parts(8_388_608, 131_072), "plan F6 9\n", 5),
+    (Filled::Parts(8_388_608, 131_073), "read plan\n", 6),
+    (Filled::Parts(8_388_609, 131_072), "read instance\n", 6),
 ];
 
-/// So many bytes of a comment.
-fn comment(alloc: Global, length: usize) -> Result<String, AllocError> {
-    let mut text = String::new(alloc);
-    for _ in 0..length {
-        text.push('#')?;
-    }
-    Ok(text)
-}
-
 /// What is told of a bundle in parts.
-fn told_of_bundle(alloc: Global, parts: &[&str]) -> Result<Told, AllocError> {
-    let bundle = joined(alloc, parts)?;
+fn told_of_bundle(alloc: Global, parts: &[&[u8]]) -> Result<Told, AllocError> {
+    let mut bundle = Vec::new(alloc);
+    for part in parts {
+        bundle.extend_from_slice(part)?;
+    }
     let mut out = Vec::new(alloc);
-    let end = verify_bundle(alloc, &mut bundle.as_bytes(), &mut out);
+    let end = verify_bundle(alloc, &mut bundle.as_slice(), &mut out);
     Ok(Told::at(alloc, &end, out))
 }
 
 /// What is told of the first example's bundle with parts of so many bytes.
 fn told_of_parts(alloc: Global, instance: usize, plan: usize) -> Result<Told, AllocError> {
     let front = CLUSTER.len() + FIRST_PARTS.len() + 1;
-    let filling = comment(alloc, instance.saturating_sub(front))?;
-    let behind = comment(alloc, plan.saturating_sub(FIRST_PLAN.len()))?;
+    let filling = vec![in alloc; b'#'; instance.saturating_sub(front)]?;
+    let behind = vec![in alloc; b'#'; plan.saturating_sub(FIRST_PLAN.len())]?;
     let parts = [
-        CLUSTER,
-        FIRST_PARTS,
-        filling.as_str(),
-        "\n%%\n",
-        FIRST_PLAN,
-        behind.as_str(),
+        CLUSTER.as_bytes(),
+        FIRST_PARTS.as_bytes(),
+        filling.as_slice(),
+        b"\n%%\n".as_slice(),
+        FIRST_PLAN.as_bytes(),
+        behind.as_slice(),
     ];
     told_of_bundle(alloc, &parts)
 }
@@ -69,12 +63,12 @@ fn told(
 ) -> Result<Told, AllocError> {
     match filled {
         Filled::Instance(length) => {
-            let instance = comment(rt.alloc(), length)?;
-            Ok(Verify.told(rt, instance.as_bytes(), FIRST_PLAN.as_bytes()))
+            let instance = vec![in rt.alloc(); b'#'; length]?;
+            Ok(Verify.told(rt, instance.as_slice(), FIRST_PLAN.as_bytes()))
         }
         Filled::Bundle(length) => {
-            let bundle = comment(rt.alloc(), length)?;
-            told_of_bundle(rt.alloc(), &[bundle.as_str()])
+            let bundle = vec![in rt.alloc(); b'#'; length]?;
+            told_of_bundle(rt.alloc(), &[bundle.as_slice()])
         }
         Filled::Parts(instance, plan) => told_of_parts(rt.alloc(), instance, plan),
     }

@@ -86,11 +86,12 @@ fn begun(alloc: Global, instance: &Instance, turns: u32) -> Result<Tree, MemoryF
 /// More turns than any of these trees needs.
 const ALL_TURNS: u32 = 10_000;
 
-/// A process of 1 tick, whose slot carries 2 or 3 bytes, sends so many messages of 1 byte to one of 1 tick.
+/// A process of 1 tick, whose slot carries 2 or 3 bytes, sends so many messages of 1 byte to one of 1 tick, up to a horizon.
 macro_rules! many_messages {
-    ($count:literal) => {
+    ($count:literal, $horizon:literal) => {
         Sample {
             name: "so many messages",
+            horizon: $horizon,
             nodes: &[&[2, 3], &[0]],
             messages: &[(0, 1, 1); $count],
             ..SHORT_RECEIVER
@@ -147,15 +148,27 @@ const TREES: &[(&str, Sample, u32, Like)] = &[
     ),
     (
         "nineteen messages",
-        many_messages!(19),
+        many_messages!(19, 100),
         2,
         Like::Branches(&[Kind::Place, Kind::Cap(0)]),
     ),
     (
         "empty halves of rounds are ruled out before the layout from twenty messages on",
-        many_messages!(20),
+        many_messages!(20, 100),
         2,
         Like::Branches(&[Kind::Place, Kind::Round(0, 49)]),
+    ),
+    (
+        "and up to 128",
+        many_messages!(128, 1_000),
+        2,
+        Like::Branches(&[Kind::Place, Kind::Round(0, 499)]),
+    ),
+    (
+        "of more that would take too many branches",
+        many_messages!(129, 1_000),
+        2,
+        Like::Branches(&[Kind::Place, Kind::Cap(0)]),
     ),
     ("a leaf", ALONE, ALL_TURNS, Like::Goals(&[7])),
     ("no plan", NO_FRAME, ALL_TURNS, Like::AllAt(101)),

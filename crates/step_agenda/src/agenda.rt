@@ -5,11 +5,12 @@ ghost use Rattle.std.specs.Prelude.{◌<◌, length};
 use crate::consequences::add_consequences;
 use crate::flags::{lower, raise};
 use crate::rings::ring_step;
+use crate::waiting::Waiting;
 use load_bounds::{frame_load, node_load};
 use std::alloc::Global;
 use std::collections::VecDeque;
 use std::mem;
-use step_reads::{Fact, FactSet};
+use step_reads::Fact;
 use tt_choice::Decision;
 use tt_infer::Facts;
 use ttp_model::{Instance, MOST_NODES, MOST_PROCESSES, MemoryFault, Step, has_link};
@@ -24,7 +25,7 @@ pub struct Agenda {
     /// The facts in the order in which they were sharpened.
     changed: VecDeque<Fact>,
     /// The same facts, to have each of them once.
-    waiting: FactSet,
+    waiting: Waiting,
     /// By process, whether the rule on settled plans may say more of its end.
     unsettled: [bool; MOST_PROCESSES],
     /// By node, whether its processes may have become too many for their times.
@@ -55,7 +56,7 @@ impl Agenda {
     pub fn of(alloc: Global, instance: &Instance) -> Result<Self, MemoryFault> {
         Ok(Agenda {
             changed: VecDeque::new(alloc),
-            waiting: FactSet::none(alloc, instance)?,
+            waiting: Waiting::none(alloc, instance)?,
             unsettled: [false; MOST_PROCESSES],
             runs: [false; MOST_NODES],
             sendings: [false; MOST_NODES],
@@ -194,13 +195,14 @@ impl Agenda {
         Ok(())
     }
 
-    /// Adds a fact that isn't among them. An order is sharpened once, so it isn't looked for.
+    /// Adds a fact that isn't among them. An order is sharpened once, so it isn't looked for; and once all is closed, nothing more is
+    /// tried.
     fn add(&mut self, fact: Fact) -> Result<(), MemoryFault> {
         let waits = match fact {
             Fact::Order(_, _) => false,
             Fact::Start(_) | Fact::End(_) => self.waiting.insert(fact),
             Fact::FirstRound(_) | Fact::LateRound(_) => self.waiting.insert(fact),
-            Fact::Closed => self.waiting.insert(fact),
+            Fact::Closed => true,
         };
         if !waits {
             self.changed.push_back(fact)?;
@@ -392,7 +394,7 @@ fn add_late(
     Ok(())
 }
 
-/// Adds the closers of message `m` in those of the rounds that are before its first one.
+/// Adds the closers of message `m` in those of the rounds that are before its first one, and in which it is ready.
 fn add_late_of(
     facts: &Facts,
     m: u32,
@@ -402,12 +404,29 @@ fn add_late_of(
     requires { m < length facts.now.instance.messages }
 {
     let first = facts.lo(m);
+    let ready = ready_round(facts, m);
+    if ready >= u64::from(first) {
+        return Ok(());
+    }
     for round in rounds {
-        if *round < first {
+        if *round < first && u64::from(*round) >= ready {
             steps.push(Step::XLate(m, *round))?;
         }
     }
     Ok(())
+}
+
+/// The first round in which message `m` is ready however late its sender ends, and however early the slot begins.
+fn ready_round(facts: &Facts, m: u32) -> u64
+    requires { m < length facts.now.instance.messages }
+{
+    let instance = facts.instance();
+    let node = instance.source_of(m as usize);
+    let sender = instance.message_at(m as usize).sender;
+    let ready = u64::from(facts.le(sender)) + u64::from(instance.cluster().copy_out);
+    let begins = facts.setting().start_least(node, 0);
+    let apart = facts.setting().start_least(node, 1).saturating_sub(begins);
+    ready.saturating_sub(begins).div_ceil(apart.max(1))
 }
 
 /// Adds the closers of the messages of node `n` that are fixed to channel 1: each leads a turned frame, where no lower one of the node may

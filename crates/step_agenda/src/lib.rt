@@ -6,6 +6,7 @@ mod consequences;
 mod flags;
 mod opening;
 mod rings;
+mod waiting;
 
 pub use agenda::Agenda;
 pub use opening::{add_slot_steps, opening_steps};

@@ -5,7 +5,7 @@ ghost use Rattle.std.specs.Prelude.{◌<◌, length};
 use crate::flags::{is_up, lower, raise};
 use std::alloc::Global;
 use tt_infer::Facts;
-use ttp_model::{Instance, MOST_PROCESSES, MemoryFault, Ring, Step};
+use ttp_model::{Instance, MOST_PROCESSES, MemoryFault, Ring, Step, has_link};
 
 /// A number for each process.
 type Numbers = [u32; MOST_PROCESSES];
@@ -125,15 +125,18 @@ fn number(numbers: &Numbers, p: u32) -> u32 {
 
 /// By process, one that waits and goes before it.
 fn before(facts: &Facts, waiting: &[bool; MOST_PROCESSES]) -> Numbers {
+    let count = facts.instance().processes().len() as u32;
     let mut before = [0; MOST_PROCESSES];
-    for q in 0..MOST_PROCESSES {
-        before[q] = one_before(facts, waiting, q as u32);
+    for q in 0..count {
+        before[q as usize] = one_before(facts, waiting, q);
     }
     before
 }
 
 /// The first process that waits and goes before `q`: 0 where there is none.
-fn one_before(facts: &Facts, waiting: &[bool; MOST_PROCESSES], q: u32) -> u32 {
+fn one_before(facts: &Facts, waiting: &[bool; MOST_PROCESSES], q: u32) -> u32
+    requires { q < length facts.now.instance.processes }
+{
     let count = facts.instance().processes().len() as u32;
     for p in 0..count {
         if is_up(waiting, p) && goes_before(facts, p, q) {
@@ -143,13 +146,24 @@ fn one_before(facts: &Facts, waiting: &[bool; MOST_PROCESSES], q: u32) -> u32 {
     0
 }
 
-/// Whether process `p` goes before `q`.
+/// Whether process `p` goes before `q`: on their node, by a link, or as it sends to it.
 fn goes_before(facts: &Facts, p: u32, q: u32) -> bool
-    requires { p < length facts.now.instance.processes }
+    requires first { p < length facts.now.instance.processes }
+    requires second { q < length facts.now.instance.processes }
 {
-    let mut times = [0; MOST_PROCESSES];
-    count_later(facts, p, true, &mut times);
-    number(&times, q) > 0
+    let instance = facts.instance();
+    let one_node = instance.node_of(p as usize) == instance.node_of(q as usize);
+    (one_node && facts.bef(p, q)) || has_link(instance, p, q) || sends_to(instance, p, q)
+}
+
+/// Whether process `q` has a message of `p`.
+fn sends_to(instance: &Instance, p: u32, q: u32) -> bool {
+    for m in instance.sent_by(p) {
+        if instance.message_at(*m as usize).receivers.contains(q) {
+            return true;
+        }
+    }
+    false
 }
 
 /// The first process that comes again where one goes back from a process, each time to the one before.

@@ -1,5 +1,5 @@
 -- Times of an instance stay within 64 bits.
-use Rattle.std.proofs.Common.{◌≡◌, ℕ, ◌*◌, ◌^◌, ◌<◌, ◌≤◌, List, length, arith}
+use Rattle.std.proofs.Common.{◌≡◌, ℕ, ◌+◌, ◌*◌, ◌^◌, ◌<◌, ◌≤◌, List, length, arith}
 use Rattle.std.proofs.Math.Nat.{mul-le-mul_left}
 use Rattle.std.proofs.lemmas.List.Sums.{get_or-le-sum_by}
 use Rattle.std.proofs.lemmas.Grind.{common_steps}
@@ -13,8 +13,8 @@ use Rattle.ttp_model.specs.declared.error.Place.TheVariants.{AtCluster}
 use Rattle.ttp_model.specs.declared.limits.TheConstants.{MOST_ROUND}
 use Rattle.tt_layout.specs.Bounds.{IsBounded}
 
--- so many rounds as a plan can name stay below 2^56 ticks
-pub product_bound : (r round : ℕ) → r < 2 ^ 32 → round ≤ MOST_ROUND → r * round < 2 ^ 56
+-- so many rounds as a plan can name, and one more, stay below 2^57 ticks
+pub product_bound : (r round : ℕ) → r < 2 ^ 32 → round ≤ MOST_ROUND → r * round + MOST_ROUND < 2 ^ 57
 product_bound r round a b = omega (arith, mul-le-mul_left r b)
 
 -- a frame has a tick, so a round has one

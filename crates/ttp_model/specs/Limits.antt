@@ -3,16 +3,16 @@ use Rattle.std.specs.Prelude.{ℕ, ◌+◌, ◌*◌}
 
 -- the nodes, processes, links and messages of an instance
 abbrev pub most_nodes : ℕ
-most_nodes = 16
+most_nodes = 32
 
 abbrev pub most_processes : ℕ
-most_processes = 64
+most_processes = 256
 
 abbrev pub most_links : ℕ
-most_links = 256
+most_links = 1024
 
 abbrev pub most_messages : ℕ
-most_messages = 128
+most_messages = 512
 
 -- the capacities that a node's slot can be given
 abbrev pub most_capacities : ℕ

@@ -1,16 +1,16 @@
 //! How large the parts of an instance may be.
 
 /// The nodes of a cluster.
-pub const MOST_NODES: usize = 16;
+pub const MOST_NODES: usize = 32;
 
 /// The processes of an instance.
-pub const MOST_PROCESSES: usize = 64;
+pub const MOST_PROCESSES: usize = 256;
 
 /// The links of an instance.
-pub const MOST_LINKS: usize = 256;
+pub const MOST_LINKS: usize = 1_024;
 
 /// The messages of an instance.
-pub const MOST_MESSAGES: usize = 128;
+pub const MOST_MESSAGES: usize = 512;
 
 /// The capacities that a node's slot can be given.
 pub const MOST_CAPACITIES: usize = 8;

@@ -14,8 +14,15 @@ use ttp_model::{Instance, Kind};
 /// some six branches for each, more than small trees save by it.
 const CROWD: usize = 20;
 
+/// How many branches that may take at most. They stand in front of all others, so each subtree below them has as many decisions
+/// and numbers of its name more, and holds them as long as it waits.
+const MOST_BRANCHES: usize = 2_560;
+
+/// Up to how many messages: each may take twenty branches, as many as a round has binary digits.
+const MOST_CROWD: usize = MOST_BRANCHES / 20;
+
 /// The branch that rules out an empty half of a message's rounds, where many messages may crowd a
-/// frame. What is ruled out here needn't be ruled out in each subtree below.
+/// frame, and not so many that it takes too many branches. What is ruled out here needn't be ruled out in each subtree below.
 pub fn empty_half(instance: &Instance, choice: &Choice, facts: &Facts) -> Option<Kind>
     requires of { IsChoice instance.now choice.now }
     requires facts { facts.now.instance ≡ instance.now }
@@ -32,7 +39,11 @@ pub fn empty_half(instance: &Instance, choice: &Choice, facts: &Facts) -> Option
             }
         }
     }
-    if crowd < CROWD { None } else { first }
+    if crowd < CROWD || crowd > MOST_CROWD {
+        None
+    } else {
+        first
+    }
 }
 
 /// The branch that rules out an empty half of one message's rounds, if there is one.

@@ -1,4 +1,4 @@
-//! What is known once as many decisions are taken back as an instance can hardly have more of.
+//! What is known once thousands of decisions are taken back.
 
 use super::trail::{decide, expect_told, told};
 use path_bounds::Propagator;
@@ -9,7 +9,7 @@ use tt_choice::Decision;
 use ttp_model::{Cluster, Instance, MemoryFault, ModelError};
 use worked_instances::{Draft, PLAIN};
 
-/// As many processes as there may be.
+/// How many processes the node has.
 const PROCESSES: u32 = 64;
 
 /// How many decisions are made: each two of these processes can be ordered once, in 2,016 ways.

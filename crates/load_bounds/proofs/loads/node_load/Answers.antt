@@ -13,7 +13,8 @@ returns-in-Some c =
     let b = c.in-Some.b in
     let nodes = c.nodes.ensures.value ∙ ap (λ (j : Instance). j.nodes) c.instance.ensures.value in
     let there : c.args.node < length c.args.facts.now.instance.nodes = omega (arith, ap length nodes) in
-    let lawful : IsLawfulNow s (XLoad c.args.node a b) = load_is_lawful s c.args.node a b c.runs_of.result there c.runs_of.ensures c.in-Some.ensures in
+    let runs = c.runs_of-runs in
+    let lawful : IsLawfulNow s (XLoad c.args.node a b) = load_is_lawful s c.args.node a b runs.result there runs.ensures c.in-Some.ensures in
     record {
       answer = (a, (b, (refl, lawful)));
       none_left = λ some. load_leaves_none s c.args.node a b c.instance.ensures.inference lawful;

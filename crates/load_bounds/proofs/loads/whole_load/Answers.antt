@@ -23,8 +23,9 @@ returns-in-Some c =
     let channels : c.cluster.result.now.channels ≡ s.instance.cluster.channels = rw (c.cluster.ensures.value, c.instance-instance.ensures.value) refl in
     let capacity : c.cap_most-capacity.result ≡ cap_most s.instance s.choice c.args.node = rw (c.cap_most-capacity.ensures.value, c.instance-instance.ensures.value, c.choice.ensures.value) refl in
     let room = ap₂ (λ (k : ℕ) (cap : ℕ). k * cap) channels capacity in
-    let P : ℕ → Type 0 = λ rate. IsExcess rate c.sendings_of.result a b in
-    (a, (b, (refl, frames_are_lawful s c.args.node a b c.sendings_of.result c.requires c.sendings_of.ensures (subst P room c.in-Some.ensures))))
+    let P : ℕ → Type 0 = λ rate. IsExcess rate c.sendings_of-sendings.result a b in
+    let sendings = c.sendings_of-sendings in
+    (a, (b, (refl, frames_are_lawful s c.args.node a b sendings.result c.requires sendings.ensures (subst P room c.in-Some.ensures))))
 
 pub returns-in-None : goal.returns-in-None
 returns-in-None c =
@@ -32,5 +33,5 @@ returns-in-None c =
     let channels : c.cluster.result.now.channels ≡ s.instance.cluster.channels = rw (c.cluster.ensures.value, c.instance-instance.ensures.value) refl in
     let capacity : c.cap_most-capacity.result ≡ cap_most s.instance s.choice c.args.node = rw (c.cap_most-capacity.ensures.value, c.instance-instance.ensures.value, c.choice.ensures.value) refl in
     let room = ap₂ (λ (k : ℕ) (cap : ℕ). k * cap) channels capacity in
-    let P : ℕ → Type 0 = λ rate. (a b : ℕ) → ¬ IsExcess rate c.sendings_of.result a b in
-    no_lawful_frames s c.args.node c.sendings_of.result c.sendings_of.ensures (subst P room c.in-None.ensures)
+    let P : ℕ → Type 0 = λ rate. (a b : ℕ) → ¬ IsExcess rate c.sendings_of-sendings.result a b in
+    no_lawful_frames s c.args.node c.sendings_of-sendings.result c.sendings_of-sendings.ensures (subst P room c.in-None.ensures)
