@@ -1,6 +1,6 @@
 //! Which order of the nodes does the order line give?
 
-ghost use Rattle.std.specs.Prelude.{◌≡◌, ◌<◌, length, bytes_eq, position, IfOk, IfSome, IsOk};
+ghost use Rattle.std.specs.Prelude.{◌≡◌, ◌<◌, ◌==◌, ◌&&◌, length, bytes_eq, position, IfOk, IfSome, IsOk};
 ghost use Rattle.std.specs.List.{list_all};
 ghost use Rattle.line_text.specs.Parts.{seen_rest};
 ghost use Rattle.ttp_model.specs.declared.error.Part.TheVariants.{Nodes};
@@ -93,6 +93,13 @@ fn is_distinct(order: &[u32]) -> bool
     true
 }
 
+/// Whether an order has as many numbers as there are nodes, and none twice.
+fn is_order(instance: &Instance, order: &[u32]) -> bool
+    ensures { result ≡ ((length order.now == length (names_in instance.now Nodes)) && is_distinct order.now) }
+{
+    order.len() == instance.nodes().len() && is_distinct(order)
+}
+
 /// The names in the order line, in one text, and the text after the line.
 #[tactic(auto, unfolding(crate::specs::Reading::named_at))]
 fn named_of(text: &[u8]) -> Result<(&[u8], &[u8]), PlanTextError>
@@ -127,7 +134,7 @@ pub fn order_of<'a>(
     let Some(order) = places_of(alloc, instance, names)? else {
         return Err(LineFault::Name.at(ORDER_LINE));
     };
-    if order.len() != instance.nodes().len() || !is_distinct(&order) {
+    if !is_order(instance, &order) {
         return Err(LineFault::Order.at(ORDER_LINE));
     }
     Ok((order, after))

@@ -6,5 +6,6 @@ pub mod Standing
 pub mod Ending
 pub mod Crews
 pub mod Reports
+pub mod Jobs
 pub mod Pools
 pub mod Collected

@@ -1,11 +1,12 @@
 -- What closes the tasks that a search leaves. Only private contracts ask for it.
-use Rattle.std.specs.Prelude.{◌≡◌, ℕ, ◌<◌, ◌⊎◌, List, All, Contains}
+use Rattle.std.specs.Prelude.{◌≡◌, ℕ, ◌<◌, ◌⊎◌, List, ◌++◌, All, Contains}
 use Rattle.ttp_model.specs.Instance.{Instance}
+use Rattle.certificate.specs.Cert.{Cert}
 use Rattle.subtree_tasks.specs.declared.piece.Piece.{Piece}
 use Rattle.subtree_tasks.specs.Task.{Task}
 use Rattle.subtree_tasks.specs.Pieces.{names_of}
 use Rattle.branch_tree.specs.Work.{IsLeftClosed}
-use Rattle.tree_gathering.specs.Gathering.{HaveGoals}
+use Rattle.tree_gathering.specs.Gathering.{HaveGoals, IsGathered}
 use Rattle.search_turns.specs.Searching.{task_names}
 use Rattle.planner.specs.Searched.{ReachesGoal}
 
@@ -21,3 +22,15 @@ pub record AreClosed (i : Instance) (tasks : List Task) (top : ℕ) (closed : Li
   pub each : All (ClosesOne i tasks top) closed
   pub goals : HaveGoals low closed
   pub least : (low ≡ top) ⊎ ((low < top) × ReachesGoal low closed)
+
+-- the pieces that close these tasks stand behind pieces that were worked
+pub record AreClosedBehind (i : Instance) (worked : List Piece) (tasks : List Task) (top : ℕ) (all : List Piece) (low : ℕ) : Type 0 where
+  pub closed : List Piece
+  pub are : AreClosed i tasks top closed low
+  pub joined : all ≡ worked ++ closed
+
+-- the certificate of a tree that was worked, and whose open tasks are closed
+pub record IsClosedTree (i : Instance) (worked : List Piece) (tasks : List Task) (top : ℕ) (cert : Cert) (low : ℕ) : Type 0 where
+  pub closed : List Piece
+  pub are : AreClosed i tasks top closed low
+  pub gathered : IsGathered low (worked ++ closed) cert

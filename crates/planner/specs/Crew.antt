@@ -4,6 +4,7 @@ use Rattle.ttp_model.specs.declared.plan.Plan.{Plan}
 use Rattle.ttp_model.specs.Instance.{Instance}
 use Rattle.subtree_tasks.specs.Task.{Task, IsTask, root_task}
 use Rattle.incumbent.specs.declared.word.Incumbent.{Incumbent}
+use Rattle.incumbent.specs.declared.word.Watch.{Watch}
 use Rattle.incumbent.specs.Watch.{first_value, offers, out_count, IsOpening, IsOther, IsSameWatch}
 use Rattle.steal_pool.specs.declared.hand.Hand.{Hand}
 use Rattle.steal_pool.specs.Hand.{IsPool, IsSameHand, all_pushed, all_taken}
@@ -104,4 +105,24 @@ pub record HaveEnded {J : Type 0} (i : Instance) (word : Incumbent) (crew : Crew
   pub pool : IsPool begun
   pub pushes : IsPermutation (all_pushed begun) (root_task ∷ [])
   pub takes : all_taken begun ≡ []
+  pub top : first_value word ≡ i.cluster.horizon + 1
+
+-- a job for each of these hands, in order; the budget is dealt, and a watch for each is split from the opening one
+pub record AreDealt {J : Type 0} (word : Incumbent) (budget : ℕ) (before after : Watch) (given : List (Hand J)) (all : List (Job J)) : Type 0 where
+  pub hands : hands_of all ≡ given
+  pub jobs : All (IsJob word) all
+  pub within : budget_of all ≤ budget
+  pub out : out_count after ≡ out_count before + length all
+  pub opening : IsOpening word after
+  pub same : offers after ≡ offers before
+
+-- no worker has begun: the word began one past the horizon, and was offered the delay of the plan that is known
+pub record IsNobody {J : Type 0} (i : Instance) (word : Incumbent) (crew : Crew J) : Type 0 where
+  pub hands : crew.hands.items ≡ []
+  pub pieces : crew.pieces.items ≡ []
+  pub tasks : crew.tasks.items ≡ []
+  pub opening : IsOpening word crew.watch
+  pub alone : out_count crew.watch ≡ 0
+  pub found : IsFound i crew.best
+  pub offered : offers crew.watch ≡ told [] crew.best
   pub top : first_value word ≡ i.cluster.horizon + 1

@@ -1,18 +1,18 @@
 //! How do workers begin, and what is left of the tree once all have ended?
 
-ghost use Rattle.std.specs.Prelude.{◌≡◌, ◌≤◌, ◌+◌, [], ◌∷◌, IfOk, OnOk, IfErr, IsPermutation, length, All};
+ghost use Rattle.std.specs.Prelude.{◌≡◌, ◌≤◌, ◌+◌, [], ◌∷◌, ◌++◌, IfOk, OnOk, IfErr, IsPermutation, length, All};
 ghost use Rattle.ttp_model.specs.Rules.{IsInstance};
 ghost use Rattle.subtree_tasks.specs.Task.{root_task, IsTask};
 ghost use Rattle.incumbent.specs.Watch.{first_value, offers, out_count, IsOpening, IsWatchOf};
 ghost use Rattle.steal_pool.specs.Hand.{all_pushed, all_taken, IsPool};
 ghost use Rattle.search_turns.specs.Searching.{limit_of, IsFound, IsSearching};
-ghost use Rattle.planner.specs.Crew.{budget_of, hands_of, told, Gathers, HasLeft, HaveEnded, IsJob};
+ghost use Rattle.planner.specs.Crew.{budget_of, hands_of, told, AreDealt, AreReportsOf, HasLeft, HaveEnded, IsJob, IsNobody};
 
 use crate::crew::{Crew, Job, run_all};
 use crate::reserve::Reserve;
 use branch_tree::Task;
 use incumbent::{Incumbent, Watch};
-use pool_worker::Gate;
+use pool_worker::{Gate, Report};
 use search_turns::{Options, Search, SolveFault};
 use std::alloc::Global;
 use std::marker::{Send, Sync};
@@ -67,7 +67,61 @@ fn share(left: u64, workers: usize) -> u64
     left.div_ceil(workers as u64).min(left)
 }
 
-/// A job for each hand, in order. The budget is dealt in equal parts, one more to the first.
+/// One job more.
+fn deal_one<J: Searched>(
+    alloc: Global,
+    word: &Incumbent,
+    opening: &mut Watch,
+    jobs: &mut Vec<Job<J>>,
+    hand: Hand<J>,
+    budget: u64,
+    workers: usize,
+) -> Result<(), MemoryFault>
+    requires { IsOpening word.now opening.old }
+    ensures hands { OnOk result (hands_of jobs.new.items ≡ hands_of jobs.old.items ++ hand ∷ []) }
+    ensures jobs { OnOk result (All (IsJob word.now) jobs.old.items → All (IsJob word.now) jobs.new.items) }
+    ensures budget { OnOk result (budget_of jobs.new.items ≡ budget_of jobs.old.items + budget) }
+    ensures many { OnOk result (length jobs.new.items ≡ length jobs.old.items + 1) }
+    ensures out { OnOk result (out_count opening.new ≡ out_count opening.old + 1) }
+    ensures opening { OnOk result (IsOpening word.now opening.new) }
+    ensures offers { OnOk result (offers opening.new ≡ offers opening.old) }
+{
+    let watch = word.split(alloc, opening)?;
+    jobs.push(Job {
+        hand,
+        watch,
+        budget,
+        workers,
+    })?;
+    Ok(())
+}
+
+/// A job for each hand, in order, in a list that is empty. The budget is dealt in equal parts, one more to the first.
+fn deal_all<J: Searched>(
+    alloc: Global,
+    word: &Incumbent,
+    opening: &mut Watch,
+    jobs: &mut Vec<Job<J>>,
+    hands: Vec<Hand<J>>,
+    budget: u64,
+) -> Result<(), MemoryFault>
+    requires opening { IsOpening word.now opening.old }
+    requires none { jobs.old.items ≡ [] }
+    ensures { OnOk result (AreDealt word.now budget opening.old opening.new hands.items jobs.new.items) }
+{
+    let workers = hands.len();
+    let mut ahead = workers;
+    let mut left = budget;
+    for hand in hands {
+        let budget = share(left, ahead);
+        left -= budget;
+        ahead = ahead.saturating_sub(1);
+        deal_one(alloc, word, opening, jobs, hand, budget, workers)?;
+    }
+    Ok(())
+}
+
+/// A job for each hand, in order.
 fn deal<J: Searched>(
     alloc: Global,
     word: &Incumbent,
@@ -76,40 +130,20 @@ fn deal<J: Searched>(
     budget: u64,
 ) -> Result<Vec<Job<J>>, MemoryFault>
     requires { IsOpening word.now opening.old }
-    ensures hands { IfOk result (λ jobs. hands_of jobs.items ≡ hands.items) }
-    ensures jobs { IfOk result (λ jobs. All (IsJob word.now) jobs.items) }
-    ensures budget { IfOk result (λ jobs. budget_of jobs.items ≤ budget) }
-    ensures out { IfOk result (λ jobs. out_count opening.new ≡ out_count opening.old + length jobs.items) }
-    ensures opening { OnOk result (IsOpening word.now opening.new) }
-    ensures offers { OnOk result (offers opening.new ≡ offers opening.old) }
+    ensures { IfOk result (λ jobs. AreDealt word.now budget opening.old opening.new hands.items jobs.items) }
 {
-    let workers = hands.len();
-    let mut jobs = Vec::with_capacity(alloc, workers)?;
-    let mut ahead = workers;
-    let mut left = budget;
-    for hand in hands {
-        let watch = word.split(alloc, opening)?;
-        let budget = share(left, ahead);
-        left -= budget;
-        ahead = ahead.saturating_sub(1);
-        jobs.push(Job {
-            hand,
-            watch,
-            budget,
-            workers,
-        })?;
-    }
+    let mut jobs = Vec::with_capacity(alloc, hands.len())?;
+    deal_all(alloc, word, opening, &mut jobs, hands, budget)?;
     Ok(jobs)
 }
 
-/// The tasks that are left in the deques of a pool, behind these.
-fn drained<J: Searched>(hands: Vec<Hand<J>>, tasks: Vec<Task>) -> Result<Vec<Task>, MemoryFault>
+/// The tasks that are left in the deques of a pool come behind these.
+fn drain_into<J: Searched>(hands: Vec<Hand<J>>, tasks: &mut Vec<Task>) -> Result<(), MemoryFault>
     requires pool { IsPool hands.items }
-    requires tasks { All (IsTask J.instance) tasks.items }
-    ensures left { IfOk result (λ all. HasLeft hands.items tasks.items all.items) }
-    ensures tasks { IfOk result (λ all. All (IsTask J.instance) all.items) }
+    requires tasks { All (IsTask J.instance) tasks.old.items }
+    ensures left { OnOk result (HasLeft hands.items tasks.old.items tasks.new.items) }
+    ensures tasks { OnOk result (All (IsTask J.instance) tasks.new.items) }
 {
-    let mut tasks = tasks;
     let mut left = drain(hands);
     'left: loop {
         match left.next() {
@@ -117,7 +151,7 @@ fn drained<J: Searched>(hands: Vec<Hand<J>>, tasks: Vec<Task>) -> Result<Vec<Tas
             None => break 'left,
         }
     }
-    Ok(tasks)
+    Ok(())
 }
 
 /// What is left of the tree once all workers have ended: the tasks that they hold, and those in their deques.
@@ -137,14 +171,76 @@ fn collected<J: Searched>(word: Incumbent, crew: Crew<J>) -> Result<Search, Memo
         best,
     } = crew;
     word.close(watch);
-    let tasks = drained(hands, tasks)?;
-    Ok(Search {
+    let mut search = Search {
         pieces,
         room,
         tasks,
         spared,
         best,
-    })
+    };
+    drain_into(hands, &mut search.tasks)?;
+    Ok(search)
+}
+
+/// Lets workers do jobs in threads of their own: what they report, in order. Memory that is kept meanwhile is given back once they have ended.
+fn reported<J: Searched + Send + Sync, G: Gate + Sync, R: Threads + Wait>(
+    rt: &R,
+    alloc: Global,
+    instance: &Instance,
+    word: &Incumbent,
+    gate: &G,
+    manner: Manner,
+    jobs: Vec<Job<J>>,
+) -> Result<Vec<Report<J>>, SolveFault>
+    requires of { instance.now ≡ J.instance }
+    requires jobs { All (IsJob word.now) jobs.items }
+    ensures reports { IfOk result (λ all. AreReportsOf J.instance jobs.items all.items) }
+{
+    let reserve = Reserve::begin(alloc, instance)?;
+    let reports = run_all(rt, alloc, instance, word, gate, manner, jobs);
+    reserve.give_back();
+    reports
+}
+
+/// Lets workers work the tree, and adds what they come to to a crew of nobody.
+fn crewed<J: Searched + Send + Sync, G: Gate + Sync, R: Threads + Wait>(
+    rt: &R,
+    alloc: Global,
+    instance: &Instance,
+    options: Options,
+    manner: Manner,
+    word: &Incumbent,
+    gate: &G,
+    crew: &mut Crew<J>,
+) -> Result<(), SolveFault>
+    requires of { instance.now ≡ J.instance }
+    requires instance { IsInstance J.instance }
+    requires nobody { IsNobody J.instance word.now crew.old }
+    ensures ended { OnOk result (HaveEnded J.instance word.now crew.new) }
+    ensures within { OnOk result (length crew.new.pieces.items ≤ options.budget) }
+{
+    let hands = planted::<J>(alloc, instance, options.workers.max(1) as usize)?;
+    let jobs = deal(alloc, word, &mut crew.watch, hands, options.budget)?;
+    let reports = reported(rt, alloc, instance, word, gate, manner, jobs)?;
+    crew.add_all(word, reports)?;
+    Ok(())
+}
+
+/// The word, and a crew of nobody. The plan that is known is told.
+fn begun<J: Searched>(
+    alloc: Global,
+    instance: &Instance,
+    workers: usize,
+    first: Option<(Plan, u64)>,
+) -> Result<(Incumbent, Crew<J>), MemoryFault>
+    requires { IsFound instance.now first }
+    ensures { IfOk result (λ r. IsNobody instance.now r.0 r.1) }
+{
+    let (word, opening) = Incumbent::begin(alloc, instance.past_horizon())?;
+    let mut opening = opening;
+    tell(&word, &mut opening, &first, instance);
+    let crew = Crew::<J>::begin(alloc, workers, opening, first)?;
+    Ok((word, crew))
 }
 
 /// What workers make of the tree in threads of their own, and what they leave of it.
@@ -163,16 +259,9 @@ pub fn searched<J: Searched + Send + Sync, G: Gate + Sync, R: Threads + Wait>(
     ensures within { IfOk result (λ s. length s.pieces.items ≤ options.budget) }
 {
     let _nodes = instance.nodes();
-    let hands = planted::<J>(alloc, instance, options.workers.max(1) as usize)?;
-    let (word, opening) = Incumbent::begin(alloc, instance.past_horizon())?;
-    let mut opening = opening;
-    tell(&word, &mut opening, &first, instance);
-    let jobs = deal(alloc, &word, &mut opening, hands, options.budget)?;
-    let crew = Crew::begin(alloc, jobs.len(), opening, first)?;
-    let reserve = Reserve::begin(alloc, instance)?;
-    let reports = run_all(rt, alloc, instance, &word, gate, manner, jobs)?;
-    reserve.give_back();
-    let crew = crew.add_all(&word, reports)?;
+    let (word, crew) = begun::<J>(alloc, instance, options.workers.max(1) as usize, first)?;
+    let mut crew = crew;
+    crewed(rt, alloc, instance, options, manner, &word, gate, &mut crew)?;
     let search = collected(word, crew)?;
     Ok(search)
 }

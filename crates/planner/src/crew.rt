@@ -10,7 +10,7 @@ ghost use Rattle.search_turns.specs.declared.outcome.SolveFault.TheVariants as f
 ghost use Rattle.search_turns.specs.Searching.{IsFound};
 ghost use Rattle.planner.specs.Crew.{IsBetter, IsReportOfJob, AreReportsOf, IsJob, hands_of, budget_of, tasks_in, Gathers};
 
-use crate::joining::{roomier, together};
+use crate::joining::{keep_roomier, take_in};
 use branch_tree::{Piece, Task};
 use certificate::Node;
 use incumbent::{Incumbent, Watch};
@@ -20,8 +20,8 @@ use std::alloc::Global;
 use std::marker::{Send, Sync};
 use std::snapshot::Snapshot;
 use std::sync::Wait;
-use std::thread;
 use std::thread::{Promise, Scope, Threads};
+use std::{mem, thread};
 use steal_pool::{Hand, Searched};
 use ttp_model::{Instance, MemoryFault, Plan};
 use used_decisions::Manner;
@@ -80,6 +80,13 @@ fn better(a: Option<(Plan, u64)>, b: Option<(Plan, u64)>) -> Option<(Plan, u64)>
     }
 }
 
+/// Of two plans that may be known the better takes the place of the first.
+fn keep_better(best: &mut Option<(Plan, u64)>, other: Option<(Plan, u64)>)
+    ensures { (i : Instance) → IsInstance i → IsFound i best.old → IsFound i other → IsBetter i best.old other best.new }
+{
+    *best = better(mem::replace(best, None), other);
+}
+
 /// What some workers came to: their hands, the opening watch with theirs joined, what they worked, room for a certificate's
 /// nodes, the tasks that they hold, and the best plan that they know.
 #[derive(Drop)]
@@ -114,6 +121,14 @@ fn hold(tasks: &mut Vec<Task>, spared: Vec<Task>, rest: Rest) -> Result<(), Memo
     }
 }
 
+/// One hand more.
+fn push_hand<J: Searched>(hands: &mut Vec<Hand<J>>, hand: Hand<J>) -> Result<(), MemoryFault>
+    ensures { OnOk result (hands.new.items ≡ hands.old.items ++ hand ∷ []) }
+{
+    hands.push(hand)?;
+    Ok(())
+}
+
 impl<J: Searched> Crew<J> {
     /// Nobody yet, with room for so many hands.
     pub fn begin(
@@ -140,54 +155,57 @@ impl<J: Searched> Crew<J> {
     }
 
     /// Takes in what a worker reports. Of the two lists of pieces that with more room takes in the other.
-    fn add(self, word: &Incumbent, report: Report<J>) -> Result<Self, MemoryFault>
-        requires opening { IsOpening word.now self.watch }
+    fn add(&mut self, word: &Incumbent, report: Report<J>) -> Result<(), MemoryFault>
+        requires opening { IsOpening word.now self.old.watch }
         requires watch { IsWatchOf word.now report.watch }
-        ensures gathers { IfOk result (λ all. (count : ℕ) (begun : List (Hand J)) (job : Job J) → IsInstance J.instance
-            → Gathers J.instance word.now count begun self → IsJob word.now job → IsReportOfJob J.instance job report
-            → Gathers J.instance word.now count (begun ++ job.hand ∷ []) all) }
-        ensures opening { IfOk result (λ all. IsOpening word.now all.watch) }
-        ensures more { IfOk result (λ all. length all.pieces.items ≡ length self.pieces.items + length report.pieces.items) }
+        ensures gathers { OnOk result ((count : ℕ) (begun : List (Hand J)) (job : Job J) → IsInstance J.instance
+            → Gathers J.instance word.now count begun self.old → IsJob word.now job → IsReportOfJob J.instance job report
+            → Gathers J.instance word.now count (begun ++ job.hand ∷ []) self.new) }
+        ensures opening { OnOk result (IsOpening word.now self.new.watch) }
+        ensures more { OnOk result (length self.new.pieces.items ≡ length self.old.pieces.items + length report.pieces.items) }
     {
-        let (mut hands, mut watch, mut tasks) = (self.hands, self.watch, self.tasks);
-        word.join(&mut watch, report.watch);
-        hands.push(report.hand)?;
-        let pieces = together(self.pieces, report.pieces)?;
-        let room = roomier(self.room, report.room);
-        let spared = self.spared.saturating_add(report.spared.len());
-        hold(&mut tasks, report.spared, report.rest)?;
-        let best = better(self.best, report.best);
-        Ok(Crew {
-            hands,
+        let Report {
+            hand,
             watch,
             pieces,
             room,
-            tasks,
-            spared,
             best,
-        })
+            rest,
+            spared,
+            ..
+        } = report;
+        word.join(&mut self.watch, watch);
+        keep_roomier(&mut self.room, room);
+        self.spared = self.spared.saturating_add(spared.len());
+        keep_better(&mut self.best, best);
+        let pushed = push_hand(&mut self.hands, hand);
+        let joined = take_in(&mut self.pieces, pieces);
+        let held = hold(&mut self.tasks, spared, rest);
+        pushed?;
+        joined?;
+        held?;
+        Ok(())
     }
 
     /// Takes in what workers report, in order.
-    pub fn add_all(self, word: &Incumbent, reports: Vec<Report<J>>) -> Result<Self, MemoryFault>
-        requires opening { IsOpening word.now self.watch }
+    pub fn add_all(&mut self, word: &Incumbent, reports: Vec<Report<J>>) -> Result<(), MemoryFault>
+        requires opening { IsOpening word.now self.old.watch }
         requires watches { All (λ report. IsWatchOf word.now report.watch) reports.items }
-        ensures gathers { IfOk result (λ all. (count : ℕ) (jobs : List (Job J)) → IsInstance J.instance
+        ensures gathers { OnOk result ((count : ℕ) (jobs : List (Job J)) → IsInstance J.instance
             → All (IsJob word.now) jobs → AreReportsOf J.instance jobs reports.items
-            → Gathers J.instance word.now count [] self → Gathers J.instance word.now count (hands_of jobs) all) }
-        ensures within { IfOk result (λ all. (jobs : List (Job J)) → AreReportsOf J.instance jobs reports.items
-            → length all.pieces.items ≤ length self.pieces.items + budget_of jobs) }
+            → Gathers J.instance word.now count [] self.old → Gathers J.instance word.now count (hands_of jobs) self.new) }
+        ensures within { OnOk result ((jobs : List (Job J)) → AreReportsOf J.instance jobs reports.items
+            → length self.new.pieces.items ≤ length self.old.pieces.items + budget_of jobs) }
     {
-        let mut crew = self;
         for report in reports {
-            crew = crew.add(word, report)?;
+            self.add(word, report)?;
         }
-        Ok(crew)
+        Ok(())
     }
 }
 
-/// Starts a thread for the last job, does the same for the others, and joins it: their reports, in the order of the jobs, in
-/// a list that has room for all.
+/// Starts a thread for the last job, does the same for the others, and joins it: their reports, in the order of the jobs, come
+/// into a list that has room for all.
 fn start_all<'s, E, J: Searched + Send + Sync + 's, G: Gate + Sync, R: Threads>(
     rt: &R,
     scope: &'s Scope<'s, E>,
@@ -196,20 +214,20 @@ fn start_all<'s, E, J: Searched + Send + Sync + 's, G: Gate + Sync, R: Threads>(
     word: &'s Incumbent,
     gate: &'s G,
     manner: Manner,
-    mut jobs: Vec<Job<J>>,
-    reports: Vec<Report<J>>,
-) -> Result<Vec<Report<J>>, SolveFault>
+    jobs: &mut Vec<Job<J>>,
+    reports: &mut Vec<Report<J>>,
+) -> Result<(), SolveFault>
     requires of { instance.now ≡ J.instance }
-    requires jobs { All (IsJob word.now) jobs.items }
-    requires none { reports.items ≡ [] }
-    requires room { vec_len jobs ≤ vec_capacity reports }
-    ensures reports { IfOk result (λ all. AreReportsOf J.instance jobs.items all.items) }
-    ensures many { IfOk result (λ all. vec_len all ≡ vec_len jobs) }
-    ensures room { IfOk result (λ all. vec_capacity all ≡ vec_capacity reports) }
+    requires jobs { All (IsJob word.now) jobs.old.items }
+    requires none { reports.old.items ≡ [] }
+    requires room { vec_len jobs.old ≤ vec_capacity reports.old }
+    ensures reports { OnOk result (AreReportsOf J.instance jobs.old.items reports.new.items) }
+    ensures many { vec_len reports.new ≤ vec_len jobs.old }
+    ensures room { vec_capacity reports.new ≡ vec_capacity reports.old }
     ensures err { IfErr result (λ e. e ≡ fault.Thread) }
 {
     let Some(job) = jobs.pop() else {
-        return Ok(reports);
+        return Ok(());
     };
     let promise = ReportOf(Snapshot::of(&job));
     let Ok(child) = scope.spawn_with(
@@ -225,9 +243,42 @@ fn start_all<'s, E, J: Searched + Send + Sync + 's, G: Gate + Sync, R: Threads>(
         rt, scope, alloc, instance, word, gate, manner, jobs, reports,
     );
     let report = child.join(rt);
-    let mut all = others?;
-    all.push_reserved(report);
-    Ok(all)
+    reports.push_reserved(report);
+    others
+}
+
+/// Starts a thread for each job and joins them: what they report, in order, in a list that has room for all.
+fn run_in<'s, E, J: Searched + Send + Sync + 's, G: Gate + Sync, R: Threads>(
+    rt: &R,
+    scope: &'s Scope<'s, E>,
+    alloc: Global,
+    instance: &'s Instance,
+    word: &'s Incumbent,
+    gate: &'s G,
+    manner: Manner,
+    mut jobs: Vec<Job<J>>,
+    mut reports: Vec<Report<J>>,
+) -> Result<Vec<Report<J>>, SolveFault>
+    requires of { instance.now ≡ J.instance }
+    requires jobs { All (IsJob word.now) jobs.items }
+    requires none { reports.items ≡ [] }
+    requires room { vec_len jobs ≤ vec_capacity reports }
+    ensures reports { IfOk result (λ all. AreReportsOf J.instance jobs.items all.items) }
+{
+    let ended = start_all(
+        rt,
+        scope,
+        alloc,
+        instance,
+        word,
+        gate,
+        manner,
+        &mut jobs,
+        &mut reports,
+    );
+    drop(jobs);
+    ended?;
+    Ok(reports)
 }
 
 /// A thread for each job, and what they report, in order. The list of reports is made before a thread is started: as they end
@@ -255,7 +306,7 @@ pub fn run_all<J: Searched + Send + Sync, G: Gate + Sync, R: Threads + Wait>(
             requires { (instance.now ≡ J.instance) × All (IsJob word.now) jobs.items × (reports.items ≡ []) × (vec_len jobs ≤ vec_capacity reports) }
             ensures reports { IfOk result (λ all. AreReportsOf J.instance jobs.items all.items) }
         {
-            start_all(
+            run_in(
                 rt, scope, alloc, instance, word, gate, manner, jobs, reports,
             )
         },

@@ -1,36 +1,39 @@
 //! How are lists of pieces put together in as little memory as can be?
 
-ghost use Rattle.std.specs.Prelude.{◌≡◌, ◌+◌, ◌++◌, IfOk, length};
+ghost use Rattle.std.specs.Prelude.{◌≡◌, ◌+◌, ◌++◌, OnOk, length};
 ghost use Rattle.planner.specs.Crew.{AreTogether};
 
 use branch_tree::Piece;
 use certificate::Node;
+use std::mem;
 use ttp_model::MemoryFault;
 
-/// Pieces and others after them. Takes no memory where the first list has room for all.
-pub fn joined(pieces: Vec<Piece>, others: Vec<Piece>) -> Result<Vec<Piece>, MemoryFault>
-    ensures { IfOk result (λ all. all.items ≡ pieces.items ++ others.items) }
+/// Pieces behind those of a list. Takes no memory where it has room for all.
+pub fn join(all: &mut Vec<Piece>, others: Vec<Piece>) -> Result<(), MemoryFault>
+    ensures { OnOk result (all.new.items ≡ all.old.items ++ others.items) }
 {
-    let (mut all, mut others) = (pieces, others);
+    let mut others = others;
     all.reserve_exact(others.len())?;
     all.append(&mut others)?;
-    Ok(all)
+    Ok(())
 }
 
-/// Both lists, in either order: that with more room takes in the other.
-pub fn together(pieces: Vec<Piece>, others: Vec<Piece>) -> Result<Vec<Piece>, MemoryFault>
-    ensures both { IfOk result (λ all. AreTogether pieces.items others.items all.items) }
-    ensures many { IfOk result (λ all. length all.items ≡ length pieces.items + length others.items) }
+/// Pieces behind those of a list or before them: of the two lists that with more room takes in the other.
+pub fn take_in(all: &mut Vec<Piece>, others: Vec<Piece>) -> Result<(), MemoryFault>
+    ensures both { OnOk result (AreTogether all.old.items others.items all.new.items) }
+    ensures many { OnOk result (length all.new.items ≡ length all.old.items + length others.items) }
 {
-    if pieces.capacity() < others.capacity() {
-        let all = joined(others, pieces)?;
-        return Ok(all);
+    if all.capacity() < others.capacity() {
+        let less = mem::replace(all, others);
+        return join(all, less);
     }
-    let all = joined(pieces, others)?;
-    Ok(all)
+    join(all, others)
 }
 
-/// That of two empty lists which has more room.
-pub fn roomier(a: Vec<Node>, b: Vec<Node>) -> Vec<Node> {
-    if a.capacity() < b.capacity() { b } else { a }
+/// Of two empty lists that which has more room takes the place of the first.
+pub fn keep_roomier(room: &mut Vec<Node>, other: Vec<Node>) {
+    let mut other = other;
+    if room.capacity() < other.capacity() {
+        mem::swap(room, &mut other);
+    }
 }

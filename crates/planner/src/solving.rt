@@ -1,22 +1,24 @@
 //! The shortest plan of an instance, or how short it can be at best.
 
-ghost use Rattle.std.specs.Prelude.{◌≡◌, ◌≤◌, ◌+◌, ◌++◌, ℕ, IfOk, IfErr, IfSome, length, []};
+ghost use Rattle.std.specs.Prelude.{◌≡◌, ◌≤◌, ◌+◌, ℕ, IfOk, IfErr, IfSome, All, length, []};
 ghost use Rattle.ttp_model.specs.Instance.{Instance};
 ghost use Rattle.subtree_tasks.specs.Account.{IsWholeTree};
+ghost use Rattle.subtree_tasks.specs.Task.{IsTask};
 ghost use Rattle.tree_check.specs.Proofs.{Proves};
 ghost use Rattle.dropped_decisions.specs.Branches.{branches};
 ghost use Rattle.tree_gathering.specs.Gathering.{AreShallow, HaveGoals, IsGathered};
 ghost use Rattle.search_turns.specs.declared.outcome.SolveFault.TheVariants as fault;
 ghost use Rattle.planner.specs.Answers.{answer_version, IsOutcome, Shows};
+ghost use Rattle.planner.specs.Closing.{AreClosedBehind, IsClosedTree};
 ghost use Rattle.search_turns.specs.Searching.{limit_of, IsFound, IsWorkedOut, IsSearching};
 
 use crate::closing::close_all;
 use crate::collecting::searched;
-use crate::joining::joined;
+use crate::joining::join;
 use crate::leaner::{lean_proof, leaner};
 use crate::reserve::Reserve;
 use crate::versions::answer_version;
-use branch_tree::Piece;
+use branch_tree::{Piece, Task};
 use certificate::{Cert, Node};
 use good_plan::good_plan;
 use pool_worker::{FreeGate, Gate};
@@ -45,13 +47,22 @@ fn first_plan<R: Threads + Sync>(
     }
 }
 
-/// Pieces and others after them, in no more room than they take: what is left of it is free.
-fn all_of(pieces: Vec<Piece>, others: Vec<Piece>) -> Result<Vec<Piece>, MemoryFault>
-    ensures { IfOk result (λ all. all.items ≡ pieces.items ++ others.items) }
+/// Closes tasks at goals of at most `top` ticks, and puts what closes them behind pieces, in no more room than all take: what is left
+/// of it is free. The least of `top` and the leaves' goals.
+fn close_behind(
+    alloc: Global,
+    instance: &Instance,
+    pieces: &mut Vec<Piece>,
+    tasks: Vec<Task>,
+    top: u32,
+) -> Result<u32, MemoryFault>
+    requires { All (IsTask instance.now) tasks.items }
+    ensures { IfOk result (AreClosedBehind instance.now pieces.old.items tasks.items top pieces.new.items) }
 {
-    let mut all = joined(pieces, others)?;
-    all.shrink_to_fit();
-    Ok(all)
+    let (closed, low) = close_all(alloc, instance, tasks, top)?;
+    join(pieces, closed)?;
+    pieces.shrink_to_fit();
+    Ok(low)
 }
 
 /// The certificate of a whole tree, in a list that may have room for its nodes.
@@ -66,6 +77,27 @@ fn certified(room: Vec<Node>, pieces: Vec<Piece>, low: u32) -> Result<Cert, Solv
         Ok(cert) => Ok(cert),
         Err(_) => Err(SolveFault::Memory),
     }
+}
+
+/// Closes what a search left at goals of at most `top` ticks: the certificate of its tree, and the bound.
+fn closed_tree(
+    alloc: Global,
+    instance: &Instance,
+    room: Vec<Node>,
+    pieces: Vec<Piece>,
+    tasks: Vec<Task>,
+    best: &Option<(Plan, u64)>,
+    top: u32,
+) -> Result<(Cert, u32), SolveFault>
+    requires searching { IsSearching instance.now pieces.items tasks.items best.now }
+    requires top { top ≡ limit_of instance.now best.now }
+    ensures ok { IfOk result (λ r. IsClosedTree instance.now pieces.items tasks.items top r.0 r.1) }
+    ensures err { IfErr result (λ e. e ≡ fault.Memory) }
+{
+    let mut pieces = pieces;
+    let low = close_behind(alloc, instance, &mut pieces, tasks, top)?;
+    let cert = certified(room, pieces, low)?;
+    Ok((cert, low))
 }
 
 /// Closes what a search left, and tells what its tree shows.
@@ -84,16 +116,14 @@ fn concluded(
 {
     let _nodes = instance.nodes();
     let Search {
-        pieces: worked,
+        pieces,
         room,
         tasks,
         best,
         ..
     } = search;
     let limit = limit(instance, &best);
-    let (closed, low) = close_all(alloc, instance, tasks, limit)?;
-    let pieces = all_of(worked, closed)?;
-    let cert = certified(room, pieces, low)?;
+    let (cert, low) = closed_tree(alloc, instance, room, pieces, tasks, &best, limit)?;
     let version = answer_version(instance);
     let told = cert.with_version(version);
     Ok(answer(why, best, limit, low, told))

@@ -2,9 +2,9 @@ use Rattle.planner.proofs.Pools.{pool_same}
 use Rattle.planner.proofs.Collected.{ends_searching}
 use Rattle.planner.proofs.collecting.collected.Goals as goal
 
-pub drained-requires-clause-pool : goal.drained-requires-clause-pool
-drained-requires-clause-pool g c = pool_same c.requires.ended.begun c.args.crew.hands.items c.requires.ended.gathers.same c.requires.ended.pool
+pub drain_into-requires-clause-pool : goal.drain_into-requires-clause-pool
+drain_into-requires-clause-pool g c = pool_same c.requires.ended.begun c.args.crew.hands.items c.requires.ended.gathers.same c.requires.ended.pool
 
 pub returns-clause-searching : goal.returns-clause-searching
 returns-clause-searching g c =
-    ends_searching g.J.Searched.instance c.args.word c.args.crew c.requires.instance c.requires.ended c.close.result c.close.ensures.least c.close.ensures.seen c.in_ok-tasks.tasks.items c.in_ok-tasks.ensures.tasks c.in_ok-tasks.ensures.left
+    ends_searching g.J.Searched.instance c.args.word c.args.crew c.requires.instance c.requires.ended c.close.result c.close.ensures.least c.close.ensures.seen c.drain_into.new.tasks.items c.in_ok-drain_into.ensures.tasks c.in_ok-drain_into.ensures.left

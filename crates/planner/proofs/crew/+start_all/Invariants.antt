@@ -2,4 +2,4 @@ use Rattle.std.proofs.Common.{vec_len}
 use Rattle.planner.proofs.crew.+start_all.Given as goal
 
 abbrev pub decreases-start_all : goal.decreases-start_all
-decreases-start_all g l = vec_len l.jobs
+decreases-start_all g l = vec_len l.jobs.now

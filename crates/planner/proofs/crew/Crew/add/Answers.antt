@@ -5,8 +5,8 @@ use Rattle.planner.proofs.crew.Crew.add.Goals as goal
 pub returns-clause-gathers : goal.returns-clause-gathers
 returns-clause-gathers g c = λ count begun job w gathers is kept.
     let i = g.J.Searched.instance in
-    let old = c.args.self in
+    let old = c.args.self.now in
     let report = c.args.report in
-    let new : Crew g.row.J.Denot = record { hands = c.push.new.self; watch = c.join.new.watch; pieces = c.in_ok-pieces.pieces; room = c.roomier-room.result; tasks = c.hold.new.tasks; spared = c.saturating_add-spared.result; best = c.better-best.result } in
-    let best = c.better-best.ensures i w gathers.found (found_of i kept.best.made report.best kept.best.best) in
-    gathers_more i c.args.word.now count begun old new job report w gathers is kept c.in_ok-push.ensures.items c.in_ok-pieces.ensures.both c.in_ok-hold.ensures best c.join.ensures.opening c.join.ensures.out c.join.ensures.seen c.join.ensures.offers
+    let new : Crew g.row.J.Denot = record { hands = c.push_hand-pushed.new.hands; watch = c.join.new.watch; pieces = c.take_in-joined.new.all; room = c.keep_roomier.new.room; tasks = c.hold-held.new.tasks; spared = c.saturating_add-self.result; best = c.keep_better.new.best } in
+    let best = c.keep_better.ensures i w gathers.found (found_of i kept.best.made report.best kept.best.best) in
+    gathers_more i c.args.word.now count begun old new job report w gathers is kept c.in_ok-pushed.ensures c.in_ok-joined.ensures.both c.in_ok-held.ensures best c.join.ensures.opening c.join.ensures.out c.join.ensures.seen c.join.ensures.offers

@@ -10,7 +10,7 @@ use Rattle.planner.proofs.crew.Crew.add_all.Goals as goal
 pub loop-report-init : goal.loop-report-init
 loop-report-init g c = record {
   opening = c.requires.opening;
-  gathers = λ count jobs w are each gathers. subst (λ (js : List (Job g.row.J.Denot)). Gathers g.J.Searched.instance c.args.word.now count (hands_of js) c.args.self) (sym (no_jobs g.J.Searched.instance jobs each)) gathers;
+  gathers = λ count jobs w are each gathers. subst (λ (js : List (Job g.row.J.Denot)). Gathers g.J.Searched.instance c.args.word.now count (hands_of js) c.args.self.now) (sym (no_jobs g.J.Searched.instance jobs each)) gathers;
   within = λ jobs each. omega arith;
 }
 
@@ -22,16 +22,16 @@ loop-report-preserved g c =
     let done = c.loop-report.yielded in
     let report = c.in-Some.report in
     record {
-      opening = c.in_ok-crew.ensures.opening;
+      opening = c.in_ok-add.ensures.opening;
       gathers = λ count jobs w are each gathers.
           let last = last_report i jobs done report each in
           let of_last = last_is word jobs last.front last.job last.is are in
           let before = inv.gathers count last.front w of_last.0 last.each gathers in
-          let after = c.in_ok-crew.ensures.gathers count (hands_of last.front) last.job w before of_last.1 last.last in
+          let after = c.in_ok-add.ensures.gathers count (hands_of last.front) last.job w before of_last.1 last.last in
           let hands = ap hands_of last.is ∙ map-append (λ (job : Job g.row.J.Denot). job.hand) last.front (last.job ∷ []) in
-          subst (λ (l : List (Hand g.row.J.Denot)). Gathers i word count l c.in_ok-crew.crew) (sym hands) after;
+          subst (λ (l : List (Hand g.row.J.Denot)). Gathers i word count l c.add.new.self) (sym hands) after;
       within = λ jobs each.
           let last = last_report i jobs done report each in
           let sum = ap budget_of last.is ∙ sum_by_push (λ (job : Job g.row.J.Denot). job.budget) last.front last.job in
-          omega (arith, sum, inv.within last.front last.each, c.in_ok-crew.ensures.more, last.last.within);
+          omega (arith, sum, inv.within last.front last.each, c.in_ok-add.ensures.more, last.last.within);
     }

@@ -8,7 +8,7 @@ use Rattle.planner.proofs.crew.Crew.add_all.Given as goal
 
 abbrev pub invariant-loop-report : goal.invariant-loop-report
 invariant-loop-report g l = record {
-  opening : IsOpening l.word l.crew.watch;
-  gathers : (count : ℕ) (jobs : List (Job g.row.J.Denot)) → IsInstance g.J.Searched.instance → All (IsJob l.word) jobs → AreReportsOf g.J.Searched.instance jobs l.yielded → Gathers g.J.Searched.instance l.word count [] l.initial.crew → Gathers g.J.Searched.instance l.word count (hands_of jobs) l.crew;
-  within : (jobs : List (Job g.row.J.Denot)) → AreReportsOf g.J.Searched.instance jobs l.yielded → length l.crew.pieces.items ≤ length l.initial.crew.pieces.items + budget_of jobs;
+  opening : IsOpening l.word l.self.watch;
+  gathers : (count : ℕ) (jobs : List (Job g.row.J.Denot)) → IsInstance g.J.Searched.instance → All (IsJob l.word) jobs → AreReportsOf g.J.Searched.instance jobs l.yielded → Gathers g.J.Searched.instance l.word count [] l.initial.self → Gathers g.J.Searched.instance l.word count (hands_of jobs) l.self;
+  within : (jobs : List (Job g.row.J.Denot)) → AreReportsOf g.J.Searched.instance jobs l.yielded → length l.self.pieces.items ≤ length l.initial.self.pieces.items + budget_of jobs;
 }

@@ -6,12 +6,12 @@ use Rattle.subtree_tasks.specs.Task.{Task, IsTask}
 use Rattle.steal_pool.specs.Drained.{taken_there}
 use Rattle.search_turns.proofs.Searching.{first_is}
 use Rattle.planner.proofs.Collected.{one_drained}
-use Rattle.planner.proofs.collecting.drained.Goals as goal
+use Rattle.planner.proofs.collecting.drain_into.Goals as goal
 
 pub left-init : goal.left-init
 left-init g c = record {
   drained = [];
-  tasks = sym (append-nil c.args.tasks.items);
+  tasks = sym (append-nil c.args.tasks.now.items);
   each = c.requires.tasks;
   pushes = refl;
   takes = IsPermutation-refl (taken_there c.drain-left.result);
@@ -24,7 +24,7 @@ left-preserved g c =
     let P : Task → Type 0 = IsTask g.J.Searched.instance in
     record {
       drained = inv.drained ++ task ∷ [];
-      tasks = c.in_ok-push-in-Some.ensures.items ∙ ap (λ (l : List Task). l ++ task ∷ []) inv.tasks ∙ append_assoc c.args.tasks.items inv.drained (task ∷ []);
+      tasks = c.in_ok-push-in-Some.ensures.items ∙ ap (λ (l : List Task). l ++ task ∷ []) inv.tasks ∙ append_assoc c.args.tasks.now.items inv.drained (task ∷ []);
       each = subst (All P) (sym c.in_ok-push-in-Some.ensures.items) (All-push P c.left.tasks.items task inv.each c.in-Some.ensures.task);
       pushes = c.next.ensures.pushed ∙ inv.pushes;
       takes = one_drained task inv.drained (taken_there c.next.new.self) (taken_there c.left.left) (taken_there c.drain-left.result) c.in-Some.ensures.some inv.takes;

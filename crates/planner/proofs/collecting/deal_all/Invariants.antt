@@ -2,7 +2,7 @@ use Rattle.std.proofs.Common.{◌≡◌, ◌+◌, length}
 use Rattle.std.specs.Prelude.{All}
 use Rattle.incumbent.specs.Watch.{offers, out_count, IsOpening}
 use Rattle.planner.specs.Crew.{budget_of, hands_of, IsJob}
-use Rattle.planner.proofs.collecting.deal.Given as goal
+use Rattle.planner.proofs.collecting.deal_all.Given as goal
 
 abbrev pub invariant-loop-hand : goal.invariant-loop-hand
 invariant-loop-hand g l = record {
