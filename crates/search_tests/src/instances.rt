@@ -160,7 +160,7 @@ pub const ONE_OF_FOUR: Sample = one_of_many!(&[&[0], &[1], &[2], &[3]]);
 
 pub const ONE_OF_SIXTEEN: Sample = one_of_many!(SIXTEEN_NODES);
 
-/// As many nodes as there may be, no two of which have slots of one length.
+/// Sixteen nodes, no two of which have slots of one length.
 const SIXTEEN_NODES: &[&[u32]] = &[
     &[3],
     &[0],

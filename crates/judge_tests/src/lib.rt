@@ -1,0 +1,59 @@
+//! Tests of what everything means, of the judges, and of what is loaded into a cluster.
+#![tactic(auto)]
+
+#[cfg(test)]
+mod alike;
+#[cfg(test)]
+mod building;
+#[cfg(test)]
+mod certificate_streams;
+#[cfg(test)]
+mod certificate_texts;
+#[cfg(test)]
+mod choices;
+#[cfg(test)]
+mod complete_choices;
+#[cfg(test)]
+mod decisions;
+#[cfg(test)]
+mod inference;
+#[cfg(test)]
+mod instance_texts;
+#[cfg(test)]
+mod instances;
+#[cfg(test)]
+mod kept_decisions;
+#[cfg(test)]
+mod limits;
+#[cfg(test)]
+mod lines;
+#[cfg(test)]
+mod loads;
+#[cfg(test)]
+mod node_tables;
+#[cfg(test)]
+mod outcomes;
+#[cfg(test)]
+mod plan_texts;
+#[cfg(test)]
+mod plan_verdicts;
+#[cfg(test)]
+mod plans;
+#[cfg(test)]
+mod propagation;
+#[cfg(test)]
+mod readers;
+#[cfg(test)]
+mod refusals;
+#[cfg(test)]
+mod replays;
+#[cfg(test)]
+mod settled_plans;
+#[cfg(test)]
+mod slot_times;
+#[cfg(test)]
+mod streamed_checks;
+#[cfg(test)]
+mod verdicts;
+#[cfg(test)]
+mod windows;

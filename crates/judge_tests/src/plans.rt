@@ -1,0 +1,63 @@
+//! Which valid plans, and which tables of their nodes, do several tests begin with?
+
+ghost use Rattle.std.specs.Prelude.{IfOk};
+ghost use Rattle.ttp_model.specs.Plans.{IsValid};
+ghost use Rattle.medl_tables.specs.Medl.{AreTables};
+
+use crate::outcomes::same;
+use medl_tables::{Medl, MemoryFault};
+use plan_check::check;
+use std::alloc::{AllocError, Global};
+use std::process::Abort;
+use ttp_model::{Instance, Numbers, Plan};
+use worked_instances::plan;
+
+/// The order, the capacities, the starts, the rounds and the channels of a plan.
+pub type Lists<'a> = [&'a [u32]; 5];
+
+/// The plan of these lists, whatever it breaks.
+pub fn plan_of(alloc: Global, lists: Lists) -> Result<Plan, AllocError> {
+    let [order, caps, starts, rounds, channels] = lists;
+    let mut plan = plan(alloc, order, caps, starts, rounds)?;
+    plan.channels = Numbers::new(Vec::from_slice(alloc, channels)?);
+    Ok(plan)
+}
+
+/// Whether a plan has these lists.
+pub fn has_lists(plan: &Plan, [order, caps, starts, rounds, channels]: Lists) -> bool {
+    plan.order.as_slice() == order
+        && plan.caps.as_slice() == caps
+        && plan.starts.as_slice() == starts
+        && plan.rounds.as_slice() == rounds
+        && plan.channels.as_slice() == channels
+}
+
+/// The plan of these lists, which is valid and has this delay.
+pub fn valid_plan(
+    rt: &impl Abort,
+    alloc: Global,
+    instance: &Instance,
+    lists: Lists,
+    delay: u64,
+) -> Result<Plan, AllocError>
+    ensures { IfOk result (IsValid instance.now) }
+{
+    let plan = plan_of(alloc, lists)?;
+    let found = check(instance, &plan).expect(rt, "a valid plan");
+    same(rt, "the delay", found, delay);
+    Ok(plan)
+}
+
+/// The tables of this plan, which is valid and has this delay.
+pub fn tables(
+    rt: &impl Abort,
+    alloc: Global,
+    instance: &Instance,
+    lists: Lists,
+    delay: u64,
+) -> Result<Medl, MemoryFault>
+    ensures { IfOk result (AreTables instance.now) }
+{
+    let plan = valid_plan(rt, alloc, instance, lists, delay)?;
+    Medl::of(alloc, instance, &plan)
+}
