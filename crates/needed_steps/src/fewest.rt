@@ -66,18 +66,15 @@ impl Marked for Fewest {
 impl Fewest {
     /// No marks.
     pub fn none(alloc: Global, instance: &Instance) -> Result<Self, MemoryFault> {
-        let needs = Needs::none(alloc, instance)?;
-        let (before_step, at_first) = two_values(alloc, instance)?;
-        let weights = Weights::none(alloc, instance)?;
         Ok(Fewest {
             targets: Vec::new(alloc),
             marked: Vec::new(alloc),
-            needs,
-            before_step,
-            at_first,
+            needs: Needs::none(alloc, instance)?,
+            before_step: Values::none(alloc, instance)?,
+            at_first: Values::none(alloc, instance)?,
             closings: Closings::none(alloc),
             light: Vec::new(alloc),
-            weights,
+            weights: Weights::none(alloc, instance)?,
         })
     }
 
@@ -220,13 +217,6 @@ impl Fewest {
         };
         ask(&mut self.needs, &moment, step, need);
     }
-}
-
-/// Memory for what is known before a step, and for what is known at first.
-fn two_values(alloc: Global, instance: &Instance) -> Result<(Values, Values), MemoryFault> {
-    let before_step = Values::none(alloc, instance)?;
-    let at_first = Values::none(alloc, instance)?;
-    Ok((before_step, at_first))
 }
 
 /// Goes back before the steps of a log, whose facts these are.

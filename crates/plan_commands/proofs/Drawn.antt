@@ -1,17 +1,15 @@
 -- Why `draw` is refused: as `verify` is, or for the number of slots.
-use Rattle.std.proofs.Common.{◌≡◌, ℕ, List, Option, None, Some, IfSome}
+use Rattle.std.proofs.Common.{ℕ, List, Option, None, Some, IfSome}
 use Rattle.plan_picture.specs.declared.picture.Shown.{Shown}
-use Rattle.plan_picture.specs.Picture.{too_many_slots}
 use Rattle.plan_commands.specs.declared.verdict.Verified.{Verified}
 use Rattle.command_streams.specs.declared.ending.Fault.{Fault}
 use Rattle.command_streams.specs.declared.ending.Fault.TheVariants.{NoMark, LossForm, InstanceText, Memory, PlanText, Plan, StatedDelay, CertificateText, Certificate, TooFewNodes, WrongLoss, TooManySlots, Search, TooLong, Unread, Unwritten}
 use Rattle.command_streams.specs.declared.ending.End.{End}
 use Rattle.command_streams.specs.declared.ending.End.TheVariants.{Refused}
-use Rattle.command_streams.specs.Outcomes.{IsCommandAnswer}
-use Rattle.command_streams.proofs.Outcomes.{keeps}
-use Rattle.plan_commands.specs.Drawings.{IsDrawRefused}
-use Rattle.plan_commands.specs.Verdicts.{IsRefused, IsVerified}
-use Rattle.plan_commands.proofs.Tellings.{refused_outcome}
+use Rattle.command_streams.specs.Outcomes.{IsCommandAnswer, OnDone}
+use Rattle.plan_commands.specs.Drawings.{IsDrawAnswer, IsDrawRefused, IsPictureText, IsUndrawn}
+use Rattle.plan_commands.specs.Verdicts.{IsRefused, IsTold, IsVerified}
+use Rattle.plan_commands.proofs.Tellings.{answered, refused_outcome}
 
 module _ (shown : Shown) (instance plan : List ℕ) where
   as_drawn : (fault : Fault) → IsRefused instance plan fault → IsDrawRefused shown instance plan fault
@@ -40,7 +38,28 @@ module _ (shown : Shown) (IsTextAt : List ℕ → List ℕ → End → List ℕ 
   undrawn (Some instance) (Some plan) fault refused =
       refused_outcome (IsTextAt instance plan) (IsDrawRefused shown instance plan) (λ never. never) old fault (as_drawn shown instance plan fault refused)
 
-  pub too_large : (a b : Option (List ℕ)) (v : Verified) (count : ℕ) → IfSome a (λ instance. IfSome b (λ plan. IsVerified instance plan v)) → too_many_slots v.instance v.plan shown ≡ Some count → IfSome a (λ instance. IfSome b (λ plan. IsCommandAnswer (IsTextAt instance plan) (IsDrawRefused shown instance plan) old old (Refused (TooManySlots count))))
-  too_large None b v count is many = tt
-  too_large (Some instance) None v count is many = tt
-  too_large (Some instance) (Some plan) v count is many = (record { verified = v; is = is; many = many }, keeps old)
+module _ (width : ℕ) (shown : Shown) where
+  too_large : (instance plan : List ℕ) (v : Verified) → IsVerified instance plan v → (fault : Fault) → IsUndrawn shown v.instance v.plan fault → IsDrawRefused shown instance plan fault
+  too_large instance plan v is Memory why = tt
+  too_large instance plan v is (TooManySlots count) why = record { verified = v; is = is; many = why }
+  too_large instance plan v is NoMark why = absurd why
+  too_large instance plan v is (LossForm k) why = absurd why
+  too_large instance plan v is (InstanceText error) why = absurd why
+  too_large instance plan v is (PlanText error) why = absurd why
+  too_large instance plan v is (Plan fault) why = absurd why
+  too_large instance plan v is (StatedDelay d) why = absurd why
+  too_large instance plan v is (CertificateText error) why = absurd why
+  too_large instance plan v is (Certificate fault) why = absurd why
+  too_large instance plan v is TooFewNodes why = absurd why
+  too_large instance plan v is (WrongLoss k) why = absurd why
+  too_large instance plan v is (Search fault) why = absurd why
+  too_large instance plan v is (Unread source) why = absurd why
+  too_large instance plan v is (TooLong source) why = absurd why
+  too_large instance plan v is (Unwritten sink) why = absurd why
+
+  pub drawn_of_readers : (a b : Option (List ℕ)) (v : Verified) (old new : Option (List ℕ)) (end : End) → IfSome a (λ instance. IfSome b (λ plan. IsVerified instance plan v)) → IsCommandAnswer (OnDone (IsPictureText width shown v.instance v.plan)) (IsUndrawn shown v.instance v.plan) old new end → IfSome a (λ instance. IfSome b (λ plan. IsDrawAnswer width shown instance plan old new end))
+  drawn_of_readers None b v old new end is drawn = tt
+  drawn_of_readers (Some instance) None v old new end is drawn = tt
+  drawn_of_readers (Some instance) (Some plan) v old new end is drawn =
+      answered (IsPictureText width shown v.instance v.plan) (IsTold (IsVerified instance plan) (IsPictureText width shown)) (λ text tells. record { verified = v; is = is; tells = tells })
+      (IsUndrawn shown v.instance v.plan) (IsDrawRefused shown instance plan) (too_large instance plan v is) old new end drawn

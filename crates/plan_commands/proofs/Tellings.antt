@@ -9,11 +9,11 @@ use Rattle.command_streams.specs.declared.ending.Source.TheVariants as source
 use Rattle.command_streams.specs.declared.ending.Fault.{Fault}
 use Rattle.command_streams.specs.declared.ending.Fault.TheVariants.{NoMark, LossForm, InstanceText, Memory, PlanText, Plan, StatedDelay, CertificateText, Certificate, TooFewNodes, WrongLoss, TooManySlots, Search, TooLong, Unread, Unwritten}
 use Rattle.command_streams.specs.declared.ending.End.{End}
-use Rattle.command_streams.specs.declared.ending.End.TheVariants.{Refused}
-use Rattle.command_streams.specs.Outcomes.{IsCommandAnswer, IsWriting, IsWritingUnlessMemory, OnDone}
+use Rattle.command_streams.specs.declared.ending.End.TheVariants.{Done, Absent, Stopped, Refused}
+use Rattle.command_streams.specs.Outcomes.{IfRefused, IsCommandAnswer, IsWriting, IsWritingUnlessMemory, OnDone}
 use Rattle.command_streams.specs.Limits.{plan_limit}
 use Rattle.command_streams.specs.Streams.{IsReadFault}
-use Rattle.command_streams.specs.Instances.{HasInstance, StatesSome}
+use Rattle.command_streams.specs.Instances.{HasInstance, IsOfInstance, StatesSome}
 use Rattle.command_streams.proofs.Outcomes.{keeps, made_outcome, written_outcome}
 use Rattle.command_streams.proofs.StatedOnce.{by_read_fault}
 use Rattle.plan_commands.specs.Verdicts.{IsPlanFault, IsRefused, IsTold, IsValidLine, IsVerdict, IsVerified, IsVerifiedPlan, valid_line}
@@ -76,6 +76,51 @@ told_of_readers Tells RefusedBy (Some instance) None v text old new end is tells
 told_of_readers Tells RefusedBy (Some instance) (Some plan) v text old new end is tells writing =
     written_outcome (IsTold (IsVerified instance plan) Tells) (RefusedBy instance plan) text (record { verified = v; is = is; tells = tells }) old new end writing
 
+-- a text that is made and told of what two readers tell
+pub made_of_readers : (Tells : Instance → Table → List ℕ → Type 0) (RefusedBy : List ℕ → List ℕ → Fault → Type 0) → ((instance plan : List ℕ) → RefusedBy instance plan Memory) → (a b : Option (List ℕ)) (v : Verified) (text : List ℕ) (old new : Option (List ℕ)) (end : End) → IfSome a (λ instance. IfSome b (λ plan. IsVerified instance plan v)) → Tells v.instance v.plan text → IsWritingUnlessMemory text old new end → IfSome a (λ instance. IfSome b (λ plan. IsCommandAnswer (OnDone (IsTold (IsVerified instance plan) Tells)) (RefusedBy instance plan) old new end))
+made_of_readers Tells RefusedBy may None b v text old new end is tells writing = tt
+made_of_readers Tells RefusedBy may (Some instance) None v text old new end is tells writing = tt
+made_of_readers Tells RefusedBy may (Some instance) (Some plan) v text old new end is tells writing =
+    made_outcome (IsTold (IsVerified instance plan) Tells) (RefusedBy instance plan) text (record { verified = v; is = is; tells = tells }) old new (may instance plan) end writing
+
+-- what is answered of a plan is answered of the texts that spell it
+module _ (IsText Tells : List ℕ → Type 0) (told : (text : List ℕ) → IsText text → Tells text) where
+  told_at : (end : End) (text : List ℕ) → OnDone IsText end text → OnDone Tells end text
+  told_at Done text is = told text is
+  told_at Absent text is = absurd is
+  told_at Stopped text is = absurd is
+  told_at (Refused fault) text is = absurd is
+
+  module _ (IsUndone IsRefusedBy : Fault → Type 0) (refused : (fault : Fault) → IsUndone fault → IsRefusedBy fault) (old new : Option (List ℕ)) where
+    pub answered : (end : End) → IsCommandAnswer (OnDone IsText) IsUndone old new end → IsCommandAnswer (OnDone Tells) IsRefusedBy old new end
+    answered Done written = record { text = written.text; is = told written.text written.is; appends = written.appends }
+    answered Absent written = absurd written.is
+    answered Stopped written = absurd written.is
+    answered (Refused (Unwritten sink.Out)) cut = record { at = cut.at; text = cut.text; is = told_at cut.at cut.text cut.is; part = cut.part }
+    answered (Refused (Unwritten sink.Certificate)) why = (refused _ why.0, why.1)
+    answered (Refused NoMark) why = (refused _ why.0, why.1)
+    answered (Refused (LossForm k)) why = (refused _ why.0, why.1)
+    answered (Refused (InstanceText error)) why = (refused _ why.0, why.1)
+    answered (Refused Memory) why = (refused _ why.0, why.1)
+    answered (Refused (PlanText error)) why = (refused _ why.0, why.1)
+    answered (Refused (Plan fault)) why = (refused _ why.0, why.1)
+    answered (Refused (StatedDelay d)) why = (refused _ why.0, why.1)
+    answered (Refused (CertificateText error)) why = (refused _ why.0, why.1)
+    answered (Refused (Certificate fault)) why = (refused _ why.0, why.1)
+    answered (Refused TooFewNodes) why = (refused _ why.0, why.1)
+    answered (Refused (TooManySlots count)) why = (refused _ why.0, why.1)
+    answered (Refused (WrongLoss k)) why = (refused _ why.0, why.1)
+    answered (Refused (Search fault)) why = (refused _ why.0, why.1)
+    answered (Refused (Unread source)) why = (refused _ why.0, why.1)
+    answered (Refused (TooLong source)) why = (refused _ why.0, why.1)
+
+-- what is no fault of the instance says nothing of one
+pub never_of_instance : (Holds : Type 0) (end : End) → IfRefused end (λ fault. ¬ IsOfInstance fault) → IfRefused end (λ fault. IsOfInstance fault → Holds)
+never_of_instance Holds Done never = tt
+never_of_instance Holds Absent never = tt
+never_of_instance Holds Stopped never = tt
+never_of_instance Holds (Refused fault) never = λ is. absurd (never is)
+
 -- a command that is refused has written nothing
 module _ (IsTextAt : End → List ℕ → Type 0) (IsRefusedBy : Fault → Type 0) (never : ¬ IsRefusedBy (Unwritten sink.Out)) (old : Option (List ℕ)) where
   pub refused_outcome : (fault : Fault) → IsRefusedBy fault → IsCommandAnswer IsTextAt IsRefusedBy old old (Refused fault)
@@ -101,9 +146,3 @@ pub refused_of_readers : (IsTextAt : List ℕ → List ℕ → End → List ℕ 
 refused_of_readers IsTextAt None b old fault refused = tt
 refused_of_readers IsTextAt (Some instance) None old fault refused = tt
 refused_of_readers IsTextAt (Some instance) (Some plan) old fault refused = refused_outcome (IsTextAt instance plan) (IsRefused instance plan) (λ never. never) old fault refused
-
--- where memory is refused, nothing is written, whatever the readers gave
-pub memory_of_readers : (IsTextAt : List ℕ → List ℕ → End → List ℕ → Type 0) (RefusedBy : List ℕ → List ℕ → Fault → Type 0) → ((instance plan : List ℕ) → RefusedBy instance plan Memory) → (a b old : Option (List ℕ)) → IfSome a (λ instance. IfSome b (λ plan. IsCommandAnswer (IsTextAt instance plan) (RefusedBy instance plan) old old (Refused Memory)))
-memory_of_readers IsTextAt RefusedBy may None b old = tt
-memory_of_readers IsTextAt RefusedBy may (Some instance) None old = tt
-memory_of_readers IsTextAt RefusedBy may (Some instance) (Some plan) old = (may instance plan, keeps old)

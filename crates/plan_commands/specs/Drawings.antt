@@ -6,7 +6,7 @@ use Rattle.plan_picture.specs.declared.picture.Shown.{Shown}
 use Rattle.plan_picture.specs.Picture.{picture_text, too_many_slots}
 use Rattle.plan_commands.specs.declared.verdict.Verified.{Verified}
 use Rattle.command_streams.specs.declared.ending.Fault.{Fault}
-use Rattle.command_streams.specs.declared.ending.Fault.TheVariants.{TooManySlots}
+use Rattle.command_streams.specs.declared.ending.Fault.TheVariants.{Memory, TooManySlots}
 use Rattle.command_streams.specs.declared.ending.End.{End}
 use Rattle.command_streams.specs.Outcomes.{IsCommandAnswer, OnDone}
 use Rattle.plan_commands.specs.Verdicts.{IsRefused, IsTold, IsVerified}
@@ -15,6 +15,12 @@ use Rattle.plan_commands.specs.Verdicts.{IsRefused, IsTold, IsVerified}
 pub record IsPictureText (width : ℕ) (shown : Shown) (i : Instance) (plan : Table) (text : List ℕ) : Type 0 where
   pub few : too_many_slots i plan shown ≡ None
   pub is : text ≡ picture_text i plan width shown
+
+-- why a valid plan isn't drawn
+abbrev pub IsUndrawn : Shown → Instance → Table → Fault → Type 0
+IsUndrawn shown i plan Memory = Unit {0}
+IsUndrawn shown i plan (TooManySlots count) = too_many_slots i plan shown ≡ Some count
+IsUndrawn shown i plan _ = ⊥
 
 -- an instance and a valid plan are verified, and its picture would have so many slots, which are too many
 pub record IsTooLarge (shown : Shown) (instance plan : List ℕ) (count : ℕ) : Type 0 where

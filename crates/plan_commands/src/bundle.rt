@@ -109,7 +109,11 @@ pub fn verify_bundle<R: Read, W: Write>(alloc: Global, input: &mut R, out: &mut 
         → IsUnreadInstance (R.remaining input.old) (R.remaining input.new)) }
 {
     match verified_of_bundle(alloc, input) {
-        Ok(verified) => write_verdict(alloc, verified.delay, out),
+        Ok(verified) => {
+            let end = write_verdict(alloc, verified.delay, out);
+            drop(verified);
+            end
+        }
         Err(fault) => End::Refused(fault),
     }
 }

@@ -8,8 +8,8 @@ ghost use Rattle.std.specs.Io.KnownBytes.{Keeps};
 ghost use Rattle.command_streams.specs.Limits.{instance_limit, plan_limit};
 ghost use Rattle.command_streams.specs.Streams.{TakesAtMost};
 ghost use Rattle.command_streams.specs.Instances.{IsOfInstance};
-ghost use Rattle.command_streams.specs.Outcomes.{IfRefused};
-ghost use Rattle.plan_commands.specs.NodeTables.{IsLoadsText, IsTablesAnswer};
+ghost use Rattle.command_streams.specs.Outcomes.{IfRefused, IsWritingUnlessMemory};
+ghost use Rattle.plan_commands.specs.NodeTables.{IsLoadsText, IsTablesAnswer, loads_text};
 
 use crate::verdict::verified_of_readers;
 use command_streams::{End, Fault, end_with};
@@ -40,6 +40,17 @@ fn loads_text(alloc: Global, instance: &Instance, plan: &Plan) -> Result<Vec<u8>
     Ok(text)
 }
 
+/// Writes the node tables of a valid plan, and then its guardian windows.
+fn write_loads<W: Write>(alloc: Global, instance: &Instance, plan: &Plan, out: &mut W) -> End
+    requires { IsValid instance.now plan.now }
+    ensures { IsWritingUnlessMemory (loads_text instance.now plan.now) (W.contents out.old) (W.contents out.new) result }
+{
+    match loads_text(alloc, instance, plan) {
+        Ok(text) => end_with(out, text.as_slice()),
+        Err(_) => End::Refused(Fault::Memory),
+    }
+}
+
 /// Verifies a plan as `verify` does, and writes its node tables and then its guardian windows, with a line for each
 /// node, slot and node, and slot of the cycle. Where anything else ends the command nothing is written, and after a
 /// failed write a prefix of the text stands.
@@ -56,12 +67,12 @@ pub fn tables<I: Read, P: Read, W: Write>(
     ensures plan { TakesAtMost (plan_limit + 1) (P.remaining plan.old) (P.remaining plan.new) }
     ensures order { IfRefused result (λ fault. IsOfInstance fault → Keeps (P.remaining plan.old) (P.remaining plan.new)) }
 {
-    let verified = match verified_of_readers(alloc, instance, plan) {
-        Ok(verified) => verified,
-        Err(fault) => return End::Refused(fault),
-    };
-    match loads_text(alloc, &verified.instance, &verified.plan) {
-        Ok(text) => end_with(out, text.as_slice()),
-        Err(_) => End::Refused(Fault::Memory),
+    match verified_of_readers(alloc, instance, plan) {
+        Ok(verified) => {
+            let end = write_loads(alloc, &verified.instance, &verified.plan, out);
+            drop(verified);
+            end
+        }
+        Err(fault) => End::Refused(fault),
     }
 }

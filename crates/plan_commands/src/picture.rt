@@ -1,19 +1,46 @@
 //! What `draw` says of an instance and a plan.
 
 ghost use Rattle.std.specs.Prelude.{◌+◌, ◌≤◌, IfSome};
+ghost use Rattle.ttp_model.specs.Plans.{IsValid};
 ghost use Rattle.std.specs.Io.KnownBytes.{Keeps};
 ghost use Rattle.plan_picture.specs.Limits.{least_width, most_width};
 ghost use Rattle.command_streams.specs.Limits.{instance_limit, plan_limit};
 ghost use Rattle.command_streams.specs.Streams.{TakesAtMost};
 ghost use Rattle.command_streams.specs.Instances.{IsOfInstance};
-ghost use Rattle.command_streams.specs.Outcomes.{IfRefused};
-ghost use Rattle.plan_commands.specs.Drawings.{IsDrawAnswer};
+ghost use Rattle.command_streams.specs.Outcomes.{IfRefused, IsCommandAnswer, OnDone};
+ghost use Rattle.plan_commands.specs.Drawings.{IsDrawAnswer, IsPictureText, IsUndrawn};
 
 use crate::verdict::verified_of_readers;
 use command_streams::{End, Fault, end_with};
 use plan_picture::{Shown, print, too_many_slots};
 use std::alloc::Global;
 use std::io::{Read, Write};
+use ttp_model::{Instance, Plan};
+
+/// Writes the picture of a valid plan's cycle, unless it has too many slots.
+fn write_picture<W: Write>(
+    alloc: Global,
+    instance: &Instance,
+    plan: &Plan,
+    width: u32,
+    shown: Shown,
+    out: &mut W,
+) -> End
+    requires valid { IsValid instance.now plan.now }
+    requires least { least_width ≤ width }
+    requires most { width ≤ most_width }
+    ensures answer { IsCommandAnswer (OnDone (IsPictureText width shown instance.now plan.now)) (IsUndrawn shown instance.now plan.now)
+        (W.contents out.old) (W.contents out.new) result }
+    ensures later { IfRefused result (λ fault. ¬ IsOfInstance fault) }
+{
+    match too_many_slots(instance, plan, shown) {
+        Some(slots) => End::Refused(Fault::TooManySlots(slots)),
+        None => match print(alloc, instance, plan, width, shown) {
+            Ok(text) => end_with(out, text.as_bytes()),
+            Err(_) => End::Refused(Fault::Memory),
+        },
+    }
+}
 
 /// Verifies a plan as `verify` does, and writes a picture of its cycle, so many pixels wide. One that shows each slot may
 /// have 100,000 of them. Where anything else ends the command nothing is written, and after a failed write a prefix of
@@ -35,15 +62,12 @@ pub fn draw_run<I: Read, P: Read, W: Write>(
     ensures plan { TakesAtMost (plan_limit + 1) (P.remaining plan.old) (P.remaining plan.new) }
     ensures order { IfRefused result (λ fault. IsOfInstance fault → Keeps (P.remaining plan.old) (P.remaining plan.new)) }
 {
-    let verified = match verified_of_readers(alloc, instance, plan) {
-        Ok(verified) => verified,
-        Err(fault) => return End::Refused(fault),
-    };
-    match too_many_slots(&verified.instance, &verified.plan, shown) {
-        Some(slots) => End::Refused(Fault::TooManySlots(slots)),
-        None => match print(alloc, &verified.instance, &verified.plan, width, shown) {
-            Ok(text) => end_with(out, text.as_bytes()),
-            Err(_) => End::Refused(Fault::Memory),
-        },
+    match verified_of_readers(alloc, instance, plan) {
+        Ok(verified) => {
+            let end = write_picture(alloc, &verified.instance, &verified.plan, width, shown, out);
+            drop(verified);
+            end
+        }
+        Err(fault) => End::Refused(fault),
     }
 }

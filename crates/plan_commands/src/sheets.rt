@@ -1,11 +1,13 @@
 //! What `schedule` says of an instance and a plan.
 
 ghost use Rattle.std.specs.Prelude.{◌+◌, IfSome};
+ghost use Rattle.ttp_model.specs.Plans.{IsValid};
+ghost use Rattle.plan_sheets.specs.Tables.{table_text};
 ghost use Rattle.std.specs.Io.KnownBytes.{Keeps};
 ghost use Rattle.command_streams.specs.Limits.{instance_limit, plan_limit};
 ghost use Rattle.command_streams.specs.Streams.{TakesAtMost};
 ghost use Rattle.command_streams.specs.Instances.{IsOfInstance};
-ghost use Rattle.command_streams.specs.Outcomes.{IfRefused};
+ghost use Rattle.command_streams.specs.Outcomes.{IfRefused, IsWritingUnlessMemory};
 ghost use Rattle.plan_commands.specs.Schedules.{IsScheduleAnswer};
 
 use crate::verdict::verified_of_readers;
@@ -13,6 +15,24 @@ use command_streams::{End, Fault, end_with};
 use plan_sheets::{Table, print};
 use std::alloc::Global;
 use std::io::{Read, Write};
+use ttp_model::{Instance, Plan};
+
+/// Writes a table of a valid plan.
+fn write_sheet<W: Write>(
+    alloc: Global,
+    instance: &Instance,
+    plan: &Plan,
+    table: Table,
+    out: &mut W,
+) -> End
+    requires { IsValid instance.now plan.now }
+    ensures { IsWritingUnlessMemory (table_text instance.now plan.now table) (W.contents out.old) (W.contents out.new) result }
+{
+    match print(alloc, instance, plan, table) {
+        Ok(text) => end_with(out, text.as_slice()),
+        Err(_) => End::Refused(Fault::Memory),
+    }
+}
 
 /// Verifies a plan as `verify` does, and writes a table of it: its processes, the slots of its cycle, or its messages.
 /// Where anything else ends the command nothing is written, and after a failed write a prefix of the text stands.
@@ -30,12 +50,12 @@ pub fn schedule_run<I: Read, P: Read, W: Write>(
     ensures plan { TakesAtMost (plan_limit + 1) (P.remaining plan.old) (P.remaining plan.new) }
     ensures order { IfRefused result (λ fault. IsOfInstance fault → Keeps (P.remaining plan.old) (P.remaining plan.new)) }
 {
-    let verified = match verified_of_readers(alloc, instance, plan) {
-        Ok(verified) => verified,
-        Err(fault) => return End::Refused(fault),
-    };
-    match print(alloc, &verified.instance, &verified.plan, table) {
-        Ok(text) => end_with(out, text.as_slice()),
-        Err(_) => End::Refused(Fault::Memory),
+    match verified_of_readers(alloc, instance, plan) {
+        Ok(verified) => {
+            let end = write_sheet(alloc, &verified.instance, &verified.plan, table, out);
+            drop(verified);
+            end
+        }
+        Err(fault) => End::Refused(fault),
     }
 }

@@ -108,7 +108,11 @@ pub fn verify<I: Read, P: Read, W: Write>(
     ensures order { IfRefused result (λ fault. IsOfInstance fault → Keeps (P.remaining plan.old) (P.remaining plan.new)) }
 {
     match verified_of_readers(alloc, instance, plan) {
-        Ok(verified) => write_verdict(alloc, verified.delay, out),
+        Ok(verified) => {
+            let end = write_verdict(alloc, verified.delay, out);
+            drop(verified);
+            end
+        }
         Err(fault) => End::Refused(fault),
     }
 }

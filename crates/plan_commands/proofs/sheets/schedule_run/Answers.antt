@@ -1,20 +1,18 @@
-use Rattle.command_streams.proofs.Outcomes.{ended_later}
+use Rattle.std.proofs.Common.{refl}
+use Rattle.command_streams.proofs.Outcomes.{written_later}
 use Rattle.command_streams.specs.Outcomes.{OnDone}
 use Rattle.plan_commands.specs.Schedules.{IsTableText}
 use Rattle.plan_commands.specs.Verdicts.{IsRefused, IsTold, IsVerified}
-use Rattle.plan_commands.proofs.Tellings.{memory_of_readers, refused_of_readers, told_of_readers}
+use Rattle.plan_commands.proofs.Tellings.{made_of_readers, refused_of_readers}
 use Rattle.plan_commands.proofs.sheets.schedule_run.Goals as goal
 
-pub returns-in-Ok-print-clause-answer : goal.returns-in-Ok-print-clause-answer
-returns-in-Ok-print-clause-answer g c =
-    told_of_readers (IsTableText c.args.table) IsRefused _ _ c.in-Ok.verified _ _ _ _ c.in-Ok.ensures.judged c.in-Ok-print.ensures (rw c.as_slice.ensures.value at c.end_with.ensures)
+pub returns-in-Ok-clause-answer : goal.returns-in-Ok-clause-answer
+returns-in-Ok-clause-answer g c =
+    made_of_readers (IsTableText c.args.table) IsRefused (λ _ _. tt) _ _ c.in-Ok.verified _ _ _ _ c.in-Ok.ensures.judged refl c.write_sheet-end.ensures
 
-pub returns-in-Ok-print-clause-order : goal.returns-in-Ok-print-clause-order
-returns-in-Ok-print-clause-order g c = ended_later _ _ _ _ _ c.end_with.ensures
+pub returns-in-Ok-clause-order : goal.returns-in-Ok-clause-order
+returns-in-Ok-clause-order g c = written_later _ _ _ _ _ c.write_sheet-end.ensures
 
 pub returns-in-Err-clause-answer : goal.returns-in-Err-clause-answer
 returns-in-Err-clause-answer g c =
     refused_of_readers (λ instance plan. OnDone (IsTold (IsVerified instance plan) (IsTableText c.args.table))) _ _ _ c.in-Err.fault c.in-Err.ensures.judged
-
-pub returns-clause-answer : goal.returns-clause-answer
-returns-clause-answer g c = memory_of_readers (λ instance plan. OnDone (IsTold (IsVerified instance plan) (IsTableText c.args.table))) IsRefused (λ _ _. tt) _ _ _
