@@ -66,15 +66,18 @@ impl Marked for Fewest {
 impl Fewest {
     /// No marks.
     pub fn none(alloc: Global, instance: &Instance) -> Result<Self, MemoryFault> {
+        let needs = Needs::none(alloc, instance)?;
+        let (before_step, at_first) = two_values(alloc, instance)?;
+        let weights = Weights::none(alloc, instance)?;
         Ok(Fewest {
             targets: Vec::new(alloc),
             marked: Vec::new(alloc),
-            needs: Needs::none(alloc, instance)?,
-            before_step: Values::none(alloc, instance)?,
-            at_first: Values::none(alloc, instance)?,
+            needs,
+            before_step,
+            at_first,
             closings: Closings::none(alloc),
             light: Vec::new(alloc),
-            weights: Weights::none(alloc, instance)?,
+            weights,
         })
     }
 
@@ -217,6 +220,13 @@ impl Fewest {
         };
         ask(&mut self.needs, &moment, step, need);
     }
+}
+
+/// Memory for what is known before a step, and for what is known at first.
+fn two_values(alloc: Global, instance: &Instance) -> Result<(Values, Values), MemoryFault> {
+    let before_step = Values::none(alloc, instance)?;
+    let at_first = Values::none(alloc, instance)?;
+    Ok((before_step, at_first))
 }
 
 /// Goes back before the steps of a log, whose facts these are.

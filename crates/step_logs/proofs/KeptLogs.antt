@@ -102,14 +102,19 @@ above_at p is left bound at =
     let here : bound < p.goal = is.current.above left bound (subst (λ (s : Facts). IsPathBound s.instance bound) same at) in
     omega (arith, here, ap (λ (s : Facts). s.goal) same)
 
-pub started_of : (i : Instance) (goal : ℕ) (c : Choice) (first : Facts) (room : List Step) (start end : Journal) (ds : List Decision) (kept : List Checkpoint) → IsInstance i → c ≡ root_choice i → start ≡ record { facts = first; steps = room } → first ≡ record { instance = i; choice = c; goal = goal; known = first_facts i c } → room ≡ [] → Advances start end → IsChoice i c → (IsFalse end.facts.known.closed → (bound : ℕ) → IsPathBound i bound → bound < start.facts.goal) → (IsComplete i c → IsFalse end.facts.known.closed → (plan : Plan) × IsPlanBelow i c start.facts.goal plan) → ds ≡ [] → kept ≡ [] → IsPropagation (record { instance = i; goal = goal; decisions = ds; kept = kept; current = end })
-started_of i goal c first room start end ds kept w c_is start_is first_is room_is advances ok above finds ds_is kept_is =
+-- What is known before any decision, as a body makes it.
+pub begun_of : (i : Instance) (goal : ℕ) (c : Choice) (first : Facts) (room : List Step) (start end : Journal) → c ≡ root_choice i → start ≡ record { facts = first; steps = room } → first ≡ record { instance = i; choice = c; goal = goal; known = first_facts i c } → room ≡ [] → Advances start end → IsChoice i c → (IsFalse end.facts.known.closed → (bound : ℕ) → IsPathBound i bound → bound < start.facts.goal) → (IsComplete i c → IsFalse end.facts.known.closed → (plan : Plan) × IsPlanBelow i c start.facts.goal plan) → IsLog i (root_choice i) goal end
+begun_of i goal c first room start end c_is start_is first_is room_is advances ok above finds =
     let begins : start ≡ record { facts = record { instance = i; choice = c; goal = goal; known = first_facts i c }; steps = [] } = start_is ∙ (λ j. record { facts = first_is j; steps = room_is j }) in
     let at : start.facts.goal ≡ goal = ap (λ (log : Journal). log.facts.goal) begins in
     let here : IsLog i c goal end = log_of i c goal start end begins advances ok (λ left bound is. omega (arith, above left bound is, at)) (λ done left. subst (λ (g : ℕ). (plan : Plan) × IsPlanBelow i c g plan) at (finds done left)) in
-    subst (λ (xs : List Decision). IsPropagation (record { instance = i; goal = goal; decisions = xs; kept = kept; current = end })) (sym ds_is)
-    (subst (λ (cs : List Checkpoint). IsPropagation (record { instance = i; goal = goal; decisions = []; kept = cs; current = end })) (sym kept_is)
-    (started i goal end w (subst (λ (x : Choice). IsLog i x goal end) c_is here)))
+    subst (λ (x : Choice). IsLog i x goal end) c_is here
+
+pub started_of : (i : Instance) (goal : ℕ) (log : Journal) (ds : List Decision) (kept : List Checkpoint) → IsInstance i → IsLog i (root_choice i) goal log → ds ≡ [] → kept ≡ [] → IsPropagation (record { instance = i; goal = goal; decisions = ds; kept = kept; current = log })
+started_of i goal log ds kept w is ds_is kept_is =
+    subst (λ (xs : List Decision). IsPropagation (record { instance = i; goal = goal; decisions = xs; kept = kept; current = log })) (sym ds_is)
+    (subst (λ (cs : List Checkpoint). IsPropagation (record { instance = i; goal = goal; decisions = []; kept = cs; current = log })) (sym kept_is)
+    (started i goal log w is))
 
 -- a log that is kept follows from the first facts
 pub follows_at : (p : Propagator) → IsPropagation p → FollowsFrom p.current.facts.instance p.current.facts.choice p.current.facts.goal p.current

@@ -41,8 +41,7 @@ pub record Checkpoint : Type 0 where
   pub decisions : List Decision
   pub log : Journal
 
--- an instance, a goal in ticks, and the decisions so far; what was known after fewer of them, the fewest first, as far as that is
--- kept, and what is known now
+-- an instance, a goal in ticks, and the decisions so far; checkpoints that are kept, and what is known now
 pub record Propagator : Type 0 where
   pub instance : Instance
   pub goal : ℕ

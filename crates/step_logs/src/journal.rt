@@ -186,8 +186,17 @@ impl<'a> Journal<'a> {
         ensures { IfSome result (λ steps. IsTrue self.entry.facts.known.closed
             × (steps.items ≡ self.entry.steps)) }
     {
-        let Journal { facts, steps, .. } = self;
-        if facts.closed() { Some(steps) } else { None }
+        let is_closed = self.facts.closed();
+        let steps = self.into_steps();
+        if is_closed { Some(steps) } else { None }
+    }
+
+    /// The steps.
+    fn into_steps(self) -> Vec<Step>
+        ensures { result.items ≡ self.entry.steps }
+    {
+        let Journal { steps, .. } = self;
+        steps
     }
 
     /// What is known.

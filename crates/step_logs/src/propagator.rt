@@ -5,7 +5,7 @@ ghost use Rattle.ttp_model.specs.declared.plan.Plan.{Plan};
 ghost use Rattle.ttp_model.specs.declared.step.Step.TheVariants.{UsSettled};
 ghost use Rattle.ttp_model.specs.Chains.{IsPathBound};
 ghost use Rattle.tt_choice.specs.Choice.{IsComplete};
-ghost use Rattle.tt_choice.specs.Branches.{IsUnorderedPair};
+ghost use Rattle.tt_choice.specs.Branches.{IsUnorderedPair, root_choice};
 ghost use Rattle.tt_choice.specs.Decisions.{choice_after, IsOpenDecision};
 ghost use Rattle.tt_infer.specs.Leaves.{ClosesLeaf};
 ghost use Rattle.step_logs.specs.Journal.{Journal, Advances};
@@ -193,6 +193,21 @@ fn next_level<'a>(
     Ok(next)
 }
 
+/// What is known before any decision of the plans below a goal, and the agenda that led to it.
+fn first_level<'a>(
+    alloc: Global,
+    instance: &'a Instance,
+    goal: u32,
+) -> Result<(Journal<'a>, Agenda), MemoryFault>
+    ensures { IfOk result (λ level. IsLog instance.now (root_choice instance.now) goal level.0) }
+{
+    let root = Choice::root(alloc, instance)?;
+    let first = Facts::new(alloc, instance, &root, goal)?;
+    let mut current = Journal::new(first, Vec::new(alloc), Vec::new(alloc));
+    let agenda = reach(alloc, instance, &root, &mut current)?;
+    Ok((current, agenda))
+}
+
 impl<'a> Propagator<'a> {
     /// What is known of all plans with a delay below `goal` ticks, before any decision.
     pub fn start(
@@ -203,11 +218,8 @@ impl<'a> Propagator<'a> {
         ensures { IfOk result (IsStarted instance.now goal) }
     {
         let _nodes = instance.nodes();
-        let root = Choice::root(alloc, instance)?;
-        let first = Facts::new(alloc, instance, &root, goal)?;
         let fewest = Fewest::none(alloc, instance)?;
-        let mut current = Journal::new(first, Vec::new(alloc), Vec::new(alloc));
-        let agenda = reach(alloc, instance, &root, &mut current)?;
+        let (current, agenda) = first_level(alloc, instance, goal)?;
         Ok(Propagator {
             instance,
             goal,
@@ -248,8 +260,8 @@ impl<'a> Propagator<'a> {
         Ok(())
     }
 
-    /// Takes the last decision back, or, where what was known before it isn't kept, as many as lead back to what is. Whether anything
-    /// is kept. Takes no memory.
+    /// Goes back to the last checkpoint that is kept: to its decisions, and to what was known after them. Whether one was kept. Takes no
+    /// memory.
     pub fn undo(&mut self) -> bool
         ensures undone { IsTrue result → Undoes self.old self.new }
         ensures same { IsFalse result → self.new ≡ self.old }

@@ -67,10 +67,24 @@ fn needed(
 ) -> Result<Marks, MemoryFault>
     requires { IsChoice instance.now choice.now }
 {
-    let facts = reached(alloc, instance, choice, goal, steps)?;
     let mut marks = Marks::none(alloc, instance)?;
-    marks.set_to(&facts, steps)?;
+    mark_needed(alloc, instance, choice, goal, steps, &mut marks)?;
     Ok(marks)
+}
+
+/// Sets marks at the steps that the closer needs. How many they are.
+fn mark_needed(
+    alloc: Global,
+    instance: &Instance,
+    choice: &Choice,
+    goal: u32,
+    steps: &[Step],
+    marks: &mut Marks,
+) -> Result<usize, MemoryFault>
+    requires { IsChoice instance.now choice.now }
+{
+    let facts = reached(alloc, instance, choice, goal, steps)?;
+    marks.set_to(&facts, steps)
 }
 
 /// A leaf of the steps that lead to what is known, where no plan is left, without those that the closer doesn't need that needs the
