@@ -10,7 +10,7 @@ use crate::error::{Key, Place, TextError};
 use toml::Table;
 
 /// The keys of such a table, in the order of checks.
-fn keys_at(place: Place) -> &'static [Key]
+pub fn keys_at(place: Place) -> &'static [Key]
     ensures { result.now ≡ keys_at place }
 {
     match place {
@@ -40,7 +40,7 @@ fn keys_at(place: Place) -> &'static [Key]
 }
 
 /// Whether one of the keys is spelled so.
-fn has_key(keys: &[Key], text: &str) -> bool
+pub fn has_key(keys: &[Key], text: &str) -> bool
     ensures { result ≡ has_key keys.now text.now }
 {
     keys.iter().any(|key| key.text() == text)

@@ -15,4 +15,5 @@ mod top;
 mod values;
 
 pub use error::{Key, Place, TextError};
-pub use text::read;
+pub use keys::{has_key, keys_at};
+pub use text::{Parts, document, read, stated_parts};

@@ -21,16 +21,16 @@ use ttp_model::{Cluster, Instance, Link, Message, Node, Process};
 
 /// The parts of an instance, before they are judged.
 #[derive(Drop)]
-struct Parts {
-    cluster: Cluster,
-    nodes: Vec<Node>,
-    processes: Vec<Process>,
-    links: Vec<Link>,
-    messages: Vec<Message>,
+pub struct Parts {
+    pub cluster: Cluster,
+    pub nodes: Vec<Node>,
+    pub processes: Vec<Process>,
+    pub links: Vec<Link>,
+    pub messages: Vec<Message>,
 }
 
 /// The top table that the bytes are. Takes no memory for bytes that are no UTF-8.
-fn document(alloc: Global, bytes: &[u8]) -> Result<Table, TextError>
+pub fn document(alloc: Global, bytes: &[u8]) -> Result<Table, TextError>
     ensures ok { IfOk result (λ table. IsDocument bytes.now (table_view table)) }
     ensures err { IfErr result (IsTextFault bytes.now) }
 {
@@ -49,8 +49,9 @@ fn document(alloc: Global, bytes: &[u8]) -> Result<Table, TextError>
     }
 }
 
-/// The parts that a top table states, with each index in 32 bits.
-fn stated_parts(alloc: Global, table: &Table) -> Result<Parts, TextError>
+/// The parts that a top table states, with each index in 32 bits, or the first fault of the table: all that `read` judges
+/// before it asks the model.
+pub fn stated_parts(alloc: Global, table: &Table) -> Result<Parts, TextError>
     ensures ok { IfOk result (λ ps. stated_by cut_index_in (table_view table.now) ≡ Ok (instance_of ps)) }
     ensures err { IfErr result (IsFaultOfPart (stated_by cut_index_in (table_view table.now))) }
 {
