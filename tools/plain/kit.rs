@@ -20,6 +20,7 @@ macro_rules! kit_vec {
 
 pub mod prelude {
     pub use super::sort::KitSort;
+    pub use super::std::boxed::Box;
     pub use super::std::string::String;
     pub use super::std::vec::Vec;
     pub use crate::kit_vec;
@@ -52,6 +53,32 @@ pub mod std {
         impl<T> From<AllocFailed<T>> for AllocError {
             fn from(_: AllocFailed<T>) -> Self {
                 AllocError
+            }
+        }
+    }
+
+    pub mod boxed {
+        use super::alloc::{AllocError, Global};
+
+        pub struct Box<T>(::std::boxed::Box<T>);
+
+        impl<T> Box<T> {
+            pub fn new(_: Global, value: T) -> Result<Self, AllocError> {
+                Ok(Box(::std::boxed::Box::new(value)))
+            }
+        }
+
+        impl<T> ::std::ops::Deref for Box<T> {
+            type Target = T;
+
+            fn deref(&self) -> &T {
+                &self.0
+            }
+        }
+
+        impl<T> ::std::ops::DerefMut for Box<T> {
+            fn deref_mut(&mut self) -> &mut T {
+                &mut self.0
             }
         }
     }

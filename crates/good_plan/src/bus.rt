@@ -1,7 +1,10 @@
 //! The slots of a round, and what the frames of each node carry.
 
+ghost use Rattle.std.specs.Prelude.{◌≡◌, ◌<◌, ◌+◌, length};
+
 use crate::draft::Draft;
 use crate::network::Network;
+use crate::shelf::Shelf;
 use crate::table::Table;
 use std::ops::Range;
 use ttp_model::BOTH_CHANNELS;
@@ -46,20 +49,21 @@ pub struct Bus {
 
 impl Bus {
     /// No slots, for so many nodes and messages, on one channel or two.
-    pub fn new(nodes: usize, messages: usize, has_second: bool) -> Self {
-        let slots = Table::zeros(nodes);
-        let frames = Table::zeros(messages.saturating_mul(2));
-        let second_loads = if has_second { frames } else { Table::zeros(0) };
+    pub fn new(shelf: &mut Shelf, nodes: usize, messages: usize, has_second: bool) -> Self
+        requires { 6 < length shelf.old.tables.items }
+        ensures { length shelf.new.tables.items + 7 ≡ length shelf.old.tables.items }
+    {
+        let frames = messages.saturating_mul(2);
         Bus {
-            begins: slots,
-            ends: slots,
-            capacities: slots,
+            begins: shelf.zeros(nodes),
+            ends: shelf.zeros(nodes),
+            capacities: shelf.zeros(nodes),
             round_length: 1,
-            rounds: frames,
-            loads: frames,
-            passed: slots,
+            rounds: shelf.zeros(frames),
+            loads: shelf.zeros(frames),
+            passed: shelf.zeros(nodes),
             has_second,
-            second_loads,
+            second_loads: shelf.zeros(if has_second { frames } else { 0 }),
         }
     }
 

@@ -1,11 +1,17 @@
 //! How long the chains of links and messages are that are still to come.
 
+ghost use Rattle.std.specs.Prelude.{◌≡◌, ◌<◌, ◌+◌, length};
+
 use crate::network::Network;
+use crate::shelf::Shelf;
 use crate::table::Table;
 
 /// For each process the time that the longest chain of links and messages takes at least that begins with it.
-pub fn chain_times(network: &Network) -> Table {
-    let mut times = network.wcets;
+pub fn chain_times(shelf: &mut Shelf, network: &Network) -> Table
+    requires { 0 < length shelf.old.tables.items }
+    ensures { length shelf.new.tables.items + 1 ≡ length shelf.old.tables.items }
+{
+    let mut times = shelf.copy(&network.wcets);
     for _ in 0..times.len() {
         lengthen_by_links(network, &mut times);
         lengthen_by_messages(network, &mut times);
@@ -14,8 +20,11 @@ pub fn chain_times(network: &Network) -> Table {
 }
 
 /// For each message the time of the longest chain that begins with one of its receivers.
-pub fn receiver_times(network: &Network, times: &Table) -> Table {
-    let mut longest = Table::zeros(0);
+pub fn receiver_times(shelf: &mut Shelf, network: &Network, times: &Table) -> Table
+    requires { 0 < length shelf.old.tables.items }
+    ensures { length shelf.new.tables.items + 1 ≡ length shelf.old.tables.items }
+{
+    let mut longest = shelf.zeros(0);
     for message in network.instance.messages() {
         longest.push(longest_of(message.receivers.as_slice(), times));
     }

@@ -1,10 +1,13 @@
 //! From a draft to better ones, by small changes.
 
+ghost use Rattle.std.specs.Prelude.{◌≡◌, ◌<◌, ◌+◌, length};
+
 use crate::chance::Chance;
 use crate::change::Choice;
 use crate::draft::Draft;
 use crate::network::Network;
 use crate::path::Path;
+use crate::shelf::Shelf;
 use crate::timetable::Timetable;
 
 /// How a climb goes.
@@ -19,7 +22,7 @@ pub struct Pace {
 }
 
 /// The best draft that a climb has come to.
-#[derive(Clone, Copy)]
+#[derive(Drop)]
 pub struct Summit {
     pub draft: Draft,
     /// By how much processes end too late in its schedule, together.
@@ -32,7 +35,15 @@ impl Summit {
     pub fn rank(&self) -> (u64, u64) {
         (self.lateness, self.delay)
     }
+
+    pub fn into_draft(self) -> Draft {
+        let Summit { draft, .. } = self;
+        draft
+    }
 }
+
+/// How many lists are taken to make it, beside those of the draft that it sets out from.
+pub const CLIMB_TABLES: usize = 23;
 
 /// A climb: the draft that it has come to, with what makes its schedule long, and the best one so far.
 #[derive(Drop)]
@@ -46,26 +57,30 @@ pub struct Climb {
 }
 
 impl Climb {
-    /// A climb that is to set out from this draft.
-    pub fn new(network: &Network, draft: Draft, chance: Chance) -> Self {
+    /// A climb that is to set out from this draft, in lists of the shelf.
+    pub fn new(shelf: &mut Shelf, network: &Network, draft: Draft, chance: Chance) -> Self
+        requires { 22 < length shelf.old.tables.items }
+        ensures { length shelf.new.tables.items + 23 ≡ length shelf.old.tables.items }
+    {
+        let best = Summit {
+            draft: draft.copy(shelf),
+            lateness: u64::MAX,
+            delay: u64::MAX,
+        };
         Climb {
             draft,
-            path: Path::new(network.homes.len(), network.bytes.len()),
+            path: Path::new(shelf, network.homes.len(), network.bytes.len()),
             cost: 0,
             chance,
-            timetable: Timetable::new(network),
-            best: Summit {
-                draft,
-                lateness: u64::MAX,
-                delay: u64::MAX,
-            },
+            timetable: Timetable::new(shelf, network),
+            best,
         }
     }
 
     /// Tries changes of the draft, and keeps those that don't make its schedule much longer, with
     /// less and less leeway: threshold accepting (Dueck and Scheuer, Journal of Computational
     /// Physics 1990).
-    pub fn run(mut self, network: &Network, pace: Pace) -> Summit {
+    pub fn run(&mut self, network: &Network, pace: Pace) {
         self.make(network, u64::MAX);
         self.stay();
         let most = self.timetable.delay.saturating_mul(pace.heat) / 1000;
@@ -73,7 +88,12 @@ impl Climb {
             let leeway = (most.saturating_mul(left) / pace.turns.max(1)).saturating_add(1);
             self.step(network, leeway, pace.holds);
         }
-        self.best
+    }
+
+    /// The best draft so far.
+    pub fn into_summit(self) -> Summit {
+        let Climb { best, .. } = self;
+        best
     }
 
     /// Tries one change. One that changes nothing costs no schedule.

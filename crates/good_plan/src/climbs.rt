@@ -1,10 +1,13 @@
 //! Many climbs, and the best of what they come to.
 
+ghost use Rattle.std.specs.Prelude.{◌≡◌, ◌<◌, ◌+◌, length};
+
 use crate::chance::Chance;
-use crate::climb::{Climb, Pace, Summit};
-use crate::draft::Draft;
-use crate::network::Network;
-use crate::timetable::Timetable;
+use crate::climb::{CLIMB_TABLES, Climb, Pace, Summit};
+use crate::draft::{DRAFT_TABLES, Draft};
+use crate::network::{NETWORK_TABLES, Network};
+use crate::shelf::Shelf;
+use crate::timetable::{TIMETABLE_TABLES, Timetable};
 use rayon::prelude::*;
 use std::alloc::{AllocError, Global};
 use std::ops::Range;
@@ -44,39 +47,54 @@ pub fn best_plan<R: Threads + Sync>(
     instance: &Instance,
     workers: u32,
 ) -> Result<Plan, AllocError> {
-    let network = Network::new(instance);
-    let mut best = Draft::new(&network);
-    best = summit(rt, workers, &network, &best, 0..FIRST);
-    for party in 0..PARTIES {
-        let first = FIRST + party * PARTY;
-        best = summit(rt, workers, &network, &best, first..first + PARTY);
-    }
+    let mut shelf = Shelf::of(alloc, NETWORK_TABLES + DRAFT_TABLES)?;
+    let network = Network::new(&mut shelf, instance);
+    let first = Draft::new(&mut shelf, &network);
+    let best = best_draft(rt, alloc, workers, &network, first)?;
     plan_of(alloc, &network, &best)
 }
 
+/// The draft that the last party comes to.
+fn best_draft<R: Threads + Sync>(
+    rt: &R,
+    alloc: Global,
+    workers: u32,
+    network: &Network,
+    first: Draft,
+) -> Result<Draft, AllocError> {
+    let mut best = summit(rt, alloc, workers, network, &first, 0..FIRST)?;
+    for party in 0..PARTIES {
+        let number = FIRST + party * PARTY;
+        best = summit(rt, alloc, workers, network, &best, number..number + PARTY)?;
+    }
+    Ok(best)
+}
+
 /// The draft of the best summit that climbs come to, of equal ones that of the first. Workers change nothing of it, since a
-/// climb rests on its number and on where it sets out.
+/// climb rests on its number and on where it sets out. A fault of memory where one of the climbs had no lists.
 fn summit<R: Threads + Sync>(
     rt: &R,
+    alloc: Global,
     workers: u32,
     network: &Network,
     best: &Draft,
     numbers: Range<u64>,
-) -> Draft {
+) -> Result<Draft, AllocError> {
     let summit = if workers > 1 {
-        side_by_side(rt, network, best, numbers)
+        side_by_side(rt, alloc, network, best, numbers)
     } else {
-        in_turn(network, best, numbers)
+        in_turn(alloc, network, best, numbers)
     };
     match summit {
-        Some(summit) => summit.draft,
-        None => *best,
+        Some(summit) => Ok(summit.into_draft()),
+        None => Err(AllocError),
     }
 }
 
-/// The best summit of climbs in threads of their own.
+/// The best summit of climbs in threads of their own; none where one of them had no lists, which counts as the best.
 fn side_by_side<R: Threads + Sync>(
     rt: &R,
+    alloc: Global,
     network: &Network,
     best: &Draft,
     numbers: Range<u64>,
@@ -84,36 +102,72 @@ fn side_by_side<R: Threads + Sync>(
     numbers
         .into_par_iter()
         .with_min_len(1)
-        .map(|number: u64| -> Summit { climbed(network, best, number) })
-        .min_by_key(rt, |summit: &Summit| -> (u64, u64) { summit.rank() })
+        .map(|number: u64| -> Option<Summit> { climbed(alloc, network, best, number) })
+        .min_by_key(rt, |summit: &Option<Summit>| -> (u64, u64) { rank(summit) })
+        .flatten()
 }
 
-/// The best summit of climbs on the caller's thread.
-fn in_turn(network: &Network, best: &Draft, numbers: Range<u64>) -> Option<Summit> {
-    let mut highest: Option<Summit> = None;
+/// What is to be least of what climbs come to.
+fn rank(summit: &Option<Summit>) -> (u64, u64) {
+    match summit {
+        Some(summit) => summit.rank(),
+        None => (0, 0),
+    }
+}
+
+/// The best summit of climbs on the caller's thread; none where one of them had no lists.
+fn in_turn(alloc: Global, network: &Network, best: &Draft, numbers: Range<u64>) -> Option<Summit> {
+    let mut highest = None;
     for number in numbers {
-        let summit = climbed(network, best, number);
-        highest = match highest {
-            Some(other) if other.rank() <= summit.rank() => Some(other),
-            _ => Some(summit),
+        let Some(summit) = climbed(alloc, network, best, number) else {
+            return None;
         };
+        highest = Some(higher(highest, summit));
     }
     highest
 }
 
-/// The summit of the climb with this number.
-fn climbed(network: &Network, best: &Draft, number: u64) -> Summit {
+/// The better one of two summits, of equal ones the first.
+fn higher(first: Option<Summit>, second: Summit) -> Summit {
+    match first {
+        Some(first) => {
+            if first.rank() <= second.rank() {
+                first
+            } else {
+                second
+            }
+        }
+        None => second,
+    }
+}
+
+/// The summit of the climb with this number; none where there is no memory for its lists.
+fn climbed(alloc: Global, network: &Network, best: &Draft, number: u64) -> Option<Summit> {
+    let Ok(mut shelf) = Shelf::of(alloc, CLIMB_TABLES + DRAFT_TABLES) else {
+        return None;
+    };
     let mut chance = Chance::new(SEED.saturating_add(number));
-    let draft = beginning(network, best, number, &mut chance);
-    Climb::new(network, draft, chance).run(network, pace(network.instance, number))
+    let draft = beginning(&mut shelf, network, best, number, &mut chance);
+    let mut climb = Climb::new(&mut shelf, network, draft, chance);
+    climb.run(network, pace(network.instance, number));
+    Some(climb.into_summit())
 }
 
 /// Where a climb sets out.
-fn beginning(network: &Network, best: &Draft, number: u64, chance: &mut Chance) -> Draft {
+fn beginning(
+    shelf: &mut Shelf,
+    network: &Network,
+    best: &Draft,
+    number: u64,
+    chance: &mut Chance,
+) -> Draft
+    requires { 4 < length shelf.old.tables.items }
+    ensures { length shelf.new.tables.items + 5 ≡ length shelf.old.tables.items }
+{
     if number >= FIRST {
-        return *best;
+        return best.copy(shelf);
     }
-    let mut draft = Draft::new(network);
+    let mut draft = Draft::new(shelf, network);
     if number > 0 {
         draft.shuffle(chance);
     }
@@ -166,8 +220,14 @@ fn heat(number: u64) -> u64 {
 
 /// The plan of a draft's schedule.
 fn plan_of(alloc: Global, network: &Network, draft: &Draft) -> Result<Plan, AllocError> {
-    let mut timetable = Timetable::new(network);
+    let mut shelf = Shelf::of(alloc, TIMETABLE_TABLES)?;
+    let mut timetable = Timetable::new(&mut shelf, network);
     timetable.make(network, draft, u64::MAX);
+    read_off(alloc, draft, &timetable)
+}
+
+/// The plan that a schedule tells.
+fn read_off(alloc: Global, draft: &Draft, timetable: &Timetable) -> Result<Plan, AllocError> {
     Ok(Plan {
         order: Numbers::new(draft.order.narrow(alloc)?),
         caps: Numbers::new(timetable.bus.capacities.narrow(alloc)?),

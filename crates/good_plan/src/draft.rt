@@ -1,12 +1,18 @@
 //! What a schedule is made from, and small changes of it.
 
+ghost use Rattle.std.specs.Prelude.{◌≡◌, ◌<◌, ◌+◌, length};
+
 use crate::chance::Chance;
 use crate::network::Network;
+use crate::shelf::Shelf;
 use crate::table::Table;
+
+/// How many lists are taken to make one.
+pub const DRAFT_TABLES: usize = 5;
 
 /// A slot order, a capacity for each node, the processes of each node in the order in which they run,
 /// and which messages wait.
-#[derive(Clone, Copy)]
+#[derive(Drop)]
 pub struct Draft {
     pub order: Table,
     /// By node, a place in its list of capacities.
@@ -37,17 +43,34 @@ pub enum Change {
 impl Draft {
     /// Nodes in their own order, with the capacities that carry most, and processes the earlier the
     /// longer the chains that begin with them take. No process then waits for a later one.
-    pub fn new(network: &Network) -> Self {
+    pub fn new(shelf: &mut Shelf, network: &Network) -> Self
+        requires { 4 < length shelf.old.tables.items }
+        ensures { length shelf.new.tables.items + 5 ≡ length shelf.old.tables.items }
+    {
         let mut draft = Draft {
-            order: Table::numbered(network.roomy.len()),
-            options: network.roomy,
-            line: network.residents.all(),
-            places: network.homes,
-            holds: Table::zeros(network.bytes.len()),
+            order: shelf.numbered(network.roomy.len()),
+            options: shelf.copy(&network.roomy),
+            line: shelf.copy(network.residents.all()),
+            places: shelf.copy(&network.homes),
+            holds: shelf.zeros(network.bytes.len()),
         };
         let last = draft.line.len();
         draft.renumber(0, last);
         draft
+    }
+
+    /// The same draft, in other lists.
+    pub fn copy(&self, shelf: &mut Shelf) -> Self
+        requires { 4 < length shelf.old.tables.items }
+        ensures { length shelf.new.tables.items + 5 ≡ length shelf.old.tables.items }
+    {
+        Draft {
+            order: shelf.copy(&self.order),
+            options: shelf.copy(&self.options),
+            line: shelf.copy(&self.line),
+            places: shelf.copy(&self.places),
+            holds: shelf.copy(&self.holds),
+        }
     }
 
     /// Becomes the same as another one of the same instance.

@@ -12,7 +12,8 @@ use ttp_model::{Instance, MemoryFault, Plan, delay};
 
 /// A settled plan with its delay in ticks, if a climb leads to one: often a good one, at times
 /// one of the shortest. Takes some tenths of a second, of a large instance some three. That none is found says nothing. Climbs go side
-/// by side where there are several workers, which changes nothing of what is found.
+/// by side where there are several workers, which changes nothing of what is found. A fault of memory where one of the lists that all
+/// this is done in got none.
 pub fn good_plan<R: Threads + Sync>(
     rt: &R,
     alloc: Global,

@@ -12,6 +12,7 @@ mod finish;
 mod network;
 mod path;
 mod rows;
+mod shelf;
 mod table;
 mod timetable;
 

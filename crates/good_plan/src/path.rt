@@ -1,10 +1,13 @@
 //! What makes a schedule as long as it is.
 
+ghost use Rattle.std.specs.Prelude.{◌≡◌, ◌<◌, ◌+◌, length};
+
 use crate::chance::Chance;
+use crate::shelf::Shelf;
 use crate::table::Table;
 
 /// What each process waits for last, and where it ends late.
-#[derive(Clone, Copy)]
+#[derive(Drop)]
 pub struct Path {
     /// By process, the process that it starts right after or has its last message from; else their
     /// number.
@@ -21,11 +24,14 @@ pub struct Path {
 
 impl Path {
     /// Nothing waits, of so many processes and messages.
-    pub fn new(processes: usize, messages: usize) -> Self {
+    pub fn new(shelf: &mut Shelf, processes: usize, messages: usize) -> Self
+        requires { 2 < length shelf.old.tables.items }
+        ensures { length shelf.new.tables.items + 3 ≡ length shelf.old.tables.items }
+    {
         let mut path = Path {
-            blockers: Table::zeros(processes),
-            firsts: Table::zeros(messages),
-            rounds: Table::zeros(messages),
+            blockers: shelf.zeros(processes),
+            firsts: shelf.zeros(messages),
+            rounds: shelf.zeros(messages),
             last: 0,
             latest: 0,
             most: 0,

@@ -1,9 +1,12 @@
 //! Short lists of places, one behind another.
 
+ghost use Rattle.std.specs.Prelude.{◌≡◌, ◌<◌, ◌+◌, length};
+
+use crate::shelf::Shelf;
 use crate::table::Table;
 
 /// Rows of places, numbered from 0. A row that isn't there is empty.
-#[derive(Clone, Copy)]
+#[derive(Drop)]
 pub struct Rows {
     items: Table,
     ends: Table,
@@ -11,15 +14,26 @@ pub struct Rows {
 
 impl Rows {
     /// So many rows of these items, each in the row that stands at its place in the other list.
-    pub fn of(count: usize, items: &Table, rows_of_items: &Table) -> Self {
-        let mut rows = Rows {
-            items: Table::zeros(0),
-            ends: Table::zeros(0),
-        };
+    pub fn of(shelf: &mut Shelf, count: usize, items: &Table, rows_of_items: &Table) -> Self
+        requires { 1 < length shelf.old.tables.items }
+        ensures { length shelf.new.tables.items + 2 ≡ length shelf.old.tables.items }
+    {
+        let mut rows = Rows::none(shelf);
         for row in 0..count {
             rows.add(row, items, rows_of_items);
         }
         rows
+    }
+
+    /// No rows.
+    pub fn none(shelf: &mut Shelf) -> Self
+        requires { 1 < length shelf.old.tables.items }
+        ensures { length shelf.new.tables.items + 2 ≡ length shelf.old.tables.items }
+    {
+        Rows {
+            items: shelf.zeros(0),
+            ends: shelf.zeros(0),
+        }
     }
 
     /// Adds a row.
@@ -38,8 +52,8 @@ impl Rows {
     }
 
     /// All rows, one behind another.
-    pub fn all(&self) -> Table {
-        self.items
+    pub fn all(&self) -> &Table {
+        &self.items
     }
 
     /// Where a row begins among all places.

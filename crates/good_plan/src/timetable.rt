@@ -1,11 +1,17 @@
 //! The schedule of a draft: each process starts as early as its place in the line allows, and each
 //! message goes into the first frame with room, or into one of the next where it is to wait.
 
+ghost use Rattle.std.specs.Prelude.{◌≡◌, ◌<◌, ◌+◌, length};
+
 use crate::bus::Bus;
 use crate::draft::Draft;
 use crate::network::Network;
 use crate::path::Path;
+use crate::shelf::Shelf;
 use crate::table::Table;
+
+/// How many lists are taken to make it.
+pub const TIMETABLE_TABLES: usize = 15;
 
 /// When processes start and messages are sent, and what is known on the way there. Times are ticks.
 #[derive(Drop)]
@@ -29,19 +35,27 @@ pub struct Timetable {
 
 impl Timetable {
     /// Nothing runs or is sent yet.
-    pub fn new(network: &Network) -> Self {
+    pub fn new(shelf: &mut Shelf, network: &Network) -> Self
+        requires { 14 < length shelf.old.tables.items }
+        ensures { length shelf.new.tables.items + 15 ≡ length shelf.old.tables.items }
+    {
         let messages = network.bytes.len();
         Timetable {
-            starts: network.releases,
-            rounds: Table::zeros(messages),
-            channels: Table::zeros(messages),
+            starts: shelf.copy(&network.releases),
+            rounds: shelf.zeros(messages),
+            channels: shelf.zeros(messages),
             delay: 0,
             least: 0,
             lateness: 0,
-            waiting: network.waits,
-            queue: Table::zeros(0),
-            path: Path::new(network.homes.len(), messages),
-            bus: Bus::new(network.roomy.len(), messages, network.has_second_channel()),
+            waiting: shelf.copy(&network.waits),
+            queue: shelf.zeros(0),
+            path: Path::new(shelf, network.homes.len(), messages),
+            bus: Bus::new(
+                shelf,
+                network.roomy.len(),
+                messages,
+                network.has_second_channel(),
+            ),
         }
     }
 
