@@ -103,6 +103,21 @@ pub mod std {
     pub mod sync {
         pub use ::std::sync::*;
 
+        use super::alloc::{AllocError, Global};
+
+        #[derive(Clone, Debug)]
+        pub struct ArcSlice<T>(Arc<Vec<T>>);
+
+        impl<T: Clone> ArcSlice<T> {
+            pub fn from_slice(_: Global, items: &[T]) -> Result<Self, AllocError> {
+                Ok(ArcSlice(Arc::new(items.to_vec())))
+            }
+
+            pub fn as_slice(&self) -> &[T] {
+                self.0.as_slice()
+            }
+        }
+
         pub trait Wait {}
         impl Wait for crate::kit::Runtime {}
     }
@@ -369,6 +384,10 @@ pub mod std {
 
         impl<T: Clone> Vec<T> {
             pub fn from_slice(_: Global, items: &[T]) -> Result<Self, AllocError> {
+                Ok(Vec(items.to_vec()))
+            }
+
+            pub fn from_clones(_: Global, items: &[T]) -> Result<Self, AllocError> {
                 Ok(Vec(items.to_vec()))
             }
 

@@ -79,9 +79,18 @@ fn worked<'a>(
     ensures worked { IfOk result (IsWorked instance.now task.now goal) }
     ensures bench { IsWorkbenchOf instance.now bench.new }
 {
-    let mut reached = bench.reach(alloc, instance, task.decisions(), goal)?;
+    let decisions = task.decisions(alloc)?;
+    let mut reached = bench.reach(alloc, instance, decisions.as_slice(), goal)?;
     let mut lessons = bench.take_lessons();
-    let worked = worked_from(alloc, instance, &mut reached, &mut lessons, task, goal);
+    let worked = worked_from(
+        alloc,
+        instance,
+        &mut reached,
+        &mut lessons,
+        task,
+        decisions.len(),
+        goal,
+    );
     if let Ok(worked) = &worked {
         lessons.note(instance, worked);
     }
@@ -89,21 +98,23 @@ fn worked<'a>(
     worked
 }
 
-/// The same by the propagation that was made for it.
+/// The same by the propagation that was made for it, where so many decisions lead to it.
 fn worked_from(
     alloc: Global,
     instance: &Instance,
     reached: &mut Propagator,
     lessons: &mut Lessons,
     task: &Task,
+    depth: usize,
     goal: u32,
 ) -> Result<Worked, MemoryFault>
     requires task { IsTask instance.now task.now }
+    requires depth { depth ≡ length task.now.decisions }
     requires comes { ComesTo instance.now goal task.now.decisions reached.old }
     ensures worked { IfOk result (IsWorked instance.now task.now goal) }
     ensures instance { reached.new.instance ≡ instance.now }
 {
-    if reached.decisions().len() < task.decisions().len() {
+    if reached.decisions().len() < depth {
         return worked_anew(alloc, instance, task, goal);
     }
     if reached.closed() {
@@ -247,7 +258,8 @@ pub fn is_closed_below<'a>(
     requires bench { IsWorkbenchOf instance.now bench.old }
     ensures { IsWorkbenchOf instance.now bench.new }
 {
-    let reached = bench.reach(alloc, instance, task.decisions(), goal)?;
+    let decisions = task.decisions(alloc)?;
+    let reached = bench.reach(alloc, instance, decisions.as_slice(), goal)?;
     let is_closed = reached.closed();
     let lessons = bench.take_lessons();
     bench.keep(reached, lessons);

@@ -121,6 +121,21 @@ fn is_left(manner: Manner, needs: &Needs, task: &Task) -> bool
     }
 }
 
+/// Tells what is known of needs that a task is worked next; where memory is refused, nothing is known any more.
+fn begin<'a>(alloc: Global, instance: &'a Instance, needs: &mut Needs<'a>, task: &Task) {
+    match task.decisions(alloc) {
+        Ok(decisions) => {
+            needs.begin(
+                alloc,
+                instance,
+                task.name().as_slice(),
+                decisions.as_slice(),
+            )
+        }
+        Err(_) => *needs = Needs::new(),
+    }
+}
+
 impl<J: Searched> Run<J> {
     /// Works a task at the best delay so far, on from the last one, and pushes its children, or offers the delay of the plan
     /// that was found: what became of the task, and the children that couldn't be pushed. All memory is asked for before the
@@ -152,7 +167,7 @@ impl<J: Searched> Run<J> {
         let Ok(name) = task.name().copy(alloc) else {
             return Err(task);
         };
-        needs.begin(alloc, instance, name.as_slice(), task.decisions());
+        begin(alloc, instance, needs, &task);
         match work_on(alloc, instance, bench, task, goal) {
             Ok(Worked::Split(kind, tasks)) => {
                 let node = Node::Branch(Branch::new(kind, tasks.len() as u32));

@@ -6,3 +6,4 @@ pub mod ChildTasks
 pub mod Weights
 pub mod Once
 pub mod OneChoice
+pub mod SharedLists

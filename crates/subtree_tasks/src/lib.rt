@@ -5,6 +5,7 @@ mod children;
 mod laws;
 mod name;
 mod piece;
+mod shared_list;
 mod task;
 mod trial;
 

@@ -5,6 +5,7 @@ ghost use Rattle.tt_choice.specs.Choice.{IsChoice};
 ghost use Rattle.subtree_tasks.specs.Task.{root_task, choice_of, task_after, IsTask};
 
 use crate::name::Name;
+use crate::shared_list::SharedList;
 use std::alloc::Global;
 use std::marker::Model;
 use tt_choice::{Choice, Decision};
@@ -15,7 +16,7 @@ use ttp_model::{Instance, MemoryFault};
 #[derive(Debug, Drop)]
 pub struct Task {
     name: Name,
-    decisions: Vec<Decision>,
+    decisions: SharedList<Decision>,
 }
 
 impl Model for Task {
@@ -23,7 +24,7 @@ impl Model for Task {
 
     ghost Value = { Task };
 
-    ghost view = { λ s. record { name = s.name; decisions = s.decisions.items } };
+    ghost view = { λ s. record { name = s.name; decisions = s.decisions } };
 }
 
 impl Task {
@@ -35,7 +36,7 @@ impl Task {
         let _nodes = instance.nodes();
         Ok(Task {
             name: Name::root(alloc),
-            decisions: Vec::new(alloc),
+            decisions: SharedList::new(alloc),
         })
     }
 
@@ -49,9 +50,7 @@ impl Task {
         ensures { IfOk result (λ t. t ≡ task_after self.now index decision) }
     {
         let name = self.name.child(alloc, index)?;
-        let mut decisions = Vec::with_capacity(alloc, self.decisions.len() + 1)?;
-        decisions.extend_from_slice(self.decisions.as_slice())?;
-        decisions.push(decision)?;
+        let decisions = self.decisions.with(alloc, decision)?;
         Ok(Task { name, decisions })
     }
 
@@ -69,11 +68,11 @@ impl Task {
         &self.name
     }
 
-    /// The decisions that lead to it, the first first.
-    pub fn decisions(&self) -> &[Decision]
-        ensures { result.now ≡ self.now.decisions }
+    /// The decisions that lead to it, the first first, in memory of their own.
+    pub fn decisions(&self, alloc: Global) -> Result<Vec<Decision>, MemoryFault>
+        ensures { IfOk result (λ decisions. decisions.items ≡ self.now.decisions) }
     {
-        self.decisions.as_slice()
+        self.decisions.to_vec(alloc)
     }
 
     /// The choice that it begins with. Takes a pass over the pairs of processes, and a step for each decision.
@@ -83,7 +82,8 @@ impl Task {
         ensures choice { IfOk result (IsChoice instance.now) }
     {
         let mut choice = Choice::root(alloc, instance)?;
-        for decision in self.decisions() {
+        let decisions = self.decisions(alloc)?;
+        for decision in decisions.as_slice() {
             choice.change(alloc, instance, *decision)?;
         }
         Ok(choice)

@@ -11,14 +11,14 @@ change-requires-clause-bare c = rw c.loop-decision.invariant.made (none_kept-aft
 pub change-requires-clause-open : goal.change-requires-clause-open
 change-requires-clause-open c =
     let i = c.args.instance.now in
-    let inside = rw c.decisions-decision-items.ensures at c.loop-decision-test.true in
-    rw (c.decisions-decision-items.ensures, c.loop-decision.invariant.made) (open_at i (root_choice i) c.args.self.now.decisions c.loop-decision.decision-index (Place 0) c.requires.decisions inside)
+    let inside = rw (c.as_slice-decision-items.ensures.value, c.in_ok-decisions.ensures) at c.loop-decision-test.true in
+    rw (c.as_slice-decision-items.ensures.value, c.in_ok-decisions.ensures, c.loop-decision.invariant.made) (open_at i (root_choice i) c.args.self.now.decisions c.loop-decision.decision-index (Place 0) c.requires.decisions inside)
 
 pub loop-decision-preserved : goal.loop-decision-preserved
 loop-decision-preserved c =
     let i = c.args.instance.now in
-    let inside = rw c.decisions-decision-items.ensures at c.loop-decision-test.true in
+    let inside = rw (c.as_slice-decision-items.ensures.value, c.in_ok-decisions.ensures) at c.loop-decision-test.true in
     record {
-      made = (rw (c.decisions-decision-items.ensures, c.loop-decision.invariant.made) at c.in_ok-change.ensures.ok) ∙ after_next i (root_choice i) c.args.self.now.decisions c.loop-decision.decision-index (Place 0) inside;
+      made = (rw (c.as_slice-decision-items.ensures.value, c.in_ok-decisions.ensures, c.loop-decision.invariant.made) at c.in_ok-change.ensures.ok) ∙ after_next i (root_choice i) c.args.self.now.decisions c.loop-decision.decision-index (Place 0) inside;
       is = c.in_ok-change.ensures.choice;
     }
