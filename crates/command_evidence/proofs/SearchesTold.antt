@@ -16,7 +16,8 @@ use Rattle.solve_command.specs.Solved.{IsAnswerText, IsSolveAnswer, end_told}
 use Rattle.command_evidence.specs.Answers.{IsCertificate, StopsWithPlan}
 
 -- the text of an answer that is told as stopped
-stopped_text : (bytes : List ℕ) (i : Instance) → HasInstance bytes i → (outcome : Outcome) (text : List ℕ) → Stopped ≡ end_told outcome → IsAnswerText i outcome text → StopsWithPlan bytes text
+stopped_text : (bytes : List ℕ) (i : Instance) → HasInstance bytes i → (outcome : Outcome) (text : List ℕ)
+    → Stopped ≡ end_told outcome → IsAnswerText None i outcome text → StopsWithPlan bytes text
 stopped_text bytes i has (answer.Optimal plan ticks cert) text ends tells = absurd (cc)
 stopped_text bytes i has (answer.Infeasible cert) text ends tells = absurd (cc)
 stopped_text bytes i has (answer.Stopped why low None cert) text ends tells =
@@ -29,9 +30,10 @@ stopped_text bytes i has (answer.Stopped why low (Some best) cert) text ends tel
   is = inr (record { plan = best.0; ticks = best.1; written = tells.0; spelled = tells.1; text_is = tells.2 });
 }
 
-module _ (bytes : List ℕ) (options : Options) (wanted : Bool) (from to old new : Option (List ℕ)) (end : End) (told : IsSolveAnswer bytes options wanted from to old new end) where
-  at : (other : End) → end ≡ other → IsSolveAnswer bytes options wanted from to old new other
-  at other is = subst (λ e. IsSolveAnswer bytes options wanted from to old new e) is told
+module _ (bytes : List ℕ) (options : Options) (wanted : Bool) (from to old new : Option (List ℕ)) (end : End)
+    (told : IsSolveAnswer bytes options None wanted from to old new end) where
+  at : (other : End) → end ≡ other → IsSolveAnswer bytes options None wanted from to old new other
+  at other is = subst (λ e. IsSolveAnswer bytes options None wanted from to old new e) is told
 
   pub plan_behind : end ≡ Stopped → IsWritten (StopsWithPlan bytes) old new
   unfolding IsSolveAnswer
@@ -50,7 +52,8 @@ module _ (bytes : List ℕ) (options : Options) (wanted : Bool) (from to old new
   nothing_told is = (at (Refused (Unwritten sink.Certificate)) is).1
 
 -- a writer that tells its bytes
-pub certified : (bytes : List ℕ) (options : Options) (wanted : Bool) (before : List ℕ) (to old new : Option (List ℕ)) (end : End) → IsSolveAnswer bytes options wanted (Some before) to old new end → end ≡ Done → IsWritten IsCertificate (Some before) to
+pub certified : (bytes : List ℕ) (options : Options) (wanted : Bool) (before : List ℕ) (to old new : Option (List ℕ)) (end : End)
+    → IsSolveAnswer bytes options None wanted (Some before) to old new end → end ≡ Done → IsWritten IsCertificate (Some before) to
 unfolding IsSolveAnswer
 certified bytes options wanted before to old new end told done =
     let said = at bytes options wanted (Some before) to old new end told Done done in

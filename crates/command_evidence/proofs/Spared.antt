@@ -14,8 +14,8 @@ spelled_again name file local is = (ap is_rooted is ∙ sym local, ap parts is �
 
 pub spares : (request : Request) → IsSound request → SparesInstance request
 spares (OnFiles instance plan task) sound = tt
-spares (Solve instance None workers budget progress) sound = tt
-spares (Solve instance (Some file) workers budget progress) sound =
+spares (Solve instance None workers budget progress until seconds) sound = tt
+spares (Solve instance (Some file) workers budget progress until seconds) sound =
     λ local is. sound.2 (spelled_again instance.now file.now local is)
 spares (Check instance certificate) sound = tt
 spares (Judge instance plan certificate) sound = tt

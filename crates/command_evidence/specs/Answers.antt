@@ -20,7 +20,7 @@ pub record HasPlanBehind (i : Instance) (why : Why) (low : ℕ) (text : List ℕ
   pub ticks : ℕ
   pub written : List ℕ
   pub spelled : SpellsPlan i written plan ticks
-  pub text_is : text ≡ stopped_line why low (Some ticks) ++ written
+  pub text_is : text ≡ stopped_line None why low (Some ticks) ++ written
 
 -- the line tells that no plan was found, or the plan stands behind it
 pub record StopsWithPlan (instance text : List ℕ) : Type 0 where
@@ -28,4 +28,4 @@ pub record StopsWithPlan (instance text : List ℕ) : Type 0 where
   pub has_instance : HasInstance instance problem
   pub why : Why
   pub low : ℕ
-  pub is : (text ≡ stopped_line why low None) ⊎ HasPlanBehind problem why low text
+  pub is : (text ≡ stopped_line None why low None) ⊎ HasPlanBehind problem why low text

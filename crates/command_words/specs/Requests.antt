@@ -15,6 +15,6 @@ IsSoundTask _ = Unit {0}
 -- a search has 1 to 16 workers, and by its name its certificate's file is another than the instance's
 abbrev pub IsSound : Request → Type 0
 IsSound (OnFiles instance plan task) = IsSoundTask task
-IsSound (Solve instance certificate workers budget progress) =
+IsSound (Solve instance certificate workers budget progress until seconds) =
     (1 ≤ workers) × (workers ≤ 16) × IfSome certificate (λ file. NameOneFile file.now instance.now → ⊥)
 IsSound _ = Unit {0}

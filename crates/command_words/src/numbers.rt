@@ -20,8 +20,8 @@ pub struct NumberOption {
     pub value: &'static str,
     pub least: u64,
     pub most: u64,
-    /// Its value where it isn't used.
-    pub default: &'static str,
+    /// Its value where it isn't used, if it has one then.
+    pub default: Option<&'static str>,
 }
 
 /// How many workers search.
@@ -31,7 +31,7 @@ pub const WORKERS: NumberOption = NumberOption {
     value: "N",
     least: 1,
     most: 16,
-    default: "4",
+    default: Some("4"),
 };
 
 /// How many subtrees are searched at most.
@@ -41,7 +41,27 @@ pub const BUDGET: NumberOption = NumberOption {
     value: "N",
     least: 0,
     most: u64::MAX,
-    default: "1000000",
+    default: Some("1000000"),
+};
+
+/// How many ticks a plan takes at most that is good enough.
+pub const UNTIL: NumberOption = NumberOption {
+    command: NumberedCommand::Solve,
+    name: "until",
+    value: "D",
+    least: 0,
+    most: u32::MAX as u64,
+    default: None,
+};
+
+/// How many seconds after the start a search ends.
+pub const SECONDS: NumberOption = NumberOption {
+    command: NumberedCommand::Solve,
+    name: "seconds",
+    value: "N",
+    least: 1,
+    most: u64::MAX,
+    default: None,
 };
 
 /// How wide a picture is, in pixels.
@@ -51,7 +71,7 @@ pub const WIDTH: NumberOption = NumberOption {
     value: "PX",
     least: LEAST_WIDTH as u64,
     most: MOST_WIDTH as u64,
-    default: "1200",
+    default: Some("1200"),
 };
 
 impl NumberOption {

@@ -1,11 +1,11 @@
 //! What the words of the command line ask for.
 
-ghost use Rattle.std.specs.Prelude.{◌≤◌, IfOk, IfSome};
+ghost use Rattle.std.specs.Prelude.{◌<◌, ◌≤◌, ◌^◌, IfOk, IfSome};
 ghost use Rattle.command_words.specs.Requests.{IsSound, IsSoundTask};
 
 use crate::misuse::Misuse;
 use crate::names::name_one_file;
-use crate::numbers::{BUDGET, NumberOption, WIDTH, WORKERS};
+use crate::numbers::{BUDGET, NumberOption, SECONDS, UNTIL, WIDTH, WORKERS};
 use clap::error::ErrorKind;
 use clap::{Arg, ArgAction, ArgMatches, Command, Error};
 use plan_picture::Shown;
@@ -48,6 +48,10 @@ pub enum Request<'a> {
         budget: u64,
         /// Whether it is to say how far it is.
         progress: bool,
+        /// It ends once a plan of at most so many ticks is known.
+        until: Option<u32>,
+        /// It ends so many seconds after the start.
+        seconds: Option<u64>,
     },
     /// Check the certificate of one file for the instance of another.
     Check {
@@ -81,7 +85,7 @@ const INSTANCE_HELP: &str = "The cluster and its processes, in TOML";
 
 /// What a search prints, and how to go on where it is stopped.
 const SOLVE_HELP: &str =
-    "It prints one of these, and ends with the status beside it:\n   0  the text of a plan: it is valid, and no valid plan has a smaller delay\n  10  `none`: no plan is valid\n  11  `stopped WHY LOW BEST`, and behind it the text of the best plan found\n\nWHY is `budget`, where the budget is spent, or `memory`, where memory ran out. No valid plan has a delay below LOW ticks. BEST is the delay of the best plan found, or `none`, and then no text follows.\n\nA search that is interrupted keeps nothing: no plan is printed, and FILE is empty. To go in steps, begin with a small budget, and take ten times as much after each `stopped budget`. Each run begins anew; those before the last work at most a ninth of its budget.\n\nBefore the search a good plan is looked for, where more than 32 are left to choose: nodes to place, capacities, pairs of processes, and binary digits of rounds.";
+    "It prints one of these, and ends with the status beside it:\n   0  the text of a plan: it is valid, and no valid plan has a smaller delay\n  10  `none`: no plan is valid\n  11  `stopped WHY LOW BEST`, and behind it the text of the best plan found\n\nWHY is `budget`, where the budget is spent, `memory`, where memory ran out, `until`, where the best plan found is as short as was asked for, or `time`, where the seconds have passed. No valid plan has a delay below LOW ticks. BEST is the delay of the best plan found, or `none`, and then no text follows.\n\nA search that is interrupted keeps nothing: no plan is printed, and FILE is empty. To go in steps, begin with a small budget, and take ten times as much after each `stopped budget`. Each run begins anew; those before the last work at most a ninth of its budget.\n\nBefore the search a good plan is looked for, where more than 32 are left to choose: nodes to place, capacities, pairs of processes, and binary digits of rounds.";
 
 /// What a judgement prints.
 const JUDGE_HELP: &str =
@@ -170,14 +174,17 @@ pub(crate) fn draw_command<'a>(alloc: Global) -> Result<Command<'a>, AllocError>
     .arg(used)
 }
 
-/// An option `--name` that takes a number, and has a value where it isn't used.
+/// An option `--name` that takes a number.
 fn number<'a>(alloc: Global, option: NumberOption, help: &'a str) -> Arg<'a> {
-    Arg::new(alloc, option.name)
+    let number = Arg::new(alloc, option.name)
         .long(option.name)
         .value_name(option.value)
         .allow_negative_numbers(true)
-        .default_value(option.default)
-        .help(help)
+        .help(help);
+    match option.default {
+        Some(default) => number.default_value(default),
+        None => number,
+    }
 }
 
 /// The file of a certificate.
@@ -193,7 +200,7 @@ fn progress<'a>(alloc: Global) -> Arg<'a> {
         .long("progress")
         .action(ArgAction::SetTrue)
         .help(
-            "Says once a second on standard error how far the search is: seconds, subtrees worked, how many a second, how many are in work, and the bound that is known before the search",
+            "Says once a second on standard error how far the search is: seconds, subtrees worked, how many a second, how many are in work, the bound that is known before the search, and the best plan's delay with its gap from that",
         )
 }
 
@@ -205,6 +212,16 @@ pub(crate) fn solve_command<'a>(alloc: Global) -> Result<Command<'a>, AllocError
         BUDGET,
         "How many subtrees are searched at most: each that is split, closed or gives a plan counts once; with 0 no plan is looked for",
     );
+    let until = number(
+        alloc,
+        UNTIL,
+        "Ends once a plan of at most so many ticks is known; with the horizon any plan is",
+    );
+    let seconds = number(
+        alloc,
+        SECONDS,
+        "No worker takes a further subtree so many seconds after the start; what is left is closed as with a budget",
+    );
     Command::new(alloc, "solve")
         .about(
             "Prints a valid plan with the least delay, or `none`, or bounds where the search is stopped",
@@ -213,6 +230,8 @@ pub(crate) fn solve_command<'a>(alloc: Global) -> Result<Command<'a>, AllocError
         .arg(file(alloc, "INSTANCE", INSTANCE_HELP))?
         .arg(workers)?
         .arg(budget)?
+        .arg(until)?
+        .arg(seconds)?
         .arg(certificate(alloc))?
         .arg(progress(alloc))
 }
@@ -268,6 +287,32 @@ fn number_of<'a>(option: NumberOption, matches: &ArgMatches<'a>) -> Result<u64, 
     }
 }
 
+/// The number of an option that need not be used.
+fn some_number_of<'a>(
+    option: NumberOption,
+    matches: &ArgMatches<'a>,
+) -> Result<Option<u64>, Misuse<'a>>
+    ensures { IfOk result (λ number. IfSome number (λ n. (option.least ≤ n) × (n ≤ option.most))) }
+{
+    match matches.get_str(option.name) {
+        Some(_) => Ok(Some(number_of(option, matches)?)),
+        None => Ok(None),
+    }
+}
+
+/// The number of an option that need not be used, where it fits 32 bits.
+fn some_u32_of<'a>(
+    option: NumberOption,
+    matches: &ArgMatches<'a>,
+) -> Result<Option<u32>, Misuse<'a>>
+    requires { option.most < 2 ^ 32 }
+{
+    match some_number_of(option, matches)? {
+        Some(number) => Ok(Some(number as u32)),
+        None => Ok(None),
+    }
+}
+
 /// A search with its numbers, each in its range, and a certificate that isn't written over the instance.
 fn solve_request<'a>(alloc: Global, matches: &ArgMatches<'a>) -> Result<Request<'a>, Misuse<'a>>
     ensures { IfOk result IsSound }
@@ -277,6 +322,8 @@ fn solve_request<'a>(alloc: Global, matches: &ArgMatches<'a>) -> Result<Request<
     };
     let workers = number_of(WORKERS, matches)? as u32;
     let budget = number_of(BUDGET, matches)?;
+    let until = some_u32_of(UNTIL, matches)?;
+    let seconds = some_number_of(SECONDS, matches)?;
     let certificate = matches.get_str("cert");
     if let Some(file) = certificate {
         if name_one_file(alloc, file, instance)? {
@@ -289,6 +336,8 @@ fn solve_request<'a>(alloc: Global, matches: &ArgMatches<'a>) -> Result<Request<
         workers,
         budget,
         progress: matches.get_flag("progress"),
+        until,
+        seconds,
     })
 }
 

@@ -21,7 +21,10 @@ pub enum Front {
 fn is_why(word: &[u8]) -> bool
     ensures { IsTrue result ↔ IsWhyWord word.now }
 {
-    word == b"budget".as_slice() || word == b"memory".as_slice()
+    word == b"budget".as_slice()
+        || word == b"memory".as_slice()
+        || word == b"until".as_slice()
+        || word == b"time".as_slice()
 }
 
 /// Whether a word is a number that fits.

@@ -22,7 +22,7 @@ use Rattle.search_turns.specs.declared.outcome.Options.{Options}
 use Rattle.search_turns.specs.declared.outcome.Outcome.{Outcome}
 use Rattle.search_turns.specs.declared.outcome.Outcome.TheVariants.{Optimal, Infeasible, Stopped}
 use Rattle.search_turns.specs.declared.outcome.Why.{Why}
-use Rattle.search_turns.specs.declared.outcome.Why.TheVariants.{Budget, Memory}
+use Rattle.search_turns.specs.declared.outcome.Why.TheVariants.{Budget, Memory, CalledOff}
 use Rattle.tree_gathering.specs.Trees.{IsTreeOf, pieces_of}
 use Rattle.tree_gathering.specs.Gathering.{HasGoal, HaveGoals, IsGathered}
 use Rattle.dropped_decisions.specs.Branches.{is_branch, branches}
@@ -149,6 +149,8 @@ best_above i low (Some best) found less = (found, less)
 cause_is : (i : Instance) (budget : ℕ) (why : Why) (best : Option (Plan × ℕ)) (worked closed : List Piece) (low : ℕ) (cert : Cert) → IsTreeOf (worked ++ closed) cert.tree → All (IsClosedLeaf i (limit_of i best) low) closed → HaveGoals (limit_of i best) worked → IsWorkedOut budget worked why → IsCause i budget best cert why
 cause_is i budget Budget best worked closed low cert is leaves goals all = omega (arith, all_worked (limit_of i best) worked closed cert.tree is goals, all)
 cause_is i budget Memory best worked closed low cert is leaves goals all = omega (arith, within_budget i (limit_of i best) low worked closed cert.tree is leaves, all)
+cause_is i budget CalledOff best worked closed low cert is leaves goals all =
+    omega (arith, within_budget i (limit_of i best) low worked closed cert.tree is leaves, all)
 
 reached_below : (low limit : ℕ) (closed : List Piece) → (low ≡ limit) ⊎ ((low < limit) × ReachesGoal low closed) → low < limit → ReachesGoal low closed
 reached_below low limit closed (inl same) less = absurd (omega arith)

@@ -19,7 +19,7 @@ use Rattle.search_turns.specs.declared.outcome.Options.{Options}
 use Rattle.search_turns.specs.declared.outcome.Outcome.{Outcome}
 use Rattle.search_turns.specs.declared.outcome.Outcome.TheVariants.{Optimal, Infeasible, Stopped}
 use Rattle.search_turns.specs.declared.outcome.Why.{Why}
-use Rattle.search_turns.specs.declared.outcome.Why.TheVariants.{Budget, Memory}
+use Rattle.search_turns.specs.declared.outcome.Why.TheVariants.{Budget, Memory, CalledOff}
 use Rattle.search_turns.specs.Searching.{limit_of}
 use Rattle.tree_gathering.specs.Gathering.{HasGoal}
 
@@ -48,6 +48,7 @@ pub record IsLeastGoal (tree : Trees) (low : ℕ) : Type 0 where
 abbrev pub IsCause : Instance → ℕ → Option (Plan × ℕ) → Cert → Why → Type 0
 IsCause i budget best cert Budget = budget ≤ worked_at (limit_of i best) cert.tree
 IsCause i budget best cert Memory = branches cert.tree < budget
+IsCause i budget best cert CalledOff = branches cert.tree < budget
 
 -- the search was stopped with a bound and the best plan found
 pub record IsStopped (i : Instance) (budget : ℕ) (why : Why) (low : ℕ) (best : Option (Plan × ℕ)) (cert : Cert) : Type 0 where

@@ -47,6 +47,15 @@ fn first_plan<R: Threads + Sync>(
     }
 }
 
+/// Tells a gate of the plan to begin with, where there is one.
+fn tell_first<G: Gate>(instance: &Instance, first: &Option<(Plan, u64)>, gate: &G)
+    requires { IsFound instance.now first.now }
+{
+    if let Some((plan, delay)) = first {
+        gate.found(instance, plan, *delay);
+    }
+}
+
 /// Closes tasks at goals of at most `top` ticks, and puts what closes them behind pieces, in no more room than all take: what is left
 /// of it is free. The least of `top` and the leaves' goals.
 fn close_behind(
@@ -140,12 +149,13 @@ fn workers_part(budget: u64, manner: Manner) -> u64
 }
 
 /// Works what workers left of a tree: with what they had of the budget on as they did, and with the rest so that the bound rises.
-fn go_on(
+fn go_on<G: Gate>(
     alloc: Global,
     instance: &Instance,
     options: Options,
     search: &mut Search,
     part: u64,
+    gate: &G,
 ) -> Why
     requires searching { IsSearching instance.now search.old.pieces.items search.old.tasks.items search.old.best }
     requires within { length search.old.pieces.items ≤ part }
@@ -154,14 +164,14 @@ fn go_on(
     ensures within { length search.new.pieces.items ≤ options.budget }
     ensures cause { IsWorkedOut options.budget search.new.pieces.items result }
 {
-    match search.go(alloc, instance, part, Order::Newest) {
-        Why::Budget => search.go(alloc, instance, options.budget, Order::Rising),
-        Why::Memory => Why::Memory,
+    match search.go(alloc, instance, part, Order::Newest, gate) {
+        Why::Budget => search.go(alloc, instance, options.budget, Order::Rising, gate),
+        why => why,
     }
 }
 
 /// Works what workers left of a tree, and tells what it shows.
-fn worked_out(
+fn worked_out<G: Gate>(
     alloc: Global,
     instance: &Instance,
     options: Options,
@@ -169,6 +179,7 @@ fn worked_out(
     part: u64,
     reserve: Reserve,
     manner: Manner,
+    gate: &G,
 ) -> Result<Outcome, SolveFault>
     requires searching { IsSearching instance.now search.pieces.items search.tasks.items search.best }
     requires within { length search.pieces.items ≤ part }
@@ -179,7 +190,7 @@ fn worked_out(
 {
     let _nodes = instance.nodes();
     let mut search = search;
-    let why = go_on(alloc, instance, options, &mut search, part);
+    let why = go_on(alloc, instance, options, &mut search, part, gate);
     reserve.give_back();
     let outcome = concluded(alloc, instance, options, search, why)?;
     match manner {
@@ -219,6 +230,7 @@ pub fn solve_in<R: Threads + Wait + Sync, G: Gate + Sync>(
     let _nodes = instance.nodes();
     let reserve = Reserve::begin(alloc, instance)?;
     let first = first_plan(rt, alloc, instance, options, manner)?;
+    tell_first(instance, &first, gate);
     let part = workers_part(options.budget, manner);
     let theirs = Options {
         budget: part,
@@ -227,12 +239,16 @@ pub fn solve_in<R: Threads + Wait + Sync, G: Gate + Sync>(
     let search = searched::<Brand, G, R>(rt, alloc, instance, theirs, manner, first, gate)?;
     match lean_proof(alloc, instance, manner, &search) {
         Some(cert) => Ok(settled(instance, options, search.best, cert)),
-        None => worked_out(alloc, instance, options, search, part, reserve, manner),
+        None => worked_out(
+            alloc, instance, options, search, part, reserve, manner, gate,
+        ),
     }
 }
 
 /// Searches for the shortest plan of an instance, as `solve` does, and calls a gate as workers go on: `start` once for each,
-/// first, and `enter` and `leave` for each task that they work. The caller's thread calls none.
+/// first, and `enter` and `leave` for each task that they work. The caller's thread calls none of these. Both tell the gate of each plan that
+/// they find by `found`, and ask it by `goes_on` before they take a task. Where it says no to all, no further subtree is worked, and what is left is closed
+/// as with a spent budget. Whatever it says, the answer's bounds hold.
 pub fn solve_with<R: Threads + Wait + Sync, G: Gate + Sync>(
     rt: &R,
     alloc: Global,

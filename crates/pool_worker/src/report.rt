@@ -25,6 +25,8 @@ pub enum Ending {
     Memory,
     /// It found no task for long, or left a million one after another.
     Idle,
+    /// The gate said that it doesn't go on.
+    CalledOff,
 }
 
 /// What a worker gives back.

@@ -138,15 +138,16 @@ fn begin<'a>(alloc: Global, instance: &'a Instance, needs: &mut Needs<'a>, task:
 
 impl<J: Searched> Run<J> {
     /// Works a task at the best delay so far, on from the last one, and pushes its children, or offers the delay of the plan
-    /// that was found: what became of the task, and the children that couldn't be pushed. All memory is asked for before the
+    /// that was found and tells the gate of it: what became of the task, and the children that couldn't be pushed. All memory is asked for before the
     /// task is worked, that for the end too; where it is refused, the task comes back.
-    fn make<'a>(
+    fn make<'a, G: Gate>(
         &mut self,
         alloc: Global,
         instance: &'a Instance,
         bench: &mut Workbench<'a>,
         needs: &mut Needs<'a>,
         word: &Incumbent,
+        gate: &G,
         task: Task,
     ) -> Result<(Piece, Vec<Task>), Task>
         requires of { instance.now ≡ J.instance }
@@ -182,6 +183,7 @@ impl<J: Searched> Run<J> {
             }
             Ok(Worked::Found(plan, delay, leaf)) => {
                 word.offer(&mut self.watch, delay as u32);
+                gate.found(instance, &plan, delay);
                 self.best = Some((plan, delay));
                 needs.close(alloc, &leaf);
                 let node = Node::Leaf(leaf);
@@ -204,7 +206,7 @@ impl<J: Searched> Run<J> {
         Sweep::Spared
     }
 
-    /// Takes a task, where one is found, and works it, if that is needed. The gate is told of work alone.
+    /// Takes a task, where one is found, and works it, if that is needed. The gate is told of work and of plans.
     pub fn turn<'a, G: Gate>(
         &mut self,
         alloc: Global,
@@ -235,7 +237,7 @@ impl<J: Searched> Run<J> {
         }
         let worker = self.hand.number();
         gate.enter(worker, task.name());
-        match self.make(alloc, instance, bench, needs, word, task) {
+        match self.make(alloc, instance, bench, needs, word, gate, task) {
             Ok((piece, left)) => {
                 gate.leave(worker, &piece.name);
                 self.pieces.push_reserved(piece);

@@ -66,8 +66,8 @@ impl<J: Searched> Run<J> {
         }
     }
 
-    /// Takes turns until `budget` tasks are worked, memory is refused, none was found for long, or a million were left one after
-    /// another: what is in hand then, and why it ended.
+    /// Takes turns until `budget` tasks are worked, memory is refused, none was found for long, a million were left one after
+    /// another, or the gate says so: what is in hand then, and why it ended.
     fn turns<'a, G: Gate>(
         &mut self,
         alloc: Global,
@@ -91,6 +91,9 @@ impl<J: Searched> Run<J> {
         let (mut idle, mut spared) = (0, 0);
         let backoff = Backoff::new();
         while (self.pieces.len() as u64) < budget && idle < SWEEPS && spared < MOST_SPARED {
+            if !gate.goes_on(self.hand.number()) {
+                return (Rest::Nothing, Ending::CalledOff);
+            }
             match self.turn(alloc, instance, bench, needs, word, manner, gate) {
                 Sweep::Idle => {
                     idle += 1;
@@ -161,7 +164,7 @@ pub fn run_worker_in<J: Searched, G: Gate>(
 }
 
 /// Takes tasks of a pool and works them, each at the best delay that is known by then, until `budget` of them are worked,
-/// memory is refused, none was found for long, or a million were left one after another. A task that stands below a branch which another
+/// memory is refused, none was found for long, a million were left one after another, or the gate says that it doesn't go on. A task that stands below a branch which another
 /// child was seen to prove is left, unless the root leaves at most 32 to choose: then each is worked.
 /// It never waits for another worker. Where memory is refused, the lists that
 /// it reports have room for what so many workers come to that make no more than it did.

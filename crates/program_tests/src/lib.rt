@@ -8,6 +8,8 @@ mod hostile_texts;
 #[cfg(test)]
 mod limits;
 #[cfg(test)]
+mod patience;
+#[cfg(test)]
 mod progress;
 #[cfg(test)]
 mod refusals;

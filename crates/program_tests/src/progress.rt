@@ -91,6 +91,7 @@ fn counts(
         alloc,
         &mut instance.as_bytes(),
         options,
+        None,
         &follower,
         None::<&mut Vec<u8>>,
         &mut out,
@@ -101,7 +102,7 @@ fn counts(
 
 /// The line before the search, which knows the bound of a search that works nothing.
 const BEFORE: &str =
-    "0 s: 0 subtrees worked, 0 or more by each worker, 0 a second, 0 in work, no plan below 9";
+    "0 s: 0 subtrees worked, 0 or more by each worker, 0 a second, 0 in work, no plan below 9, no plan yet";
 
 /// The line of the second subtree, where each look at the clock is a second later: as the first is taken, and as one is left.
 const SECOND: &str =
@@ -158,6 +159,7 @@ const READING: Reading = Reading {
     rate: 210,
     open: 4,
     low: 120,
+    best: Some(144),
 };
 
 const SUMMARY: Summary = Summary {
@@ -167,7 +169,7 @@ const SUMMARY: Summary = Summary {
 };
 
 const TOLD: &str =
-    "12 s: 2400 subtrees worked, 590 or more by each worker, 210 a second, 4 in work, no plan below 120\nsearched for 1500 ms: 2400 subtrees worked, 590 or more by each worker, 1600 a second";
+    "12 s: 2400 subtrees worked, 590 or more by each worker, 210 a second, 4 in work, no plan below 120, best plan 144, gap 24\nsearched for 1500 ms: 2400 subtrees worked, 590 or more by each worker, 1600 a second";
 
 #[test]
 fn a_reading_and_a_summary_say_what_their_numbers_are(rt: HostRuntime) -> Result<(), Fail> {

@@ -26,6 +26,11 @@ const NO_WORKERS: &str = "for '--workers <N>': a whole number from 1 to 16 is ex
 const NO_BUDGET: &str =
     "for '--budget <N>': a whole number from 0 to 18446744073709551615 is expected";
 
+const NO_UNTIL: &str = "for '--until <D>': a whole number from 0 to 4294967295 is expected";
+
+const NO_SECONDS: &str =
+    "for '--seconds <N>': a whole number from 1 to 18446744073709551615 is expected";
+
 const NO_WIDTH: &str = "for '--width <PX>': a whole number from 200 to 10000 is expected";
 
 const OVERWRITING: &str =
@@ -66,23 +71,31 @@ static ROWS: &[Row] = &[
     (&["ttplan", "judge", "a", "b", "c"], Ok("Judge { instance: \"a\", plan: \"b\", certificate: \"c\" }")),
     (
         &["ttplan", "solve", "a"],
-        Ok("Solve { instance: \"a\", certificate: None, workers: 4, budget: 1000000, progress: false }"),
+        Ok("Solve { instance: \"a\", certificate: None, workers: 4, budget: 1000000, progress: false, until: None, seconds: None }"),
     ),
     (
         &["ttplan", "solve", "a", "--cert", "c", "--workers", "1", "--budget", "0"],
-        Ok("Solve { instance: \"a\", certificate: Some(\"c\"), workers: 1, budget: 0, progress: false }"),
+        Ok("Solve { instance: \"a\", certificate: Some(\"c\"), workers: 1, budget: 0, progress: false, until: None, seconds: None }"),
     ),
     (
         &["ttplan", "solve", "a", "--workers", "16", "--budget", "18446744073709551615"],
-        Ok("Solve { instance: \"a\", certificate: None, workers: 16, budget: 18446744073709551615, progress: false }"),
+        Ok("Solve { instance: \"a\", certificate: None, workers: 16, budget: 18446744073709551615, progress: false, until: None, seconds: None }"),
     ),
     (
         &["ttplan", "solve", "a", "--progress", "--cert", "b/a"],
-        Ok("Solve { instance: \"a\", certificate: Some(\"b/a\"), workers: 4, budget: 1000000, progress: true }"),
+        Ok("Solve { instance: \"a\", certificate: Some(\"b/a\"), workers: 4, budget: 1000000, progress: true, until: None, seconds: None }"),
     ),
     (
         &["ttplan", "solve", "/a", "--cert", "a"],
-        Ok("Solve { instance: \"/a\", certificate: Some(\"a\"), workers: 4, budget: 1000000, progress: false }"),
+        Ok("Solve { instance: \"/a\", certificate: Some(\"a\"), workers: 4, budget: 1000000, progress: false, until: None, seconds: None }"),
+    ),
+    (
+        &["ttplan", "solve", "a", "--until", "4294967295"],
+        Ok("Solve { instance: \"a\", certificate: None, workers: 4, budget: 1000000, progress: false, until: Some(4294967295), seconds: None }"),
+    ),
+    (
+        &["ttplan", "solve", "a", "--seconds", "1"],
+        Ok("Solve { instance: \"a\", certificate: None, workers: 4, budget: 1000000, progress: false, until: None, seconds: Some(1) }"),
     ),
     (&["ttplan", "--version"], Ok("Version")),
     (&["ttplan", "-V"], Ok("Version")),
@@ -111,6 +124,9 @@ static ROWS: &[Row] = &[
     (&["ttplan", "solve", "a", "--budget", "1.5"], Err(NO_BUDGET)),
     (&["ttplan", "solve", "a", "--budget", "1e6"], Err(NO_BUDGET)),
     (&["ttplan", "solve", "a", "--budget", ""], Err(NO_BUDGET)),
+    (&["ttplan", "solve", "a", "--until", "4294967296"], Err(NO_UNTIL)),
+    (&["ttplan", "solve", "a", "--until", "x"], Err(NO_UNTIL)),
+    (&["ttplan", "solve", "a", "--seconds", "0"], Err(NO_SECONDS)),
     (&["ttplan", "solve", "a", "--cert", "a"], Err(OVERWRITING)),
     (&["ttplan", "solve", "a", "--cert=./a"], Err(OVERWRITING)),
     (&["ttplan", "solve", "/b//a", "--cert", "/./b/a"], Err(OVERWRITING)),

@@ -9,7 +9,7 @@ use Rattle.pool_worker.specs.Best.{IsPlanFound}
 use Rattle.pool_worker.specs.Tasks.{Turn, IsTurn, tasks_of, pieces_of, all_born}
 use Rattle.tree_gathering.specs.Gathering.{HaveGoals}
 use Rattle.search_turns.specs.declared.outcome.Why.{Why}
-use Rattle.search_turns.specs.declared.outcome.Why.TheVariants.{Budget, Memory}
+use Rattle.search_turns.specs.declared.outcome.Why.TheVariants.{Budget, Memory, CalledOff}
 
 -- the delay that the search had to beat: that of the best plan found, or one tick past the horizon
 abbrev pub limit_of : Instance → Option (Plan × ℕ) → ℕ
@@ -35,7 +35,8 @@ pub record IsSearching (i : Instance) (made : List Piece) (tasks : List Task) (b
   pub goals : HaveGoals (limit_of i best) made
   pub found : IsFound i best
 
--- how many were worked: as many as the budget allows where it was the cause, and fewer where memory was
+-- how many were worked: as many as the budget allows where it was the cause, and fewer where memory was, or the search was called off
 abbrev pub IsWorkedOut : ℕ → List Piece → Why → Type 0
 IsWorkedOut budget worked Budget = length worked ≡ budget
 IsWorkedOut budget worked Memory = length worked < budget
+IsWorkedOut budget worked CalledOff = length worked < budget

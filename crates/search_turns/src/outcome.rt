@@ -23,6 +23,8 @@ pub enum Why {
     Budget,
     /// Memory was refused.
     Memory,
+    /// The gate said that it doesn't go on.
+    CalledOff,
 }
 
 /// What a search found. Delays and bounds are in ticks; each answer has a certificate that shows it.

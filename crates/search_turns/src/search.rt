@@ -9,6 +9,7 @@ use crate::outcome::Why;
 use crate::rising::{Order, Rising};
 use branch_tree::{Piece, Task, Workbench, Worked, work_on};
 use certificate::{Branch, Node};
+use pool_worker::Gate;
 use std::alloc::Global;
 use ttp_model::{Instance, MOST_NODES, MemoryFault, Plan};
 
@@ -66,8 +67,14 @@ impl Search {
     }
 
     /// Works the newest task, where there is one, on from the last one: whether it was worked. Where memory is refused, it is
-    /// left.
-    fn turn<'a>(&mut self, alloc: Global, instance: &'a Instance, bench: &mut Workbench<'a>) -> bool
+    /// left. A gate is told of the plan that was found.
+    fn turn<'a, G: Gate>(
+        &mut self,
+        alloc: Global,
+        instance: &'a Instance,
+        bench: &mut Workbench<'a>,
+        gate: &G,
+    ) -> bool
         requires searching { IsSearching instance.now self.old.pieces.items self.old.tasks.items self.old.best }
         requires bench { IsWorkbenchOf instance.now bench.old }
         ensures searching { IsSearching instance.now self.new.pieces.items self.new.tasks.items self.new.best }
@@ -100,6 +107,7 @@ impl Search {
             }
             Ok(Worked::Found(plan, delay, leaf)) => {
                 let node = Node::Leaf(leaf);
+                gate.found(instance, &plan, delay);
                 self.best = Some((plan, delay));
                 self.pieces.push_reserved(Piece { name, node });
                 true
@@ -126,8 +134,16 @@ impl Search {
         }
     }
 
-    /// Works tasks in this order until `budget` pieces are made, or memory is refused. Why it ended, where tasks are left.
-    pub fn go(&mut self, alloc: Global, instance: &Instance, budget: u64, order: Order) -> Why
+    /// Works tasks in this order until `budget` pieces are made, memory is refused, or the gate says that it doesn't go on. Why it ended, where
+    /// tasks are left.
+    pub fn go<G: Gate>(
+        &mut self,
+        alloc: Global,
+        instance: &Instance,
+        budget: u64,
+        order: Order,
+        gate: &G,
+    ) -> Why
         requires searching { IsSearching instance.now self.old.pieces.items self.old.tasks.items self.old.best }
         requires within { length self.old.pieces.items ≤ budget }
         ensures searching { IsSearching instance.now self.new.pieces.items self.new.tasks.items self.new.best }
@@ -139,8 +155,11 @@ impl Search {
         let most = limit(instance, &self.best);
         let mut rising = Rising::new(alloc, instance, order, most, turns);
         for _turn in 0..turns {
+            if !gate.goes_on(0) {
+                return Why::CalledOff;
+            }
             self.bring(alloc, instance, &mut rising);
-            if !self.turn(alloc, instance, &mut bench) {
+            if !self.turn(alloc, instance, &mut bench, gate) {
                 return Why::Memory;
             }
         }

@@ -1,5 +1,6 @@
 -- What the bytes of an instance are answered by a search, and what `solve` writes of the answer.
-use Rattle.std.specs.Prelude.{◌≡◌, ℕ, ◌<◌, List, [], ◌∷◌, ◌++◌, length, codes, decimal, ◌⊎◌, Bool, IsTrue, Option, None, Some, IfSome, Result, Ok, Err}
+use Rattle.std.specs.Prelude.{◌≡◌, ℕ, ◌<◌, ◌≤◌, List, [], ◌∷◌, ◌++◌, length, codes, decimal, nat_le}
+use Rattle.std.specs.Prelude.{◌⊎◌, Bool, true, false, IsTrue, Option, None, Some, IfSome, Result, Ok, Err}
 use Rattle.std.proofs.Common.{inl, inr}
 use Rattle.std.specs.Borrow.{MutBor}
 use Rattle.std.specs.Io.KnownBytes.{Appends, Keeps}
@@ -41,39 +42,53 @@ abbrev pub fault_of : SolveFault → SearchFault
 fault_of solving.Memory = search.Memory
 fault_of solving.Thread = search.Thread
 
--- the word for why a search stopped
-abbrev pub why_word : Why → List ℕ
-why_word why.Budget = codes "budget"
-why_word why.Memory = codes "memory"
+-- the best plan found takes at most as long as was asked for
+abbrev pub IsEnough : Option ℕ → Option ℕ → Type 0
+IsEnough None best = ⊥
+IsEnough (Some most) None = ⊥
+IsEnough (Some most) (Some ticks) = ticks ≤ most
+
+-- whether it does
+abbrev pub is_enough : Option ℕ → Option ℕ → Bool
+is_enough None best = false
+is_enough (Some most) None = false
+is_enough (Some most) (Some ticks) = nat_le ticks most
+
+-- the word for why a search stopped; one that was called off ended for its plan, where that is short enough, and else for its time
+abbrev pub why_word : Why → Bool → List ℕ
+why_word why.Budget enough = codes "budget"
+why_word why.Memory enough = codes "memory"
+why_word why.CalledOff true = codes "until"
+why_word why.CalledOff false = codes "time"
 
 -- the delay of the best plan found, or that none was
 abbrev pub best_word : Option ℕ → List ℕ
 best_word None = codes "none"
 best_word (Some ticks) = decimal ticks
 
--- the line of a search that stopped: why, the bound, and the best plan's delay
-abbrev pub stopped_line : Why → ℕ → Option ℕ → List ℕ
-stopped_line why low best =
-    codes "stopped " ++ (why_word why ++ (codes " " ++ (decimal low ++ (codes " " ++ (best_word best ++ 10 ∷ [])))))
+-- the line of a search that stopped: why, the bound, and the best plan's delay; a plan of at most `until` was asked for, if any
+abbrev pub stopped_line : Option ℕ → Why → ℕ → Option ℕ → List ℕ
+stopped_line until why low best =
+    codes "stopped " ++ (why_word why (is_enough until best) ++ (codes " " ++ (decimal low ++ (codes " " ++ (best_word best ++ 10 ∷ [])))))
 
 -- the text of a search that stopped: its line, and then the best plan found, where one was
-abbrev pub IsStoppedText : Instance → Why → ℕ → Option (Table × ℕ) → List ℕ → Type 0
-IsStoppedText i why low None text = text ≡ stopped_line why low None
-IsStoppedText i why low (Some best) text =
-    (plan : List ℕ) × plan_text.SpellsPlan i plan best.0 best.1 × (text ≡ stopped_line why low (Some best.1) ++ plan)
+abbrev pub IsStoppedText : Option ℕ → Instance → Why → ℕ → Option (Table × ℕ) → List ℕ → Type 0
+IsStoppedText until i why low None text = text ≡ stopped_line until why low None
+IsStoppedText until i why low (Some best) text =
+    (plan : List ℕ) × plan_text.SpellsPlan i plan best.0 best.1 × (text ≡ stopped_line until why low (Some best.1) ++ plan)
 
 -- what is written of each answer
-abbrev pub IsAnswerText : Instance → Outcome → List ℕ → Type 0
-IsAnswerText i (answer.Optimal plan ticks cert) text = plan_text.SpellsPlan i text plan ticks
-IsAnswerText i (answer.Infeasible cert) text = text ≡ codes "none\n"
-IsAnswerText i (answer.Stopped why low best cert) text = IsStoppedText i why low best text
+abbrev pub IsAnswerText : Option ℕ → Instance → Outcome → List ℕ → Type 0
+IsAnswerText until i (answer.Optimal plan ticks cert) text = plan_text.SpellsPlan i text plan ticks
+IsAnswerText until i (answer.Infeasible cert) text = text ≡ codes "none\n"
+IsAnswerText until i (answer.Stopped why low best cert) text = IsStoppedText until i why low best text
 
 -- the bytes state the instance, and this is an answer to it with its text
-pub record IsSolved (bytes : List ℕ) (options : Options) (solved : Solved) : Type 0 where
+pub record IsSolved (bytes : List ℕ) (options : Options) (until : Option ℕ) (solved : Solved) : Type 0 where
   pub has_instance : HasInstance bytes solved.instance
   pub is_answer : answers.IsOutcome solved.instance options solved.outcome
   pub shows : answers.Shows solved.instance solved.outcome
-  pub tells : IsAnswerText solved.instance solved.outcome solved.text.items
+  pub tells : IsAnswerText until solved.instance solved.outcome solved.text.items
 
 -- why bytes have no answer: they state no instance, or there was no memory or no thread for a search
 abbrev pub IsUnsolved : List ℕ → Fault → Type 0
@@ -108,12 +123,12 @@ IsCertifying cert old new (Err Memory) = Keeps old new
 IsCertifying cert old new (Err (Unwritten sink.Certificate)) = IsCertificatePart cert old new
 IsCertifying cert old new (Err _) = ⊥
 
--- `wanted` says whether there is a writer for the certificate; `from` and `to` are what it held and holds
-module _ (bytes : List ℕ) (options : Options) (wanted : Bool) (from to : Option (List ℕ)) where
+-- a plan of at most `until` is asked for, if any; `wanted` says whether there is a writer for the certificate; `from` and `to` are what it held and holds
+module _ (bytes : List ℕ) (options : Options) (until : Option ℕ) (wanted : Bool) (from to : Option (List ℕ)) where
   -- an answer that is told by this text at this end, and whose certificate was written in full
   pub record IsToldAnswer (end : End) (text : List ℕ) : Type 0 where
     pub solved : Solved
-    pub is : IsSolved bytes options solved
+    pub is : IsSolved bytes options until solved
     pub ends : end ≡ end_told solved.outcome
     pub text_is : text ≡ solved.text.items
     pub certified : IsCertified (answers.cert_of solved.outcome) from to
@@ -122,7 +137,7 @@ module _ (bytes : List ℕ) (options : Options) (wanted : Bool) (from to : Optio
   pub record IsHalfCertified : Type 0 where
     pub is_wanted : IsTrue wanted
     pub solved : Solved
-    pub is : IsSolved bytes options solved
+    pub is : IsSolved bytes options until solved
     pub part : IsCertificatePart (answers.cert_of solved.outcome) from to
 
   -- why nothing is told: the certificate's writer failed, or there is no answer and the writer keeps what it held

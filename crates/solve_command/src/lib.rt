@@ -1,9 +1,13 @@
 //! The command that searches for the shortest plan.
 #![tactic(auto)]
 
+mod laws;
+mod patience;
 mod progress;
 mod solve;
 
-pub use planner::Options;
+pub use laws::untils_are_met;
+pub use patience::{Patience, Patient};
+pub use planner::{FreeGate, Options};
 pub use progress::{Follower, Progress, Reading, Summary};
 pub use solve::{solve_run, solve_run_with};

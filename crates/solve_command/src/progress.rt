@@ -7,7 +7,7 @@ use std::fmt;
 use std::rt::Clock;
 use std::sync::atomic::{AtomicU64, Ordering};
 use std::time::Instant;
-use ttp_model::Instance;
+use ttp_model::{Instance, Plan};
 
 /// Who follows a search: a gate of its workers, which hears of the instance before they begin, and that the search has ended.
 pub trait Follower: Gate {
@@ -39,6 +39,24 @@ pub struct Reading {
     pub open: u64,
     /// No plan has a delay below so many ticks, which is known before the search.
     pub low: u64,
+    /// The delay of the best plan found, in ticks, where one is.
+    pub best: Option<u64>,
+}
+
+/// The best delay, and by how much it is above the bound.
+#[derive(Drop)]
+struct BestAbove {
+    best: Option<u64>,
+    low: u64,
+}
+
+impl fmt::Display for BestAbove {
+    fn fmt<W: fmt::Write>(&self, f: &mut fmt::Formatter<W>) -> fmt::Result {
+        match self.best {
+            Some(best) => write!(f, "best plan {best}, gap {}", best.saturating_sub(self.low)),
+            None => write!(f, "no plan yet"),
+        }
+    }
 }
 
 impl fmt::Display for Reading {
@@ -50,10 +68,15 @@ impl fmt::Display for Reading {
             rate,
             open,
             low,
+            best,
         } = self;
+        let above = BestAbove {
+            best: *best,
+            low: *low,
+        };
         write!(
             f,
-            "{seconds} s: {worked} subtrees worked, {fewest} or more by each worker, {rate} a second, {open} in work, no plan below {low}"
+            "{seconds} s: {worked} subtrees worked, {fewest} or more by each worker, {rate} a second, {open} in work, no plan below {low}, {above}"
         )
     }
 }
@@ -99,6 +122,8 @@ pub struct Progress<'a, S: Clock + Eprint> {
     screen: &'a S,
     started: Option<Instant>,
     low: AtomicU64,
+    /// The delay of the best plan found, in ticks; the greatest number where none is.
+    best: AtomicU64,
     taken: AtomicU64,
     /// How many subtrees each worker is done with.
     shares: Vec<AtomicU64>,
@@ -126,6 +151,7 @@ impl<'a, S: Clock + Eprint> Progress<'a, S> {
             screen,
             started: Instant::now(screen).ok(),
             low: AtomicU64::new(0),
+            best: AtomicU64::new(u64::MAX),
             taken: AtomicU64::new(0),
             shares: no_shares(alloc, workers)?,
             told: AtomicU64::new(0),
@@ -168,6 +194,14 @@ impl<'a, S: Clock + Eprint> Progress<'a, S> {
         }
     }
 
+    /// The delay of the best plan found, where one is.
+    fn best(&self) -> Option<u64> {
+        match self.best.load(Ordering::SeqCst) {
+            u64::MAX => None,
+            delay => Some(delay),
+        }
+    }
+
     /// Writes the line of a second, so many seconds after the last one.
     fn tell(&self, seconds: u64, passed: u64) {
         let (worked, fewest) = self.worked();
@@ -180,6 +214,7 @@ impl<'a, S: Clock + Eprint> Progress<'a, S> {
             rate: newly.checked_div(passed).unwrap_or(0),
             open: taken.saturating_sub(worked),
             low: self.low.load(Ordering::SeqCst),
+            best: self.best(),
         };
         let _ = self.screen.eprintln(reading);
     }
@@ -210,6 +245,10 @@ impl<'a, S: Clock + Eprint> Gate for Progress<'a, S> {
         if let Some(share) = self.shares.get(worker) {
             share.fetch_add(1, order);
         }
+    }
+
+    fn found(&self, _instance: &Instance, _plan: &Plan, delay: u64) {
+        self.best.fetch_min(delay, Ordering::SeqCst);
     }
 }
 

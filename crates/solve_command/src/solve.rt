@@ -7,6 +7,7 @@ ghost use Rattle.command_streams.specs.Streams.{TakesAtMost};
 ghost use Rattle.planner.specs.Answers.{cert_of, IsBestPlan, IsOutcome, Shows};
 ghost use Rattle.solve_command.specs.Solved.{best_word, end_told, fault_of, held, left, stopped_line, why_word, IsAnswerText, IsCertifying, IsSolveAnswer, IsSolved, IsStoppedText, IsUnsolved, IsWritingTo};
 
+use crate::patience::is_enough;
 use crate::progress::Follower;
 use certificate::Cert;
 use command_streams::{End, Fault, SearchFault, Sink, read_instance, write_text};
@@ -28,18 +29,24 @@ pub struct Solved {
     pub text: Vec<u8>,
 }
 
+/// Why a search stopped, and whether the best plan found is short enough.
 #[derive(Drop)]
-struct WhyWord(Why);
+struct WhyWord {
+    why: Why,
+    is_enough: bool,
+}
 
 impl fmt::Display for WhyWord {
     ghost use Rattle.std.specs.Prelude.{Some};
 
-    ghost output = { λ x. Some (why_word x.0) };
+    ghost output = { λ x. Some (why_word x.why x.is_enough) };
 
     fn fmt<W: fmt::Write>(&self, f: &mut fmt::Formatter<W>) -> fmt::Result {
-        match self.0 {
-            Why::Budget => write!(f, "budget"),
-            Why::Memory => write!(f, "memory"),
+        match (self.why, self.is_enough) {
+            (Why::Budget, _) => write!(f, "budget"),
+            (Why::Memory, _) => write!(f, "memory"),
+            (Why::CalledOff, true) => write!(f, "until"),
+            (Why::CalledOff, false) => write!(f, "time"),
         }
     }
 }
@@ -61,10 +68,17 @@ impl fmt::Display for BestWord {
 }
 
 /// The line of a search that stopped.
-fn stopped_line(alloc: Global, why: Why, low: u32, best: Option<u64>) -> Result<String, AllocError>
-    ensures { IfOk result (λ line. string_bytes line ≡ stopped_line why low best) }
+fn stopped_line(
+    alloc: Global,
+    until: Option<u32>,
+    why: Why,
+    low: u32,
+    best: Option<u64>,
+) -> Result<String, AllocError>
+    ensures { IfOk result (λ line. string_bytes line ≡ stopped_line until why low best) }
 {
-    let why = WhyWord(why);
+    let is_enough = is_enough(until, best);
+    let why = WhyWord { why, is_enough };
     let best = BestWord(best);
     format!(in alloc; "stopped {why} {low} {best}\n")
 }
@@ -72,21 +86,22 @@ fn stopped_line(alloc: Global, why: Why, low: u32, best: Option<u64>) -> Result<
 /// That line and then the best plan's text, where there is a plan.
 fn stopped_text(
     alloc: Global,
+    until: Option<u32>,
     instance: &Instance,
     why: Why,
     low: u32,
     best: &Option<(Plan, u64)>,
 ) -> Result<Vec<u8>, MemoryFault>
     requires { IsBestPlan instance.now best.now }
-    ensures { IfOk result (λ text. IsStoppedText instance.now why low best.now text.items) }
+    ensures { IfOk result (λ text. IsStoppedText until instance.now why low best.now text.items) }
 {
     match best {
         None => {
-            let line = stopped_line(alloc, why, low, None)?;
+            let line = stopped_line(alloc, until, why, low, None)?;
             Ok(Vec::from_slice(alloc, line.as_bytes())?)
         }
         Some((plan, delay)) => {
-            let line = stopped_line(alloc, why, low, Some(*delay))?;
+            let line = stopped_line(alloc, until, why, low, Some(*delay))?;
             let mut text = Vec::from_slice(alloc, line.as_bytes())?;
             let plan = plan_format::print(alloc, instance, plan)?;
             text.extend_from_slice(plan.as_slice())?;
@@ -98,16 +113,19 @@ fn stopped_text(
 /// What is written of an answer.
 fn answer_text(
     alloc: Global,
+    until: Option<u32>,
     instance: &Instance,
     outcome: &Outcome,
 ) -> Result<Vec<u8>, MemoryFault>
     requires { Shows instance.now outcome.now }
-    ensures { IfOk result (λ text. IsAnswerText instance.now outcome.now text.items) }
+    ensures { IfOk result (λ text. IsAnswerText until instance.now outcome.now text.items) }
 {
     match outcome {
         Outcome::Optimal { plan, .. } => plan_format::print(alloc, instance, plan),
         Outcome::Infeasible { .. } => Ok(Vec::from_slice(alloc, b"none\n")?),
-        Outcome::Stopped { why, low, best, .. } => stopped_text(alloc, instance, *why, *low, best),
+        Outcome::Stopped { why, low, best, .. } => {
+            stopped_text(alloc, until, instance, *why, *low, best)
+        }
     }
 }
 
@@ -166,10 +184,11 @@ fn solved_of_reader<R: Threads + Wait + Sync, G: Follower + Sync, I: Read>(
     alloc: Global,
     instance: &mut I,
     options: Options,
+    until: Option<u32>,
     follower: &G,
 ) -> Result<Solved, Fault>
     ensures judged { IfSome (I.remaining instance.old) (λ bytes. MatchResult result
-        (IsSolved bytes options)
+        (IsSolved bytes options until)
         (IsUnsolved bytes)) }
     ensures printable { IfOk result (λ solved.
         Allows (cert_of solved.outcome).version (cert_of solved.outcome).tree) }
@@ -181,7 +200,7 @@ fn solved_of_reader<R: Threads + Wait + Sync, G: Follower + Sync, I: Read>(
         Ok(outcome) => outcome,
         Err(fault) => return Err(Fault::Search(fault_of(fault))),
     };
-    match answer_text(alloc, &instance, &outcome) {
+    match answer_text(alloc, until, &instance, &outcome) {
         Ok(text) => Ok(Solved {
             instance,
             outcome,
@@ -223,14 +242,15 @@ fn solve_alone<R: Threads + Wait + Sync, G: Follower + Sync, I: Read, W: Write>(
     alloc: Global,
     instance: &mut I,
     options: Options,
+    until: Option<u32>,
     follower: &G,
     out: &mut W,
 ) -> End
     ensures answer { IfSome (I.remaining instance.old) (λ bytes.
-        IsSolveAnswer bytes options false None None (W.contents out.old) (W.contents out.new) result) }
+        IsSolveAnswer bytes options until false None None (W.contents out.old) (W.contents out.new) result) }
     ensures most { TakesAtMost (instance_limit + 1) (I.remaining instance.old) (I.remaining instance.new) }
 {
-    match solved_of_reader(rt, alloc, instance, options, follower) {
+    match solved_of_reader(rt, alloc, instance, options, until, follower) {
         Ok(solved) => write_answer(&solved, out),
         Err(fault) => End::Refused(fault),
     }
@@ -243,16 +263,17 @@ fn solve_certified<R: Threads + Wait + Sync, G: Follower + Sync, I: Read, C: Wri
     alloc: Global,
     instance: &mut I,
     options: Options,
+    until: Option<u32>,
     follower: &G,
     certificate: &mut C,
     out: &mut W,
 ) -> End
     ensures answer { IfSome (I.remaining instance.old) (λ bytes.
-        IsSolveAnswer bytes options true (C.contents certificate.old) (C.contents certificate.new)
+        IsSolveAnswer bytes options until true (C.contents certificate.old) (C.contents certificate.new)
         (W.contents out.old) (W.contents out.new) result) }
     ensures most { TakesAtMost (instance_limit + 1) (I.remaining instance.old) (I.remaining instance.new) }
 {
-    let solved = match solved_of_reader(rt, alloc, instance, options, follower) {
+    let solved = match solved_of_reader(rt, alloc, instance, options, until, follower) {
         Ok(solved) => solved,
         Err(fault) => return End::Refused(fault),
     };
@@ -262,25 +283,29 @@ fn solve_certified<R: Threads + Wait + Sync, G: Follower + Sync, I: Read, C: Wri
     }
 }
 
-/// Searches and writes as `solve_run` does, and tells a follower how the search goes on.
+/// Searches and writes as `solve_run` does, and tells a follower how the search goes on. Where that one calls the search off, the word in the line
+/// `stopped` is `until` where the best plan takes at most as many ticks as are given here, and else `time`.
 pub fn solve_run_with<R: Threads + Wait + Sync, G: Follower + Sync, I: Read, C: Write, W: Write>(
     rt: &R,
     alloc: Global,
     instance: &mut I,
     options: Options,
+    until: Option<u32>,
     follower: &G,
     certificate: Option<&mut C>,
     out: &mut W,
 ) -> End
     ensures answer { IfSome (I.remaining instance.old) (λ bytes.
-        IsSolveAnswer bytes options (is_some certificate.entry)
+        IsSolveAnswer bytes options until (is_some certificate.entry)
         (held C.contents certificate.entry) (left C.contents certificate.exit)
         (W.contents out.old) (W.contents out.new) result) }
     ensures most { TakesAtMost (instance_limit + 1) (I.remaining instance.old) (I.remaining instance.new) }
 {
     match certificate {
-        None => solve_alone(rt, alloc, instance, options, follower, out),
-        Some(writer) => solve_certified(rt, alloc, instance, options, follower, writer, out),
+        None => solve_alone(rt, alloc, instance, options, until, follower, out),
+        Some(writer) => {
+            solve_certified(rt, alloc, instance, options, until, follower, writer, out)
+        }
     }
 }
 
@@ -299,14 +324,16 @@ pub fn solve_run<R: Threads + Wait + Sync, I: Read, C: Write, W: Write>(
     out: &mut W,
 ) -> End
     ensures answer { IfSome (I.remaining instance.old) (λ bytes.
-        IsSolveAnswer bytes options (is_some certificate.entry)
+        IsSolveAnswer bytes options None (is_some certificate.entry)
         (held C.contents certificate.entry) (left C.contents certificate.exit)
         (W.contents out.old) (W.contents out.new) result) }
     // No more is taken of the reader than its limit and one byte.
     ensures most { TakesAtMost (instance_limit + 1) (I.remaining instance.old) (I.remaining instance.new) }
 {
     match certificate {
-        None => solve_alone(rt, alloc, instance, options, &FreeGate, out),
-        Some(writer) => solve_certified(rt, alloc, instance, options, &FreeGate, writer, out),
+        None => solve_alone(rt, alloc, instance, options, None, &FreeGate, out),
+        Some(writer) => {
+            solve_certified(rt, alloc, instance, options, None, &FreeGate, writer, out)
+        }
     }
 }

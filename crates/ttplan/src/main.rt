@@ -9,10 +9,11 @@ use command_words::{Request, Task, VERSION, refuse, request_in};
 pub use plan_commands::{
     check_run, draw_run, judge_run, replay_run, schedule_run, tables, verify, verify_bundle,
 };
+use solve_command::{Follower, FreeGate, Patience, Patient, Progress, solve_run_with};
 pub use solve_command::{Options, solve_run};
-use solve_command::{Progress, solve_run_with};
 use std::fs::File;
 use std::io;
+use std::marker::Sync;
 use std::process::ExitCode;
 use std::sync::Wait;
 use std::thread::Threads;
@@ -130,6 +131,7 @@ fn run_solve(
     instance: &str,
     certificate: Option<&str>,
     options: Options,
+    patience: Patience,
     progress: bool,
 ) -> End {
     let Ok(mut instance) = File::open(rt, instance) else {
@@ -139,36 +141,50 @@ fn run_solve(
         Ok(file) => file,
         Err(fault) => return End::Refused(fault),
     };
-    if progress {
-        return run_solve_in_sight(rt, threads, &mut instance, certificate.as_mut(), options);
+    let certificate = certificate.as_mut();
+    if !progress {
+        return search_files(
+            rt,
+            threads,
+            &mut instance,
+            certificate,
+            options,
+            patience,
+            &FreeGate,
+        );
     }
-    solve_run(
-        threads,
-        rt.alloc(),
-        &mut instance,
-        options,
-        certificate.as_mut(),
-        &mut rt.stdout(),
-    )
+    match Progress::on(rt.alloc(), rt, options.workers) {
+        Ok(progress) => search_files(
+            rt,
+            threads,
+            &mut instance,
+            certificate,
+            options,
+            patience,
+            &progress,
+        ),
+        Err(_) => End::Refused(Fault::Memory),
+    }
 }
 
-/// Searches an instance, and says on standard error how far the search is.
-fn run_solve_in_sight(
+/// Searches the instance of a file, writes the certificate to another where there is one, and tells a follower how the search goes on.
+fn search_files(
     rt: &HostRuntime,
     threads: &(impl Threads + Wait + Sync),
     instance: &mut File,
     certificate: Option<&mut File>,
     options: Options,
+    patience: Patience,
+    follower: &(impl Follower + Sync),
 ) -> End {
-    let Ok(progress) = Progress::on(rt.alloc(), rt, options.workers) else {
-        return End::Refused(Fault::Memory);
-    };
+    let patient = Patient::beside(follower, rt, patience);
     solve_run_with(
         threads,
         rt.alloc(),
         instance,
         options,
-        &progress,
+        patience.until,
+        &patient,
         certificate,
         &mut rt.stdout(),
     )
@@ -190,9 +206,20 @@ fn run(rt: &HostRuntime, threads: &(impl Threads + Wait + Sync), request: Reques
             workers,
             budget,
             progress,
+            until,
+            seconds,
         } => {
             let options = Options { workers, budget };
-            run_solve(rt, threads, instance, certificate, options, progress)
+            let patience = Patience { until, seconds };
+            run_solve(
+                rt,
+                threads,
+                instance,
+                certificate,
+                options,
+                patience,
+                progress,
+            )
         }
         Request::Check {
             instance,

@@ -6,12 +6,12 @@ use Rattle.solve_command.proofs.solve.solve_certified.Goals as goal
 pub returns-in-Ok-write_certificate-clause-answer : goal.returns-in-Ok-write_certificate-clause-answer
 returns-in-Ok-write_certificate-clause-answer g c =
     let certified = rw c.cert_of.ensures at c.in-Ok-write_certificate.ensures in
-    told_of_reader _ _ true _ _ _ c.in-Ok.solved c.in-Ok.ensures.judged certified _ _ c.write_answer.ensures
+    told_of_reader _ _ _ true _ _ _ c.in-Ok.solved c.in-Ok.ensures.judged certified _ _ c.write_answer.ensures
 
 pub returns-clause-answer : goal.returns-clause-answer
 returns-clause-answer g c =
     let certifying = subst (λ cert. IsCertifying cert (g.C.Write.contents c.args.certificate.now) (g.C.Write.contents c.write_certificate.new.out) (Err c.in-Err-write_certificate.fault)) c.cert_of.ensures c.in-Err-write_certificate.ensures in
-    uncertified_of_reader _ _ _ _ _ c.in-Ok.solved c.in-Err-write_certificate.fault c.in-Ok.ensures.judged certifying
+    uncertified_of_reader _ _ _ _ _ _ c.in-Ok.solved c.in-Err-write_certificate.fault c.in-Ok.ensures.judged certifying
 
 pub write_certificate-requires : goal.write_certificate-requires
 write_certificate-requires g c = rw c.cert_of.ensures c.in-Ok.ensures.printable

@@ -136,3 +136,11 @@ returns-in-Ok-Found-clause-made g c =
         least = lower c.look-goal.result c.in-Ok-Found.delay (offers old) later c.look-goal.ensures.below.1;
       });
     }
+
+pub found-requires : goal.found-requires
+found-requires g c =
+    let i = c.args.instance.now in
+    let t = c.args.task in
+    let find : IsFind i (choice_of i t) c.look-goal.result c.in-Ok-Found.plan c.in-Ok-Found.delay c.in-Ok-Found.leaf =
+    subst (IsWorked i t c.look-goal.result) c.in-Ok-Found.field-0-is c.in-Ok-Found.ensures.worked in
+    record { settled = find.settled; delay_is = find.delay_is }

@@ -4,7 +4,7 @@ use Rattle.search_turns.specs.Searching.{IsSearching}
 use Rattle.search_turns.proofs.search.Search.go.Given as goal
 
 abbrev pub invariant-loop-turn : goal.invariant-loop-turn
-invariant-loop-turn l = record {
+invariant-loop-turn g l = record {
   searching : IsSearching l.instance l.self.pieces.items l.self.tasks.items l.self.best;
   bench : IsWorkbenchOf l.instance l.bench;
   rising : IsWorkbenchOf l.instance l.rising.bench;

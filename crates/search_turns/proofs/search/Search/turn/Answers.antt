@@ -16,7 +16,7 @@ use Rattle.search_turns.proofs.Searching.{last_there, works}
 use Rattle.search_turns.proofs.search.Search.turn.Goals as goal
 
 pub overflow_cast-len : goal.overflow_cast-len
-overflow_cast-len c =
+overflow_cast-len g c =
     let i = c.args.instance.now in
     let t = c.in-Some.task in
     let split : IsSplit i t c.limit-goal.result c.in-Ok-Split.kind c.in-Ok-Split.tasks.items = subst (IsWorked i t c.limit-goal.result) c.in-Ok-Split.field-0-is c.in-Ok-Split.ensures.worked in
@@ -26,7 +26,7 @@ overflow_cast-len c =
     omega (arith, c.len.ensures, c.in-Ok-Split.tasks.ok.0, split.branch.just, few_children i (choice_of i t) c.in-Ok-Split.kind c.nodes-nodes.ensures.instance (task_choice i t c.nodes-nodes.ensures.instance own) split.branch.is_open)
 
 pub open_all-requires : goal.open_all-requires
-open_all-requires c =
+open_all-requires g c =
     let i = c.args.instance.now in
     let s = c.make_room.new.self in
     let t = c.in-Some.task in
@@ -39,7 +39,7 @@ open_all-requires c =
     omega (arith, room, few, split.branch.just, c.in-Ok-Split.tasks.ok.0, c.pop.ensures.capacity, c.pop.ensures.len)
 
 pub returns-in-Ok-Split-clause-searching : goal.returns-in-Ok-Split-clause-searching
-returns-in-Ok-Split-clause-searching c =
+returns-in-Ok-Split-clause-searching g c =
     let i = c.args.instance.now in
     let s = c.make_room.new.self in
     let start : IsSearching i s.pieces.items s.tasks.items s.best = rw c.make_room.ensures.pieces (rw c.make_room.ensures.tasks (rw c.make_room.ensures.best c.requires.searching)) in
@@ -63,7 +63,7 @@ returns-in-Ok-Split-clause-searching c =
     rw pieces (rw tasks after)
 
 pub returns-in-Ok-Closed-clause-searching : goal.returns-in-Ok-Closed-clause-searching
-returns-in-Ok-Closed-clause-searching c =
+returns-in-Ok-Closed-clause-searching g c =
     let i = c.args.instance.now in
     let s = c.make_room.new.self in
     let start : IsSearching i s.pieces.items s.tasks.items s.best = rw c.make_room.ensures.pieces (rw c.make_room.ensures.tasks (rw c.make_room.ensures.best c.requires.searching)) in
@@ -82,7 +82,7 @@ returns-in-Ok-Closed-clause-searching c =
     rw pieces (subst (λ (l : List Task). IsSearching i (s.pieces.items ++ turn.piece ∷ []) l s.best) (append-nil front) after)
 
 pub returns-in-Ok-Found-clause-searching : goal.returns-in-Ok-Found-clause-searching
-returns-in-Ok-Found-clause-searching c =
+returns-in-Ok-Found-clause-searching g c =
     let i = c.args.instance.now in
     let s = c.make_room.new.self in
     let start : IsSearching i s.pieces.items s.tasks.items s.best = rw c.make_room.ensures.pieces (rw c.make_room.ensures.tasks (rw c.make_room.ensures.best c.requires.searching)) in
@@ -100,3 +100,11 @@ returns-in-Ok-Found-clause-searching c =
     let after = works i s.pieces.items front turn s.best best [] before (record { of = own; name = named; right = find.closes }) refl (All-nil (IsTask i)) lower find.no_later (record { settled = find.settled; delay_is = find.delay_is }) in
     let pieces : c.push_reserved-in-Ok-Found.new.self.items ≡ s.pieces.items ++ turn.piece ∷ [] = c.push_reserved-in-Ok-Found.ensures.items in
     rw pieces (subst (λ (l : List Task). IsSearching i (s.pieces.items ++ turn.piece ∷ []) l best) (append-nil front) after)
+
+pub found-requires : goal.found-requires
+found-requires g c =
+    let i = c.args.instance.now in
+    let t = c.in-Some.task in
+    let find : IsFind i (choice_of i t) c.limit-goal.result c.in-Ok-Found.plan c.in-Ok-Found.delay c.in-Ok-Found.leaf =
+    subst (IsWorked i t c.limit-goal.result) c.in-Ok-Found.field-0-is c.in-Ok-Found.ensures.worked in
+    record { settled = find.settled; delay_is = find.delay_is }

@@ -1,0 +1,110 @@
+//! When does a search end whose user has waited long enough?
+
+ghost use Rattle.std.specs.Prelude.{◌≡◌};
+ghost use Rattle.solve_command.specs.Solved.{is_enough};
+
+use crate::progress::Follower;
+use branch_tree::Name;
+use planner::Gate;
+use std::alloc::Global;
+use std::rt::Clock;
+use std::sync::atomic::{AtomicU64, Ordering};
+use std::time::Instant;
+use ttp_model::{Instance, Plan};
+
+/// Whether the best plan found takes at most as long as was asked for.
+pub fn is_enough(until: Option<u32>, best: Option<u64>) -> bool
+    ensures { result ≡ is_enough until best }
+{
+    match (until, best) {
+        (Some(most), Some(delay)) => delay <= u64::from(most),
+        _ => false,
+    }
+}
+
+/// When a search ends before it knows the least delay, though its budget isn't spent.
+#[derive(Clone, Copy, Debug, PartialEq, Eq)]
+pub struct Patience {
+    /// Once a plan of at most so many ticks is found.
+    pub until: Option<u32>,
+    /// So many seconds after the program's start.
+    pub seconds: Option<u64>,
+}
+
+/// Follows a search, as another follower does who is told of all, and ends it in time.
+#[derive(Drop)]
+pub struct Patient<'a, S: Clock, F: Follower> {
+    follower: &'a F,
+    clock: &'a S,
+    started: Option<Instant>,
+    patience: Patience,
+    /// The delay of the best plan found, in ticks; the greatest number where none is.
+    best: AtomicU64,
+}
+
+impl<'a, S: Clock, F: Follower> Patient<'a, S, F> {
+    /// No plan is found yet. Where the clock can't be read, no search ends for its time.
+    pub fn beside(follower: &'a F, clock: &'a S, patience: Patience) -> Self {
+        Patient {
+            follower,
+            clock,
+            started: Instant::now(clock).ok(),
+            patience,
+            best: AtomicU64::new(u64::MAX),
+        }
+    }
+
+    /// The delay of the best plan found, where one is.
+    fn best(&self) -> Option<u64> {
+        match self.best.load(Ordering::SeqCst) {
+            u64::MAX => None,
+            delay => Some(delay),
+        }
+    }
+
+    /// Whether as many seconds have passed as were given.
+    fn is_over(&self) -> bool {
+        match (self.patience.seconds, &self.started) {
+            (Some(seconds), Some(started)) => match started.elapsed(self.clock) {
+                Ok(time) => time.as_secs() >= seconds,
+                Err(_) => false,
+            },
+            _ => false,
+        }
+    }
+}
+
+impl<'a, S: Clock, F: Follower> Gate for Patient<'a, S, F> {
+    fn start(&self, worker: usize) {
+        self.follower.start(worker);
+    }
+
+    fn enter(&self, worker: usize, name: &Name) {
+        self.follower.enter(worker, name);
+    }
+
+    fn leave(&self, worker: usize, name: &Name) {
+        self.follower.leave(worker, name);
+    }
+
+    fn goes_on(&self, worker: usize) -> bool {
+        self.follower.goes_on(worker)
+            && !is_enough(self.patience.until, self.best())
+            && !self.is_over()
+    }
+
+    fn found(&self, instance: &Instance, plan: &Plan, delay: u64) {
+        self.best.fetch_min(delay, Ordering::SeqCst);
+        self.follower.found(instance, plan, delay);
+    }
+}
+
+impl<'a, S: Clock, F: Follower> Follower for Patient<'a, S, F> {
+    fn begin(&self, alloc: Global, instance: &Instance) {
+        self.follower.begin(alloc, instance);
+    }
+
+    fn end(&self) {
+        self.follower.end();
+    }
+}
