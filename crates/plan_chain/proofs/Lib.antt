@@ -1,0 +1,7 @@
+pub mod Falling
+pub mod Leading
+pub mod Waiting
+pub mod Rooms
+pub mod Settled
+pub mod Short
+pub mod Telling

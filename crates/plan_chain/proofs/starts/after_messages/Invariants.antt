@@ -1,0 +1,7 @@
+use Rattle.ttp_model.specs.Raising.{IsRaised}
+use Rattle.plan_chain.specs.Causes.{arrival}
+use Rattle.plan_chain.specs.Waits.{Receives}
+use Rattle.plan_chain.proofs.starts.after_messages.Given as goal
+
+abbrev pub invariant-loop-m : goal.invariant-loop-m
+invariant-loop-m l = IsRaised l.m (Receives l.instance l.p) (arrival l.instance l.plan) l.floor l.time

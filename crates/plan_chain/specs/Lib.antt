@@ -1,0 +1,5 @@
+pub mod Causes
+pub mod Chain
+pub mod Lines
+pub mod There
+pub mod Waits
