@@ -6,10 +6,10 @@ use std::alloc::Global;
 use tt_infer::Facts;
 use ttp_model::MemoryFault;
 
-/// Tries are made at each node where this share of them, in millionths, led to a branch lately.
+/// Tries are made at each node where this share of them, in millionths, led to a branch lately: a guess.
 const ENOUGH: u32 = 300_000;
 
-/// Else at one in so many nodes.
+/// Else at one in so many nodes: a guess.
 const SELDOM: u32 = 16;
 
 /// When two processes can run.

@@ -16,7 +16,8 @@ use tree_check::judge_leaf;
 use tt_infer::Facts;
 use ttp_model::{Instance, Step};
 
-/// However many processors there are, no more threads than these are started for a batch.
+/// However many processors there are, no more threads than these are started for a batch. A limit,
+/// not tuned.
 const MOST_OTHERS: usize = 31;
 
 /// Who judges whether leaves close the choices that they stand at, below a bound, and has so many other threads for it.

@@ -10,13 +10,14 @@ use held_leaves::HeldLeaf;
 use std::alloc::Global;
 use std::sync::atomic::{AtomicUsize, Ordering};
 
-/// How many leaves a thread takes at a time.
+/// How many leaves a thread takes at a time. Eight are 1 to 3 % faster, but leaves of more than a megabyte would then be one
+/// thread's alone: 1.7 times as long.
 const RUN: usize = 4;
 
-/// So few leaves are worth no thread of their own.
+/// So few leaves are worth no thread of their own: a guess.
 const FEW: usize = 16;
 
-/// How many bytes of steps are worth threads, however few leaves have them.
+/// How many bytes of steps are worth threads, however few leaves have them: a guess.
 const MANY_BYTES: usize = 65_536;
 
 /// Whether these leaves have many bytes of steps, however few they are.

@@ -12,7 +12,7 @@ use line_text::cut;
 use std::alloc::{AllocError, Global};
 use std::io::Read;
 
-/// How many bytes are asked for at once.
+/// How many bytes are asked for at once: a guess.
 const BLOCK: usize = 65_536;
 
 /// The bytes that are taken of a reader, up to a limit and one more, and not yet passed, with the last line that was.

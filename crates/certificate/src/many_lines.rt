@@ -3,7 +3,7 @@
 ghost use Rattle.std.specs.Prelude.{◌≡◌, ◌<◌, ◌≤◌, ◌^◌, length, take};
 ghost use Rattle.certificate.specs.ManyLines.{AreLines, BeginLines};
 
-/// How many bytes are gone through at once.
+/// How many bytes are gone through at once: a guess.
 const RUN: usize = 64;
 
 /// How many lines end in a text.

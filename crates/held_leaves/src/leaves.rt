@@ -10,12 +10,14 @@ use tt_choice::Choice;
 use ttp_model::MemoryFault;
 
 /// However few leaves wait, they are judged once their steps have so many bytes. Twice as many leaves may be there at once.
+/// A limit, not tuned.
 const MOST_BYTES: usize = 8_388_608;
 
-/// How many leaves wait at first until they are judged: soon, so that other threads needn't wait for long.
+/// How many leaves wait at first until they are judged: soon, so that other threads needn't wait for long. 32,
+/// 128 and 256 take as long.
 const FIRST_TOGETHER: usize = 64;
 
-/// How large the memory of a text may be that is kept for others.
+/// How large the memory of a text may be that is kept for others. A limit, not tuned.
 const MOST_KEPT: usize = 4_096;
 
 /// A leaf that waits, with the choice that it stands at, the version of its text and its line. Its steps aren't read yet: their lines are there.

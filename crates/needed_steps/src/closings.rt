@@ -6,7 +6,7 @@ use std::alloc::Global;
 use tt_infer::Facts;
 use ttp_model::{MemoryFault, Step};
 
-/// The most closers that are found.
+/// The most closers that are found. A limit, not tuned.
 const MOST_CLOSERS: usize = 64;
 
 /// Closers that can be taken, in memory that is used again.

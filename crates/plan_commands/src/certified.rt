@@ -22,7 +22,8 @@ use ttp_model::Instance;
 
 /// How many leaves of a certificate wait to be judged together. Where there is one processor, more of them would leave its own memory before
 /// they are judged; where there are more, each batch costs a meeting of all threads, but a small certificate would spend its time on memory
-/// that is touched for the first time.
+/// that is touched for the first time. 256 take four threads 15 to 24 % more than 1,024 on certificates of 9 to 51 MB; 512 take 10 to 14 %
+/// less than 1,024 on 2 MB; 1,024 take one thread 11 to 17 % longer; 2,048 are slower on all.
 const BATCH: usize = 512;
 
 /// A fault of a certificate's bytes, as it is told.

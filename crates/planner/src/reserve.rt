@@ -5,6 +5,8 @@ use ttp_model::{Instance, MemoryFault};
 
 /// How many bytes at least: the lists of some ten thousand open tasks, a propagation, or the tables of a subtree that is closed take
 /// a part of them. What grows with the tree is kept beside its pieces, as room in their list.
+/// Up to 64 processes and 128 messages it is always more than what is worked out below; 256 processes take 8 MiB a block, with 512
+/// messages to 255 receivers each 40.
 const LEAST_BYTES: usize = 4 << 20;
 
 /// The bytes of a step.

@@ -138,7 +138,8 @@ fn concluded(
     Ok(answer(why, best, limit, low, told))
 }
 
-/// What of a budget the workers have: in a search that isn't plain the last quarter is for the bound.
+/// What of a budget the workers have: in a search that isn't plain the last quarter is for the bound. Another share
+/// wasn't measured.
 fn workers_part(budget: u64, manner: Manner) -> u64
     ensures { result ≤ budget }
 {

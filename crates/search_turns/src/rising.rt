@@ -8,10 +8,11 @@ use branch_tree::{Task, Workbench, is_closed_below, root_bound};
 use std::alloc::Global;
 use ttp_model::{Instance, MemoryFault};
 
-/// In so many steps the goal rises from the bound of the whole tree to the delay that has to be beaten.
+/// In so many steps the goal rises from the bound of the whole tree to the delay that has to be beaten: a guess.
 const STEPS: u32 = 32;
 
-/// So many tasks are tried at most for each that is worked.
+/// So many tasks are tried at most for each that is worked. After 8,000 subtrees 8 raise `layer10` to 546 and `chain11` to 480, 16
+/// to 557 and 485, and 32 `layer10` to 575 in ten seconds more.
 const TRIES: u64 = 16;
 
 /// Which of the tasks that are left is worked next.

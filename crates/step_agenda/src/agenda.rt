@@ -15,7 +15,7 @@ use tt_choice::Decision;
 use tt_infer::Facts;
 use ttp_model::{Instance, MOST_NODES, MOST_PROCESSES, MemoryFault, Step, has_link};
 
-/// After so many facts for each process and message rings are looked for again.
+/// After so many facts for each process and message rings are looked for again: a guess.
 const FACTS_BETWEEN_RINGS: u32 = 4;
 
 /// Facts that were sharpened and whose consequences weren't tried since, and nodes whose loads

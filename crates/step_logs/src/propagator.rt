@@ -27,7 +27,8 @@ use tt_choice::{Choice, Decision};
 use tt_infer::Facts;
 use ttp_model::{Instance, Leaf, MemoryFault, Step};
 
-/// So many checkpoints are kept of the last decisions, and of those before that of every one in as many.
+/// So many checkpoints are kept of the last decisions, and of those before that of every one in as many. 2,000 decisions
+/// keep 95 so; after 2,000 subtrees of three large instances that took 55, 57 and 55 MB in place of 137, 179 and 146.
 const RECENT: usize = 64;
 
 /// What is known of the plans below a goal, after decisions that can be taken back: what was known before each of the last ones

@@ -1,2 +1,5 @@
 pub mod Manners
+pub mod Flags
+pub mod Given
 pub mod Uses
+pub mod Steps

@@ -12,6 +12,11 @@ pub record IsMore (old new : Uses) : Type 0 where
   pub above : IsTrue old.above_least → IsTrue new.above_least
   pub below : IsTrue old.below_most → IsTrue new.below_most
 
+-- more levels are in a set than before, in the same room
+pub record IsGrown (old new : List Bool) : Type 0 where
+  pub room : length new ≡ length old
+  pub kept : (level : ℕ) → IsTrue (has_level old level) → IsTrue (has_level new level)
+
 -- the levels of these nodes were put into a set, as far as there is room, and none was taken out
 pub record HaveMarked (placed : List Placed) (old new : List Bool) : Type 0 where
   pub as_wide : length new ≡ length old

@@ -16,7 +16,7 @@ pub enum Manner {
     Sparing,
 }
 
-/// How much the root leaves to choose, at most, where a search is plain.
+/// How much the root leaves to choose, at most, where a search is plain: such a tree is worked as fast as a plan is found.
 const LITTLE: usize = 32;
 
 /// The manner in which an instance is searched: plainly where the root leaves at most 32 to choose, since such a tree is worked

@@ -1,10 +1,12 @@
 //! Which branches do times of slots rest on?
 
-ghost use Rattle.std.specs.Prelude.{◌≡◌, ◌<◌, ◌≤◌, length, take, IfOk, IfSome, IfNone, IsTrue, position, ◌==◌};
+ghost use Rattle.std.specs.Prelude.{◌≡◌, ℕ, ◌<◌, ◌≤◌, length, take, All, IfOk, IfSome, IfNone, IsTrue, position, ◌==◌};
 ghost use Rattle.ttp_model.specs.Instance.{Instance};
+ghost use Rattle.tt_choice.specs.Kept.{fixes_above, fixes_below};
 ghost use Rattle.decision_paths.specs.Levels.{has_level};
-ghost use Rattle.decision_paths.specs.Turns.{placed_of};
-ghost use Rattle.used_decisions.specs.Uses.{IsMore, HaveMarked};
+ghost use Rattle.decision_paths.specs.Turns.{last_of, placed_of};
+ghost use Rattle.decision_paths.specs.Marks.{IsTold, ArePlacesTold};
+ghost use Rattle.used_decisions.specs.Uses.{IsMore, IsGrown, HaveMarked};
 
 use decision_paths::{Cut, Levels, OnChannel, Path};
 use std::alloc::Global;
@@ -120,7 +122,16 @@ impl Uses {
     }
 
     /// The branches that are used.
-    pub fn levels(self, path: &Path) -> Levels {
+    pub fn levels(self, path: &Path) -> Levels
+        ensures kept { (level : ℕ) → IsTrue (has_level self.levels level) → IsTrue (has_level result level) }
+        ensures places { All (λ turn. turn.level < length self.levels) path.now.turns
+            → ArePlacesTold result self.places (placed_of path.now.turns) }
+        ensures above { All (λ turn. turn.level < length self.levels) path.now.turns → IsTrue self.above_least
+            → (n : ℕ) → n < length path.now.instance.nodes → IsTold result (last_of (fixes_above n) path.now.turns) }
+        ensures below { All (λ turn. turn.level < length self.levels) path.now.turns → IsTrue self.below_most
+            → (n : ℕ) → n < length path.now.instance.nodes
+            → IsTold result (last_of (fixes_below path.now.instance n) path.now.turns) }
+    {
         let Uses {
             levels,
             places,
@@ -129,7 +140,8 @@ impl Uses {
         } = self;
         let mut levels = levels;
         mark_places(path, places, &mut levels);
-        mark_capacities(path, above_least, below_most, &mut levels);
+        mark_above(path, above_least, &mut levels);
+        mark_below(path, below_most, &mut levels);
         levels
     }
 }
@@ -145,15 +157,43 @@ fn mark_places(path: &Path, places: usize, levels: &mut Levels)
     }
 }
 
-/// Puts in the branches that fixed a capacity above the least option, or below the greatest one.
-fn mark_capacities(path: &Path, above_least: bool, below_most: bool, levels: &mut Levels) {
+/// Puts in a branch, if there is one.
+fn insert_branch(level: Option<u32>, levels: &mut Levels)
+    ensures grown { IsGrown levels.old levels.new }
+    ensures told { IfSome level (λ level. level < length levels.old → IsTrue (has_level levels.new level)) }
+{
+    if let Some(level) = level {
+        levels.insert(level);
+    }
+}
+
+/// Puts in the branches that fixed a capacity above the least option, where these are asked for.
+fn mark_above(path: &Path, are_used: bool, levels: &mut Levels)
+    ensures grown { IsGrown levels.old levels.new }
+    ensures told { All (λ turn. turn.level < length levels.old) path.now.turns → IsTrue are_used
+        → (n : ℕ) → n < length path.now.instance.nodes → IsTold levels.new (last_of (fixes_above n) path.now.turns) }
+{
+    if !are_used {
+        return;
+    }
     let count = path.instance().nodes().len() as u32;
     for n in 0..count {
-        if let (true, Some(level)) = (above_least, path.above_least(n)) {
-            levels.insert(level);
-        }
-        if let (true, Some(level)) = (below_most, path.below_most(n)) {
-            levels.insert(level);
-        }
+        insert_branch(path.above_least(n), levels);
+    }
+}
+
+/// Puts in the branches that fixed a capacity below the greatest option, where these are asked for.
+fn mark_below(path: &Path, are_used: bool, levels: &mut Levels)
+    ensures grown { IsGrown levels.old levels.new }
+    ensures told { All (λ turn. turn.level < length levels.old) path.now.turns → IsTrue are_used
+        → (n : ℕ) → n < length path.now.instance.nodes
+        → IsTold levels.new (last_of (fixes_below path.now.instance n) path.now.turns) }
+{
+    if !are_used {
+        return;
+    }
+    let count = path.instance().nodes().len() as u32;
+    for n in 0..count {
+        insert_branch(path.below_most(n), levels);
     }
 }

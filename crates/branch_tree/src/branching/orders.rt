@@ -10,7 +10,7 @@ use path_bounds::Propagator;
 use std::alloc::Global;
 use ttp_model::{Instance, Kind, MOST_NODES, MemoryFault};
 
-/// How many pairs are tried on each node.
+/// How many pairs are tried on each node: a guess.
 const TRIED: u32 = 16;
 
 /// The branch on two processes in one of whose orders no plan is left: the first that is found among the tightest pairs of
