@@ -1,5 +1,5 @@
 -- The tasks of a branch's children: each is one of the instance, is smaller, and together they have all valid plans.
-use Rattle.std.proofs.Common.{◌≡◌, ℕ, ◌+◌, ◌<◌, ◌≤◌, List, [], ◌∷◌, ◌++◌, length, length-append, slice_index_or, All, arith, ap, sym, subst, ◌∙◌, Bool, true, IsTrue, ◌==◌, Option, Some, eq-eqb}
+use Rattle.std.proofs.Common.{◌≡◌, ℕ, ◌+◌, ◌<◌, ◌≤◌, List, [], ◌∷◌, ◌++◌, length, length-append, slice_index_or, All, arith, ap, sym, subst, ◌∙◌, Bool, IsTrue, ◌↔◌, Option, Some}
 use Rattle.std.proofs.lemmas.List.{length-map, get_or-map}
 use Rattle.std.proofs.lemmas.List.FromFn.{get_or-map-range_with_len}
 use Rattle.std.proofs.Math.Nat.{zero-add}
@@ -16,7 +16,7 @@ use Rattle.tt_choice.specs.Sizes.{size_left, Halves}
 use Rattle.tt_choice.proofs.Children.{child-IsIn}
 use Rattle.tt_choice.proofs.Decisions.{open-more, decision_is_open}
 use Rattle.tt_choice.proofs.Smaller.{size_left-child}
-use Rattle.subtree_tasks.specs.Name.{Name, child_name}
+use Rattle.subtree_tasks.specs.Name.{Name, child_name, root_name}
 use Rattle.subtree_tasks.specs.Task.{Task, choice_of, IsTask, root_task, AreChildren}
 use Rattle.branch_tree.specs.Work.{Cover, IsSplit}
 use Rattle.branch_tree.specs.Branching.{IsBranching}
@@ -83,11 +83,10 @@ module _ (i : Instance) (t : Task) (kind : Kind) (tasks : List Task) (are : AreC
       }
 
 -- a task whose name is the root's places a node first, where there are several
-pub root_places : (i : Instance) (t : Task) (kind : Option Kind) (at_root : Bool) → at_root ≡ (length t.name == 0) → (IsTrue at_root → 2 ≤ length i.nodes → length (choice_of i t).prefix < length i.nodes → kind ≡ Some Place) → t ≡ root_task → 2 ≤ length i.nodes → kind ≡ Some Place
+pub root_places : (i : Instance) (t : Task) (kind : Option Kind) (at_root : Bool) → (IsTrue at_root ↔ (t.name ≡ root_name)) → (IsTrue at_root → 2 ≤ length i.nodes → length (choice_of i t).prefix < length i.nodes → kind ≡ Some Place) → t ≡ root_task → 2 ≤ length i.nodes → kind ≡ Some Place
 root_places i t kind at_root is places same several =
-    let no_name : length t.name ≡ 0 = ap (λ (task : Task). length task.name) same in
     let no_prefix : length (choice_of i t).prefix ≡ 0 = ap (λ (task : Task). length (choice_of i task).prefix) same in
-    let root : at_root ≡ true = is ∙ eq-eqb (length t.name) 0 no_name in
+    let root : IsTrue at_root = is.1 (ap (λ (task : Task). task.name) same) in
     places root several (omega (arith, no_prefix, several))
 
 -- the branch that is there is a place

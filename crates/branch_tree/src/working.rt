@@ -121,7 +121,7 @@ fn worked_from(
         let leaf = reached.leaf(alloc)?;
         return Ok(Worked::Closed(leaf));
     }
-    let at_root = task.name().as_slice().is_empty();
+    let at_root = task.name().is_root();
     let kind = branch_on(alloc, instance, reached, lessons, at_root)?;
     let facts = reached.facts();
     taken(alloc, instance, facts.choice(), task, goal, kind)
@@ -141,7 +141,7 @@ fn worked_anew(
     match tried(alloc, instance, &choice, goal)? {
         Trial::Closed(leaf) => Ok(Worked::Closed(leaf)),
         Trial::At(facts) => {
-            let at_root = task.name().as_slice().is_empty();
+            let at_root = task.name().is_root();
             let kind = branch(instance, &choice, &facts, &Failures::none(), at_root);
             taken(alloc, instance, &choice, task, goal, kind)
         }

@@ -3,7 +3,6 @@
 ghost use Rattle.std.specs.Prelude.{◌≡◌, IfOk};
 
 use crate::pass::Staying;
-use crate::standing::Standing;
 use certificate::Node;
 use std::alloc::Global;
 use ttp_model::{Leaf, MemoryFault, Ring, Step, Steps};
@@ -77,18 +76,18 @@ fn copy_of(alloc: Global, node: &Node) -> Result<Node, MemoryFault>
 /// Copies of the nodes that stay; none where a subtree stays that was left.
 pub fn copies(
     alloc: Global,
-    standing: &[Standing],
+    nodes: &[Option<&Node>],
     staying: &Staying,
 ) -> Result<Option<Vec<Node>>, MemoryFault> {
     let mut copies = Vec::new(alloc);
     copies.reserve_exact(staying.count)?;
     let mut k = 0;
-    while k < standing.len() {
+    while k < nodes.len() {
         let next = staying.next(k);
         if next > k {
             k = next;
         } else {
-            let Some(node) = standing[k].node() else {
+            let Some(node) = nodes[k] else {
                 return Ok(None);
             };
             let copy = copy_of(alloc, node)?;

@@ -44,7 +44,7 @@ fn left_of(
     instance: &Instance,
     version: Version,
     low: u32,
-    standing: &[Standing],
+    nodes: &[Option<&Node>],
     most: usize,
 ) -> Result<Option<Cert>, MemoryFault>
     ensures proves { IfOk result (λ found. IfSome found (Proves instance.now)) }
@@ -52,8 +52,8 @@ fn left_of(
     ensures version { IfOk result (λ found. IfSome found (λ cert. cert.version ≡ version)) }
     ensures few { IfOk result (λ found. IfSome found (λ cert. branches cert.tree ≤ most)) }
 {
-    let staying = what_stays(alloc, instance, standing)?;
-    let Some(left) = copies(alloc, standing, &staying)? else {
+    let staying = what_stays(alloc, instance, nodes)?;
+    let Some(left) = copies(alloc, nodes, &staying)? else {
         return Ok(None);
     };
     if branches_among(left.as_slice()) > most {
@@ -62,16 +62,25 @@ fn left_of(
     accepted(alloc, instance, version, low, left)
 }
 
-/// The nodes of a tree in preorder, which tells where they stand: none is named.
-fn unnamed(alloc: Global, nodes: &[Node]) -> Result<Vec<Standing>, MemoryFault> {
-    let mut standing = Vec::with_capacity(alloc, nodes.len())?;
+/// The nodes of a tree: none of its subtrees was left.
+fn all_of(alloc: Global, nodes: &[Node]) -> Result<Vec<Option<&Node>>, MemoryFault> {
+    let mut all = Vec::with_capacity(alloc, nodes.len())?;
     for node in nodes {
-        standing.push(Standing {
-            name: &[],
-            node: Some(node),
-        })?;
+        all.push(Some(node))?;
     }
-    Ok(standing)
+    Ok(all)
+}
+
+/// The nodes that stand one after another, or none where a subtree was left.
+fn nodes_of<'a>(
+    alloc: Global,
+    standing: &[Standing<'a>],
+) -> Result<Vec<Option<&'a Node>>, MemoryFault> {
+    let mut nodes = Vec::with_capacity(alloc, standing.len())?;
+    for one in standing {
+        nodes.push(one.node)?;
+    }
+    Ok(nodes)
 }
 
 /// A certificate of the same version and bound with no more branches, where the pass finds one that proves it.
@@ -82,13 +91,13 @@ fn smaller(alloc: Global, instance: &Instance, cert: &Cert) -> Result<Option<Cer
     ensures fewer { IfOk result (λ found. IfSome found (λ other. branches other.tree ≤ branches cert.now.tree)) }
 {
     let nodes = cert.nodes();
-    let standing = unnamed(alloc, nodes)?;
+    let all = all_of(alloc, nodes)?;
     left_of(
         alloc,
         instance,
         cert.version(),
         cert.low(),
-        standing.as_slice(),
+        all.as_slice(),
         branches_among(nodes),
     )
 }
@@ -131,5 +140,7 @@ pub fn proof_of(
 {
     let mut standing = standing;
     sort_by_name(&mut standing)?;
-    left_of(alloc, instance, version, low, standing.as_slice(), most)
+    let nodes = nodes_of(alloc, standing.as_slice())?;
+    drop(standing);
+    left_of(alloc, instance, version, low, nodes.as_slice(), most)
 }

@@ -3,7 +3,6 @@
 ghost use Rattle.std.specs.Prelude.{◌≡◌, ◌+◌, length, IfSome};
 
 use crate::parts::{OpenBranch, Part};
-use crate::standing::Standing;
 use certificate::{Branch, Node};
 use std::alloc::Global;
 use tt_choice::Decision;
@@ -40,15 +39,16 @@ struct Pass<'a> {
     staying: Staying,
 }
 
-/// Which nodes stay, of a tree in preorder. One pass. A subtree that was left stays where nothing beside it can do without it.
+/// Which nodes stay, of a tree in preorder, where a subtree that was left is none. One pass. Such a subtree stays where nothing
+/// beside it can do without it.
 pub fn what_stays(
     alloc: Global,
     instance: &Instance,
-    standing: &[Standing],
+    nodes: &[Option<&Node>],
 ) -> Result<Staying, MemoryFault> {
-    let mut pass = Pass::new(alloc, instance, standing.len())?;
-    for k in 0..standing.len() {
-        match standing[k].node() {
+    let mut pass = Pass::new(alloc, instance, nodes.len())?;
+    for k in 0..nodes.len() {
+        match nodes[k] {
             Some(node) => pass.go_through(alloc, k, node)?,
             None => pass.leave(alloc, k)?,
         }

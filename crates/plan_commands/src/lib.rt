@@ -14,7 +14,7 @@ mod sheets;
 mod verdict;
 
 pub use bundle::verify_bundle;
-pub use certified::check_run;
+pub use certified::{check_run, read_bound};
 pub use judge::judge_run;
 pub use laws::{
     between_has_the_least_delay, least_is_the_least_delay, none_is_that_there_is_no_plan,
@@ -25,4 +25,4 @@ pub use node_tables::tables;
 pub use picture::draw_run;
 pub use replay::replay_run;
 pub use sheets::schedule_run;
-pub use verdict::verify;
+pub use verdict::{PLAN_LIMIT, verify};

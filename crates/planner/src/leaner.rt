@@ -22,13 +22,13 @@ fn standing(alloc: Global, search: &Search) -> Result<Vec<Standing>, MemoryFault
     standing.reserve_exact(search.pieces.len() + search.tasks.len())?;
     for piece in search.pieces.as_slice() {
         standing.push(Standing {
-            name: piece.name.as_slice(),
+            name: &piece.name,
             node: Some(&piece.node),
         })?;
     }
     for task in search.tasks.as_slice() {
         standing.push(Standing {
-            name: task.name().as_slice(),
+            name: task.name(),
             node: None,
         })?;
     }

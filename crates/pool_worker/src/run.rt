@@ -11,7 +11,7 @@ ghost use Rattle.pool_worker.specs.Run.{GoesOn, Pushes, Refuses, Spares, Works, 
 
 use crate::gate::Gate;
 use crate::report::Rest;
-use branch_tree::{Piece, Task, Workbench, Worked, work_on};
+use branch_tree::{Name, Piece, Task, Workbench, Worked, work_on};
 use certificate::{Branch, Node};
 use incumbent::{Incumbent, Watch};
 use std::alloc::Global;
@@ -111,28 +111,36 @@ fn make_room(
     Ok(())
 }
 
+/// Whether a name is another one, or below it.
+fn begins_with(name: &Name, front: &[u32]) -> bool {
+    for k in 0..front.len() {
+        if name.get(k) != Some(front[k]) {
+            return false;
+        }
+    }
+    true
+}
+
 /// Whether a task is left in this manner, since it needn't be worked as far as was seen.
 fn is_left(manner: Manner, needs: &Needs, task: &Task) -> bool
     ensures { manner ≡ Plain → result ≡ false }
 {
     match manner {
         Manner::Plain => false,
-        Manner::Sparing => needs.are_met_without(task.name().as_slice()),
+        Manner::Sparing => match needs.proved() {
+            Some(front) => begins_with(task.name(), front),
+            None => false,
+        },
     }
 }
 
 /// Tells what is known of needs that a task is worked next; where memory is refused, nothing is known any more.
 fn begin<'a>(alloc: Global, instance: &'a Instance, needs: &mut Needs<'a>, task: &Task) {
-    match task.decisions(alloc) {
-        Ok(decisions) => {
-            needs.begin(
-                alloc,
-                instance,
-                task.name().as_slice(),
-                decisions.as_slice(),
-            )
+    match (task.name().to_vec(alloc), task.decisions(alloc)) {
+        (Ok(name), Ok(decisions)) => {
+            needs.begin(alloc, instance, name.as_slice(), decisions.as_slice())
         }
-        Err(_) => *needs = Needs::new(),
+        _ => *needs = Needs::new(),
     }
 }
 

@@ -8,8 +8,11 @@ use std::sync::atomic::{AtomicU64, Ordering};
 /// A number by which the names of small trees are told apart; 0 of no name.
 fn mark_of(name: &Name) -> u64 {
     let mut mark: u64 = 1;
-    for index in name.as_slice() {
-        mark = mark.wrapping_mul(31).wrapping_add(u64::from(*index) + 1);
+    for k in 0..usize::MAX {
+        let Some(index) = name.get(k) else {
+            break;
+        };
+        mark = mark.wrapping_mul(31).wrapping_add(u64::from(index) + 1);
     }
     mark
 }

@@ -63,7 +63,7 @@ impl Effect {
     /// Whether an event came to this.
     fn is_of(self, reply: &Result<Reply, Illegal>) -> bool {
         match (self, reply) {
-            (Effect::Name(indices), Ok(Reply::Name(name))) => name.as_slice() == indices,
+            (Effect::Name(indices), Ok(Reply::Name(name))) => name.cmp_slice(indices).is_eq(),
             (Effect::Best(delay), Ok(Reply::Best(best))) => *best == delay,
             (Effect::Done, Ok(Reply::Done)) => true,
             (Effect::Refused(cause), Err(fault)) => *fault == cause,

@@ -4,6 +4,7 @@ use certificate::{Cert, Version, print, read};
 use dropped_decisions::{Standing, proof_of, without_unused};
 use std::alloc::Global;
 use std::test::Fail;
+use subtree_tasks::Name;
 use tree_check::check;
 use ttp_model::Instance;
 use worked_instances::{PLAIN, one_message};
@@ -44,18 +45,23 @@ fn left(alloc: Global, i: &Instance, text: &str) -> Result<Vec<u8>, Fail> {
 }
 
 /// The names of a branch and of its two children.
-const NAMES: [&[u32]; 3] = [&[], &[0], &[1]];
+fn names(alloc: Global) -> Result<Vec<Name>, Fail> {
+    let root = Name::root(alloc);
+    let first = root.child(alloc, 0)?;
+    let second = root.child(alloc, 1)?;
+    Ok(vec![in alloc; root, first, second]?)
+}
 
 /// What proves the bound of a certificate's text, where the node at this place was left. Nothing is written where
 /// that is missed.
 fn proof_without(alloc: Global, i: &Instance, text: &str, place: usize) -> Result<Vec<u8>, Fail> {
     let cert = read(alloc, text.as_bytes())?;
-    let nodes = cert.nodes();
+    let (nodes, names) = (cert.nodes(), names(alloc)?);
     let mut standing = Vec::new(alloc);
-    for k in 0..nodes.len().min(NAMES.len()) {
+    for k in 0..nodes.len().min(names.len()) {
         let node = if k == place { None } else { Some(&nodes[k]) };
         standing.push(Standing {
-            name: NAMES[k],
+            name: &names[k],
             node,
         })?;
     }

@@ -44,6 +44,11 @@ impl Count {
     }
 }
 
+/// Whether a name is that of a child of the root.
+fn is_child_of_root(name: &Name) -> bool {
+    name.get(0).is_some() && name.get(1).is_none()
+}
+
 /// Counts the names that were left below each of the root's first two children, themselves too.
 #[derive(Drop)]
 pub struct LeftBelow {
@@ -71,7 +76,7 @@ impl Gate for LeftBelow {
     fn enter(&self, _worker: usize, _name: &Name) {}
 
     fn leave(&self, _worker: usize, name: &Name) {
-        match name.as_slice().first() {
+        match name.get(0) {
             Some(0) => {
                 self.first.add();
             }
@@ -117,19 +122,19 @@ impl Gate for InTurn {
     }
 
     fn enter(&self, _worker: usize, name: &Name) {
-        match name.as_slice() {
-            [0] => {
+        match (name.get(0), name.get(1)) {
+            (Some(0), None) => {
                 self.first_entered.add();
                 self.left.second.hold_until(self.names.1, &self.limits_met);
             }
-            [1] => self.first_entered.hold_until(1, &self.limits_met),
+            (Some(1), None) => self.first_entered.hold_until(1, &self.limits_met),
             _ => {}
         }
     }
 
     fn leave(&self, worker: usize, name: &Name) {
         self.left.leave(worker, name);
-        match name.as_slice().first() {
+        match name.get(0) {
             None => {
                 self.root_left.add();
             }
@@ -183,22 +188,18 @@ impl Gate for Meeting {
     }
 
     fn enter(&self, worker: usize, name: &Name) {
-        if name.as_slice().len() == 1 && self.children_entered.add() == 0 {
+        if is_child_of_root(name) && self.children_entered.add() == 0 {
             let (_own, other) = self.left_by(worker);
             other.hold_until(1, &self.limits_met);
         }
     }
 
     fn leave(&self, worker: usize, name: &Name) {
-        match name.as_slice().len() {
-            0 => {
-                self.root_left.add();
-            }
-            1 => {
-                let (own, _other) = self.left_by(worker);
-                own.add();
-            }
-            _ => {}
+        if name.is_root() {
+            self.root_left.add();
+        } else if is_child_of_root(name) {
+            let (own, _other) = self.left_by(worker);
+            own.add();
         }
     }
 }
@@ -270,7 +271,7 @@ impl Gate for Assembly {
             return;
         };
         left.names.add();
-        if name.as_slice().is_empty() {
+        if name.is_root() {
             self.root_left.add();
         } else if left.below_root.add() == 0 {
             self.met.add();

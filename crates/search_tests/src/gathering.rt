@@ -1,6 +1,6 @@
 //! Pieces made by hand: which tree they are, and what is first wrong with others.
 
-ghost use Rattle.std.specs.Prelude.{◌≤◌, ◌↔◌, IsTrue, MatchBool, length};
+ghost use Rattle.std.specs.Prelude.{◌≤◌, ◌↔◌, IsTrue, IfOk, MatchBool, length};
 ghost use Rattle.tree_gathering.specs.Gathering.{AreShallow};
 
 use branch_tree::{Name, Piece};
@@ -79,22 +79,23 @@ fn pieces(alloc: Global, parts: Parts) -> Result<Vec<Piece>, MemoryFault> {
 }
 
 /// Whether a name has no more branches above it than a certificate may have.
-fn is_shallow(piece: &Piece) -> bool
-    ensures { IsTrue result ↔ (length piece.now.name ≤ MOST_BRANCHES_ABOVE) }
+fn is_shallow(alloc: Global, piece: &Piece) -> Result<bool, MemoryFault>
+    ensures { IfOk result (λ is. IsTrue is ↔ (length piece.now.name ≤ MOST_BRANCHES_ABOVE)) }
 {
-    piece.name.as_slice().len() <= MOST_BRANCHES_ABOVE
+    let indices = piece.name.to_vec(alloc)?;
+    Ok(indices.len() <= MOST_BRANCHES_ABOVE)
 }
 
 /// The same of all pieces.
-fn are_shallow(pieces: &[Piece]) -> bool
-    ensures { MatchBool result (AreShallow pieces.now) (Unit {0}) }
+fn are_shallow(alloc: Global, pieces: &[Piece]) -> Result<bool, MemoryFault>
+    ensures { IfOk result (λ are. MatchBool are (AreShallow pieces.now) (Unit {0})) }
 {
     for piece in pieces {
-        if !is_shallow(piece) {
-            return false;
+        if !is_shallow(alloc, piece)? {
+            return Ok(false);
         }
     }
-    true
+    Ok(true)
 }
 
 /// The text of the certificate that pieces gather to.
@@ -113,7 +114,7 @@ fn gathers(
     wanted: Result<&str, GatherFault>,
 ) -> Result<bool, Fail> {
     let pieces = pieces(alloc, parts)?;
-    if !are_shallow(pieces.as_slice()) {
+    if !are_shallow(alloc, pieces.as_slice())? {
         return Ok(false);
     }
     match (gathered_text(alloc, pieces, low), wanted) {

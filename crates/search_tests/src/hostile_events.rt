@@ -126,9 +126,9 @@ fn add_children(
 /// The names in a hand.
 fn add_held(alloc: Global, names: &mut Vec<Indices>, hand: &Hand) -> Result<(), MemoryFault> {
     match hand {
-        Hand::Task(name) => Ok(add_name(alloc, names, name.as_slice())?),
+        Hand::Task(name) => add_name(alloc, names, name),
         Hand::Children(brood) => {
-            let first = brood.first(alloc)?;
+            let first = brood.first(alloc)?.to_vec(alloc)?;
             add_children(alloc, names, first.as_slice(), brood.len())
         }
         _ => Ok(()),
@@ -138,10 +138,10 @@ fn add_held(alloc: Global, names: &mut Vec<Indices>, hand: &Hand) -> Result<(), 
 /// The names that a worker has, of pieces and of what is open.
 fn add_names(alloc: Global, names: &mut Vec<Indices>, worker: &Worker) -> Result<(), MemoryFault> {
     for name in worker.deque() {
-        add_name(alloc, names, name.as_slice())?;
+        add_name(alloc, names, name)?;
     }
     for name in worker.left() {
-        add_name(alloc, names, name.as_slice())?;
+        add_name(alloc, names, name)?;
     }
     add_pieces(alloc, names, worker.pieces())?;
     add_held(alloc, names, worker.hand())

@@ -75,7 +75,7 @@ fn taken_at<J: Searched>(hands: &mut Vec<Hand<J>>, place: usize) -> Option<u32> 
     }
     let hand = &mut hands[place];
     let task = hand.take()?;
-    task.name().as_slice().last().copied()
+    task.name().get(0)
 }
 
 /// Which hand takes, and which of the root's children.

@@ -8,7 +8,7 @@ use crate::one_thread::lone_report;
 use crate::trees::{Indices, add_name, add_pieces, add_tasks, are_tree};
 use planner::{Manner, Options, SolveFault, Why};
 use pool_worker::{Ending, Report, Rest};
-use std::alloc::{AllocError, Global};
+use std::alloc::Global;
 use std::marker::Brand;
 use std::sync::Wait;
 use std::test::Fail;
@@ -122,10 +122,10 @@ fn add_left<J: Searched>(
     alloc: Global,
     names: &mut Vec<Indices>,
     hand: &mut Hand<J>,
-) -> Result<(), AllocError> {
+) -> Result<(), MemoryFault> {
     for _taking in 0..u64::MAX {
         match hand.take() {
-            Some(task) => add_name(alloc, names, task.name().as_slice())?,
+            Some(task) => add_name(alloc, names, task.name())?,
             None => break,
         }
     }
@@ -133,10 +133,10 @@ fn add_left<J: Searched>(
 }
 
 /// The names of what a worker had in hand as it ended.
-fn add_rest(alloc: Global, names: &mut Vec<Indices>, rest: &Rest) -> Result<(), AllocError> {
+fn add_rest(alloc: Global, names: &mut Vec<Indices>, rest: &Rest) -> Result<(), MemoryFault> {
     match rest {
         Rest::Nothing => Ok(()),
-        Rest::One(task) => add_name(alloc, names, task.name().as_slice()),
+        Rest::One(task) => add_name(alloc, names, task.name()),
         Rest::Children(tasks) => add_tasks(alloc, names, tasks.as_slice()),
     }
 }

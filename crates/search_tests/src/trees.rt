@@ -1,14 +1,16 @@
 //! Are names those of a tree?
 
-use branch_tree::{Piece, Task};
-use std::alloc::{AllocError, Global};
+use branch_tree::{Name, Piece, Task};
+use std::alloc::Global;
+use ttp_model::MemoryFault;
 
 /// The indices of a name.
 pub type Indices = Vec<u32>;
 
 /// One more name.
-pub fn add_name(alloc: Global, names: &mut Vec<Indices>, name: &[u32]) -> Result<(), AllocError> {
-    names.push(Vec::from_slice(alloc, name)?)?;
+pub fn add_name(alloc: Global, names: &mut Vec<Indices>, name: &Name) -> Result<(), MemoryFault> {
+    let indices = name.to_vec(alloc)?;
+    names.push(indices)?;
     Ok(())
 }
 
@@ -17,9 +19,9 @@ pub fn add_pieces(
     alloc: Global,
     names: &mut Vec<Indices>,
     pieces: &[Piece],
-) -> Result<(), AllocError> {
+) -> Result<(), MemoryFault> {
     for piece in pieces {
-        add_name(alloc, names, piece.name.as_slice())?;
+        add_name(alloc, names, &piece.name)?;
     }
     Ok(())
 }
@@ -29,9 +31,9 @@ pub fn add_tasks(
     alloc: Global,
     names: &mut Vec<Indices>,
     tasks: &[Task],
-) -> Result<(), AllocError> {
+) -> Result<(), MemoryFault> {
     for task in tasks {
-        add_name(alloc, names, task.name().as_slice())?;
+        add_name(alloc, names, task.name())?;
     }
     Ok(())
 }
@@ -40,7 +42,7 @@ pub fn add_tasks(
 fn children_of(lists: &[&[Piece]], name: &[u32]) -> u32 {
     for pieces in lists {
         for piece in *pieces {
-            if piece.name.as_slice() == name {
+            if piece.name.cmp_slice(name).is_eq() {
                 return piece.node.children();
             }
         }

@@ -134,6 +134,36 @@ impl Search {
         }
     }
 
+    /// Works so many tasks, each time the one that is to be next, unless memory is refused or the gate says that it doesn't go on before. Why it
+    /// ended, where tasks are left.
+    fn take_turns<'a, G: Gate>(
+        &mut self,
+        alloc: Global,
+        instance: &'a Instance,
+        bench: &mut Workbench<'a>,
+        rising: &mut Rising<'a>,
+        turns: u64,
+        gate: &G,
+    ) -> Why
+        requires searching { IsSearching instance.now self.old.pieces.items self.old.tasks.items self.old.best }
+        requires bench { IsWorkbenchOf instance.now bench.old }
+        requires rising { IsWorkbenchOf instance.now rising.old.bench }
+        ensures searching { IsSearching instance.now self.new.pieces.items self.new.tasks.items self.new.best }
+        ensures within { length self.new.pieces.items ≤ length self.old.pieces.items + turns }
+        ensures cause { IsWorkedOut (length self.old.pieces.items + turns) self.new.pieces.items result }
+    {
+        for _turn in 0..turns {
+            if !gate.goes_on(0) {
+                return Why::CalledOff;
+            }
+            self.bring(alloc, instance, rising);
+            if !self.turn(alloc, instance, bench, gate) {
+                return Why::Memory;
+            }
+        }
+        Why::Budget
+    }
+
     /// Works tasks in this order until `budget` pieces are made, memory is refused, or the gate says that it doesn't go on. Why it ended, where
     /// tasks are left.
     pub fn go<G: Gate>(
@@ -154,15 +184,6 @@ impl Search {
         let turns = budget - self.pieces.len() as u64;
         let most = limit(instance, &self.best);
         let mut rising = Rising::new(alloc, instance, order, most, turns);
-        for _turn in 0..turns {
-            if !gate.goes_on(0) {
-                return Why::CalledOff;
-            }
-            self.bring(alloc, instance, &mut rising);
-            if !self.turn(alloc, instance, &mut bench, gate) {
-                return Why::Memory;
-            }
-        }
-        Why::Budget
+        self.take_turns(alloc, instance, &mut bench, &mut rising, turns, gate)
     }
 }

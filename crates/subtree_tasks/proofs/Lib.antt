@@ -7,3 +7,5 @@ pub mod Weights
 pub mod Once
 pub mod OneChoice
 pub mod SharedLists
+pub mod Stretches
+pub mod StretchOrder

@@ -5,7 +5,8 @@ use Rattle.std.proofs.lemmas.List.{take_more, take_all, append-nil}
 use Rattle.std.proofs.lemmas.Grind.{flat_map-append}
 
 -- the items of one stretch more
-pub more_items : {A B : Type 0} (f : A → List B) (xs : List A) (k : ℕ) (x : A) (start items new : List B) → k < length xs → x ≡ get_or xs k x → items ≡ start ++ flat_map f (take k xs) → new ≡ items ++ f x
+pub more_items : {A B : Type 0} (f : A → List B) (xs : List A) (k : ℕ) (x : A) (start items new : List B) → k < length xs → x ≡ get_or xs k x
+    → items ≡ start ++ flat_map f (take k xs) → new ≡ items ++ f x
     → new ≡ start ++ flat_map f (take (k + 1) xs)
 more_items {A} {B} f xs k x start items new inside at so_far more =
     let last : flat_map f (get_or xs k x ∷ []) ≡ f x = append-nil (f (get_or xs k x)) ∙ ap f (sym at) in
@@ -14,7 +15,8 @@ more_items {A} {B} f xs k x start items new inside at so_far more =
     more ∙ ap (λ (t : List B). t ++ f x) so_far ∙ append_assoc start (flat_map f (take k xs)) (f x) ∙ ap (λ (t : List B). start ++ t) (sym next)
 
 -- the items of all of them
-pub all_items : {A B : Type 0} (f : A → List B) (xs : List A) (k : ℕ) (start items : List B) → length xs ≤ k → items ≡ start ++ flat_map f (take k xs) → items ≡ start ++ flat_map f xs
+pub all_items : {A B : Type 0} (f : A → List B) (xs : List A) (k : ℕ) (start items : List B) → length xs ≤ k → items ≡ start ++ flat_map f (take k xs)
+    → items ≡ start ++ flat_map f xs
 all_items {A} {B} f xs k start items behind are = are ∙ ap (λ (ys : List A). start ++ flat_map f ys) (take_all k xs behind)
 
 -- copies of stretches have the same items
@@ -26,13 +28,20 @@ same_items {A} {B} f (x ∷ xs) (y ∷ ys) are =
     ap (λ (t : List B). t ++ flat_map f ys) are.0 ∙ ap (λ (t : List B). f x ++ t) (same_items f xs ys are.1)
 
 -- copies of stretches, with items of a list's own behind them
-pub copied_items : {A B : Type 0} (f : A → List B) (xs ys : List A) (own mine : List B) → AllZip (λ x y. f y ≡ f x) xs ys → mine ≡ own → flat_map f ys ++ mine ≡ flat_map f xs ++ own
+pub copied_items : {A B : Type 0} (f : A → List B) (xs ys : List A) (own mine : List B) → AllZip (λ x y. f y ≡ f x) xs ys → mine ≡ own
+    → flat_map f ys ++ mine ≡ flat_map f xs ++ own
 copied_items {A} {B} f xs ys own mine are same =
     ap (λ (t : List B). t ++ mine) (same_items f xs ys are) ∙ ap (λ (t : List B). flat_map f xs ++ t) same
 
 -- copies of stretches, with a last one of a list's own items
-pub sealed_items : {A B : Type 0} (f : A → List B) (xs ys zs : List A) (last : A) (own none : List B) → AllZip (λ x y. f y ≡ f x) xs ys → zs ≡ ys ++ last ∷ [] → f last ≡ own → none ≡ [] → flat_map f zs ++ none ≡ flat_map f xs ++ own
-sealed_items {A} {B} f xs ys zs last own none are pushed is empty =
+pub one_more_items : {A B : Type 0} (f : A → List B) (xs ys zs : List A) (last : A) (own : List B) → AllZip (λ x y. f y ≡ f x) xs ys → zs ≡ ys ++ last ∷ []
+    → f last ≡ own → flat_map f zs ≡ flat_map f xs ++ own
+one_more_items f xs ys zs last own are pushed is =
     let ends : flat_map f (last ∷ []) ≡ own = append-nil (f last) ∙ is in
-    let all : flat_map f zs ≡ flat_map f ys ++ flat_map f (last ∷ []) = ap (flat_map f) pushed ∙ flat_map-append f ys (last ∷ []) in
-    ap (λ (t : List B). flat_map f zs ++ t) empty ∙ append-nil (flat_map f zs) ∙ all ∙ copied_items f xs ys own (flat_map f (last ∷ [])) are ends
+    ap (flat_map f) pushed ∙ flat_map-append f ys (last ∷ []) ∙ copied_items f xs ys own (flat_map f (last ∷ [])) are ends
+
+-- and with no item of its own behind it
+pub sealed_items : {A B : Type 0} (f : A → List B) (xs zs : List A) (own none : List B) → flat_map f zs ≡ flat_map f xs ++ own → none ≡ []
+    → flat_map f zs ++ none ≡ flat_map f xs ++ own
+sealed_items {A} {B} f xs zs own none are empty =
+    ap (λ (t : List B). flat_map f zs ++ t) empty ∙ append-nil (flat_map f zs) ∙ are

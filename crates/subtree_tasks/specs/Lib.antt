@@ -4,3 +4,4 @@ pub mod Pieces
 pub mod Account
 pub mod Once
 pub mod Trials
+pub mod Stretches

@@ -4,6 +4,7 @@
 mod children;
 mod laws;
 mod name;
+mod order;
 mod piece;
 mod shared_list;
 mod task;

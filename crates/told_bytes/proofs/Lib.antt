@@ -1,1 +1,2 @@
 mod Tellings
+pub mod TextLines

@@ -49,7 +49,7 @@ fn judge(alloc: Global, pieces: &[Piece], low: u32) -> Result<(), GatherFault>
     if lacks_name(alloc, pieces)? {
         return Err(GatherFault::MissingName);
     }
-    if has_stray_name(pieces) {
+    if has_stray_name(alloc, pieces)? {
         return Err(GatherFault::StrayName);
     }
     if has_low_leaf(pieces, low) {

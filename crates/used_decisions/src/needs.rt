@@ -21,11 +21,11 @@ impl<'a> Needs<'a> {
         Needs { way: None }
     }
 
-    /// Whether the subtree of this name needn't be worked.
-    pub fn are_met_without(&self, name: &[u32]) -> bool {
+    /// The name of a branch that is proved though children of it are left: none of the subtrees below it needs to be worked.
+    pub fn proved(&self) -> Option<&[u32]> {
         match &self.way {
-            Some(way) => way.is_proved(name),
-            None => false,
+            Some(way) => way.proved(),
+            None => None,
         }
     }
 

@@ -38,19 +38,6 @@ pub struct Way<'a> {
     proved: Option<Vec<u32>>,
 }
 
-/// Whether a name begins with another.
-fn begins_with(name: &[u32], front: &[u32]) -> bool {
-    if name.len() < front.len() {
-        return false;
-    }
-    for k in 0..front.len() {
-        if name[k] != front[k] {
-            return false;
-        }
-    }
-    true
-}
-
 impl<'a> Way<'a> {
     /// At the root.
     pub fn new(alloc: Global, instance: &'a Instance) -> Result<Way<'a>, MemoryFault> {
@@ -63,11 +50,11 @@ impl<'a> Way<'a> {
         })
     }
 
-    /// Whether the subtree of this name stands below a branch that is proved without it.
-    pub fn is_proved(&self, name: &[u32]) -> bool {
+    /// The name of a branch that one of its children proves, where others of them are left.
+    pub fn proved(&self) -> Option<&[u32]> {
         match &self.proved {
-            Some(front) => begins_with(name, front.as_slice()),
-            None => false,
+            Some(name) => Some(name.as_slice()),
+            None => None,
         }
     }
 

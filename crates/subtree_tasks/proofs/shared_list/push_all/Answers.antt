@@ -1,4 +1,3 @@
-use Rattle.std.proofs.Common.{◌∙◌, ap, ◌++◌}
 use Rattle.std.specs.Arc.{arc_slice_items}
 use Rattle.subtree_tasks.proofs.SharedLists.{more_items, all_items}
 use Rattle.subtree_tasks.proofs.shared_list.push_all.Goals as goal

@@ -1,5 +1,5 @@
 use Rattle.std.proofs.Common.{Bool, MatchBool, subst}
-use Rattle.tree_gathering.specs.Gathering.{LacksName, HasWantedNames}
+use Rattle.tree_gathering.specs.Gathering.{LacksName, HasStrayName, HasWantedNames, IsOwn}
 use Rattle.tree_gathering.proofs.Counting.{once_rising}
 use Rattle.tree_gathering.proofs.gathering.judge.Goals as goal
 
@@ -10,12 +10,12 @@ returns-then-branch-clause-err c =
       subst (λ (b : Bool). MatchBool b (LacksName pieces) (HasWantedNames pieces)) c.if-branch.true c.in_ok-lacks_name.ensures,
     )
 
-pub returns-then-has_stray_name-clause-err : goal.returns-then-has_stray_name-clause-err
-returns-then-has_stray_name-clause-err c =
+pub returns-then-branch-2-clause-err : goal.returns-then-branch-2-clause-err
+returns-then-branch-2-clause-err c =
     let pieces = c.args.pieces.now in (
       λ name. once_rising pieces name c.if-has_doubled_name.ensures,
       subst (λ (b : Bool). MatchBool b (LacksName pieces) (HasWantedNames pieces)) c.if-branch.false c.in_ok-lacks_name.ensures,
-      c.if-has_stray_name.ensures,
+      subst (λ (b : Bool). MatchBool b (HasStrayName pieces) (IsOwn pieces)) c.if-branch-2.true c.in_ok-has_stray_name.ensures,
     )
 
 pub returns-then-has_low_leaf-clause-err : goal.returns-then-has_low_leaf-clause-err
@@ -24,7 +24,7 @@ returns-then-has_low_leaf-clause-err c =
       record {
         once = λ name. once_rising pieces name c.if-has_doubled_name.ensures;
         complete = subst (λ (b : Bool). MatchBool b (LacksName pieces) (HasWantedNames pieces)) c.if-branch.false c.in_ok-lacks_name.ensures;
-        own = c.if-has_stray_name.ensures;
+        own = subst (λ (b : Bool). MatchBool b (HasStrayName pieces) (IsOwn pieces)) c.if-branch-2.false c.in_ok-has_stray_name.ensures;
       },
       c.if-has_low_leaf.ensures,
     )

@@ -15,6 +15,14 @@ use Rattle.search_turns.specs.Searching.{limit_of, IsSearching}
 use Rattle.search_turns.proofs.Searching.{last_there, works}
 use Rattle.search_turns.proofs.search.Search.turn.Goals as goal
 
+pub work_on-requires-clause-task : goal.work_on-requires-clause-task
+work_on-requires-clause-task g c =
+    let i = c.args.instance.now in
+    let t = c.in-Some.task in
+    let front = c.pop.new.self.items in
+    let popped : c.args.self.now.tasks.items ≡ front ++ t ∷ [] = sym c.make_room.ensures.tasks ∙ (search rules) in
+    All-contains (IsTask i) (front ++ t ∷ []) t (subst (All (IsTask i)) popped c.requires.searching.open_tasks) (last_there front t)
+
 pub overflow_cast-len : goal.overflow_cast-len
 overflow_cast-len g c =
     let i = c.args.instance.now in

@@ -1,7 +1,7 @@
 use Rattle.std.proofs.Common.{◌≡◌, ◌+◌, length}
 use Rattle.branch_tree.specs.Workbench.{IsWorkbenchOf}
 use Rattle.search_turns.specs.Searching.{IsSearching}
-use Rattle.search_turns.proofs.search.Search.go.Given as goal
+use Rattle.search_turns.proofs.search.Search.take_turns.Given as goal
 
 abbrev pub invariant-loop-turn : goal.invariant-loop-turn
 invariant-loop-turn g l = record {
