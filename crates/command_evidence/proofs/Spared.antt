@@ -1,7 +1,7 @@
 -- A request that is sound spares the instance's file.
 use Rattle.std.proofs.Common.{◌≡◌, ◌++◌, ◌∙◌, ℕ, List, None, Some, codes, false, refl, ap, sym}
 use Rattle.command_words.specs.declared.words.Request.{Request}
-use Rattle.command_words.specs.declared.words.Request.TheVariants.{OnFiles, Solve, Check, Judge, VerifyBundle, Version}
+use Rattle.command_words.specs.declared.words.Request.TheVariants.{OnFiles, Solve, Check, Judge, Explain, VerifyBundle, Version}
 use Rattle.command_words.specs.Names.{NameOneFile, is_rooted, parts}
 use Rattle.command_words.specs.Requests.{IsSound}
 use Rattle.command_evidence.specs.Words.{SparesInstance}
@@ -19,5 +19,6 @@ spares (Solve instance (Some file) workers budget progress until seconds) sound 
     λ local is. sound.2 (spelled_again instance.now file.now local is)
 spares (Check instance certificate) sound = tt
 spares (Judge instance plan certificate) sound = tt
+spares (Explain instance explained) sound = tt
 spares VerifyBundle sound = tt
 spares Version sound = tt

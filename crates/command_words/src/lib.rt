@@ -8,4 +8,4 @@ mod refusal;
 mod words;
 
 pub use refusal::refuse;
-pub use words::{Request, Task, VERSION, all, request_in};
+pub use words::{Explained, Request, Task, VERSION, all, request_in};

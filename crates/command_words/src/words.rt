@@ -29,6 +29,17 @@ pub enum Task<'a> {
     Draw { width: u32, shown: Shown },
 }
 
+/// What is to be explained.
+#[derive(Clone, Copy, Debug, PartialEq, Eq)]
+pub enum Explained<'a> {
+    /// The instance alone.
+    Instance,
+    /// The plan of this file.
+    Plan(&'a str),
+    /// The certificate of this file.
+    Certificate(&'a str),
+}
+
 /// A command, with the files that it names.
 #[derive(Debug, Drop)]
 pub enum Request<'a> {
@@ -64,6 +75,11 @@ pub enum Request<'a> {
         plan: &'a str,
         certificate: &'a str,
     },
+    /// Tell in sentences why the instance of a file, or a plan or a certificate for it, is refused, or what there is to say of it.
+    Explain {
+        instance: &'a str,
+        explained: Explained<'a>,
+    },
     /// Verify an instance and a plan in one stream: no words were given.
     VerifyBundle,
     /// Say which version this is.
@@ -90,6 +106,10 @@ const SOLVE_HELP: &str =
 /// What a judgement prints.
 const JUDGE_HELP: &str =
     "It prints one of these, and ends with the status beside it:\n   0  `least D`: the plan is valid and takes D ticks, and no valid plan has a smaller delay\n  10  `none`: no plan is valid\n  11  `between LOW D`, or `between LOW none` where PLAN has no plan: no valid plan has a delay below LOW ticks, which is less than D or than all that the horizon allows\n\nPLAN is a plan's text, or `none`, or what a search printed that was stopped: its line `stopped`, and behind it the plan.";
+
+/// What an explanation prints.
+const EXPLAIN_HELP: &str =
+    "The first line is the one that `ttplan verify` or `ttplan check` gives, of an instance alone how many nodes, processes, links and messages it has. Sentences follow: of what is refused which two things a rule compares, both numbers, and by how much they fail it; of a valid plan what held its last process back, and what that, down to a release; of a certificate of one leaf each step.\n\nIt ends with status 0 wherever it explained something, a refusal too.";
 
 /// A file that has to be named.
 fn file<'a>(alloc: Global, name: &'a str, help: &'a str) -> Arg<'a> {
@@ -256,6 +276,22 @@ fn judge_command<'a>(alloc: Global) -> Result<Command<'a>, AllocError> {
         .arg(file(alloc, "CERT", "The certificate's text"))
 }
 
+fn explain_command<'a>(alloc: Global) -> Result<Command<'a>, AllocError> {
+    let certificate = Arg::new(alloc, "cert")
+        .long("cert")
+        .value_name("CERT")
+        .help("Explains this certificate, in place of a plan")
+        .conflicts_with("PLAN")?;
+    Command::new(alloc, "explain")
+        .about(
+            "Tells in sentences why an instance, a plan or a certificate is refused, and why a valid plan ends when it does",
+        )
+        .after_help(EXPLAIN_HELP)
+        .arg(file(alloc, "INSTANCE", INSTANCE_HELP))?
+        .arg(Arg::new(alloc, "PLAN").help("The plan's text"))?
+        .arg(certificate)
+}
+
 /// The command line that is understood.
 fn command<'a>(alloc: Global) -> Result<Command<'a>, AllocError> {
     Command::new(alloc, "ttplan")
@@ -268,6 +304,7 @@ fn command<'a>(alloc: Global) -> Result<Command<'a>, AllocError> {
         .subcommand(verify_command(alloc)?)?
         .subcommand(check_command(alloc)?)?
         .subcommand(judge_command(alloc)?)?
+        .subcommand(explain_command(alloc)?)?
         .subcommand(tables_command(alloc)?)?
         .subcommand(replay_command(alloc)?)?
         .subcommand(schedule_command(alloc)?)?
@@ -362,6 +399,21 @@ fn judge_request<'a>(matches: &ArgMatches<'a>) -> Option<Request<'a>>
     })
 }
 
+/// An explanation of an instance, of a plan or of a certificate.
+fn explain_request<'a>(matches: &ArgMatches<'a>) -> Option<Request<'a>>
+    ensures { IfSome result IsSound }
+{
+    let explained = match (matches.get_str("PLAN"), matches.get_str("cert")) {
+        (Some(plan), _) => Explained::Plan(plan),
+        (None, Some(certificate)) => Explained::Certificate(certificate),
+        (None, None) => Explained::Instance,
+    };
+    Some(Request::Explain {
+        instance: matches.get_str("INSTANCE")?,
+        explained,
+    })
+}
+
 /// A task on an instance and a plan.
 fn request_on_files<'a>(matches: &ArgMatches<'a>, task: Task<'a>) -> Option<Request<'a>>
     requires { IsSoundTask task }
@@ -419,6 +471,7 @@ fn request_of<'a>(
         "solve" => return solve_request(alloc, matches),
         "check" => check_request(matches),
         "judge" => judge_request(matches),
+        "explain" => explain_request(matches),
         "verify" => request_on_files(matches, Task::Verify),
         "tables" => request_on_files(matches, Task::Tables),
         "replay" => request_on_files(matches, replay_task(alloc, matches)?),

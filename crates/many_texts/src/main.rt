@@ -6,6 +6,7 @@ ghost use Rattle.std.specs.Prelude.{◌≤◌};
 ghost use Rattle.plan_picture.specs.Limits.{least_width, most_width};
 
 use command_streams::{End, report, status, take_input, write_text};
+use explain_command::{explain_certificate, explain_instance, explain_plan};
 use line_text::{NumberWord, cut, number_word, push_number, push_number_word};
 use plan_commands::{
     check_run, draw_run, judge_run, replay_run, schedule_run, tables, verify, verify_bundle,
@@ -52,9 +53,12 @@ enum Command {
     Judge,
     Schedule,
     Draw,
+    ExplainInstance,
+    ExplainPlan,
+    ExplainCertificate,
 }
 
-/// What a case asks for, and the lengths of its texts. A bundle's second text isn't looked at.
+/// What a case asks for, and the lengths of its texts. The second text of a bundle, or of an instance that is explained alone, isn't looked at.
 #[derive(Clone, Copy)]
 struct Header {
     command: Command,
@@ -82,6 +86,9 @@ fn command_of(word: &[u8]) -> Option<Command> {
         b"judge" => Some(Command::Judge),
         b"schedule" => Some(Command::Schedule),
         b"draw" => Some(Command::Draw),
+        b"explain-alone" => Some(Command::ExplainInstance),
+        b"explain-plan" => Some(Command::ExplainPlan),
+        b"explain-cert" => Some(Command::ExplainCertificate),
         _ => None,
     }
 }
@@ -219,6 +226,11 @@ fn end_of<W: Write>(
             shown_of(words),
             out,
         ),
+        Command::ExplainInstance => explain_instance(alloc, &mut first, out),
+        Command::ExplainPlan => explain_plan(alloc, &mut first, &mut second, out),
+        Command::ExplainCertificate => {
+            explain_certificate(rt, alloc, &mut first, &mut second, out)
+        }
     }
 }
 

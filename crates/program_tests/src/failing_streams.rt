@@ -4,11 +4,14 @@
 ghost use Rattle.std.specs.Prelude.{◌≤◌, IfOk};
 
 use crate::solves::CLUSTER_BEFORE_HORIZON;
-use crate::told::Asked::{Check, Draw, Replay, Schedule, Tables, Verify};
+use crate::told::Asked::{
+    Check, Draw, ExplainCertificate, ExplainPlan, Replay, Schedule, Tables, Verify,
+};
 use crate::told::{
-    Asked, CLUSTER, FIRST, FIRST_CERTIFICATE, FIRST_PARTS, FIRST_PLAN, FIRST_TABLES, ONE_LOST,
-    THREE, THREE_PLAN, TWO_CHANNELS, TWO_CHANNELS_BOTH, TWO_CHANNELS_BOTH_CERTIFICATE,
-    TWO_CHANNELS_PLAN, TWO_CHANNELS_SLOTS, TWO_CHANNELS_TABLES, Told, joined,
+    Asked, CLUSTER, FIRST, FIRST_CERTIFICATE, FIRST_EXPLAINED, FIRST_PARTS, FIRST_PLAN,
+    FIRST_TABLES, ONE_LOST, THREE, THREE_PLAN, TWO_CHANNELS, TWO_CHANNELS_BOTH,
+    TWO_CHANNELS_BOTH_CERTIFICATE, TWO_CHANNELS_PLAN, TWO_CHANNELS_SLOTS, TWO_CHANNELS_TABLES,
+    Told, joined,
 };
 use command_streams::End;
 use plan_commands::{judge_run, verify_bundle};
@@ -217,7 +220,7 @@ impl Command {
         match (self, stream) {
             (Command::OfBundle, Stream::Instance) if read >= before_plan => "read plan\n",
             (_, Stream::Instance) => "read instance\n",
-            (Command::OfTwo(Check), Stream::Second) => "read certificate\n",
+            (Command::OfTwo(Check | ExplainCertificate), Stream::Second) => "read certificate\n",
             (_, Stream::Second) => "read plan\n",
             (_, Stream::Third) => "read certificate\n",
             (_, Stream::Certificate | Stream::FullCertificate) => "write certificate\n",
@@ -415,6 +418,8 @@ static ROWS: &[Row] = &[
     (Command::OfTwo(Replay(&["9/9/9"])), THREE, THREE_PLAN, ("replay N2 0\n", 5), EACH),
     (Command::OfTwo(Check), FIRST, FIRST_CERTIFICATE, ("bound 9\n", 0), EACH),
     (Command::OfTwo(Schedule(Slots)), FIRST, FIRST_PLAN, ("", 0), EACH),
+    (Command::OfTwo(ExplainPlan), FIRST, FIRST_PLAN, (FIRST_EXPLAINED, 0), EACH),
+    (Command::OfTwo(ExplainCertificate), FIRST, FIRST_CERTIFICATE, ("", 0), LONG),
     (Command::OfTwo(Draw(All)), FIRST, FIRST_PLAN, ("", 0), LONG),
     (Command::OfBundle, &[CLUSTER, FIRST_PARTS, "%%\n", FIRST_PLAN], "", ("valid 9\n", 0), EACH),
     (Command::Judge, FIRST, FIRST_PLAN, ("least 9\n", 0), EACH),

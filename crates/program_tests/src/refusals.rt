@@ -2,10 +2,13 @@
 //! with that, so a run that meets no refusal passes by the answers alone.
 
 use crate::solves::CLUSTER_BEFORE_HORIZON;
-use crate::told::Asked::{Check, Draw, Replay, Schedule, Tables, Verify};
+use crate::told::Asked::{
+    Check, Draw, ExplainCertificate, ExplainPlan, Replay, Schedule, Tables, Verify,
+};
 use crate::told::{
-    ALL_RECEIVED, Asked, CLUSTER, FIRST, FIRST_CERTIFICATE, FIRST_PARTS, FIRST_PICTURE, FIRST_PLAN,
-    FIRST_PROCESSES, FIRST_TABLES, THREE, THREE_PLAN, TWO_CHANNELS, TWO_CHANNELS_BOTH,
+    ALL_RECEIVED, Asked, CLUSTER, EARLY_EXPLAINED, EARLY_PLAN, FIRST, FIRST_CERTIFICATE,
+    FIRST_EXPLAINED, FIRST_PARTS, FIRST_PICTURE, FIRST_PLAN, FIRST_PROCESSES, FIRST_TABLES,
+    GREAT_CERTIFICATE, GREAT_EXPLAINED, THREE, THREE_PLAN, TWO_CHANNELS, TWO_CHANNELS_BOTH,
     TWO_CHANNELS_BOTH_CERTIFICATE, TWO_CHANNELS_PARTS, TWO_CHANNELS_PLAN, TWO_CHANNELS_SLOTS,
     TWO_CHANNELS_TABLES, joined,
 };
@@ -179,7 +182,14 @@ static ANSWERS: &[Row] = &[
     (Replay(&[]), THREE, &[THREE_PLAN], ALL_RECEIVED),
     (Schedule(Processes), FIRST, &[FIRST_PLAN], FIRST_PROCESSES),
     (Draw(Used), FIRST, &[FIRST_PLAN], FIRST_PICTURE),
+    (ExplainPlan, FIRST, &[FIRST_PLAN], FIRST_EXPLAINED),
+    (ExplainPlan, FIRST, &[EARLY_PLAN], EARLY_EXPLAINED),
+    (ExplainPlan, &[CLUSTER, FIRST_PARTS, "[[link]]\nfrom = 'p'\nto = 'q'\n"], &[], LINK_EXPLAINED),
+    (ExplainCertificate, FIRST, &[GREAT_CERTIFICATE], GREAT_EXPLAINED),
 ];
+
+const LINK_EXPLAINED: &str =
+    "instance M11 link 0\nLink 0 goes from p on A to q on B, and a link stays on one node: a message goes from node to node.\n";
 
 #[rattlefmt::skip]
 static ANSWERS_OF_TWO_CHANNELS: &[Row] = &[

@@ -1,6 +1,7 @@
 //! What does a command tell of texts: what it writes, why it is refused, and its status?
 
 use command_streams::{End, report, status};
+use explain_command::{explain_certificate, explain_plan};
 use plan_commands::{check_run, draw_run, replay_run, schedule_run, tables, verify};
 use plan_picture::Shown;
 use plan_sheets::Table;
@@ -30,6 +31,21 @@ pub const FIRST_PROCESSES: &str =
 /// Its picture with the slot alone that carries a message.
 pub const FIRST_PICTURE: &str =
     "<svg xmlns=\"http://www.w3.org/2000/svg\" width=\"1200\" height=\"162\" viewBox=\"0 0 1200 162\">\n<title>delay 9, round 4, cycle 12 ticks</title>\n<style>text{font:12px sans-serif;fill:#222}text.mark{text-anchor:middle}line{stroke:#555}line.mark{stroke:#ddd}line.delay{stroke:#c00;stroke-dasharray:4 3}.track{fill:#f4f4f4}.n0{fill:#044763}.n1{fill:#d7706c}.n2{fill:#007656}.n3{fill:#c1acfe}.n4{fill:#704e01}.n5{fill:#04b3cb}.n6{fill:#bd5983}.n7{fill:#a9dc8e}.n8{fill:#044e80}.n9{fill:#da825f}.n10{fill:#017f74}.n11{fill:#edadf6}.n12{fill:#656009}.n13{fill:#16bcec}.n14{fill:#cd6372}.n15{fill:#91ecb0}text.t0,text.t2,text.t4,text.t6,text.t8,text.t10,text.t12{fill:#fff}</style>\n<rect width=\"1200\" height=\"162\" fill=\"#fff\"/>\n<text x=\"8\" y=\"18\">delay 9, round 4, cycle 12 ticks</text>\n<rect class=\"track\" x=\"120\" y=\"57\" width=\"1048\" height=\"24\"/>\n<svg y=\"57\" width=\"116\" height=\"24\"><text x=\"8\" y=\"16\">channel 0</text></svg>\n<rect class=\"track\" x=\"120\" y=\"91\" width=\"1048\" height=\"24\"/>\n<rect class=\"n0\" x=\"8\" y=\"91\" width=\"8\" height=\"24\"/><svg y=\"91\" width=\"116\" height=\"24\"><title>A</title><text x=\"22\" y=\"16\">A</text></svg>\n<rect class=\"track\" x=\"120\" y=\"125\" width=\"1048\" height=\"24\"/>\n<rect class=\"n1\" x=\"8\" y=\"125\" width=\"8\" height=\"24\"/><svg y=\"125\" width=\"116\" height=\"24\"><title>B</title><text x=\"22\" y=\"16\">B</text></svg>\n<line class=\"mark\" x1=\"120.0\" y1=\"46\" x2=\"120.0\" y2=\"154\"/><text class=\"mark\" x=\"120.0\" y=\"42\">0</text>\n<line class=\"mark\" x1=\"207.3\" y1=\"46\" x2=\"207.3\" y2=\"154\"/><text class=\"mark\" x=\"207.3\" y=\"42\">1</text>\n<line class=\"mark\" x1=\"294.6\" y1=\"46\" x2=\"294.6\" y2=\"154\"/><text class=\"mark\" x=\"294.6\" y=\"42\">2</text>\n<line class=\"mark\" x1=\"382.0\" y1=\"46\" x2=\"382.0\" y2=\"154\"/><text class=\"mark\" x=\"382.0\" y=\"42\">3</text>\n<line class=\"mark\" x1=\"469.3\" y1=\"46\" x2=\"469.3\" y2=\"154\"/><text class=\"mark\" x=\"469.3\" y=\"42\">4</text>\n<line class=\"mark\" x1=\"556.6\" y1=\"46\" x2=\"556.6\" y2=\"154\"/><text class=\"mark\" x=\"556.6\" y=\"42\">5</text>\n<line class=\"mark\" x1=\"644.0\" y1=\"46\" x2=\"644.0\" y2=\"154\"/><text class=\"mark\" x=\"644.0\" y=\"42\">6</text>\n<line class=\"mark\" x1=\"731.3\" y1=\"46\" x2=\"731.3\" y2=\"154\"/><text class=\"mark\" x=\"731.3\" y=\"42\">7</text>\n<line class=\"mark\" x1=\"818.6\" y1=\"46\" x2=\"818.6\" y2=\"154\"/><text class=\"mark\" x=\"818.6\" y=\"42\">8</text>\n<line class=\"mark\" x1=\"906.0\" y1=\"46\" x2=\"906.0\" y2=\"154\"/><text class=\"mark\" x=\"906.0\" y=\"42\">9</text>\n<line class=\"mark\" x1=\"993.3\" y1=\"46\" x2=\"993.3\" y2=\"154\"/><text class=\"mark\" x=\"993.3\" y=\"42\">10</text>\n<line class=\"mark\" x1=\"1080.6\" y1=\"46\" x2=\"1080.6\" y2=\"154\"/><text class=\"mark\" x=\"1080.6\" y=\"42\">11</text>\n<line class=\"mark\" x1=\"1168.0\" y1=\"46\" x2=\"1168.0\" y2=\"154\"/><text class=\"mark\" x=\"1168.0\" y=\"42\">12</text>\n<line class=\"delay\" x1=\"906.0\" y1=\"46\" x2=\"906.0\" y2=\"154\"><title>delay 9</title></line>\n<line x1=\"382.0\" y1=\"91\" x2=\"469.3\" y2=\"81\"><title>m: p ends at 3, slot at 4</title></line>\n<line x1=\"731.3\" y1=\"81\" x2=\"731.3\" y2=\"125\"><title>m: slot ends at 7, q starts at 7</title></line>\n<svg x=\"120\" width=\"1048\" height=\"162\" viewBox=\"0 0 12 162\" preserveAspectRatio=\"none\">\n<g><title>A in round 1: 4 to 7, 2 of 2 bytes: m</title><rect class=\"n0\" x=\"4\" y=\"57\" width=\"3\" height=\"24\"/><svg x=\"4\" y=\"57\" width=\"3\" height=\"24\"><svg width=\"12\" height=\"24\" viewBox=\"0 0 1048 24\" preserveAspectRatio=\"none\"><text class=\"t0\" x=\"4\" y=\"16\"> m</text></svg></svg></g>\n<g><title>p on A: from 0 for 3, released at 0, due by 100</title><rect class=\"n0\" x=\"0\" y=\"91\" width=\"3\" height=\"24\"/><svg x=\"0\" y=\"91\" width=\"3\" height=\"24\"><svg width=\"12\" height=\"24\" viewBox=\"0 0 1048 24\" preserveAspectRatio=\"none\"><text class=\"t0\" x=\"4\" y=\"16\">p</text><rect width=\"1\" height=\"24\"/></svg></svg></g>\n<g><title>q on B: from 7 for 2, released at 0, due by 100</title><rect class=\"n1\" x=\"7\" y=\"125\" width=\"2\" height=\"24\"/><svg x=\"7\" y=\"125\" width=\"2\" height=\"24\"><svg width=\"12\" height=\"24\" viewBox=\"0 0 1048 24\" preserveAspectRatio=\"none\"><text class=\"t1\" x=\"4\" y=\"16\">q</text><rect width=\"1\" height=\"24\"/></svg></svg></g>\n</svg>\n</svg>\n";
+
+/// Why its plan ends when it does, and why another one is refused, as is a certificate with too great a bound.
+pub const FIRST_EXPLAINED: &str =
+    "valid 9\nWhy it ends at 9 and not earlier, as its starts and rounds are:\n  0 to 3  p on A, released at 0\n  4 to 7  m in round 1 of A, the first round that begins at 3 or later\n  7 to 9  q on B, once message m is there\n";
+
+pub const EARLY_PLAN: &str =
+    "ttplan 1\ndelay 8\norder A B\ncap A 2\ncap B 0\nstart p 0\nstart q 6\nround m 1\n";
+
+pub const EARLY_EXPLAINED: &str =
+    "plan V9 0 1\nq starts before message m is there.\n  A's slot of round 1 ends at 7, and copying in takes 0: it is there at 7\n  q on B starts at 6: 1 tick too early\n";
+
+pub const GREAT_CERTIFICATE: &str = "ttcert 1\nlow 102\nleaf 102 0\n";
+
+pub const GREAT_EXPLAINED: &str =
+    "certificate C6 2\nLine 2 is: low 102\nThe bound is 102, and the horizon is 100: a bound of 101 says that there is no plan, and none says more.\n";
 
 pub const FIRST_CERTIFICATE: &str =
     "ttcert 1\nlow 9\nleaf 9 5\nes-release 0\nlo-send 0\nes-arrive 0 1\nle-own 1\nx-window 1\n";
@@ -141,6 +157,8 @@ pub enum Asked<'a> {
     Schedule(Table),
     /// With the slots that are shown, 1,200 pixels wide.
     Draw(Shown),
+    ExplainPlan,
+    ExplainCertificate,
 }
 
 impl<'a> Asked<'a> {
@@ -159,6 +177,8 @@ impl<'a> Asked<'a> {
             Asked::Check => check_run(rt, rt.alloc(), instance, second, out),
             Asked::Schedule(table) => schedule_run(rt.alloc(), instance, second, table, out),
             Asked::Draw(shown) => draw_run(rt.alloc(), instance, second, 1_200, shown, out),
+            Asked::ExplainPlan => explain_plan(rt.alloc(), instance, second, out),
+            Asked::ExplainCertificate => explain_certificate(rt, rt.alloc(), instance, second, out),
         }
     }
 

@@ -5,7 +5,8 @@ ghost use Rattle.command_words.specs.Requests.{IsSound, IsSoundTask};
 
 use command_streams::end_with;
 pub use command_streams::{End, Fault, SearchFault, Sink, Source, report, status};
-use command_words::{Request, Task, VERSION, refuse, request_in};
+use command_words::{Explained, Request, Task, VERSION, refuse, request_in};
+pub use explain_command::{explain_certificate, explain_instance, explain_plan};
 pub use plan_commands::{
     check_run, draw_run, judge_run, replay_run, schedule_run, tables, verify, verify_bundle,
 };
@@ -111,6 +112,39 @@ fn run_judge(
         &mut certificate,
         &mut rt.stdout(),
     )
+}
+
+/// Explains an instance, or a plan or a certificate for it: all files are open before one is read.
+fn run_explain(
+    rt: &HostRuntime,
+    threads: &(impl Threads + Sync),
+    instance: &str,
+    explained: Explained,
+) -> End {
+    match explained {
+        Explained::Instance => match File::open(rt, instance) {
+            Ok(mut instance) => explain_instance(rt.alloc(), &mut instance, &mut rt.stdout()),
+            Err(_) => End::Refused(Fault::Unread(Source::Instance)),
+        },
+        Explained::Plan(plan) => match open_both(rt, instance, plan, Source::Plan) {
+            Ok((mut instance, mut plan)) => {
+                explain_plan(rt.alloc(), &mut instance, &mut plan, &mut rt.stdout())
+            }
+            Err(source) => End::Refused(Fault::Unread(source)),
+        },
+        Explained::Certificate(certificate) => {
+            match open_both(rt, instance, certificate, Source::Certificate) {
+                Ok((mut instance, mut certificate)) => explain_certificate(
+                    threads,
+                    rt.alloc(),
+                    &mut instance,
+                    &mut certificate,
+                    &mut rt.stdout(),
+                ),
+                Err(source) => End::Refused(Fault::Unread(source)),
+            }
+        }
+    }
 }
 
 /// Where a certificate is written, where one was asked for: a file that is created anew.
@@ -230,6 +264,10 @@ fn run(rt: &HostRuntime, threads: &(impl Threads + Wait + Sync), request: Reques
             plan,
             certificate,
         } => run_judge(rt, threads, instance, plan, certificate),
+        Request::Explain {
+            instance,
+            explained,
+        } => run_explain(rt, threads, instance, explained),
         Request::VerifyBundle => { verify_bundle(rt.alloc(), &mut rt.stdin(), &mut rt.stdout()) }
         Request::Version => end_with(&mut rt.stdout(), VERSION.as_bytes()),
     }

@@ -1,0 +1,9 @@
+pub mod Heights
+pub mod Counts
+pub mod Proofs
+pub mod Places
+pub mod Forms
+pub mod Lawful
+pub mod Branches
+pub mod Faults
+pub mod ToldNodes

@@ -1,0 +1,2 @@
+mod Stated
+mod Told

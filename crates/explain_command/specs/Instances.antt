@@ -1,0 +1,36 @@
+-- What is told of an instance's bytes.
+use Rattle.std.specs.Prelude.{◌≡◌, ◌⊎◌, ℕ, List, ◌++◌, string_bytes}
+use Rattle.ttp_model.specs.Instance.{Instance}
+use Rattle.instance_text.specs.declared.error.TextError.{TextError}
+use Rattle.instance_words.specs.Described.{description}
+use Rattle.instance_words.specs.Explained.{IsExplanation}
+use Rattle.command_streams.specs.Endings.{fault_status}
+use Rattle.command_streams.specs.Instances.{HasInstance, IsInstanceFault}
+use Rattle.command_streams.specs.declared.ending.Fault.TheVariants as fault
+use Rattle.explain_command.specs.declared.instances.Stated.{Stated}
+use Rattle.explain_command.specs.declared.instances.Stated.TheVariants.{Instance as Of, Refused}
+use Rattle.explain_command.specs.Telling.{line_of}
+
+-- bytes that state none: why, which is no want of memory
+pub record TellsRefused (bytes text : List ℕ) : Type 0 where
+  pub wrong : TextError
+  pub first : IsInstanceFault bytes (fault.InstanceText wrong)
+  pub status : fault_status (fault.InstanceText wrong) ≡ 3
+  pub words : List ℕ
+  pub are : IsExplanation bytes wrong words
+  pub told : text ≡ line_of (fault.InstanceText wrong) ++ words
+
+-- bytes that state one: how large it is, and which messages fit into no frame
+pub record TellsGood (bytes text : List ℕ) : Type 0 where
+  pub problem : Instance
+  pub has_instance : HasInstance bytes problem
+  pub told : text ≡ description problem
+
+-- the bytes of an instance
+abbrev pub TellsInstance : List ℕ → List ℕ → Type 0
+TellsInstance bytes text = TellsRefused bytes text ⊎ TellsGood bytes text
+
+-- what came of bytes: the instance that they state, or what is told of them
+abbrev pub IsStatedOf : List ℕ → Stated → Type 0
+IsStatedOf bytes (Of i) = HasInstance bytes i
+IsStatedOf bytes (Refused text) = TellsRefused bytes (string_bytes text)

@@ -1,0 +1,5 @@
+pub mod Telling
+pub mod Plans
+pub mod Instances
+pub mod Certificates
+pub mod Explained

@@ -1,0 +1,73 @@
+-- What is told of a plan's bytes, for an instance.
+use Rattle.std.specs.Prelude.{◌≡◌, ◌≢◌, ◌⊎◌, ℕ, ◌<◌, List, ◌++◌, Err, length}
+use Rattle.ttp_model.specs.declared.fault.PlanFault.{PlanFault}
+use Rattle.ttp_model.specs.declared.plan.Plan.{Plan}
+use Rattle.ttp_model.specs.Instance.{Instance}
+use Rattle.ttp_model.specs.Plans.{IsValid}
+use Rattle.ttp_model.specs.Delays.{delay}
+use Rattle.ttp_model.specs.Faults.{IsFirstFault}
+use Rattle.plan_format.specs.declared.fault.LineFault.{LineFault}
+use Rattle.plan_format.specs.declared.fault.PlanTextError.TheVariants.{At}
+use Rattle.plan_format.specs.Spelling.{SpellsPlan}
+use Rattle.plan_format.specs.Reading.{plan_at}
+use Rattle.plan_chain.specs.Lines.{IsChainText}
+use Rattle.plan_words.specs.Faults.{fault_text}
+use Rattle.plan_words.specs.Delays.{IsDelayText}
+use Rattle.plan_commands.specs.Verdicts.{valid_line}
+use Rattle.command_streams.specs.Limits.{plan_limit}
+use Rattle.command_streams.specs.declared.ending.Source.TheVariants as source
+use Rattle.command_streams.specs.declared.ending.Fault.{Fault}
+use Rattle.command_streams.specs.declared.ending.Fault.TheVariants as fault
+use Rattle.plan_text_words.specs.Texts.{line_fault_text}
+use Rattle.explain_command.specs.Telling.{line_of}
+
+-- a plan that breaks a rule: which two things its first fault compares
+pub record TellsBroken (i : Instance) (plan : Plan) (text : List ℕ) : Type 0 where
+  pub broken : PlanFault
+  pub first : IsFirstFault i plan broken
+  pub told : text ≡ line_of (fault.Plan broken) ++ fault_text i plan broken
+
+-- a valid plan that states another delay than its own
+pub record TellsMisstated (i : Instance) (plan : Plan) (stated : ℕ) (text : List ℕ) : Type 0 where
+  pub valid : IsValid i plan
+  pub other : delay i plan ≢ stated
+  pub words : List ℕ
+  pub are : IsDelayText i plan stated words
+  pub told : text ≡ line_of (fault.StatedDelay (delay i plan)) ++ words
+
+-- a valid plan that states its own: why it ends when it does
+pub record TellsValid (i : Instance) (plan : Plan) (stated : ℕ) (text : List ℕ) : Type 0 where
+  pub valid : IsValid i plan
+  pub own : delay i plan ≡ stated
+  pub words : List ℕ
+  pub are : IsChainText i plan words
+  pub told : text ≡ valid_line stated ++ words
+
+-- a plan with the delay that it states
+abbrev pub TellsPlan : Instance → Plan → ℕ → List ℕ → Type 0
+TellsPlan i plan stated text = TellsBroken i plan text ⊎ (TellsMisstated i plan stated text ⊎ TellsValid i plan stated text)
+
+-- bytes that spell a plan with a stated delay
+pub record TellsSpelled (i : Instance) (bytes text : List ℕ) : Type 0 where
+  pub plan : Plan
+  pub stated : ℕ
+  pub spelled : SpellsPlan i bytes plan stated
+  pub tells : TellsPlan i plan stated text
+
+-- bytes that spell none: the line at fault, and the form that it has to have
+pub record TellsUnspelled (i : Instance) (bytes text : List ℕ) : Type 0 where
+  pub line : ℕ
+  pub wrong : LineFault
+  pub first : plan_at i bytes ≡ Err (At line wrong)
+  pub told : text ≡ line_of (fault.PlanText (At line wrong)) ++ line_fault_text i bytes line wrong
+
+-- the bytes of a plan
+abbrev pub TellsPlanBytes : Instance → List ℕ → List ℕ → Type 0
+TellsPlanBytes i bytes text = TellsUnspelled i bytes text ⊎ TellsSpelled i bytes text
+
+-- why nothing is told of them
+abbrev pub IsPlanUnread : List ℕ → Fault → Type 0
+IsPlanUnread bytes fault.Memory = Unit {0}
+IsPlanUnread bytes (fault.Unread source.Plan) = Unit {0}
+IsPlanUnread bytes (fault.TooLong source.Plan) = plan_limit < length bytes
+IsPlanUnread bytes _ = ⊥

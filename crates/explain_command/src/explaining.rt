@@ -1,0 +1,184 @@
+//! What does `explain` say of an instance, of a plan and of a certificate?
+
+ghost use Rattle.std.specs.Prelude.{◌≡◌, ◌+◌, IfErr, IfOk, IfSome, string_bytes};
+ghost use Rattle.command_streams.specs.Limits.{certificate_limit, instance_limit, plan_limit};
+ghost use Rattle.command_streams.specs.Streams.{TakesAtMost};
+ghost use Rattle.command_streams.specs.declared.ending.Fault.TheVariants.{Memory};
+ghost use Rattle.instance_words.specs.Described.{description};
+ghost use Rattle.explain_command.specs.Explained.{IsCertificateExplained, IsCertificateUntold, IsInstanceExplained, IsPlanExplained, IsPlanUntold, IsUntold, TellsBoth};
+ghost use Rattle.explain_command.specs.Certificates.{IsUnreadable, TellsCertificateBytes};
+ghost use Rattle.explain_command.specs.Instances.{IsStatedOf, TellsInstance};
+ghost use Rattle.explain_command.specs.Plans.{IsPlanUnread, TellsPlanBytes};
+
+use crate::certificates::told_certificate;
+use crate::instances::{Stated, stated_of_bytes};
+use crate::plans::told_plan;
+use command_streams::{End, Fault, INSTANCE_LIMIT, Source, end_with, read_all};
+use instance_words::describe_instance;
+use plan_commands::PLAN_LIMIT;
+use std::alloc::Global;
+use std::io::{Read, Write};
+use std::thread::Threads;
+use ttp_model::Instance;
+
+/// The bytes of a certificate, at most.
+const CERTIFICATE_LIMIT: usize = 268_435_456;
+
+/// What came of the bytes of an instance's reader.
+fn stated_of_reader<I: Read>(alloc: Global, instance: &mut I) -> Result<Stated, Fault>
+    ensures ok { IfSome (I.remaining instance.old) (λ bytes. IfOk result (IsStatedOf bytes)) }
+    ensures err { IfSome (I.remaining instance.old) (λ bytes. IfErr result (IsUntold bytes)) }
+    ensures most { TakesAtMost (instance_limit + 1) (I.remaining instance.old) (I.remaining instance.new) }
+{
+    let bytes = read_all(alloc, instance, INSTANCE_LIMIT, Source::Instance)?;
+    stated_of_bytes(alloc, bytes.as_slice())
+}
+
+/// What is told of an instance that keeps its rules.
+fn described(alloc: Global, instance: &Instance) -> Result<String, Fault>
+    ensures ok { IfOk result (λ text. string_bytes text ≡ description instance.now) }
+    ensures err { IfErr result (λ wrong. wrong ≡ Memory) }
+{
+    let text = describe_instance(alloc, instance)?;
+    Ok(text)
+}
+
+/// What is told of an instance.
+fn instance_told<I: Read>(alloc: Global, instance: &mut I) -> Result<String, Fault>
+    ensures ok { IfSome (I.remaining instance.old) (λ bytes. IfOk result (λ text. TellsInstance bytes (string_bytes text))) }
+    ensures err { IfSome (I.remaining instance.old) (λ bytes. IfErr result (IsUntold bytes)) }
+    ensures most { TakesAtMost (instance_limit + 1) (I.remaining instance.old) (I.remaining instance.new) }
+{
+    match stated_of_reader(alloc, instance)? {
+        Stated::Refused(text) => Ok(text),
+        Stated::Instance(instance) => {
+            let told = described(alloc, &instance);
+            drop(instance);
+            told
+        }
+    }
+}
+
+/// Tells an instance: `instance` with its sizes and each message that fits into no frame, or the line of `verify` where it is
+/// refused, and behind it why, in sentences. Where anything else ends the command nothing is written, and after a failed write a
+/// prefix of the text stands.
+pub fn explain_instance<I: Read, W: Write>(alloc: Global, instance: &mut I, out: &mut W) -> End
+    ensures answer { IfSome (I.remaining instance.old) (λ i. IsInstanceExplained i (W.contents out.old) (W.contents out.new) result) }
+    ensures instance { TakesAtMost (instance_limit + 1) (I.remaining instance.old) (I.remaining instance.new) }
+{
+    match instance_told(alloc, instance) {
+        Ok(text) => end_with(out, text.as_bytes()),
+        Err(fault) => End::Refused(fault),
+    }
+}
+
+/// What is told of the bytes of a plan's reader.
+fn told_of_plan<P: Read>(alloc: Global, instance: &Instance, plan: &mut P) -> Result<String, Fault>
+    ensures ok { IfSome (P.remaining plan.old) (λ p. IfOk result (λ text. TellsPlanBytes instance.now p (string_bytes text))) }
+    ensures err { IfSome (P.remaining plan.old) (λ p. IfErr result (IsPlanUnread p)) }
+    ensures plan { TakesAtMost (plan_limit + 1) (P.remaining plan.old) (P.remaining plan.new) }
+{
+    let bytes = read_all(alloc, plan, PLAN_LIMIT, Source::Plan)?;
+    let text = told_plan(alloc, instance, bytes.as_slice())?;
+    Ok(text)
+}
+
+/// What is told of an instance and a plan.
+fn plan_told<I: Read, P: Read>(
+    alloc: Global,
+    instance: &mut I,
+    plan: &mut P,
+) -> Result<String, Fault>
+    ensures ok { IfSome (I.remaining instance.old) (λ i. IfSome (P.remaining plan.old) (λ p.
+        IfOk result (λ text. TellsBoth TellsPlanBytes i p (string_bytes text)))) }
+    ensures err { IfSome (I.remaining instance.old) (λ i. IfSome (P.remaining plan.old) (λ p. IfErr result (IsPlanUntold i p))) }
+    ensures instance { TakesAtMost (instance_limit + 1) (I.remaining instance.old) (I.remaining instance.new) }
+    ensures plan { TakesAtMost (plan_limit + 1) (P.remaining plan.old) (P.remaining plan.new) }
+{
+    match stated_of_reader(alloc, instance)? {
+        Stated::Refused(text) => Ok(text),
+        Stated::Instance(instance) => {
+            let told = told_of_plan(alloc, &instance, plan);
+            drop(instance);
+            told
+        }
+    }
+}
+
+/// Tells a plan: the line of `verify`, and in sentences why it is refused, or why it ends when it does. The instance is read and
+/// judged first. Where anything else ends the command nothing is written, and after a failed write a prefix of the text stands.
+pub fn explain_plan<I: Read, P: Read, W: Write>(
+    alloc: Global,
+    instance: &mut I,
+    plan: &mut P,
+    out: &mut W,
+) -> End
+    ensures answer { IfSome (I.remaining instance.old) (λ i. IfSome (P.remaining plan.old) (λ p.
+        IsPlanExplained i p (W.contents out.old) (W.contents out.new) result)) }
+    ensures instance { TakesAtMost (instance_limit + 1) (I.remaining instance.old) (I.remaining instance.new) }
+    ensures plan { TakesAtMost (plan_limit + 1) (P.remaining plan.old) (P.remaining plan.new) }
+{
+    match plan_told(alloc, instance, plan) {
+        Ok(text) => end_with(out, text.as_bytes()),
+        Err(fault) => End::Refused(fault),
+    }
+}
+
+/// What is told of the bytes of a certificate's reader.
+fn told_of_certificate<C: Read>(
+    rt: &(impl Threads + Sync),
+    alloc: Global,
+    instance: &Instance,
+    certificate: &mut C,
+) -> Result<String, Fault>
+    ensures ok { IfSome (C.remaining certificate.old) (λ c. IfOk result (λ text. TellsCertificateBytes instance.now c (string_bytes text))) }
+    ensures err { IfSome (C.remaining certificate.old) (λ c. IfErr result (IsUnreadable c)) }
+    ensures certificate { TakesAtMost (certificate_limit + 1) (C.remaining certificate.old) (C.remaining certificate.new) }
+{
+    let bytes = read_all(alloc, certificate, CERTIFICATE_LIMIT, Source::Certificate)?;
+    told_certificate(rt, alloc, instance, bytes.as_slice())
+}
+
+/// What is told of an instance and a certificate.
+fn certificate_told<I: Read, C: Read>(
+    rt: &(impl Threads + Sync),
+    alloc: Global,
+    instance: &mut I,
+    certificate: &mut C,
+) -> Result<String, Fault>
+    ensures ok { IfSome (I.remaining instance.old) (λ i. IfSome (C.remaining certificate.old) (λ c.
+        IfOk result (λ text. TellsBoth TellsCertificateBytes i c (string_bytes text)))) }
+    ensures err { IfSome (I.remaining instance.old) (λ i. IfSome (C.remaining certificate.old) (λ c. IfErr result (IsCertificateUntold i c))) }
+    ensures instance { TakesAtMost (instance_limit + 1) (I.remaining instance.old) (I.remaining instance.new) }
+    ensures certificate { TakesAtMost (certificate_limit + 1) (C.remaining certificate.old) (C.remaining certificate.new) }
+{
+    match stated_of_reader(alloc, instance)? {
+        Stated::Refused(text) => Ok(text),
+        Stated::Instance(instance) => {
+            let told = told_of_certificate(rt, alloc, &instance, certificate);
+            drop(instance);
+            told
+        }
+    }
+}
+
+/// Tells a certificate: the line of `check`, and in sentences why it doesn't prove its bound, or how it does: step by step where
+/// it is one leaf, and else how large it is. The instance is read and judged first. The certificate's text is held in memory. Where
+/// anything else ends the command nothing is written, and after a failed write a prefix of the text stands.
+pub fn explain_certificate<I: Read, C: Read, W: Write>(
+    rt: &(impl Threads + Sync),
+    alloc: Global,
+    instance: &mut I,
+    certificate: &mut C,
+    out: &mut W,
+) -> End
+    ensures answer { IfSome (I.remaining instance.old) (λ i. IfSome (C.remaining certificate.old) (λ c.
+        IsCertificateExplained i c (W.contents out.old) (W.contents out.new) result)) }
+    ensures instance { TakesAtMost (instance_limit + 1) (I.remaining instance.old) (I.remaining instance.new) }
+    ensures certificate { TakesAtMost (certificate_limit + 1) (C.remaining certificate.old) (C.remaining certificate.new) }
+{
+    match certificate_told(rt, alloc, instance, certificate) {
+        Ok(text) => end_with(out, text.as_bytes()),
+        Err(fault) => End::Refused(fault),
+    }
+}

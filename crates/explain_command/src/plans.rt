@@ -1,0 +1,123 @@
+//! What is told of a plan?
+
+ghost use Rattle.std.specs.Prelude.{◌≡◌, ◌≢◌, Err, IfOk, OnOk, string_bytes};
+ghost use Rattle.ttp_model.specs.Plans.{IsValid};
+ghost use Rattle.ttp_model.specs.Delays.{delay};
+ghost use Rattle.ttp_model.specs.Faults.{IsFirstFault};
+ghost use Rattle.plan_words.specs.Gains.{Gains};
+ghost use Rattle.plan_format.specs.declared.fault.PlanTextError.TheVariants.{At};
+ghost use Rattle.plan_format.specs.Reading.{plan_at};
+ghost use Rattle.explain_command.specs.Plans.{TellsBroken, TellsMisstated, TellsPlan, TellsPlanBytes, TellsUnspelled, TellsValid};
+
+use crate::telling::{put_line, put_valid_line};
+use command_streams::Fault;
+use plan_format::{LineFault, PlanTextError, read};
+use plan_text_words::put_line_fault;
+use plan_words::{put_delay, put_fault};
+use std::alloc::Global;
+use ttp_model::{Instance, MemoryFault, Plan, PlanFault};
+
+/// Tells which rule a plan breaks.
+fn put_broken(
+    alloc: Global,
+    text: &mut String,
+    instance: &Instance,
+    plan: &Plan,
+    broken: PlanFault,
+) -> Result<(), MemoryFault>
+    requires { IsFirstFault instance.now plan.now broken }
+    ensures { OnOk result (Gains (TellsBroken instance.now plan.now) (string_bytes text.old) (string_bytes text.new)) }
+{
+    put_line(text, &Fault::Plan(broken))?;
+    put_fault(alloc, text, instance, plan, broken)
+}
+
+/// Tells that a valid plan states another delay than its own, in ticks.
+fn put_misstated(
+    text: &mut String,
+    instance: &Instance,
+    plan: &Plan,
+    own: u64,
+    stated: u32,
+) -> Result<(), MemoryFault>
+    requires valid { IsValid instance.now plan.now }
+    requires own { own ≡ delay instance.now plan.now }
+    requires other { own ≢ stated }
+    ensures { OnOk result (Gains (TellsMisstated instance.now plan.now stated) (string_bytes text.old) (string_bytes text.new)) }
+{
+    put_line(text, &Fault::StatedDelay(own))?;
+    put_delay(text, instance, plan, stated)?;
+    Ok(())
+}
+
+/// Tells why a valid plan ends at its delay, in ticks, which it states.
+fn put_valid(
+    alloc: Global,
+    text: &mut String,
+    instance: &Instance,
+    plan: &Plan,
+    stated: u32,
+) -> Result<(), MemoryFault>
+    requires valid { IsValid instance.now plan.now }
+    requires own { delay instance.now plan.now ≡ stated }
+    ensures { OnOk result (Gains (TellsValid instance.now plan.now stated) (string_bytes text.old) (string_bytes text.new)) }
+{
+    let chain = plan_chain::print(alloc, instance, plan)?;
+    put_valid_line(text, stated)?;
+    text.push_str(chain.as_str())?;
+    Ok(())
+}
+
+/// Tells what is to be said of a plan and the delay in ticks that it states.
+fn put_plan(
+    alloc: Global,
+    text: &mut String,
+    instance: &Instance,
+    plan: &Plan,
+    stated: u32,
+) -> Result<(), MemoryFault>
+    ensures { OnOk result (Gains (TellsPlan instance.now plan.now stated) (string_bytes text.old) (string_bytes text.new)) }
+{
+    match plan_check::check(instance, plan) {
+        Err(broken) => put_broken(alloc, text, instance, plan, broken),
+        Ok(own) => {
+            if own == u64::from(stated) {
+                put_valid(alloc, text, instance, plan, stated)
+            } else {
+                put_misstated(text, instance, plan, own, stated)
+            }
+        }
+    }
+}
+
+/// Tells which line of a plan's text is at fault.
+fn put_unspelled(
+    text: &mut String,
+    instance: &Instance,
+    bytes: &[u8],
+    line: u32,
+    wrong: LineFault,
+) -> Result<(), MemoryFault>
+    requires { plan_at instance.now bytes.now ≡ Err (At line wrong) }
+    ensures { OnOk result (Gains (TellsUnspelled instance.now bytes.now) (string_bytes text.old) (string_bytes text.new)) }
+{
+    let error = PlanTextError::At { line, fault: wrong };
+    put_line(text, &Fault::PlanText(error))?;
+    put_line_fault(text, instance, bytes, line, wrong)?;
+    Ok(())
+}
+
+/// What is told of the bytes of a plan.
+pub fn told_plan(alloc: Global, instance: &Instance, bytes: &[u8]) -> Result<String, MemoryFault>
+    ensures { IfOk result (λ text. TellsPlanBytes instance.now bytes.now (string_bytes text)) }
+{
+    let mut text = String::new(alloc);
+    match read(alloc, instance, bytes) {
+        Ok((plan, stated)) => put_plan(alloc, &mut text, instance, &plan, stated)?,
+        Err(PlanTextError::At { line, fault }) => {
+            put_unspelled(&mut text, instance, bytes, line, fault)?
+        }
+        Err(PlanTextError::OutOfMemory) => return Err(MemoryFault),
+    }
+    Ok(text)
+}

@@ -1,0 +1,3 @@
+pub mod Growing
+mod Large
+mod AsStated

@@ -1,0 +1,5 @@
+pub mod Joins
+pub mod Circles
+pub mod Refusals
+pub mod Explained
+pub mod Described

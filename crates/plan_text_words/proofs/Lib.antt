@@ -1,0 +1,2 @@
+pub mod FormLines
+pub mod Words

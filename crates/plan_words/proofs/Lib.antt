@@ -1,0 +1,5 @@
+pub mod Differences
+pub mod Filters
+pub mod FirstRounds
+pub mod Growing
+pub mod Places

@@ -1,0 +1,4 @@
+pub mod Counts
+pub mod Names
+pub mod Lists
+pub mod Processes

@@ -1,0 +1,4 @@
+pub mod Telling
+pub mod There
+pub mod SlotTimes
+pub mod Listing

@@ -1,0 +1,31 @@
+-- The steps of a leaf in words, each by what is known before and after it. Own profile.
+use Rattle.std.specs.Prelude.{◌≡◌, ℕ, ◌-◌, List, [], ◌∷◌, ◌++◌, codes, decimal, if◌then◌else◌, length, nat_le, take}
+use Rattle.ttp_model.specs.declared.step.Leaf.{Leaf}
+use Rattle.ttp_model.specs.declared.step.Step.{Step}
+use Rattle.ttp_model.specs.Instance.{Instance}
+use Rattle.tt_choice.specs.Choice.{Choice}
+use Rattle.sought_plans.specs.Known.{Known, first_facts}
+use Rattle.tt_infer.specs.Table.{IsLawful}
+use Rattle.step_words.specs.Limits.{most_steps}
+use Rattle.step_words.specs.Steps.{told_step}
+
+-- lawful steps lead from what is known to what is known after them, with a line for each
+abbrev pub Tell : Instance → Choice → ℕ → Known → List Step → Known → List ℕ → Type 0
+Tell i c goal f [] g text = (g ≡ f) × (text ≡ [])
+Tell i c goal f (step ∷ steps) g text =
+    (next : Known) × (rest : List ℕ) × IsLawful i c goal f step next × Tell i c goal next steps g rest × (text ≡ told_step i c goal f next step ++ rest)
+
+-- what is supposed
+unfoldable pub goal_line : ℕ → List ℕ
+goal_line goal = codes "Suppose that a plan has a delay below " ++ (decimal goal ++ codes ". Step by step:\n")
+
+-- how many steps there are more than are told
+unfoldable pub more_steps : ℕ → List ℕ
+more_steps count = if nat_le count most_steps then [] else codes "and " ++ (decimal (count - most_steps) ++ codes " steps more\n")
+
+-- a leaf that closes a choice in words: what is supposed, its first steps, and how many there are more
+pub record TellsLeaf (i : Instance) (c : Choice) (leaf : Leaf) (text : List ℕ) : Type 0 where
+  pub known : Known
+  pub told : List ℕ
+  pub steps : Tell i c leaf.goal (first_facts i c) (take most_steps leaf.steps) known told
+  pub text_is : text ≡ goal_line leaf.goal ++ (told ++ more_steps (length leaf.steps))

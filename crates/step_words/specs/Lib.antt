@@ -1,0 +1,12 @@
+pub mod Limits
+pub mod Names
+pub mod Starts
+pub mod Rounds
+pub mod Ends
+pub mod Orders
+pub mod Closers
+pub mod Loads
+pub mod Dominance
+pub mod Conclusions
+pub mod Steps
+pub mod Leaves

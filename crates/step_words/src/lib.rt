@@ -1,0 +1,19 @@
+//! What does a step of inference say, in words?
+#![tactic(auto)]
+
+mod closers;
+mod conclusions;
+mod dominance;
+mod ends;
+mod leaves;
+mod loads;
+mod names;
+mod orders;
+mod rounds;
+mod slots;
+mod starts;
+mod steps;
+mod times;
+
+pub use leaves::{MOST_STEPS, put_leaf};
+pub use steps::put_step;

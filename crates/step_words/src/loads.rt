@@ -1,0 +1,124 @@
+//! Why is no plan left, by what has to run or to be sent?
+
+ghost use Rattle.std.specs.Prelude.{◌≡◌, ◌++◌, ◌<◌, ◌≤◌, OnOk, length, string_bytes};
+ghost use Rattle.step_words.specs.Loads.{channel_room_words, channel_words, frame_words, frames_words, load_words, room_words, span_words};
+
+use crate::names::{message_name, node_name, source_name};
+use crate::slots::cap_most;
+use std::alloc::AllocError;
+use tt_infer::Facts;
+use ttp_model::Instance;
+
+/// Adds that processes take longer than there is time.
+#[tactic(auto, unfolding(crate::specs::Loads::load_words))]
+pub fn put_load(text: &mut String, facts: &Facts, n: u32, a: u32, b: u32) -> Result<(), AllocError>
+    requires { n < length facts.now.instance.nodes }
+    ensures { OnOk result (string_bytes text.new ≡ string_bytes text.old ++ load_words facts.now.instance n a b) }
+{
+    let name = node_name(facts.instance(), n);
+    let ticks = b.saturating_sub(a);
+    write!(
+        text,
+        "  as what has to run on {name} from {a} to {b} takes more than these {ticks} ticks, "
+    )
+}
+
+/// Adds that a message is longer than any frame.
+#[tactic(auto, unfolding(crate::specs::Loads::frame_words))]
+pub fn put_frame(text: &mut String, facts: &Facts, m: u32) -> Result<(), AllocError>
+    requires { m < length facts.now.instance.messages }
+    ensures { OnOk result (string_bytes text.new ≡ string_bytes text.old ++ frame_words facts.now.instance facts.now.choice m) }
+{
+    let instance = facts.instance();
+    let name = message_name(instance, m);
+    let node = source_name(instance, m);
+    let bytes = instance.message_at(m as usize).bytes;
+    let most = cap_most(facts, instance.source_of(m as usize));
+    write!(
+        text,
+        "  as {name} has {bytes} bytes and a frame of {node} at most {most}, "
+    )
+}
+
+/// Adds in which rounds a node sends what it has to.
+#[tactic(auto, unfolding(crate::specs::Loads::span_words))]
+fn put_span(
+    text: &mut String,
+    instance: &Instance,
+    n: u32,
+    a: u32,
+    b: u32,
+) -> Result<(), AllocError>
+    requires { n < length instance.now.nodes }
+    ensures { OnOk result (string_bytes text.new ≡ string_bytes text.old ++ span_words instance.now n a b) }
+{
+    let name = node_name(instance, n);
+    write!(
+        text,
+        "  as what {name} has to send from round {a} on and before round {b}"
+    )
+}
+
+/// Adds how much so many frames carry on all channels.
+#[tactic(auto, unfolding(crate::specs::Loads::room_words))]
+fn put_room(text: &mut String, rounds: u32, cap: u32, channels: u32) -> Result<(), AllocError>
+    ensures { OnOk result (string_bytes text.new ≡ string_bytes text.old ++ room_words rounds cap channels) }
+{
+    write!(
+        text,
+        " has more bytes than {rounds} frames of at most {cap} on each of {channels} channels, "
+    )
+}
+
+/// Adds that it is more than its frames carry, on all channels.
+#[tactic(auto, unfolding(crate::specs::Loads::frames_words))]
+pub fn put_frames(
+    text: &mut String,
+    facts: &Facts,
+    n: u32,
+    a: u32,
+    b: u32,
+) -> Result<(), AllocError>
+    requires { n < length facts.now.instance.nodes }
+    ensures { OnOk result (string_bytes text.new ≡ string_bytes text.old
+        ++ frames_words facts.now.instance facts.now.choice n a b) }
+{
+    let instance = facts.instance();
+    put_span(text, instance, n, a, b)?;
+    put_room(
+        text,
+        b.saturating_sub(a),
+        cap_most(facts, n),
+        instance.cluster().channels,
+    )
+}
+
+/// Adds how much a channel carries of its frames.
+#[tactic(auto, unfolding(crate::specs::Loads::channel_room_words))]
+fn put_channel_room(text: &mut String, k: u32, room: u64) -> Result<(), AllocError>
+    ensures { OnOk result (string_bytes text.new ≡ string_bytes text.old ++ channel_room_words k room) }
+{
+    write!(
+        text,
+        " on channel {k} has more than the {room} bytes of its frames, "
+    )
+}
+
+/// Adds that it is more than they carry on a channel.
+#[tactic(auto, unfolding(crate::specs::Loads::channel_words))]
+pub fn put_channel(
+    text: &mut String,
+    facts: &Facts,
+    k: u32,
+    n: u32,
+    a: u32,
+    b: u32,
+) -> Result<(), AllocError>
+    requires { n < length facts.now.instance.nodes }
+    ensures { OnOk result (string_bytes text.new ≡ string_bytes text.old
+        ++ channel_words facts.now.instance facts.now.choice k n a b) }
+{
+    let room = u64::from(b.saturating_sub(a)) * u64::from(cap_most(facts, n));
+    put_span(text, facts.instance(), n, a, b)?;
+    put_channel_room(text, k, room)
+}

@@ -1,0 +1,5 @@
+pub mod Items
+pub mod Filling
+pub mod Saying
+mod Telling
+mod Showing

@@ -1,0 +1,10 @@
+pub mod Tables
+pub mod Places
+pub mod Values
+pub mod Unknown
+pub mod Known
+pub mod Near
+pub mod Grammar
+pub mod Words
+pub mod Faults
+pub mod Reading
