@@ -3,7 +3,7 @@ use Rattle.std.proofs.Common.{ℕ, List, Option, None, Some, refl}
 use Rattle.std.specs.Io.KnownBytes.{Keeps}
 use Rattle.command_streams.specs.declared.ending.Sink.TheVariants as sink
 use Rattle.command_streams.specs.declared.ending.Fault.{Fault}
-use Rattle.command_streams.specs.declared.ending.Fault.TheVariants.{NoMark, LossForm, InstanceText, Memory, PlanText, Plan, StatedDelay, CertificateText, Certificate, TooFewNodes, WrongLoss, TooManySlots, Search, TooLong, Unread, Unwritten}
+use Rattle.command_streams.specs.declared.ending.Fault.TheVariants.{NoMark, LossForm, InstanceText, Memory, PlanText, Plan, StatedDelay, CertificateText, Certificate, TooFewNodes, WrongLoss, NoSuchProcess, TooManySlots, Search, TooLong, Unread, Unwritten}
 use Rattle.command_streams.specs.declared.ending.End.{End}
 use Rattle.command_streams.specs.declared.ending.End.TheVariants.{Done, Absent, Stopped, Refused}
 use Rattle.command_streams.specs.Instances.{IsOfInstance}
@@ -19,6 +19,7 @@ module _ (IsText : List ℕ → Type 0) (IsRefusedBy : Fault → Type 0) (text :
   written_outcome Absent gains = absurd gains
   written_outcome Stopped gains = absurd gains
   written_outcome (Refused (Unwritten sink.Certificate)) gains = absurd gains
+  written_outcome (Refused (Unwritten sink.Plan)) gains = absurd gains
   written_outcome (Refused (Unwritten sink.Out)) part = record { at = Done; text = text; is = is; part = part }
   written_outcome (Refused NoMark) gains = absurd gains
   written_outcome (Refused (LossForm k)) gains = absurd gains
@@ -29,6 +30,7 @@ module _ (IsText : List ℕ → Type 0) (IsRefusedBy : Fault → Type 0) (text :
   written_outcome (Refused (StatedDelay d)) gains = absurd gains
   written_outcome (Refused TooFewNodes) gains = absurd gains
   written_outcome (Refused (TooManySlots count)) gains = absurd gains
+  written_outcome (Refused (NoSuchProcess k)) gains = absurd gains
   written_outcome (Refused (CertificateText error)) gains = absurd gains
   written_outcome (Refused (Certificate fault)) gains = absurd gains
   written_outcome (Refused (WrongLoss k)) gains = absurd gains
@@ -42,6 +44,7 @@ module _ (IsText : List ℕ → Type 0) (IsRefusedBy : Fault → Type 0) (text :
     made_outcome Absent gains = absurd gains
     made_outcome Stopped gains = absurd gains
     made_outcome (Refused (Unwritten sink.Certificate)) gains = absurd gains
+    made_outcome (Refused (Unwritten sink.Plan)) gains = absurd gains
     made_outcome (Refused (Unwritten sink.Out)) part = written_outcome (Refused (Unwritten sink.Out)) part
     made_outcome (Refused Memory) keeps = (memory, keeps)
     made_outcome (Refused NoMark) gains = absurd gains
@@ -52,6 +55,7 @@ module _ (IsText : List ℕ → Type 0) (IsRefusedBy : Fault → Type 0) (text :
     made_outcome (Refused (StatedDelay d)) gains = absurd gains
     made_outcome (Refused TooFewNodes) gains = absurd gains
     made_outcome (Refused (TooManySlots count)) gains = absurd gains
+    made_outcome (Refused (NoSuchProcess k)) gains = absurd gains
     made_outcome (Refused (CertificateText error)) gains = absurd gains
     made_outcome (Refused (Certificate fault)) gains = absurd gains
     made_outcome (Refused (WrongLoss k)) gains = absurd gains
@@ -66,6 +70,7 @@ module _ (text : List ℕ) (old new : Option (List ℕ)) where
   made_unless_stopped Absent gains = absurd gains
   made_unless_stopped Stopped gains = absurd gains
   made_unless_stopped (Refused (Unwritten sink.Certificate)) gains = absurd gains
+  made_unless_stopped (Refused (Unwritten sink.Plan)) gains = absurd gains
   made_unless_stopped (Refused (Unwritten sink.Out)) part = tt
   made_unless_stopped (Refused Memory) kept = refl
   made_unless_stopped (Refused NoMark) gains = absurd gains
@@ -76,6 +81,7 @@ module _ (text : List ℕ) (old new : Option (List ℕ)) where
   made_unless_stopped (Refused (StatedDelay d)) gains = absurd gains
   made_unless_stopped (Refused TooFewNodes) gains = absurd gains
   made_unless_stopped (Refused (TooManySlots count)) gains = absurd gains
+  made_unless_stopped (Refused (NoSuchProcess k)) gains = absurd gains
   made_unless_stopped (Refused (CertificateText error)) gains = absurd gains
   made_unless_stopped (Refused (Certificate fault)) gains = absurd gains
   made_unless_stopped (Refused (WrongLoss k)) gains = absurd gains
@@ -90,6 +96,7 @@ module _ (text : List ℕ) (old new : Option (List ℕ)) (Holds : Type 0) where
   written_later Absent gains = tt
   written_later Stopped gains = tt
   written_later (Refused (Unwritten sink.Certificate)) gains = absurd gains
+  written_later (Refused (Unwritten sink.Plan)) gains = absurd gains
   written_later (Refused (Unwritten sink.Out)) part = λ is. absurd is
   written_later (Refused Memory) kept = λ is. absurd is
   written_later (Refused NoMark) gains = absurd gains
@@ -100,6 +107,7 @@ module _ (text : List ℕ) (old new : Option (List ℕ)) (Holds : Type 0) where
   written_later (Refused (StatedDelay d)) gains = absurd gains
   written_later (Refused TooFewNodes) gains = absurd gains
   written_later (Refused (TooManySlots count)) gains = absurd gains
+  written_later (Refused (NoSuchProcess k)) gains = absurd gains
   written_later (Refused (CertificateText error)) gains = absurd gains
   written_later (Refused (Certificate fault)) gains = absurd gains
   written_later (Refused (WrongLoss k)) gains = absurd gains
@@ -112,6 +120,7 @@ module _ (text : List ℕ) (old new : Option (List ℕ)) (Holds : Type 0) where
   ended_later Absent gains = tt
   ended_later Stopped gains = tt
   ended_later (Refused (Unwritten sink.Certificate)) gains = absurd gains
+  ended_later (Refused (Unwritten sink.Plan)) gains = absurd gains
   ended_later (Refused (Unwritten sink.Out)) part = λ is. absurd is
   ended_later (Refused Memory) gains = absurd gains
   ended_later (Refused NoMark) gains = absurd gains
@@ -122,6 +131,7 @@ module _ (text : List ℕ) (old new : Option (List ℕ)) (Holds : Type 0) where
   ended_later (Refused (StatedDelay d)) gains = absurd gains
   ended_later (Refused TooFewNodes) gains = absurd gains
   ended_later (Refused (TooManySlots count)) gains = absurd gains
+  ended_later (Refused (NoSuchProcess k)) gains = absurd gains
   ended_later (Refused (CertificateText error)) gains = absurd gains
   ended_later (Refused (Certificate fault)) gains = absurd gains
   ended_later (Refused (WrongLoss k)) gains = absurd gains

@@ -9,7 +9,7 @@ use Rattle.command_streams.specs.declared.input.Stop.TheVariants.{OverLimit}
 use Rattle.command_streams.specs.declared.ending.Source.{Source}
 use Rattle.command_streams.specs.declared.ending.Source.TheVariants as source
 use Rattle.command_streams.specs.declared.ending.Fault.{Fault}
-use Rattle.command_streams.specs.declared.ending.Fault.TheVariants.{NoMark, LossForm, InstanceText, Memory, PlanText, Plan, StatedDelay, CertificateText, Certificate, TooFewNodes, WrongLoss, TooManySlots, Search, TooLong, Unread, Unwritten}
+use Rattle.command_streams.specs.declared.ending.Fault.TheVariants.{NoMark, LossForm, InstanceText, Memory, PlanText, Plan, StatedDelay, CertificateText, Certificate, TooFewNodes, WrongLoss, NoSuchProcess, TooManySlots, Search, TooLong, Unread, Unwritten}
 use Rattle.command_streams.specs.Endings.{IsNotOfTexts}
 use Rattle.command_streams.specs.Limits.{instance_limit}
 use Rattle.command_streams.specs.Instances.{HasInstance, IsInstanceFault}
@@ -53,6 +53,7 @@ module _ (Holds : Fault → Type 0) (of : Source) (limit : ℕ) (known : Option 
   by_read_fault (Certificate fault) is = absurd is
   by_read_fault TooFewNodes is = absurd is
   by_read_fault (TooManySlots count) is = absurd is
+  by_read_fault (NoSuchProcess k) is = absurd is
   by_read_fault (WrongLoss k) is = absurd is
   by_read_fault (Search fault) is = absurd is
   by_read_fault (Unwritten sink) is = absurd is

@@ -35,7 +35,7 @@ use Rattle.command_streams.specs.declared.ending.Sink.TheVariants as sink
 use Rattle.command_streams.specs.declared.ending.SearchFault.{SearchFault}
 use Rattle.command_streams.specs.declared.ending.SearchFault.TheVariants as search
 use Rattle.command_streams.specs.declared.ending.Fault.{Fault}
-use Rattle.command_streams.specs.declared.ending.Fault.TheVariants.{NoMark, LossForm, InstanceText, Memory, PlanText, Plan, StatedDelay, CertificateText, Certificate, TooFewNodes, WrongLoss, TooManySlots, Search, TooLong, Unread, Unwritten}
+use Rattle.command_streams.specs.declared.ending.Fault.TheVariants.{NoMark, LossForm, InstanceText, Memory, PlanText, Plan, StatedDelay, CertificateText, Certificate, TooFewNodes, WrongLoss, NoSuchProcess, TooManySlots, Search, TooLong, Unread, Unwritten}
 use Rattle.command_streams.specs.declared.ending.End.{End}
 use Rattle.command_streams.specs.declared.ending.End.TheVariants.{Done, Absent, Stopped, Refused}
 
@@ -176,6 +176,7 @@ source_word source.Certificate = codes "certificate"
 -- the word for what could not be written
 abbrev pub sink_word : Sink → List ℕ
 sink_word sink.Certificate = codes "certificate"
+sink_word sink.Plan = codes "plan"
 sink_word sink.Out = codes "out"
 
 -- the line of every fault, without its end
@@ -191,6 +192,7 @@ fault_line (CertificateText error) = certificate_text_line error
 fault_line (Certificate fault) = certificate_line fault
 fault_line TooFewNodes = codes "replay N1"
 fault_line (TooManySlots count) = codes "draw slots " ++ decimal count
+fault_line (NoSuchProcess k) = codes "limit name " ++ decimal k
 fault_line (WrongLoss k) = codes "replay N2 " ++ decimal k
 fault_line (Search fault) = search_line fault
 fault_line (Unread source) = codes "read " ++ source_word source

@@ -23,6 +23,8 @@ pub enum Source {
 #[derive(Clone, Copy, Debug, PartialEq, Eq)]
 pub enum Sink {
     Certificate,
+    /// The file of the best plan so far.
+    Plan,
     Out,
 }
 
@@ -61,6 +63,8 @@ pub enum Fault {
     /// When the loss word of this index stands for a loss that is outside the cycle, or at a node that isn't
     /// there or is the sender, and no word before it does.
     WrongLoss(usize),
+    /// When the word of this index names no process, or one that a word before it names.
+    NoSuchProcess(usize),
     /// When a picture would show this many slots, more than it may.
     TooManySlots(u64),
     /// When the search has no answer.
@@ -131,6 +135,7 @@ fn status_of_fault(fault: &Fault) -> u8
         Fault::Certificate(_) => 5,
         Fault::TooFewNodes => 5,
         Fault::WrongLoss(_) => 5,
+        Fault::NoSuchProcess(_) => 5,
         Fault::TooManySlots(_) => 5,
         Fault::Search(SearchFault::Memory) => 4,
         Fault::Search(_) => 7,

@@ -307,6 +307,7 @@ impl fmt::Display for SinkWord {
     fn fmt<W: fmt::Write>(&self, f: &mut fmt::Formatter<W>) -> fmt::Result {
         match self.0 {
             Sink::Certificate => write!(f, "certificate"),
+            Sink::Plan => write!(f, "plan"),
             Sink::Out => write!(f, "out"),
         }
     }
@@ -328,6 +329,7 @@ impl fmt::Display for Fault {
             Fault::Certificate(fault) => write!(f, "{}", CertificateLine(*fault)),
             Fault::TooFewNodes => write!(f, "replay N1"),
             Fault::WrongLoss(k) => write!(f, "replay N2 {k}"),
+            Fault::NoSuchProcess(k) => write!(f, "limit name {k}"),
             Fault::TooManySlots(count) => write!(f, "draw slots {count}"),
             Fault::Search(fault) => write!(f, "{}", SearchLine(*fault)),
             Fault::Unread(source) | Fault::TooLong(source) => {

@@ -6,7 +6,7 @@ use Rattle.command_streams.specs.Outcomes.{IsCommandAnswer, IsWriting, OnDone}
 use Rattle.command_streams.specs.declared.ending.End.{End}
 use Rattle.command_streams.specs.declared.ending.Source.TheVariants as source
 use Rattle.command_streams.specs.declared.ending.Fault.{Fault}
-use Rattle.command_streams.specs.declared.ending.Fault.TheVariants.{NoMark, LossForm, InstanceText, Memory, PlanText, Plan, StatedDelay, CertificateText, Certificate, TooFewNodes, WrongLoss, TooManySlots, Search, TooLong, Unread, Unwritten}
+use Rattle.command_streams.specs.declared.ending.Fault.TheVariants.{NoMark, LossForm, InstanceText, Memory, PlanText, Plan, StatedDelay, CertificateText, Certificate, TooFewNodes, WrongLoss, NoSuchProcess, TooManySlots, Search, TooLong, Unread, Unwritten}
 use Rattle.command_streams.proofs.Outcomes.{written_outcome}
 use Rattle.explain_command.specs.declared.instances.Stated.{Stated}
 use Rattle.explain_command.specs.declared.instances.Stated.TheVariants.{Instance as Of}
@@ -54,6 +54,7 @@ plan_untold i p problem (CertificateText error) has is = absurd is
 plan_untold i p problem (Certificate fault) has is = absurd is
 plan_untold i p problem TooFewNodes has is = absurd is
 plan_untold i p problem (TooManySlots count) has is = absurd is
+plan_untold i p problem (NoSuchProcess k) has is = absurd is
 plan_untold i p problem (WrongLoss k) has is = absurd is
 plan_untold i p problem (Search fault) has is = absurd is
 plan_untold i p problem (Unwritten sink) has is = absurd is
@@ -82,6 +83,7 @@ certificate_untold i c problem (CertificateText error) has is = absurd is
 certificate_untold i c problem (Certificate fault) has is = absurd is
 certificate_untold i c problem TooFewNodes has is = absurd is
 certificate_untold i c problem (TooManySlots count) has is = absurd is
+certificate_untold i c problem (NoSuchProcess k) has is = absurd is
 certificate_untold i c problem (WrongLoss k) has is = absurd is
 certificate_untold i c problem (Search fault) has is = absurd is
 certificate_untold i c problem (Unwritten sink) has is = absurd is

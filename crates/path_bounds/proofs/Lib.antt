@@ -1,3 +1,2 @@
 pub mod Appended
-pub mod Walks
 pub use Rattle.step_logs.proofs.Complete

@@ -1,5 +1,4 @@
 pub mod Propagation
-pub mod Walks
 pub use Rattle.ttp_model.specs.Instance
 pub use Rattle.ttp_model.specs.Rules
 pub use Rattle.ttp_model.specs.Chains

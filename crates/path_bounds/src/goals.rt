@@ -5,9 +5,9 @@ ghost use Rattle.ttp_model.specs.Chains.{IsPathBound};
 ghost use Rattle.tt_choice.specs.Choice.{IsChoice};
 ghost use Rattle.tt_infer.specs.Leaves.{ClosesLeaf};
 
-use crate::chains::path_bound;
 use crate::propagation::propagate;
 use crate::reached::Reached;
+use longest_chains::path_bound;
 use std::alloc::Global;
 use step_logs::{Journal, closed_leaf};
 use tt_choice::Choice;

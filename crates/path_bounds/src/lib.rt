@@ -1,13 +1,12 @@
 //! Bounds on the plans of a choice, with the steps that lead to them.
 #![tactic(auto)]
 
-mod chains;
 mod goals;
 mod propagation;
 mod reached;
 
-pub use chains::path_bound;
 pub use goals::{best_goal, leaf_by};
+pub use longest_chains::path_bound;
 pub use propagation::propagate;
 pub use reached::Reached;
 pub use step_logs::{Propagator, Supposition, closed_leaf};

@@ -3,7 +3,7 @@ use Rattle.std.proofs.Common.{ℕ, List, Option, None, Some, IfSome, refl}
 use Rattle.ttp_model.specs.Instance.{Instance}
 use Rattle.command_streams.specs.declared.ending.Source.TheVariants as source
 use Rattle.command_streams.specs.declared.ending.Fault.{Fault}
-use Rattle.command_streams.specs.declared.ending.Fault.TheVariants.{NoMark, LossForm, InstanceText, Memory, PlanText, Plan, StatedDelay, CertificateText, Certificate, TooFewNodes, WrongLoss, TooManySlots, Search, TooLong, Unread, Unwritten}
+use Rattle.command_streams.specs.declared.ending.Fault.TheVariants.{NoMark, LossForm, InstanceText, Memory, PlanText, Plan, StatedDelay, CertificateText, Certificate, TooFewNodes, WrongLoss, NoSuchProcess, TooManySlots, Search, TooLong, Unread, Unwritten}
 use Rattle.command_streams.specs.declared.ending.End.{End}
 use Rattle.command_streams.specs.declared.ending.End.TheVariants.{Refused}
 use Rattle.command_streams.specs.Outcomes.{IsWritingUnlessMemory}
@@ -34,6 +34,7 @@ module _ (instance certificate : List ℕ) (i : Instance) (has : HasInstance ins
   refused_here (StatedDelay d) refused = absurd refused
   refused_here TooFewNodes refused = absurd refused
   refused_here (TooManySlots count) refused = absurd refused
+  refused_here (NoSuchProcess k) refused = absurd refused
   refused_here (WrongLoss k) refused = absurd refused
   refused_here (Search fault) refused = absurd refused
   refused_here (Unread source.Instance) refused = absurd refused

@@ -3,7 +3,7 @@ use Rattle.std.proofs.Common.{ℕ, List, Option, None, Some, IfSome}
 use Rattle.plan_picture.specs.declared.picture.Shown.{Shown}
 use Rattle.plan_commands.specs.declared.verdict.Verified.{Verified}
 use Rattle.command_streams.specs.declared.ending.Fault.{Fault}
-use Rattle.command_streams.specs.declared.ending.Fault.TheVariants.{NoMark, LossForm, InstanceText, Memory, PlanText, Plan, StatedDelay, CertificateText, Certificate, TooFewNodes, WrongLoss, TooManySlots, Search, TooLong, Unread, Unwritten}
+use Rattle.command_streams.specs.declared.ending.Fault.TheVariants.{NoMark, LossForm, InstanceText, Memory, PlanText, Plan, StatedDelay, CertificateText, Certificate, TooFewNodes, WrongLoss, NoSuchProcess, TooManySlots, Search, TooLong, Unread, Unwritten}
 use Rattle.command_streams.specs.declared.ending.End.{End}
 use Rattle.command_streams.specs.declared.ending.End.TheVariants.{Refused}
 use Rattle.command_streams.specs.Outcomes.{IsCommandAnswer, OnDone}
@@ -25,6 +25,7 @@ module _ (shown : Shown) (instance plan : List ℕ) where
   as_drawn TooFewNodes refused = refused
   as_drawn (WrongLoss k) refused = refused
   as_drawn (TooManySlots count) refused = absurd refused
+  as_drawn (NoSuchProcess k) refused = absurd refused
   as_drawn (Search fault) refused = refused
   as_drawn (Unread source) refused = refused
   as_drawn (TooLong source) refused = refused
@@ -42,6 +43,7 @@ module _ (width : ℕ) (shown : Shown) where
   too_large : (instance plan : List ℕ) (v : Verified) → IsVerified instance plan v → (fault : Fault) → IsUndrawn shown v.instance v.plan fault → IsDrawRefused shown instance plan fault
   too_large instance plan v is Memory why = tt
   too_large instance plan v is (TooManySlots count) why = record { verified = v; is = is; many = why }
+  too_large instance plan v is (NoSuchProcess k) why = absurd why
   too_large instance plan v is NoMark why = absurd why
   too_large instance plan v is (LossForm k) why = absurd why
   too_large instance plan v is (InstanceText error) why = absurd why

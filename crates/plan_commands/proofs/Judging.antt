@@ -4,7 +4,7 @@ use Rattle.std.specs.Io.KnownBytes.{Appends}
 use Rattle.ttp_model.specs.Instance.{Instance}
 use Rattle.command_streams.specs.declared.ending.Source.TheVariants as source
 use Rattle.command_streams.specs.declared.ending.Fault.{Fault}
-use Rattle.command_streams.specs.declared.ending.Fault.TheVariants.{NoMark, LossForm, InstanceText, Memory, PlanText, Plan, StatedDelay, CertificateText, Certificate, TooFewNodes, WrongLoss, TooManySlots, Search, TooLong, Unread, Unwritten}
+use Rattle.command_streams.specs.declared.ending.Fault.TheVariants.{NoMark, LossForm, InstanceText, Memory, PlanText, Plan, StatedDelay, CertificateText, Certificate, TooFewNodes, WrongLoss, NoSuchProcess, TooManySlots, Search, TooLong, Unread, Unwritten}
 use Rattle.command_streams.specs.declared.ending.End.{End}
 use Rattle.command_streams.specs.declared.ending.End.TheVariants.{Refused}
 use Rattle.command_streams.specs.Instances.{HasInstance}
@@ -78,6 +78,7 @@ module _ (instance plan certificate : List ℕ) (old : Option (List ℕ)) where
   unstanding (Certificate fault) is = absurd is
   unstanding TooFewNodes is = absurd is
   unstanding (TooManySlots count) is = absurd is
+  unstanding (NoSuchProcess k) is = absurd is
   unstanding (WrongLoss k) is = absurd is
   unstanding (Search fault) is = absurd is
   unstanding (Unwritten sink) is = absurd is
@@ -97,6 +98,7 @@ module _ (instance plan certificate : List ℕ) (old : Option (List ℕ)) where
   unbounded i best has stands (StatedDelay d) refused = absurd refused
   unbounded i best has stands TooFewNodes refused = absurd refused
   unbounded i best has stands (TooManySlots count) refused = absurd refused
+  unbounded i best has stands (NoSuchProcess k) refused = absurd refused
   unbounded i best has stands (WrongLoss k) refused = absurd refused
   unbounded i best has stands (Search fault) refused = absurd refused
   unbounded i best has stands (Unread source.Instance) refused = absurd refused

@@ -4,7 +4,7 @@ use Rattle.std.proofs.lemmas.List.{get_or_append_left, take-append-le, drop-appe
 use Rattle.command_streams.specs.declared.input.Taken.{Taken}
 use Rattle.command_streams.specs.declared.input.Stop.TheVariants.{AtEnd}
 use Rattle.command_streams.specs.declared.ending.Fault.{Fault}
-use Rattle.command_streams.specs.declared.ending.Fault.TheVariants.{NoMark, LossForm, InstanceText, Memory, PlanText, Plan, StatedDelay, CertificateText, Certificate, TooFewNodes, WrongLoss, TooManySlots, Search, TooLong, Unread, Unwritten}
+use Rattle.command_streams.specs.declared.ending.Fault.TheVariants.{NoMark, LossForm, InstanceText, Memory, PlanText, Plan, StatedDelay, CertificateText, Certificate, TooFewNodes, WrongLoss, NoSuchProcess, TooManySlots, Search, TooLong, Unread, Unwritten}
 use Rattle.command_streams.specs.declared.ending.Source.TheVariants as source
 use Rattle.ttp_model.specs.Instance.{Instance}
 use Rattle.command_streams.specs.Streams.{IsTaken}
@@ -64,6 +64,7 @@ module _ (limit : ℕ) (taken : Taken) (all : List ℕ) (at : ℕ) (is_taken : I
   refused_front (LossForm k) refused = absurd refused
   refused_front TooFewNodes refused = absurd refused
   refused_front (TooManySlots count) refused = absurd refused
+  refused_front (NoSuchProcess k) refused = absurd refused
   refused_front (CertificateText error) refused = absurd refused
   refused_front (Certificate fault) refused = absurd refused
   refused_front (WrongLoss k) refused = absurd refused
@@ -128,6 +129,7 @@ module _ (limit : ℕ) (taken : Taken) (all : List ℕ) (at : ℕ) (is_taken : I
     refused_all (LossForm k) refused = absurd refused
     refused_all TooFewNodes refused = absurd refused
     refused_all (TooManySlots count) refused = absurd refused
+    refused_all (NoSuchProcess k) refused = absurd refused
     refused_all (CertificateText error) refused = absurd refused
     refused_all (Certificate fault) refused = absurd refused
     refused_all (WrongLoss k) refused = absurd refused

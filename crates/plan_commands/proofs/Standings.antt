@@ -7,7 +7,7 @@ use Rattle.plan_format.specs.declared.fault.PlanTextError.{PlanTextError}
 use Rattle.plan_format.specs.declared.fault.PlanTextError.TheVariants.{At, OutOfMemory}
 use Rattle.command_streams.specs.declared.ending.Source.TheVariants as source
 use Rattle.command_streams.specs.declared.ending.Fault.{Fault}
-use Rattle.command_streams.specs.declared.ending.Fault.TheVariants.{NoMark, LossForm, InstanceText, Memory, PlanText, Plan, StatedDelay, CertificateText, Certificate, TooFewNodes, WrongLoss, TooManySlots, Search, TooLong, Unread, Unwritten}
+use Rattle.command_streams.specs.declared.ending.Fault.TheVariants.{NoMark, LossForm, InstanceText, Memory, PlanText, Plan, StatedDelay, CertificateText, Certificate, TooFewNodes, WrongLoss, NoSuchProcess, TooManySlots, Search, TooLong, Unread, Unwritten}
 use Rattle.command_streams.specs.Limits.{plan_limit}
 use Rattle.command_streams.specs.Streams.{IsReadFault}
 use Rattle.command_streams.specs.Instances.{HasInstance, StatesSome}
@@ -42,6 +42,7 @@ by_kind Holds text broken misstated (CertificateText error) is = absurd is
 by_kind Holds text broken misstated (Certificate fault) is = absurd is
 by_kind Holds text broken misstated TooFewNodes is = absurd is
 by_kind Holds text broken misstated (TooManySlots count) is = absurd is
+by_kind Holds text broken misstated (NoSuchProcess k) is = absurd is
 by_kind Holds text broken misstated (WrongLoss k) is = absurd is
 by_kind Holds text broken misstated (Search fault) is = absurd is
 by_kind Holds text broken misstated (Unread source) is = absurd is
@@ -61,6 +62,7 @@ module _ (i : Instance) (text : List ℕ) where
   plan_kind (Certificate fault) refused = refused
   plan_kind TooFewNodes refused = refused
   plan_kind (TooManySlots count) refused = refused
+  plan_kind (NoSuchProcess k) refused = refused
   plan_kind (WrongLoss k) refused = refused
   plan_kind (Search fault) refused = refused
   plan_kind (Unread source) refused = refused

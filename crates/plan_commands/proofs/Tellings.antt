@@ -7,7 +7,7 @@ use Rattle.plan_commands.specs.declared.verdict.Verified.{Verified}
 use Rattle.command_streams.specs.declared.ending.Sink.TheVariants as sink
 use Rattle.command_streams.specs.declared.ending.Source.TheVariants as source
 use Rattle.command_streams.specs.declared.ending.Fault.{Fault}
-use Rattle.command_streams.specs.declared.ending.Fault.TheVariants.{NoMark, LossForm, InstanceText, Memory, PlanText, Plan, StatedDelay, CertificateText, Certificate, TooFewNodes, WrongLoss, TooManySlots, Search, TooLong, Unread, Unwritten}
+use Rattle.command_streams.specs.declared.ending.Fault.TheVariants.{NoMark, LossForm, InstanceText, Memory, PlanText, Plan, StatedDelay, CertificateText, Certificate, TooFewNodes, WrongLoss, NoSuchProcess, TooManySlots, Search, TooLong, Unread, Unwritten}
 use Rattle.command_streams.specs.declared.ending.End.{End}
 use Rattle.command_streams.specs.declared.ending.End.TheVariants.{Done, Absent, Stopped, Refused}
 use Rattle.command_streams.specs.Outcomes.{IfRefused, IsCommandAnswer, IsWriting, IsWritingUnlessMemory, OnDone}
@@ -33,6 +33,7 @@ module _ (instance plan : List ℕ) (i : Instance) (has_instance : HasInstance i
   refused_with Memory refused = tt
   refused_with TooFewNodes refused = absurd refused
   refused_with (TooManySlots count) refused = absurd refused
+  refused_with (NoSuchProcess k) refused = absurd refused
   refused_with (CertificateText error) refused = absurd refused
   refused_with (Certificate fault) refused = absurd refused
   refused_with (WrongLoss k) refused = absurd refused
@@ -98,6 +99,7 @@ module _ (IsText Tells : List ℕ → Type 0) (told : (text : List ℕ) → IsTe
     answered Stopped written = absurd written.is
     answered (Refused (Unwritten sink.Out)) cut = record { at = cut.at; text = cut.text; is = told_at cut.at cut.text cut.is; part = cut.part }
     answered (Refused (Unwritten sink.Certificate)) why = (refused _ why.0, why.1)
+    answered (Refused (Unwritten sink.Plan)) why = (refused _ why.0, why.1)
     answered (Refused NoMark) why = (refused _ why.0, why.1)
     answered (Refused (LossForm k)) why = (refused _ why.0, why.1)
     answered (Refused (InstanceText error)) why = (refused _ why.0, why.1)
@@ -109,6 +111,7 @@ module _ (IsText Tells : List ℕ → Type 0) (told : (text : List ℕ) → IsTe
     answered (Refused (Certificate fault)) why = (refused _ why.0, why.1)
     answered (Refused TooFewNodes) why = (refused _ why.0, why.1)
     answered (Refused (TooManySlots count)) why = (refused _ why.0, why.1)
+    answered (Refused (NoSuchProcess k)) why = (refused _ why.0, why.1)
     answered (Refused (WrongLoss k)) why = (refused _ why.0, why.1)
     answered (Refused (Search fault)) why = (refused _ why.0, why.1)
     answered (Refused (Unread source)) why = (refused _ why.0, why.1)
@@ -136,11 +139,13 @@ module _ (IsTextAt : End → List ℕ → Type 0) (IsRefusedBy : Fault → Type 
   refused_outcome (Certificate fault) refused = (refused, keeps old)
   refused_outcome TooFewNodes refused = (refused, keeps old)
   refused_outcome (TooManySlots count) refused = (refused, keeps old)
+  refused_outcome (NoSuchProcess k) refused = (refused, keeps old)
   refused_outcome (WrongLoss k) refused = (refused, keeps old)
   refused_outcome (Search fault) refused = (refused, keeps old)
   refused_outcome (Unread source) refused = (refused, keeps old)
   refused_outcome (TooLong source) refused = (refused, keeps old)
   refused_outcome (Unwritten sink.Certificate) refused = (refused, keeps old)
+  refused_outcome (Unwritten sink.Plan) refused = (refused, keeps old)
 
 pub refused_of_readers : (IsTextAt : List ℕ → List ℕ → End → List ℕ → Type 0) (a b old : Option (List ℕ)) (fault : Fault) → IfSome a (λ instance. IfSome b (λ plan. IsRefused instance plan fault)) → IfSome a (λ instance. IfSome b (λ plan. IsCommandAnswer (IsTextAt instance plan) (IsRefused instance plan) old old (Refused fault)))
 refused_of_readers IsTextAt None b old fault refused = tt

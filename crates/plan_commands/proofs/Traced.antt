@@ -12,7 +12,7 @@ use Rattle.plan_commands.specs.declared.losses.LossWord.{LossWord}
 use Rattle.plan_commands.specs.declared.verdict.Verified.{Verified}
 use Rattle.command_streams.specs.declared.ending.Source.TheVariants as source
 use Rattle.command_streams.specs.declared.ending.Fault.{Fault}
-use Rattle.command_streams.specs.declared.ending.Fault.TheVariants.{NoMark, LossForm, InstanceText, Memory, PlanText, Plan, StatedDelay, CertificateText, Certificate, TooFewNodes, WrongLoss, TooManySlots, Search, TooLong, Unread, Unwritten}
+use Rattle.command_streams.specs.declared.ending.Fault.TheVariants.{NoMark, LossForm, InstanceText, Memory, PlanText, Plan, StatedDelay, CertificateText, Certificate, TooFewNodes, WrongLoss, NoSuchProcess, TooManySlots, Search, TooLong, Unread, Unwritten}
 use Rattle.command_streams.specs.declared.ending.End.TheVariants.{Refused}
 use Rattle.plan_commands.specs.LossWords.{AllSpell, AreLossWords, HasNodes, IsWordOfLoss, losses_of_words}
 use Rattle.plan_commands.specs.Traces.{IsReplayAnswer, IsTraceFault}
@@ -40,6 +40,7 @@ module _ (words : List (List ℕ)) (instance plan : List ℕ) (old : Option (Lis
   as_verdict (LossForm k) are refused = absurd refused
   as_verdict TooFewNodes are refused = absurd refused
   as_verdict (TooManySlots count) are refused = absurd refused
+  as_verdict (NoSuchProcess k) are refused = absurd refused
   as_verdict (CertificateText error) are refused = absurd refused
   as_verdict (Certificate fault) are refused = absurd refused
   as_verdict (WrongLoss k) are refused = absurd refused
@@ -61,6 +62,7 @@ module _ (words : List (List ℕ)) (instance plan : List ℕ) (old : Option (Lis
   as_trace losses v NoMark all is refused = absurd refused
   as_trace losses v (LossForm k) all is refused = absurd refused
   as_trace losses v (TooManySlots count) all is refused = absurd refused
+  as_trace losses v (NoSuchProcess k) all is refused = absurd refused
   as_trace losses v (Search fault) all is refused = absurd refused
   as_trace losses v (Unwritten sink) all is refused = absurd refused
   as_trace losses v (Unread source) all is refused = absurd refused

@@ -12,7 +12,7 @@ use Rattle.command_streams.specs.Limits.{instance_limit, plan_limit}
 use Rattle.plan_commands.specs.declared.verdict.Verified.{Verified}
 use Rattle.command_streams.specs.declared.ending.Source.TheVariants as source
 use Rattle.command_streams.specs.declared.ending.Fault.{Fault}
-use Rattle.command_streams.specs.declared.ending.Fault.TheVariants.{NoMark, LossForm, InstanceText, Memory, PlanText, Plan, StatedDelay, CertificateText, Certificate, TooFewNodes, WrongLoss, TooManySlots, Search, TooLong, Unread, Unwritten}
+use Rattle.command_streams.specs.declared.ending.Fault.TheVariants.{NoMark, LossForm, InstanceText, Memory, PlanText, Plan, StatedDelay, CertificateText, Certificate, TooFewNodes, WrongLoss, NoSuchProcess, TooManySlots, Search, TooLong, Unread, Unwritten}
 use Rattle.command_streams.specs.declared.ending.End.{End}
 use Rattle.command_streams.specs.Outcomes.{IsCommandAnswer, OnDone}
 use Rattle.command_streams.specs.Instances.{HasInstance, IsInstanceFault, StatesSome}
@@ -83,6 +83,7 @@ IsRefused instance plan (CertificateText error) = ⊥
 IsRefused instance plan (Certificate fault) = ⊥
 IsRefused instance plan TooFewNodes = ⊥
 IsRefused instance plan (TooManySlots count) = ⊥
+IsRefused instance plan (NoSuchProcess k) = ⊥
 IsRefused instance plan (WrongLoss k) = ⊥
 IsRefused instance plan (Search fault) = ⊥
 IsRefused instance plan (Unwritten sink) = ⊥

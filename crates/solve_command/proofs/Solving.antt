@@ -8,7 +8,7 @@ use Rattle.planner.specs.Answers as answers
 use Rattle.solve_command.specs.declared.solve.Solved.{Solved}
 use Rattle.command_streams.specs.declared.ending.Sink.TheVariants as sink
 use Rattle.command_streams.specs.declared.ending.Fault.{Fault}
-use Rattle.command_streams.specs.declared.ending.Fault.TheVariants.{NoMark, LossForm, InstanceText, Memory, PlanText, Plan, StatedDelay, CertificateText, Certificate, TooFewNodes, WrongLoss, TooManySlots, Search, TooLong, Unread, Unwritten}
+use Rattle.command_streams.specs.declared.ending.Fault.TheVariants.{NoMark, LossForm, InstanceText, Memory, PlanText, Plan, StatedDelay, CertificateText, Certificate, TooFewNodes, WrongLoss, NoSuchProcess, TooManySlots, Search, TooLong, Unread, Unwritten}
 use Rattle.command_streams.specs.declared.ending.End.{End}
 use Rattle.command_streams.specs.declared.ending.End.TheVariants.{Refused}
 use Rattle.command_streams.specs.Outcomes.{IsCommandAnswer}
@@ -43,6 +43,7 @@ module _ (bytes : List ℕ) (options : Options) (until : Option ℕ) where
     unfolding IsSolveAnswer
     uncertified Memory kept = ((tt, kept), keeps old)
     uncertified (Unwritten sink.Certificate) part = (record { is_wanted = refl; solved = solved; is = is; part = part }, keeps old)
+    uncertified (Unwritten sink.Plan) never = absurd never
     uncertified (Unwritten sink.Out) never = absurd never
     uncertified NoMark never = absurd never
     uncertified (LossForm k) never = absurd never
@@ -54,6 +55,7 @@ module _ (bytes : List ℕ) (options : Options) (until : Option ℕ) where
     uncertified (Certificate fault) never = absurd never
     uncertified TooFewNodes never = absurd never
     uncertified (TooManySlots count) never = absurd never
+    uncertified (NoSuchProcess k) never = absurd never
     uncertified (WrongLoss k) never = absurd never
     uncertified (Search fault) never = absurd never
     uncertified (Unread source) never = absurd never

@@ -1,6 +1,6 @@
 use Rattle.std.proofs.Common.{◌≡◌, ℕ, ◌+◌, ◌<◌, length, slice_index}
 use Rattle.ttp_model.specs.Instance.{process_at}
-use Rattle.path_bounds.proofs.chains.first_ends.Given as goal
+use Rattle.longest_chains.proofs.chains.first_ends.Given as goal
 
 abbrev pub invariant-loop-p : goal.invariant-loop-p
 invariant-loop-p l = record {

@@ -1,7 +1,7 @@
 use Rattle.std.proofs.Common.{ℕ, ◌+◌, ◌<◌, ◌≤◌, slice_index}
 use Rattle.ttp_model.specs.Instance.{link_at, process_at}
-use Rattle.path_bounds.specs.Walks.{AreChainEnds, AreKept}
-use Rattle.path_bounds.proofs.chains.follow_links.Given as goal
+use Rattle.longest_chains.specs.Walks.{AreChainEnds, AreKept}
+use Rattle.longest_chains.proofs.chains.follow_links.Given as goal
 
 abbrev pub invariant-loop-l : goal.invariant-loop-l
 invariant-loop-l l = record {

@@ -1,11 +1,12 @@
-//! How early can chains of links and messages end, whatever the plan?
+//! What do the longest chains of links and messages add up to?
 
 ghost use Rattle.std.specs.Prelude.{◌≡◌, ℕ, ◌+◌, ◌^◌, ◌<◌, ◌≤◌, max, slice_set, slice_index, Contains, IfOk, length};
 ghost use Rattle.ttp_model.specs.Instance.{process_at, message_at, source_of};
 ghost use Rattle.ttp_model.specs.Graph.{HasLink, HasMessage};
 ghost use Rattle.ttp_model.specs.Chains.{IsPathBound, least_transfer};
 ghost use Rattle.sought_plans.specs.Premises.{Receives};
-ghost use Rattle.path_bounds.specs.Walks.{AreChainEnds, AreEnds, AreKept};
+ghost use Rattle.longest_chains.specs.Longest.{AreLongest};
+ghost use Rattle.longest_chains.specs.Walks.{AreChainEnds, AreEnds, AreKept};
 
 use std::alloc::Global;
 use ttp_model::{Instance, MemoryFault, slot_duration};
@@ -16,12 +17,22 @@ use ttp_model::{Instance, MemoryFault, slot_duration};
 pub fn path_bound(alloc: Global, instance: &Instance) -> Result<u32, MemoryFault>
     ensures { IfOk result (IsPathBound instance.now) }
 {
+    let ends = longest_chains(alloc, instance)?;
+    let _nodes = instance.nodes();
+    Ok(latest(ends.as_slice()) as u32)
+}
+
+/// By process the greatest sum along a chain that ends with it, in ticks: in no valid plan it ends earlier.
+/// A pass over links and messages for each process.
+pub fn longest_chains(alloc: Global, instance: &Instance) -> Result<Vec<u64>, MemoryFault>
+    ensures { IfOk result (λ ends. AreLongest instance.now ends.items) }
+{
     let mut ends = first_ends(alloc, instance)?;
     let count = instance.processes().len();
     for round in 0..count {
         follow(instance, &mut ends);
     }
-    Ok(latest(ends.as_slice()) as u32)
+    Ok(ends)
 }
 
 /// When each process ends that has its chain alone.

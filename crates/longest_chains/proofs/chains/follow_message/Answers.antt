@@ -3,9 +3,8 @@ use Rattle.ttp_model.specs.Instance.{process_at, message_at, source_of}
 use Rattle.ttp_model.specs.Chains.{least_transfer}
 use Rattle.ttp_model.specs.declared.parts.Process.{Process}
 use Rattle.ttp_model.specs.declared.parts.Message.{Message}
-use Rattle.step_logs.proofs.Lists.{from_places}
-use Rattle.path_bounds.proofs.Walks.{end_small, receiver_followed}
-use Rattle.path_bounds.proofs.chains.follow_message.Goals as goal
+use Rattle.longest_chains.proofs.Walks.{end_small, from_places, receiver_followed}
+use Rattle.longest_chains.proofs.chains.follow_message.Goals as goal
 
 pub overflow_add-arrival : goal.overflow_add-arrival
 overflow_add-arrival c =

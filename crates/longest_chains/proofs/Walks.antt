@@ -1,5 +1,5 @@
 -- Chains are few, so that one that no other exceeds can be found.
-use Rattle.std.proofs.Common.{◌≡◌, ℕ, ◌+◌, ◌*◌, ◌^◌, ◌<◌, ◌≤◌, max, List, length, slice_index, slice_set, get_or, arith, inl, inr, refl, ap, sym, ◌∙◌, get_or-set_same, get_or-set_other, length-set}
+use Rattle.std.proofs.Common.{Contains, subst, ◌≡◌, ℕ, ◌+◌, ◌*◌, ◌^◌, ◌<◌, ◌≤◌, max, List, length, slice_index, slice_set, get_or, arith, inl, inr, refl, ap, sym, ◌∙◌, get_or-set_same, get_or-set_other, length-set}
 use Rattle.std.proofs.Math.Nat.{mul-le-mul}
 use Rattle.std.proofs.lemmas.Bool.{cases_eq}
 use Rattle.std.proofs.lemmas.Grind.{get_or_default_zero}
@@ -14,7 +14,8 @@ use Rattle.ttp_model.specs.Chains.{ChainEnds, one, by_link, by_message, least_tr
 use Rattle.ttp_model.specs.Walks.{Chain, first, on_link, on_message}
 use Rattle.ttp_model.proofs.Walks.{link_inside, message_inside, chain_some, chain_few, chain_inside, to_chain}
 use Rattle.sought_plans.specs.Premises.{Receives}
-use Rattle.path_bounds.specs.Walks.{AreChainEnds, AreEnds, AreKept}
+use Rattle.longest_chains.specs.Longest.{AreLongest}
+use Rattle.longest_chains.specs.Walks.{AreChainEnds, AreEnds, AreKept}
 
 -- the least time of a transfer: a slot between two copies
 abbrev pub most_transfer : ℕ
@@ -93,13 +94,25 @@ module _ (i : Instance) (w : IsInstance i) where
           let sent : slice_index between p + least_transfer i (node_of i p) + (process_at i q).wcet ≤ slice_index new q = rw (← message.sender) (messages message.message q (message.is_there, message.receiver)) in
           omega (arith, are.greatest n p time (omega (arith, le)) chain, kept p, sent)
 
-  pub bound_found : (ends : List ℕ) (count k bound : ℕ) → length i.processes ≤ count → AreEnds i count ends → k < length ends → slice_index ends k ≡ bound → ((p : ℕ) → slice_index ends p ≤ bound) → IsPathBound i bound
-  bound_found ends count k bound all are inside is greatest = record {
+  pub longest_found : (ends : List ℕ) (count : ℕ) → length i.processes ≤ count → AreEnds i count ends → AreLongest i ends
+  longest_found ends count all are = record {
+    all = are.chains.all;
+    each = λ p inside. record {
+      reached = are.chains.reached p inside;
+      greatest = λ time chain.
+          let counted = to_chain i p time chain in
+          omega (arith, are.greatest counted.0 p time (omega (arith, chain_few i w counted.0 p time counted.1, all)) counted.1);
+    };
+  }
+
+  pub bound_found : (ends : List ℕ) (k bound : ℕ) → AreLongest i ends → k < length ends → slice_index ends k ≡ bound
+      → ((p : ℕ) → slice_index ends p ≤ bound) → IsPathBound i bound
+  bound_found ends k bound are inside is greatest = record {
     last = k;
-    reached = rw (← is) (are.chains.reached k (omega (arith, inside, are.chains.all)));
+    reached = rw (← is) ((are.each k (omega (arith, inside, are.all))).reached);
     greatest = λ p time chain.
         let counted = to_chain i p time chain in
-        omega (arith, are.greatest counted.0 p time (omega (arith, chain_few i w counted.0 p time counted.1, all)) counted.1, greatest p);
+        omega (arith, (are.each p (chain_inside i w counted.0 p time counted.1)).greatest time chain, greatest p);
   }
 
   -- a time that is read
@@ -149,6 +162,12 @@ module _ (i : Instance) (w : IsInstance i) where
           | inr other ↦ omega (arith, reach j (omega (arith, h, other)), raised_kept ends q (arrival + wcet) (slice_index (message_at i m).receivers j) there)
         ]),
       )
+
+-- what holds at each place holds of each number
+pub from_places : (P : ℕ → Type 0) (xs : List ℕ) → ((k : ℕ) → k < length xs → P (slice_index xs k)) → (q : ℕ) → Contains xs q → P q
+from_places P xs each q has =
+    let here : slice_index xs has.0 ≡ q = sym (get_or_default_zero xs has.0 q has.1) ∙ has.2 in
+    subst P here (each has.0 has.1)
 
 -- the greatest of numbers, with one more
 pub max_reached : (xs : List ℕ) (n best : ℕ) → n < length xs → ((k : ℕ) × (k < length xs) × (slice_index xs k ≡ best)) → (k : ℕ) × (k < length xs) × (slice_index xs k ≡ max best (slice_index xs n))

@@ -1,7 +1,7 @@
 use Rattle.std.proofs.Common.{◌<◌, length, arith, ap, ◌∙◌}
 use Rattle.ttp_model.specs.declared.parts.Process.{Process}
-use Rattle.path_bounds.proofs.Walks.{end_small, link_followed}
-use Rattle.path_bounds.proofs.chains.follow_links.Goals as goal
+use Rattle.longest_chains.proofs.Walks.{end_small, link_followed}
+use Rattle.longest_chains.proofs.chains.follow_links.Goals as goal
 
 pub overflow_add-end : goal.overflow_add-end
 overflow_add-end c =

@@ -1,6 +1,6 @@
 use Rattle.std.proofs.Common.{length, arith, ap}
-use Rattle.path_bounds.proofs.Walks.{ends_first}
-use Rattle.path_bounds.proofs.chains.first_ends.Goals as goal
+use Rattle.longest_chains.proofs.Walks.{ends_first}
+use Rattle.longest_chains.proofs.chains.first_ends.Goals as goal
 
 pub returns : goal.returns
 returns c =

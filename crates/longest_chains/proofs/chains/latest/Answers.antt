@@ -1,6 +1,6 @@
 use Rattle.std.proofs.Common.{arith, below_more}
-use Rattle.path_bounds.proofs.Walks.{max_reached}
-use Rattle.path_bounds.proofs.chains.latest.Goals as goal
+use Rattle.longest_chains.proofs.Walks.{max_reached}
+use Rattle.longest_chains.proofs.chains.latest.Goals as goal
 
 pub loop-end-preserved : goal.loop-end-preserved
 loop-end-preserved c = rw c.max-latest.ensures (record {

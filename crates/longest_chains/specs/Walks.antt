@@ -1,4 +1,4 @@
--- How the path bound is found: by process, and by how many processes chains have. Only private contracts ask for it.
+-- How the longest chains are found: by process, and by how many processes chains have. Only private contracts ask for it.
 use Rattle.std.specs.Prelude.{◌≡◌, ℕ, ◌<◌, ◌≤◌, List, length, slice_index}
 use Rattle.ttp_model.specs.Instance.{Instance}
 use Rattle.ttp_model.specs.Chains.{ChainEnds}

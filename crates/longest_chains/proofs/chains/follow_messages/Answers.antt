@@ -1,7 +1,7 @@
 use Rattle.std.proofs.Common.{arith, inl, inr, length, ap}
 use Rattle.std.proofs.lemmas.Bool.{cases_eq}
 use Rattle.ttp_model.specs.Instance.{message_at}
-use Rattle.path_bounds.proofs.chains.follow_messages.Goals as goal
+use Rattle.longest_chains.proofs.chains.follow_messages.Goals as goal
 
 pub loop-m-preserved : goal.loop-m-preserved
 loop-m-preserved c =

@@ -1,8 +1,8 @@
 use Rattle.std.proofs.Common.{ℕ, ◌+◌, ◌<◌, ◌≤◌, slice_index, Contains}
 use Rattle.ttp_model.specs.Instance.{message_at, process_at, source_of}
 use Rattle.ttp_model.specs.Chains.{least_transfer}
-use Rattle.path_bounds.specs.Walks.{AreChainEnds, AreKept}
-use Rattle.path_bounds.proofs.chains.follow_messages.Given as goal
+use Rattle.longest_chains.specs.Walks.{AreChainEnds, AreKept}
+use Rattle.longest_chains.proofs.chains.follow_messages.Given as goal
 
 abbrev pub invariant-loop-m : goal.invariant-loop-m
 invariant-loop-m l = record {
