@@ -13,7 +13,6 @@ use Rattle.ttp_model.specs.Graph.{HasLink, HasMessage}
 use Rattle.ttp_model.specs.Chains.{ChainEnds, one, by_link, by_message, least_transfer, least_duration, IsPathBound}
 use Rattle.ttp_model.specs.Walks.{Chain, first, on_link, on_message}
 use Rattle.ttp_model.proofs.Walks.{link_inside, message_inside, chain_some, chain_few, chain_inside, to_chain}
-use Rattle.sought_plans.specs.Premises.{Receives}
 use Rattle.longest_chains.specs.Longest.{AreLongest}
 use Rattle.longest_chains.specs.Walks.{AreChainEnds, AreEnds, AreKept}
 
@@ -84,14 +83,14 @@ module _ (i : Instance) (w : IsInstance i) where
       at_most _ _ _ le (on_link n p q time chain link) = absurd (omega (arith, le, chain_some i n p time chain))
       at_most _ _ _ le (on_message n p q time chain message) = absurd (omega (arith, le, chain_some i n p time chain))
 
-  pub ends_next : (count : ℕ) (ends between new : List ℕ) → 1 ≤ count → AreEnds i count ends → AreChainEnds i new → AreKept ends between → ((p q : ℕ) → HasLink i p q → slice_index ends p + (process_at i q).wcet ≤ slice_index between q) → AreKept between new → ((m q : ℕ) → Receives i m q → slice_index between (message_at i m).sender + least_transfer i (node_of i (message_at i m).sender) + (process_at i q).wcet ≤ slice_index new q) → AreEnds i (count + 1) new
+  pub ends_next : (count : ℕ) (ends between new : List ℕ) → 1 ≤ count → AreEnds i count ends → AreChainEnds i new → AreKept ends between → ((p q : ℕ) → HasLink i p q → slice_index ends p + (process_at i q).wcet ≤ slice_index between q) → AreKept between new → ((m q : ℕ) → m < length i.messages → Contains (message_at i m).receivers q → slice_index between (message_at i m).sender + least_transfer i (node_of i (message_at i m).sender) + (process_at i q).wcet ≤ slice_index new q) → AreEnds i (count + 1) new
   ends_next count ends between new some are chains kept links later messages = record { chains = chains; greatest = at_most }
     where
       at_most : (n p time : ℕ) → n ≤ count + 1 → Chain i n p time → time ≤ slice_index new p
       at_most _ _ _ le (first p inside) = omega (arith, are.greatest 1 p _ some (first p inside), kept p, later p)
       at_most _ _ _ le (on_link n p q time chain link) = omega (arith, are.greatest n p time (omega (arith, le)) chain, links p q link, later q)
       at_most _ _ _ le (on_message n p q time chain message) =
-          let sent : slice_index between p + least_transfer i (node_of i p) + (process_at i q).wcet ≤ slice_index new q = rw (← message.sender) (messages message.message q (message.is_there, message.receiver)) in
+          let sent : slice_index between p + least_transfer i (node_of i p) + (process_at i q).wcet ≤ slice_index new q = rw (← message.sender) (messages message.message q message.is_there message.receiver) in
           omega (arith, are.greatest n p time (omega (arith, le)) chain, kept p, sent)
 
   pub longest_found : (ends : List ℕ) (count : ℕ) → length i.processes ≤ count → AreEnds i count ends → AreLongest i ends

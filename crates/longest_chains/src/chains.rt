@@ -4,7 +4,6 @@ ghost use Rattle.std.specs.Prelude.{◌≡◌, ℕ, ◌+◌, ◌^◌, ◌<◌, �
 ghost use Rattle.ttp_model.specs.Instance.{process_at, message_at, source_of};
 ghost use Rattle.ttp_model.specs.Graph.{HasLink, HasMessage};
 ghost use Rattle.ttp_model.specs.Chains.{IsPathBound, least_transfer};
-ghost use Rattle.sought_plans.specs.Premises.{Receives};
 ghost use Rattle.longest_chains.specs.Longest.{AreLongest};
 ghost use Rattle.longest_chains.specs.Walks.{AreChainEnds, AreEnds, AreKept};
 
@@ -136,7 +135,7 @@ fn follow_messages(instance: &Instance, ends: &mut Vec<u64>)
     requires { AreChainEnds instance.now ends.old.items }
     ensures chains { AreChainEnds instance.now ends.new.items }
     ensures kept { AreKept ends.old.items ends.new.items }
-    ensures reach { (m q : ℕ) → Receives instance.now m q
+    ensures reach { (m q : ℕ) → m < length instance.now.messages → Contains (message_at instance.now m).receivers q
         → slice_index ends.old.items (message_at instance.now m).sender
         + least_transfer instance.now (source_of instance.now m) + (process_at instance.now q).wcet
         ≤ slice_index ends.new.items q }
