@@ -1,5 +1,1 @@
 pub mod Manners
-pub mod Flags
-pub mod Given
-pub mod Uses
-pub mod Steps

@@ -1,7 +1,7 @@
 //! What do subtrees that were closed use of the decisions that lead to the one at hand?
 
-use crate::reader::Reader;
 use decision_paths::{Levels, Path};
+use leaf_decisions::Reader;
 use std::alloc::Global;
 use tt_choice::Decision;
 use ttp_model::{Instance, Kind, Leaf, MemoryFault};

@@ -1,0 +1,4 @@
+pub mod Flags
+pub mod Given
+pub mod Uses
+pub mod Steps
