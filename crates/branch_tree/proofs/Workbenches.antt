@@ -8,7 +8,7 @@ use Rattle.tt_choice.specs.Choice.{Choice}
 use Rattle.tt_choice.specs.Branches.{root_choice}
 use Rattle.tt_choice.specs.Decisions.{IsOpenDecision, AreOpenDecisions, chosen}
 use Rattle.tt_infer.specs.Facts.{Facts}
-use Rattle.tt_infer.specs.Leaves.{ClosesLeaf}
+use Rattle.tt_infer.specs.Leaves.{ClosesSharply}
 use Rattle.path_bounds.specs.Propagator.{Propagator, IsPropagation, IsLog, IsStarted}
 use Rattle.subtree_tasks.specs.Trials.{IsLeft, ClosesAt}
 use Rattle.branch_tree.specs.Workbench.{ComesTo, IsAt}
@@ -64,9 +64,9 @@ module _ (i : Instance) (goal : ℕ) (ds : List Decision) (p : Propagator) (come
       } in
       subst (λ (c : Choice). IsLeft i c goal p.current.facts) (sym (ap (λ (s : Facts). s.choice) here.facts)) leaves
 
-  pub closes_at : (leaf : Leaf) → ClosesLeaf p.instance p.current.facts.choice leaf → leaf.goal ≡ p.goal → ClosesAt i (chosen i ds) goal leaf
+  pub closes_at : (leaf : Leaf) → ClosesSharply p.instance p.current.facts.choice leaf → leaf.goal ≡ p.goal → ClosesAt i (chosen i ds) goal leaf
   closes_at leaf closes goal_is = record {
     at = goal_is ∙ comes.at.goal_is;
-    closes = subst (λ (c : Choice). ClosesLeaf i c leaf) (ap (λ (s : Facts). s.choice) here.facts)
-        (subst (λ (j : Instance). ClosesLeaf j p.current.facts.choice leaf) comes.at.instance closes);
+    closes = subst (λ (c : Choice). ClosesSharply i c leaf) (ap (λ (s : Facts). s.choice) here.facts)
+        (subst (λ (j : Instance). ClosesSharply j p.current.facts.choice leaf) comes.at.instance closes);
   }

@@ -12,7 +12,7 @@ use Rattle.ttp_model.specs.Moves.{IsSettled, MovesLead}
 use Rattle.tt_choice.specs.Choice.{Choice, IsIn, IsComplete}
 use Rattle.tt_choice.specs.Branches.{IsBranch}
 use Rattle.tt_choice.specs.Sizes.{size_left}
-use Rattle.tt_infer.specs.Leaves.{ClosesLeaf}
+use Rattle.tt_infer.specs.Leaves.{ClosesSharply}
 use Rattle.earliest_starts.specs.Answers.{IsEarliest}
 use Rattle.certificate.specs.declared.node.Node.TheVariants.{Leaf as AsLeaf}
 use Rattle.subtree_tasks.specs.declared.piece.Piece.{Piece}
@@ -50,7 +50,7 @@ pub record IsFind (i : Instance) (c : Choice) (goal : ℕ) (plan : Plan) (ticks 
   pub settled : IsSettled i plan
   pub delay_is : ticks ≡ delay i plan
   pub no_later : ticks ≤ leaf.goal
-  pub closes : ClosesLeaf i c leaf
+  pub closes : ClosesSharply i c leaf
 
 -- what is answered for a task at a goal
 abbrev pub IsWorked : Instance → Task → ℕ → Worked → Type 0
@@ -63,7 +63,7 @@ pub record IsLeftClosed (i : Instance) (t : Task) (top : ℕ) (piece : Piece) : 
   pub leaf : Leaf
   pub node : piece.node ≡ AsLeaf leaf
   pub name : piece.name ≡ t.name
-  pub closes : ClosesLeaf i (choice_of i t) leaf
+  pub closes : ClosesSharply i (choice_of i t) leaf
   pub most : leaf.goal ≤ top
   pub least : (bound : ℕ) → IsPathBound i bound → min top bound ≤ leaf.goal
 

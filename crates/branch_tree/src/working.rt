@@ -6,7 +6,7 @@ ghost use Rattle.ttp_model.specs.declared.step.Kind.TheVariants.{Place};
 ghost use Rattle.ttp_model.specs.Chains.{IsPathBound};
 ghost use Rattle.ttp_model.specs.Delays.{IsLowerBound};
 ghost use Rattle.tt_choice.specs.Choice.{IsChoice, IsComplete};
-ghost use Rattle.tt_infer.specs.Leaves.{ClosesLeaf};
+ghost use Rattle.tt_infer.specs.Leaves.{ClosesSharply};
 ghost use Rattle.path_bounds.specs.PlansBelow.{IsPlanBelow};
 ghost use Rattle.branch_tree.specs.Branching.{Branches};
 ghost use Rattle.subtree_tasks.specs.Task.{choice_of, root_task, IsTask};
@@ -220,7 +220,7 @@ fn left_leaf(
     steps: &[Step],
 ) -> Result<Leaf, MemoryFault>
     requires { IsTask instance.now task.now }
-    ensures closes { IfOk result (ClosesLeaf instance.now (choice_of instance.now task.now)) }
+    ensures closes { IfOk result (ClosesSharply instance.now (choice_of instance.now task.now)) }
     ensures most { IfOk result (λ leaf. leaf.goal ≤ top) }
     ensures least { IfOk result (λ leaf. (bound : ℕ) → IsPathBound instance.now bound
         → min top bound ≤ leaf.goal) }

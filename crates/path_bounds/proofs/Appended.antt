@@ -8,7 +8,7 @@ use Rattle.tt_choice.specs.Choice.{Choice, IsChoice}
 use Rattle.sought_plans.specs.Known.{first_facts}
 use Rattle.tt_infer.specs.Facts.{Facts, after}
 use Rattle.step_logs.specs.Journal.{Journal, Advances}
-use Rattle.step_logs.proofs.Logs.{Lead-sharply}
+use Rattle.step_logs.proofs.RuledOut.{Lead-sharply}
 use Rattle.step_logs.proofs.Counts.{few_steps}
 use Rattle.path_bounds.specs.declared.reached.Reached.{Reached}
 use Rattle.path_bounds.specs.Propagation.{Propagates, IsReached}

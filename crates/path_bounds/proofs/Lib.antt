@@ -1,2 +1,3 @@
 pub mod Appended
 pub use Rattle.step_logs.proofs.Complete
+pub use Rattle.step_logs.proofs.RuledOut

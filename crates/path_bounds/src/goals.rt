@@ -3,7 +3,7 @@
 ghost use Rattle.std.specs.Prelude.{◌≡◌, ℕ, ◌^◌, ◌<◌, ◌≤◌, min, length, IfOk, IfSome, IsSome};
 ghost use Rattle.ttp_model.specs.Chains.{IsPathBound};
 ghost use Rattle.tt_choice.specs.Choice.{IsChoice};
-ghost use Rattle.tt_infer.specs.Leaves.{ClosesLeaf};
+ghost use Rattle.tt_infer.specs.Leaves.{ClosesSharply};
 
 use crate::propagation::propagate;
 use crate::reached::Reached;
@@ -24,7 +24,7 @@ fn closing_steps(
 ) -> Result<Option<Vec<Step>>, MemoryFault>
     requires { IsChoice instance.now choice.now }
     ensures closes { IfOk result (λ found. IfSome found (λ steps.
-        ClosesLeaf instance.now choice.now (record { goal = goal; steps = steps.items }))) }
+        ClosesSharply instance.now choice.now (record { goal = goal; steps = steps.items }))) }
     ensures few { IfOk result (λ found. IfSome found (λ steps. length steps.items < 2 ^ 32)) }
     ensures bound { (bound : ℕ) → IsPathBound instance.now bound → goal ≤ bound
         → IfOk result (λ found. IsSome found) }
@@ -48,10 +48,10 @@ fn raised(
     top: u32,
 ) -> Result<(u32, Vec<Step>), MemoryFault>
     requires of { IsChoice instance.now choice.now }
-    requires closes { ClosesLeaf instance.now choice.now (record { goal = low; steps = steps.items }) }
+    requires closes { ClosesSharply instance.now choice.now (record { goal = low; steps = steps.items }) }
     requires few { length steps.items < 2 ^ 32 }
     requires below { low < top }
-    ensures closes { IfOk result (λ found. ClosesLeaf instance.now choice.now
+    ensures closes { IfOk result (λ found. ClosesSharply instance.now choice.now
         (record { goal = found.0; steps = found.1.items })) }
     ensures few { IfOk result (λ found. length found.1.items < 2 ^ 32) }
     ensures least { IfOk result (λ found. low ≤ found.0) }
@@ -79,7 +79,7 @@ fn leaf_below(
 ) -> Result<Leaf, MemoryFault>
     requires of { IsChoice instance.now choice.now }
     requires above { (bound : ℕ) → IsPathBound instance.now bound → bound < top }
-    ensures closes { IfOk result (ClosesLeaf instance.now choice.now) }
+    ensures closes { IfOk result (ClosesSharply instance.now choice.now) }
     ensures top { IfOk result (λ leaf. leaf.goal < top) }
     ensures bound { IfOk result (λ leaf. (bound : ℕ) → IsPathBound instance.now bound
         → bound ≤ leaf.goal) }
@@ -100,7 +100,7 @@ pub fn best_goal(
     top: u32,
 ) -> Result<Leaf, MemoryFault>
     requires { IsChoice instance.now choice.now }
-    ensures closes { IfOk result (ClosesLeaf instance.now choice.now) }
+    ensures closes { IfOk result (ClosesSharply instance.now choice.now) }
     ensures top { IfOk result (λ leaf. leaf.goal ≤ top) }
     ensures bound { IfOk result (λ leaf. (bound : ℕ) → IsPathBound instance.now bound
         → min top bound ≤ leaf.goal) }
@@ -122,7 +122,7 @@ pub fn leaf_by(
     steps: &[Step],
 ) -> Result<Option<Leaf>, MemoryFault>
     requires { IsChoice instance.now choice.now }
-    ensures closes { IfOk result (λ found. IfSome found (ClosesLeaf instance.now choice.now)) }
+    ensures closes { IfOk result (λ found. IfSome found (ClosesSharply instance.now choice.now)) }
     ensures goal { IfOk result (λ found. IfSome found (λ leaf. leaf.goal ≡ goal)) }
 {
     let _processes = instance.processes();

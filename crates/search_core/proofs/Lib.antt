@@ -6,4 +6,5 @@ pub mod Standing
 pub mod Cover
 pub mod Ledger
 pub mod Right
+pub mod OneLeaf
 pub mod OneMessage

@@ -17,11 +17,10 @@ use Rattle.tt_infer.specs.Facts.{Facts}
 use Rattle.tt_infer.specs.Table.{IsLawful}
 use Rattle.tt_infer.proofs.FirstFacts.{first_facts_fit}
 use Rattle.tt_infer.proofs.Sound.{step_is_about, Fits-step}
-use Rattle.tt_infer.specs.Leaves.{LeadSharply, ClosesLeaf}
+use Rattle.tt_infer.specs.Leaves.{LeadSharply, ClosesSharply}
 use Rattle.step_logs.specs.Journal.{Journal, Advances, slack}
 use Rattle.step_reads.proofs.Targets.{stays}
 use Rattle.step_logs.proofs.Targets.{lowers}
-use Rattle.step_logs.proofs.Logs.{Lead-sharply}
 
 -- a lawful step that changes what is known lowers the slack
 step_lowers : (i : Instance) (c : Choice) (goal : ℕ) (f : Known) (step : Step) (g : Known) → IsInstance i → Fits i f → IsLawful i c goal f step g → g ≢ f → slack i g < slack i f
@@ -93,16 +92,16 @@ module _ (i : Instance) (c : Choice) (w : IsInstance i) (ok : IsChoice i c) wher
   few_steps goal steps g lead = omega (arith, steps_lower i c goal (first_facts i c) steps g w (first_facts_fit i c ok) lead, first_slack)
 
   -- a log from the first facts on, where no plan is left
-  pub closes_log : (goal : ℕ) (steps : List Step) (g : Known) → LeadSharply i c goal (first_facts i c) steps g → IsTrue g.closed → ClosesLeaf i c (record { goal = goal; steps = steps }) × (length steps < 2 ^ 32)
+  pub closes_log : (goal : ℕ) (steps : List Step) (g : Known) → LeadSharply i c goal (first_facts i c) steps g → IsTrue g.closed → ClosesSharply i c (record { goal = goal; steps = steps }) × (length steps < 2 ^ 32)
   closes_log goal steps g lead closed =
-      ((g, Lead-sharply i c goal (first_facts i c) steps g lead, closed), omega (arith, few_steps goal steps g lead))
+      ((g, lead, closed), omega (arith, few_steps goal steps g lead))
 
   -- so of a log that began there without steps
   pub closes_of : (goal : ℕ) (new : List Step) (start end : Journal) (s : Facts)
       → start ≡ record { facts = record { instance = i; choice = c; goal = goal; known = first_facts i c }; steps = [] } → Advances start end
-      → s ≡ end.facts → new ≡ end.steps → IsTrue s.known.closed → ClosesLeaf i c (record { goal = goal; steps = new }) × (length new < 2 ^ 32)
+      → s ≡ end.facts → new ≡ end.steps → IsTrue s.known.closed → ClosesSharply i c (record { goal = goal; steps = new }) × (length new < 2 ^ 32)
   closes_of goal new start end s begins advances same steps closed =
       let first : Journal = record { facts = record { instance = i; choice = c; goal = goal; known = first_facts i c }; steps = [] } in
       let all : Advances first (record { facts = s; steps = new }) = rw (← begins, same, steps) advances in
       let done = closes_log goal all.more s.known all.lead closed in
-      subst (λ (xs : List Step). ClosesLeaf i c (record { goal = goal; steps = xs }) × (length xs < 2 ^ 32)) (sym all.steps) done
+      subst (λ (xs : List Step). ClosesSharply i c (record { goal = goal; steps = xs }) × (length xs < 2 ^ 32)) (sym all.steps) done

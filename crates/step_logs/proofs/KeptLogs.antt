@@ -14,7 +14,7 @@ use Rattle.tt_choice.proofs.Decisions.{after_all-more, open-more}
 use Rattle.tt_choice.proofs.Trail.{IsChoice-keeping, bare-same, none_kept-after_all}
 use Rattle.sought_plans.specs.Known.{first_facts}
 use Rattle.tt_infer.specs.Facts.{Facts, AreFacts, after}
-use Rattle.tt_infer.specs.Leaves.{LeadSharply, ClosesLeaf}
+use Rattle.tt_infer.specs.Leaves.{LeadSharply, ClosesSharply}
 use Rattle.step_logs.specs.Journal.{Journal, Advances}
 use Rattle.step_logs.specs.PlansBelow.{IsPlanBelow}
 use Rattle.step_logs.specs.Propagator.{IsLog, first_log, FollowsFrom, Checkpoint, IsCheckpoint, checkpoint_of, IsThinned, Propagator, IsPropagation}
@@ -82,7 +82,7 @@ undone_of p rest before ds log current is kept before_is current_is =
     (subst (λ (c : Checkpoint). IsPropagation (record p { decisions = c.decisions; kept = rest; current = c.log })) before_is (undone p rest before is kept))
 
 -- what closes
-pub closes : (i : Instance) (c : Choice) (goal : ℕ) (log : Journal) → IsInstance i → IsLog i c goal log → IsTrue log.facts.known.closed → ClosesLeaf i c (record { goal = goal; steps = log.steps }) × (length log.steps < 2 ^ 32)
+pub closes : (i : Instance) (c : Choice) (goal : ℕ) (log : Journal) → IsInstance i → IsLog i c goal log → IsTrue log.facts.known.closed → ClosesSharply i c (record { goal = goal; steps = log.steps }) × (length log.steps < 2 ^ 32)
 closes i c goal log w is closed = closes_log i c w is.choice goal log.steps log.facts.known is.lead closed
 
 -- The same, as a body makes it.
@@ -129,14 +129,14 @@ bare_at p s is s_is =
     subst (λ (t : Facts). bare t.choice ≡ t.choice) (sym about) (bare-same (chosen p.instance p.decisions) (none_kept-after_all p.instance (root_choice p.instance) p.decisions refl))
 
 -- Steps that are taken again from the first facts on, and leave no plan.
-pub trimmed_of : (s : Facts) (steps : List Step) (end : Journal) (known : Facts) → AreFacts s → bare s.choice ≡ s.choice → FollowsFrom s.instance (bare s.choice) s.goal end → known ≡ end.facts → steps ≡ end.steps → IsTrue known.known.closed → ClosesLeaf s.instance s.choice (record { goal = s.goal; steps = steps }) × (length steps < 2 ^ 32)
+pub trimmed_of : (s : Facts) (steps : List Step) (end : Journal) (known : Facts) → AreFacts s → bare s.choice ≡ s.choice → FollowsFrom s.instance (bare s.choice) s.goal end → known ≡ end.facts → steps ≡ end.steps → IsTrue known.known.closed → ClosesSharply s.instance s.choice (record { goal = s.goal; steps = steps }) × (length steps < 2 ^ 32)
 trimmed_of s steps end known are none follows known_is steps_is closed =
     let done = closes_of s.instance (bare s.choice) are.instance (IsChoice-keeping s.instance s.choice [] are.choice) s.goal steps (first_log s.instance (bare s.choice) s.goal) end known refl follows known_is steps_is closed in
-    (subst (λ (x : Choice). ClosesLeaf s.instance x (record { goal = s.goal; steps = steps })) none done.0, done.1)
+    (subst (λ (x : Choice). ClosesSharply s.instance x (record { goal = s.goal; steps = steps })) none done.0, done.1)
 
-pub closes_at : (p : Propagator) (s : Facts) (steps : List Step) → IsPropagation p → s ≡ p.current.facts → steps ≡ p.current.steps → IsTrue p.current.facts.known.closed → ClosesLeaf s.instance s.choice (record { goal = s.goal; steps = steps }) × (length steps < 2 ^ 32)
+pub closes_at : (p : Propagator) (s : Facts) (steps : List Step) → IsPropagation p → s ≡ p.current.facts → steps ≡ p.current.steps → IsTrue p.current.facts.known.closed → ClosesSharply s.instance s.choice (record { goal = s.goal; steps = steps }) × (length steps < 2 ^ 32)
 closes_at p s steps is s_is steps_is closed =
     let all = closes p.instance (chosen p.instance p.decisions) p.goal p.current is.instance is.current closed in
     let about : s ≡ record { instance = p.instance; choice = chosen p.instance p.decisions; goal = p.goal; known = p.current.facts.known } = s_is ∙ is.current.facts in
-    subst (λ (xs : List Step). ClosesLeaf s.instance s.choice (record { goal = s.goal; steps = xs }) × (length xs < 2 ^ 32)) (sym steps_is)
-    (subst (λ (t : Facts). ClosesLeaf t.instance t.choice (record { goal = t.goal; steps = p.current.steps }) × (length p.current.steps < 2 ^ 32)) (sym about) all)
+    subst (λ (xs : List Step). ClosesSharply s.instance s.choice (record { goal = s.goal; steps = xs }) × (length xs < 2 ^ 32)) (sym steps_is)
+    (subst (λ (t : Facts). ClosesSharply t.instance t.choice (record { goal = t.goal; steps = p.current.steps }) × (length p.current.steps < 2 ^ 32)) (sym about) all)

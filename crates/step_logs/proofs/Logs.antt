@@ -24,11 +24,6 @@ LeadSharply-append i c goal f [] others g h first second = rw (← first) second
 LeadSharply-append i c goal f (step ∷ steps) others g h first second =
     (first.0, (first.1.0, first.1.1, first.1.2, LeadSharply-append i c goal first.1.0 steps others g h first.1.3 second))
 
-pub Lead-sharply : (i : Instance) (c : Choice) (goal : ℕ) (f : Known) (steps : List Step) (g : Known) → LeadSharply i c goal f steps g → Lead i c goal f steps g
-Lead-sharply i c goal f [] g lead = lead
-Lead-sharply i c goal f (step ∷ steps) g lead =
-    (lead.0, (lead.1.0, lead.1.1, Lead-sharply i c goal lead.1.0 steps g lead.1.3))
-
 pub advances_refl : (log : Journal) → Advances log log
 advances_refl log = record {
   more = [];

@@ -7,7 +7,7 @@ ghost use Rattle.ttp_model.specs.Chains.{IsPathBound};
 ghost use Rattle.tt_choice.specs.Choice.{IsComplete};
 ghost use Rattle.tt_choice.specs.Branches.{IsUnorderedPair, root_choice};
 ghost use Rattle.tt_choice.specs.Decisions.{choice_after, IsOpenDecision};
-ghost use Rattle.tt_infer.specs.Leaves.{ClosesLeaf};
+ghost use Rattle.tt_infer.specs.Leaves.{ClosesSharply};
 ghost use Rattle.step_logs.specs.Journal.{Journal, Advances};
 ghost use Rattle.step_logs.specs.PlansBelow.{IsPlanBelow};
 ghost use Rattle.step_logs.specs.Propagator.{Begins, FollowsFrom, IsPropagation, IsStarted, IsThinned, Decides, Undoes, IsLog, IsSupposition};
@@ -335,7 +335,7 @@ impl<'a> Propagator<'a> {
     pub fn leaf(&mut self, alloc: Global) -> Result<Leaf, MemoryFault>
         requires { IsTrue self.old.current.facts.known.closed }
         ensures same { self.new ≡ self.old }
-        ensures closes { IfOk result (ClosesLeaf self.old.instance self.old.current.facts.choice) }
+        ensures closes { IfOk result (ClosesSharply self.old.instance self.old.current.facts.choice) }
         ensures goal { IfOk result (λ leaf. leaf.goal ≡ self.old.goal) }
     {
         self.spare.reserve(1)?;

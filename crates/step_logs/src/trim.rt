@@ -2,7 +2,7 @@
 
 ghost use Rattle.std.specs.Prelude.{◌≡◌, ◌^◌, ◌<◌, IfOk, IfSome, length};
 ghost use Rattle.tt_choice.specs.Choice.{IsChoice, bare};
-ghost use Rattle.tt_infer.specs.Leaves.{ClosesLeaf};
+ghost use Rattle.tt_infer.specs.Leaves.{ClosesSharply};
 ghost use Rattle.step_logs.specs.Journal.{Advances};
 ghost use Rattle.step_logs.specs.Propagator.{FollowsFrom, first_log};
 
@@ -28,9 +28,9 @@ pub fn closed_leaf(
     steps: Vec<Step>,
 ) -> Result<Leaf, MemoryFault>
     requires of { IsChoice instance.now choice.now }
-    requires closes { ClosesLeaf instance.now choice.now (record { goal = goal; steps = steps.items }) }
+    requires closes { ClosesSharply instance.now choice.now (record { goal = goal; steps = steps.items }) }
     requires few { length steps.items < 2 ^ 32 }
-    ensures closes { IfOk result (ClosesLeaf instance.now choice.now) }
+    ensures closes { IfOk result (ClosesSharply instance.now choice.now) }
     ensures goal { IfOk result (λ leaf. leaf.goal ≡ goal) }
 {
     let trimmed = needed_alone(alloc, instance, choice, goal, steps.as_slice())?;
@@ -50,7 +50,7 @@ fn needed_alone(
 ) -> Result<Option<Vec<Step>>, MemoryFault>
     requires { IsChoice instance.now choice.now }
     ensures closes { IfOk result (λ found. IfSome found (λ steps.
-        ClosesLeaf instance.now choice.now (record { goal = goal; steps = steps.items }))) }
+        ClosesSharply instance.now choice.now (record { goal = goal; steps = steps.items }))) }
     ensures few { IfOk result (λ found. IfSome found (λ steps. length steps.items < 2 ^ 32)) }
 {
     let marks = needed(alloc, instance, choice, goal, steps)?;
@@ -99,9 +99,9 @@ pub fn trimmed_leaf<'a>(
     before: &[u32],
 ) -> Result<(Leaf, Facts<'a>), MemoryFault>
     requires none_kept { bare facts.now.choice ≡ facts.now.choice }
-    requires closes { ClosesLeaf facts.now.instance facts.now.choice (record { goal = facts.now.goal; steps = steps.now }) }
+    requires closes { ClosesSharply facts.now.instance facts.now.choice (record { goal = facts.now.goal; steps = steps.now }) }
     requires few { length steps.now < 2 ^ 32 }
-    ensures closes { IfOk result (λ trimmed. ClosesLeaf facts.now.instance facts.now.choice trimmed.0) }
+    ensures closes { IfOk result (λ trimmed. ClosesSharply facts.now.instance facts.now.choice trimmed.0) }
     ensures goal { IfOk result (λ trimmed. trimmed.0.goal ≡ facts.now.goal) }
 {
     let _choice = facts.choice();
@@ -215,7 +215,7 @@ fn replayed(
 ) -> Result<Option<Vec<Step>>, MemoryFault>
     requires { IsChoice instance.now choice.now }
     ensures closes { IfOk result (λ found. IfSome found (λ steps.
-        ClosesLeaf instance.now choice.now (record { goal = goal; steps = steps.items }))) }
+        ClosesSharply instance.now choice.now (record { goal = goal; steps = steps.items }))) }
     ensures few { IfOk result (λ found. IfSome found (λ steps. length steps.items < 2 ^ 32)) }
 {
     let _processes = instance.processes();

@@ -9,3 +9,4 @@ pub mod OneChoice
 pub mod SharedLists
 pub mod Stretches
 pub mod StretchOrder
+pub use Rattle.path_bounds.proofs.RuledOut

@@ -7,14 +7,14 @@ use Rattle.ttp_model.specs.Chains.{IsPathBound}
 use Rattle.tt_choice.specs.Choice.{Choice, IsComplete}
 use Rattle.path_bounds.specs.PlansBelow.{IsPlanBelow}
 use Rattle.tt_infer.specs.Facts.{Facts}
-use Rattle.tt_infer.specs.Leaves.{ClosesLeaf}
+use Rattle.tt_infer.specs.Leaves.{ClosesSharply}
 use Rattle.subtree_tasks.specs.declared.trial.Trial.{Trial}
 use Rattle.subtree_tasks.specs.declared.trial.Trial.TheVariants.{Closed, At}
 
 -- a leaf closes the choice at this goal
 pub record ClosesAt (i : Instance) (c : Choice) (goal : ℕ) (leaf : Leaf) : Type 0 where
   pub at : leaf.goal ≡ goal
-  pub closes : ClosesLeaf i c leaf
+  pub closes : ClosesSharply i c leaf
 
 -- Plans of the choice with a delay below the goal may be left: the goal is above the path bound, and
 -- where nothing is left to choose there is one.

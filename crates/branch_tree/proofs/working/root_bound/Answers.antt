@@ -1,5 +1,5 @@
 use Rattle.std.proofs.Common.{subst}
-use Rattle.tt_infer.specs.Leaves.{ClosesLeaf}
+use Rattle.tt_infer.specs.Leaves.{ClosesSharply}
 use Rattle.subtree_tasks.specs.Task.{Task, choice_of}
 use Rattle.branch_tree.proofs.RootBounds.{root_leaf_bounds}
 use Rattle.branch_tree.proofs.working.root_bound.Goals as goal
@@ -8,4 +8,4 @@ pub returns-clause-bound : goal.returns-clause-bound
 returns-clause-bound c =
     let i = c.args.instance.now in
     let leaf = c.in_ok-leaf.leaf in
-    root_leaf_bounds i leaf c.nodes-nodes.ensures.instance (subst (λ (t : Task). ClosesLeaf i (choice_of i t) leaf) c.in_ok-root.ensures.value c.in_ok-leaf.ensures.closes)
+    root_leaf_bounds i leaf c.nodes-nodes.ensures.instance (subst (λ (t : Task). ClosesSharply i (choice_of i t) leaf) c.in_ok-root.ensures.value c.in_ok-leaf.ensures.closes)

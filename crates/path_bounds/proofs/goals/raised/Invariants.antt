@@ -1,10 +1,10 @@
 use Rattle.std.proofs.Common.{◌^◌, ◌-◌, ◌<◌, ◌≤◌, length}
-use Rattle.tt_infer.specs.Leaves.{ClosesLeaf}
+use Rattle.tt_infer.specs.Leaves.{ClosesSharply}
 use Rattle.path_bounds.proofs.goals.raised.Given as goal
 
 abbrev pub invariant-halving : goal.invariant-halving
 invariant-halving l = record {
-  closes : ClosesLeaf l.instance l.choice (record { goal = l.best.0; steps = l.best.1.items });
+  closes : ClosesSharply l.instance l.choice (record { goal = l.best.0; steps = l.best.1.items });
   few : length l.best.1.items < 2 ^ 32;
   least : l.low ≤ l.best.0;
   below : l.best.0 < l.high;
