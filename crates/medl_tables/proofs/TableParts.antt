@@ -9,7 +9,7 @@ use Rattle.ttp_model.specs.Plans.{IsNodeOrder}
 use Rattle.tt_layout.proofs.Ranges.{All-flat_map}
 use Rattle.medl_tables.specs.declared.row.Entry.{Entry}
 use Rattle.medl_tables.specs.Rows.{entries_on, entry_of, is_entry, round_rows, row_of, rows_of}
-use Rattle.medl_tables.specs.Medl.{AreTables, IsRowOf, Medl}
+use Rattle.medl_tables.specs.Medl.{AreTables, IsRowOf, Medl, medl_of}
 
 All-map-range : {X : Type 0} (P : X → Type 0) (f : ℕ → X) (n : ℕ) → ((k : ℕ) → k < n → P (f k)) → All P (map f (range_with_len 0 n))
 All-map-range P f n each = λ k d inside.
@@ -31,9 +31,13 @@ row_names_parts i plan node r k o inside =
       messages = All-flat_map there (entries_on i plan node n r) _ (entries_there i plan node n r);
     }
 
-rows_name_parts : (i : Instance) (plan : Plan) (node : ℕ) → IsNodeOrder (length i.nodes) plan.order → All (IsRowOf i) (rows_of i plan node)
+pub rows_name_parts : (i : Instance) (plan : Plan) (node : ℕ) → IsNodeOrder (length i.nodes) plan.order → All (IsRowOf i) (rows_of i plan node)
 rows_name_parts i plan node o =
     All-flat_map (IsRowOf i) (round_rows i plan node) _ (λ r. All-map-range (IsRowOf i) (row_of i plan node r) (length plan.order) (λ k inside. row_names_parts i plan node r k o inside))
+
+-- the table of a node that is there
+pub rows-medl_of : (i : Instance) (plan : Plan) (node : ℕ) → node < length i.nodes → slice_index_or (medl_of i plan).rows node [] ≡ rows_of i plan node
+rows-medl_of i plan node inside = get_or-map-range_with_len (rows_of i plan) 0 (length i.nodes) node node [] inside (omega arith)
 
 pub tables-length : (i : Instance) (t : Medl) → AreTables i t → length t.rows ≡ length i.nodes
 tables-length i t w = rw w.of (length-map-range_with_len (rows_of i w.plan) 0 (length i.nodes))

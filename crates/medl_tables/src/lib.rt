@@ -9,6 +9,6 @@ mod worked;
 
 pub use medl::Medl;
 pub use row::{Entries, Entry, Row};
-pub use text::print;
+pub use text::{print, print_node};
 pub use ttp_model::MemoryFault;
 pub use worked::rows_of_two_channels;

@@ -2,14 +2,16 @@
 
 ghost use Rattle.std.specs.Prelude.{◌≡◌, ◌<◌, ◌++◌, All, IfOk, OnOk, length};
 ghost use Rattle.std.specs.List.{flat_map};
-ghost use Rattle.medl_tables.specs.Medl.{AreTables, IsRowOf};
-ghost use Rattle.medl_tables.specs.Text.{channel_text, entry_text, head_text, row_line, table_text, tables_text};
+ghost use Rattle.ttp_model.specs.Plans.{IsValid};
+ghost use Rattle.medl_tables.specs.Medl.{AreTables, IsRowOf, medl_of};
+ghost use Rattle.medl_tables.specs.Text.{channel_text, entry_text, head_text, row_line, table_text, tables_text, text_at};
 
 use crate::medl::Medl;
 use crate::row::{Entry, Row};
+use crate::rows::rows_of;
 use line_text::{push_number, push_number_word, push_word};
 use std::alloc::{AllocError, Global};
-use ttp_model::{Instance, MemoryFault};
+use ttp_model::{Instance, MemoryFault, Plan};
 
 /// The text of an instance's tables: the lines `ttmedl 1` and `rounds NUMBER`, and for each node a
 /// line `node NAME` and its rows, each a line `row ROUND POSITION SENDER CAPACITY` followed by
@@ -26,6 +28,24 @@ pub fn print(alloc: Global, instance: &Instance, medl: &Medl) -> Result<Vec<u8>,
     for node in 0..count {
         push_table(&mut text, instance, node, medl.rows(node as u32))?;
     }
+    Ok(text)
+}
+
+/// The lines of one node's table, as they stand in the text of all tables of a valid plan. Linear in them; the other nodes' rows
+/// aren't made.
+pub fn print_node(
+    alloc: Global,
+    instance: &Instance,
+    plan: &Plan,
+    node: u32,
+) -> Result<Vec<u8>, MemoryFault>
+    requires valid { IsValid instance.now plan.now }
+    requires node { node < length instance.now.nodes }
+    ensures { IfOk result (λ text. text.items ≡ text_at instance.now (medl_of instance.now plan.now) node) }
+{
+    let rows = rows_of(alloc, instance, plan, node)?;
+    let mut text = Vec::new(alloc);
+    push_table(&mut text, instance, node as usize, rows.as_slice())?;
     Ok(text)
 }
 

@@ -11,10 +11,12 @@ mod part;
 mod printing;
 mod reading;
 
+pub use column::{Column, keyword_of, part_of};
 pub use fault::{LineFault, PlanTextError};
 pub use laws::{
     faults_of_two_channels, spelling_is_of_one_plan, text_of_two_channels,
     word_is_a_name_by_the_model,
 };
-pub use printing::print;
+pub use part::{count_of, name_of, place_of};
+pub use printing::{print, push_value};
 pub use reading::read;

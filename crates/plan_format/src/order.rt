@@ -10,7 +10,7 @@ ghost use Rattle.plan_format.specs.Words.{words_with, items_of};
 
 use crate::fault::{LineFault, PlanTextError};
 use crate::line::{has_name_form, line_of};
-use crate::part::name_of;
+use crate::part::place_of;
 use line_text::{after_keyword, cut};
 use std::alloc::{AllocError, Global};
 use ttp_model::{Instance, Part};
@@ -46,17 +46,6 @@ fn are_names(text: &[u8]) -> bool
     }
 }
 
-fn place_of(instance: &Instance, name: &[u8]) -> Option<u32>
-    ensures { result ≡ position (λ n. bytes_eq n name.now) (names_in instance.now Nodes) }
-{
-    for k in 0..instance.nodes().len() {
-        if name_of(instance, Part::Nodes, k) == name {
-            return Some(k as u32);
-        }
-    }
-    None
-}
-
 /// The place of each word among the nodes, where each is a node's name.
 #[tactic(auto, using(crate::proofs::WordLoop::places_steps))]
 fn places_of(
@@ -71,7 +60,7 @@ fn places_of(
     let mut rest = text;
     'words: loop {
         let (word, next) = first_word(rest);
-        match place_of(instance, word) {
+        match place_of(instance, Part::Nodes, word) {
             None => return Ok(None),
             Some(place) => order.push(place)?,
         }

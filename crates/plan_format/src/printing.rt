@@ -40,7 +40,8 @@ fn push_order(text: &mut Vec<u8>, instance: &Instance, order: &[u32]) -> Result<
     Ok(())
 }
 
-fn push_value(text: &mut Vec<u8>, column: Column, number: u32) -> Result<(), AllocError>
+/// Adds the word of a number in a line behind the order.
+pub fn push_value(text: &mut Vec<u8>, column: Column, number: u32) -> Result<(), AllocError>
     ensures { OnOk result (text.new.items ≡ text.old.items ++ value_word column number) }
 {
     match column {
