@@ -1,11 +1,11 @@
 -- What is known behind some steps was known at first, or one of them wrote it.
-use Rattle.std.proofs.Common.{◌≡◌, ◌≢◌, ℕ, ◌+◌, ◌<◌, ◌⊎◌, min, max, List, [], ◌∷◌, length, slice_index, map, Bool, IsTrue, arith, inl, inr, refl, ap, sym, subst, ◌∙◌}
+use Rattle.std.proofs.Common.{◌≡◌, ℕ, ◌+◌, ◌<◌, ◌⊎◌, min, max, List, [], ◌∷◌, arith, inl, inr, refl, ap, sym, subst, ◌∙◌}
 use Rattle.std.proofs.lemmas.Bool.{cases_eq}
 use Rattle.std.proofs.lemmas.List.{get_or-map}
 use Rattle.ttp_model.specs.declared.step.Step.{Step}
 use Rattle.ttp_model.specs.Instance.{Instance}
 use Rattle.ttp_model.specs.Rules.{IsInstance}
-use Rattle.tt_choice.specs.Choice.{Choice, IsChoice, greatest_round}
+use Rattle.tt_choice.specs.Choice.{IsChoice}
 use Rattle.tt_choice.specs.Branches.{root_choice}
 use Rattle.tt_choice.proofs.Before.{put_other}
 use Rattle.tt_choice.proofs.Decisions.{IsChoice-after_all}
@@ -24,7 +24,7 @@ use Rattle.step_reads.proofs.Targets.{target_is}
 use Rattle.decision_paths.specs.Turns.{Path}
 use Rattle.leaf_decisions.specs.declared.given.Given.{Given}
 use Rattle.leaf_decisions.specs.declared.uses.Uses.{Uses}
-use Rattle.leaf_decisions.specs.Steps.{AreRoundsKnown, HasFlags, IsBehind, IsGivenBy, IsReadOf, IsStepRead, IsStepTold, SaysFact, TellsFact, choice_of, decisions_of}
+use Rattle.leaf_decisions.specs.Steps.{AreRoundsKnown, IsBehind, IsGivenBy, IsReadOf, IsStepRead, IsStepTold, SaysFact, TellsFact, choice_of, decisions_of}
 use Rattle.leaf_decisions.proofs.Gives.{least_there, greatest_there, order_there}
 
 module _ (i : Instance) (f : Known) (fits : Fits i f) where

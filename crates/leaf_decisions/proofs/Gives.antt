@@ -1,5 +1,5 @@
 -- What was given, as one step more gives a fact.
-use Rattle.std.proofs.Common.{◌≡◌, ℕ, ◌+◌, ◌*◌, ◌<◌, ◌≤◌, ◌==◌, ◌⊎◌, ◌↔◌, List, [], ◌∷◌, length, set, get_or, replicate, Bool, true, false, IsTrue, arith, inl, inr, refl, ap, sym, subst, ◌∙◌, length-set, get_or-set_same, get_or-set_other}
+use Rattle.std.proofs.Common.{◌≡◌, ℕ, ◌*◌, ◌<◌, ◌==◌, ◌⊎◌, ◌↔◌, List, [], ◌∷◌, length, set, get_or, replicate, Bool, true, false, IsTrue, arith, inl, inr, refl, ap, sym, subst, ◌∙◌, length-set, get_or-set_same, get_or-set_other}
 use Rattle.std.proofs.lemmas.Bool.{cases_eq, cases_lt, and_parts, eqb-true, false≢true}
 use Rattle.std.proofs.lemmas.List.{get_or_past, get_or-replicate, length-replicate}
 use Rattle.ttp_model.specs.declared.step.Step.{Step}
@@ -10,7 +10,7 @@ use Rattle.tt_choice.specs.Kept.{sets_order}
 use Rattle.step_reads.specs.Targets.{target}
 use Rattle.step_reads.specs.Shared.{IsWritten}
 use Rattle.step_reads.specs.declared.fact.Fact.{Fact}
-use Rattle.step_reads.specs.declared.fact.Fact.TheVariants.{Start, End, FirstRound, LateRound, Order, Closed}
+use Rattle.step_reads.specs.declared.fact.Fact.TheVariants.{FirstRound, LateRound, Order}
 use Rattle.decision_paths.specs.Tables.{order_place, orders_at}
 use Rattle.decision_paths.proofs.LastTurns.{place_parts, order_here, order_inside}
 use Rattle.leaf_decisions.specs.declared.given.Given.{Given}

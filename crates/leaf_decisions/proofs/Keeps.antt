@@ -1,7 +1,6 @@
 -- Where decisions are kept whose levels are marked, the steps of a leaf use kept ones alone.
-use Rattle.std.proofs.Common.{◌≡◌, ℕ, zero, suc, ◌+◌, ◌<◌, ◌≤◌, ◌==◌, ◌⊎◌, List, [], ◌∷◌, length, Bool, true, IsTrue, arith, inl, inr, refl, ap, sym, subst, ◌∙◌}
+use Rattle.std.proofs.Common.{◌≡◌, ℕ, zero, suc, ◌+◌, ◌<◌, ◌≤◌, ◌==◌, List, [], ◌∷◌, length, Bool, true, IsTrue, arith, inl, inr, refl, ap, subst}
 use Rattle.ttp_model.specs.declared.step.Step.{Step}
-use Rattle.ttp_model.specs.Instance.{Instance}
 use Rattle.ttp_model.specs.Limits.{both_channels}
 use Rattle.ttp_model.specs.Plans.{is_on}
 use Rattle.ttp_model.specs.Rules.{IsInstance}
@@ -20,7 +19,6 @@ use Rattle.step_reads.specs.declared.fact.Fact.TheVariants.{Start, End, FirstRou
 use Rattle.step_reads.specs.declared.limit.Limit.{Limit}
 use Rattle.step_reads.specs.declared.limit.Limit.TheVariants.{Goal, LeastSlot, GreatestSlot, LeastFrame, GreatestFrame, Place, Copies, Counted}
 use Rattle.step_reads.specs.Reads.{ReadsFact, ReadsLimit}
-use Rattle.step_reads.specs.Shared.{IsWritten}
 use Rattle.step_reads.specs.Uses.{KeepsFact, KeepsLimit, UseKept}
 use Rattle.decision_paths.specs.declared.turn.Turn.{Turn}
 use Rattle.decision_paths.specs.declared.turn.Placed.{Placed}

@@ -1,15 +1,12 @@
 -- What keeps a message out of a frame is marked.
-use Rattle.std.proofs.Common.{◌≡◌, ◌≢◌, ℕ, ◌<◌, ◌≤◌, ◌⊎◌, List, length, Bool, true, false, IsTrue, IsFalse, inl, inr, refl, sym, subst, ◌∙◌}
+use Rattle.std.proofs.Common.{◌≡◌, ◌≢◌, ℕ, ◌<◌, ◌⊎◌, length, true, false, IsTrue, IsFalse, inl, inr, sym, subst}
 use Rattle.std.proofs.lemmas.Bool.{eq-eqb}
 use Rattle.ttp_model.specs.declared.step.Step.TheVariants.{XLate}
-use Rattle.ttp_model.specs.Instance.{Instance, source_of}
+use Rattle.ttp_model.specs.Instance.{source_of}
 use Rattle.ttp_model.specs.Network.{messages_of, is_message_of}
 use Rattle.tt_choice.specs.Kept.{sets_least, sets_greatest}
-use Rattle.sought_plans.specs.Known.{Known, lo_of, top_of}
-use Rattle.step_reads.specs.Reads.{IsOtherOf, KeepsOut}
-use Rattle.step_reads.specs.declared.fact.Fact.{Fact}
-use Rattle.step_reads.specs.declared.fact.Fact.TheVariants.{End, FirstRound, LateRound}
-use Rattle.step_reads.specs.declared.limit.Limit.{Limit}
+use Rattle.sought_plans.specs.Known.{Known, lo_of}
+use Rattle.step_reads.specs.declared.fact.Fact.TheVariants.{FirstRound, LateRound}
 use Rattle.step_reads.specs.declared.limit.Limit.TheVariants.{LeastSlot, LeastFrame}
 use Rattle.decision_paths.specs.Turns.{Path, last_of}
 use Rattle.leaf_decisions.specs.declared.given.Given.{Given}

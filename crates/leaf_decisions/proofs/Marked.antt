@@ -1,5 +1,5 @@
 -- The last decision that a test picks, and that its level is marked.
-use Rattle.std.proofs.Common.{◌≡◌, ℕ, zero, suc, ◌+◌, ◌<◌, ◌≤◌, List, [], ◌∷◌, ◌++◌, length, take, Option, None, Some, IfSome, Bool, true, false, IsTrue, All, arith, inl, inr, rules, refl, ap, sym, subst, ◌∙◌}
+use Rattle.std.proofs.Common.{◌≡◌, ℕ, zero, suc, ◌+◌, ◌<◌, List, [], ◌∷◌, length, take, Option, None, Some, IfSome, Bool, true, false, IsTrue, All, arith, inl, inr, rules, refl, sym, subst, ◌∙◌}
 use Rattle.std.proofs.lemmas.Bool.{cases_eq}
 use Rattle.std.proofs.lemmas.List.Elements.{All-head, All-tail, All-nil, All-cons, All-append}
 use Rattle.tt_choice.specs.declared.decision.Decision.{Decision}
@@ -11,7 +11,7 @@ use Rattle.decision_paths.specs.declared.turn.OnChannel.{OnChannel}
 use Rattle.decision_paths.specs.Levels.{has_level}
 use Rattle.decision_paths.specs.Turns.{later_of, last_of, level_of, cut_of, on_channel_of, placed_by, placed_of}
 use Rattle.decision_paths.specs.Marks.{IsTold, ArePlacesTold}
-use Rattle.leaf_decisions.specs.Uses.{IsGrown, HaveMarked}
+use Rattle.leaf_decisions.specs.Uses.{IsGrown}
 
 -- what holds of each decision of a path holds of the last one that a test picks
 module _ (P : Turn → Type 0) (picks : Decision → Bool) where

@@ -1,8 +1,8 @@
 -- What is marked of a message that leads turned frames alone is what such a step uses.
-use Rattle.std.proofs.Common.{◌≡◌, ℕ, ◌<◌, ◌≤◌, ◌==◌, ◌⊎◌, List, length, Bool, true, arith, inl, inr, refl, sym, subst, ◌∙◌}
+use Rattle.std.proofs.Common.{◌≡◌, ℕ, ◌<◌, ◌≤◌, ◌==◌, ◌⊎◌, length, true, arith, inl, inr, sym, subst}
 use Rattle.std.proofs.lemmas.Bool.{eq-eqb}
 use Rattle.ttp_model.specs.declared.step.Step.TheVariants.{XMirror}
-use Rattle.ttp_model.specs.Instance.{Instance, source_of}
+use Rattle.ttp_model.specs.Instance.{source_of}
 use Rattle.ttp_model.specs.Limits.{both_channels}
 use Rattle.ttp_model.specs.Network.{messages_of, is_message_of}
 use Rattle.ttp_model.specs.Plans.{is_on}
@@ -12,13 +12,11 @@ use Rattle.sought_plans.specs.Known.{Known, lo_of, top_of}
 use Rattle.step_reads.specs.Reads.{TellsApart}
 use Rattle.step_reads.specs.declared.fact.Fact.{Fact}
 use Rattle.step_reads.specs.declared.fact.Fact.TheVariants.{FirstRound, LateRound}
-use Rattle.step_reads.specs.declared.limit.Limit.{Limit}
-use Rattle.step_reads.specs.declared.limit.Limit.TheVariants.{Copies, Counted}
+use Rattle.step_reads.specs.declared.limit.Limit.TheVariants.{Copies}
 use Rattle.decision_paths.specs.Turns.{Path, last_of, fixes_any}
 use Rattle.decision_paths.specs.Marks.{IsTold}
 use Rattle.leaf_decisions.specs.declared.given.Given.{Given}
 use Rattle.leaf_decisions.specs.declared.uses.Uses.{Uses}
-use Rattle.leaf_decisions.specs.Uses.{IsMore}
 use Rattle.leaf_decisions.specs.Steps.{IsStepRead, TellsAside, TellsEach, TellsFact, TellsRoundsApart, decisions_of}
 use Rattle.leaf_decisions.proofs.Each.{Stays, told_of}
 use Rattle.leaf_decisions.proofs.OneChannel.{told_channel}

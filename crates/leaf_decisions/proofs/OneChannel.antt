@@ -1,6 +1,6 @@
 -- A path's decisions fix the channel of a message once: so the decision that fixes it to one that passes a test is the one that fixes it.
-use Rattle.std.proofs.Common.{◌≡◌, ◌≢◌, ℕ, ◌<◌, ◌==◌, ◌&&◌, if◌then◌else◌, List, [], ◌∷◌, length, Option, None, Some, Bool, true, false, IsTrue, arith, inl, inr, refl, ap, sym, subst, ◌∙◌, get_or-set_same, get_or-set_other}
-use Rattle.std.proofs.lemmas.Bool.{cases_eq, cases_Bool, eq-eqb, ne_eqb, eqb-true, and_parts, both_ways, false≢true}
+use Rattle.std.proofs.Common.{◌≡◌, ℕ, ◌<◌, ◌==◌, List, [], ◌∷◌, length, Option, None, Some, Bool, true, false, arith, refl, ap, sym, subst, ◌∙◌, get_or-set_same, get_or-set_other}
+use Rattle.std.proofs.lemmas.Bool.{eq-eqb, ne_eqb, eqb-true, and_parts, both_ways, false≢true}
 use Rattle.ttp_model.specs.Instance.{Instance}
 use Rattle.tt_choice.specs.declared.decision.Decision.{Decision}
 use Rattle.tt_choice.specs.declared.decision.Decision.TheVariants.{Place, Cap, Before, AtMost, AtLeast, Channel}

@@ -1,15 +1,12 @@
 -- What is marked of processes that wait for others is what such steps use.
-use Rattle.std.proofs.Common.{◌≡◌, ℕ, ◌+◌, ◌-◌, ◌<◌, ◌≤◌, ◌==◌, ◌⊎◌, List, length, slice_index, Bool, true, arith, inl, inr, refl, sym, subst, ◌∙◌}
+use Rattle.std.proofs.Common.{◌≡◌, ℕ, ◌+◌, ◌-◌, ◌<◌, List, length, slice_index, true, arith, inl, inr, sym, subst}
 use Rattle.std.proofs.lemmas.Bool.{eq-eqb}
-use Rattle.std.proofs.lemmas.List.{get_or_default}
 use Rattle.ttp_model.specs.declared.step.Step.TheVariants.{UsSettled, XCycle}
-use Rattle.ttp_model.specs.Instance.{Instance, node_of, source_of}
+use Rattle.ttp_model.specs.Instance.{node_of, source_of}
 use Rattle.ttp_model.specs.Network.{processes_on, received_by, is_on, is_received_by}
 use Rattle.sought_plans.specs.Dominance.{IsSentTo}
 use Rattle.sought_plans.proofs.Elsewhere.{among_received}
-use Rattle.step_reads.specs.declared.fact.Fact.{Fact}
-use Rattle.step_reads.specs.declared.fact.Fact.TheVariants.{End, LateRound, Order}
-use Rattle.step_reads.specs.declared.limit.Limit.{Limit}
+use Rattle.step_reads.specs.declared.fact.Fact.TheVariants.{LateRound, Order}
 use Rattle.step_reads.specs.declared.limit.Limit.TheVariants.{GreatestSlot}
 use Rattle.decision_paths.specs.Turns.{Path}
 use Rattle.leaf_decisions.specs.declared.given.Given.{Given}

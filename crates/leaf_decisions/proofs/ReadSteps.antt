@@ -1,8 +1,7 @@
 -- Steps that are read one after another.
-use Rattle.std.proofs.Common.{◌≡◌, ℕ, List, [], ◌∷◌, ◌++◌, refl, sym, subst}
+use Rattle.std.proofs.Common.{◌≡◌, List, [], ◌∷◌, ◌++◌, refl, sym, subst}
 use Rattle.ttp_model.specs.declared.step.Step.{Step}
 use Rattle.ttp_model.specs.Instance.{Instance}
-use Rattle.step_reads.specs.Targets.{target}
 use Rattle.decision_paths.specs.Turns.{Path}
 use Rattle.leaf_decisions.specs.declared.given.Given.{Given}
 use Rattle.leaf_decisions.specs.declared.uses.Uses.{Uses}

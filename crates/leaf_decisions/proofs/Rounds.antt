@@ -1,27 +1,21 @@
 -- What a path and earlier steps tell of rounds and channels, and when a message may count.
-use Rattle.std.proofs.Common.{◌≡◌, ◌≢◌, ℕ, ◌+◌, ◌-◌, ◌<◌, ◌≤◌, ◌==◌, ◌&&◌, ◌⊎◌, nat_lt, nat_le, if◌then◌else◌, List, length, Option, None, Some, Bool, true, false, IsTrue, IsFalse, arith, inl, inr, refl, ap, sym, subst, ◌∙◌, lt-ltb, le-ltb, le-leb, ltb-true, ltb-false, leb-true, leb-false}
-use Rattle.std.proofs.lemmas.Bool.{cases_lt, cases_Bool, both_ways, false≢true, and_parts}
+use Rattle.std.proofs.Common.{◌≡◌, ℕ, ◌+◌, ◌-◌, ◌<◌, ◌≤◌, ◌⊎◌, nat_lt, nat_le, List, length, Option, None, Some, Bool, true, false, IsTrue, IsFalse, arith, inl, inr, refl, ap, sym, subst, ◌∙◌, lt-ltb, le-leb, ltb-true}
+use Rattle.std.proofs.lemmas.Bool.{cases_Bool, both_ways, false≢true}
 use Rattle.std.proofs.lemmas.Bool.Decides.{eqb_tells}
-use Rattle.ttp_model.specs.Instance.{Instance, message_at, source_of}
-use Rattle.ttp_model.specs.Limits.{both_channels}
+use Rattle.ttp_model.specs.Instance.{Instance, message_at}
 use Rattle.ttp_model.specs.Plans.{is_on}
-use Rattle.tt_choice.specs.Choice.{Choice, fixed_channel, least_round, greatest_round}
 use Rattle.tt_choice.specs.Branches.{root_channel}
 use Rattle.tt_choice.specs.Kept.{sets_least, sets_greatest}
 use Rattle.sought_plans.specs.Known.{Known, lo_of, top_of}
 use Rattle.sought_plans.specs.Premises.{is_fixed_on, counts_on}
-use Rattle.step_reads.specs.Reads.{KeepsOut, TellsApart}
-use Rattle.step_reads.specs.declared.fact.Fact.{Fact}
-use Rattle.step_reads.specs.declared.fact.Fact.TheVariants.{FirstRound, LateRound}
 use Rattle.decision_paths.specs.declared.turn.Turn.{Turn}
 use Rattle.decision_paths.specs.declared.turn.Cut.{Cut}
 use Rattle.decision_paths.specs.declared.turn.OnChannel.{OnChannel}
-use Rattle.decision_paths.specs.Turns.{Path, last_of, level_of, cut_of, round_of, channel_of, fixes_any, on_channel_of}
+use Rattle.decision_paths.specs.Turns.{Path, last_of, level_of, cut_of, round_of, fixes_any, on_channel_of}
 use Rattle.decision_paths.specs.Marks.{IsTold}
 use Rattle.leaf_decisions.specs.declared.given.Given.{Given}
-use Rattle.leaf_decisions.specs.declared.uses.Uses.{Uses}
 use Rattle.leaf_decisions.specs.Given.{gives_least, gives_greatest}
-use Rattle.leaf_decisions.specs.Steps.{AreRoundsKnown, TellsFact, TellsKeptOut, TellsRoundsApart, choice_of, is_below, is_from, is_behind, round_said, fixes_so}
+use Rattle.leaf_decisions.specs.Steps.{AreRoundsKnown, choice_of, is_below, is_from, is_behind, round_said, fixes_so}
 use Rattle.leaf_decisions.proofs.Said.{channel_said, said_least, said_greatest, said_channel}
 
 -- what a test answers of a bound that a path told is what it answers of the decision

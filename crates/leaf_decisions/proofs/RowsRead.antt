@@ -1,14 +1,13 @@
 -- What is marked of one fact or limit is what such a step uses.
-use Rattle.std.proofs.Common.{◌≡◌, ℕ, ◌+◌, ◌<◌, ◌≤◌, ◌==◌, List, [], ◌∷◌, length, IfSome, Bool, arith, inl, inr, refl, sym, subst, ◌∙◌}
+use Rattle.std.proofs.Common.{◌≡◌, ℕ, ◌<◌, ◌==◌, List, [], ◌∷◌, length, IfSome, Bool, arith, inl, inr, refl, sym, subst}
 use Rattle.std.specs.Prelude.{position}
 use Rattle.std.proofs.lemmas.Bool.{cases_lt, both_ways, eq-eqb}
 use Rattle.std.proofs.lemmas.List.Sums.{fails_before_first}
-use Rattle.ttp_model.specs.declared.step.Step.{Step}
 use Rattle.ttp_model.specs.declared.step.Step.TheVariants.{EsRelease, EsLink, EsBefore, EsArrive, EsMessage, LoSend, LeOwn, LeLink, LeBefore, LeMessage, LeSend, HiArrive, OrdWindow, OrdTwin, XWindow, XRound, XLoad, XFrame, XSilent}
 use Rattle.ttp_model.specs.Instance.{source_of}
 use Rattle.tt_choice.specs.declared.decision.Decision.{Decision}
 use Rattle.tt_choice.specs.Extremes.{place_of}
-use Rattle.tt_choice.specs.Kept.{Marked, keep, all_of}
+use Rattle.tt_choice.specs.Kept.{Marked, keep}
 use Rattle.tt_choice.specs.Decisions.{chosen}
 use Rattle.sought_plans.specs.Dominance.{StandsFirst}
 use Rattle.step_reads.specs.declared.fact.Fact.{Fact}
@@ -22,7 +21,7 @@ use Rattle.decision_paths.specs.Marks.{KeepsLevels}
 use Rattle.decision_paths.proofs.Places.{order_is}
 use Rattle.leaf_decisions.specs.declared.given.Given.{Given}
 use Rattle.leaf_decisions.specs.declared.uses.Uses.{Uses}
-use Rattle.leaf_decisions.specs.Steps.{IsStepRead, TellsFact, TellsLimit, choice_of, decisions_of, order_of}
+use Rattle.leaf_decisions.specs.Steps.{IsStepRead, TellsFact, TellsLimit, choice_of, order_of}
 use Rattle.leaf_decisions.proofs.Keeps.{decisions_are}
 use Rattle.leaf_decisions.proofs.Tells.{place_marked}
 

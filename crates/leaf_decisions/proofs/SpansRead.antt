@@ -1,7 +1,6 @@
 -- What is marked of messages that count in some rounds is what such steps use.
-use Rattle.std.proofs.Common.{◌≡◌, ℕ, ◌<◌, ◌≤◌, ◌==◌, ◌&&◌, nat_le, List, length, Bool, true, IsTrue, inl, inr, refl, sym, subst, ◌∙◌, leb-true}
+use Rattle.std.proofs.Common.{◌≡◌, ℕ, ◌<◌, ◌≤◌, ◌==◌, ◌&&◌, nat_le, length, true, IsTrue, inl, inr, sym, subst, leb-true}
 use Rattle.std.proofs.lemmas.Bool.{and_parts}
-use Rattle.ttp_model.specs.declared.step.Step.{Step}
 use Rattle.ttp_model.specs.declared.step.Step.TheVariants.{XFrames, XChannel}
 use Rattle.ttp_model.specs.Instance.{Instance, source_of}
 use Rattle.ttp_model.specs.Network.{messages_of, is_message_of}
@@ -10,8 +9,7 @@ use Rattle.sought_plans.specs.Known.{Known, lo_of, top_of}
 use Rattle.sought_plans.specs.Premises.{counts_on, sent_within}
 use Rattle.step_reads.specs.declared.fact.Fact.{Fact}
 use Rattle.step_reads.specs.declared.fact.Fact.TheVariants.{FirstRound, LateRound}
-use Rattle.step_reads.specs.declared.limit.Limit.{Limit}
-use Rattle.step_reads.specs.declared.limit.Limit.TheVariants.{GreatestFrame, Copies, Counted}
+use Rattle.step_reads.specs.declared.limit.Limit.TheVariants.{Copies, Counted}
 use Rattle.step_reads.specs.Reads.{BoundsSending}
 use Rattle.decision_paths.specs.Turns.{Path, last_of}
 use Rattle.decision_paths.specs.Marks.{IsTold}

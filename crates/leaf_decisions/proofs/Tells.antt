@@ -1,12 +1,10 @@
 -- What is marked stays marked, and what marks of a decision tell.
-use Rattle.std.proofs.Common.{◌≡◌, ℕ, ◌+◌, ◌<◌, ◌≤◌, ◌==◌, not, cond, nat_lt, if◌then◌else◌, List, [], ◌∷◌, length, map, Option, None, Some, IfSome, IfNone, Bool, true, false, IsTrue, All, arith, inl, inr, refl, ap, sym, subst, ◌∙◌, lt-ltb, le-ltb}
+use Rattle.std.proofs.Common.{◌≡◌, ℕ, ◌+◌, ◌<◌, ◌≤◌, ◌==◌, not, cond, nat_lt, List, [], ◌∷◌, length, None, Some, IfSome, IfNone, Bool, true, false, IsTrue, All, arith, inl, inr, refl, ap, sym, subst, ◌∙◌, lt-ltb, le-ltb}
 use Rattle.std.specs.Prelude.{position}
 use Rattle.std.specs.List.{position_or_len}
 use Rattle.std.proofs.lemmas.Bool.{cases_lt, cases_Bool, false≢true}
 use Rattle.std.proofs.lemmas.List.{length-map}
-use Rattle.std.proofs.lemmas.List.Elements.{All-head, All-tail, All-nil, All-cons}
 use Rattle.ttp_model.specs.declared.step.Step.{Step}
-use Rattle.tt_choice.specs.declared.decision.Decision.{Decision}
 use Rattle.tt_choice.specs.Extremes.{place_of}
 use Rattle.step_reads.specs.declared.fact.Fact.{Fact}
 use Rattle.step_reads.specs.declared.fact.Fact.TheVariants.{Start, End, FirstRound, LateRound, Order, Closed}
@@ -14,15 +12,11 @@ use Rattle.step_reads.specs.declared.limit.Limit.{Limit}
 use Rattle.step_reads.specs.declared.limit.Limit.TheVariants.{Goal, LeastSlot, GreatestSlot, LeastFrame, GreatestFrame, Place, Copies, Counted}
 use Rattle.decision_paths.specs.declared.turn.Turn.{Turn}
 use Rattle.decision_paths.specs.declared.turn.Placed.{Placed}
-use Rattle.decision_paths.specs.declared.turn.Cut.{Cut}
-use Rattle.decision_paths.specs.declared.turn.OnChannel.{OnChannel}
-use Rattle.decision_paths.specs.Levels.{has_level}
-use Rattle.decision_paths.specs.Turns.{Path, later_of, last_of, level_of, cut_of, on_channel_of, nodes_of, placed_of}
-use Rattle.decision_paths.specs.Marks.{IsTold}
+use Rattle.decision_paths.specs.Turns.{Path, nodes_of, placed_of}
 use Rattle.leaf_decisions.specs.declared.given.Given.{Given}
 use Rattle.leaf_decisions.specs.declared.uses.Uses.{Uses}
 use Rattle.leaf_decisions.specs.Uses.{IsMore}
-use Rattle.leaf_decisions.specs.Steps.{IsReadOf, TellsFact, TellsLimit, TellsLeastSlot, TellsGreatestSlot, SaysFact, IsStepTold, AreStepsTold, order_of}
+use Rattle.leaf_decisions.specs.Steps.{IsReadOf, TellsFact, TellsLimit, TellsLeastSlot, TellsGreatestSlot, SaysFact, IsStepTold, AreStepsTold}
 use Rattle.leaf_decisions.proofs.Marked.{told_grown}
 
 pub more_none : (uses : Uses) → IsMore uses uses

@@ -1,4 +1,4 @@
-use Rattle.std.proofs.Common.{◌≡◌, ℕ, ◌<◌, length, subst}
+use Rattle.std.proofs.Common.{ℕ, ◌<◌, subst}
 use Rattle.ttp_model.specs.Network.{messages_of}
 use Rattle.decision_paths.specs.Turns.{last_of, fixes_any}
 use Rattle.leaf_decisions.specs.Steps.{TellsAside, TellsEach}

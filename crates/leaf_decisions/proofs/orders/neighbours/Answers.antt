@@ -1,4 +1,4 @@
-use Rattle.std.proofs.Common.{ℕ, ◌+◌, ◌<◌, slice_index, arith, inl, inr}
+use Rattle.std.proofs.Common.{◌+◌, slice_index, arith, inl, inr}
 use Rattle.std.proofs.lemmas.Bool.{cases_eq}
 use Rattle.leaf_decisions.proofs.OrdersRead.{pair_more}
 use Rattle.leaf_decisions.proofs.Tells.{more_none, more_twice, read_more}

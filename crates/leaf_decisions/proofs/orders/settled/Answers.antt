@@ -1,4 +1,4 @@
-use Rattle.std.proofs.Common.{◌≡◌, ℕ, ◌<◌, length, subst}
+use Rattle.std.proofs.Common.{ℕ, subst}
 use Rattle.ttp_model.specs.Network.{processes_on}
 use Rattle.leaf_decisions.specs.Steps.{TellsEach, TellsRival}
 use Rattle.leaf_decisions.proofs.OrdersRead.{rivals_stay, settled_read}

@@ -1,4 +1,3 @@
-use Rattle.std.proofs.lemmas.Bool.{both_ways}
 use Rattle.leaf_decisions.proofs.Tells.{more_none}
 use Rattle.leaf_decisions.proofs.orders.unlinked.Goals as goal
 

@@ -1,4 +1,4 @@
-use Rattle.std.proofs.Common.{◌≡◌, ◌≢◌, ℕ, ◌<◌, length, subst}
+use Rattle.std.proofs.Common.{◌≢◌, ℕ, subst}
 use Rattle.ttp_model.specs.Instance.{source_of}
 use Rattle.ttp_model.specs.Network.{messages_of}
 use Rattle.step_reads.specs.declared.fact.Fact.TheVariants.{FirstRound}

@@ -1,5 +1,4 @@
-use Rattle.std.proofs.Common.{◌≡◌, ℕ, ◌<◌, length, subst}
-use Rattle.ttp_model.specs.Instance.{source_of}
+use Rattle.std.proofs.Common.{ℕ, length, subst}
 use Rattle.tt_choice.specs.Kept.{fixes_below}
 use Rattle.decision_paths.specs.Marks.{IsTold}
 use Rattle.decision_paths.specs.Turns.{last_of}

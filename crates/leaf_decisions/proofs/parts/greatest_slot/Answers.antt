@@ -1,4 +1,3 @@
-use Rattle.std.proofs.Common.{◌≡◌, ◌<◌, length}
 use Rattle.ttp_model.specs.Instance.{source_of}
 use Rattle.leaf_decisions.proofs.Tells.{greatest_slot_told}
 use Rattle.leaf_decisions.proofs.parts.greatest_slot.Goals as goal

@@ -1,4 +1,3 @@
-use Rattle.std.proofs.Common.{◌≡◌, ◌<◌, length}
 use Rattle.ttp_model.specs.Instance.{source_of}
 use Rattle.leaf_decisions.proofs.Tells.{least_slot_told}
 use Rattle.leaf_decisions.proofs.parts.least_slot.Goals as goal

@@ -1,9 +1,9 @@
-use Rattle.std.proofs.Common.{◌≡◌, ◌∷◌, ◌++◌, [], List, length, take, ◌+◌, ap, refl, sym, subst, ◌∙◌}
+use Rattle.std.proofs.Common.{◌≡◌, ◌∷◌, ◌++◌, [], List, take, ◌+◌, ap, sym, subst, ◌∙◌}
 use Rattle.std.proofs.lemmas.List.{take_all, take_more}
 use Rattle.ttp_model.specs.declared.step.Step.{Step}
 use Rattle.step_reads.specs.Targets.{target}
 use Rattle.leaf_decisions.specs.Steps.{AreStepsTold, behind}
-use Rattle.leaf_decisions.proofs.ReadSteps.{AreRead, read_first, read_more_steps}
+use Rattle.leaf_decisions.proofs.ReadSteps.{read_first, read_more_steps}
 use Rattle.leaf_decisions.proofs.reader.read_steps.Goals as goal
 
 pub loop-step-init : goal.loop-step-init

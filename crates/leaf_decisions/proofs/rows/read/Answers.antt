@@ -1,6 +1,5 @@
 use Rattle.ttp_model.specs.Instance.{source_of}
 use Rattle.step_reads.specs.declared.limit.Limit.TheVariants.{LeastSlot, GreatestSlot}
-use Rattle.leaf_decisions.specs.Steps.{TellsRing}
 use Rattle.leaf_decisions.proofs.OrdersRead.{ring_read}
 use Rattle.leaf_decisions.proofs.RowsRead.{release_read, own_read, twin_read, link_read, back_link_read, window_read, order_window_read, load_read, before_read, back_before_read, arrive_read, chances_read, send_read, back_send_read, message_read, back_message_read, round_read, frame_read, silent_read}
 use Rattle.leaf_decisions.proofs.Tells.{limit_more, more_none, more_twice, read_more}

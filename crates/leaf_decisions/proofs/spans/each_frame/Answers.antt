@@ -1,4 +1,4 @@
-use Rattle.std.proofs.Common.{◌≡◌, ◌≢◌, ℕ, ◌<◌, ◌≤◌, length, slice_index}
+use Rattle.std.proofs.Common.{ℕ, ◌<◌, length}
 use Rattle.std.proofs.lemmas.List.Elements.{All-get_or}
 use Rattle.leaf_decisions.specs.declared.uses.Uses.{Uses}
 use Rattle.leaf_decisions.specs.Steps.{TellsFrame}

@@ -1,4 +1,4 @@
-use Rattle.std.proofs.Common.{◌<◌, length}
+use Rattle.std.proofs.Common.{length}
 use Rattle.tt_choice.specs.Kept.{fixes_below}
 use Rattle.decision_paths.specs.Turns.{last_of}
 use Rattle.leaf_decisions.proofs.Marked.{told_level, told_grown}

@@ -1,8 +1,7 @@
-use Rattle.std.proofs.Common.{◌≡◌, inl, inr, ap, sym, ◌∙◌}
+use Rattle.std.proofs.Common.{inl, inr, ap, sym, ◌∙◌}
 use Rattle.std.proofs.lemmas.Bool.{false≢true}
 use Rattle.ttp_model.specs.Plans.{is_on}
 use Rattle.decision_paths.specs.Turns.{last_of, fixes_any, on_channel_of}
-use Rattle.leaf_decisions.specs.Steps.{fixes_so}
 use Rattle.leaf_decisions.proofs.OneChannel.{none_is_some}
 use Rattle.leaf_decisions.proofs.Rounds.{on_test, on_no_test, counts_by}
 use Rattle.leaf_decisions.proofs.spans.may_count_on.Goals as goal

@@ -1,4 +1,4 @@
-use Rattle.std.proofs.Common.{ℕ, ◌==◌, Bool, replicate, false, length, ap, sym, ◌∙◌}
+use Rattle.std.proofs.Common.{ℕ, ◌==◌, replicate, false, length, ap, sym, ◌∙◌}
 use Rattle.std.proofs.lemmas.List.{length-map}
 use Rattle.leaf_decisions.proofs.Counted.{none_up_first, none_up_later}
 use Rattle.leaf_decisions.proofs.flags.Flags.take_down.Goals as goal

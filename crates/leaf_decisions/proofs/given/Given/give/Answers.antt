@@ -1,6 +1,4 @@
-use Rattle.std.proofs.Common.{◌≡◌, ◌∙◌, refl, sym, length-set, true}
-use Rattle.step_reads.specs.declared.fact.Fact.{Fact}
-use Rattle.step_reads.specs.declared.fact.Fact.TheVariants.{Start, End, FirstRound, LateRound, Order, Closed}
+use Rattle.std.proofs.Common.{◌∙◌, refl, sym, length-set, true}
 use Rattle.decision_paths.specs.Tables.{order_place}
 use Rattle.leaf_decisions.proofs.Gives.{given_still, given_least, given_greatest, given_before, flags_still}
 use Rattle.leaf_decisions.proofs.given.Given.give.Goals as goal

@@ -1,4 +1,4 @@
-use Rattle.std.proofs.Common.{◌≡◌, ◌<◌, length, arith, sym, subst, ◌∙◌}
+use Rattle.std.proofs.Common.{◌≡◌, length, arith, sym, subst, ◌∙◌}
 use Rattle.ttp_model.specs.Instance.{Instance}
 use Rattle.leaf_decisions.specs.Steps.{HasFlags}
 use Rattle.leaf_decisions.proofs.UsedBy.{begun, used_is_kept_of, wider}

@@ -1,5 +1,5 @@
 use Rattle.std.proofs.Common.{ℕ, ◌<◌, length, All, sym, subst, ◌∙◌}
-use Rattle.tt_choice.specs.Kept.{fixes_above, fixes_below}
+use Rattle.tt_choice.specs.Kept.{fixes_above}
 use Rattle.decision_paths.specs.declared.turn.Turn.{Turn}
 use Rattle.decision_paths.specs.Turns.{last_of, placed_of}
 use Rattle.leaf_decisions.proofs.Marked.{placed_hold, places_grown, places_marked, told_grown}
