@@ -20,7 +20,8 @@ root_leaf_bounds i leaf w closes plan valid =
     elim (cases_order (delay i reached.0) leaf.goal) [
       | inl same ↦ omega (arith, same, reached.2)
       | inr other ↦ elim other [
-        | inl below ↦ absurd (leaf_leaves_none i (root_choice i) leaf w (IsChoice-root i w) (closes_sharply i (root_choice i) leaf closes) reached.0 (record { settled = reached.1; chosen = chosen; better = below }))
+        | inl below ↦ absurd (leaf_leaves_none i (root_choice i) leaf w (IsChoice-root i w) (closes_sharply i (root_choice i) leaf closes) reached.0
+            (record { settled = reached.1; chosen = chosen; better = below }))
         | inr above ↦ omega (arith, above, reached.2)
       ]
     ]

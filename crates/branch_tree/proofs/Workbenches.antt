@@ -26,14 +26,17 @@ pub none_made : (ds : List Decision) (p : Propagator) → p.decisions ≡ [] →
 none_made ds p none = subst (λ (made : List Decision). made ≡ take (length made) ds) (sym none) refl
 
 -- the next decision is open
-pub next_open : (i : Instance) (p : Propagator) (ds : List Decision) (k : ℕ) (d : Decision) → IsPropagation p → p.instance ≡ i → AreOpenDecisions i (root_choice i) ds → p.decisions ≡ take k ds → k < length ds → IsOpenDecision p.instance p.current.facts.choice (slice_index_or ds k d)
+pub next_open : (i : Instance) (p : Propagator) (ds : List Decision) (k : ℕ) (d : Decision) → IsPropagation p → p.instance ≡ i
+      → AreOpenDecisions i (root_choice i) ds → p.decisions ≡ take k ds → k < length ds
+      → IsOpenDecision p.instance p.current.facts.choice (slice_index_or ds k d)
 next_open i p ds k d is same are made inside =
     let here : AreOpenDecisions p.instance (root_choice p.instance) ds = subst (λ (j : Instance). AreOpenDecisions j (root_choice j) ds) (sym same) are in
     let choice : p.current.facts.choice ≡ chosen p.instance (take k ds) = ap (λ (s : Facts). s.choice) is.current.facts ∙ ap (chosen p.instance) made in
     subst (λ (c : Choice). IsOpenDecision p.instance c (slice_index_or ds k d)) (sym choice) (open_at p.instance (root_choice p.instance) ds k d here inside)
 
 -- all are made, or no plan is left
-pub comes_to : (i : Instance) (goal : ℕ) (ds : List Decision) (p : Propagator) (k : ℕ) → p.instance ≡ i → p.goal ≡ goal → p.decisions ≡ take k ds → k ≤ length ds → (k < length ds → IsTrue p.current.facts.known.closed) → ComesTo i goal ds p
+pub comes_to : (i : Instance) (goal : ℕ) (ds : List Decision) (p : Propagator) (k : ℕ) → p.instance ≡ i → p.goal ≡ goal → p.decisions ≡ take k ds
+      → k ≤ length ds → (k < length ds → IsTrue p.current.facts.known.closed) → ComesTo i goal ds p
 comes_to i goal ds p k same goal_is made within closed =
     let many : length p.decisions ≡ k = ap length made ∙ length-take-le k ds within in
     record {
@@ -43,7 +46,8 @@ comes_to i goal ds p k same goal_is made within closed =
     }
 
 -- where all decisions are made
-module _ (i : Instance) (goal : ℕ) (ds : List Decision) (p : Propagator) (comes : ComesTo i goal ds p) (is : IsPropagation p) (whole : length ds ≤ length p.decisions) where
+module _ (i : Instance) (goal : ℕ) (ds : List Decision) (p : Propagator) (comes : ComesTo i goal ds p) (is : IsPropagation p)
+    (whole : length ds ≤ length p.decisions) where
   here : IsLog i (chosen i ds) goal p.current
   here =
       let all : p.decisions ≡ ds = comes.first ∙ take_all (length p.decisions) ds whole in

@@ -30,7 +30,8 @@ use Rattle.tree_check.proofs.Bounds.{proved_bound, proved_none}
 use Rattle.tree_check.proofs.NoFaults.{only_memory}
 
 -- what is answered of a text in some way is answered of it in every way that tells as much
-pub answer_by : (i : Instance) (Tells Others : Reading Cert → Type 0) (answer : Result ℕ StreamFault) → ((reading : Reading Cert) → Tells reading → Others reading) → IsAnswerOf i Tells answer → IsAnswerOf i Others answer
+pub answer_by : (i : Instance) (Tells Others : Reading Cert → Type 0) (answer : Result ℕ StreamFault)
+      → ((reading : Reading Cert) → Tells reading → Others reading) → IsAnswerOf i Tells answer → IsAnswerOf i Others answer
 answer_by i Tells Others (Ok low) more is = (is.0, more (Ok is.0) is.1, is.2)
 answer_by i Tells Others (Err Read) more is = tt
 answer_by i Tells Others (Err TooLong) more is = tt
@@ -62,28 +63,33 @@ judged_memory i cert LowTooGreat proves judged = absurd (omega (arith, proves.lo
 judged_memory i cert (At line fault) proves judged = only_memory i cert (At line fault) proves judged.1
 judged_memory i cert OutOfMemory proves judged = refl
 
-pub bound_of_proof : (i : Instance) (known next : Option (List ℕ)) (answer : Result ℕ StreamFault) → IsStreamJudged i known answer → IsTakenFrom known next answer
+pub bound_of_proof : (i : Instance) (known next : Option (List ℕ)) (answer : Result ℕ StreamFault) → IsStreamJudged i known answer
+      → IsTakenFrom known next answer
     → IfSome known (λ bytes. (cert : Cert) → length bytes ≤ most_text_bytes → SpellsCert bytes cert → Proves i cert → IsBoundUnlessStopped cert.low answer)
 bound_of_proof i None next answer judged taken = tt
-bound_of_proof i (Some bytes) next (Ok low) judged taken = λ cert within spelled proves. judged.2.0 ∙ ap (λ (c : Cert). c.low) (reads_cert bytes cert spelled judged.0 judged.1)
+bound_of_proof i (Some bytes) next (Ok low) judged taken =
+    λ cert within spelled proves. judged.2.0 ∙ ap (λ (c : Cert). c.low) (reads_cert bytes cert spelled judged.0 judged.1)
 bound_of_proof i (Some bytes) next (Err Read) judged taken = λ cert within spelled proves. tt
 bound_of_proof i (Some bytes) next (Err TooLong) judged taken = λ cert within spelled proves.
     let over : taken.taken ≡ most_text_bytes + 1 = taken.all in
     absurd (omega (arith, within, over, taken.from.count, few_taken bytes taken.from.bytes next taken.from.consumes))
 bound_of_proof i (Some bytes) next (Err (Text text.OutOfMemory)) judged taken = λ cert within spelled proves. refl
-bound_of_proof i (Some bytes) next (Err (Text (text.At line fault))) judged taken = λ cert within spelled proves. absurd (reads_no_fault bytes cert spelled (text.At line fault) judged)
+bound_of_proof i (Some bytes) next (Err (Text (text.At line fault))) judged taken =
+    λ cert within spelled proves. absurd (reads_no_fault bytes cert spelled (text.At line fault) judged)
 bound_of_proof i (Some bytes) next (Err (InCert fault)) judged taken = λ cert within spelled proves.
     judged_memory i cert fault proves (subst (λ (c : Cert). IsJudged i c (Err fault)) (reads_cert bytes cert spelled judged.0 judged.1) judged.2)
 
 -- ---- what is answered of a whole text by what is told of its nodes
 
-pub answer_of_lines : (i : Instance) (Tells : Reading Cert → Type 0) (taken : ℕ) (fault : SourceFault) → IsCertFault Tells taken fault → IsAnswerOf i Tells (Err (fault_of_source fault)) × StopsAt taken (Err (fault_of_source fault))
+pub answer_of_lines : (i : Instance) (Tells : Reading Cert → Type 0) (taken : ℕ) (fault : SourceFault) → IsCertFault Tells taken fault
+      → IsAnswerOf i Tells (Err (fault_of_source fault)) × StopsAt taken (Err (fault_of_source fault))
 answer_of_lines i Tells taken source.Read is = (tt, tt)
 answer_of_lines i Tells taken source.TooLong is = (tt, is)
 answer_of_lines i Tells taken (source.Text text.OutOfMemory) is = (tt, tt)
 answer_of_lines i Tells taken (source.Text (text.At line fault)) is = (is, tt)
 
-module _ {R : Type 0} (i : Instance) (low : ℕ) (remaining : R → Option (List ℕ)) (s : CertStream R) (Tells : Reading Cert → Type 0) (whole : (read : Reading (List Node)) → LeavesNodes remaining s read → Tells (certificate_with (stream_version s) low read)) (taken : ℕ) where
+module _ {R : Type 0} (i : Instance) (low : ℕ) (remaining : R → Option (List ℕ)) (s : CertStream R) (Tells : Reading Cert → Type 0)
+    (whole : (read : Reading (List Node)) → LeavesNodes remaining s read → Tells (certificate_with (stream_version s) low read)) (taken : ℕ) where
   pub answer_of_rest : (fault : StreamFault) → IsLinesFault (LeavesNodes remaining s) taken fault → IsAnswerOf i Tells (Err fault) × StopsAt taken (Err fault)
   answer_of_rest Read is = (tt, tt)
   answer_of_rest TooLong is = (tt, is)
@@ -101,20 +107,25 @@ module _ {R : Type 0} (i : Instance) (low : ℕ) (remaining : R → Option (List
     answer_of_fault (Text text.OutOfMemory) is = (tt, tt)
     answer_of_fault (Text (text.At line fault)) is = (whole (Err (text.At line fault)) is, tt)
     answer_of_fault (InCert LowTooGreat) is = absurd is.1.1
-    answer_of_fault (InCert (At line fault)) is = ((record { version = stream_version s; low = low; tree = trees_of is.0 }, whole (Ok is.0) is.1.0, (within, is.1.1)), tt)
+    answer_of_fault (InCert (At line fault)) is =
+        ((record { version = stream_version s; low = low; tree = trees_of is.0 }, whole (Ok is.0) is.1.0, (within, is.1.1)), tt)
     answer_of_fault (InCert OutOfMemory) is = ((record { version = stream_version s; low = low; tree = trees_of is.0 }, whole (Ok is.0) is.1.0, within), tt)
 
     pub proof_of_all : AnswersAll i low remaining s taken (Ok tt) → IsAnswerOf i Tells (Ok low)
-    proof_of_all is = (record { version = stream_version s; low = low; tree = trees_of is.0 }, whole (Ok is.0) is.1.0, (refl, record { low = within; tree = is.1.1 }))
+    proof_of_all is =
+        (record { version = stream_version s; low = low; tree = trees_of is.0 }, whole (Ok is.0) is.1.0, (refl, record { low = within; tree = is.1.1 }))
 
     pub bound_of_all : IsInstance i → AnswersAll i low remaining s taken (Ok tt) → IsLowerBound i low
-    bound_of_all instance is = proved_bound i (record { version = stream_version s; low = low; tree = trees_of is.0 }) instance (record { low = within; tree = is.1.1 })
+    bound_of_all instance is =
+        proved_bound i (record { version = stream_version s; low = low; tree = trees_of is.0 }) instance (record { low = within; tree = is.1.1 })
 
     pub none_of_all : IsInstance i → AnswersAll i low remaining s taken (Ok tt) → low ≡ i.cluster.horizon + 1 → HasNoPlan i
-    none_of_all instance is past = proved_none i (record { version = stream_version s; low = low; tree = trees_of is.0 }) instance (record { low = within; tree = is.1.1 }) past
+    none_of_all instance is past =
+        proved_none i (record { version = stream_version s; low = low; tree = trees_of is.0 }) instance (record { low = within; tree = is.1.1 }) past
 
 -- what is wrong with lines that are read alone
-pub passing_fails : {R : Type 0} (i : Instance) (low : ℕ) (remaining : R → Option (List ℕ)) (s : CertStream R) (taken : ℕ) (fault : StreamFault) → IsLinesFault (LeavesNodes remaining s) taken fault → AnswersAll i low remaining s taken (Err fault)
+pub passing_fails : {R : Type 0} (i : Instance) (low : ℕ) (remaining : R → Option (List ℕ)) (s : CertStream R) (taken : ℕ) (fault : StreamFault)
+      → IsLinesFault (LeavesNodes remaining s) taken fault → AnswersAll i low remaining s taken (Err fault)
 passing_fails i low remaining s taken Read is = tt
 passing_fails i low remaining s taken TooLong is = is
 passing_fails i low remaining s taken (Text text.OutOfMemory) is = tt

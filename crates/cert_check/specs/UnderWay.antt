@@ -40,10 +40,12 @@ total_due (count ∷ above) = count + total_due above
 -- whatever nodes are left at a place, behind these ones they are what was left at first
 abbrev pub AreBehind : {R : Type 0} → (R → Option (List ℕ)) → (first at : CertStream R) → List Node → Type 0
 AreBehind remaining first at seen =
-    IsGivenSoFar (stream_version first) (StreamLeaves remaining first) (stream_version at) (StreamLeaves remaining at) (still_to_come first) (still_to_come at) (next_line first) (next_line at) seen
+    IsGivenSoFar (stream_version first) (StreamLeaves remaining first) (stream_version at) (StreamLeaves remaining at) (still_to_come first)
+        (still_to_come at) (next_line first) (next_line at) seen
 
 -- Nodes were taken, of which these leaves wait, and trees for these choices are to follow.
-pub record IsReadSoFar {R : Type 0} (i : Instance) (low : ℕ) (remaining : R → Option (List ℕ)) (first at : CertStream R) (left : List Choice) (rs : List ReadLeaf) : Type 0 where
+pub record IsReadSoFar {R : Type 0} (i : Instance) (low : ℕ) (remaining : R → Option (List ℕ)) (first at : CertStream R) (left : List Choice)
+    (rs : List ReadLeaf) : Type 0 where
   pub seen : List Node
   pub behind_them : AreBehind remaining first at seen
   pub so_far : IsSeen i low seen rs left
@@ -55,7 +57,8 @@ TellsUnread remaining first at hs =
     (fault : CertTextError) → IsUnread hs fault → (read : Reading (List Node)) → LeavesNodes remaining at read → LeavesNodes remaining first (Err fault)
 
 -- Nodes were taken, and these leaves wait, whatever their steps say.
-pub record IsUnderWay {R : Type 0} (i : Instance) (low : ℕ) (remaining : R → Option (List ℕ)) (first at : CertStream R) (left : List Choice) (hs : List HeldLeaf) : Type 0 where
+pub record IsUnderWay {R : Type 0} (i : Instance) (low : ℕ) (remaining : R → Option (List ℕ)) (first at : CertStream R) (left : List Choice)
+    (hs : List HeldLeaf) : Type 0 where
   pub count : length left ≡ total_due (reverse (still_to_come at))
   pub waits : All (Waits i) hs
   pub unread : TellsUnread remaining first at hs
@@ -72,7 +75,8 @@ IsLinesFault Tells taken (Text (text.At line fault)) = Tells (Err (text.At line 
 IsLinesFault Tells taken (InCert fault) = ⊥
 
 -- The next choice is that of a branch with this fault, behind whose line the stream stands.
-pub record IsWrongBranch {R : Type 0} (i : Instance) (remaining : R → Option (List ℕ)) (at now : CertStream R) (left : List Choice) (own : CertFault) : Type 0 where
+pub record IsWrongBranch {R : Type 0} (i : Instance) (remaining : R → Option (List ℕ)) (at now : CertStream R) (left : List Choice) (own : CertFault)
+    : Type 0 where
   pub branch : Branch
   pub choice : Choice
   pub others : List Choice
@@ -92,7 +96,8 @@ IsAhead i remaining at now w left (Fault (Text text.OutOfMemory)) = Unit {0}
 IsAhead i remaining at now w left (Fault (Text (text.At line fault))) = LeavesNodes remaining at (Err (text.At line fault))
 
 -- Some nodes of a stream were taken, these leaves wait, and this is ahead.
-pub record Stands {R : Type 0} (i : Instance) (low : ℕ) (remaining : R → Option (List ℕ)) (first now : CertStream R) (w : Walk) (hs : List HeldLeaf) (ahead : Ahead) : Type 0 where
+pub record Stands {R : Type 0} (i : Instance) (low : ℕ) (remaining : R → Option (List ℕ)) (first now : CertStream R) (w : Walk) (hs : List HeldLeaf)
+    (ahead : Ahead) : Type 0 where
   pub at : CertStream R
   pub left : List Choice
   pub under_way : IsUnderWay i low remaining first at left hs
@@ -157,7 +162,8 @@ Fits i left line (Fault TooLong) rest = ⊥
 Fits i left line (Fault (Text error)) rest = ⊥
 
 -- what is said of them
-abbrev pub LeavesRest : {R : Type 0} → Instance → (R → Option (List ℕ)) → (at : CertStream R) → List Choice → Ahead → (taken : ℕ) → Result (Unit {0}) StreamFault → Type 0
+abbrev pub LeavesRest : {R : Type 0} → Instance → (R → Option (List ℕ)) → (at : CertStream R) → List Choice → Ahead → (taken : ℕ)
+      → Result (Unit {0}) StreamFault → Type 0
 LeavesRest i remaining at left ahead taken (Ok _) = (rest : List Node) × (LeavesNodes remaining at (Ok rest) × Fits i left (next_line at) ahead rest)
 LeavesRest i remaining at left ahead taken (Err fault) = IsLinesFault (LeavesNodes remaining at) taken fault
 

@@ -17,5 +17,6 @@ misstated i plan own stated old line new valid is other first behind =
     record {
       text = told ++ behind.text;
       is = record { valid = valid; other = λ same. other (is ∙ same); words = behind.text; are = behind.is; told = refl };
-      joined = behind.joined ∙ ap (λ (t : List ℕ). t ++ behind.text) (first ∙ ap (λ (d : ℕ). old ++ line_of (StatedDelay d)) is) ∙ append_assoc old told behind.text;
+      joined =
+          behind.joined ∙ ap (λ (t : List ℕ). t ++ behind.text) (first ∙ ap (λ (d : ℕ). old ++ line_of (StatedDelay d)) is) ∙ append_assoc old told behind.text;
     }

@@ -27,7 +27,8 @@ closes top id v s is_opening live none_out h at = (
   h.fits,
   (h.each id v at).below,
   h.at_most,
-  ⊎_elim (λ e. (0, omega arith, sym e)) (λ (x : (port : ℕ) × (u : View) × (get_elem? s.views port ≡ some u) × Contains u.offers h.word). Contains-append_right (top ∷ []) v.offers h.word (mine x.0 x.1 x.2 x.3 (ℕ_discrete x.0 id))) h.reached,
+  ⊎_elim (λ e. (0, omega arith, sym e)) (λ (x : (port : ℕ) × (u : View) × (get_elem? s.views port ≡ some u) × Contains u.offers h.word).
+      Contains-append_right (top ∷ []) v.offers h.word (mine x.0 x.1 x.2 x.3 (ℕ_discrete x.0 id))) h.reached,
 ) where
   mine : (p : ℕ) (u : View) → get_elem? s.views p ≡ some u → Contains u.offers h.word → Dec (p ≡ id) → Contains v.offers h.word
   mine p u there has (yes e) = subst (λ (x : View). Contains x.offers h.word) (some-injective u v (sym there ∙ ap (get_elem? s.views) e ∙ at)) has
@@ -41,7 +42,8 @@ closes top id v s is_opening live none_out h at = (
       absurd (nothing_there u.offers h.word ((h.each p u there).ended (weightless u.live zero_weight)) has)
 
 -- what the table ends with
-pub ends : (top id : ℕ) (v : View) (words : List ℕ) (slots : List (Unit {0})) (r : ℕ) → v.opening ≡ true → v.live ≡ true → v.out ≡ 0 → Final (Seen (Kept top) id v) words slots → get_elem? words 0 ≡ some r → IsLeast (top ∷ v.offers) r
+pub ends : (top id : ℕ) (v : View) (words : List ℕ) (slots : List (Unit {0})) (r : ℕ) → v.opening ≡ true → v.live ≡ true → v.out ≡ 0
+      → Final (Seen (Kept top) id v) words slots → get_elem? words 0 ≡ some r → IsLeast (top ∷ v.offers) r
 ends top id v words slots r is_opening live none_out last found =
     let end = closes top id v last.0 is_opening live none_out last.1.0 last.1.1 in
     let n : ℕ = end.0 in

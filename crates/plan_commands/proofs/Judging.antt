@@ -28,12 +28,14 @@ horizon_above : (i : Instance) (certificate : List ℕ) (best : Option ℕ) (low
 horizon_above i certificate best low is bound =
     rw is (omega (arith, bound.proves.low, bound.low_is))
 
-above : (i : Instance) (begun : Front) (rest certificate : List ℕ) (best : Option ℕ) (low : ℕ) → StandsBehind i begun rest best → HasBound i certificate low → low ≤ limit_of i best
+above : (i : Instance) (begun : Front) (rest certificate : List ℕ) (best : Option ℕ) (low : ℕ) → StandsBehind i begun rest best
+      → HasBound i certificate low → low ≤ limit_of i best
 above i front.Plan rest certificate best low stands bound = plan_above i rest certificate best low stands bound
 above i front.Stopped rest certificate best low stands bound = plan_above i rest certificate best low stands bound
 above i front.NoPlan rest certificate best low stands bound = horizon_above i certificate best low stands.1 bound
 
-pub bound_below : (i : Instance) (plan certificate : List ℕ) (best : Option ℕ) (low : ℕ) → StandsFor i plan best → HasBound i certificate low → low ≤ limit_of i best
+pub bound_below : (i : Instance) (plan certificate : List ℕ) (best : Option ℕ) (low : ℕ) → StandsFor i plan best → HasBound i certificate low
+      → low ≤ limit_of i best
 bound_below i plan certificate best low stands bound = above i stands.begun stands.rest certificate best low stands.stands bound
 
 -- ---- a judgement that is told
@@ -86,10 +88,14 @@ module _ (instance plan certificate : List ℕ) (old : Option (List ℕ)) where
   unbounded : (i : Instance) (best : Option ℕ) → HasInstance instance i → StandsFor i plan best → (fault : Fault) → IsCertificateFault i certificate fault
       → IsJudgeAnswer instance plan certificate old old (Refused fault)
   unbounded i best has stands Memory refused = (tt, keeps old)
-  unbounded i best has stands (Unread source.Certificate) refused = (record { problem = i; has_instance = has; best = best; stands = stands; refused = refused }, keeps old)
-  unbounded i best has stands (TooLong source.Certificate) refused = (record { problem = i; has_instance = has; best = best; stands = stands; refused = refused }, keeps old)
-  unbounded i best has stands (CertificateText error) refused = (record { problem = i; has_instance = has; best = best; stands = stands; refused = refused }, keeps old)
-  unbounded i best has stands (Certificate fault) refused = (record { problem = i; has_instance = has; best = best; stands = stands; refused = refused }, keeps old)
+  unbounded i best has stands (Unread source.Certificate) refused =
+      (record { problem = i; has_instance = has; best = best; stands = stands; refused = refused }, keeps old)
+  unbounded i best has stands (TooLong source.Certificate) refused =
+      (record { problem = i; has_instance = has; best = best; stands = stands; refused = refused }, keeps old)
+  unbounded i best has stands (CertificateText error) refused =
+      (record { problem = i; has_instance = has; best = best; stands = stands; refused = refused }, keeps old)
+  unbounded i best has stands (Certificate fault) refused =
+      (record { problem = i; has_instance = has; best = best; stands = stands; refused = refused }, keeps old)
   unbounded i best has stands NoMark refused = absurd refused
   unbounded i best has stands (LossForm k) refused = absurd refused
   unbounded i best has stands (InstanceText error) refused = absurd refused

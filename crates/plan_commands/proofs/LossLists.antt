@@ -21,7 +21,8 @@ spelled_at (word ∷ words) (loss ∷ losses) all (suc k) there = spelled_at wor
 pub well_formed : (words : List (List ℕ)) (losses : List LossWord) → AllSpell words losses → AreLossWords words
 well_formed words losses all = λ k there. spelled_at words losses all k there
 
-AllSpell-push : (words : List (List ℕ)) (losses : List LossWord) (word : List ℕ) (loss : LossWord) → AllSpell words losses → Spells word loss → AllSpell (words ++ word ∷ []) (losses ++ loss ∷ [])
+AllSpell-push : (words : List (List ℕ)) (losses : List LossWord) (word : List ℕ) (loss : LossWord) → AllSpell words losses → Spells word loss
+      → AllSpell (words ++ word ∷ []) (losses ++ loss ∷ [])
 AllSpell-push [] [] word loss all spelled = (spelled, tt)
 AllSpell-push [] (l ∷ losses) word loss all spelled = absurd all
 AllSpell-push (w ∷ words) [] word loss all spelled = absurd all
@@ -41,7 +42,8 @@ module _ (words : List (List ℕ)) (losses : List LossWord) (k : ℕ) (there : k
   spelled_more loss spelled = rw (take_more words k [] there) (AllSpell-push (take k words) losses (slice_index_or words k []) loss before spelled)
 
 -- the same of texts that are borrowed, of which this one is at k
-module _ (words : List (Bor (List ℕ))) (losses : List LossWord) (k : ℕ) (d : Bor (List ℕ)) (there : k < length words) (before : AllSpell (take k (bytes_of words)) losses) (word : List ℕ) (is : word ≡ (slice_index_or words k d).now) where
+module _ (words : List (Bor (List ℕ))) (losses : List LossWord) (k : ℕ) (d : Bor (List ℕ)) (there : k < length words)
+    (before : AllSpell (take k (bytes_of words)) losses) (word : List ℕ) (is : word ≡ (slice_index_or words k d).now) where
   bytes_at : slice_index_or (bytes_of words) k [] ≡ word
   bytes_at = get_or-map (λ (w : Bor (List ℕ)). w.now) words k d [] there ∙ sym is
 
@@ -62,14 +64,17 @@ module _ (f : ℕ → Loss) (p : ℕ → Bool) (before : List Loss) (n : ℕ) wh
       rw (more, map-append f (filter p (range_with_len 0 n)) (cond (p n) (n ∷ []) [])) refl
 
   -- one loss more, where the node passes the test
-  kept : (now : List Loss) → p n ≡ true → now ≡ before ++ map f (filter p (range_with_len 0 n)) → now ++ f n ∷ [] ≡ before ++ map f (filter p (range_with_len 0 (n + 1)))
+  kept : (now : List Loss) → p n ≡ true → now ≡ before ++ map f (filter p (range_with_len 0 n))
+        → now ++ f n ∷ [] ≡ before ++ map f (filter p (range_with_len 0 (n + 1)))
   kept now passes is = rw (kept-more, passes, is) (append_assoc before (map f (filter p (range_with_len 0 n))) (f n ∷ []))
 
   -- and none more where it doesn't
-  left_out : (now : List Loss) → p n ≡ false → now ≡ before ++ map f (filter p (range_with_len 0 n)) → now ≡ before ++ map f (filter p (range_with_len 0 (n + 1)))
+  left_out : (now : List Loss) → p n ≡ false → now ≡ before ++ map f (filter p (range_with_len 0 n))
+        → now ≡ before ++ map f (filter p (range_with_len 0 (n + 1)))
   left_out now fails is = rw (kept-more, fails, append-nil (map f (filter p (range_with_len 0 n)))) is
 
-module _ (word : LossWord) (s : ℕ) (before : List Loss) (n : ℕ) (now : List Loss) (is : now ≡ before ++ map (loss_at word) (filter (λ m. not (m == s)) (range_with_len 0 n))) where
+module _ (word : LossWord) (s : ℕ) (before : List Loss) (n : ℕ) (now : List Loss)
+    (is : now ≡ before ++ map (loss_at word) (filter (λ m. not (m == s)) (range_with_len 0 n))) where
   pub kept_receiver : n ≢ s → now ++ loss_at word n ∷ [] ≡ before ++ map (loss_at word) (filter (λ m. not (m == s)) (range_with_len 0 (n + 1)))
   kept_receiver other = elim (eqb_tells n s) [
     | inl same ↦ absurd (other same.1)

@@ -100,7 +100,8 @@ module _ (limit : ℕ) (taken : Taken) (all : List ℕ) (at : ℕ) (is_taken : I
     refused = record { problem = i; has_instance = has_instance };
   }
 
-module _ (limit : ℕ) (taken : Taken) (all : List ℕ) (at : ℕ) (is_taken : IsTaken limit taken all) (ended : taken.stop ≡ AtEnd) (first : IsFirstMark taken.bytes.items at) where
+module _ (limit : ℕ) (taken : Taken) (all : List ℕ) (at : ℕ) (is_taken : IsTaken limit taken all) (ended : taken.stop ≡ AtEnd)
+    (first : IsFirstMark taken.bytes.items at) where
   -- nothing is behind what was taken
   all_taken : all ≡ taken.bytes.items
   all_taken =
@@ -160,6 +161,8 @@ module _ (limit : ℕ) (taken : Taken) (all : List ℕ) (at : ℕ) (is_taken : I
       refused = record { problem = i; has_instance = has_instance; refused = refused };
     }
 
-    pub outcome_all : (result : Result Verified Fault) → MatchResult result (IsVerifiedPlan i (drop (at + 3) taken.bytes.items)) (IsPlanFault i (drop (at + 3) taken.bytes.items)) → MatchResult result (IsVerifiedBundle all) (IsRefusedBundle all)
+    pub outcome_all : (result : Result Verified Fault)
+          → MatchResult result (IsVerifiedPlan i (drop (at + 3) taken.bytes.items)) (IsPlanFault i (drop (at + 3) taken.bytes.items))
+          → MatchResult result (IsVerifiedBundle all) (IsRefusedBundle all)
     outcome_all (Ok v) verified = verified_all v verified
     outcome_all (Err fault) refused = refused_all fault refused

@@ -109,7 +109,8 @@ module _ (line words : List ℕ) (first : Some words ≡ after_keyword (codes "s
 
       pub right_line : IsWhyWord why → IsNumber low → (o : Option Front) → IfSome o (λ front. IsBestWord front best) → IfSome o (IsStoppedLine line)
       right_line is_why is_low None is = tt
-      right_line is_why is_low (Some front) is = record { why = why; low = low; best = best; is_why = is_why; is_low = is_low; is_best = is; line_is = line_of_words }
+      right_line is_why is_low (Some front) is =
+          record { why = why; low = low; best = best; is_why = is_why; is_low = is_low; is_best = is; line_is = line_of_words }
 
 -- ---- how bytes begin
 
@@ -123,7 +124,8 @@ pub no_end : (bytes : List ℕ) → None ≡ cut 10 bytes → (front : Front) (r
 no_end bytes none front rest is = none_some _ _ none (ends_at bytes rest front is)
 
 -- bytes whose line isn't one of a search that was stopped
-pub no_line : (bytes line rest : List ℕ) → Some (line, rest) ≡ cut 10 bytes → ((front : Front) → ¬ IsStoppedLine line front) → (front : Front) (behind : List ℕ) → ¬ BeginsStopped bytes front behind
+pub no_line : (bytes line rest : List ℕ) → Some (line, rest) ≡ cut 10 bytes → ((front : Front) → ¬ IsStoppedLine line front)
+      → (front : Front) (behind : List ℕ) → ¬ BeginsStopped bytes front behind
 no_line bytes line rest cuts wrong front behind is =
     let same = some_once _ _ _ cuts (ends_at bytes behind front is) in
     wrong front (subst (λ (text : List ℕ). IsStoppedLine text front) (sym (ap (λ (p : List ℕ × List ℕ). p.0) same)) is.is)

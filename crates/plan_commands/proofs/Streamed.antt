@@ -20,7 +20,8 @@ use Rattle.plan_commands.specs.Certified.{HasBound, IsCertificateFault, fault_of
 -- ---- how many bytes were taken
 
 -- all bytes were taken, and they are within the limit
-all_within : (bytes taken : List ℕ) (next : Option (List ℕ)) → Consumes (Some bytes) next taken → length taken ≤ certificate_limit → IsAtEnd next → length bytes ≤ certificate_limit
+all_within : (bytes taken : List ℕ) (next : Option (List ℕ)) → Consumes (Some bytes) next taken → length taken ≤ certificate_limit → IsAtEnd next
+      → length bytes ≤ certificate_limit
 all_within bytes taken None consumes few ended = absurd consumes
 all_within bytes taken (Some rest) consumes few ended =
     let whole : bytes ≡ taken = consumes ∙ (ap (λ (r : List ℕ). taken ++ r) ended ∙ append-nil taken) in
@@ -31,7 +32,8 @@ all_within bytes taken (Some rest) consumes few ended =
 spelled_by : (bytes : List ℕ) (cert : Cert) → BytesRead (Some bytes) (Ok cert) → SpellsCert bytes cert
 spelled_by bytes cert read = subst (λ (t : List ℕ). SpellsCert t cert) (sym read.1.0) (takes read.0 cert read.1.1)
 
-pub bound_of_stream : (i : Instance) (known next : Option (List ℕ)) (low : ℕ) → IsStreamJudged i known (Ok low) → IsTakenFrom known next (Ok low) → IsLowerBound i low → IfSome known (λ bytes. HasBound i bytes low)
+pub bound_of_stream : (i : Instance) (known next : Option (List ℕ)) (low : ℕ) → IsStreamJudged i known (Ok low) → IsTakenFrom known next (Ok low)
+      → IsLowerBound i low → IfSome known (λ bytes. HasBound i bytes low)
 bound_of_stream i None next low judged taken bound = tt
 bound_of_stream i (Some bytes) next low judged taken bound = record {
   cert = judged.0;
@@ -44,7 +46,8 @@ bound_of_stream i (Some bytes) next low judged taken bound = record {
   bound = bound;
 }
 
-pub fault_of_stream : (i : Instance) (known next : Option (List ℕ)) (fault : StreamFault) → IsStreamJudged i known (Err fault) → IsTakenFrom known next (Err fault) → IfSome known (λ bytes. IsCertificateFault i bytes (fault_of fault))
+pub fault_of_stream : (i : Instance) (known next : Option (List ℕ)) (fault : StreamFault) → IsStreamJudged i known (Err fault)
+      → IsTakenFrom known next (Err fault) → IfSome known (λ bytes. IsCertificateFault i bytes (fault_of fault))
 fault_of_stream i None next fault judged taken = tt
 fault_of_stream i (Some bytes) next Read judged taken = tt
 fault_of_stream i (Some bytes) next TooLong judged taken =

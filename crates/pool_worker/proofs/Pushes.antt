@@ -10,7 +10,8 @@ use Rattle.pool_worker.specs.Run.{Pushes}
 pub none_pushed : (before tasks : List Task) → Pushes before before tasks tasks
 none_pushed before tasks = record { gave = []; pushes = sym (append-nil before); all = IsPermutation-refl tasks }
 
-pub one_pushed : (before after more tasks left rest : List Task) (t : Task) → Pushes before after tasks left → left ≡ rest ++ t ∷ [] → more ≡ after ++ t ∷ [] → Pushes before more tasks rest
+pub one_pushed : (before after more tasks left rest : List Task) (t : Task) → Pushes before after tasks left → left ≡ rest ++ t ∷ []
+      → more ≡ after ++ t ∷ [] → Pushes before more tasks rest
 one_pushed before after more tasks left rest t p is then =
     let turned = IsPermutation-append_right p.gave _ _ (IsPermutation-append_comm rest (t ∷ [])) in
     let behind = then_same _ _ _ p.all (ap (λ (l : List Task). p.gave ++ l) is) in
@@ -22,4 +23,5 @@ one_pushed before after more tasks left rest t p is then =
 
 -- the same of tasks in another order
 pub pushed_of : (before after tasks turned left : List Task) → IsPermutation tasks turned → Pushes before after turned left → Pushes before after tasks left
-pushed_of before after tasks turned left same p = record { gave = p.gave; pushes = p.pushes; all = IsPermutation-trans tasks turned (p.gave ++ left) same p.all }
+pushed_of before after tasks turned left same p =
+    record { gave = p.gave; pushes = p.pushes; all = IsPermutation-trans tasks turned (p.gave ++ left) same p.all }

@@ -28,14 +28,16 @@ pub same_hand_still : {J : Type 0} (a b c : Hand J) → IsSameHand a b → IsSam
 same_hand_still a b c h k = record { number = k.number ∙ h.number; own = k.own ∙ h.own; deques = k.deques ∙ h.deques; out = k.out ∙ h.out }
 
 -- one more at the end
-pub taken_more : {X : Type 0} (t : X) (new old begun took : List X) → IsPermutation new (t ∷ old) → IsPermutation old (begun ++ took) → IsPermutation new (begun ++ (took ++ t ∷ []))
+pub taken_more : {X : Type 0} (t : X) (new old begun took : List X) → IsPermutation new (t ∷ old) → IsPermutation old (begun ++ took)
+      → IsPermutation new (begun ++ (took ++ t ∷ []))
 taken_more t new old begun took h k =
     IsPermutation-trans _ _ _ h (IsPermutation-trans _ _ _ (IsPermutation-cons t old (begun ++ took) k)
     (then_same _ _ _ (IsPermutation-append_comm (t ∷ []) (begun ++ took)) (append_assoc begun took (t ∷ []))))
 
 module _ {J : Type 0} (i : Instance) (begun : Hand J) where
   -- a task was taken, and left or kept in hand
-  pub account_leaves : (old new : Hand J) (pieces : List Piece) (t : Task) (spared after : List Task) (rest : Rest) → IsPermutation (taken new) (t ∷ taken old) → pushed new ≡ pushed old → IsTask i t
+  pub account_leaves : (old new : Hand J) (pieces : List Piece) (t : Task) (spared after : List Task) (rest : Rest)
+        → IsPermutation (taken new) (t ∷ taken old) → pushed new ≡ pushed old → IsTask i t
       → held after rest ≡ spared ++ t ∷ [] → unpushed rest ≡ [] → HasAccount i begun old pieces spared Nothing → HasAccount i begun new pieces after rest
   account_leaves old new pieces t spared after rest more same is held_is none a = record {
     turns = a.turns;
@@ -55,14 +57,16 @@ module _ {J : Type 0} (i : Instance) (begun : Hand J) where
   }
 
   -- and worked; what its branch gave was pushed, or is left
-  pub account_works : (old mid new : Hand J) (pieces : List Piece) (turn : Turn) (spared : List Task) (rest : Rest) → held spared rest ≡ spared → IsPermutation (taken mid) (turn.task ∷ taken old) → pushed mid ≡ pushed old
+  pub account_works : (old mid new : Hand J) (pieces : List Piece) (turn : Turn) (spared : List Task) (rest : Rest) → held spared rest ≡ spared
+        → IsPermutation (taken mid) (turn.task ∷ taken old) → pushed mid ≡ pushed old
       → taken new ≡ taken mid → Pushes (pushed mid) (pushed new) (born i turn) (unpushed rest) → IsTurn i turn → All (IsTask i) (unpushed rest)
       → HasAccount i begun old pieces spared Nothing → HasAccount i begun new (pieces ++ turn.piece ∷ []) spared rest
   account_works old mid new pieces turn spared rest none more same still p is left a =
       let one = turn.task ∷ [] in
       let tasks = map-append (λ (t : Turn). t.task) a.turns (turn ∷ []) in
       let grown = flat_map-append (born i) a.turns (turn ∷ []) ∙ ap (λ (l : List Task). all_born i a.turns ++ l) (append-nil (born i turn)) in
-      let behind = then_same _ _ _ (IsPermutation-append_left one a.took (tasks_of a.turns ++ spared) a.account.took) (append_assoc (tasks_of a.turns) spared one) in
+      let behind = then_same _ _ _ (IsPermutation-append_left one a.took (tasks_of a.turns ++ spared) a.account.took)
+          (append_assoc (tasks_of a.turns) spared one) in
       let turned = IsPermutation-append_right (tasks_of a.turns) _ _ (IsPermutation-append_comm spared one) in
       let gave = then_same _ _ _ a.account.gave (append-nil a.gave) in
       record {
@@ -75,8 +79,11 @@ module _ {J : Type 0} (i : Instance) (begun : Hand J) where
         pushes = p.pushes ∙ (ap (λ (l : List Task). l ++ p.gave) (same ∙ a.pushes) ∙ append_assoc (pushed begun) a.gave p.gave);
         account = record {
           took = then_same _ _ _ (IsPermutation-trans _ _ _ behind turned)
-              (sym (append_assoc (tasks_of a.turns) one spared) ∙ (ap (λ (l : List Task). l ++ spared) (sym tasks) ∙ ap (λ (l : List Task). tasks_of (a.turns ++ turn ∷ []) ++ l) (sym none)));
-          gave = first_same _ _ _ grown (then_same _ _ _ (IsPermutation-append (all_born i a.turns) a.gave (born i turn) (p.gave ++ unpushed rest) gave p.all) (sym (append_assoc a.gave p.gave (unpushed rest))));
+              (sym (append_assoc (tasks_of a.turns) one spared) ∙ (ap (λ (l : List Task). l ++ spared) (sym tasks) ∙ ap
+                  (λ (l : List Task). tasks_of (a.turns ++ turn ∷ []) ++ l) (sym none)));
+          gave =
+              first_same _ _ _ grown (then_same _ _ _ (IsPermutation-append (all_born i a.turns) a.gave (born i turn) (p.gave ++ unpushed rest)
+                  gave p.all) (sym (append_assoc a.gave p.gave (unpushed rest))));
         };
         one_of = subst (All (IsTask i)) (sym none) a.one_of;
         others_of = left;
@@ -102,7 +109,8 @@ module _ (begun old new : Watch) (before : Follows begun old) (after : Follows o
   pub reached_still : (x : ℕ) → IsReached old x → IsReached new x
   reached_still x r = record {
     value = r.value;
-    known = ⊎_elim (λ (e : Contains (seen old) r.value). inl (after.sees r.value e)) (λ (e : Contains (offers old) r.value). inr (after.offered r.value e)) r.known;
+    known =
+        ⊎_elim (λ (e : Contains (seen old) r.value). inl (after.sees r.value e)) (λ (e : Contains (offers old) r.value). inr (after.offered r.value e)) r.known;
     at_most = r.at_most;
   }
 
@@ -110,9 +118,11 @@ module _ (begun old new : Watch) (before : Follows begun old) (after : Follows o
   below_begun x h = (contains_below x (seen begun) (seen old) before.sees h.0, contains_below x (offers begun) (offers old) before.offered h.1)
 
   -- the goals of one more node
-  goals_grow : (goals : List ℕ) (made : Node) → AreGoals begun old goals → All (IsBelowView old) (goals_at made) → All (IsReached new) (goals_at made) → AreGoals begun new (goals ++ goals_at made)
+  goals_grow : (goals : List ℕ) (made : Node) → AreGoals begun old goals → All (IsBelowView old) (goals_at made)
+        → All (IsReached new) (goals_at made) → AreGoals begun new (goals ++ goals_at made)
   goals_grow goals (node.Branch b) h below reached =
-      subst (AreGoals begun new) (sym (append-nil goals)) (record { falls = h.falls; below = h.below; reached = All-weaker (IsReached old) (IsReached new) reached_still goals h.reached })
+      subst (AreGoals begun new) (sym (append-nil goals))
+          (record { falls = h.falls; below = h.below; reached = All-weaker (IsReached old) (IsReached new) reached_still goals h.reached })
   goals_grow goals (node.Leaf leaf) h below reached =
       let low = All-head (IsBelowView old) leaf.goal [] below in
       record {
@@ -124,9 +134,11 @@ module _ (begun old new : Watch) (before : Follows begun old) (after : Follows o
   pub goals_still : (goals : List ℕ) → AreGoals begun old goals → AreGoals begun new goals
   goals_still goals h = record { falls = h.falls; below = h.below; reached = All-weaker (IsReached old) (IsReached new) reached_still goals h.reached }
 
-  pub goals_more : (pieces all : List Piece) (piece : Piece) → all ≡ pieces ++ piece ∷ [] → AreGoals begun old (goals_of pieces) → All (IsBelowView old) (goals_at piece.node) → All (IsReached new) (goals_at piece.node) → AreGoals begun new (goals_of all)
+  pub goals_more : (pieces all : List Piece) (piece : Piece) → all ≡ pieces ++ piece ∷ [] → AreGoals begun old (goals_of pieces)
+        → All (IsBelowView old) (goals_at piece.node) → All (IsReached new) (goals_at piece.node) → AreGoals begun new (goals_of all)
   goals_more pieces all piece e h below reached =
-      let grown = ap goals_of e ∙ (flat_map-append (λ (p : Piece). goals_at p.node) pieces (piece ∷ []) ∙ ap (λ (l : List ℕ). goals_of pieces ++ l) (append-nil (goals_at piece.node))) in
+      let grown = ap goals_of e ∙ (flat_map-append (λ (p : Piece). goals_at p.node) pieces (piece ∷ [])
+          ∙ ap (λ (l : List ℕ). goals_of pieces ++ l) (append-nil (goals_at piece.node))) in
       subst (AreGoals begun new) (sym grown) (goals_grow (goals_of pieces) piece.node h below reached)
 
 -- ---- the best plan

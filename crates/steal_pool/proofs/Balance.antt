@@ -20,9 +20,11 @@ abbrev weight_of : Tally → ℕ
 weight_of v = cond v.live 1 0
 
 -- the count after a change of one view
-total_set : (views : List Tally) (port : ℕ) (v w : Tally) → get_elem? views port ≡ some v → live_count (set views port w) + weight_of v ≡ live_count views + weight_of w
+total_set : (views : List Tally) (port : ℕ) (v w : Tally) → get_elem? views port ≡ some v
+      → live_count (set views port w) + weight_of v ≡ live_count views + weight_of w
 total_set [] port v w e = absurd (some-ne-none v (sym e))
-total_set (x ∷ xs) zero v w e = let is : weight_of x ≡ weight_of v = ap weight_of (some-injective x v e) in omega (arith, sum_by-cons weight_of w xs, sum_by-cons weight_of x xs)
+total_set (x ∷ xs) zero v w e =
+    let is : weight_of x ≡ weight_of v = ap weight_of (some-injective x v e) in omega (arith, sum_by-cons weight_of w xs, sum_by-cons weight_of x xs)
 total_set (x ∷ xs) (suc port) v w e = omega (arith, sum_by-cons weight_of x (set xs port w), sum_by-cons weight_of x xs, total_set xs port v w e)
 
 same_count : (views : List Tally) (port : ℕ) (v w : Tally) → get_elem? views port ≡ some v → w.live ≡ v.live → live_count (set views port w) ≡ live_count views
@@ -33,7 +35,8 @@ weight_le [] port v e = absurd (some-ne-none v (sym e))
 weight_le (x ∷ xs) zero v e = let is : weight_of x ≡ weight_of v = ap weight_of (some-injective x v e) in omega (arith, sum_by-cons weight_of x xs)
 weight_le (x ∷ xs) (suc port) v e = omega (arith, sum_by-cons weight_of x xs, weight_le xs port v e)
 
-each_set : (F : ℕ → Tally → Type 0) (views : List Tally) (port : ℕ) (w : Tally) → F port w → ((j : ℕ) (u : Tally) → j ≢ port → get_elem? views j ≡ some u → F j u) → (j : ℕ) (u : Tally) → get_elem? (set views port w) j ≡ some u → F j u
+each_set : (F : ℕ → Tally → Type 0) (views : List Tally) (port : ℕ) (w : Tally) → F port w
+      → ((j : ℕ) (u : Tally) → j ≢ port → get_elem? views j ≡ some u → F j u) → (j : ℕ) (u : Tally) → get_elem? (set views port w) j ≡ some u → F j u
 each_set F views port w mine others j u e = ⊎_elim (λ (x : (j ≡ port) × (w ≡ u)). subst (λ (y : ℕ × Tally). F y.0 y.1) (λ i. (sym x.0 i, x.1 i)) mine)
     (λ (x : (j ≢ port) × (get_elem? views j ≡ some u)). others j u x.0 x.1) (at_set views port j w u e)
 
@@ -46,11 +49,14 @@ pushed_of : Tally → List Task
 pushed_of v = v.pushed
 
 -- the fits of all views where one view keeps all but its lists
-same_each : (views : List Tally) (port : ℕ) (v w : Tally) → get_elem? views port ≡ some v → w.live ≡ v.live → w.owner ≡ v.owner → w.out ≡ v.out → (v.owner ≡ false → w.pushed ≡ []) → (w.live ≡ false → (w.pushed ≡ []) × (w.taken ≡ [])) → FitsEach (live_count views) views → FitsEach (live_count (set views port w)) (set views port w)
+same_each : (views : List Tally) (port : ℕ) (v w : Tally) → get_elem? views port ≡ some v → w.live ≡ v.live → w.owner ≡ v.owner → w.out ≡ v.out
+      → (v.owner ≡ false → w.pushed ≡ []) → (w.live ≡ false → (w.pushed ≡ []) × (w.taken ≡ [])) → FitsEach (live_count views) views
+      → FitsEach (live_count (set views port w)) (set views port w)
 same_each views port v w at live owner out others ended each =
     let same = same_count views port v w at live in let mine = each port v at in
     each_set (FitsAt (live_count (set views port w))) views port w
-    (record { owner = λ o. let f = mine.owner (sym owner ∙ o) in (f.0, same ∙ f.1 ∙ ap (λ (k : ℕ). k + 1) (sym out)); others = λ o. others (sym owner ∙ o); ended = ended })
+    (record { owner = λ o. let f = mine.owner (sym owner ∙ o) in (f.0, same ∙ f.1 ∙ ap (λ (k : ℕ). k + 1) (sym out)); others = λ o. others
+        (sym owner ∙ o); ended = ended })
     (λ j u other e. let f = each j u e in record { owner = λ o. ((f.owner o).0, same ∙ (f.owner o).1); others = f.others; ended = f.ended })
 
 begins_each : (port : ℕ) (v : Tally) → get_elem? (opened ∷ []) port ≡ some v → FitsAt 1 port v
@@ -60,13 +66,15 @@ begins_each (suc port) v e = absurd (some-ne-none v (sym e))
 pub begins : (P : Task → Type 0) → Fits P [] (opened ∷ [])
 begins P = record { balance = IsPermutation-refl []; each = begins_each; tasks = All-nil P }
 
-pub pushes : (P : Task → Type 0) (port : ℕ) (v : Tally) (xs : List Task) → All P xs → v.owner ≡ true → v.live ≡ true → deque.Pushes (Fits P) port v xs (Pushed v xs)
+pub pushes : (P : Task → Type 0) (port : ℕ) (v : Tally) (xs : List Task) → All P xs → v.owner ≡ true → v.live ≡ true
+      → deque.Pushes (Fits P) port v xs (Pushed v xs)
 pushes P port v xs all owner live items views h at =
     let w = with_pushed v xs in
     let ts = all_taken views in
     let more : IsPermutation (all_pushed (set views port w)) (xs ++ all_pushed views) = more_in_one (λ (u : Tally). u.pushed) views port v w xs at refl in
     let same : all_taken (set views port w) ≡ ts = same_in_all (λ (u : Tally). u.taken) views port v w at refl in
-    let around : IsPermutation (xs ++ all_pushed views) ((ts ++ items) ++ xs) = IsPermutation-trans _ _ _ (IsPermutation-append_right xs _ _ h.balance) (IsPermutation-append_comm xs (ts ++ items)) in (
+    let around : IsPermutation (xs ++ all_pushed views) ((ts ++ items) ++ xs) = IsPermutation-trans _ _ _
+        (IsPermutation-append_right xs _ _ h.balance) (IsPermutation-append_comm xs (ts ++ items)) in (
       w,
       record {
         balance = then_same _ _ _ (IsPermutation-trans _ _ _ more around) (append_assoc ts items xs ∙ ap (λ (l : List Task). l ++ (items ++ xs)) (sym same));
@@ -77,7 +85,8 @@ pushes P port v xs all owner live items views h at =
     )
 
 -- some tasks leave the deque, and one pass has taken them
-leaves : (P : Task → Type 0) (port : ℕ) (v : Tally) (xs : List Task) → v.live ≡ true → (items : List Task) (views : List Tally) → All P items → IsPermutation (all_pushed views) (all_taken views ++ (xs ++ items)) → FitsEach (live_count views) views → get_elem? views port ≡ some v
+leaves : (P : Task → Type 0) (port : ℕ) (v : Tally) (xs : List Task) → v.live ≡ true → (items : List Task) (views : List Tally) → All P items
+      → IsPermutation (all_pushed views) (all_taken views ++ (xs ++ items)) → FitsEach (live_count views) views → get_elem? views port ≡ some v
     → Fits P items (set views port (with_taken v xs))
 leaves P port v xs live items views all balance each at =
     let w = with_taken v xs in
@@ -85,7 +94,8 @@ leaves P port v xs live items views all balance each at =
     let more : IsPermutation (all_taken (set views port w)) (xs ++ ts) = more_in_one (λ (u : Tally). u.taken) views port v w xs at refl in
     let same : all_pushed (set views port w) ≡ all_pushed views = same_in_all (λ (u : Tally). u.pushed) views port v w at refl in
     let around : IsPermutation (ts ++ (xs ++ items)) (xs ++ (ts ++ items)) = second_first ts xs items in
-    let end : IsPermutation (xs ++ (ts ++ items)) (all_taken (set views port w) ++ items) = first_same _ _ _ (sym (append_assoc xs ts items)) (IsPermutation-append_left items _ _ (IsPermutation-sym _ _ more)) in
+    let end : IsPermutation (xs ++ (ts ++ items)) (all_taken (set views port w) ++ items) = first_same _ _ _ (sym (append_assoc xs ts items))
+        (IsPermutation-append_left items _ _ (IsPermutation-sym _ _ more)) in
     record {
       balance = first_same _ _ _ same (IsPermutation-trans _ _ _ balance (IsPermutation-trans _ _ _ around end));
       each = same_each views port v w at refl refl refl (each port v at).others (λ dead. absurd (true≢false (sym live ∙ dead))) each;
@@ -99,14 +109,16 @@ all_before P xs ys all k d h = subst P (get_or_append_left xs ys d k h) (all k d
 all_behind : (P : Task → Type 0) (xs ys : List Task) → All P (xs ++ ys) → All P ys
 all_behind P xs ys all k d h =
     let place : length xs + k - length xs ≡ k = omega arith in
-    subst P (get_or-append_right xs ys (length xs) (length xs + k) d refl (omega arith) ∙ ap (λ (n : ℕ). get_or ys n d) place) (all (length xs + k) d (omega (arith, h, length-append xs ys)))
+    subst P (get_or-append_right xs ys (length xs) (length xs + k) d refl (omega arith) ∙ ap (λ (n : ℕ). get_or ys n d) place)
+        (all (length xs + k) d (omega (arith, h, length-append xs ys)))
 
 weightless : (b : Bool) → cond {A = ℕ} b 1 0 ≡ 0 → b ≡ false
 weightless true e = absurd (omega arith)
 weightless false e = refl
 
 -- with no other pass out, all others are no more
-others_ended : (views : List Tally) (port : ℕ) (v : Tally) → get_elem? views port ≡ some v → v.live ≡ true → live_count views ≡ 1 → FitsEach (live_count views) views → (j : ℕ) (u : Tally) → j ≢ port → get_elem? views j ≡ some u → (u.pushed ≡ []) × (u.taken ≡ [])
+others_ended : (views : List Tally) (port : ℕ) (v : Tally) → get_elem? views port ≡ some v → v.live ≡ true → live_count views ≡ 1
+      → FitsEach (live_count views) views → (j : ℕ) (u : Tally) → j ≢ port → get_elem? views j ≡ some u → (u.pushed ≡ []) × (u.taken ≡ [])
 others_ended views port v at live one each j u apart there =
     let ws = set views j spent in
     let less : live_count ws + weight_of u ≡ live_count views + 0 = total_set views j u spent there in
@@ -116,7 +128,8 @@ others_ended views port v at live one each j u apart there =
     (each j u there).ended (weightless u.live none)
 
 -- and then all that was pushed and taken is this one's
-alone : (P : Task → Type 0) (port : ℕ) (v : Tally) (items : List Task) (views : List Tally) → Fits P items views → get_elem? views port ≡ some v → v.owner ≡ true → v.live ≡ true → v.out ≡ 0 → (all_pushed views ≡ v.pushed) × (all_taken views ≡ v.taken)
+alone : (P : Task → Type 0) (port : ℕ) (v : Tally) (items : List Task) (views : List Tally) → Fits P items views → get_elem? views port ≡ some v
+      → v.owner ≡ true → v.live ≡ true → v.out ≡ 0 → (all_pushed views ≡ v.pushed) × (all_taken views ≡ v.taken)
 alone P port v items views h at is_owner live none_out =
     let one : live_count views ≡ 1 = ((h.each port v at).owner is_owner).1 ∙ ap (λ (k : ℕ). k + 1) none_out in
     let ended = others_ended views port v at live one h.each in (
@@ -134,22 +147,27 @@ within P port v items views h at is_owner live none_out =
     let t : length (all_taken views) ≡ length v.taken = ap length taken in
     omega (arith, length-append (all_taken views) items)
 
-sources : (P : Task → Type 0) (port : ℕ) (v : Tally) (items : List Task) (views : List Tally) → Fits P items views → get_elem? views port ≡ some v → HasSources v
+sources : (P : Task → Type 0) (port : ℕ) (v : Tally) (items : List Task) (views : List Tally) → Fits P items views → get_elem? views port ≡ some v
+      → HasSources v
 sources P port v items views h at is_owner live none_out =
     let mine = alone P port v items views h at is_owner live none_out in
     λ t there.
-    let among : Contains (all_taken views ++ items) t = Contains-append_left (all_taken views) items t (subst (λ (l : List Task). Contains l t) (sym mine.1) there) in
-    subst (λ (l : List Task). Contains l t) mine.0 (Contains-permutation (all_taken views ++ items) (all_pushed views) t (IsPermutation-sym _ _ h.balance) among)
+    let among : Contains (all_taken views ++ items) t = Contains-append_left (all_taken views) items t
+        (subst (λ (l : List Task). Contains l t) (sym mine.1) there) in
+    subst (λ (l : List Task). Contains l t) mine.0 (Contains-permutation (all_taken views ++ items) (all_pushed views) t
+        (IsPermutation-sym _ _ h.balance) among)
 
 pub learns : (P : Task → Type 0) (port : ℕ) (v : Tally) → deque.Learns (Fits P) port v (λ items. IsWithin v × HasSources v)
 learns P port v items views h at = (within P port v items views h at, sources P port v items views h at)
 
 -- what is known of a pass that took these
-taken_of : (P : Task → Type 0) (port : ℕ) (v : Tally) (xs items : List Task) (views : List Tally) → Fits P items (set views port (with_taken v xs)) → get_elem? views port ≡ some v → All P xs → Took P v xs (with_taken v xs)
+taken_of : (P : Task → Type 0) (port : ℕ) (v : Tally) (xs items : List Task) (views : List Tally) → Fits P items (set views port (with_taken v xs))
+      → get_elem? views port ≡ some v → All P xs → Took P v xs (with_taken v xs)
 taken_of P port v xs items views now at all =
     let w = with_taken v xs in
     let here : get_elem? (set views port w) port ≡ some w = set_here views port w (at_length views port v at) in
-    record { after = refl; within = within P port w items (set views port w) now here; sources = sources P port w items (set views port w) now here; tasks = all }
+    record { after = refl; within = within P port w items (set views port w) now here; sources = sources P port w items (set views port w)
+        now here; tasks = all }
 
 pub takes : (P : Task → Type 0) (port : ℕ) (v : Tally) → v.live ≡ true → deque.Takes (Fits P) port v 1 (Took P v)
 takes P port v live xs items views _ _ h at =
@@ -159,7 +177,8 @@ takes P port v live xs items views _ _ h at =
 pub pops : (P : Task → Type 0) (port : ℕ) (v : Tally) → v.live ≡ true → deque.Pops (Fits P) port v (Took P v)
 pops P port v live x items views h at =
     let xs = x ∷ [] in let w = with_taken v xs in
-    let now = leaves P port v xs live items views (all_before P items xs h.tasks) (IsPermutation-trans _ _ _ h.balance (IsPermutation-append_right (all_taken views) _ _ (IsPermutation-append_comm items xs))) h.each at in
+    let now = leaves P port v xs live items views (all_before P items xs h.tasks)
+        (IsPermutation-trans _ _ _ h.balance (IsPermutation-append_right (all_taken views) _ _ (IsPermutation-append_comm items xs))) h.each at in
     (w, now, taken_of P port v xs items views now at (all_behind P items xs h.tasks))
 
 newcomer_fits : (count port : ℕ) → FitsAt count port newcomer
@@ -169,22 +188,26 @@ spent_fits : (count port : ℕ) → FitsAt count port spent
 spent_fits count port = record { owner = λ o. absurd (true≢false (sym o)); others = λ _. refl; ended = λ _. (refl, refl) }
 
 all_snoc : (f : Tally → List Task) (views : List Tally) (r : Tally) → f r ≡ [] → flat_map f (views ++ r ∷ []) ≡ flat_map f views
-all_snoc f views r e = flat_map-append f views (r ∷ []) ∙ (ap (λ (l : List Task). flat_map f views ++ l) (ap (λ (l : List Task). l ++ []) e) ∙ append-nil (flat_map f views))
+all_snoc f views r e =
+    flat_map-append f views (r ∷ []) ∙ (ap (λ (l : List Task). flat_map f views ++ l) (ap (λ (l : List Task). l ++ []) e) ∙ append-nil (flat_map f views))
 
 pub forks : (P : Task → Type 0) (port : ℕ) (v : Tally) → v.owner ≡ true → deque.Forks (Fits P) port v (one_more_out v) newcomer
 forks P port v is_owner items views h at =
     let l = one_more_out v in let vs = set views port l in let ws = vs ++ newcomer ∷ [] in let mine = h.each port v at in
     let count : live_count ws ≡ live_count views + 1 = sum_by_push weight_of vs newcomer ∙ ap (λ (k : ℕ). k + 1) (same_count views port v l at refl) in
     let first : (port ≡ 0) × (live_count views ≡ v.out + 1) = mine.owner is_owner in
-    let pushed : all_pushed ws ≡ all_pushed views = all_snoc (λ (u : Tally). u.pushed) vs newcomer refl ∙ same_in_all (λ (u : Tally). u.pushed) views port v l at refl in
-    let taken : all_taken ws ≡ all_taken views = all_snoc (λ (u : Tally). u.taken) vs newcomer refl ∙ same_in_all (λ (u : Tally). u.taken) views port v l at refl in
+    let pushed : all_pushed ws ≡ all_pushed views = all_snoc (λ (u : Tally). u.pushed) vs newcomer refl
+        ∙ same_in_all (λ (u : Tally). u.pushed) views port v l at refl in
+    let taken : all_taken ws ≡ all_taken views = all_snoc (λ (u : Tally). u.taken) vs newcomer refl
+        ∙ same_in_all (λ (u : Tally). u.taken) views port v l at refl in
     let old : (j : ℕ) (u : Tally) → get_elem? vs j ≡ some u → FitsAt (live_count ws) j u =
     each_set (FitsAt (live_count ws)) views port l
     (record { owner = λ _. (first.0, count ∙ ap (λ (k : ℕ). k + 1) first.1); others = mine.others; ended = mine.ended })
     (λ j u other e. let f = h.each j u e in record { owner = λ o. absurd (other ((f.owner o).0 ∙ sym first.0)); others = f.others; ended = f.ended }) in
     record {
       balance = first_same _ _ _ pushed (then_same _ _ _ h.balance (ap (λ (l : List Task). l ++ items) (sym taken)));
-      each = λ j u e. ⊎_elim (old j u) (λ (is : newcomer ≡ u). subst (FitsAt (live_count ws) j) is (newcomer_fits (live_count ws) j)) (at_snoc vs newcomer u j e);
+      each =
+          λ j u e. ⊎_elim (old j u) (λ (is : newcomer ≡ u). subst (FitsAt (live_count ws) j) is (newcomer_fits (live_count ws) j)) (at_snoc vs newcomer u j e);
       tasks = h.tasks;
     }
 
@@ -193,7 +216,8 @@ settles P port v views h at is_owner live none_out =
     let mine = alone P port v [] views h at is_owner live none_out in
     first_same _ _ _ (sym mine.0) (then_same _ _ _ h.balance (append-nil (all_taken views) ∙ mine.1))
 
-pub merges : (P : Task → Type 0) (port : ℕ) (v : Tally) (other : ℕ) (w : Tally) → v.owner ≡ true → v.live ≡ true → w.owner ≡ false → w.live ≡ true → deque.Merges (Fits P) port v other w (taken_in v w) spent
+pub merges : (P : Task → Type 0) (port : ℕ) (v : Tally) (other : ℕ) (w : Tally) → v.owner ≡ true → v.live ≡ true → w.owner ≡ false → w.live ≡ true
+      → deque.Merges (Fits P) port v other w (taken_in v w) spent
 merges P port v other w is_owner live guest alive items views h at two at' =
     let b = taken_in v w in let vs = set views port b in let ws = set vs other spent in let zs = set views other spent in
     let apart : port ≢ other = λ e. two (sym e) in
@@ -213,7 +237,8 @@ merges P port v other w is_owner live guest alive items views h at two at' =
     let pushed : all_pushed ws ≡ all_pushed views =
     same_in_all (λ (u : Tally). u.pushed) vs other w spent at' (sym (theirs.others guest)) ∙ same_in_all (λ (u : Tally). u.pushed) views port v b at refl in
     let taken : IsPermutation (all_taken ws) (all_taken views) =
-    first_same _ _ _ (ap all_taken turned) (IsPermutation-trans _ _ _ (more_in_one (λ (u : Tally). u.taken) zs port v b w.taken here refl) (IsPermutation-sym _ _ (less_in_one (λ (u : Tally). u.taken) views other w spent was refl))) in
+    first_same _ _ _ (ap all_taken turned) (IsPermutation-trans _ _ _ (more_in_one (λ (u : Tally). u.taken) zs port v b w.taken here refl)
+        (IsPermutation-sym _ _ (less_in_one (λ (u : Tally). u.taken) views other w spent was refl))) in
     record {
       balance = first_same _ _ _ pushed (IsPermutation-trans _ _ _ h.balance (IsPermutation-append_left items _ _ (IsPermutation-sym _ _ taken)));
       each = each_set (FitsAt (live_count ws)) vs other spent (spent_fits (live_count ws) other)
@@ -223,7 +248,8 @@ merges P port v other w is_owner live guest alive items views h at two at' =
             others = mine.others;
             ended = λ dead. absurd (true≢false (sym live ∙ dead));
           }))
-          (λ (x : (j ≢ port) × (get_elem? views j ≡ some u)). let f = h.each j u x.1 in record { owner = λ o. absurd (x.0 ((f.owner o).0 ∙ sym first.0)); others = f.others; ended = f.ended })
+          (λ (x : (j ≢ port) × (get_elem? views j ≡ some u)). let f = h.each j u x.1 in record
+              { owner = λ o. absurd (x.0 ((f.owner o).0 ∙ sym first.0)); others = f.others; ended = f.ended })
           (at_set views port j b u e));
       tasks = h.tasks;
     }

@@ -10,7 +10,8 @@ use Rattle.steal_pool.specs.declared.account.Tally.{Tally}
 
 -- nothing at all; whoever makes a pool picks another
 abbrev pub no_instance : Instance
-no_instance = instance_with (record { precision = 0; lead = 0; trail = 0; head = 0; per_byte = 0; copy_out = 0; copy_in = 0; horizon = 0; channels = 0 }) [] [] [] []
+no_instance =
+    instance_with (record { precision = 0; lead = 0; trail = 0; head = 0; per_byte = 0; copy_out = 0; copy_in = 0; horizon = 0; channels = 0 }) [] [] [] []
 
 -- the owner's pass, at first
 abbrev pub opened : Tally

@@ -28,7 +28,8 @@ other_name a b other = by_test (pointwise nat_eq a b) refl
     by_test true e = absurd (other (same_text a b e))
     by_test false e = sym e
 
-one_more : (a : Name) (names : List Name) (name : Name) (test : Bool) → pointwise nat_eq a name ≡ test → times (a ∷ names) name ≡ cond test 1 0 + times names name
+one_more : (a : Name) (names : List Name) (name : Name) (test : Bool) → pointwise nat_eq a name ≡ test
+      → times (a ∷ names) name ≡ cond test 1 0 + times names name
 one_more a names name test e =
     sum_by-cons (λ (other : Name). cond (pointwise nat_eq other name) 1 0) a names ∙ ap (λ (b : Bool). cond b 1 0 + times names name) e
 
@@ -76,7 +77,8 @@ twice (a ∷ b ∷ names) (suc k) lt same =
 
 pub times_move : (xs ys : List Piece) (name : Name) → IsPermutation xs ys → times (names_of ys) name ≡ times (names_of xs) name
 times_move xs ys name moved =
-    sum_by-IsPermutation (λ (other : Name). cond (pointwise nat_eq other name) 1 0) (names_of xs) (names_of ys) (IsPermutation-map (λ (p : Piece). p.name) xs ys moved)
+    sum_by-IsPermutation (λ (other : Name). cond (pointwise nat_eq other name) 1 0) (names_of xs) (names_of ys)
+        (IsPermutation-map (λ (p : Piece). p.name) xs ys moved)
 
 pub names_move : (xs ys : List Piece) (name : Name) → IsPermutation xs ys → Contains (names_of xs) name → Contains (names_of ys) name
 names_move xs ys name moved there =
@@ -134,12 +136,17 @@ stray_moves xs ys moved stray = record {
 pub closed_by_names : (pieces : List Piece) → HasTreeNames pieces → IsClosed pieces
 closed_by_names pieces names = record {
   root = found root_name (inl refl);
-  below = λ p j there lt. found (child_name p.name j) (inr (name_of_parent pieces (child_name p.name j) (record { parent = p; index = j; there = there; child = lt; is = refl })));
-  own = λ p there. by_cases p (has_from_contains (wanted_names pieces) p.name (names.own p.name (contains_from_has (names_of pieces) p.name (name_of_piece pieces p.name (record { piece = p; there = there; named = refl })))));
+  below =
+      λ p j there lt. found (child_name p.name j)
+          (inr (name_of_parent pieces (child_name p.name j) (record { parent = p; index = j; there = there; child = lt; is = refl })));
+  own =
+      λ p there. by_cases p (has_from_contains (wanted_names pieces) p.name (names.own p.name
+          (contains_from_has (names_of pieces) p.name (name_of_piece pieces p.name (record { piece = p; there = there; named = refl })))));
 }
   where
     found : (name : Name) → Has (wanted_names pieces) name → HasPiece pieces name
-    found name wanted = piece_of_name pieces name (has_from_contains (names_of pieces) name (names.complete name (contains_from_has (wanted_names pieces) name wanted)))
+    found name wanted =
+        piece_of_name pieces name (has_from_contains (names_of pieces) name (names.complete name (contains_from_has (wanted_names pieces) name wanted)))
 
     by_cases : (p : Piece) → Has (wanted_names pieces) p.name → (root_name ≡ p.name) ⊎ HasParent pieces p.name
     by_cases p (inl same) = inl same
@@ -148,7 +155,8 @@ closed_by_names pieces names = record {
 pub names_by_closed : (pieces : List Piece) → Rises pieces → IsClosed pieces → HasTreeNames pieces
 names_by_closed pieces up closed = record {
   once = λ name. once_rising pieces name up;
-  complete = λ name wanted. contains_from_has (names_of pieces) name (name_of_piece pieces name (found name (has_from_contains (wanted_names pieces) name wanted)));
+  complete =
+      λ name wanted. contains_from_has (names_of pieces) name (name_of_piece pieces name (found name (has_from_contains (wanted_names pieces) name wanted)));
   own = λ name there. contains_from_has (wanted_names pieces) name (wanted name (piece_of_name pieces name (has_from_contains (names_of pieces) name there)));
 }
   where

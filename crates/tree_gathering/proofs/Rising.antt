@@ -46,7 +46,8 @@ below_first : (name : Name) (k : ℕ) (a b : Piece) → IsUnder (child_name name
 below_first name k a b below beside =
     let first = up name k a below in
     subst (λ (w : Name). SortsBefore w b.name) (sym (below.is ∙ append_assoc name (k ∷ []) (below.index ∷ below.rest)))
-    (subst (SortsBefore (name ++ k ∷ (below.index ∷ below.rest))) (sym beside.is) (sibling_before name k beside.index (below.index ∷ below.rest) beside.rest (omega (arith, beside.from))))
+    (subst (SortsBefore (name ++ k ∷ (below.index ∷ below.rest))) (sym beside.is)
+        (sibling_before name k beside.index (below.index ∷ below.rest) beside.rest (omega (arith, beside.from))))
 
 child_first : (name : Name) (k : ℕ) (b : Piece) → IsUnder name (k + 1) b → SortsBefore (child_name name k) b.name
 child_first name k b beside =
@@ -67,15 +68,18 @@ below_rises name k (grow node below beside) =
       each_append (λ (y : Piece). SortsBefore (child_name name k) y.name) (pieces_below (child_name name k) 0 below) (pieces_below name (k + 1) beside)
           (each_weaker (IsUnder (child_name name k) 0) (λ (y : Piece). SortsBefore (child_name name k) y.name) _ (own_first (child_name name k) 0) under)
           (each_weaker (IsUnder name (k + 1)) (λ (y : Piece). SortsBefore (child_name name k) y.name) _ (child_first name k) after),
-      rises_append (pieces_below (child_name name k) 0 below) (pieces_below name (k + 1) beside) (below_rises (child_name name k) 0 below) (below_rises name (k + 1) beside)
+      rises_append (pieces_below (child_name name k) 0 below) (pieces_below name (k + 1) beside) (below_rises (child_name name k) 0 below)
+          (below_rises name (k + 1) beside)
           (each_weaker (IsUnder (child_name name k) 0) (AreBefore (pieces_below name (k + 1) beside)) _
-          (λ a first. each_weaker (IsUnder name (k + 1)) (λ (y : Piece). SortsBefore a.name y.name) _ (λ b next. below_first name k a b first next) after) under),
+          (λ a first. each_weaker (IsUnder name (k + 1)) (λ (y : Piece). SortsBefore a.name y.name) _ (λ b next. below_first name k a b first next)
+              after) under),
     )
 
 pub pieces_rise : (tree : Trees) → Rises (pieces_of tree)
 pieces_rise none = tt
 pieces_rise (grow node below beside) =
-    (each_weaker (IsUnder root_name 0) (λ (y : Piece). SortsBefore root_name y.name) _ (own_first root_name 0) (all_under root_name 0 below), below_rises root_name 0 below)
+    (each_weaker (IsUnder root_name 0) (λ (y : Piece). SortsBefore root_name y.name) _ (own_first root_name 0) (all_under root_name 0 below),
+        below_rises root_name 0 below)
 
 -- ---- lists that rise
 
@@ -85,10 +89,12 @@ one_of_name [] a b up has_a has_b same = absurd has_a
 one_of_name (x ∷ xs) a b up has_a has_b same = elim has_a [
   | inl is_a ↦ elim has_b [
     | inl is_b ↦ sym is_a ∙ is_b
-    | inr in_b ↦ absurd (not_itself b.name (subst (λ (w : Name). SortsBefore w b.name) (ap (λ (p : Piece). p.name) is_a ∙ same) (each_at (λ (y : Piece). SortsBefore x.name y.name) xs b up.0 in_b)))
+    | inr in_b ↦ absurd (not_itself b.name (subst (λ (w : Name). SortsBefore w b.name) (ap (λ (p : Piece). p.name) is_a ∙ same)
+        (each_at (λ (y : Piece). SortsBefore x.name y.name) xs b up.0 in_b)))
   ]
   | inr in_a ↦ elim has_b [
-    | inl is_b ↦ absurd (not_itself a.name (subst (λ (w : Name). SortsBefore w a.name) (ap (λ (p : Piece). p.name) is_b ∙ sym same) (each_at (λ (y : Piece). SortsBefore x.name y.name) xs a up.0 in_a)))
+    | inl is_b ↦ absurd (not_itself a.name (subst (λ (w : Name). SortsBefore w a.name) (ap (λ (p : Piece). p.name) is_b ∙ sym same)
+        (each_at (λ (y : Piece). SortsBefore x.name y.name) xs a up.0 in_a)))
     | inr in_b ↦ one_of_name xs a b up.1 in_a in_b same
   ]
 ]
@@ -99,14 +105,16 @@ same_first x y xs ys a b has_x has_y = elim has_x [
   | inl same ↦ sym same
   | inr in_x ↦ elim has_y [
     | inl same ↦ same
-    | inr in_y ↦ absurd (not_itself x.name (before_both x.name y.name x.name (each_at (λ (z : Piece). SortsBefore x.name z.name) xs y a.0 in_y) (each_at (λ (z : Piece). SortsBefore y.name z.name) ys x b.0 in_x)))
+    | inr in_y ↦ absurd (not_itself x.name (before_both x.name y.name x.name (each_at (λ (z : Piece). SortsBefore x.name z.name) xs y a.0 in_y)
+        (each_at (λ (z : Piece). SortsBefore y.name z.name) ys x b.0 in_x)))
   ]
 ]
 
 -- what a rising list has, but for its first
 rest_has : (x : Piece) (xs ys : List Piece) → Rises (x ∷ xs) → ((p : Piece) → Has (x ∷ xs) p → Has (x ∷ ys) p) → (p : Piece) → Has xs p → Has ys p
 rest_has x xs ys a h p there = elim (h p (inr there)) [
-  | inl same ↦ absurd (not_itself x.name (subst (λ (w : Piece). SortsBefore x.name w.name) (sym same) (each_at (λ (z : Piece). SortsBefore x.name z.name) xs p a.0 there)))
+  | inl same ↦ absurd (not_itself x.name (subst (λ (w : Piece). SortsBefore x.name w.name) (sym same)
+      (each_at (λ (z : Piece). SortsBefore x.name z.name) xs p a.0 there)))
   | inr found ↦ found
 ]
 

@@ -17,4 +17,5 @@ pub returns-clause-clash : goal.returns-clause-clash
 returns-clause-clash c = misses_slot
 
 pub returns-clause-closed : goal.returns-clause-closed
-returns-clause-closed c = λ at. clash_closed one_message (one_message_in 0) at one_message_is_instance (is_choice 0 (lit< tt)) (is_complete 0) (Round 0) misses_slot
+returns-clause-closed c =
+    λ at. clash_closed one_message (one_message_in 0) at one_message_is_instance (is_choice 0 (lit< tt)) (is_complete 0) (Round 0) misses_slot

@@ -8,7 +8,8 @@ use Rattle.plan_commands.proofs.bundle.verify_bundle.Goals as goal
 pub returns-in-Ok-clause-verdict : goal.returns-in-Ok-clause-verdict
 returns-in-Ok-clause-verdict g c =
     IfSome_then _ c.in-Ok.ensures.judged (λ bundle verified.
-    verdict_outcome (IsVerifiedBundle bundle) (IsRefusedBundle bundle) c.in-Ok.verified verified verified.verified.has_plan.has_delay tt _ _ _ c.write_verdict-end.ensures)
+    verdict_outcome (IsVerifiedBundle bundle) (IsRefusedBundle bundle) c.in-Ok.verified verified verified.verified.has_plan.has_delay tt _ _ _
+        c.write_verdict-end.ensures)
 
 pub returns-in-Err-clause-verdict : goal.returns-in-Err-clause-verdict
 returns-in-Err-clause-verdict g c =

@@ -20,7 +20,8 @@ loop-k-preserved c =
     let in_a : c.loop-k.k < length c.args.a.now = omega (arith, c.loop-k-test.true, c.min-both.ensures) in
     let in_b : c.loop-k.k < length c.args.b.now = omega (arith, c.loop-k-test.true, c.min-both.ensures) in (
       omega (arith, c.loop-k-test.true, c.min-both.ensures),
-      λ x y. both_compared arc_slice_items c.args.a.now c.args.b.now c.loop-k.k c.index-a-k.result c.index-b-k.result x y _ _ _ _ c.requires.a c.requires.b in_a in_b
+      λ x y. both_compared arc_slice_items c.args.a.now c.args.b.now c.loop-k.k c.index-a-k.result c.index-b-k.result x y _ _ _ _ c.requires.a
+          c.requires.b in_a in_b
           c.index-a-k.is c.index-b-k.is c.as_slice.ensures.value c.as_slice-in-loop-k.ensures.value c.cmp-order.ensures (c.loop-k.invariant.1 x y)
           ∙ undecided _ _ (sym c.is_ne.ensures ∙ c.if-is_ne.false),
     )

@@ -18,4 +18,5 @@ returns-in-Ok-clause-none c = λ past.
     proved_none i cert c.past_horizon.ensures.instance (record { low = within; tree = c.in-Ok.ensures.ok }) (rw c.low-in-Ok.ensures at past)
 
 pub returns-in-Err-clause-only : goal.returns-in-Err-clause-only
-returns-in-Err-clause-only c = λ proves other. absurd (other (ap Err (only_memory c.args.instance.now c.args.cert.now c.in-Err.fault proves c.in-Err.ensures.err)))
+returns-in-Err-clause-only c =
+    λ proves other. absurd (other (ap Err (only_memory c.args.instance.now c.args.cert.now c.in-Err.fault proves c.in-Err.ensures.err)))

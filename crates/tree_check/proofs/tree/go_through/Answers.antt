@@ -32,7 +32,8 @@ judge-requires-clause-walk c =
     let cert = c.args.cert.now in
     let inside = rw c.nodes-nodes.ensures.nodes at c.loop-k-test.true in
     let here = rw c.nodes-nodes.ensures.nodes at c.index-nodes-k.is in
-    gone_there c.args.instance.now cert.low (preorder cert.tree) c.loop-k.k c.index-nodes-k.result c.loop-k.walk inside here c.loop-k.invariant.gone c.go_on.new.self c.in_ok-go_on.ensures
+    gone_there c.args.instance.now cert.low (preorder cert.tree) c.loop-k.k c.index-nodes-k.result c.loop-k.walk inside here c.loop-k.invariant.gone
+        c.go_on.new.self c.in_ok-go_on.ensures
 
 pub returns-in_err-room-2-clause-err : goal.returns-in_err-room-2-clause-err
 returns-in_err-room-2-clause-err c =
@@ -42,7 +43,8 @@ returns-in_err-room-2-clause-err c =
     let fault = c.in_err-room-2.field-0.0 in
     let inside = rw c.nodes-nodes.ensures.nodes at c.loop-k-test.true in
     let here = rw c.nodes-nodes.ensures.nodes at c.index-nodes-k.is in
-    let fails = gone_fails i cert.low nodes c.loop-k.k c.index-nodes-k.result c.loop-k.walk inside here c.loop-k.invariant.gone c.go_on.new.self c.in_ok-go_on.ensures c.loop-k.line fault c.loop-k.invariant.line (rw c.low-low.ensures at c.in_err-room-2.ensures.err) in
+    let fails = gone_fails i cert.low nodes c.loop-k.k c.index-nodes-k.result c.loop-k.walk inside here c.loop-k.invariant.gone c.go_on.new.self
+        c.in_ok-go_on.ensures c.loop-k.line fault c.loop-k.invariant.line (rw c.low-low.ensures at c.in_err-room-2.ensures.err) in
     let p = err_from_is_err_and c.from_residual-in_err-room-2.result c.from_residual-in_err-room-2.ensures.1 in
     rw (p.1, p.2) (subst (λ (trees : Trees). TellsFirst i cert.low trees fault) (trees_of-preorder 1 cert.tree c.nodes-nodes.ensures.tree.one) fails)
 
@@ -53,9 +55,13 @@ loop-k-preserved c =
     let inside = rw c.nodes-nodes.ensures.nodes at c.loop-k-test.true in
     let here = rw c.nodes-nodes.ensures.nodes at c.index-nodes-k.is in
     record {
-      gone = gone_on c.args.instance.now cert.low nodes c.loop-k.k c.index-nodes-k.result c.loop-k.walk inside here c.loop-k.invariant.gone c.go_on.new.self c.in_ok-go_on.ensures c.judge.new.walk (rw c.low-low.ensures at c.in_ok-room-2.ensures.suits) c.in_ok-room-2.ensures.below;
+      gone =
+          gone_on c.args.instance.now cert.low nodes c.loop-k.k c.index-nodes-k.result c.loop-k.walk inside here c.loop-k.invariant.gone
+              c.go_on.new.self c.in_ok-go_on.ensures c.judge.new.walk (rw c.low-low.ensures at c.in_ok-room-2.ensures.suits) c.in_ok-room-2.ensures.below;
       room = c.in_ok-room-2.ensures.room;
-      line = rw (line_after nodes c.loop-k.k c.index-nodes-k.result inside here) (c.saturating_add-line.ensures ∙ rw c.lines.ensures (told_on c.loop-k.line (line_of nodes c.loop-k.k) (node_lines c.index-nodes-k.result) c.loop-k.invariant.line));
+      line =
+          rw (line_after nodes c.loop-k.k c.index-nodes-k.result inside here) (c.saturating_add-line.ensures ∙ rw c.lines.ensures
+              (told_on c.loop-k.line (line_of nodes c.loop-k.k) (node_lines c.index-nodes-k.result) c.loop-k.invariant.line));
     }
 
 pub returns-clause-ok : goal.returns-clause-ok

@@ -19,5 +19,7 @@ loop-preserved g c =
     let closes : RunCloses i low c.args.leaves.now place = subst (λ (run : List HeldLeaf). Judges i low run (Ok tt)) c.run_at.ensures c.in-Ok-run.ensures.ok in
     record {
       of = c.in-Ok-run.ensures.of;
-      closed = rw (c.push_reserved.ensures.items, c.reserve.ensures.items) (All-push (RunCloses i low c.args.leaves.now) c.loop.closed.items place c.loop.invariant.closed closes);
+      closed =
+          rw (c.push_reserved.ensures.items, c.reserve.ensures.items) (All-push (RunCloses i low c.args.leaves.now)
+              c.loop.closed.items place c.loop.invariant.closed closes);
     }

@@ -14,7 +14,8 @@ returns-in-Err-clause-err g c =
     let low = c.args.self.now.low in
     let h = c.index-run-k.result in
     let waits = leaf_waits_here c.args.run.now c.loop-k.k h c.loop-k-test.true c.index-run-k.is i c.requires.waits in
-    judged_fault c.args.run.now c.loop-k.k h c.loop-k-test.true c.index-run-k.is i low c.loop-k.invariant.closed c.in-Err.fault (one_judged i low h (Err c.in-Err.fault) waits c.in-Err.ensures.err)
+    judged_fault c.args.run.now c.loop-k.k h c.loop-k-test.true c.index-run-k.is i low c.loop-k.invariant.closed c.in-Err.fault
+        (one_judged i low h (Err c.in-Err.fault) waits c.in-Err.ensures.err)
 
 pub loop-k-preserved : goal.loop-k-preserved
 loop-k-preserved g c =
@@ -24,5 +25,7 @@ loop-k-preserved g c =
     let waits = leaf_waits_here c.args.run.now c.loop-k.k h c.loop-k-test.true c.index-run-k.is i c.requires.waits in
     record {
       of = c.in-Ok.ensures.of;
-      closed = judged_on c.args.run.now c.loop-k.k h c.loop-k-test.true c.index-run-k.is i low c.loop-k.invariant.closed (one_judged i low h (Ok tt) waits c.in-Ok.ensures.ok);
+      closed =
+          judged_on c.args.run.now c.loop-k.k h c.loop-k-test.true c.index-run-k.is i low c.loop-k.invariant.closed
+              (one_judged i low h (Ok tt) waits c.in-Ok.ensures.ok);
     }
