@@ -114,9 +114,7 @@ module _ (i : Instance) (c : Choice) (w : IsInstance i) (ok : IsChoice i c) (don
   order_fits = order_of (length i.nodes) c.prefix (from_parts (length i.nodes) c.prefix ok.nodes ok.once) done.placed
 
   own_caps : EachBelow (length i.nodes) (HasOwnCapacity i (fixed_caps c))
-  own_caps n h =
-      record { own = subst (Contains (node_at i n).capacities) (sym (fixed_at c n (omega (arith, h, ok.fixed_length))))
-          (own_option i n (fixed_cap c n) (done.fixed n h) (ok.options n h)) }
+  own_caps n h = record { own = subst (Contains (node_at i n).capacities) (sym (fixed_at c n (omega (arith, h, ok.fixed_length)))) (own_option i n (fixed_cap c n) (done.fixed n h) (ok.options n h)) }
 
   one_before : (p q : ℕ) → ArePair i p q → IsTrue (is_before c p q) ⊎ IsTrue (is_before c q p)
   one_before p q pair = elim (cases_order p q) [
@@ -146,8 +144,7 @@ one_round lo top r is = elim (cases_order lo r) [
     and_no : (b : Bool) → (b && Bool.false) ≡ Bool.false
     and_no b = elim b as (λ (b : Bool). (b && Bool.false) ≡ Bool.false) [ Bool.true ↦ refl | Bool.false ↦ refl ]
 
-module _ (s : Facts) (ok : AreFacts s) (left : IsFalse s.known.closed) (steps : List Step) (more : HasCompleteSteps s.instance s.choice steps)
-    (idle : All (SharpensNothing s) steps) (sharper : IsSharper (first_facts s.instance s.choice) s.known) (done : IsComplete s.instance s.choice) where
+module _ (s : Facts) (ok : AreFacts s) (left : IsFalse s.known.closed) (steps : List Step) (more : HasCompleteSteps s.instance s.choice steps) (idle : All (SharpensNothing s) steps) (sharper : IsSharper (first_facts s.instance s.choice) s.known) (done : IsComplete s.instance s.choice) where
   idle_of : (step : Step) → Contains steps step → SharpensNothing s step
   idle_of step there = All-contains (SharpensNothing s) steps step idle there
 
@@ -176,21 +173,15 @@ module _ (s : Facts) (ok : AreFacts s) (left : IsFalse s.known.closed) (steps : 
   after : (p q : ℕ) → IsTrue (is_before s.choice p q) → least_end s.instance s.known p ≤ es_of s.known q
   after p q holds =
       let pair = ok.choice.pairs p q holds in
-      from s ok left steps more.chain idle q _ pair.second (same_after s ok left (EsBefore p q) _ (idle_of _ (more.orders p q holds)) pair
-          (sharper.bef p q holds) refl)
+      from s ok left steps more.chain idle q _ pair.second (same_after s ok left (EsBefore p q) _ (idle_of _ (more.orders p q holds)) pair (sharper.bef p q holds) refl)
 
-  arrives : (m q : ℕ) → Receives s.instance m q
-        → slot_end s.instance.cluster s.choice.prefix (fixed_caps s.choice) (source_of s.instance m) (least_round s.choice m)
-        + s.instance.cluster.copy_in ≤ es_of s.known q
+  arrives : (m q : ℕ) → Receives s.instance m q → slot_end s.instance.cluster s.choice.prefix (fixed_caps s.choice) (source_of s.instance m) (least_round s.choice m) + s.instance.cluster.copy_in ≤ es_of s.known q
   arrives m q receives =
-      let known = from s ok left steps more.chain idle q _ (receiver_inside s ok left steps more.chain idle m q receives)
-          (same_after s ok left (EsArrive m q) _ (idle_of _ (more.chain.messages m q receives).arrival) receives tt refl) in
+      let known = from s ok left steps more.chain idle q _ (receiver_inside s ok left steps more.chain idle m q receives) (same_after s ok left (EsArrive m q) _ (idle_of _ (more.chain.messages m q receives).arrival) receives tt refl) in
       let exact = end_exact s.instance s.choice ok.instance ok.choice done (source_of s.instance m) (least_round s.choice m) (source_inside m receives.0) in
       omega (arith, known, exact, ap (end_least s.instance s.choice (source_of s.instance m)) (round_is m receives.0))
 
-  ready : (m : ℕ) → m < length s.instance.messages
-        → least_end s.instance s.known (message_at s.instance m).sender + s.instance.cluster.copy_out
-        ≤ slot_start s.instance.cluster s.choice.prefix (fixed_caps s.choice) (source_of s.instance m) (least_round s.choice m)
+  ready : (m : ℕ) → m < length s.instance.messages → least_end s.instance s.known (message_at s.instance m).sender + s.instance.cluster.copy_out ≤ slot_start s.instance.cluster s.choice.prefix (fixed_caps s.choice) (source_of s.instance m) (least_round s.choice m)
   ready m h =
       let sender = (message_at s.instance m).sender in
       let inside = sender_inside m h in
@@ -198,11 +189,9 @@ module _ (s : Facts) (ok : AreFacts s) (left : IsFalse s.known.closed) (steps : 
       let last : top_of s.known m - 1 ≡ least_round s.choice m = omega (arith, top_is m h) in
       let known = ended s ok left sender _ inside (same_after s ok left (LeSend m) _ (idle_of _ (more.rounds m h).send) h some refl) in
       let exact = start_exact s.instance s.choice ok.instance ok.choice done (source_of s.instance m) (least_round s.choice m) (source_inside m h) in
-      omega (arith, known, exact, ap (start_most s.instance s.choice (source_of s.instance m)) last,
-          window s ok left steps more.chain idle sender inside, ((ok.instance.ranges (AtProcess sender)) inside).wcet_least)
+      omega (arith, known, exact, ap (start_most s.instance s.choice (source_of s.instance m)) last, window s ok left steps more.chain idle sender inside, ((ok.instance.ranges (AtProcess sender)) inside).wcet_least)
 
-  same_bytes : (n r m : ℕ) → m < length s.instance.messages
-        → bytes_within s.instance s.known n r (r + 1) m ≡ bytes_in s.instance (plan_of s.choice s.known.es) n r m
+  same_bytes : (n r m : ℕ) → m < length s.instance.messages → bytes_within s.instance s.known n r (r + 1) m ≡ bytes_in s.instance (plan_of s.choice s.known.es) n r m
   same_bytes n r m h =
       let test = one_round (known_lo s.known m) (top_of s.known m) r (omega (arith, round_is m h, top_is m h)) in
       let round = ap (λ (k : ℕ). k == r) (round_is m h) in
@@ -212,56 +201,42 @@ module _ (s : Facts) (ok : AreFacts s) (left : IsFalse s.known.closed) (steps : 
   channel_is m h = channel_at s.choice m (omega (arith, h, ok.choice.channels_length))
 
   -- on a channel a message counts with what it puts there
-  same_on : (n r k m : ℕ) → m < length s.instance.messages
-        → bytes_counted s.instance s.choice s.known k n r (r + 1) m ≡ bytes_on s.instance (plan_of s.choice s.known.es) n r k m
+  same_on : (n r k m : ℕ) → m < length s.instance.messages → bytes_counted s.instance s.choice s.known k n r (r + 1) m ≡ bytes_on s.instance (plan_of s.choice s.known.es) n r k m
   same_on n r k m h =
-      let counts : is_fixed_on k (fixed_channel s.choice m) ≡ is_on k (channel_of (plan_of s.choice s.known.es) m) = counts_where_fixed k
-          (fixed_channel s.choice m) (done.channels m h) ∙ ap (is_on k) (sym (channel_is m h)) in
+      let counts : is_fixed_on k (fixed_channel s.choice m) ≡ is_on k (channel_of (plan_of s.choice s.known.es) m) = counts_where_fixed k (fixed_channel s.choice m) (done.channels m h) ∙ ap (is_on k) (sym (channel_is m h)) in
       ap₂ (λ (b : Bool) (bytes : ℕ). if b then bytes else 0) counts (same_bytes n r m h)
 
   -- so with one channel the whole frame fits
-  whole_fits : s.instance.cluster.channels ≡ 1 → (m : ℕ) → m < length s.instance.messages
-        → load_of s.instance (plan_of s.choice s.known.es) (source_of s.instance m) (least_round s.choice m)
-        ≤ slice_index (fixed_caps s.choice) (source_of s.instance m)
+  whole_fits : s.instance.cluster.channels ≡ 1 → (m : ℕ) → m < length s.instance.messages → load_of s.instance (plan_of s.choice s.known.es) (source_of s.instance m) (least_round s.choice m) ≤ slice_index (fixed_caps s.choice) (source_of s.instance m)
   whole_fits alone m h =
       let n = source_of s.instance m in
       let r = least_round s.choice m in
       let one : (r + 1) - r ≡ 1 = omega arith in
-      let same = total_same (bytes_within s.instance s.known n r (r + 1)) (bytes_in s.instance (plan_of s.choice s.known.es) n r)
-          (length s.instance.messages) (λ k inside. same_bytes n r k inside) in
+      let same = total_same (bytes_within s.instance s.known n r (r + 1)) (bytes_in s.instance (plan_of s.choice s.known.es) n r) (length s.instance.messages) (λ k inside. same_bytes n r k inside) in
       let copied = total_copied_alone s.instance s.choice s.known n r (r + 1) alone ok.choice in
       let exact = cap_exact s.instance s.choice ok.instance ok.choice done n (source_inside m h) in
-      elim (cases_lt (s.instance.cluster.channels * (((r + 1) - r) * cap_most s.instance s.choice n))
-          (total (bytes_copied s.instance s.choice s.known n r (r + 1)) (length s.instance.messages))) [
-        | inl over ↦ absurd (not_closed s ok left (same_after s ok left (XFrames n r (r + 1)) NothingLeft (idle_of _ ((more.rounds m h).frame alone))
-            (source_inside m h) (record { span = omega arith; bytes = over }) refl))
+      elim (cases_lt (s.instance.cluster.channels * (((r + 1) - r) * cap_most s.instance s.choice n)) (total (bytes_copied s.instance s.choice s.known n r (r + 1)) (length s.instance.messages))) [
+        | inl over ↦ absurd (not_closed s ok left (same_after s ok left (XFrames n r (r + 1)) NothingLeft (idle_of _ ((more.rounds m h).frame alone)) (source_inside m h) (record { span = omega arith; bytes = over }) refl))
         | inr fits ↦
             let whole : 1 * (1 * cap_most s.instance s.choice n) ≡ cap_most s.instance s.choice n = omega arith in
-            let times : s.instance.cluster.channels * (((r + 1) - r) * cap_most s.instance s.choice n)
-                ≡ cap_most s.instance s.choice n = ap₂ (λ (j : ℕ) (k : ℕ). j * (k * cap_most s.instance s.choice n)) alone one ∙ whole in
+            let times : s.instance.cluster.channels * (((r + 1) - r) * cap_most s.instance s.choice n) ≡ cap_most s.instance s.choice n = ap₂ (λ (j : ℕ) (k : ℕ). j * (k * cap_most s.instance s.choice n)) alone one ∙ whole in
             let known = rw times at fits in
             omega (arith, known, exact, same, copied)
       ]
 
   -- and with more its half on each of them
-  half_fits : 2 ≤ s.instance.cluster.channels → (k m : ℕ) → k < s.instance.cluster.channels → m < length s.instance.messages
-        → load_on s.instance (plan_of s.choice s.known.es) (source_of s.instance m) (least_round s.choice m) k
-        ≤ slice_index (fixed_caps s.choice) (source_of s.instance m)
+  half_fits : 2 ≤ s.instance.cluster.channels → (k m : ℕ) → k < s.instance.cluster.channels → m < length s.instance.messages → load_on s.instance (plan_of s.choice s.known.es) (source_of s.instance m) (least_round s.choice m) k ≤ slice_index (fixed_caps s.choice) (source_of s.instance m)
   half_fits two k m there h =
       let n = source_of s.instance m in
       let r = least_round s.choice m in
       let one : (r + 1) - r ≡ 1 = omega arith in
-      let same = total_same (bytes_counted s.instance s.choice s.known k n r (r + 1)) (bytes_on s.instance (plan_of s.choice s.known.es) n r k)
-          (length s.instance.messages) (λ j inside. same_on n r k j inside) in
+      let same = total_same (bytes_counted s.instance s.choice s.known k n r (r + 1)) (bytes_on s.instance (plan_of s.choice s.known.es) n r k) (length s.instance.messages) (λ j inside. same_on n r k j inside) in
       let exact = cap_exact s.instance s.choice ok.instance ok.choice done n (source_inside m h) in
-      elim (cases_lt (((r + 1) - r) * cap_most s.instance s.choice n) (total (bytes_counted s.instance s.choice s.known k n r (r + 1))
-          (length s.instance.messages))) [
-        | inl over ↦ absurd (not_closed s ok left (same_after s ok left (XChannel k n r (r + 1)) NothingLeft
-            (idle_of _ ((more.rounds m h).channels k there two)) (source_inside m h, (two, there)) (record { span = omega arith; bytes = over }) refl))
+      elim (cases_lt (((r + 1) - r) * cap_most s.instance s.choice n) (total (bytes_counted s.instance s.choice s.known k n r (r + 1)) (length s.instance.messages))) [
+        | inl over ↦ absurd (not_closed s ok left (same_after s ok left (XChannel k n r (r + 1)) NothingLeft (idle_of _ ((more.rounds m h).channels k there two)) (source_inside m h, (two, there)) (record { span = omega arith; bytes = over }) refl))
         | inr fits ↦
             let whole : 1 * cap_most s.instance s.choice n ≡ cap_most s.instance s.choice n = omega arith in
-            let times : ((r + 1) - r) * cap_most s.instance s.choice n ≡ cap_most s.instance s.choice n = ap
-                (λ (j : ℕ). j * cap_most s.instance s.choice n) one ∙ whole in
+            let times : ((r + 1) - r) * cap_most s.instance s.choice n ≡ cap_most s.instance s.choice n = ap (λ (j : ℕ). j * cap_most s.instance s.choice n) one ∙ whole in
             let known = rw times at fits in
             omega (arith, known, exact, same)
       ]
@@ -271,9 +246,7 @@ module _ (s : Facts) (ok : AreFacts s) (left : IsFalse s.known.closed) (steps : 
     | inl two ↦ half_fits two k m there h
     | inr few ↦
         let least = (ok.instance.ranges AtCluster).channels_least in
-        let most = total_le (bytes_on s.instance (plan_of s.choice s.known.es) (source_of s.instance m) (least_round s.choice m) k)
-            (bytes_in s.instance (plan_of s.choice s.known.es) (source_of s.instance m) (least_round s.choice m)) (length s.instance.messages)
-            (λ j inside. on_at_most s.instance (plan_of s.choice s.known.es) (source_of s.instance m) (least_round s.choice m) k j) in
+        let most = total_le (bytes_on s.instance (plan_of s.choice s.known.es) (source_of s.instance m) (least_round s.choice m) k) (bytes_in s.instance (plan_of s.choice s.known.es) (source_of s.instance m) (least_round s.choice m)) (length s.instance.messages) (λ j inside. on_at_most s.instance (plan_of s.choice s.known.es) (source_of s.instance m) (least_round s.choice m) k j) in
         omega (arith, most, whole_fits (omega (arith, few, least)) m h)
   ]
 
@@ -283,9 +256,7 @@ module _ (s : Facts) (ok : AreFacts s) (left : IsFalse s.known.closed) (steps : 
       subst (MayBeOn s.instance m) (sym (channel_is m h)) own
 
   apart : (p q : ℕ) → p < q → q < length s.instance.processes → AreApart s.instance (plan_of s.choice s.known.es) p q
-  apart p q up h same =
-      elim (one_before s.instance s.choice ok.instance ok.choice done p q
-          (record { first = omega (arith, up, h); second = h; two = λ equal. omega (arith, equal, up); one_node = same })) [
+  apart p q up h same = elim (one_before s.instance s.choice ok.instance ok.choice done p q (record { first = omega (arith, up, h); second = h; two = λ equal. omega (arith, equal, up); one_node = same })) [
     | inl forth ↦ inl (after p q forth)
     | inr back ↦ inr (after q p back)
   ]
@@ -305,9 +276,7 @@ module _ (s : Facts) (ok : AreFacts s) (left : IsFalse s.known.closed) (steps : 
     order = order_fits s.instance s.choice ok.instance ok.choice done;
     capacities = own_caps s.instance s.choice ok.instance ok.choice done;
     released = λ p h. released s ok left steps more.chain idle p h;
-    in_time =
-        λ p h. (omega (arith, window s ok left steps more.chain idle p h, own s ok left steps more.chain idle p h), omega (arith,
-            window s ok left steps more.chain idle p h, own s ok left steps more.chain idle p h));
+    in_time = λ p h. (omega (arith, window s ok left steps more.chain idle p h, own s ok left steps more.chain idle p h), omega (arith, window s ok left steps more.chain idle p h, own s ok left steps more.chain idle p h));
     apart = λ p h q. apart p q;
     links = λ l h. linked s ok left steps more.chain idle l h;
     ready = λ m h. ready m h;
@@ -320,9 +289,7 @@ module _ (s : Facts) (ok : AreFacts s) (left : IsFalse s.known.closed) (steps : 
   chosen = record {
     lengths = lengths;
     prefix = λ k h. refl;
-    fixed =
-        λ n h. subst (IsFixedTo (fixed_cap s.choice n)) (sym (fixed_at s.choice n (omega (arith, h, ok.choice.fixed_length))))
-            (fixed_to (fixed_cap s.choice n));
+    fixed = λ n h. subst (IsFixedTo (fixed_cap s.choice n)) (sym (fixed_at s.choice n (omega (arith, h, ok.choice.fixed_length)))) (fixed_to (fixed_cap s.choice n));
     pairs = λ p q holds. after p q holds;
     ranges = λ m h. (omega arith, ok.choice.ranges m h);
     channels = λ m h. subst (IsFixedTo (fixed_channel s.choice m)) (sym (channel_is m h)) (fixed_to (fixed_channel s.choice m));
@@ -330,15 +297,12 @@ module _ (s : Facts) (ok : AreFacts s) (left : IsFalse s.known.closed) (steps : 
 
   pub found : (plan : Plan) × IsPlanBelow s.instance s.choice s.goal plan
   found =
-      let last = greatest_reached (end_of s.instance (plan_of s.choice s.known.es)) (length s.instance.processes)
-          (omega (arith, ok.instance.limits.processes_least)) in (
+      let last = greatest_reached (end_of s.instance (plan_of s.choice s.known.es)) (length s.instance.processes) (omega (arith, ok.instance.limits.processes_least)) in (
         plan_of s.choice s.known.es,
         record {
           valid = valid;
           chosen = chosen;
-          better =
-              omega (arith, last.2, window s ok left steps more.chain idle last.0 last.1, own s ok left steps more.chain idle last.0 last.1,
-                  ((ok.instance.ranges (AtProcess last.0)) last.1).wcet_least);
+          better = omega (arith, last.2, window s ok left steps more.chain idle last.0 last.1, own s ok left steps more.chain idle last.0 last.1, ((ok.instance.ranges (AtProcess last.0)) last.1).wcet_least);
         },
       )
 
@@ -356,8 +320,7 @@ sharper_further f g h first second = record {
   closed = λ is. second.closed (first.closed is);
 }
 
-lead_sharpens : (i : Instance) (c : Choice) (goal : ℕ) (f : Known) (steps : List Step) (g : Known) → IsInstance i → Fits i f
-      → LeadSharply i c goal f steps g → IsSharper f g
+lead_sharpens : (i : Instance) (c : Choice) (goal : ℕ) (f : Known) (steps : List Step) (g : Known) → IsInstance i → Fits i f → LeadSharply i c goal f steps g → IsSharper f g
 lead_sharpens i c goal f [] g w fits lead = rw lead (sharper_same f)
 lead_sharpens i c goal f (step ∷ steps) g w fits lead =
     let next = lead.1.0 in
@@ -365,17 +328,12 @@ lead_sharpens i c goal f (step ∷ steps) g w fits lead =
     sharper_further f next g once (lead_sharpens i c goal next steps g w (Fits-step i c goal f step next fits lead.1.1) lead.1.3)
 
 -- so it is of what a log comes to that began with the first facts
-pub found_of : (i : Instance) (c : Choice) (goal : ℕ) (old new : Journal) (steps : List Step)
-      → old.facts ≡ record { instance = i; choice = c; goal = goal; known = first_facts i c } → Advances old new → AreFacts new.facts
-      → HasCompleteSteps i c steps → All (SharpensNothing new.facts) steps → IsComplete i c → IsFalse new.facts.known.closed
-      → (plan : Plan) × IsPlanBelow i c goal plan
+pub found_of : (i : Instance) (c : Choice) (goal : ℕ) (old new : Journal) (steps : List Step) → old.facts ≡ record { instance = i; choice = c; goal = goal; known = first_facts i c } → Advances old new → AreFacts new.facts → HasCompleteSteps i c steps → All (SharpensNothing new.facts) steps → IsComplete i c → IsFalse new.facts.known.closed → (plan : Plan) × IsPlanBelow i c goal plan
 found_of i c goal old new steps begins advances ok more idle done left =
     let first : Facts = record { instance = i; choice = c; goal = goal; known = first_facts i c } in
-    let here : new.facts ≡ record { instance = i; choice = c; goal = goal; known = new.facts.known } = advances.facts
-        ∙ ap (λ (s : Facts). record s { known = new.facts.known }) begins in
+    let here : new.facts ≡ record { instance = i; choice = c; goal = goal; known = new.facts.known } = advances.facts ∙ ap (λ (s : Facts). record s { known = new.facts.known }) begins in
     let end : Facts = record { instance = i; choice = c; goal = goal; known = new.facts.known } in
     let kept : AreFacts end = rw (← here) ok in
     let still : All (SharpensNothing end) steps = rw (← here) idle in
     let lead : LeadSharply i c goal (first_facts i c) advances.more new.facts.known = rw begins at advances.lead in
-    found end kept left steps more still (lead_sharpens i c goal (first_facts i c) advances.more new.facts.known kept.instance
-        (first_facts_fit i c kept.choice) lead) done
+    found end kept left steps more still (lead_sharpens i c goal (first_facts i c) advances.more new.facts.known kept.instance (first_facts_fit i c kept.choice) lead) done

@@ -23,16 +23,14 @@ use Rattle.step_reads.proofs.Targets.{stays}
 use Rattle.step_logs.proofs.Targets.{lowers}
 
 -- a lawful step that changes what is known lowers the slack
-step_lowers : (i : Instance) (c : Choice) (goal : ℕ) (f : Known) (step : Step) (g : Known) → IsInstance i → Fits i f → IsLawful i c goal f step g
-      → g ≢ f → slack i g < slack i f
+step_lowers : (i : Instance) (c : Choice) (goal : ℕ) (f : Known) (step : Step) (g : Known) → IsInstance i → Fits i f → IsLawful i c goal f step g → g ≢ f → slack i g < slack i f
 step_lowers i c goal f step g w fits lawful differs =
     let k = lawful.conclusion in
     let about = step_is_about i c goal f step k w lawful.there lawful.premise lawful.concludes in
     let fell = lowers i f fits k about (λ same. differs (lawful.known ∙ stays i f k fits about same)) in
     rw lawful.known fell
 
-steps_lower : (i : Instance) (c : Choice) (goal : ℕ) (f : Known) (steps : List Step) (g : Known) → IsInstance i → Fits i f
-      → LeadSharply i c goal f steps g → length steps + slack i g ≤ slack i f
+steps_lower : (i : Instance) (c : Choice) (goal : ℕ) (f : Known) (steps : List Step) (g : Known) → IsInstance i → Fits i f → LeadSharply i c goal f steps g → length steps + slack i g ≤ slack i f
 steps_lower i c goal f [] g w fits lead = omega (arith, ap (slack i) lead)
 steps_lower i c goal f (step ∷ steps) g w fits lead =
     let next = lead.1.0 in
@@ -49,8 +47,7 @@ module _ (i : Instance) (c : Choice) (w : IsInstance i) (ok : IsChoice i c) wher
   starts_small : sum_by (λ time. i.cluster.horizon + 1 - time) (first_facts i c).es ≤ MOST_PROCESSES * (MOST_TICKS + 1)
   starts_small =
       let is = sum_by-replicate {X = ℕ} (λ time. i.cluster.horizon + 1 - time) (length i.processes) 0 in
-      let few = mul-le-mul {n₁ = length i.processes} {m₁ = i.cluster.horizon + 1 - 0} {n₂ = MOST_PROCESSES} {m₂ = MOST_TICKS + 1} w.limits.processes
-          (omega (arith, horizon_small)) in
+      let few = mul-le-mul {n₁ = length i.processes} {m₁ = i.cluster.horizon + 1 - 0} {n₂ = MOST_PROCESSES} {m₂ = MOST_TICKS + 1} w.limits.processes (omega (arith, horizon_small)) in
       omega (arith, is, few)
 
   ends_small : sum_by (λ (time : ℕ). time) (first_facts i c).le ≤ MOST_PROCESSES * MOST_TICKS
@@ -62,8 +59,7 @@ module _ (i : Instance) (c : Choice) (w : IsInstance i) (ok : IsChoice i c) wher
   firsts_small : sum_by (λ r. i.cluster.horizon + 1 - r) (first_facts i c).lo ≤ MOST_MESSAGES * (MOST_TICKS + 1)
   firsts_small =
       let each = sum_by-le {X = ℕ} (λ r. i.cluster.horizon + 1 - r) (i.cluster.horizon + 1) c.lo (λ k d h. omega arith) in
-      let few = mul-le-mul {n₁ = length c.lo} {m₁ = i.cluster.horizon + 1} {n₂ = MOST_MESSAGES} {m₂ = MOST_TICKS + 1}
-          (omega (arith, ok.lo_length, w.limits.messages)) (omega (arith, horizon_small)) in
+      let few = mul-le-mul {n₁ = length c.lo} {m₁ = i.cluster.horizon + 1} {n₂ = MOST_MESSAGES} {m₂ = MOST_TICKS + 1} (omega (arith, ok.lo_length, w.limits.messages)) (omega (arith, horizon_small)) in
       omega (arith, each, few)
 
   each_late_small : All (λ (r : ℕ). r ≤ i.cluster.horizon) (map (λ r. r + 1) c.hi)
@@ -75,8 +71,7 @@ module _ (i : Instance) (c : Choice) (w : IsInstance i) (ok : IsChoice i c) wher
   lates_small =
       let each = sum_by-le {X = ℕ} (λ r. r) i.cluster.horizon (map (λ r. r + 1) c.hi) each_late_small in
       let size = length-map c.hi (λ (r : ℕ). r + 1) in
-      let few = mul-le-mul {n₁ = length (map (λ (r : ℕ). r + 1) c.hi)} {m₁ = i.cluster.horizon} {n₂ = MOST_MESSAGES} {m₂ = MOST_TICKS}
-          (omega (arith, size, ok.hi_length, w.limits.messages)) horizon_small in
+      let few = mul-le-mul {n₁ = length (map (λ (r : ℕ). r + 1) c.hi)} {m₁ = i.cluster.horizon} {n₂ = MOST_MESSAGES} {m₂ = MOST_TICKS} (omega (arith, size, ok.hi_length, w.limits.messages)) horizon_small in
       omega (arith, each, few)
 
   at_most_one : (b : Bool) → (if b then 0 else 1) ≤ 1
@@ -86,8 +81,7 @@ module _ (i : Instance) (c : Choice) (w : IsInstance i) (ok : IsChoice i c) wher
   orders_small : sum_by (λ (test : Bool). if test then 0 else 1) (first_facts i c).bef.tests ≤ MOST_PROCESSES * MOST_PROCESSES
   orders_small =
       let each = sum_by-le {X = Bool} (λ test. if test then 0 else 1) 1 c.before.tests (λ k d h. at_most_one _) in
-      let few = mul-le-mul {n₁ = length i.processes} {m₁ = length i.processes} {n₂ = MOST_PROCESSES} {m₂ = MOST_PROCESSES} w.limits.processes
-          w.limits.processes in
+      let few = mul-le-mul {n₁ = length i.processes} {m₁ = length i.processes} {n₂ = MOST_PROCESSES} {m₂ = MOST_PROCESSES} w.limits.processes w.limits.processes in
       omega (arith, each, few, ok.tests)
 
   first_slack : slack i (first_facts i c) < 2000000000
@@ -98,8 +92,7 @@ module _ (i : Instance) (c : Choice) (w : IsInstance i) (ok : IsChoice i c) wher
   few_steps goal steps g lead = omega (arith, steps_lower i c goal (first_facts i c) steps g w (first_facts_fit i c ok) lead, first_slack)
 
   -- a log from the first facts on, where no plan is left
-  pub closes_log : (goal : ℕ) (steps : List Step) (g : Known) → LeadSharply i c goal (first_facts i c) steps g → IsTrue g.closed
-        → ClosesSharply i c (record { goal = goal; steps = steps }) × (length steps < 2 ^ 32)
+  pub closes_log : (goal : ℕ) (steps : List Step) (g : Known) → LeadSharply i c goal (first_facts i c) steps g → IsTrue g.closed → ClosesSharply i c (record { goal = goal; steps = steps }) × (length steps < 2 ^ 32)
   closes_log goal steps g lead closed =
       ((g, lead, closed), omega (arith, few_steps goal steps g lead))
 

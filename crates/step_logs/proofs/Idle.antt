@@ -24,8 +24,7 @@ use Rattle.step_logs.specs.Journal.{Journal, Advances, SharpensNothing}
 use Rattle.step_logs.specs.Required.{HasChainSteps}
 
 -- the least capacity of a choice is no less than the first option
-least_option-ge : (i : Instance) (n : ℕ) (o : Option ℕ) → IsStrictlyIncreasing (node_at i n).capacities → IsOption i n o
-      → slice_index (node_at i n).capacities 0 ≤ least_option i n o
+least_option-ge : (i : Instance) (n : ℕ) (o : Option ℕ) → IsStrictlyIncreasing (node_at i n).capacities → IsOption i n o → slice_index (node_at i n).capacities 0 ≤ least_option i n o
 least_option-ge i n None rising is = omega arith
 least_option-ge i n (Some fixed) rising is =
     let xs = (node_at i n).capacities in
@@ -34,14 +33,11 @@ least_option-ge i n (Some fixed) rising is =
 
 module _ (s : Facts) (ok : AreFacts s) (left : IsFalse s.known.closed) where
   -- a lawful step that is idle concludes nothing new
-  pub same_after : (step : Step) (k : Conclusion) → SharpensNothing s step → (rule s.instance s.choice s.goal s.known step).there
-        → (rule s.instance s.choice s.goal s.known step).premise → (rule s.instance s.choice s.goal s.known step).concludes k
-        → sharpened s.instance s.known k ≡ s.known
+  pub same_after : (step : Step) (k : Conclusion) → SharpensNothing s step → (rule s.instance s.choice s.goal s.known step).there → (rule s.instance s.choice s.goal s.known step).premise → (rule s.instance s.choice s.goal s.known step).concludes k → sharpened s.instance s.known k ≡ s.known
   same_after step k idle there premise concludes =
       idle.leaves left (sharpened s.instance s.known k) (record { there = there; premise = premise; conclusion = k; concludes = concludes; known = refl })
 
-  pub started : (q time : ℕ) → q < length s.instance.processes → sharpened s.instance s.known (StartsFrom q time) ≡ s.known
-        → capped s.instance time ≤ es_of s.known q
+  pub started : (q time : ℕ) → q < length s.instance.processes → sharpened s.instance s.known (StartsFrom q time) ≡ s.known → capped s.instance time ≤ es_of s.known q
   started q time inside same =
       let is = ap (λ (k : Known). es_of k q) same in
       let here = get_or-set_same s.known.es q (max (es_of s.known q) (capped s.instance time)) 0 (omega (arith, ok.fits.es, inside)) in
@@ -80,25 +76,18 @@ module _ (s : Facts) (ok : AreFacts s) (left : IsFalse s.known.closed) where
     linked l inside = from _ _ (ok.instance.indices (AtLink l) inside).1 (same_after (EsLink l) _ (idle_of _ (has.links l inside)) inside tt refl)
 
     pub receiver_inside : (m q : ℕ) → Receives s.instance m q → q < length s.instance.processes
-    receiver_inside m q receives =
-        All-contains (IsProcess s.instance) (message_at s.instance m).receivers q ((ok.instance.indices (AtMessage m)) receives.0).1 receives.1
+    receiver_inside m q receives = All-contains (IsProcess s.instance) (message_at s.instance m).receivers q ((ok.instance.indices (AtMessage m)) receives.0).1 receives.1
 
-    sent : (m q : ℕ) → Receives s.instance m q
-          → least_end s.instance s.known (message_at s.instance m).sender + s.instance.cluster.copy_out + dur_least s.instance s.choice
-          (source_of s.instance m) + s.instance.cluster.copy_in ≤ es_of s.known q
+    sent : (m q : ℕ) → Receives s.instance m q → least_end s.instance s.known (message_at s.instance m).sender + s.instance.cluster.copy_out + dur_least s.instance s.choice (source_of s.instance m) + s.instance.cluster.copy_in ≤ es_of s.known q
     sent m q receives = from q _ (receiver_inside m q receives) (same_after (EsMessage m q) _ (idle_of _ (has.messages m q receives).transfer) receives tt refl)
 
     least_duration-le : (n : ℕ) → n < length s.instance.nodes → least_duration s.instance n ≤ dur_least s.instance s.choice n
-    least_duration-le n inside =
-        slot_duration-le s.instance.cluster _ _ (least_option-ge s.instance n (fixed_cap s.choice n) (ok.instance.capacities n inside).rising
-            (ok.choice.options n inside))
+    least_duration-le n inside = slot_duration-le s.instance.cluster _ _ (least_option-ge s.instance n (fixed_cap s.choice n) (ok.instance.capacities n inside).rising (ok.choice.options n inside))
 
     link_le : (p q : ℕ) → HasLink s.instance p q → least_end s.instance s.known p ≤ es_of s.known q
     link_le p q link = rw (← link.before, ← link.after) (linked link.link link.is_there)
 
-    message_le : (p q : ℕ) → HasMessage s.instance p q
-          → least_end s.instance s.known p + s.instance.cluster.copy_out + least_duration s.instance (node_of s.instance p)
-          + s.instance.cluster.copy_in ≤ es_of s.known q
+    message_le : (p q : ℕ) → HasMessage s.instance p q → least_end s.instance s.known p + s.instance.cluster.copy_out + least_duration s.instance (node_of s.instance p) + s.instance.cluster.copy_in ≤ es_of s.known q
     message_le p q message =
         let sender_inside = (ok.instance.indices (AtMessage message.message) message.is_there).0 in
         let node = ok.instance.indices (AtProcess (message_at s.instance message.message).sender) sender_inside in
@@ -120,16 +109,12 @@ module _ (s : Facts) (ok : AreFacts s) (left : IsFalse s.known.closed) where
     pub above : (bound : ℕ) → IsPathBound s.instance bound → bound < s.goal
     above bound is =
         let inside = chain_inside is.last bound is.reached in
-        omega (arith, chain_le is.last bound is.reached, window is.last inside, own is.last inside,
-            ((ok.instance.ranges (AtProcess is.last)) inside).wcet_least)
+        omega (arith, chain_le is.last bound is.reached, window is.last inside, own is.last inside, ((ok.instance.ranges (AtProcess is.last)) inside).wcet_least)
 
 -- so it is of what a log comes to that began with the first facts
-pub above_of : (i : Instance) (c : Choice) (goal : ℕ) (old new : Journal) (steps : List Step)
-      → old.facts ≡ record { instance = i; choice = c; goal = goal; known = first_facts i c } → Advances old new → AreFacts new.facts
-      → HasChainSteps i steps → All (SharpensNothing new.facts) steps → IsFalse new.facts.known.closed → (bound : ℕ) → IsPathBound i bound → bound < goal
+pub above_of : (i : Instance) (c : Choice) (goal : ℕ) (old new : Journal) (steps : List Step) → old.facts ≡ record { instance = i; choice = c; goal = goal; known = first_facts i c } → Advances old new → AreFacts new.facts → HasChainSteps i steps → All (SharpensNothing new.facts) steps → IsFalse new.facts.known.closed → (bound : ℕ) → IsPathBound i bound → bound < goal
 above_of i c goal old new steps begins advances ok has idle left =
-    let here : new.facts ≡ record { instance = i; choice = c; goal = goal; known = new.facts.known } = advances.facts
-        ∙ ap (λ (s : Facts). record s { known = new.facts.known }) begins in
+    let here : new.facts ≡ record { instance = i; choice = c; goal = goal; known = new.facts.known } = advances.facts ∙ ap (λ (s : Facts). record s { known = new.facts.known }) begins in
     let end : Facts = record { instance = i; choice = c; goal = goal; known = new.facts.known } in
     let kept : AreFacts end = rw (← here) ok in
     let still : All (SharpensNothing end) steps = rw (← here) idle in

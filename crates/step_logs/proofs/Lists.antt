@@ -20,9 +20,7 @@ keeps_three steps a b c other has = keeps_pushed ((steps ++ a ∷ []) ++ b ∷ [
 
 pub process_steps_pushed : (steps : List Step) (p : ℕ) → HasProcessSteps (((steps ++ EsRelease p ∷ []) ++ LeOwn p ∷ []) ++ XWindow p ∷ []) p
 process_steps_pushed steps p = record {
-  release =
-      keeps_pushed ((steps ++ EsRelease p ∷ []) ++ LeOwn p ∷ []) (XWindow p) _ (keeps_pushed (steps ++ EsRelease p ∷ []) (LeOwn p) _
-          (has_pushed steps (EsRelease p)));
+  release = keeps_pushed ((steps ++ EsRelease p ∷ []) ++ LeOwn p ∷ []) (XWindow p) _ (keeps_pushed (steps ++ EsRelease p ∷ []) (LeOwn p) _ (has_pushed steps (EsRelease p)));
   end = keeps_pushed ((steps ++ EsRelease p ∷ []) ++ LeOwn p ∷ []) (XWindow p) _ (has_pushed (steps ++ EsRelease p ∷ []) (LeOwn p));
   window = has_pushed ((steps ++ EsRelease p ∷ []) ++ LeOwn p ∷ []) (XWindow p);
 }
@@ -62,16 +60,13 @@ frame_step_pushed steps count n r alone = record {
   channels = λ k inside two. absurd (omega (arith, alone, two));
 }
 
-pub frame_steps_of : (steps : List Step) (count n r : ℕ) → count ≢ 1 → ((k : ℕ) → k < count → Contains steps (XChannel k n r (r + 1)))
-      → HasFrameSteps count n r steps
+pub frame_steps_of : (steps : List Step) (count n r : ℕ) → count ≢ 1 → ((k : ℕ) → k < count → Contains steps (XChannel k n r (r + 1))) → HasFrameSteps count n r steps
 frame_steps_of steps count n r more each = record {
   frame = λ alone. absurd (more alone);
   channels = λ k inside two. each k inside;
 }
 
-pub round_steps_pushed : (i : Instance) (c : Choice) (old new : List Step) (m count source round : ℕ)
-      → KeepsSteps ((old ++ LeSend m ∷ []) ++ XRound m ∷ []) new → HasFrameSteps count source round new → count ≡ i.cluster.channels
-      → source ≡ source_of i m → round ≡ least_round c m → HasRoundSteps i c new m
+pub round_steps_pushed : (i : Instance) (c : Choice) (old new : List Step) (m count source round : ℕ) → KeepsSteps ((old ++ LeSend m ∷ []) ++ XRound m ∷ []) new → HasFrameSteps count source round new → count ≡ i.cluster.channels → source ≡ source_of i m → round ≡ least_round c m → HasRoundSteps i c new m
 round_steps_pushed i c old new m count source round keeps has all from begin =
     let here : HasFrameSteps i.cluster.channels (source_of i m) (least_round c m) new = rw (all, from, begin) at has in
     record {
@@ -90,8 +85,7 @@ round_steps_kept i c old new m keeps has = record {
 }
 
 -- one element more of a list that is copied behind another
-pub copied_more : {X : Type 0} (xs : List X) (k : ℕ) (x : X) (start old new : List X) → k < length xs → x ≡ get_or xs k x → old ≡ start ++ take k xs
-      → new ≡ old ++ x ∷ [] → new ≡ start ++ take (k + 1) xs
+pub copied_more : {X : Type 0} (xs : List X) (k : ℕ) (x : X) (start old new : List X) → k < length xs → x ≡ get_or xs k x → old ≡ start ++ take k xs → new ≡ old ++ x ∷ [] → new ≡ start ++ take (k + 1) xs
 copied_more {X} xs k x start old new lt is so_far more =
     let taken : take (k + 1) xs ≡ take k xs ++ x ∷ [] = take_more xs k x lt ∙ ap (λ (y : X). take k xs ++ y ∷ []) (sym is) in
     more ∙ ap (λ (t : List X). t ++ x ∷ []) so_far ∙ append_assoc start (take k xs) (x ∷ []) ∙ ap (λ (t : List X). start ++ t) (sym taken)

@@ -19,8 +19,7 @@ use Rattle.step_reads.proofs.Targets.{target_is, stays}
 use Rattle.step_logs.proofs.Targets.{lowers}
 
 -- Steps that sharpen, in two parts.
-pub LeadSharply-append : (i : Instance) (c : Choice) (goal : ℕ) (f : Known) (steps others : List Step) (g h : Known) → LeadSharply i c goal f steps g
-      → LeadSharply i c goal g others h → LeadSharply i c goal f (steps ++ others) h
+pub LeadSharply-append : (i : Instance) (c : Choice) (goal : ℕ) (f : Known) (steps others : List Step) (g h : Known) → LeadSharply i c goal f steps g → LeadSharply i c goal g others h → LeadSharply i c goal f (steps ++ others) h
 LeadSharply-append i c goal f [] others g h first second = rw (← first) second
 LeadSharply-append i c goal f (step ∷ steps) others g h first second =
     (first.0, (first.1.0, first.1.1, first.1.2, LeadSharply-append i c goal first.1.0 steps others g h first.1.3 second))
@@ -38,17 +37,14 @@ advances_trans a b c first second = record {
   more = first.more ++ second.more;
   facts = second.facts ∙ ap (λ (s : Facts). after s c.facts.known) first.facts;
   steps = second.steps ∙ ap (λ (steps : List Step). steps ++ second.more) first.steps ∙ append_assoc a.steps first.more second.more;
-  lead =
-      LeadSharply-append a.facts.instance a.facts.choice a.facts.goal a.facts.known first.more second.more b.facts.known c.facts.known first.lead
-          (rw first.facts at second.lead);
+  lead = LeadSharply-append a.facts.instance a.facts.choice a.facts.goal a.facts.known first.more second.more b.facts.known c.facts.known first.lead (rw first.facts at second.lead);
 }
 
 -- a step that sharpens changes what is known
 differs : (s : Facts) (step : Step) (g : Known) → Sharpens s step g → g ≢ s.known
 differs s step g is same = omega (arith, is.falls, ap (slack s.instance) same)
 
-pub advances_step : (log new : Journal) (step : Step) → new.facts ≡ after log.facts new.facts.known → new.steps ≡ log.steps ++ step ∷ []
-      → Sharpens log.facts step new.facts.known → Advances log new
+pub advances_step : (log new : Journal) (step : Step) → new.facts ≡ after log.facts new.facts.known → new.steps ≡ log.steps ++ step ∷ [] → Sharpens log.facts step new.facts.known → Advances log new
 advances_step log new step others steps is = record {
   more = step ∷ [];
   facts = others;
@@ -57,9 +53,7 @@ advances_step log new step others steps is = record {
 }
 
 -- a lawful step that changes the value of its target sharpens
-pub sharpens_changed : (s : Facts) (step : Step) (g : Known) → AreFacts s → IsFalse s.known.closed
-      → IsLawful s.instance s.choice s.goal s.known step g → known_value g (target s.instance step) ≢ known_value s.known (target s.instance step)
-      → Sharpens s step g
+pub sharpens_changed : (s : Facts) (step : Step) (g : Known) → AreFacts s → IsFalse s.known.closed → IsLawful s.instance s.choice s.goal s.known step g → known_value g (target s.instance step) ≢ known_value s.known (target s.instance step) → Sharpens s step g
 sharpens_changed s step g ok left lawful changes =
     let about = step_is_about s.instance s.choice s.goal s.known step lawful.conclusion ok.instance lawful.there lawful.premise lawful.concludes in
     let is = target_is s.instance s.choice s.goal s.known step lawful.conclusion lawful.concludes in
@@ -67,8 +61,7 @@ sharpens_changed s step g ok left lawful changes =
     record { open_before = left; lawful = lawful; falls = rw lawful.known fell }
 
 -- one that doesn't leaves what is known
-pub stays_same : (s : Facts) (step : Step) (g : Known) → AreFacts s → IsLawful s.instance s.choice s.goal s.known step g
-      → known_value g (target s.instance step) ≡ known_value s.known (target s.instance step) → g ≡ s.known
+pub stays_same : (s : Facts) (step : Step) (g : Known) → AreFacts s → IsLawful s.instance s.choice s.goal s.known step g → known_value g (target s.instance step) ≡ known_value s.known (target s.instance step) → g ≡ s.known
 stays_same s step g ok lawful same =
     let about = step_is_about s.instance s.choice s.goal s.known step lawful.conclusion ok.instance lawful.there lawful.premise lawful.concludes in
     let is = target_is s.instance s.choice s.goal s.known step lawful.conclusion lawful.concludes in
@@ -85,10 +78,8 @@ same_from a b fails = elim (cases_Bool (nat_eq a b)) [
 ]
 
 -- a log with one more step
-pub advances_pushed : (before after_it : Facts) (steps : List Step) (step : Step) → after_it ≡ after before after_it.known
-      → Sharpens before step after_it.known → Advances (record { facts = before; steps = steps }) (record { facts = after_it; steps = steps ++ step ∷ [] })
-advances_pushed before after_it steps step others is =
-    advances_step (record { facts = before; steps = steps }) (record { facts = after_it; steps = steps ++ step ∷ [] }) step others refl is
+pub advances_pushed : (before after_it : Facts) (steps : List Step) (step : Step) → after_it ≡ after before after_it.known → Sharpens before step after_it.known → Advances (record { facts = before; steps = steps }) (record { facts = after_it; steps = steps ++ step ∷ [] })
+advances_pushed before after_it steps step others is = advances_step (record { facts = before; steps = steps }) (record { facts = after_it; steps = steps ++ step ∷ [] }) step others refl is
 
 -- a lawful step that leaves what is known is idle, and so is one that is refused
 pub idle_taken : (s : Facts) (step : Step) (g : Known) → IsLawful s.instance s.choice s.goal s.known step g → g ≡ s.known → SharpensNothing s step
@@ -98,16 +89,13 @@ pub idle_refused : (s : Facts) (step : Step) (fault : StepFault) → IsStepFault
 idle_refused s step fault is = record { leaves = λ left g lawful. absurd (fault-not_lawful s.instance s.choice s.goal s.known step g fault is left lawful) }
 
 -- A sweep, step by step.
-pub lower_yet : (first before now : Journal) (sharper : Bool) → (IsTrue sharper → slack_of before.facts < slack_of first.facts)
-      → (IsFalse sharper → before ≡ first) → slack_of now.facts < slack_of before.facts → slack_of now.facts < slack_of first.facts
+pub lower_yet : (first before now : Journal) (sharper : Bool) → (IsTrue sharper → slack_of before.facts < slack_of first.facts) → (IsFalse sharper → before ≡ first) → slack_of now.facts < slack_of before.facts → slack_of now.facts < slack_of first.facts
 lower_yet first before now sharper lower same fell = elim (cases_Bool sharper) [
   | inl holds ↦ omega (arith, lower holds, fell)
   | inr fails ↦ omega (arith, fell, ap (λ (log : Journal). slack_of log.facts) (same fails))
 ]
 
-pub idle_next : (before now : Journal) (steps : List Step) (n : ℕ) (step : Step) → now ≡ before
-      → ((k : ℕ) (d : Step) → k < n → SharpensNothing before.facts (slice_index_or steps k d)) → SharpensNothing before.facts step
-      → ((d : Step) → slice_index_or steps n d ≡ step) → (k : ℕ) (d : Step) → k < n + 1 → SharpensNothing now.facts (slice_index_or steps k d)
+pub idle_next : (before now : Journal) (steps : List Step) (n : ℕ) (step : Step) → now ≡ before → ((k : ℕ) (d : Step) → k < n → SharpensNothing before.facts (slice_index_or steps k d)) → SharpensNothing before.facts step → ((d : Step) → slice_index_or steps n d ≡ step) → (k : ℕ) (d : Step) → k < n + 1 → SharpensNothing now.facts (slice_index_or steps k d)
 idle_next before now steps n step same idle here is k d below = rw same (elim (cases_eq k n) [
   | inl equal ↦ rw (equal, is d) here
   | inr other ↦ idle k d (omega (arith, below, other))

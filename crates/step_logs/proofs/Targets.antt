@@ -17,22 +17,18 @@ uncounted true differs = absurd (differs refl)
 uncounted false differs = refl
 
 -- a rise of a least time that is no later than the end is a fall of what is left
-rises : (end : ℕ) (xs : List ℕ) (k low : ℕ) → k < length xs
-      → slice_index (slice_set xs k (max (slice_index xs k) (min low end))) k ≢ slice_index xs k
-      → sum_by (λ time. end - time) (slice_set xs k (max (slice_index xs k) (min low end))) < sum_by (λ time. end - time) xs
+rises : (end : ℕ) (xs : List ℕ) (k low : ℕ) → k < length xs → slice_index (slice_set xs k (max (slice_index xs k) (min low end))) k ≢ slice_index xs k → sum_by (λ time. end - time) (slice_set xs k (max (slice_index xs k) (min low end))) < sum_by (λ time. end - time) xs
 rises end xs k low there differs =
     let is = get_or-set_same xs k (max (slice_index xs k) (min low end)) 0 there in
     less (λ time. end - time) xs k (max (slice_index xs k) (min low end)) there (omega (arith, is, differs))
 
-falls : (xs : List ℕ) (k high : ℕ) → k < length xs → slice_index (slice_set xs k (min (slice_index xs k) high)) k ≢ slice_index xs k
-      → sum_by (λ (time : ℕ). time) (slice_set xs k (min (slice_index xs k) high)) < sum_by (λ (time : ℕ). time) xs
+falls : (xs : List ℕ) (k high : ℕ) → k < length xs → slice_index (slice_set xs k (min (slice_index xs k) high)) k ≢ slice_index xs k → sum_by (λ (time : ℕ). time) (slice_set xs k (min (slice_index xs k) high)) < sum_by (λ (time : ℕ). time) xs
 falls xs k high there differs =
     let is = get_or-set_same xs k (min (slice_index xs k) high) 0 there in
     less (λ (time : ℕ). time) xs k (min (slice_index xs k) high) there (omega (arith, is, differs))
 
 module _ (i : Instance) (f : Known) (fits : Fits i f) where
-  one_order_less : (p q : ℕ) → p < length i.processes → q < length i.processes → bef_of f p q ≡ false
-        → sum_by (λ (test : Bool). if test then 0 else 1) (put_before f.bef p q).tests < sum_by (λ (test : Bool). if test then 0 else 1) f.bef.tests
+  one_order_less : (p q : ℕ) → p < length i.processes → q < length i.processes → bef_of f p q ≡ false → sum_by (λ (test : Bool). if test then 0 else 1) (put_before f.bef p q).tests < sum_by (λ (test : Bool). if test then 0 else 1) f.bef.tests
   one_order_less p q first second none =
       let row : p < f.bef.processes = omega (arith, fits.processes, first) in
       let column : q < f.bef.processes = omega (arith, fits.processes, second) in

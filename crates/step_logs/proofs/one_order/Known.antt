@@ -21,9 +21,7 @@ sharpened_ordered i f p q (GoesFirst x y) = λ z. record f { bef = puts_commute 
 sharpened_ordered i f p q NothingLeft = refl
 
 -- what is known without that order is the same where it is so with it
-pub same_unordered : (i : Instance) (f g : Known) (p q : ℕ) → ArePair i p q → Fits i f → Fits i g → IsFalse (bef_of f p q) → IsFalse (bef_of g p q)
-      → ordered g p q ≡ ordered f p q → g ≡ f
+pub same_unordered : (i : Instance) (f g : Known) (p q : ℕ) → ArePair i p q → Fits i f → Fits i g → IsFalse (bef_of f p q) → IsFalse (bef_of g p q) → ordered g p q ≡ ordered f p q → g ≡ f
 same_unordered i f g p q pair old new unknown still same =
-    let bef : g.bef ≡ f.bef = same_without g.bef f.bef p q (omega (arith, new.processes, pair.first)) (omega (arith, new.processes, pair.second))
-        (new.processes ∙ sym old.processes) still unknown (ap (λ (k : Known). k.bef) same) in
+    let bef : g.bef ≡ f.bef = same_without g.bef f.bef p q (omega (arith, new.processes, pair.first)) (omega (arith, new.processes, pair.second)) (new.processes ∙ sym old.processes) still unknown (ap (λ (k : Known). k.bef) same) in
     λ z. record { es = (same z).es; le = (same z).le; lo = (same z).lo; top = (same z).top; bef = bef z; closed = (same z).closed }

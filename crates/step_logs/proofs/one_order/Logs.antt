@@ -41,8 +41,7 @@ module _ (i : Instance) (c : Choice) (goal p q : ℕ) (w : IsInstance i) (pair :
         | inr not ↦ not
       ]
 
-  pub lead_ordered : (f : Known) (steps : List Step) (g : Known) → Fits i f → ¬ Contains steps (UsSettled p) → LeadSharply i c goal f steps g
-        → IsFalse (bef_of g p q) → LeadSharply i (order_pair c p q) goal (ordered f p q) steps (ordered g p q)
+  pub lead_ordered : (f : Known) (steps : List Step) (g : Known) → Fits i f → ¬ Contains steps (UsSettled p) → LeadSharply i c goal f steps g → IsFalse (bef_of g p q) → LeadSharply i (order_pair c p q) goal (ordered f p q) steps (ordered g p q)
   lead_ordered f [] g fits none lead unknown = ap (λ (k : Known). ordered k p q) lead
   lead_ordered f (step ∷ steps) g fits none lead unknown =
       let next = lead.1.0 in
@@ -60,30 +59,19 @@ module _ (i : Instance) (c : Choice) (goal p q : ℕ) (w : IsInstance i) (pair :
       )
 
 -- so does one that began with the first facts
-pub follows_ordered : (s : Facts) (steps : List Step) (p q : ℕ) → AreFacts s → ArePair s.instance p q → ¬ Contains steps (UsSettled p)
-      → IsFalse (bef_of s.known p q) → FollowsFrom s.instance s.choice s.goal (record { facts = s; steps = steps })
-      → FollowsFrom s.instance (order_pair s.choice p q) s.goal
-      (record { facts = record { instance = s.instance; choice = order_pair s.choice p q; goal = s.goal; known = ordered s.known p q }; steps = steps })
+pub follows_ordered : (s : Facts) (steps : List Step) (p q : ℕ) → AreFacts s → ArePair s.instance p q → ¬ Contains steps (UsSettled p) → IsFalse (bef_of s.known p q) → FollowsFrom s.instance s.choice s.goal (record { facts = s; steps = steps }) → FollowsFrom s.instance (order_pair s.choice p q) s.goal (record { facts = record { instance = s.instance; choice = order_pair s.choice p q; goal = s.goal; known = ordered s.known p q }; steps = steps })
 follows_ordered s steps p q are pair none unknown follows =
     let lead : LeadSharply s.instance s.choice s.goal (first_facts s.instance s.choice) steps s.known = rw follows.steps follows.lead in
     record {
       more = steps;
       facts = refl;
       steps = refl;
-      lead =
-          lead_ordered s.instance s.choice s.goal p q are.instance pair (first_facts s.instance s.choice) steps s.known
-              (first_facts_fit s.instance s.choice are.choice) none lead unknown;
+      lead = lead_ordered s.instance s.choice s.goal p q are.instance pair (first_facts s.instance s.choice) steps s.known (first_facts_fit s.instance s.choice are.choice) none lead unknown;
     }
 
 -- so after a decision on what a log is about
-pub carried_ordered : (level : Journal) (d : Decision) (p q : ℕ) (answer : Result Journal MemoryFault) → d ≡ Before p q → AreFacts level.facts
-      → IsOpenDecision level.facts.instance level.facts.choice d → ¬ Contains level.steps (UsSettled p) → IsFalse (bef_of level.facts.known p q)
-      → FollowsFrom level.facts.instance level.facts.choice level.facts.goal level
-      → IfOk answer (λ log. log ≡ record { facts = record
-      { instance = level.facts.instance; choice = order_pair level.facts.choice p q; goal = level.facts.goal; known = ordered level.facts.known p q
-      }; steps = level.steps }) → IfOk answer (FollowsFrom level.facts.instance (choice_after level.facts.instance level.facts.choice d) level.facts.goal)
+pub carried_ordered : (level : Journal) (d : Decision) (p q : ℕ) (answer : Result Journal MemoryFault) → d ≡ Before p q → AreFacts level.facts → IsOpenDecision level.facts.instance level.facts.choice d → ¬ Contains level.steps (UsSettled p) → IsFalse (bef_of level.facts.known p q) → FollowsFrom level.facts.instance level.facts.choice level.facts.goal level → IfOk answer (λ log. log ≡ record { facts = record { instance = level.facts.instance; choice = order_pair level.facts.choice p q; goal = level.facts.goal; known = ordered level.facts.known p q }; steps = level.steps }) → IfOk answer (FollowsFrom level.facts.instance (choice_after level.facts.instance level.facts.choice d) level.facts.goal)
 carried_ordered level d p q (Err fault) is are is_open none unknown follows made = made
 carried_ordered level d p q (Ok log) is are is_open none unknown follows made =
-    let pair : IsUnorderedPair level.facts.instance level.facts.choice p q = subst
-        (λ (x : Decision). IsOpenDecision level.facts.instance level.facts.choice x) is is_open in
+    let pair : IsUnorderedPair level.facts.instance level.facts.choice p q = subst (λ (x : Decision). IsOpenDecision level.facts.instance level.facts.choice x) is is_open in
     rw (is, made) (follows_ordered level.facts level.steps p q are pair.pair none unknown follows)

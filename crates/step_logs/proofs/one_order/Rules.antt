@@ -75,10 +75,8 @@ module _ (i : Instance) (c : Choice) (goal : ℕ) (f : Known) (p q : ℕ) (unkno
   not_known x y same known = both_ways _ unknown (known_same f p q x y same ∙ known)
 
   ahead_of : (ps : List ℕ) (x y : ℕ) → AreNeighbours ps x y → IsRing i f ps → IsAhead i f x y
-  ahead_of ps x y (inl beside) ring =
-      subst (λ (a : ℕ). IsAhead i f a y) beside.2 (subst (λ (b : ℕ). IsAhead i f (slice_index ps beside.0) b) beside.3 (ring.each beside.0 beside.1))
-  ahead_of ps x y (inr ends) ring =
-      subst (λ (a : ℕ). IsAhead i f a y) ends.0 (subst (λ (b : ℕ). IsAhead i f (slice_index ps (length ps - 1)) b) ends.1 ring.closes)
+  ahead_of ps x y (inl beside) ring = subst (λ (a : ℕ). IsAhead i f a y) beside.2 (subst (λ (b : ℕ). IsAhead i f (slice_index ps beside.0) b) beside.3 (ring.each beside.0 beside.1))
+  ahead_of ps x y (inr ends) ring = subst (λ (a : ℕ). IsAhead i f a y) ends.0 (subst (λ (b : ℕ). IsAhead i f (slice_index ps (length ps - 1)) b) ends.1 ring.closes)
 
   not_in_ring : (ps : List ℕ) → IsRing i f ps → ¬ IsKnownPair i ps (Order p q)
   not_in_ring ps ring pair = elim (ahead_of ps pair.first pair.second pair.neighbours ring) [
@@ -167,17 +165,14 @@ module _ (i : Instance) (c : Choice) (goal : ℕ) (f : Known) (p q : ℕ) (pair 
   limits_alike (Copies m) = refl
   limits_alike (Counted m k) = refl
 
-  pub lawful_ordered : (step : Step) (g : Known) → step ≢ UsSettled p → IsFalse (bef_of f p q) → IsLawful i c goal f step g
-        → IsLawful i (order_pair c p q) goal (ordered f p q) step (ordered g p q)
+  pub lawful_ordered : (step : Step) (g : Known) → step ≢ UsSettled p → IsFalse (bef_of f p q) → IsLawful i c goal f step g → IsLawful i (order_pair c p q) goal (ordered f p q) step (ordered g p q)
   lawful_ordered step g other unknown lawful =
-      let unread = λ (fact : Fact) (reads : ReadsFact i c f step fact) (is : fact ≡ Order p q). other
-          (reads_unknown i c goal f p q unknown step lawful.premise (subst (ReadsFact i c f step) is reads)) in
+      let unread = λ (fact : Fact) (reads : ReadsFact i c f step fact) (is : fact ≡ Order p q). other (reads_unknown i c goal f p q unknown step lawful.premise (subst (ReadsFact i c f step) is reads)) in
       let agree : AgreeOnReads i c goal f (order_pair c p q) goal (ordered f p q) step = record {
         facts = λ fact reads. alike_but_order fact (unread fact reads);
         limits = λ limit reads. limits_alike limit;
       } in
-      let given = gives_alike i c goal f (order_pair c p q) goal (ordered f p q) step lawful.conclusion agree
-          (record { there = lawful.there; premise = lawful.premise; concludes = lawful.concludes }) in
+      let given = gives_alike i c goal f (order_pair c p q) goal (ordered f p q) step lawful.conclusion agree (record { there = lawful.there; premise = lawful.premise; concludes = lawful.concludes }) in
       record {
         there = given.there;
         premise = given.premise;

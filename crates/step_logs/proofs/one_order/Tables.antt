@@ -18,13 +18,10 @@ puts_commute b j k p q = λ z. record b { tests = sets_commute b.tests (place_in
 taken_out : (b : Precedence) (p q : ℕ) → p < b.processes → q < b.processes → IsFalse (goes_before b p q) → take_back (put_before b p q) p q ≡ b
 taken_out b p q first second unknown =
     let test = test_of b p q first second in
-    let tests = set-set b.tests (place_in b p q) true false ∙ (ap (slice_set b.tests (place_in b p q)) (sym unknown ∙ test) ∙ set-get_or b.tests
-        (place_in b p q) false) in
+    let tests = set-set b.tests (place_in b p q) true false ∙ (ap (slice_set b.tests (place_in b p q)) (sym unknown ∙ test) ∙ set-get_or b.tests (place_in b p q) false) in
     λ z. record b { tests = tests z }
 
 -- tables that don't have it are the same where they are so with it
-pub same_without : (a b : Precedence) (p q : ℕ) → p < a.processes → q < a.processes → a.processes ≡ b.processes → IsFalse (goes_before a p q)
-      → IsFalse (goes_before b p q) → put_before a p q ≡ put_before b p q → a ≡ b
+pub same_without : (a b : Precedence) (p q : ℕ) → p < a.processes → q < a.processes → a.processes ≡ b.processes → IsFalse (goes_before a p q) → IsFalse (goes_before b p q) → put_before a p q ≡ put_before b p q → a ≡ b
 same_without a b p q first second count unknown new same =
-    sym (taken_out a p q first second unknown) ∙ (ap (λ (t : Precedence). take_back t p q) same ∙ taken_out b p q (rw (← count) first)
-        (rw (← count) second) new)
+    sym (taken_out a p q first second unknown) ∙ (ap (λ (t : Precedence). take_back t p q) same ∙ taken_out b p q (rw (← count) first) (rw (← count) second) new)

@@ -25,5 +25,4 @@ returns c =
     facts.choice
     c.requires.above
     (λ done left. subst (λ (f : Facts). IsComplete f.instance f.choice → (plan : Plan) × IsPlanBelow f.instance f.choice s.goal plan) about
-    (λ complete. c.in_ok-finish.ensures.found s.goal start (subst (λ (f : Facts). Begins f.instance f.choice s.goal start) (sym about) begins)
-        far complete left) done)
+    (λ complete. c.in_ok-finish.ensures.found s.goal start (subst (λ (f : Facts). Begins f.instance f.choice s.goal start) (sym about) begins) far complete left) done)

@@ -16,5 +16,4 @@ loop-m-preserved c =
     }
 
 pub returns-clause-added : goal.returns-clause-added
-returns-clause-added c =
-    λ m q receives. c.loop-m.invariant.added m q (omega (arith, receives.0, ap length c.messages.ensures.value, c.loop-m-test.false)) receives.1
+returns-clause-added c = λ m q receives. c.loop-m.invariant.added m q (omega (arith, receives.0, ap length c.messages.ensures.value, c.loop-m-test.false)) receives.1

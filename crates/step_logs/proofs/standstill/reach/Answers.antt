@@ -4,17 +4,10 @@ use Rattle.step_logs.proofs.Logs.{advances_trans}
 use Rattle.step_logs.proofs.standstill.reach.Goals as goal
 
 pub returns-clause-above : goal.returns-clause-above
-returns-clause-above c =
-    above_of c.args.instance.now c.args.choice.now c.args.journal.now.facts.goal c.args.journal.now c.settle.new.self c.in_ok-steps.steps.items
-        c.requires.begins (advances_trans _ _ _ c.accelerate.ensures c.settle.ensures.advances)
-        (rw c.facts-known.ensures at c.instance-same.ensures.inference) c.in_ok-steps.ensures.chain (rw c.as_slice.ensures.value at c.in_ok-settle.ensures.idle)
+returns-clause-above c = above_of c.args.instance.now c.args.choice.now c.args.journal.now.facts.goal c.args.journal.now c.settle.new.self c.in_ok-steps.steps.items c.requires.begins (advances_trans _ _ _ c.accelerate.ensures c.settle.ensures.advances) (rw c.facts-known.ensures at c.instance-same.ensures.inference) c.in_ok-steps.ensures.chain (rw c.as_slice.ensures.value at c.in_ok-settle.ensures.idle)
 
 pub returns-clause-found : goal.returns-clause-found
-returns-clause-found c =
-    λ done. found_of c.args.instance.now c.args.choice.now c.args.journal.now.facts.goal c.args.journal.now c.settle.new.self
-        c.in_ok-steps.steps.items c.requires.begins (advances_trans _ _ _ c.accelerate.ensures c.settle.ensures.advances)
-        (rw c.facts-known.ensures at c.instance-same.ensures.inference) (c.in_ok-steps.ensures.complete done)
-        (rw c.as_slice.ensures.value at c.in_ok-settle.ensures.idle) done
+returns-clause-found c = λ done. found_of c.args.instance.now c.args.choice.now c.args.journal.now.facts.goal c.args.journal.now c.settle.new.self c.in_ok-steps.steps.items c.requires.begins (advances_trans _ _ _ c.accelerate.ensures c.settle.ensures.advances) (rw c.facts-known.ensures at c.instance-same.ensures.inference) (c.in_ok-steps.ensures.complete done) (rw c.as_slice.ensures.value at c.in_ok-settle.ensures.idle) done
 
 pub returns-in_err-accelerate-clause-advances : goal.returns-in_err-accelerate-clause-advances
 returns-in_err-accelerate-clause-advances c = c.accelerate.ensures

@@ -13,9 +13,7 @@ loop-step-preserved c =
     elim c.if-sharpens.branch [
       | then-sharpens w ↦ rw w.sharper-is (record {
         advances = far;
-        sharper =
-            λ holds. lower_yet c.args.self.now c.loop-step.self c.try_again.new.self c.loop-step.sharper h.sharper h.same
-                (c.in_ok-sharpens.ensures.sharper w.if-sharpens.true);
+        sharper = λ holds. lower_yet c.args.self.now c.loop-step.self c.try_again.new.self c.loop-step.sharper h.sharper h.same (c.in_ok-sharpens.ensures.sharper w.if-sharpens.true);
         same = λ fails. absurd (false≢true (sym fails));
         idle = λ fails. absurd (false≢true (sym fails));
       })
@@ -25,9 +23,6 @@ loop-step-preserved c =
             advances = far;
             sharper = λ holds. omega (arith, h.sharper holds, ap (λ (log : Journal). slack_of log.facts) same);
             same = λ fails. same ∙ h.same fails;
-            idle =
-                λ fails. idle_next c.loop-step.self c.try_again.new.self c.args.steps.now c.loop-step.step-index c.step-item.result same
-                    (h.idle fails) (c.in_ok-sharpens.ensures.idle w.if-sharpens.false)
-                    (λ d. get_or_default c.args.steps.now c.loop-step.step-index d c.step-item.result c.loop-step-test.true ∙ sym c.step-item.is);
+            idle = λ fails. idle_next c.loop-step.self c.try_again.new.self c.args.steps.now c.loop-step.step-index c.step-item.result same (h.idle fails) (c.in_ok-sharpens.ensures.idle w.if-sharpens.false) (λ d. get_or_default c.args.steps.now c.loop-step.step-index d c.step-item.result c.loop-step-test.true ∙ sym c.step-item.is);
           })
     ]

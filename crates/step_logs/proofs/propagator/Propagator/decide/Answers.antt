@@ -22,11 +22,8 @@ invariant_of-self-2 c =
     let decisions = c.push_reserved-2.ensures.items ∙ ap (λ (ds : List Decision). ds ++ c.args.decision ∷ []) c.reserve.ensures.items in
     let thinned : IsThinned c.self.inside.kept.items c.thin.new.kept.items = rw c.reserve-2.ensures.items at c.thin.ensures.thinned in
     let made : c.new.result ≡ record { decisions = c.self.inside.decisions.items; log = c.self.inside.current } =
-    c.new.ensures ∙ (λ j. record { decisions = (c.in_ok-made.ensures.items ∙ c.as_slice.ensures.value ∙ c.reserve.ensures.items)
-        j; log = c.replace-before.ensures.value j }) in
-    decides_of _ c.args.decision c.push_reserved-2.new.self.items c.thin.new.kept.items c.push_reserved.new.self.items c.new.result c.in_ok-next.next
-        c.replace-before.new.dest c.self.invariant fresh decisions thinned c.push_reserved.ensures.items made c.replace-before.ensures.after
-        c.in_ok-next.ensures
+    c.new.ensures ∙ (λ j. record { decisions = (c.in_ok-made.ensures.items ∙ c.as_slice.ensures.value ∙ c.reserve.ensures.items) j; log = c.replace-before.ensures.value j }) in
+    decides_of _ c.args.decision c.push_reserved-2.new.self.items c.thin.new.kept.items c.push_reserved.new.self.items c.new.result c.in_ok-next.next c.replace-before.new.dest c.self.invariant fresh decisions thinned c.push_reserved.ensures.items made c.replace-before.ensures.after c.in_ok-next.ensures
 
 pub returns-clause-ok : goal.returns-clause-ok
 returns-clause-ok c = rw (← c.self.view_is) (record {
@@ -36,6 +33,5 @@ returns-clause-ok c = rw (← c.self.view_is) (record {
   before = c.thin.new.kept.items;
   thinned = rw c.reserve-2.ensures.items at c.thin.ensures.thinned;
   kept = c.push_reserved.ensures.items ∙ ap (λ (made : Checkpoint). c.thin.new.kept.items ++ made ∷ [])
-      (c.new.ensures ∙ (λ j. record { decisions = (c.in_ok-made.ensures.items ∙ c.as_slice.ensures.value ∙ c.reserve.ensures.items)
-          j; log = c.replace-before.ensures.value j }));
+      (c.new.ensures ∙ (λ j. record { decisions = (c.in_ok-made.ensures.items ∙ c.as_slice.ensures.value ∙ c.reserve.ensures.items) j; log = c.replace-before.ensures.value j }));
 })
