@@ -2,7 +2,7 @@
 
 ghost use Rattle.std.specs.Prelude.{◌≡◌, ℕ, ◌+◌, ◌^◌, ◌<◌, ◌≤◌, max, slice_set, slice_index, Contains, IfOk, length};
 ghost use Rattle.ttp_model.specs.Instance.{process_at, message_at, source_of};
-ghost use Rattle.ttp_model.specs.Graph.{HasLink, HasMessage};
+ghost use Rattle.ttp_model.specs.Graph.{HasLink};
 ghost use Rattle.ttp_model.specs.Chains.{IsPathBound, least_transfer};
 ghost use Rattle.longest_chains.specs.Longest.{AreLongest};
 ghost use Rattle.longest_chains.specs.Walks.{AreChainEnds, AreEnds, AreKept};
