@@ -98,7 +98,7 @@ fn follow_links(instance: &Instance, ends: &mut Vec<u64>)
 }
 
 /// The least time of a transfer from node `n`, in ticks.
-fn transfer(instance: &Instance, n: u32) -> u64
+pub fn least_transfer(instance: &Instance, n: u32) -> u64
     requires { n < length instance.now.nodes }
     ensures value { result ≡ least_transfer instance.now n }
     ensures small { result < 2 ^ 28 }
@@ -123,7 +123,7 @@ fn follow_message(instance: &Instance, m: usize, ends: &mut Vec<u64>)
     let _messages = instance.messages();
     let message = instance.message_at(m);
     let end = ends[message.sender as usize];
-    let arrival = end + transfer(instance, instance.source_of(m));
+    let arrival = end + least_transfer(instance, instance.source_of(m));
     for q in message.receivers.as_slice() {
         let wcet = instance.process_at(*q as usize).wcet;
         raise(ends, *q, arrival + u64::from(wcet));

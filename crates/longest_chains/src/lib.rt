@@ -3,4 +3,4 @@
 
 mod chains;
 
-pub use chains::{longest_chains, path_bound};
+pub use chains::{least_transfer, longest_chains, path_bound};

@@ -1,5 +1,5 @@
 -- Whether what the parts of a chain name is there: private contracts ask for it.
-use Rattle.std.specs.Prelude.{ℕ, ◌<◌, length}
+use Rattle.std.specs.Prelude.{◌<◌, length}
 use Rattle.ttp_model.specs.Instance.{Instance}
 use Rattle.plan_chain.specs.declared.chain.ChainLink.{ChainLink}
 use Rattle.plan_chain.specs.declared.chain.ChainLink.TheVariants.{Run, Sending}

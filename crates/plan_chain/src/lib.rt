@@ -12,4 +12,4 @@ pub use laws::{
     chains_are_short, chains_begin_at_a_release, chains_end_at_the_delay, links_are_joined,
 };
 pub use ttp_model::MemoryFault;
-pub use words::print;
+pub use words::{print, put_arrival, put_link_cause, put_process, put_release, put_span};

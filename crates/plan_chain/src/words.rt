@@ -110,7 +110,7 @@ fn put_link(
 
 /// Adds what begins each line.
 #[tactic(auto, unfolding(crate::specs::Lines::span_text))]
-fn put_span(text: &mut String, from: u64, until: u64) -> Result<(), AllocError>
+pub fn put_span(text: &mut String, from: u64, until: u64) -> Result<(), AllocError>
     ensures { OnOk result (string_bytes text.new ≡ string_bytes text.old ++ span_text from until) }
 {
     write!(text, "  {from} to {until}  ")
@@ -137,7 +137,7 @@ fn put_run(
 
 /// Adds a process on its node.
 #[tactic(auto, unfolding(crate::specs::Lines::process_words))]
-fn put_process(text: &mut String, instance: &Instance, p: u32) -> Result<(), AllocError>
+pub fn put_process(text: &mut String, instance: &Instance, p: u32) -> Result<(), AllocError>
     requires { p < length instance.now.processes }
     ensures { OnOk result (string_bytes text.new ≡ string_bytes text.old
         ++ process_words (process_at instance.now p).name (node_at instance.now (node_of instance.now p)).name) }
@@ -189,7 +189,7 @@ fn message_name(instance: &Instance, m: u32) -> &str
 
 /// Adds that it starts at its release.
 #[tactic(auto, unfolding(crate::specs::Lines::release_words))]
-fn put_release(text: &mut String, time: u64) -> Result<(), AllocError>
+pub fn put_release(text: &mut String, time: u64) -> Result<(), AllocError>
     ensures { OnOk result (string_bytes text.new ≡ string_bytes text.old ++ release_words time) }
 {
     writeln!(text, ", released at {time}")
@@ -197,7 +197,7 @@ fn put_release(text: &mut String, time: u64) -> Result<(), AllocError>
 
 /// Adds that it starts behind one that is linked to it.
 #[tactic(auto, unfolding(crate::specs::Lines::link_words))]
-fn put_link_cause(text: &mut String, instance: &Instance, l: u32) -> Result<(), AllocError>
+pub fn put_link_cause(text: &mut String, instance: &Instance, l: u32) -> Result<(), AllocError>
     requires { l < length instance.now.links }
     ensures { OnOk result (string_bytes text.new ≡ string_bytes text.old
         ++ link_words (process_at instance.now (link_at instance.now l).before).name l) }
@@ -216,7 +216,7 @@ fn put_behind(text: &mut String, name: &str) -> Result<(), AllocError>
 
 /// Adds that it starts once a message is there.
 #[tactic(auto, unfolding(crate::specs::Lines::arrival_words))]
-fn put_arrival(text: &mut String, name: &str) -> Result<(), AllocError>
+pub fn put_arrival(text: &mut String, name: &str) -> Result<(), AllocError>
     ensures { OnOk result (string_bytes text.new ≡ string_bytes text.old ++ arrival_words name.now) }
 {
     writeln!(text, ", once message {name} is there")

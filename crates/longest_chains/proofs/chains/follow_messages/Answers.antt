@@ -17,4 +17,5 @@ loop-m-preserved c =
     }
 
 pub returns-clause-reach : goal.returns-clause-reach
-returns-clause-reach c = λ m q there has. c.loop-m.invariant.reach m q (omega (arith, there, ap length c.messages-m-end.ensures.value, c.loop-m-test.false)) has
+returns-clause-reach c = λ m q there has. c.loop-m.invariant.reach m q (omega (arith, there, ap length c.messages-m-end.ensures.value, c.loop-m-test.false))
+    has

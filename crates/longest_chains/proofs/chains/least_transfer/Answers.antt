@@ -1,7 +1,7 @@
 use Rattle.std.proofs.Common.{arith}
 use Rattle.ttp_model.specs.declared.error.Place.TheVariants.{AtCluster}
 use Rattle.ttp_model.specs.Rules.{IsClusterInRange}
-use Rattle.longest_chains.proofs.chains.transfer.Goals as goal
+use Rattle.longest_chains.proofs.chains.least_transfer.Goals as goal
 
 pub slot_duration-slot-requires-clause-ranges : goal.slot_duration-slot-requires-clause-ranges
 slot_duration-slot-requires-clause-ranges c = rw c.cluster-cluster.ensures.value (c.cluster-cluster.ensures.instance.ranges AtCluster)
