@@ -79,7 +79,7 @@ module _ (i : Instance) (c : Choice) (goal : ℕ) (w : IsInstance i) (ok : IsCho
 
   -- where the sender is known to end too late for the slot, the message is known to be sent in a later round
   late_sender : (m : ℕ) (es : List ℕ) → m < length i.messages → IsWay i c goal (starting i c es)
-        → start_most i c (source_of i m) (least_round c m) < least_ready i (starting i c es) m → IsClosedBy i c goal (XRound m)
+      → start_most i c (source_of i m) (least_round c m) < least_ready i (starting i c es) m → IsClosedBy i c goal (XRound m)
   late_sender m es inside way late =
       let f = starting i c es in
       let k = concludes_some i c goal f (LoSend m) w tt in
@@ -87,7 +87,7 @@ module _ (i : Instance) (c : Choice) (goal : ℕ) (w : IsInstance i) (ok : IsCho
       let chance : IsFirstChance i c f m r = k.1.1 in
       let g = sharpened i f (SentFrom m r) in
       let sent = onward i c goal f (LoSend m) g (λ is. is) way
-          (record { there = inside; premise = tt; conclusion = SentFrom m r; concludes = (r, chance, refl); known = refl }) refl in
+      (record { there = inside; premise = tt; conclusion = SentFrom m r; concludes = (r, chance, refl); known = refl }) refl in
       let past : least_round c m < r = elim (cases_lt (least_round c m) r) [
         | inl below ↦ below
         | inr not_below ↦ absurd (omega (arith, late, chance.late_enough, earlier_round (source_of i m) r (least_round c m) not_below))
@@ -97,7 +97,7 @@ module _ (i : Instance) (c : Choice) (goal : ℕ) (w : IsInstance i) (ok : IsCho
 
   -- where the slot begins past the horizon, the message is known to come too late for its first receiver
   late_slot : (m : ℕ) (es : List ℕ) → m < length i.messages → IsWay i c goal (starting i c es)
-        → i.cluster.horizon < end_least i c (source_of i m) (least_round c m) → IsClosedBy i c goal (XRound m)
+      → i.cluster.horizon < end_least i c (source_of i m) (least_round c m) → IsClosedBy i c goal (XRound m)
   late_slot m es inside way late =
       let f = starting i c es in
       let q = slice_index (message_at i m).receivers 0 in
@@ -107,7 +107,7 @@ module _ (i : Instance) (c : Choice) (goal : ℕ) (w : IsInstance i) (ok : IsCho
       let chances : AreChances i c f m q r = k.1.1 in
       let g = sharpened i f (SentBefore m r) in
       let sent = onward i c goal f (HiArrive m q) g (λ is. is) way
-          (record { there = receives; premise = tt; conclusion = SentBefore m r; concludes = (r, chances, refl); known = refl }) refl in
+      (record { there = receives; premise = tt; conclusion = SentBefore m r; concludes = (r, chances, refl); known = refl }) refl in
       let q_is : q < length i.processes = (w.indices (AtMessage m) inside).1 0 0 (w.receivers m inside) in
       let horizon : slice_index f.le q ≡ i.cluster.horizon = get_or-replicate {A = ℕ} (length i.processes) q i.cluster.horizon 0 q_is in
       let past : r ≤ least_round c m = elim (cases_lt (least_round c m) r) [
@@ -140,7 +140,7 @@ module _ (i : Instance) (c : Choice) (goal : ℕ) (w : IsInstance i) (ok : IsCho
     in_the_round : (m : ℕ) → m < length i.messages → bytes_within i (first_facts i c) n r (r + 1) m ≡ bytes_in i (plan_of c []) n r m
     in_the_round m h =
         ap (λ (b : Bool). if (source_of i m == n) && b then (message_at i m).bytes else 0)
-            (one_round (least_round c m) (top_of (first_facts i c) m) r (first_top m h))
+        (one_round (least_round c m) (top_of (first_facts i c) m) r (first_top m h))
 
     one_capacity : ((r + 1) - r) * cap_most i c n ≡ cap_most i c n
     one_capacity =
@@ -174,8 +174,10 @@ module _ (i : Instance) (c : Choice) (goal : ℕ) (w : IsInstance i) (ok : IsCho
         let all = total_same (bytes_counted i c (first_facts i c) k n r (r + 1)) (fixed_bytes i c n r k) (length i.messages) (on_channel k) in
         let more : ((r + 1) - r) * cap_most i c n < total (bytes_counted i c (first_facts i c) k n r (r + 1)) (length i.messages) =
         omega (arith, one_capacity, all, over.over, cap_exact i c w ok done n over.node) in
-        closing i c goal (first_facts i c) (XChannel k n r (r + 1)) (start i c goal) (over.node,
-            (two, over.channel)) (record { span = omega arith; bytes = more }) refl
+        closing i c goal (first_facts i c) (XChannel k n r (r + 1)) (start i c goal) (
+          over.node,
+          (two, over.channel),
+        ) (record { span = omega arith; bytes = more }) refl
 
     -- the closer by whether there is one channel
     abbrev by_channels : ℕ → Bool → Step

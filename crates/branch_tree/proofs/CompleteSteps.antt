@@ -40,7 +40,7 @@ module _ (i : Instance) (c : Choice) (goal : ℕ) where
   start = record { steps = []; plain = All-nil (λ step. ¬ IsDominance step); lead = refl; left = refl }
 
   further : (f : Known) (step : Step) (g : Known) (way : IsWay i c goal f) → IsLawful i c goal f step g
-        → Lead i c goal (first_facts i c) (way.steps ++ step ∷ []) g
+      → Lead i c goal (first_facts i c) (way.steps ++ step ∷ []) g
   further f step g way lawful = Lead-append i c goal (first_facts i c) way.steps (step ∷ []) f g way.lead (way.left, (g, lawful, refl))
 
   -- one step more
@@ -54,25 +54,28 @@ module _ (i : Instance) (c : Choice) (goal : ℕ) where
 
   -- a closer at the end of a way
   pub closing : (f : Known) (step : Step) → IsWay i c goal f → (rule i c goal f step).there → (rule i c goal f step).premise
-        → (rule i c goal f step).concludes NothingLeft → IsClosedBy i c goal step
+      → (rule i c goal f step).concludes NothingLeft → IsClosedBy i c goal step
   closing f step way there premise concludes = record {
     steps = way.steps;
     plain = way.plain;
-    closes =
-        (sharpened i f NothingLeft, further f step (sharpened i f NothingLeft) way
-            (record { there = there; premise = premise; conclusion = NothingLeft; concludes = concludes; known = refl }), refl);
+    closes = (
+      sharpened i f NothingLeft,
+      further f step (sharpened i f NothingLeft) way
+          (record { there = there; premise = premise; conclusion = NothingLeft; concludes = concludes; known = refl }),
+      refl,
+    );
   }
 
   -- one step more that is about a start
   starts : (es : List ℕ) (step : Step) (q from time : ℕ) → length es ≡ length i.processes → IsWay i c goal (starting i c es) → ¬ IsDominance step
-        → q < length i.processes → (rule i c goal (starting i c es) step).there → (rule i c goal (starting i c es) step).premise
-        → (rule i c goal (starting i c es) step).concludes (StartsFrom q from) → capped i time ≤ capped i from → IsWayTo i c goal q time
+      → q < length i.processes → (rule i c goal (starting i c es) step).there → (rule i c goal (starting i c es) step).premise
+      → (rule i c goal (starting i c es) step).concludes (StartsFrom q from) → capped i time ≤ capped i from → IsWayTo i c goal q time
   starts es step q from time all way plain inside there premise concludes late = record {
     es = slice_set es q (max (slice_index es q) (capped i from));
     all = length-set es q _ ∙ all;
     way =
         onward (starting i c es) step (sharpened i (starting i c es) (StartsFrom q from)) plain way
-            (record { there = there; premise = premise; conclusion = StartsFrom q from; concludes = concludes; known = refl }) refl;
+        (record { there = there; premise = premise; conclusion = StartsFrom q from; concludes = concludes; known = refl }) refl;
     known = omega (arith, get_or-set_same es q (max (slice_index es q) (capped i from)) 0 (omega (arith, all, inside)), late);
   }
 
@@ -84,7 +87,7 @@ module _ (i : Instance) (c : Choice) (goal : ℕ) where
     pub reach : (p time : ℕ) → WaitsUntil i c p time → IsWayTo i c goal p time
     reach _ _ (released p inside) =
         starts (replicate (length i.processes) 0) (EsRelease p) p (process_at i p).release (process_at i p).release none_yet start (λ is. is)
-            inside inside tt refl (omega arith)
+        inside inside tt refl (omega arith)
     reach _ _ (arrived m p inside receives) =
         let n = source_of i m in
         let there : p < length i.processes = All-contains (IsProcess i) (message_at i m).receivers p (w.indices (AtMessage m) inside).1 receives in
@@ -94,15 +97,19 @@ module _ (i : Instance) (c : Choice) (goal : ℕ) where
         let before = reach p time waits in
         let pair = ok.pairs p q chosen in
         starts before.es (EsBefore p q) q (slice_index before.es p + (process_at i p).wcet) (time + (process_at i p).wcet) before.all before.way
-            (λ is. is) pair.second pair chosen refl (omega (arith, before.known))
+        (λ is. is) pair.second pair chosen refl (omega (arith, before.known))
     reach _ _ (after p q time waits (inr link)) =
         let before = reach p time waits in
         let first = (link_at i link.link).before in
-        let known : capped i (time + (process_at i p).wcet) ≤ capped i (slice_index before.es first + (process_at i first).wcet) = omega (arith,
-            before.known, ap (slice_index before.es) link.before, ap (λ k. (process_at i k).wcet) link.before) in
+        let known : capped i (time + (process_at i p).wcet) ≤ capped i (slice_index before.es first + (process_at i first).wcet) = omega (
+          arith,
+          before.known,
+          ap (slice_index before.es) link.before,
+          ap (λ k. (process_at i k).wcet) link.before,
+        ) in
         subst (λ (k : ℕ). IsWayTo i c goal k (time + (process_at i p).wcet)) link.after
         (starts before.es (EsLink link.link) (link_at i link.link).after (slice_index before.es first + (process_at i first).wcet)
-            (time + (process_at i p).wcet) before.all before.way (λ is. is) (w.indices (AtLink link.link) link.is_there).1 link.is_there tt refl known)
+        (time + (process_at i p).wcet) before.all before.way (λ is. is) (w.indices (AtLink link.link) link.is_there).1 link.is_there tt refl known)
 
     -- how late a process may end: by its deadline, the horizon and before the goal
     abbrev pub last_end : ℕ → ℕ
@@ -110,14 +117,14 @@ module _ (i : Instance) (c : Choice) (goal : ℕ) where
 
     -- a process that can't end by then
     pub no_window : (p time : ℕ) → p < length i.processes → WaitsUntil i c p time → last_end p < capped i time + (process_at i p).wcet
-          → IsClosedBy i c goal (XWindow p)
+        → IsClosedBy i c goal (XWindow p)
     no_window p time inside waits late =
         let to = reach p time waits in
         let f = starting i c to.es in
         let own = min (min (process_at i p).deadline i.cluster.horizon) (goal - 1) in
         let g = sharpened i f (EndsUntil p own) in
         let way = onward f (LeOwn p) g (λ is. is) to.way
-            (record { there = inside; premise = tt; conclusion = EndsUntil p own; concludes = refl; known = refl }) refl in
+        (record { there = inside; premise = tt; conclusion = EndsUntil p own; concludes = refl; known = refl }) refl in
         let les = replicate (length i.processes) i.cluster.horizon in
         let count : length les ≡ length i.processes = length-replicate (length i.processes) i.cluster.horizon in
         let first : slice_index les p ≡ i.cluster.horizon = get_or-replicate {A = ℕ} (length i.processes) p i.cluster.horizon 0 inside in

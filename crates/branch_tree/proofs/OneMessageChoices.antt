@@ -123,7 +123,7 @@ is_earliest = record {
   waits = waits;
   least =
       λ other valid chosen p inside. waits_le one_message (one_message_in 1) other one_message_is_instance (is_choice 1 (lit< tt)) (is_complete 1)
-          valid chosen p (start_of (one_message_plan 0) p) (waits p inside);
+      valid chosen p (start_of (one_message_plan 0) p) (waits p inside);
 }
 
 pub misses_slot : IsClash one_message (one_message_in 0) (Round 0)

@@ -84,8 +84,8 @@ module _ (i : Instance) (t : Task) (kind : Kind) (tasks : List Task) (are : AreC
 
 -- a task whose name is the root's places a node first, where there are several
 pub root_places : (i : Instance) (t : Task) (kind : Option Kind) (at_root : Bool) → (IsTrue at_root ↔ (t.name ≡ root_name))
-      → (IsTrue at_root → 2 ≤ length i.nodes → length (choice_of i t).prefix < length i.nodes → kind ≡ Some Place) → t ≡ root_task
-      → 2 ≤ length i.nodes → kind ≡ Some Place
+    → (IsTrue at_root → 2 ≤ length i.nodes → length (choice_of i t).prefix < length i.nodes → kind ≡ Some Place) → t ≡ root_task
+    → 2 ≤ length i.nodes → kind ≡ Some Place
 root_places i t kind at_root is places same several =
     let no_prefix : length (choice_of i t).prefix ≡ 0 = ap (λ (task : Task). length (choice_of i task).prefix) same in
     let root : IsTrue at_root = is.1 (ap (λ (task : Task). task.name) same) in
@@ -97,8 +97,8 @@ some_place kind is = cc
 
 -- a branch that leaves less to choose, with a task for each child, is a split
 pub split_of : (i : Instance) (t : Task) (goal : ℕ) (kind : Kind) (tasks : List Task) → IsInstance i → IsTask i t
-      → ((bound : ℕ) → IsPathBound i bound → bound < goal) → IsBranching i (choice_of i t) kind → AreChildren i t kind tasks
-      → (t ≡ root_task → 2 ≤ length i.nodes → kind ≡ Place) → IsSplit i t goal kind tasks
+    → ((bound : ℕ) → IsPathBound i bound → bound < goal) → IsBranching i (choice_of i t) kind → AreChildren i t kind tasks
+    → (t ≡ root_task → 2 ≤ length i.nodes → kind ≡ Place) → IsSplit i t goal kind tasks
 split_of i t goal kind tasks w is above branching are root = record {
   incomplete = open_incomplete i (choice_of i t) kind branching.is_open;
   above = above;

@@ -27,8 +27,8 @@ none_made ds p none = subst (λ (made : List Decision). made ≡ take (length ma
 
 -- the next decision is open
 pub next_open : (i : Instance) (p : Propagator) (ds : List Decision) (k : ℕ) (d : Decision) → IsPropagation p → p.instance ≡ i
-      → AreOpenDecisions i (root_choice i) ds → p.decisions ≡ take k ds → k < length ds
-      → IsOpenDecision p.instance p.current.facts.choice (slice_index_or ds k d)
+    → AreOpenDecisions i (root_choice i) ds → p.decisions ≡ take k ds → k < length ds
+    → IsOpenDecision p.instance p.current.facts.choice (slice_index_or ds k d)
 next_open i p ds k d is same are made inside =
     let here : AreOpenDecisions p.instance (root_choice p.instance) ds = subst (λ (j : Instance). AreOpenDecisions j (root_choice j) ds) (sym same) are in
     let choice : p.current.facts.choice ≡ chosen p.instance (take k ds) = ap (λ (s : Facts). s.choice) is.current.facts ∙ ap (chosen p.instance) made in
@@ -36,7 +36,7 @@ next_open i p ds k d is same are made inside =
 
 -- all are made, or no plan is left
 pub comes_to : (i : Instance) (goal : ℕ) (ds : List Decision) (p : Propagator) (k : ℕ) → p.instance ≡ i → p.goal ≡ goal → p.decisions ≡ take k ds
-      → k ≤ length ds → (k < length ds → IsTrue p.current.facts.known.closed) → ComesTo i goal ds p
+    → k ≤ length ds → (k < length ds → IsTrue p.current.facts.known.closed) → ComesTo i goal ds p
 comes_to i goal ds p k same goal_is made within closed =
     let many : length p.decisions ≡ k = ap length made ∙ length-take-le k ds within in
     record {

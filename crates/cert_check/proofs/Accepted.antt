@@ -31,7 +31,7 @@ use Rattle.tree_check.proofs.NoFaults.{only_memory}
 
 -- what is answered of a text in some way is answered of it in every way that tells as much
 pub answer_by : (i : Instance) (Tells Others : Reading Cert → Type 0) (answer : Result ℕ StreamFault)
-      → ((reading : Reading Cert) → Tells reading → Others reading) → IsAnswerOf i Tells answer → IsAnswerOf i Others answer
+    → ((reading : Reading Cert) → Tells reading → Others reading) → IsAnswerOf i Tells answer → IsAnswerOf i Others answer
 answer_by i Tells Others (Ok low) more is = (is.0, more (Ok is.0) is.1, is.2)
 answer_by i Tells Others (Err Read) more is = tt
 answer_by i Tells Others (Err TooLong) more is = tt
@@ -64,7 +64,7 @@ judged_memory i cert (At line fault) proves judged = only_memory i cert (At line
 judged_memory i cert OutOfMemory proves judged = refl
 
 pub bound_of_proof : (i : Instance) (known next : Option (List ℕ)) (answer : Result ℕ StreamFault) → IsStreamJudged i known answer
-      → IsTakenFrom known next answer
+    → IsTakenFrom known next answer
     → IfSome known (λ bytes. (cert : Cert) → length bytes ≤ most_text_bytes → SpellsCert bytes cert → Proves i cert → IsBoundUnlessStopped cert.low answer)
 bound_of_proof i None next answer judged taken = tt
 bound_of_proof i (Some bytes) next (Ok low) judged taken =
@@ -82,7 +82,7 @@ bound_of_proof i (Some bytes) next (Err (InCert fault)) judged taken = λ cert w
 -- ---- what is answered of a whole text by what is told of its nodes
 
 pub answer_of_lines : (i : Instance) (Tells : Reading Cert → Type 0) (taken : ℕ) (fault : SourceFault) → IsCertFault Tells taken fault
-      → IsAnswerOf i Tells (Err (fault_of_source fault)) × StopsAt taken (Err (fault_of_source fault))
+    → IsAnswerOf i Tells (Err (fault_of_source fault)) × StopsAt taken (Err (fault_of_source fault))
 answer_of_lines i Tells taken source.Read is = (tt, tt)
 answer_of_lines i Tells taken source.TooLong is = (tt, is)
 answer_of_lines i Tells taken (source.Text text.OutOfMemory) is = (tt, tt)
@@ -125,7 +125,7 @@ module _ {R : Type 0} (i : Instance) (low : ℕ) (remaining : R → Option (List
 
 -- what is wrong with lines that are read alone
 pub passing_fails : {R : Type 0} (i : Instance) (low : ℕ) (remaining : R → Option (List ℕ)) (s : CertStream R) (taken : ℕ) (fault : StreamFault)
-      → IsLinesFault (LeavesNodes remaining s) taken fault → AnswersAll i low remaining s taken (Err fault)
+    → IsLinesFault (LeavesNodes remaining s) taken fault → AnswersAll i low remaining s taken (Err fault)
 passing_fails i low remaining s taken Read is = tt
 passing_fails i low remaining s taken TooLong is = is
 passing_fails i low remaining s taken (Text text.OutOfMemory) is = tt

@@ -10,7 +10,7 @@ pub none_marked : (places : List ℕ) (count : ℕ) → MarksOnly places count (
 none_marked places count k lt is = absurd (false≢true (sym (get_or-replicate count k false false lt) ∙ is))
 
 pub one_marked : (places : List ℕ) (count place : ℕ) (marks : List Bool) → MarksOnly places count marks → Contains places place
-      → MarksOnly places count (set marks place true)
+    → MarksOnly places count (set marks place true)
 one_marked places count place marks only is k lt marked = elim (cases_eq k place) [
   | inl same ↦ subst (Contains places) (sym same) is
   | inr other ↦ only k lt (subst IsTrue (get_or-set_other marks place k true false other) marked)

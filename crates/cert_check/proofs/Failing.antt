@@ -28,18 +28,31 @@ use Rattle.cert_check.proofs.Streams.{behind_rest, behind_all}
 
 module _ {R : Type 0} (i : Instance) (remaining : R → Option (List ℕ)) (at now : CertStream R) (w : Walk) (left : List Choice) (taken : ℕ) where
   pub more_rest : (rest : Result (Unit {0}) StreamFault) → IsAhead i remaining at now w left More
-        → OnOk rest ((nodes : List Node) × LeavesNodes remaining now (Ok nodes)) → IfErr rest (IsLinesFault (LeavesNodes remaining now) taken)
-        → LeavesRest i remaining at left More taken rest
+      → OnOk rest ((nodes : List Node) × LeavesNodes remaining now (Ok nodes)) → IfErr rest (IsLinesFault (LeavesNodes remaining now) taken)
+      → LeavesRest i remaining at left More taken rest
   more_rest (Ok u) ahead is err = (is.0, (subst (λ (s : CertStream R). LeavesNodes remaining s (Ok is.0)) (sym ahead.0) is.1, tt))
   more_rest (Err fault) ahead is err = subst (λ (s : CertStream R). IsLinesFault (LeavesNodes remaining s) taken fault) (sym ahead.0) err
 
   pub wrong_rest : (own : CertFault) (rest : Result (Unit {0}) StreamFault) → IsWrongBranch i remaining at now left own
-        → OnOk rest ((nodes : List Node) × LeavesNodes remaining now (Ok nodes)) → IfErr rest (IsLinesFault (LeavesNodes remaining now) taken)
-        → LeavesRest i remaining at left (Fault (InCert own)) taken rest
-  wrong_rest own (Ok u) b is err =
-      (node.Branch b.branch ∷ is.0, (b.leaves (Ok is.0) is.1, record
-          { branch = b.branch; more = is.0; choice = b.choice; others = b.others; left_is = b.left_is; rest_is = refl; low_line = b.low_line; tells
-          = b.tells }))
+      → OnOk rest ((nodes : List Node) × LeavesNodes remaining now (Ok nodes)) → IfErr rest (IsLinesFault (LeavesNodes remaining now) taken)
+      → LeavesRest i remaining at left (Fault (InCert own)) taken rest
+  wrong_rest own (Ok u) b is err = (
+    node.Branch b.branch ∷ is.0,
+    (
+      b.leaves (Ok is.0) is.1,
+      record {
+        branch = b.branch;
+        more = is.0;
+        choice = b.choice;
+        others = b.others;
+        left_is = b.left_is;
+        rest_is = refl;
+        low_line = b.low_line;
+        tells
+            = b.tells;
+      },
+    ),
+  )
   wrong_rest own (Err Read) b is err = tt
   wrong_rest own (Err TooLong) b is err = err
   wrong_rest own (Err (Text text.OutOfMemory)) b is err = tt
@@ -55,7 +68,7 @@ module _ {R : Type 0} (i : Instance) (low : ℕ) (remaining : R → Option (List
     (u : IsUnderWay i low remaining first at left hs) (taken : ℕ) where
   -- a fault of the lines behind nodes goes before one of a leaf,
   lines_told : (own : CertFault) (later : StreamFault) → Finishes i low hs (Err (InCert own)) → IsLinesFault (LeavesNodes remaining at) taken later
-        → AnswersAll i low remaining first taken (Err later)
+      → AnswersAll i low remaining first taken (Err later)
   lines_told own Read own_told is = tt
   lines_told own TooLong own_told is = is
   lines_told own (Text text.OutOfMemory) own_told is = tt
@@ -64,7 +77,7 @@ module _ {R : Type 0} (i : Instance) (low : ℕ) (remaining : R → Option (List
 
   -- and what is wrong with those that wait is told
   rest_told : (fault : StreamFault) (nodes : List Node) → Finishes i low hs (Err fault) → LeavesNodes remaining at (Ok nodes)
-        → AnswersAll i low remaining first taken (Err fault)
+      → AnswersAll i low remaining first taken (Err fault)
   rest_told Read nodes told l = absurd told
   rest_told TooLong nodes told l = absurd told
   rest_told (Text text.OutOfMemory) nodes told l = tt
@@ -74,7 +87,7 @@ module _ {R : Type 0} (i : Instance) (low : ℕ) (remaining : R → Option (List
       (s.seen ++ nodes, (behind_rest remaining first at s.seen nodes s.behind_them l, held_tells i low s.seen told.0 left own s.so_far told.1.1 nodes))
 
   pub all_told : (ahead : Ahead) (fault : StreamFault) (rest : Result (Unit {0}) StreamFault) → Finishes i low hs (Err fault)
-        → LeavesRest i remaining at left ahead taken rest → AnswersAll i low remaining first taken (Err (told_of fault rest))
+      → LeavesRest i remaining at left ahead taken rest → AnswersAll i low remaining first taken (Err (told_of fault rest))
   all_told ahead fault (Ok v) told l = rest_told fault l.0 told l.1.0
   all_told ahead Read (Err later) told l = absurd told
   all_told ahead TooLong (Err later) told l = absurd told
@@ -97,21 +110,25 @@ module _ {R : Type 0} (i : Instance) (low : ℕ) (remaining : R → Option (List
     fault_ends (InCert fault) is = absurd is
 
     wrong_ends : (own : CertFault) (rest : List Node) → LeavesNodes remaining at (Ok rest) → BeginsWrong i left (next_line at) own rest
-          → AnswersAll i low remaining first taken (Err (InCert own))
+        → AnswersAll i low remaining first taken (Err (InCert own))
     wrong_ends own rest l b =
         let s = u.so_far closed.0 closed.1.0 in
         let n = node.Branch b.branch in
         let here : IsSeen i low s.seen closed.0 (b.choice ∷ b.others) = subst (IsSeen i low s.seen closed.0) b.left_is s.so_far in
         let line : next_line at ≡ told_line (line_behind s.seen) = omega (arith, b.low_line, s.line) in
         let tells = node_fails i low s.seen closed.0 b.choice b.others n (next_line at) own closed.1.1 here line
-            (branch_tells i low b.choice b.branch (next_line at) own b.tells) b.more in
+        (branch_tells i low b.choice b.branch (next_line at) own b.tells) b.more in
         let whole : (s.seen ++ n ∷ []) ++ b.more ≡ s.seen ++ rest = append_assoc s.seen (n ∷ []) b.more
-            ∙ ap (λ (ns : List Node). s.seen ++ ns) (sym b.rest_is) in
-        (s.seen ++ rest, (behind_rest remaining first at s.seen rest s.behind_them l,
-            subst (λ (ns : List Node). TellsFirst i low (trees_of ns) own) whole tells))
+        ∙ ap (λ (ns : List Node). s.seen ++ ns) (sym b.rest_is) in (
+          s.seen ++ rest,
+          (
+            behind_rest remaining first at s.seen rest s.behind_them l,
+            subst (λ (ns : List Node). TellsFirst i low (trees_of ns) own) whole tells,
+          ),
+        )
 
     pub fits_ends : (fault : StreamFault) (rest : List Node) → LeavesNodes remaining at (Ok rest) → Fits i left (next_line at) (Fault fault) rest
-          → AnswersAll i low remaining first taken (Err fault)
+        → AnswersAll i low remaining first taken (Err fault)
     fits_ends Read rest l fits = absurd fits
     fits_ends TooLong rest l fits = absurd fits
     fits_ends (Text error) rest l fits = absurd fits

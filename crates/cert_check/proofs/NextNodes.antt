@@ -42,7 +42,7 @@ first_left [] some = absurd (omega (arith, some))
 first_left (c ∷ others) some = (c, others, refl)
 
 pub branch_count : (i : Instance) (c : Choice) (branch : Branch) → IsBranch i c branch.kind branch.children
-      → length (child_choices i c branch.kind) ≡ branch.children
+    → length (child_choices i c branch.kind) ≡ branch.children
 branch_count i c branch suits = length-child_choices i c branch.kind ∙ sym suits.just
 
 -- ---- behind the last node
@@ -52,14 +52,14 @@ nothing_left [] none = refl
 nothing_left (c ∷ left) none = absurd (omega (arith, none))
 
 pub all_proved : (i : Instance) (low : ℕ) (seen : List Node) (rs : List ReadLeaf) → IsSeen i low seen rs [] → AllClose i low rs
-      → AreProofs i low (root_choice i ∷ []) (trees_of seen)
+    → AreProofs i low (root_choice i ∷ []) (trees_of seen)
 unfolding trees_of
 all_proved i low seen rs s closed =
     subst (λ (ns : List Node). AreProofs i low (root_choice i ∷ []) (trees_of ns)) (append-nil seen) (s.proofs closed [] tt)
 
 -- a fault of leaves that wait is one of what was seen
 pub held_tells : (i : Instance) (low : ℕ) (seen : List Node) (rs : List ReadLeaf) (left : List Choice) (fault : CertFault)
-      → IsSeen i low seen rs left → TellsHeld i low rs fault → TellsSeen i low seen fault
+    → IsSeen i low seen rs left → TellsHeld i low rs fault → TellsSeen i low seen fault
 held_tells i low seen rs left LowTooGreat s tells = absurd tells
 held_tells i low seen rs left (At at fault) s tells = λ rest. (tells.0, tells.1, s.waits rest tells.0 fault tells.2)
 held_tells i low seen rs left OutOfMemory s tells = λ rest. tt

@@ -43,32 +43,32 @@ pub record IsPiece {R : Type 0} (remaining : R → Option (List ℕ)) (now next 
   pub from : (origin : Origin) → StreamIsFrom remaining now origin → StreamIsFrom remaining next origin
 
 pub is_piece : {R : Type 0} (remaining : R
-      → Option (List ℕ)) (now next : CertStream R) (steps : List ℕ) (found : Option (Head × ℕ)) (said : Head × ℕ) → found ≡ Some said
-      → LeavesPiece remaining now next steps found → IfSome found (λ x. x.1 ≡ next_line now) → IfSome found (λ x. x.1 < 2 ^ 63)
+    → Option (List ℕ)) (now next : CertStream R) (steps : List ℕ) (found : Option (Head × ℕ)) (said : Head × ℕ) → found ≡ Some said
+    → LeavesPiece remaining now next steps found → IfSome found (λ x. x.1 ≡ next_line now) → IfSome found (λ x. x.1 < 2 ^ 63)
     → IfSome found (λ x. (read : List Step) → TakesChild (still_to_come now) (still_to_come next) (node_of_head x.0 read))
-        → IfSome found (λ x. next_line next ≡ next_line now + 1 + count_of x.0) → ((origin : Origin)
-        → StreamIsFrom remaining now origin → StreamIsFrom remaining next origin) → IsPiece remaining now next said.0 said.1 steps
+    → IfSome found (λ x. next_line next ≡ next_line now + 1 + count_of x.0) → ((origin : Origin)
+    → StreamIsFrom remaining now origin → StreamIsFrom remaining next origin) → IsPiece remaining now next said.0 said.1 steps
 is_piece remaining now next steps found said is leaves here small due passed from = record {
   leaves = subst (LeavesPiece remaining now next steps) is leaves;
   here = subst (λ (f : Option (Head × ℕ)). IfSome f (λ x. x.1 ≡ next_line now)) is here;
   small = subst (λ (f : Option (Head × ℕ)). IfSome f (λ x. x.1 < 2 ^ 63)) is small;
   due =
       subst (λ (f : Option (Head × ℕ)). IfSome f (λ x. (read : List Step) → TakesChild (still_to_come now) (still_to_come next)
-          (node_of_head x.0 read))) is due;
+      (node_of_head x.0 read))) is due;
   passed = subst (λ (f : Option (Head × ℕ)). IfSome f (λ x. next_line next ≡ next_line now + 1 + count_of x.0)) is passed;
   from = from;
 }
 
 -- a branch's line says all of it
 branch_said : {R : Type 0} (remaining : R → Option (List ℕ)) (now next : CertStream R) (branch : Branch) (line : ℕ) (steps : List ℕ)
-      → LeavesPiece remaining now next steps (Some (OfBranch branch, line)) → LeavesNext remaining now next (Some (node.Branch branch, next_line now))
+    → LeavesPiece remaining now next steps (Some (OfBranch branch, line)) → LeavesNext remaining now next (Some (node.Branch branch, next_line now))
 unfolding steps_at
 branch_said remaining now next branch line steps leaves = λ read l. leaves read l
 
 -- what is wrong with the next lines
 lines_ahead : {R : Type 0} (i : Instance) (remaining : R
-      → Option (List ℕ)) (at now : CertStream R) (w : Walk) (left : List Choice) (fault : SourceFault)
-      → IsNodeFault (LeavesNodes remaining at) (bytes_taken now) fault → IsAhead i remaining at now w left (Fault (fault_of_source fault))
+    → Option (List ℕ)) (at now : CertStream R) (w : Walk) (left : List Choice) (fault : SourceFault)
+    → IsNodeFault (LeavesNodes remaining at) (bytes_taken now) fault → IsAhead i remaining at now w left (Fault (fault_of_source fault))
 lines_ahead i remaining at now w left source.Read is = tt
 lines_ahead i remaining at now w left source.TooLong is = is
 lines_ahead i remaining at now w left (source.Text text.OutOfMemory) is = tt
@@ -82,7 +82,7 @@ module _ {R : Type 0} (i : Instance) (low : ℕ) (remaining : R → Option (List
   module _ (next : CertStream R) (from : (origin : Origin) → StreamIsFrom remaining now origin → StreamIsFrom remaining next origin) where
     -- the lines are at fault, or end
     pub lines_fail : (other : Walk) (fault : SourceFault) → IsNodeFault (LeavesNodes remaining now) (bytes_taken next) fault
-          → Stands i low remaining first next other hs (Fault (fault_of_source fault))
+        → Stands i low remaining first next other hs (Fault (fault_of_source fault))
     lines_fail other fault is = record {
       at = now;
       left = s.left;
@@ -92,7 +92,7 @@ module _ {R : Type 0} (i : Instance) (low : ℕ) (remaining : R → Option (List
     }
 
     pub lines_end : (other : Walk) → LeavesNodes remaining now (Ok []) → still_due (reverse (still_to_come now)) ≡ []
-          → Stands i low remaining first next other hs End
+        → Stands i low remaining first next other hs End
     lines_end other ends closed = record {
       at = now;
       left = s.left;
@@ -113,7 +113,7 @@ module _ {R : Type 0} (i : Instance) (low : ℕ) (remaining : R → Option (List
     at_choice = subst (λ (left : List Choice). IsUnderWay i low remaining first now left hs) there.2 under_way_here
 
     arrives : (taken : Walk) (more : List HeldLeaf) (left : List Choice) → IsUnderWay i low remaining first next left more → IsWalk i taken left
-          → Stands i low remaining first next taken more More
+        → Stands i low remaining first next taken more More
     arrives taken more left u walk = record {
       at = next;
       left = left;
@@ -123,7 +123,7 @@ module _ {R : Type 0} (i : Instance) (low : ℕ) (remaining : R → Option (List
     }
 
     stops : (other : Walk) (fault : StreamFault) → IsAhead i remaining now next other (there.0 ∷ there.1) (Fault fault)
-          → Stands i low remaining first next other hs (Fault fault)
+        → Stands i low remaining first next other hs (Fault fault)
     stops other fault is = record {
       at = now;
       left = there.0 ∷ there.1;
@@ -137,32 +137,32 @@ module _ {R : Type 0} (i : Instance) (low : ℕ) (remaining : R → Option (List
   -- it is taken
   taken_at : (taken : Walk) (more : List HeldLeaf) (head : Head) (line : ℕ) (steps : Vec ℕ) (p : IsPiece remaining now next head line steps.items)
       → (c : Choice) (left : List Choice) → IsUnderWay i low remaining first now (c ∷ left) (front ++ old)
-          → Takes i (stream_version next) taken old more head line steps c left → Stands i low remaining first next taken (front ++ more) More
+      → Takes i (stream_version next) taken old more head line steps c left → Stands i low remaining first next taken (front ++ more) More
   taken_at taken more (OfBranch branch) line steps p c left u takes =
       let leaves = branch_said remaining now next branch line steps.items p.leaves in
       let on = branch_taken i low remaining first now next c left (front ++ old) u branch leaves (p.due []) (omega (arith, p.passed)) takes.0 in
       rw takes.1.1 (arrives i low remaining first now w (front ++ old) s next (OfBranch branch) line steps p taken (front ++ old)
-          (child_choices i c branch.kind ++ left) on takes.1.0)
+      (child_choices i c branch.kind ++ left) on takes.1.0)
   taken_at taken more (OfLeaf goal count) line steps p c left u takes =
       let on = leaf_waits i low remaining first now next c left (front ++ old) u goal count line steps p.leaves p.here p.passed takes.0 (p.due []) in
       let whole : front ++ more ≡ (front ++ old) ++ held_leaf c (stream_version next) goal count line steps ∷ [] = ap
-          (λ (hs : List HeldLeaf). front ++ hs) takes.1.1 ∙ sym (append_assoc front old (held_leaf c (stream_version next) goal count line steps ∷ [])) in
+      (λ (hs : List HeldLeaf). front ++ hs) takes.1.1 ∙ sym (append_assoc front old (held_leaf c (stream_version next) goal count line steps ∷ [])) in
       rw whole (arrives i low remaining first now w (front ++ old) s next (OfLeaf goal count) line steps p taken
-          ((front ++ old) ++ held_leaf c (stream_version next) goal count line steps ∷ []) left on takes.1.0)
+      ((front ++ old) ++ held_leaf c (stream_version next) goal count line steps ∷ []) left on takes.1.0)
 
   pub taken_on : (taken : Walk) (more : List HeldLeaf) (head : Head) (line : ℕ) (steps : Vec ℕ)
-        (p : IsPiece remaining now next head line steps.items)
-        → ((c : Choice) (left : List Choice) → IsWalk i w (c ∷ left) → Takes i (stream_version next) taken old more head line steps c left)
+      (p : IsPiece remaining now next head line steps.items)
+      → ((c : Choice) (left : List Choice) → IsWalk i w (c ∷ left) → Takes i (stream_version next) taken old more head line steps c left)
       → Stands i low remaining first next taken (front ++ more) More
   unfolding next_there there
   taken_on taken more head line steps p takes =
       let here = next_there i low remaining first now w (front ++ old) s next head line steps p in
       taken_at taken more head line steps p here.0 here.1 (at_choice i low remaining first now w (front ++ old) s next head line steps p)
-          (takes here.0 here.1 here.2)
+      (takes here.0 here.1 here.2)
 
   -- or it is not
   stopped_at : (other : Walk) (head : Head) (line : ℕ) (steps : Vec ℕ) (p : IsPiece remaining now next head line steps.items) (c : Choice)
-        (left : List Choice) (fault : StreamFault) → TakeFails i head line c fault → IsAhead i remaining now next other (c ∷ left) (Fault fault)
+      (left : List Choice) (fault : StreamFault) → TakeFails i head line c fault → IsAhead i remaining now next other (c ∷ left) (Fault fault)
   stopped_at other head line steps p c left Read fails = absurd fails
   stopped_at other head line steps p c left TooLong fails = absurd fails
   stopped_at other head line steps p c left (Text error) fails = rw fails tt
@@ -178,14 +178,14 @@ module _ {R : Type 0} (i : Instance) (low : ℕ) (remaining : R → Option (List
   stopped_at other (OfLeaf goal count) line steps p c left (InCert own) fails = absurd fails
 
   pub not_taken : (other : Walk) (kept : List HeldLeaf) (head : Head) (line : ℕ) (steps : Vec ℕ)
-        (p : IsPiece remaining now next head line steps.items) (fault : StreamFault) → kept ≡ old
+      (p : IsPiece remaining now next head line steps.items) (fault : StreamFault) → kept ≡ old
       → ((c : Choice) (left : List Choice) → IsWalk i w (c ∷ left) → TakeFails i head line c fault)
-          → Stands i low remaining first next other (front ++ kept) (Fault fault)
+      → Stands i low remaining first next other (front ++ kept) (Fault fault)
   unfolding next_there there
   not_taken other kept head line steps p fault same fails =
       let here = next_there i low remaining first now w (front ++ old) s next head line steps p in
       rw same (stops i low remaining first now w (front ++ old) s next head line steps p other fault
-          (stopped_at other head line steps p here.0 here.1 fault (fails here.0 here.1 here.2)))
+      (stopped_at other head line steps p here.0 here.1 fault (fails here.0 here.1 here.2)))
 
 -- where nothing more is ahead, no step is to come
 pub nothing_to_come : {R : Type 0} (ahead : Ahead) (s : CertStream R) → ¬ (ahead ≡ More) → to_come ahead s ≡ 0

@@ -28,7 +28,7 @@ read_behind (h ∷ hs) others [] more are then = absurd are
 read_behind (h ∷ hs) others (r ∷ rs) more are then = (are.0, read_behind hs others rs more are.1 then)
 
 pub read_parts : (hs others : List HeldLeaf) (rs : List ReadLeaf) → AreRead (hs ++ others) rs
-      → (front : List ReadLeaf) × (more : List ReadLeaf) × ((rs ≡ front ++ more) × (AreRead hs front × AreRead others more))
+    → (front : List ReadLeaf) × (more : List ReadLeaf) × ((rs ≡ front ++ more) × (AreRead hs front × AreRead others more))
 read_parts [] others rs are = ([], rs, (refl, (tt, are)))
 read_parts (h ∷ hs) others [] are = absurd are
 read_parts (h ∷ hs) others (r ∷ rs) are =
@@ -58,13 +58,13 @@ unread_front (h ∷ hs) others fault is = elim is [
 ]
 
 pub unread_behind : (hs others : List HeldLeaf) (rs : List ReadLeaf) (fault : CertTextError) → AreRead hs rs → IsUnread others fault
-      → IsUnread (hs ++ others) fault
+    → IsUnread (hs ++ others) fault
 unread_behind [] others rs fault are is = is
 unread_behind (h ∷ hs) others [] fault are is = absurd are
 unread_behind (h ∷ hs) others (r ∷ rs) fault are is = inr ((are.0.0, are.0.1.0), unread_behind hs others rs fault are.1 is)
 
 pub first_in_front : (i : Instance) (low : ℕ) (rs more : List ReadLeaf) (at : ℕ) (fault : NodeFault) → IsFirstHeldFault i low rs at fault
-      → IsFirstHeldFault i low (rs ++ more) at fault
+    → IsFirstHeldFault i low (rs ++ more) at fault
 first_in_front i low [] more at fault is = absurd is
 first_in_front i low (r ∷ rs) more at fault is = elim is [
   | inl own ↦ inl own
@@ -77,7 +77,7 @@ tells_in_front i low rs more (At at fault) tells = (tells.0, tells.1, first_in_f
 tells_in_front i low rs more OutOfMemory tells = tt
 
 pub tells_behind : (i : Instance) (low : ℕ) (rs more : List ReadLeaf) (fault : CertFault) → AllClose i low rs → TellsHeld i low more fault
-      → TellsHeld i low (rs ++ more) fault
+    → TellsHeld i low (rs ++ more) fault
 tells_behind i low [] more fault closed tells = tells
 tells_behind i low (r ∷ rs) more fault closed tells = later_held i low r (rs ++ more) fault closed.0 (tells_behind i low rs more fault closed.1 tells)
 
@@ -100,7 +100,7 @@ module _ (i : Instance) (low : ℕ) where
 
   -- behind some that close, others answer for all
   pub judged_behind : (hs others : List HeldLeaf) (answer : Result (Unit {0}) StreamFault) → Judges i low hs (Ok tt) → Judges i low others answer
-        → Judges i low (hs ++ others) answer
+      → Judges i low (hs ++ others) answer
   judged_behind hs others (Ok u) front own =
       (front.0 ++ own.0, (read_behind hs others front.0 own.0 front.1.0 own.1.0, close_behind i low front.0 own.0 front.1.1 own.1.1))
   judged_behind hs others (Err Read) front own = own
@@ -138,7 +138,7 @@ module _ (i : Instance) (low : ℕ) where
 
   -- and of others behind them
   pub told_further : (hs others : List HeldLeaf) (fault told : StreamFault) → Finishes i low hs (Err fault) → TellsBefore others fault told
-        → Finishes i low (hs ++ others) (Err told)
+      → Finishes i low (hs ++ others) (Err told)
   told_further hs others Read told own tells = absurd own
   told_further hs others TooLong told own tells = absurd own
   told_further hs others (Text text.OutOfMemory) told own tells = rw tells tt
@@ -165,16 +165,16 @@ module _ (hs : List HeldLeaf) (k : ℕ) (h : HeldLeaf) (inside : k < length hs) 
   leaf_waits_here i waits = subst (Waits i) (sym here) (waits k h inside)
 
   pub text_read : (steps : List Step) → ((rs : List ReadLeaf) × AreRead (take k hs) rs) → steps_of h ≡ Ok steps
-        → (rs : List ReadLeaf) × AreRead (take (k + 1) hs) rs
+      → (rs : List ReadLeaf) × AreRead (take (k + 1) hs) rs
   text_read steps before is =
       (before.0 ++ leaf_with h steps ∷ [], rw with_leaf (read_behind (take k hs) (h ∷ []) before.0 (leaf_with h steps ∷ []) before.1 ((steps, (is, refl)), tt)))
 
   pub text_unread : (own : CertFault) (fault : CertTextError) → ((rs : List ReadLeaf) × AreRead (take k hs) rs)
-        → IsFaultOf (Unit {0}) fault (steps_of h) → TellsOrUnread hs own (Text fault)
+      → IsFaultOf (Unit {0}) fault (steps_of h) → TellsOrUnread hs own (Text fault)
   text_unread own text.OutOfMemory before is = tt
   text_unread own (text.At line fault) before is =
       subst (λ (xs : List HeldLeaf). IsUnread xs (text.At line fault)) at_leaf (unread_behind (take k hs) (h ∷ drop (k + 1) hs) before.0
-          (text.At line fault) before.1 (inl is))
+      (text.At line fault) before.1 (inl is))
 
   module _ (i : Instance) (low : ℕ) (closed : Judges i low (take k hs) (Ok tt)) where
     pub judged_on : Judges i low (h ∷ []) (Ok tt) → Judges i low (take (k + 1) hs) (Ok tt)
@@ -199,14 +199,14 @@ with_run place hs =
 
 -- one run more closes
 pub closed_on : (i : Instance) (low place : ℕ) (hs : List HeldLeaf) → Judges i low (take (place * RUN) hs) (Ok tt) → RunCloses i low hs place
-      → Judges i low (take ((place + 1) * RUN) hs) (Ok tt)
+    → Judges i low (take ((place + 1) * RUN) hs) (Ok tt)
 closed_on i low place hs before own = rw (with_run place hs) (judged_behind i low (take (place * RUN) hs) (run_at place hs) (Ok tt) before own)
 
 -- a run is at fault, and so are all
 pub run_fails : (i : Instance) (low place : ℕ) (hs : List HeldLeaf) (fault : StreamFault) → Judges i low (take (place * RUN) hs) (Ok tt)
-      → Judges i low (run_at place hs) (Err fault) → Judges i low hs (Err fault)
+    → Judges i low (run_at place hs) (Err fault) → Judges i low hs (Err fault)
 run_fails i low place hs fault before own =
     let so_far : Judges i low (take ((place + 1) * RUN) hs) (Err fault) = subst (λ (xs : List HeldLeaf). Judges i low xs (Err fault))
-        (sym (with_run place hs)) (judged_behind i low (take (place * RUN) hs) (run_at place hs) (Err fault) before own) in
+    (sym (with_run place hs)) (judged_behind i low (take (place * RUN) hs) (run_at place hs) (Err fault) before own) in
     subst (λ (xs : List HeldLeaf). Judges i low xs (Err fault)) (take-append-drop ((place + 1) * RUN) hs)
-        (judged_in_front i low (take ((place + 1) * RUN) hs) (drop ((place + 1) * RUN) hs) fault so_far)
+    (judged_in_front i low (take ((place + 1) * RUN) hs) (drop ((place + 1) * RUN) hs) fault so_far)

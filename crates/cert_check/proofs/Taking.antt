@@ -60,7 +60,7 @@ module _ {R : Type 0} (i : Instance) (low : ℕ) (remaining : R → Option (List
 
   -- those in front close, and wait no more
   pub front_judged : (left : List Choice) (front hs : List HeldLeaf) → IsUnderWay i low remaining first now left (front ++ hs)
-        → Judges i low front (Ok tt) → IsUnderWay i low remaining first now left hs
+      → Judges i low front (Ok tt) → IsUnderWay i low remaining first now left hs
   front_judged left front hs u judged = record {
     count = u.count;
     waits = waits_behind (Waits i) front hs u.waits;
@@ -79,16 +79,21 @@ module _ {R : Type 0} (i : Instance) (low : ℕ) (remaining : R → Option (List
 
   module _ (next : CertStream R) (c : Choice) (left : List Choice) (hs : List HeldLeaf) (u : IsUnderWay i low remaining first now (c ∷ left) hs) where
     pub branch_taken : (branch : TreeBranch) → LeavesNext remaining now next (Some (node.Branch branch, next_line now))
-          → TakesChild (still_to_come now) (still_to_come next) (node.Branch branch) → next_line next ≡ next_line now + 1
+        → TakesChild (still_to_come now) (still_to_come next) (node.Branch branch) → next_line next ≡ next_line now + 1
         → IsBranch i c branch.kind branch.children → IsUnderWay i low remaining first next (child_choices i c branch.kind ++ left) hs
     branch_taken branch leaves t passed suits =
         let below = child_choices i c branch.kind in
         let counted = branch_count i c branch suits in
         record {
           count =
-              omega (arith, length-append (child_choices i c branch.kind) left, counted, u.count,
-                  takes_one (still_to_come now) (still_to_come next) (node.Branch branch) t,
-                  leaves_more (still_to_come now) (still_to_come next) (node.Branch branch) t);
+              omega (
+                arith,
+                length-append (child_choices i c branch.kind) left,
+                counted,
+                u.count,
+                takes_one (still_to_come now) (still_to_come next) (node.Branch branch) t,
+                leaves_more (still_to_come now) (still_to_come next) (node.Branch branch) t,
+              );
           waits = u.waits;
           unread = λ fault is read left. u.unread fault is (in_front (node.Branch branch) read) (leaves read left);
           so_far = λ rs are.
@@ -104,14 +109,14 @@ module _ {R : Type 0} (i : Instance) (low : ℕ) (remaining : R → Option (List
     module _ (goal count line : ℕ) (steps : Vec ℕ) (leaves : LeavesPiece remaining now next steps.items (Some (OfLeaf goal count, line)))
         (here : line ≡ next_line now) (passed : next_line next ≡ next_line now + 1 + count) where
       pub leaf_read : (rs : List ReadLeaf) → AreRead (hs ++ held_leaf c (stream_version next) goal count line steps ∷ []) rs
-            → IsReadSoFar i low remaining first next left rs
+          → IsReadSoFar i low remaining first next left rs
       leaf_read rs are =
           let last = read_last hs (held_leaf c (stream_version next) goal count line steps) rs are in
           let s = u.so_far last.0 last.2.1.0 in
           let said : node_said (stream_version next) (OfLeaf goal count) line steps.items
-              ≡ Ok (node.Leaf (record { goal = goal; steps = last.1 })) = rw last.2.1.1 refl in
+          ≡ Ok (node.Leaf (record { goal = goal; steps = last.1 })) = rw last.2.1.1 refl in
           let next_is : LeavesNext remaining now next (Some (node.Leaf (record { goal = goal; steps = last.1 }), line)) = λ read l. subst
-              (λ (x : Reading Node). LeavesNodes remaining now (said_in_front x read)) said (leaves read l) in
+          (λ (x : Reading Node). LeavesNodes remaining now (said_in_front x read)) said (leaves read l) in
           let long = steps_count (stream_version next) count (line + 1) steps.items last.1 last.2.1.1 in
           let seen = seen_leaf i low s.seen last.0 (leaf_with (held_leaf c (stream_version next) goal count line steps) last.1) left s.so_far (here ∙ s.line) in
           record {
@@ -123,7 +128,7 @@ module _ {R : Type 0} (i : Instance) (low : ℕ) (remaining : R → Option (List
           }
 
       pub leaf_unread : (fault : CertTextError) → IsUnread (hs ++ held_leaf c (stream_version next) goal count line steps ∷ []) fault
-            → (read : Reading (List Node)) → LeavesNodes remaining next read → LeavesNodes remaining first (Err fault)
+          → (read : Reading (List Node)) → LeavesNodes remaining next read → LeavesNodes remaining first (Err fault)
       leaf_unread fault is read l = elim (unread_last hs (held_leaf c (stream_version next) goal count line steps) fault is) [
         | inl before ↦ u.unread fault before (said_in_front (node_said (stream_version next) (OfLeaf goal count) line steps.items) read) (leaves read l)
         | inr own ↦
@@ -134,12 +139,16 @@ module _ {R : Type 0} (i : Instance) (low : ℕ) (remaining : R → Option (List
 
       -- it waits with the others
       pub leaf_waits : Waits i (held_leaf c (stream_version next) goal count line steps)
-            → TakesChild (still_to_come now) (still_to_come next) (node.Leaf (record { goal = goal; steps = [] }))
-            → IsUnderWay i low remaining first next left (hs ++ held_leaf c (stream_version next) goal count line steps ∷ [])
+          → TakesChild (still_to_come now) (still_to_come next) (node.Leaf (record { goal = goal; steps = [] }))
+          → IsUnderWay i low remaining first next left (hs ++ held_leaf c (stream_version next) goal count line steps ∷ [])
       leaf_waits waits t = record {
         count =
-            omega (arith, u.count, takes_one (still_to_come now) (still_to_come next) (node.Leaf (record { goal = goal; steps = [] })) t,
-                leaves_more (still_to_come now) (still_to_come next) (node.Leaf (record { goal = goal; steps = [] })) t);
+            omega (
+              arith,
+              u.count,
+              takes_one (still_to_come now) (still_to_come next) (node.Leaf (record { goal = goal; steps = [] })) t,
+              leaves_more (still_to_come now) (still_to_come next) (node.Leaf (record { goal = goal; steps = [] })) t,
+            );
         waits = All-push (Waits i) hs (held_leaf c (stream_version next) goal count line steps) u.waits waits;
         unread = λ fault is read l. leaf_unread fault is read l;
         so_far = λ rs are. leaf_read rs are;
@@ -148,7 +157,7 @@ module _ {R : Type 0} (i : Instance) (low : ℕ) (remaining : R → Option (List
 -- ---- wherever it stands
 
 pub stands_first : {R : Type 0} (i : Instance) (low : ℕ) (remaining : R → Option (List ℕ)) (first : CertStream R) (w : Walk)
-      → still_to_come first ≡ 1 ∷ [] → next_line first ≡ 3 → IsWalk i w (root_choice i ∷ []) → Stands i low remaining first first w [] More
+    → still_to_come first ≡ 1 ∷ [] → next_line first ≡ 3 → IsWalk i w (root_choice i ∷ []) → Stands i low remaining first first w [] More
 stands_first i low remaining first w due line walk = record {
   at = first;
   left = root_choice i ∷ [];
@@ -158,8 +167,8 @@ stands_first i low remaining first w due line walk = record {
 }
 
 pub front_closes : {R : Type 0} (i : Instance) (low : ℕ) (remaining : R
-      → Option (List ℕ)) (first now : CertStream R) (w : Walk) (ahead : Ahead) (front hs : List HeldLeaf)
-      → Stands i low remaining first now w (front ++ hs) ahead → Judges i low front (Ok tt) → Stands i low remaining first now w hs ahead
+    → Option (List ℕ)) (first now : CertStream R) (w : Walk) (ahead : Ahead) (front hs : List HeldLeaf)
+    → Stands i low remaining first now w (front ++ hs) ahead → Judges i low front (Ok tt) → Stands i low remaining first now w hs ahead
 front_closes i low remaining first now w ahead front hs s closed = record {
   at = s.at;
   left = s.left;

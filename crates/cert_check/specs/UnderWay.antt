@@ -41,7 +41,7 @@ total_due (count ∷ above) = count + total_due above
 abbrev pub AreBehind : {R : Type 0} → (R → Option (List ℕ)) → (first at : CertStream R) → List Node → Type 0
 AreBehind remaining first at seen =
     IsGivenSoFar (stream_version first) (StreamLeaves remaining first) (stream_version at) (StreamLeaves remaining at) (still_to_come first)
-        (still_to_come at) (next_line first) (next_line at) seen
+    (still_to_come at) (next_line first) (next_line at) seen
 
 -- Nodes were taken, of which these leaves wait, and trees for these choices are to follow.
 pub record IsReadSoFar {R : Type 0} (i : Instance) (low : ℕ) (remaining : R → Option (List ℕ)) (first at : CertStream R) (left : List Choice)
@@ -163,7 +163,7 @@ Fits i left line (Fault (Text error)) rest = ⊥
 
 -- what is said of them
 abbrev pub LeavesRest : {R : Type 0} → Instance → (R → Option (List ℕ)) → (at : CertStream R) → List Choice → Ahead → (taken : ℕ)
-      → Result (Unit {0}) StreamFault → Type 0
+    → Result (Unit {0}) StreamFault → Type 0
 LeavesRest i remaining at left ahead taken (Ok _) = (rest : List Node) × (LeavesNodes remaining at (Ok rest) × Fits i left (next_line at) ahead rest)
 LeavesRest i remaining at left ahead taken (Err fault) = IsLinesFault (LeavesNodes remaining at) taken fault
 

@@ -4,7 +4,7 @@ use Rattle.std.specs.Io.KnownBytes.{Consumes}
 use Rattle.command_streams.specs.Streams.{TakesAtMost}
 
 pub Consumes-more : (old middle new : Option (List ℕ)) (front bytes : List ℕ) → Consumes old middle front → Consumes middle new bytes
-      → Consumes old new (front ++ bytes)
+    → Consumes old new (front ++ bytes)
 Consumes-more None middle new front bytes first second = tt
 Consumes-more (Some xs) None new front bytes first second = absurd first
 Consumes-more (Some xs) (Some ys) None front bytes first second = absurd second

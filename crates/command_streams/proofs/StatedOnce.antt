@@ -32,7 +32,7 @@ text_memory error is = subst (λ (e : TextError). IsNotOfTexts (InstanceText e))
 
 -- where one byte more than the limit was taken, there are more
 pub over_limit : (limit : ℕ) (taken : Taken) (known : Option (List ℕ)) → taken.stop ≡ OverLimit → IfSome known (IsTaken limit taken)
-      → IfSome known (λ bytes. limit < length bytes)
+    → IfSome known (λ bytes. limit < length bytes)
 over_limit limit taken None over is = tt
 over_limit limit taken (Some bytes) over is =
     let until = rw over at is.until in
@@ -61,7 +61,7 @@ module _ (Holds : Fault → Type 0) (of : Source) (limit : ℕ) (known : Option 
   by_read_fault (Unwritten sink) is = absurd is
 
 pub unread_judged : (known : Option (List ℕ)) (fault : Fault) → IsReadFault source.Instance instance_limit known fault
-      → IfSome known (λ bytes. IsInstanceFault bytes fault)
+    → IfSome known (λ bytes. IsInstanceFault bytes fault)
 unread_judged None fault is = tt
 unread_judged (Some bytes) fault is = by_read_fault (IsInstanceFault bytes) source.Instance instance_limit (Some bytes) tt tt (λ long. long) fault is
 
@@ -70,7 +70,7 @@ no_longer : (bytes : List ℕ) (i : Instance) → HasInstance bytes i → instan
 no_longer bytes i has long = omega (arith, long, has.within)
 
 pub unread_only : (known : Option (List ℕ)) (fault : Fault) → IsReadFault source.Instance instance_limit known fault
-      → IfSome known (λ bytes. (i : Instance) → HasInstance bytes i → IsNotOfTexts fault)
+    → IfSome known (λ bytes. (i : Instance) → HasInstance bytes i → IsNotOfTexts fault)
 unread_only None fault is = tt
 unread_only (Some bytes) fault is =
     λ i has. by_read_fault IsNotOfTexts source.Instance instance_limit (Some bytes) refl tt (λ long. absurd (no_longer bytes i has long)) fault is
@@ -78,6 +78,6 @@ unread_only (Some bytes) fault is =
 -- what is read of a reader's bytes is so of all that it had
 pub read_only : (known : Option (List ℕ)) (read : List ℕ) (result : Result Instance Fault) → IfSome known (λ bytes. read ≡ bytes)
     → ((i : Instance) → HasInstance read i → MatchResult result (λ j. j ≡ i) IsNotOfTexts)
-        → IfSome known (λ bytes. (i : Instance) → HasInstance bytes i → MatchResult result (λ j. j ≡ i) IsNotOfTexts)
+    → IfSome known (λ bytes. (i : Instance) → HasInstance bytes i → MatchResult result (λ j. j ≡ i) IsNotOfTexts)
 read_only None read result all only = tt
 read_only (Some bytes) read result all only = λ i has. only i (subst (λ (b : List ℕ). HasInstance b i) (sym all) has)

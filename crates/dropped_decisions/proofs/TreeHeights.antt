@@ -63,9 +63,9 @@ none_left heights nodes is =
 
 -- one node in front of the trees that are left
 pub one_more : (nodes : List Node) (left : ℕ) (node : Node) (count most : ℕ) (before between after : List ℕ) → 0 < left → left ≤ length nodes
-      → node ≡ get_or nodes (left - 1) node → count ≡ children node
+    → node ≡ get_or nodes (left - 1) node → count ≡ children node
     → HaveHeights (reverse before) (trees_of (drop left nodes)) → AreTaken count most before between → after ≡ between ++ (most + 1) ∷ []
-        → HaveHeights (reverse after) (trees_of (drop (left - 1) nodes))
+    → HaveHeights (reverse after) (trees_of (drop (left - 1) nodes))
 one_more nodes left node count most before between after some inside is children_are have t pushed =
     let lt : left - 1 < length nodes = omega arith in
     let same : left - 1 + 1 ≡ left = omega arith in
@@ -73,16 +73,16 @@ one_more nodes left node count most before between after some inside is children
     drop_more nodes (left - 1) node lt ∙ ap (λ (n : Node). n ∷ drop (left - 1 + 1) nodes) (sym is) ∙ ap (λ (k : ℕ). node ∷ drop k nodes) same in
     let back : reverse after ≡ (most + 1) ∷ reverse between = ap reverse pushed ∙ reverse-append between ((most + 1) ∷ []) in
     let split : HaveHeights (t.taken ++ reverse between) (trees_of (drop left nodes)) = subst
-        (λ (hs : List ℕ). HaveHeights hs (trees_of (drop left nodes))) t.are have in
+    (λ (hs : List ℕ). HaveHeights hs (trees_of (drop left nodes))) t.are have in
     subst (λ (hs : List ℕ). HaveHeights hs (trees_of (drop (left - 1) nodes))) (sym back)
     (subst (λ (ns : List Node). HaveHeights ((most + 1) ∷ reverse between) (trees_of ns)) (sym here)
     (grown node (drop left nodes) t.taken (reverse between) most split (t.count_is ∙ children_are) t.low))
 
 -- the tree of all nodes
 pub all_left : (nodes : List Node) (left height : ℕ) (heights : List ℕ) → left ≡ 0 → heights ≡ height ∷ [] → height ≤ most_branches_above + 1
-      → HaveHeights (reverse heights) (trees_of (drop left nodes)) → IsTree (trees_of nodes)
+    → HaveHeights (reverse heights) (trees_of (drop left nodes)) → IsTree (trees_of nodes)
 all_left nodes left height heights none_there one low have =
     lone height (trees_of nodes)
     (subst (λ (hs : List ℕ). HaveHeights (reverse hs) (trees_of nodes)) one (subst
-        (λ (k : ℕ). HaveHeights (reverse heights) (trees_of (drop k nodes))) none_there have))
+    (λ (k : ℕ). HaveHeights (reverse heights) (trees_of (drop k nodes))) none_there have))
     low

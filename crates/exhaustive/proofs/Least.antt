@@ -44,15 +44,15 @@ module _ (i : Instance) (A B All : Plan → Type 0) (from_a : (plan : Plan) → 
 
 -- a check of the plan of a whole table
 pub least-judged : (i : Instance) (plan : Plan) (table : List ℕ) → HasLengths i plan → table_of plan ≡ table → (found : Result ℕ PlanFault)
-      → OnOk found (IsValid i plan) → IfOk found (λ ticks. ticks ≡ delay i plan) → (IsValid i plan → IsOk found)
-      → IsLeastAmong i (λ other. table_of other ≡ table) (result_ok found)
+    → OnOk found (IsValid i plan) → IfOk found (λ ticks. ticks ≡ delay i plan) → (IsValid i plan → IsOk found)
+    → IsLeastAmong i (λ other. table_of other ≡ table) (result_ok found)
 least-judged i plan table of_plan is (Ok ticks) valid same only = (
   (plan, is, valid, sym same),
   λ other of_other also. (let one = table_tells i other plan also.lengths of_plan (of_other ∙ sym is) in omega (arith, same, ap (delay i) one)),
 )
 least-judged i plan table of_plan is (Err fault) valid same only = λ other of_other also.
     (let one = table_tells i other plan also.lengths of_plan (of_other ∙ sym is) in absurd
-        (subst (λ (p : Plan). ¬ IsValid i p) (sym one) (λ is_valid. let ok = only is_valid in cc) also))
+    (subst (λ (p : Plan). ¬ IsValid i p) (sym one) (λ is_valid. let ok = only is_valid in cc) also))
 
 module _ (i : Instance) (begun numbers : List ℕ) (others : List (List ℕ)) (k d : ℕ) (inside : k < length numbers) where
   more : take (k + 1) numbers ≡ take k numbers ++ get_or numbers k d ∷ []
@@ -60,10 +60,10 @@ module _ (i : Instance) (begun numbers : List ℕ) (others : List (List ℕ)) (k
 
   -- when one number more was tried
   pub least-more : (a b : Option ℕ) → IsLeastAmong i (GoesOn begun (take k numbers ∷ others)) a
-        → IsLeastAmong i (GoesOn (begun ++ get_or numbers k d ∷ []) others) b → IsLeastAmong i (GoesOn begun (take (k + 1) numbers ∷ others)) (lesser a b)
+      → IsLeastAmong i (GoesOn (begun ++ get_or numbers k d ∷ []) others) b → IsLeastAmong i (GoesOn begun (take (k + 1) numbers ∷ others)) (lesser a b)
   least-more =
       least-lesser i (GoesOn begun (take k numbers ∷ others)) (GoesOn (begun ++ get_or numbers k d ∷ []) others)
-          (GoesOn begun (take (k + 1) numbers ∷ others)) from_tried from_last (λ plan goes. split plan goes.0 goes.1 goes.2)
+      (GoesOn begun (take (k + 1) numbers ∷ others)) from_tried from_last (λ plan goes. split plan goes.0 goes.1 goes.2)
     where
       wider : (rest : List ℕ) → IsPick (take k numbers ∷ others) rest → IsPick (take (k + 1) numbers ∷ others) rest
       wider [] choice = choice
@@ -82,7 +82,7 @@ module _ (i : Instance) (begun numbers : List ℕ) (others : List (List ℕ)) (k
       is_last x has = grind (arith, common_steps, has.2, has.1)
 
       split : (plan : Plan) (rest : List ℕ) → table_of plan ≡ begun ++ rest → IsPick (take (k + 1) numbers ∷ others) rest
-            → GoesOn begun (take k numbers ∷ others) plan ⊎ GoesOn (begun ++ get_or numbers k d ∷ []) others plan
+          → GoesOn begun (take k numbers ∷ others) plan ⊎ GoesOn (begun ++ get_or numbers k d ∷ []) others plan
       split plan [] is choice = absurd choice
       split plan (x ∷ xs) is choice = elim (Contains-append_cases (take k numbers) (get_or numbers k d ∷ []) x (rw (← more) choice.0)) [
         | inl early ↦ inl (x ∷ xs, is, (early, choice.1))
@@ -91,7 +91,7 @@ module _ (i : Instance) (begun numbers : List ℕ) (others : List (List ℕ)) (k
 
 -- all plans
 least-all : (i : Instance) → IsInstance i → (least : Option ℕ) → IsLeastAmong i (GoesOn [] (places_of i)) least
-      → MatchOption least (HasNoPlan i) (IsLeastDelay i)
+    → MatchOption least (HasNoPlan i) (IsLeastDelay i)
 least-all i w None among = λ plan valid. among plan (table_of plan, refl, valid_is_choice i plan w valid) valid
 least-all i w (Some least) among = record {
   plan = among.0.0;
@@ -102,6 +102,6 @@ least-all i w (Some least) among = record {
 
 -- the same, where memory was there
 pub found-all : (i : Instance) → IsInstance i → (found : Result (Option ℕ) MemoryFault) → IfOk found (IsLeastAmong i (GoesOn [] (places_of i)))
-      → IfOk found (λ least. MatchOption least (HasNoPlan i) (IsLeastDelay i))
+    → IfOk found (λ least. MatchOption least (HasNoPlan i) (IsLeastDelay i))
 found-all i w (Ok least) among = least-all i w least among
 found-all i w (Err fault) among = among

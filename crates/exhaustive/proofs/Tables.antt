@@ -61,18 +61,18 @@ valid_is_choice i plan w v =
     let horizon = i.cluster.horizon in
     let count = length i.nodes in
     let order = choice_alike (range_with_len 0 count) count plan.order v.lengths.order
-        (λ k d h. below_contains count (get_or plan.order k d) (order_small i plan v k d h)) in
+    (λ k d h. below_contains count (get_or plan.order k d) (order_small i plan v k d h)) in
     let caps = choice_each options_of no_node i.nodes plan.caps v.lengths.capacities (λ n h. (v.capacities n h).own) in
     let starts = choice_alike (range_with_len 0 horizon) (length i.processes) plan.starts v.lengths.starts
-        (λ k d h. below_contains horizon (get_or plan.starts k d) (starts_small i plan w v k d h)) in
+    (λ k d h. below_contains horizon (get_or plan.starts k d) (starts_small i plan w v k d h)) in
     let rounds = choice_alike (range_with_len 0 horizon) (length i.messages) plan.rounds v.lengths.rounds
-        (λ k d h. below_contains horizon (get_or plan.rounds k d) (rounds_small i plan w v k d h)) in
+    (λ k d h. below_contains horizon (get_or plan.rounds k d) (rounds_small i plan w v k d h)) in
     let channels = choice_each (channels_of i.cluster.channels) no_message i.messages plan.channels v.lengths.channels
     (λ m h. own_channel i m (channel_of plan m) (v.on_own m h)) in
     let last = choice_append _ _ plan.rounds plan.channels rounds channels in
     let rest = choice_append _ _ plan.starts (plan.rounds ++ plan.channels) starts last in
     choice_append _ _ plan.order (plan.caps ++ (plan.starts ++ (plan.rounds ++ plan.channels))) order
-        (choice_append _ _ plan.caps (plan.starts ++ (plan.rounds ++ plan.channels)) caps rest)
+    (choice_append _ _ plan.caps (plan.starts ++ (plan.rounds ++ plan.channels)) caps rest)
 
 -- two lists that begin with parts of one length
 front_same : (xs xs' ys ys' : List ℕ) → length xs ≡ length xs' → xs ++ ys ≡ xs' ++ ys' → (xs ≡ xs') × (ys ≡ ys')
@@ -88,9 +88,9 @@ plan_with order caps starts rounds channels = record { order = order; caps = cap
 pub table_tells : (i : Instance) (a b : Plan) → HasLengths i a → HasLengths i b → table_of a ≡ table_of b → a ≡ b
 table_tells i a b of_a of_b same =
     let first = front_same a.order b.order (a.caps ++ (a.starts ++ (a.rounds ++ a.channels))) (b.caps ++ (b.starts ++ (b.rounds ++ b.channels)))
-        (of_a.order ∙ sym of_b.order) same in
+    (of_a.order ∙ sym of_b.order) same in
     let second = front_same a.caps b.caps (a.starts ++ (a.rounds ++ a.channels)) (b.starts ++ (b.rounds ++ b.channels))
-        (of_a.capacities ∙ sym of_b.capacities) first.1 in
+    (of_a.capacities ∙ sym of_b.capacities) first.1 in
     let third = front_same a.starts b.starts (a.rounds ++ a.channels) (b.rounds ++ b.channels) (of_a.starts ∙ sym of_b.starts) second.1 in
     let fourth = front_same a.rounds b.rounds a.channels b.channels (of_a.rounds ∙ sym of_b.rounds) third.1 in
     ap (λ (order : List ℕ). plan_with order a.caps a.starts a.rounds a.channels) first.0

@@ -43,7 +43,7 @@ closes top id v s is_opening live none_out h at = (
 
 -- what the table ends with
 pub ends : (top id : ℕ) (v : View) (words : List ℕ) (slots : List (Unit {0})) (r : ℕ) → v.opening ≡ true → v.live ≡ true → v.out ≡ 0
-      → Final (Seen (Kept top) id v) words slots → get_elem? words 0 ≡ some r → IsLeast (top ∷ v.offers) r
+    → Final (Seen (Kept top) id v) words slots → get_elem? words 0 ≡ some r → IsLeast (top ∷ v.offers) r
 ends top id v words slots r is_opening live none_out last found =
     let end = closes top id v last.0 is_opening live none_out last.1.0 last.1.1 in
     let n : ℕ = end.0 in

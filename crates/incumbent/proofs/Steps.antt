@@ -24,8 +24,11 @@ looks top slots id me st s h homes at small =
         fits = h.fits;
         each =
             goes_down s.views id v w at top n n h.each (omega arith)
-                (record { seen = All-append (λ (y : ℕ). n ≤ y) v.seen (n ∷ []) mine.below.seen
-                (one_above n n (omega arith)); offers = mine.below.offers }) mine.ended refl refl refl;
+            (record {
+              seen = All-append (λ (y : ℕ). n ≤ y) v.seen (n ∷ []) mine.below.seen
+                  (one_above n n (omega arith));
+              offers = mine.below.offers;
+            }) mine.ended refl refl refl;
         reached = still_reached s.views id v w at top n (λ c. c) h.reached;
       },
       (h.fits, mine.below, refl, refl),
@@ -35,7 +38,7 @@ least_cases : (n x : ℕ) → (min n x ≡ n) ⊎ (min n x ≡ x)
 least_cases n x = grind arith
 
 pub offers : (top slots id : ℕ) (me : Me (Unit {0}) View) (st : Step (Unit {0})) → me.0.live ≡ true
-      → Allows (Kept top) slots id me 0 (λ n. min n st.first) (Offers st me)
+    → Allows (Kept top) slots id me 0 (λ n. min n st.first) (Offers st me)
 offers top slots id me st live s h homes at small =
     let x = st.first in
     let P : List ℕ → Type 0 = λ ws. (w : View) × (a : Act (Unit {0})) × Valid s.homes me.1 a
@@ -58,9 +61,13 @@ offers top slots id me st live s h homes at small =
         }) (λ dead. absurd (true≢false (sym live ∙ dead))) refl refl refl;
         reached = ⊎_elim
             (λ e. subst (λ k. IsReached top k (set s.views id w)) (sym e) (still_reached s.views id v w at top n
-                (λ c. Contains-append_left v.offers (x ∷ []) n c) h.reached))
-            (λ e. subst (λ k. IsReached top k (set s.views id w)) (sym e) (inr (id, w, set_here s.views id w (at_length s.views id v at),
-                Contains-append_right v.offers (x ∷ []) x (0, omega arith, refl))))
+            (λ c. Contains-append_left v.offers (x ∷ []) n c) h.reached))
+            (λ e. subst (λ k. IsReached top k (set s.views id w)) (sym e) (inr (
+              id,
+              w,
+              set_here s.views id w (at_length s.views id v at),
+              Contains-append_right v.offers (x ∷ []) x (0, omega arith, refl),
+            )))
             (least_cases n x);
       },
       (h.fits, mine.below, refl, refl),

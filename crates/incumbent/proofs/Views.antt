@@ -13,7 +13,7 @@ weight_of v = cond v.live 1 0
 
 -- the count after a change of one view
 pub total_set : (views : List View) (port : ℕ) (v w : View) → get_elem? views port ≡ some v
-      → live_count (set views port w) + weight_of v ≡ live_count views + weight_of w
+    → live_count (set views port w) + weight_of v ≡ live_count views + weight_of w
 total_set [] port v w e = absurd (some-ne-none v (sym e))
 total_set (x ∷ xs) zero v w e =
     let is : weight_of x ≡ weight_of v = ap weight_of (some-injective x v e) in omega (arith, sum_by-cons weight_of w xs, sum_by-cons weight_of x xs)
@@ -21,11 +21,11 @@ total_set (x ∷ xs) (suc port) v w e = omega (arith, sum_by-cons weight_of x (s
 
 -- the count where a view keeps its place
 pub same_count : (views : List View) (port : ℕ) (v w : View) → get_elem? views port ≡ some v → w.live ≡ v.live
-      → live_count (set views port w) ≡ live_count views
+    → live_count (set views port w) ≡ live_count views
 same_count views port v w at e = let h = total_set views port v w at in let is : weight_of w ≡ weight_of v = ap (λ (b : Bool). cond b 1 0) e in omega arith
 
 pub each_set : (F : ℕ → View → Type 0) (views : List View) (port : ℕ) (w : View) → F port w
-      → ((j : ℕ) (u : View) → j ≢ port → get_elem? views j ≡ some u → F j u) → (j : ℕ) (u : View) → get_elem? (set views port w) j ≡ some u → F j u
+    → ((j : ℕ) (u : View) → j ≢ port → get_elem? views j ≡ some u → F j u) → (j : ℕ) (u : View) → get_elem? (set views port w) j ≡ some u → F j u
 each_set F views port w mine others j u e = ⊎_elim (λ (x : (j ≡ port) × (w ≡ u)). subst (λ (y : ℕ × View). F y.0 y.1) (λ i. (sym x.0 i, x.1 i)) mine)
     (λ (x : (j ≢ port) × (get_elem? views j ≡ some u)). others j u x.0 x.1) (at_set views port j w u e)
 
@@ -41,7 +41,7 @@ at_length (x ∷ xs) (suc port) v e = let h = at_length xs port v e in omega ari
 module _ (views : List View) (port : ℕ) (v w : View) (at : get_elem? views port ≡ some v) where
   -- what a view has in its place it has in the changed row, if the new view has it too
   pub moved : (Q : View → Type 0) → (Q v → Q w) → (p : ℕ) (u : View) → get_elem? views p ≡ some u → Q u
-        → (q : ℕ) × (x : View) × (get_elem? (set views port w) q ≡ some x) × Q x
+      → (q : ℕ) × (x : View) × (get_elem? (set views port w) q ≡ some x) × Q x
   moved Q more p u there has = moved_by (ℕ_discrete p port) where
     moved_by : Dec (p ≡ port) → (q : ℕ) × (x : View) × (get_elem? (set views port w) q ≡ some x) × Q x
     moved_by (yes e) =
@@ -54,7 +54,7 @@ module _ (views : List View) (port : ℕ) (v w : View) (at : get_elem? views por
 
   -- the word goes down to m, and one watch has seen and offered more
   pub goes_down : (top n m : ℕ) → FitsEach n (live_count views) views → m ≤ n → BelowAll m w → (w.live ≡ false → w.offers ≡ []) → w.live ≡ v.live
-        → w.opening ≡ v.opening → w.out ≡ v.out
+      → w.opening ≡ v.opening → w.out ≡ v.out
       → FitsEach m (live_count (set views port w)) (set views port w)
   goes_down top n m each le below ended live opening out =
       let same = same_count views port v w at live in let mine = each port v at in

@@ -127,7 +127,7 @@ behind_none path = λ fact. inl (agree_itself (first_facts path.instance (choice
 
 -- one step more leaves what is known, or wrote it
 pub behind_more : (path : Path) (before : List Step) (goal : ℕ) (f : Known) (step : Step) (next : Known) → IsInstance path.instance
-      → Fits path.instance f → IsBehind path before f → IsLawful path.instance (choice_of path) goal f step next → IsBehind path (step ∷ before) next
+    → Fits path.instance f → IsBehind path before f → IsLawful path.instance (choice_of path) goal f step next → IsBehind path (step ∷ before) next
 behind_more path before goal f step next w fits behind lawful = λ fact.
     let i = path.instance in
     let k = lawful.conclusion in

@@ -32,8 +32,11 @@ pub up_to_first : (n : ℕ) → AreUpTo 1 (replicate n 0)
 up_to_first n = record {
   some = omega arith;
   within =
-      All-from_get_or (λ (x : ℕ). x ≤ 1) (replicate n 0) 0 (λ k inside. omega (arith, get_or-replicate {A = ℕ} n k 0 0
-          (omega (arith, inside, length-replicate {A = ℕ} n 0))));
+      All-from_get_or (λ (x : ℕ). x ≤ 1) (replicate n 0) 0 (λ k inside. omega (
+        arith,
+        get_or-replicate {A = ℕ} n k 0 0
+            (omega (arith, inside, length-replicate {A = ℕ} n 0)),
+      ));
 }
 
 -- one is put up

@@ -34,12 +34,12 @@ module _ (path : Path) (Given : Type 0) (Tells : Uses → ℕ → Type 0) (list 
   }
 
   pub told_all : (new : Uses) (count : ℕ) → length list ≤ count → AreTold path Given Tells list old new count → IsReadOf path old → Given
-        → TellsEach Tells list new
+      → TellsEach Tells list new
   told_all new count done are read so k inside = are.told read so k (omega (arith, inside, done))
 
 -- so it is of each that a test picks
 pub told_of : (Tells : Uses → ℕ → Type 0) (test : ℕ → Bool) (count : ℕ) (uses : Uses) (x : ℕ) → TellsEach Tells (indices test count) uses → x < count
-      → test x ≡ true → Tells uses x
+    → test x ≡ true → Tells uses x
 told_of Tells test count uses x told inside picks =
     let found = in_indices test count x inside picks in
     subst (Tells uses) (get_or_default (indices test count) found.0 0 x found.1 ∙ found.2) (told found.0 found.1)

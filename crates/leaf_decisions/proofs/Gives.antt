@@ -23,7 +23,7 @@ still Is Was Now never both = ((λ is. inr (both.0 is)), (λ some. elim some [ i
 
 -- a flag that is put up
 flag_up : (flags : List Bool) (k j : ℕ) (Now Was : Type 0) → j < length flags → (j ≡ k → Now) → (Now → j ≡ k) → IsTrue (get_or flags j false) ↔ Was
-      → IsTrue (get_or (set flags k true) j false) ↔ (Now ⊎ Was)
+    → IsTrue (get_or (set flags k true) j false) ↔ (Now ⊎ Was)
 flag_up flags k j Now Was inside on back both = elim (cases_eq j k) [
   | inl same ↦ ((λ is. inl (on same)), (λ some. rw same (get_or-set_same flags k true false (omega (arith, inside, same)))))
   | inr other ↦ (
@@ -54,33 +54,38 @@ same_order n p q x y row column same =
 module _ (i : Instance) (given : Given) (before : List Step) (step : Step) (so : IsGivenBy i given before) where
   -- a fact that isn't given
   pub given_still : ((m : ℕ) → target i step ≡ FirstRound m → ⊥) → ((m : ℕ) → target i step ≡ LateRound m → ⊥)
-        → ((p q : ℕ) → target i step ≡ Order p q → ⊥) → IsGivenBy i given (step ∷ before)
+      → ((p q : ℕ) → target i step ≡ Order p q → ⊥) → IsGivenBy i given (step ∷ before)
   given_still first late order = record {
     flags = so.flags;
     least =
         λ m there. still (IsTrue (gives_least given m)) (IsWritten i before (FirstRound m)) (FirstRound m ≡ target i step) (λ is. first m (sym is))
-            (so.least m there);
+        (so.least m there);
     greatest =
         λ m there. still (IsTrue (gives_greatest given m)) (IsWritten i before (LateRound m)) (LateRound m ≡ target i step) (λ is. late m (sym is))
-            (so.greatest m there);
+        (so.greatest m there);
     order =
         λ p q row column. still (IsTrue (gives_before given p q)) (IsWritten i before (Order p q)) (Order p q ≡ target i step)
-            (λ is. order p q (sym is)) (so.order p q row column);
+        (λ is. order p q (sym is)) (so.order p q row column);
   }
 
   pub given_least : (m : ℕ) → FirstRound m ≡ target i step → IsGivenBy i (record given { least = set given.least m true }) (step ∷ before)
   given_least m is = record {
     flags =
-        record { processes = so.flags.processes; least = length-set given.least m true ∙ so.flags.least; greatest = so.flags.greatest; before
-            = so.flags.before };
+        record {
+          processes = so.flags.processes;
+          least = length-set given.least m true ∙ so.flags.least;
+          greatest = so.flags.greatest;
+          before
+              = so.flags.before;
+        };
     least = λ k there. flag_up given.least m k (FirstRound k ≡ target i step) (IsWritten i before (FirstRound k)) (omega (arith, there, so.flags.least))
         (λ same. ap FirstRound same ∙ is) (λ now. first_same k m (now ∙ sym is)) (so.least k there);
     greatest =
         λ k there. still (IsTrue (gives_greatest given k)) (IsWritten i before (LateRound k)) (LateRound k ≡ target i step)
-            (λ now. not_late k (now ∙ sym is)) (so.greatest k there);
+        (λ now. not_late k (now ∙ sym is)) (so.greatest k there);
     order =
         λ p q row column. still (IsTrue (gives_before given p q)) (IsWritten i before (Order p q)) (Order p q ≡ target i step)
-            (λ now. not_order p q (now ∙ sym is)) (so.order p q row column);
+        (λ now. not_order p q (now ∙ sym is)) (so.order p q row column);
   }
     where
       not_late : (k : ℕ) → ◌≡◌ {A = Fact} (LateRound k) (FirstRound m) → ⊥
@@ -92,16 +97,21 @@ module _ (i : Instance) (given : Given) (before : List Step) (step : Step) (so :
   pub given_greatest : (m : ℕ) → LateRound m ≡ target i step → IsGivenBy i (record given { greatest = set given.greatest m true }) (step ∷ before)
   given_greatest m is = record {
     flags =
-        record { processes = so.flags.processes; least = so.flags.least; greatest = length-set given.greatest m true ∙ so.flags.greatest; before
-            = so.flags.before };
+        record {
+          processes = so.flags.processes;
+          least = so.flags.least;
+          greatest = length-set given.greatest m true ∙ so.flags.greatest;
+          before
+              = so.flags.before;
+        };
     least =
         λ k there. still (IsTrue (gives_least given k)) (IsWritten i before (FirstRound k)) (FirstRound k ≡ target i step)
-            (λ now. not_first k (now ∙ sym is)) (so.least k there);
+        (λ now. not_first k (now ∙ sym is)) (so.least k there);
     greatest = λ k there. flag_up given.greatest m k (LateRound k ≡ target i step) (IsWritten i before (LateRound k)) (omega (arith, there, so.flags.greatest))
         (λ same. ap LateRound same ∙ is) (λ now. late_same k m (now ∙ sym is)) (so.greatest k there);
     order =
         λ p q row column. still (IsTrue (gives_before given p q)) (IsWritten i before (Order p q)) (Order p q ≡ target i step)
-            (λ now. not_order p q (now ∙ sym is)) (so.order p q row column);
+        (λ now. not_order p q (now ∙ sym is)) (so.order p q row column);
   }
     where
       not_first : (k : ℕ) → ◌≡◌ {A = Fact} (FirstRound k) (LateRound m) → ⊥
@@ -112,7 +122,7 @@ module _ (i : Instance) (given : Given) (before : List Step) (step : Step) (so :
 
   order_flag : (p q x y : ℕ) → Order p q ≡ target i step → x < length i.processes → y < length i.processes
       → IsTrue (get_or (set given.before (order_place given.processes p q) true) (order_place given.processes x y) false) ↔ IsWritten i
-          (step ∷ before) (Order x y)
+      (step ∷ before) (Order x y)
   order_flag p q x y is row column =
       let n = given.processes in
       let first : x < n = omega (arith, row, so.flags.processes) in
@@ -125,17 +135,22 @@ module _ (i : Instance) (given : Given) (before : List Step) (step : Step) (so :
       (so.order x y row column)
 
   pub given_before : (p q : ℕ) → Order p q ≡ target i step
-        → IsGivenBy i (record given { before = set given.before (order_place given.processes p q) true }) (step ∷ before)
+      → IsGivenBy i (record given { before = set given.before (order_place given.processes p q) true }) (step ∷ before)
   given_before p q is = record {
     flags =
-        record { processes = so.flags.processes; least = so.flags.least; greatest = so.flags.greatest; before = length-set given.before
-            (order_place given.processes p q) true ∙ so.flags.before };
+        record {
+          processes = so.flags.processes;
+          least = so.flags.least;
+          greatest = so.flags.greatest;
+          before = length-set given.before
+              (order_place given.processes p q) true ∙ so.flags.before;
+        };
     least =
         λ k there. still (IsTrue (gives_least given k)) (IsWritten i before (FirstRound k)) (FirstRound k ≡ target i step)
-            (λ now. not_first k (now ∙ sym is)) (so.least k there);
+        (λ now. not_first k (now ∙ sym is)) (so.least k there);
     greatest =
         λ k there. still (IsTrue (gives_greatest given k)) (IsWritten i before (LateRound k)) (LateRound k ≡ target i step)
-            (λ now. not_late k (now ∙ sym is)) (so.greatest k there);
+        (λ now. not_late k (now ∙ sym is)) (so.greatest k there);
     order = λ x y row column. order_flag p q x y is row column;
   }
     where
@@ -147,7 +162,7 @@ module _ (i : Instance) (given : Given) (before : List Step) (step : Step) (so :
 
 -- flags stay as many
 pub flags_still : (i : Instance) (given new : Given) → new.processes ≡ given.processes → length new.least ≡ length given.least
-      → length new.greatest ≡ length given.greatest → length new.before ≡ length given.before → HasFlags i given → HasFlags i new
+    → length new.greatest ≡ length given.greatest → length new.before ≡ length given.before → HasFlags i given → HasFlags i new
 flags_still i given new processes least greatest before has = record {
   processes = processes ∙ has.processes;
   least = least ∙ has.least;
@@ -166,7 +181,7 @@ nothing_up : (flags : List Bool) (n k : ℕ) → flags ≡ replicate n false →
 nothing_up flags n k is = ((λ up. none_up n k (subst (λ (xs : List Bool). IsTrue (get_or xs k false)) is up)), (λ none. absurd none))
 
 pub nothing_given_by : (i : Instance) (given : Given) (a b c : ℕ) → given.least ≡ replicate a false → given.greatest ≡ replicate b false
-      → given.before ≡ replicate c false → HasFlags i given → IsGivenBy i given []
+    → given.before ≡ replicate c false → HasFlags i given → IsGivenBy i given []
 nothing_given_by i given a b c least greatest before has = record {
   flags = has;
   least = λ m there. nothing_up given.least a m least;
@@ -177,16 +192,22 @@ nothing_given_by i given a b c least greatest before has = record {
 -- what is given is about what is there
 pub least_there : (i : Instance) (given : Given) (m : ℕ) → HasFlags i given → IsTrue (gives_least given m) → m < length i.messages
 least_there i given m has is =
-    elim (cases_lt m (length i.messages)) [ inl there ↦ there | inr past ↦ absurd (false≢true
-        (sym (get_or_past given.least m false (omega (arith, past, has.least))) ∙ is)) ]
+    elim (cases_lt m (length i.messages)) [
+      | inl there ↦ there
+      | inr past ↦ absurd (false≢true
+          (sym (get_or_past given.least m false (omega (arith, past, has.least))) ∙ is))
+    ]
 
 pub greatest_there : (i : Instance) (given : Given) (m : ℕ) → HasFlags i given → IsTrue (gives_greatest given m) → m < length i.messages
 greatest_there i given m has is =
-    elim (cases_lt m (length i.messages)) [ inl there ↦ there | inr past ↦ absurd (false≢true
-        (sym (get_or_past given.greatest m false (omega (arith, past, has.greatest))) ∙ is)) ]
+    elim (cases_lt m (length i.messages)) [
+      | inl there ↦ there
+      | inr past ↦ absurd (false≢true
+          (sym (get_or_past given.greatest m false (omega (arith, past, has.greatest))) ∙ is))
+    ]
 
 pub order_there : (i : Instance) (given : Given) (p q : ℕ) → HasFlags i given → IsTrue (gives_before given p q)
-      → (p < length i.processes) × (q < length i.processes)
+    → (p < length i.processes) × (q < length i.processes)
 order_there i given p q has is =
     let n = given.processes in
     let square : n * n ≡ length i.processes * length i.processes = ap (λ (k : ℕ). k * k) has.processes in

@@ -85,14 +85,20 @@ module _ (path : Path) (uses : Uses) (levels : List Bool) (ms : List Marked) (ar
     node = told.node;
     frames = λ v there. is_kept (fixes_below path.instance v) levels path.turns ms keeps (are.below told.frames v there);
     up_to =
-        rw same_order (λ inside. omega (arith, places_kept_of (place_of n (order_of path) + 1) (omega (arith, told.up_to inside))
-            (omega (arith, inside, order_room (placed_of path.turns)))));
+        rw same_order (λ inside. omega (
+          arith,
+          places_kept_of (place_of n (order_of path) + 1) (omega (arith, told.up_to inside))
+              (omega (arith, inside, order_room (placed_of path.turns))),
+        ));
   }
   keeps_limit (LeastFrame n) told = marked_kept (fixes_above n) told
   keeps_limit (GreatestFrame n) told = marked_kept (fixes_below path.instance n) told
   keeps_limit (Place v) told =
-      rw same_order (omega (arith, places_kept_of (place_of v (order_of path) + 1) (omega (arith, told.1))
-          (omega (arith, told.0, order_room (placed_of path.turns)))))
+      rw same_order (omega (
+        arith,
+        places_kept_of (place_of v (order_of path) + 1) (omega (arith, told.1))
+            (omega (arith, told.0, order_room (placed_of path.turns))),
+      ))
   keeps_limit (Copies m) told = marked_kept (fixes_channel (λ k. k == both_channels) m) told
   keeps_limit (Counted m k) told = marked_kept (fixes_channel (is_on k) m) told
 
@@ -101,7 +107,7 @@ module _ (path : Path) (uses : Uses) (levels : List Bool) (ms : List Marked) (ar
 
   -- steps that lead on use kept decisions alone, where each uses only what is marked
   pub use_kept : (goal : ℕ) (before : List Step) (f : Known) (steps : List Step) (g : Known) → IsInstance path.instance → Fits path.instance f
-        → IsBehind path before f
+      → IsBehind path before f
       → LeadSharply path.instance (choice_of path) goal f steps g → AreStepsTold path uses before steps → UseKept path.instance ms goal f before steps
   use_kept goal before f [] g w fits behind lead told = tt
   use_kept goal before f (step ∷ steps) g w fits behind lead told =
@@ -117,6 +123,6 @@ module _ (path : Path) (uses : Uses) (levels : List Bool) (ms : List Marked) (ar
             let also : IsLawful i (choice_of path) goal f step next = subst (λ (c : Choice). IsLawful i c goal f step next) same_choice led in
             let same : lead.1.0 ≡ next = IsLawful-determined i (choice_of path) goal f step lead.1.0 next lawful also in
             use_kept goal (step ∷ before) next steps g w (Fits-step i (choice_of path) goal f step next fits also)
-                (behind_more path before goal f step next w fits behind also)
+            (behind_more path before goal f step next w fits behind also)
             (subst (λ (x : Known). LeadSharply i (choice_of path) goal x steps g) same lead.1.3) told.1),
       )

@@ -19,7 +19,7 @@ use Rattle.leaf_decisions.proofs.Rounds.{later_is_known, is_not_earlier, earlier
 use Rattle.leaf_decisions.proofs.Tells.{fact_more}
 
 pub kept_out_more : (path : Path) (given : Given) (old new : Uses) (r k : ℕ) → IsMore old new → TellsKeptOut path given old r k
-      → TellsKeptOut path given new r k
+    → TellsKeptOut path given new r k
 kept_out_more path given old new r k more told = λ f known fact keeps. fact_more path old new more given fact (told f known fact keeps)
 
 pub other_stays : (path : Path) (given : Given) (m r : ℕ) → Stays (λ uses k. k ≢ m → TellsKeptOut path given uses r k)
@@ -28,19 +28,19 @@ other_stays path given m r = λ old new k more told differ. kept_out_more path g
 module _ (path : Path) (given : Given) (uses : Uses) (m r : ℕ) (there : m < length path.instance.messages) where
   -- a branch says that it is sent later, and is marked
   pub later_told : IsFalse (gives_least given m) → IsTrue (is_behind r (last_of (sets_least m) path.turns))
-        → TellsFact path given uses (FirstRound m) → TellsKeptOut path given uses r m
+      → TellsFact path given uses (FirstRound m) → TellsKeptOut path given uses r m
   later_told never behind told = λ f known fact keeps. elim keeps [
     | inl later ↦ subst (TellsFact path given uses) (sym later.1) told
     | inr early ↦ absurd (is_not_earlier path given f known m there r never behind early.0)
   ]
 
   first_told : (f : Known) → AreRoundsKnown path given f → IsTrue (gives_least given m) ⊎ IsFalse (is_behind r (last_of (sets_least m) path.turns))
-        → r < lo_of f m → TellsFact path given uses (FirstRound m)
+      → r < lo_of f m → TellsFact path given uses (FirstRound m)
   first_told f known not_later later = inl (later_is_known path given f known m there r later not_later)
 
   -- none does, and the one on its greatest round is marked
   pub earlier_told : IsTrue (gives_least given m) ⊎ IsFalse (is_behind r (last_of (sets_least m) path.turns))
-        → TellsFact path given uses (LateRound m) → TellsKeptOut path given uses r m
+      → TellsFact path given uses (LateRound m) → TellsKeptOut path given uses r m
   earlier_told not_later told = λ f known fact keeps. elim keeps [
     | inl later ↦ subst (TellsFact path given uses) (sym later.1) (first_told f known not_later later.0)
     | inr early ↦ subst (TellsFact path given uses) (sym early.2) told
@@ -48,18 +48,18 @@ module _ (path : Path) (given : Given) (uses : Uses) (m r : ℕ) (there : m < le
 
   -- nor does that say that it is sent earlier
   pub neither_told : IsTrue (gives_least given m) ⊎ IsFalse (is_behind r (last_of (sets_least m) path.turns))
-        → is_below r (last_of (sets_greatest m) path.turns) ≡ false → TellsKeptOut path given uses r m
+      → is_below r (last_of (sets_greatest m) path.turns) ≡ false → TellsKeptOut path given uses r m
   neither_told not_later not_below = λ f known fact keeps. elim keeps [
     | inl later ↦ subst (TellsFact path given uses) (sym later.1) (first_told f known not_later later.0)
     | inr early ↦ subst (TellsFact path given uses) (sym early.2) (earlier_is_known path given f known m there uses.levels r early.1 not_below)
   ]
 
 pub late_read : (path : Path) (given : Given) (uses : Uses) (m r : ℕ)
-      → (m < length path.instance.messages → TellsLimit path uses (LeastSlot (source_of path.instance m)))
+    → (m < length path.instance.messages → TellsLimit path uses (LeastSlot (source_of path.instance m)))
     → (m < length path.instance.messages → TellsLimit path uses (LeastFrame (source_of path.instance m)))
-        → (m < length path.instance.messages → TellsFact path given uses (FirstRound m))
+    → (m < length path.instance.messages → TellsFact path given uses (FirstRound m))
     → (m < length path.instance.messages → TellsEach (λ uses k. k ≢ m → TellsKeptOut path given uses r k)
-        (messages_of path.instance (source_of path.instance m)) uses)
+    (messages_of path.instance (source_of path.instance m)) uses)
     → IsStepRead path given uses (XLate m r)
 late_read path given uses m r slot capacity first others = record {
   facts = λ goal f known there fact reads. elim reads [
@@ -71,7 +71,7 @@ late_read path given uses m r slot capacity first others = record {
         let k = some.0 in
         let picks : is_message_of path.instance (source_of path.instance m) k ≡ true = eq-eqb _ _ some.2.0.one_node in
         told_of (λ uses k. k ≢ m → TellsKeptOut path given uses r k) (is_message_of path.instance (source_of path.instance m))
-            (length path.instance.messages) uses k (others there) some.1 picks some.2.0.other f known fact some.2.1
+        (length path.instance.messages) uses k (others there) some.1 picks some.2.0.other f known fact some.2.1
   ];
   limits = λ goal f known there premise limit reads. elim reads [ inl is ↦ rw is (slot there) | inr is ↦ rw is (capacity there) ];
 }

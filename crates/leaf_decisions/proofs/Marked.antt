@@ -28,42 +28,42 @@ module _ (P : Turn → Type 0) (picks : Decision → Bool) where
 
 module _ (new : List Bool) (n : ℕ) where
   level_at : (last : Option Turn) → IfSome last (λ turn. turn.level < n) → IfSome (level_of last) (λ level. level < n → IsTrue (has_level new level))
-        → IsTold new last
+      → IsTold new last
   level_at None room told = tt
   level_at (Some turn) room told = told room
 
   cut_at : (last : Option Turn) → IfSome last (λ turn. turn.level < n)
-        → IfSome (cut_of last) (λ cut. cut.level < n → IsTrue (has_level new cut.level)) → IsTold new last
+      → IfSome (cut_of last) (λ cut. cut.level < n → IsTrue (has_level new cut.level)) → IsTold new last
   cut_at None room told = tt
   cut_at (Some turn) room told = told room
 
   channel_at : (last : Option Turn) → IfSome last (λ turn. turn.level < n)
-        → IfSome (on_channel_of last) (λ on. on.level < n → IsTrue (has_level new on.level)) → IsTold new last
+      → IfSome (on_channel_of last) (λ on. on.level < n → IsTrue (has_level new on.level)) → IsTold new last
   channel_at None room told = tt
   channel_at (Some turn) room told = told room
 
   module _ (picks : Decision → Bool) (turns : List Turn) (room : All (λ (turn : Turn). turn.level < n) turns) where
     -- the level of a branch is marked that a path answers, and so that of the decision
     pub told_level : (level : Option ℕ) → level ≡ level_of (last_of picks turns) → IfSome level (λ level. level < n → IsTrue (has_level new level))
-          → IsTold new (last_of picks turns)
+        → IsTold new (last_of picks turns)
     told_level level is told =
         level_at (last_of picks turns) (last_holds (λ turn. turn.level < n) picks turns room)
-            (subst (λ (x : Option ℕ). IfSome x (λ level. level < n → IsTrue (has_level new level))) is told)
+        (subst (λ (x : Option ℕ). IfSome x (λ level. level < n → IsTrue (has_level new level))) is told)
 
     pub told_cut : (cut : Option Cut) → cut ≡ cut_of (last_of picks turns) → IfSome cut (λ cut. cut.level < n → IsTrue (has_level new cut.level))
-          → IsTold new (last_of picks turns)
+        → IsTold new (last_of picks turns)
     told_cut cut is told =
         cut_at (last_of picks turns) (last_holds (λ turn. turn.level < n) picks turns room)
-            (subst (λ (x : Option Cut). IfSome x (λ cut. cut.level < n → IsTrue (has_level new cut.level))) is told)
+        (subst (λ (x : Option Cut). IfSome x (λ cut. cut.level < n → IsTrue (has_level new cut.level))) is told)
 
     pub told_on_channel : (on : Option OnChannel) → on ≡ on_channel_of (last_of picks turns)
-          → IfSome on (λ on. on.level < n → IsTrue (has_level new on.level)) → IsTold new (last_of picks turns)
+        → IfSome on (λ on. on.level < n → IsTrue (has_level new on.level)) → IsTold new (last_of picks turns)
     told_on_channel on is told =
         channel_at (last_of picks turns) (last_holds (λ turn. turn.level < n) picks turns room)
-            (subst (λ (x : Option OnChannel). IfSome x (λ on. on.level < n → IsTrue (has_level new on.level))) is told)
+        (subst (λ (x : Option OnChannel). IfSome x (λ on. on.level < n → IsTrue (has_level new on.level))) is told)
 
 pub told_grown : (old new : List Bool) (last : Option Turn) → ((level : ℕ) → IsTrue (has_level old level) → IsTrue (has_level new level))
-      → IsTold old last → IsTold new last
+    → IsTold old last → IsTold new last
 told_grown old new None more told = tt
 told_grown old new (Some turn) more told = more turn.level told
 
@@ -82,9 +82,9 @@ pub told_first : (picks : ℕ → Decision → Bool) (turns : List Turn) (levels
 told_first picks turns levels = record { grown = grown_none levels; told = λ room n below. absurd (omega (arith, below)) }
 
 pub told_one_more : (picks : ℕ → Decision → Bool) (turns : List Turn) (old new next : List Bool) (count : ℕ) (level : Option ℕ)
-      → AreTold picks turns old new count
+    → AreTold picks turns old new count
     → IsGrown new next → level ≡ level_of (last_of (picks count) turns) → IfSome level (λ level. level < length new → IsTrue (has_level next level))
-        → AreTold picks turns old next (count + 1)
+    → AreTold picks turns old next (count + 1)
 told_one_more picks turns old new next count level are grown is marked = record {
   grown = grown_twice old new next are.grown grown;
   told = λ room n below. elim (cases_eq n count) [
@@ -123,7 +123,7 @@ places_marked levels n (suc count) (one ∷ placed) room marked = (
 )
 
 pub places_grown : (old new : List Bool) (count : ℕ) (placed : List Placed)
-      → ((level : ℕ) → IsTrue (has_level old level) → IsTrue (has_level new level)) → ArePlacesTold old count placed → ArePlacesTold new count placed
+    → ((level : ℕ) → IsTrue (has_level old level) → IsTrue (has_level new level)) → ArePlacesTold old count placed → ArePlacesTold new count placed
 places_grown old new zero placed more told = tt
 places_grown old new (suc count) [] more told = tt
 places_grown old new (suc count) (one ∷ placed) more told = (more one.level told.0, places_grown old new count placed more told.1)

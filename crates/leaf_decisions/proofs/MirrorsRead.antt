@@ -48,12 +48,12 @@ rounds_apart path given uses m k first late own_first own_late = λ f known fact
 module _ (path : Path) (given : Given) (uses : Uses) (m : ℕ) (are : AreOpenDecisions path.instance (root_choice path.instance) (decisions_of path.turns))
     (own : m < length path.instance.messages → IsTold uses.levels (last_of (fixes_any m) path.turns))
     (lower : m < length path.instance.messages → TellsEach (λ uses k. k < m → TellsAside path given uses m k)
-        (messages_of path.instance (source_of path.instance m)) uses) where
+    (messages_of path.instance (source_of path.instance m)) uses) where
   aside_of : m < length path.instance.messages → (k : ℕ) → k < m → source_of path.instance k ≡ source_of path.instance m → TellsAside path given uses m k
   aside_of there k below one_node =
       let picks : is_message_of path.instance (source_of path.instance m) k ≡ true = eq-eqb (source_of path.instance k) (source_of path.instance m) one_node in
       told_of (λ uses k. k < m → TellsAside path given uses m k) (is_message_of path.instance (source_of path.instance m))
-          (length path.instance.messages) uses k (lower there) (omega (arith, below, there)) picks below
+      (length path.instance.messages) uses k (lower there) (omega (arith, below, there)) picks below
 
   pub mirror_read : IsStepRead path given uses (XMirror m)
   mirror_read = record {

@@ -27,16 +27,16 @@ marked_none levels =
 
 -- and of one more its own
 pub marked_more : (placed : List Placed) (one : Placed) (old new next : List Bool) → HaveMarked placed old new → next ≡ set new one.level true
-      → HaveMarked (placed ++ one ∷ []) old next
+    → HaveMarked (placed ++ one ∷ []) old next
 marked_more placed one old new next have is = record {
   as_wide = ap length is ∙ (length-set new one.level true ∙ have.as_wide);
   kept = λ level was. rw is (kept_in new one.level level (have.kept level was));
   marked = All-append (λ (p : Placed). p.level < length old → IsTrue (has_level next p.level)) placed (one ∷ [])
       (All-weaker (λ (p : Placed). p.level < length old → IsTrue (has_level new p.level)) (λ (p : Placed). p.level < length old → IsTrue
-          (has_level next p.level)) (λ p told there. rw is (kept_in new one.level p.level (told there))) placed have.marked)
+      (has_level next p.level)) (λ p told there. rw is (kept_in new one.level p.level (told there))) placed have.marked)
       (All-cons (λ (p : Placed). p.level < length old → IsTrue (has_level next p.level)) one []
-          (λ there. rw is (put_in new one.level (omega (arith, there, have.as_wide)))) (All-nil
-          (λ (p : Placed). p.level < length old → IsTrue (has_level next p.level))));
+      (λ there. rw is (put_in new one.level (omega (arith, there, have.as_wide)))) (All-nil
+      (λ (p : Placed). p.level < length old → IsTrue (has_level next p.level))));
 }
 
 -- no more are taken than there are

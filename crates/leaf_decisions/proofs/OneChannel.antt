@@ -41,15 +41,18 @@ module _ (i : Instance) (m : ℕ) (inside : m < length i.messages) where
       get_or-set_other c.channels n m (Some j) None (λ same. none_is_some k (sym is_open.free.free ∙ (ap (fixed_channel c) (sym same) ∙ fixed))) ∙ fixed
 
   none_more : (c : Choice) (turns : List Turn) (k : ℕ) (test : ℕ → Bool) → fixed_channel c m ≡ Some k → AreOpenDecisions i c (decisions_of turns)
-        → last_of (fixes_channel test m) turns ≡ None
+      → last_of (fixes_channel test m) turns ≡ None
   none_more c [] k test fixed are = refl
   none_more c (turn ∷ turns) k test fixed are =
-      rw (none_more (choice_after i c turn.decision) turns k test (stays_fixed c turn.decision k fixed are.0) are.1, not_again c turn.decision k test
-          fixed are.0) refl
+      rw (
+        none_more (choice_after i c turn.decision) turns k test (stays_fixed c turn.decision k fixed are.0) are.1,
+        not_again c turn.decision k test
+            fixed are.0,
+      ) refl
 
   -- one that fixes it has fixed it
   has_fixed : (c : Choice) (d : Decision) (test : ℕ → Bool) → length c.channels ≡ length i.messages → fixes_channel test m d ≡ true
-        → (fixes_any m d ≡ true) × (fixed_channel (choice_after i c d) m ≡ Some (channel_of d))
+      → (fixes_any m d ≡ true) × (fixed_channel (choice_after i c d) m ≡ Some (channel_of d))
   has_fixed c (Place n) test room picks = absurd (false≢true picks)
   has_fixed c (Cap n j) test room picks = absurd (false≢true picks)
   has_fixed c (Before p q) test room picks = absurd (false≢true picks)
@@ -60,10 +63,10 @@ module _ (i : Instance) (m : ℕ) (inside : m < length i.messages) where
       (rw (eq-eqb n m same) refl, rw same (get_or-set_same c.channels m (Some j) None (omega (arith, inside, room))))
 
   only_at : (c : Choice) (turn : Turn) (turns : List Turn) (test : ℕ → Bool) (one : Turn) (last : Option Turn) (picked : Bool)
-        → length c.channels ≡ length i.messages → AreOpenDecisions i (choice_after i c turn.decision) (decisions_of turns)
+      → length c.channels ≡ length i.messages → AreOpenDecisions i (choice_after i c turn.decision) (decisions_of turns)
       → (◌≡◌ {A = Option Turn} last (Some one) → last_of (fixes_any m) turns ≡ Some one)
       → fixes_channel test m turn.decision ≡ picked → later_of picked turn last ≡ Some one → later_of (fixes_any m turn.decision) turn
-          (last_of (fixes_any m) turns) ≡ Some one
+      (last_of (fixes_any m) turns) ≡ Some one
   only_at c turn turns test one None true room are rest picks is =
       let fixed = has_fixed c turn.decision test room picks in
       let none : last_of (fixes_any m) turns ≡ None = none_more (choice_after i c turn.decision) turns (channel_of turn.decision) (λ k. true) fixed.1 are in
@@ -72,7 +75,7 @@ module _ (i : Instance) (m : ℕ) (inside : m < length i.messages) where
   only_at c turn turns test one (Some last) picked room are rest picks is = rw (rest is) refl
 
   only_one : (c : Choice) (turns : List Turn) (test : ℕ → Bool) (one : Turn) → length c.channels ≡ length i.messages
-        → AreOpenDecisions i c (decisions_of turns) → last_of (fixes_channel test m) turns ≡ Some one → last_of (fixes_any m) turns ≡ Some one
+      → AreOpenDecisions i c (decisions_of turns) → last_of (fixes_channel test m) turns ≡ Some one → last_of (fixes_any m) turns ≡ Some one
   only_one c [] test one room are is = absurd (none_is_some one is)
   only_one c (turn ∷ turns) test one room are is =
       only_at c turn turns test one (last_of (fixes_channel test m) turns) (fixes_channel test m turn.decision) room are.1
@@ -100,13 +103,13 @@ module _ (i : Instance) (m : ℕ) (inside : m < length i.messages) where
     picks_tested (Channel n j) picks = (and_parts (n == m) (test j) picks).1
 
     told_none : (last any : Option Turn) → last_of (fixes_channel test m) turns ≡ last → last_of (fixes_any m) turns ≡ any
-          → fixes_so test any ≡ false → IsTold levels last
+        → fixes_so test any ≡ false → IsTold levels last
     told_none None any is fixes fails = tt
     told_none (Some one) None is fixes fails = absurd (none_is_some one (sym fixes ∙ one_of_root one is))
     told_none (Some one) (Some turn) is fixes fails =
         let same : turn ≡ one = some_same turn one (sym fixes ∙ one_of_root one is) in
         absurd (both_ways _ (subst (λ (x : Turn). test (channel_of x.decision) ≡ false) same fails)
-            (picks_tested one.decision (is_last (fixes_channel test m) turns one is).picked))
+        (picks_tested one.decision (is_last (fixes_channel test m) turns one is).picked))
 
     -- where it fixes one that doesn't pass, or there is none, nothing is to be told
     pub told_no_channel : fixes_so test (last_of (fixes_any m) turns) ≡ false → IsTold levels (last_of (fixes_channel test m) turns)

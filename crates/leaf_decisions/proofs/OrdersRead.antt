@@ -20,7 +20,7 @@ pub rival_stays : (path : Path) (given : Given) (p : ℕ) → Stays (λ uses x. 
 rival_stays path given p = λ old new x more told row column never. fact_more path old new more given (Order p x) (told row column never)
 
 pub rivals_stay : (path : Path) (given : Given) (p : ℕ) (list : List ℕ) (old new : Uses) → IsMore old new
-      → TellsEach (λ uses x. TellsRival path given uses p x) list old → TellsEach (λ uses x. TellsRival path given uses p x) list new
+    → TellsEach (λ uses x. TellsRival path given uses p x) list old → TellsEach (λ uses x. TellsRival path given uses p x) list new
 rivals_stay path given p list old new more told = λ k inside. rival_stays path given p old new (slice_index list k) more (told k inside)
 
 pub arrival_stays : (path : Path) (given : Given) → Stays (λ uses m. TellsArrival path given uses m)
@@ -41,7 +41,7 @@ settled_read path given uses p rivals arrivals = record {
         let x = some.0 in
         let picks : is_on path.instance (node_of path.instance p) x ≡ true = eq-eqb (node_of path.instance x) (node_of path.instance p) some.2.0.one_node in
         let told = told_of (λ uses x. TellsRival path given uses p x) (is_on path.instance (node_of path.instance p))
-            (length path.instance.processes) uses x (rivals there) some.1 picks in
+        (length path.instance.processes) uses x (rivals there) some.1 picks in
         elim some.2.1 [
           | inl is ↦ subst (TellsFact path given uses) (sym is) (told there some.1 some.2.0.no_link)
           | inr ends ↦ subst (TellsFact path given uses) (sym ends.1) tt
@@ -54,7 +54,7 @@ settled_read path given uses p rivals arrivals = record {
     arrival_of : (m : ℕ) → IsSentTo path.instance p m → TellsArrival path given uses m
     arrival_of m sent =
         told_of (λ uses m. TellsArrival path given uses m) (is_received_by path.instance p) (length path.instance.messages) uses m arrivals sent.0
-            (among_received path.instance p m sent.0 sent)
+        (among_received path.instance p m sent.0 sent)
 
 pub ring_read : (path : Path) (given : Given) (uses : Uses) (ring : List ℕ) → TellsRing path given uses ring → IsStepRead path given uses (XCycle ring)
 ring_read path given uses ring told = record {
@@ -65,7 +65,7 @@ ring_read path given uses ring told = record {
             let first = is_process next.0 (omega (arith, next.1)) in
             let second = is_process (next.0 + 1) next.1 in
             subst (TellsFact path given uses) (sym reads.order) (rw (next.2, next.3) at
-                (told.next next.0 next.1 first second (rw (next.2, next.3) reads.no_lead)))
+            (told.next next.0 next.1 first second (rw (next.2, next.3) reads.no_lead)))
         | inr around ↦
             let last = is_process (length ring - 1) (omega (arith, there.0)) in
             let first = is_process 0 (omega (arith, there.0)) in

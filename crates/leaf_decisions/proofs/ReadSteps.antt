@@ -15,7 +15,7 @@ behind_push before [] step = refl
 behind_push before (one ∷ steps) step = behind_push (one ∷ before) steps step
 
 told_push : (path : Path) (uses : Uses) (before steps : List Step) (step : Step) → AreStepsTold path uses before steps
-      → IsStepTold path uses (behind before steps) step → AreStepsTold path uses before (steps ++ step ∷ [])
+    → IsStepTold path uses (behind before steps) step → AreStepsTold path uses before (steps ++ step ∷ [])
 told_push path uses before [] step told last = (last, tt)
 told_push path uses before (one ∷ steps) step told last = (told.0, told_push path uses (one ∷ before) steps step told.1 last)
 
@@ -27,7 +27,7 @@ pub record AreRead (path : Path) (old : Uses) (none given : Given) (uses : Uses)
   pub told : IsReadOf path old → IsGivenBy path.instance none [] → AreStepsTold path uses [] steps
 
 pub read_more_steps : (path : Path) (old : Uses) (none given next : Given) (uses new : Uses) (steps : List Step) (step : Step)
-      → AreRead path old none given uses steps
+    → AreRead path old none given uses steps
     → IsMore uses new → (IsReadOf path uses → IsStepRead path given new step)
     → ((i : Instance) → HasFlags i given → HasFlags i next)
     → (IsGivenBy path.instance given (behind [] steps) → IsGivenBy path.instance next (step ∷ behind [] steps))
@@ -40,7 +40,7 @@ read_more_steps path old none given next uses new steps step are more read flags
       let here : IsReadOf path uses = read_more path old uses are.more roomy in
       let wide : IsReadOf path new = read_more path uses new more here in
       told_push path new [] steps step (steps_more path uses new more [] steps (are.told roomy nothing))
-          (step_told path given new (behind [] steps) wide (are.so nothing) step (read here));
+      (step_told path given new (behind [] steps) wide (are.so nothing) step (read here));
 }
 
 pub read_first : (path : Path) (old : Uses) (none : Given) → AreRead path old none none old []

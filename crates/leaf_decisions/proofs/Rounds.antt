@@ -90,17 +90,20 @@ module _ (path : Path) (given : Given) (f : Known) (known : AreRoundsKnown path 
 
   late_is : IsFalse (gives_greatest given m) → top_of f m ≡ round_said (path.instance.cluster.horizon - 1) (last_of (sets_greatest m) path.turns) + 1
   late_is never =
-      elim (known.greatest m there) [ inl is ↦ absurd (both_ways _ never is) | inr same ↦ same ∙ ap (λ r. r + 1)
-          (said_greatest path.instance path.turns m there) ]
+      elim (known.greatest m there) [
+        | inl is ↦ absurd (both_ways _ never is)
+        | inr same ↦ same ∙ ap (λ r. r + 1)
+            (said_greatest path.instance path.turns m there)
+      ]
 
   -- a message that no branch and no step bounds counts where the horizon does
   within_at : (b : ℕ) (last : Option Turn) → round_said (path.instance.cluster.horizon - 1) last + 1 ≤ b → is_below b last ≡ false
-        → path.instance.cluster.horizon ≤ b
+      → path.instance.cluster.horizon ≤ b
   within_at b None until never = omega (arith, until)
   within_at b (Some turn) until never = absurd (false≢true (sym never ∙ lt-ltb (round_of turn.decision) b (omega (arith, until))))
 
   pub horizon_within : (b : ℕ) → top_of f m ≤ b → is_below b (last_of (sets_greatest m) path.turns) ≡ false → IsFalse (gives_greatest given m)
-        → nat_le path.instance.cluster.horizon b ≡ true
+      → nat_le path.instance.cluster.horizon b ≡ true
   horizon_within b until never no_step =
       le-leb path.instance.cluster.horizon b (within_at b (last_of (sets_greatest m) path.turns) (omega (arith, until, late_is no_step)) never)
 
@@ -124,7 +127,7 @@ module _ (path : Path) (given : Given) (f : Known) (known : AreRoundsKnown path 
   later_round r (Some turn) is = ltb-true r (round_of turn.decision) is
 
   pub later_is_known : (r : ℕ) → r < lo_of f m → IsTrue (gives_least given m) ⊎ IsFalse (is_behind r (last_of (sets_least m) path.turns))
-        → IsTrue (gives_least given m)
+      → IsTrue (gives_least given m)
   later_is_known r later some = elim (cases_Bool (gives_least given m)) [
     | inl is ↦ is
     | inr never ↦ elim some [
@@ -137,12 +140,12 @@ module _ (path : Path) (given : Given) (f : Known) (known : AreRoundsKnown path 
   is_not_earlier r never behind early = omega (arith, early, least_is never, later_round r (last_of (sets_least m) path.turns) behind)
 
   ends_at : (levels : List Bool) (r : ℕ) (last : Option Turn) → round_said (path.instance.cluster.horizon - 1) last + 1 ≤ r → is_below r last ≡ false
-        → IsTold levels last
+      → IsTold levels last
   ends_at levels r None until never = tt
   ends_at levels r (Some turn) until never = absurd (false≢true (sym never ∙ lt-ltb (round_of turn.decision) r (omega (arith, until))))
 
   pub earlier_is_known : (levels : List Bool) (r : ℕ) → top_of f m ≤ r → is_below r (last_of (sets_greatest m) path.turns) ≡ false
-        → IsTrue (gives_greatest given m) ⊎ IsTold levels (last_of (sets_greatest m) path.turns)
+      → IsTrue (gives_greatest given m) ⊎ IsTold levels (last_of (sets_greatest m) path.turns)
   earlier_is_known levels r early never = elim (cases_Bool (gives_greatest given m)) [
     | inl is ↦ inl is
     | inr no_step ↦ inr (ends_at levels r (last_of (sets_greatest m) path.turns) (omega (arith, early, late_is no_step)) never)

@@ -38,7 +38,7 @@ prefix_is : (path : Path) → (choice_of path).prefix ≡ order_of path
 prefix_is path =
     let keeps = keeps_all [] path.turns in
     subst (λ (ds : List Decision). (chosen path.instance ds).prefix ≡ order_of path) (decisions_are [] path.turns (keep_all path.turns) keeps)
-        (order_is path.instance [] path.turns (keep_all path.turns) keeps)
+    (order_is path.instance [] path.turns (keep_all path.turns) keeps)
 
 module _ (path : Path) (given : Given) (uses : Uses) where
   as_fact : (fact other : Fact) → fact ≡ other → TellsFact path given uses other → TellsFact path given uses fact
@@ -133,16 +133,19 @@ module _ (path : Path) (given : Given) (uses : Uses) where
     }
 
   pub round_read : (m : ℕ) → (m < length path.instance.messages → TellsFact path given uses (FirstRound m))
-        → (m < length path.instance.messages → TellsFact path given uses (LateRound m)) → IsStepRead path given uses (XRound m)
+      → (m < length path.instance.messages → TellsFact path given uses (LateRound m)) → IsStepRead path given uses (XRound m)
   round_read m first late = record {
     facts =
-        λ goal f known there fact reads. elim reads [ inl is ↦ as_fact fact (FirstRound m) is (first there) | inr is ↦ as_fact fact (LateRound m) is
-            (late there) ];
+        λ goal f known there fact reads. elim reads [
+          | inl is ↦ as_fact fact (FirstRound m) is (first there)
+          | inr is ↦ as_fact fact (LateRound m) is
+              (late there)
+        ];
     limits = λ goal f known there premise limit reads. absurd reads;
   }
 
   pub frame_read : (m : ℕ) → (m < length path.instance.messages → TellsLimit path uses (GreatestFrame (source_of path.instance m)))
-        → IsStepRead path given uses (XFrame m)
+      → IsStepRead path given uses (XFrame m)
   frame_read m capacity = record {
     facts = λ goal f known there fact reads. absurd reads;
     limits = λ goal f known there premise limit reads. as_limit limit (GreatestFrame (source_of path.instance m)) reads (capacity there);
@@ -155,11 +158,11 @@ module _ (path : Path) (given : Given) (uses : Uses) where
   ]
 
   pub silent_read : (u v : ℕ) → IfSome (position (λ (one : Placed). one.node == v) (placed_of path.turns)) (λ k. k < uses.places)
-        → IsStepRead path given uses (XSilent u v)
+      → IsStepRead path given uses (XSilent u v)
   silent_read u v told = record {
     facts = λ goal f known there fact reads. absurd reads;
     limits = λ goal f known there premise limit reads.
         let inside : place_of v (order_of path) < length (order_of path) = stands_inside (order_of path) v u
-            (subst (λ (xs : List ℕ). StandsFirst xs v u) (prefix_is path) premise.first) in
+        (subst (λ (xs : List ℕ). StandsFirst xs v u) (prefix_is path) premise.first) in
         as_limit limit (Place v) reads (inside, place_marked (placed_of path.turns) v uses.places told inside);
   }

@@ -21,14 +21,14 @@ channel_said before None = before
 channel_said before (Some turn) = Some (channel_of turn.decision)
 
 round_later : (picked : Bool) (turn : Turn) (before : ℕ) (last : Option Turn)
-      → round_said (if picked then round_of turn.decision else before) last ≡ round_said before (later_of picked turn last)
+    → round_said (if picked then round_of turn.decision else before) last ≡ round_said before (later_of picked turn last)
 round_later true turn before None = refl
 round_later false turn before None = refl
 round_later true turn before (Some one) = refl
 round_later false turn before (Some one) = refl
 
 channel_later : (picked : Bool) (turn : Turn) (before : Option ℕ) (last : Option Turn)
-      → channel_said (if picked then Some (channel_of turn.decision) else before) last ≡ channel_said before (later_of picked turn last)
+    → channel_said (if picked then Some (channel_of turn.decision) else before) last ≡ channel_said before (later_of picked turn last)
 channel_later true turn before None = refl
 channel_later false turn before None = refl
 channel_later true turn before (Some one) = refl
@@ -42,7 +42,7 @@ set_round xs n m r there = elim (cases_eq n m) [
 ]
 
 set_channel : (xs : List (Option ℕ)) (n m k : ℕ) (test : Bool) → test ≡ true → m < length xs
-      → ◌≡◌ {A = Option ℕ} (get_or (slice_set xs n (Some k)) m None) (if (n == m) && test then Some k else get_or xs m None)
+    → ◌≡◌ {A = Option ℕ} (get_or (slice_set xs n (Some k)) m None) (if (n == m) && test then Some k else get_or xs m None)
 set_channel xs n m k test is there = elim (cases_eq n m) [
   | inl same ↦ rw (same, eq-eqb m m refl, is) (get_or-set_same xs m (Some k) None there)
   | inr other ↦ rw (ne_eqb n m other) (get_or-set_other xs n m (Some k) None (λ is. other (sym is)))
@@ -58,7 +58,7 @@ module _ (i : Instance) where
   least_room c (Channel m k) = refl
 
   least_one : (c : Choice) (d : Decision) (m : ℕ) → m < length c.lo
-        → least_round (choice_after i c d) m ≡ (if sets_least m d then round_of d else least_round c m)
+      → least_round (choice_after i c d) m ≡ (if sets_least m d then round_of d else least_round c m)
   least_one c (Place n) m there = refl
   least_one c (Cap n k) m there = refl
   least_one c (Before p q) m there = refl
@@ -67,7 +67,7 @@ module _ (i : Instance) where
   least_one c (Channel n k) m there = refl
 
   least_from : (c : Choice) (turns : List Turn) (m : ℕ) → m < length c.lo
-        → least_round (choice_after_all i c (decisions_of turns)) m ≡ round_said (least_round c m) (last_of (sets_least m) turns)
+      → least_round (choice_after_all i c (decisions_of turns)) m ≡ round_said (least_round c m) (last_of (sets_least m) turns)
   least_from c [] m there = refl
   least_from c (turn ∷ turns) m there =
       least_from (choice_after i c turn.decision) turns m (omega (arith, there, least_room c turn.decision))
@@ -83,7 +83,7 @@ module _ (i : Instance) where
   greatest_room c (Channel m k) = refl
 
   greatest_one : (c : Choice) (d : Decision) (m : ℕ) → m < length c.hi
-        → greatest_round (choice_after i c d) m ≡ (if sets_greatest m d then round_of d else greatest_round c m)
+      → greatest_round (choice_after i c d) m ≡ (if sets_greatest m d then round_of d else greatest_round c m)
   greatest_one c (Place n) m there = refl
   greatest_one c (Cap n k) m there = refl
   greatest_one c (Before p q) m there = refl
@@ -92,7 +92,7 @@ module _ (i : Instance) where
   greatest_one c (Channel n k) m there = refl
 
   greatest_from : (c : Choice) (turns : List Turn) (m : ℕ) → m < length c.hi
-        → greatest_round (choice_after_all i c (decisions_of turns)) m ≡ round_said (greatest_round c m) (last_of (sets_greatest m) turns)
+      → greatest_round (choice_after_all i c (decisions_of turns)) m ≡ round_said (greatest_round c m) (last_of (sets_greatest m) turns)
   greatest_from c [] m there = refl
   greatest_from c (turn ∷ turns) m there =
       greatest_from (choice_after i c turn.decision) turns m (omega (arith, there, greatest_room c turn.decision))
@@ -108,7 +108,7 @@ module _ (i : Instance) where
   channels_room c (Channel m k) = length-set c.channels m (Some k)
 
   channel_one : (c : Choice) (d : Decision) (m : ℕ) → m < length c.channels
-        → fixed_channel (choice_after i c d) m ≡ (if fixes_any m d then Some (channel_of d) else fixed_channel c m)
+      → fixed_channel (choice_after i c d) m ≡ (if fixes_any m d then Some (channel_of d) else fixed_channel c m)
   channel_one c (Place n) m there = refl
   channel_one c (Cap n k) m there = refl
   channel_one c (Before p q) m there = refl
@@ -117,7 +117,7 @@ module _ (i : Instance) where
   channel_one c (Channel n k) m there = set_channel c.channels n m k true refl there
 
   channel_from : (c : Choice) (turns : List Turn) (m : ℕ) → m < length c.channels
-        → fixed_channel (choice_after_all i c (decisions_of turns)) m ≡ channel_said (fixed_channel c m) (last_of (fixes_any m) turns)
+      → fixed_channel (choice_after_all i c (decisions_of turns)) m ≡ channel_said (fixed_channel c m) (last_of (fixes_any m) turns)
   channel_from c [] m there = refl
   channel_from c (turn ∷ turns) m there =
       channel_from (choice_after i c turn.decision) turns m (omega (arith, there, channels_room c turn.decision))
@@ -129,20 +129,20 @@ module _ (i : Instance) where
 
   -- the least and the greatest round that a path says, and the channel
   pub said_least : (turns : List Turn) (m : ℕ) → m < length i.messages
-        → least_round (chosen i (decisions_of turns)) m ≡ round_said 0 (last_of (sets_least m) turns)
+      → least_round (chosen i (decisions_of turns)) m ≡ round_said 0 (last_of (sets_least m) turns)
   said_least turns m there =
       least_from (root_choice i) turns m (omega (arith, there, length-replicate {A = ℕ} (length i.messages) 0))
       ∙ ap (λ (r : ℕ). round_said r (last_of (sets_least m) turns)) (get_or-replicate {A = ℕ} (length i.messages) m 0 0 there)
 
   pub said_greatest : (turns : List Turn) (m : ℕ) → m < length i.messages
-        → greatest_round (chosen i (decisions_of turns)) m ≡ round_said (i.cluster.horizon - 1) (last_of (sets_greatest m) turns)
+      → greatest_round (chosen i (decisions_of turns)) m ≡ round_said (i.cluster.horizon - 1) (last_of (sets_greatest m) turns)
   said_greatest turns m there =
       greatest_from (root_choice i) turns m (omega (arith, there, length-replicate {A = ℕ} (length i.messages) (i.cluster.horizon - 1)))
       ∙ ap (λ (r : ℕ). round_said r (last_of (sets_greatest m) turns)) (get_or-replicate {A = ℕ} (length i.messages) m (i.cluster.horizon - 1) 0 there)
 
   pub said_channel : (turns : List Turn) (m : ℕ) → m < length i.messages
-        → fixed_channel (chosen i (decisions_of turns)) m ≡ channel_said (root_channel i m) (last_of (fixes_any m) turns)
+      → fixed_channel (chosen i (decisions_of turns)) m ≡ channel_said (root_channel i m) (last_of (fixes_any m) turns)
   said_channel turns m there =
       channel_from (root_choice i) turns m (omega (arith, there, root_channels_room))
       ∙ ap (λ (k : Option ℕ). channel_said k (last_of (fixes_any m) turns)) (get_or-map-range_with_len (root_channel i) 0 (length i.messages) m m
-          None there (omega arith))
+      None there (omega arith))

@@ -46,21 +46,21 @@ within_is i f n a b m is =
     (parts.0, record { from = leb-true a (lo_of f m) rounds.0; before = leb-true (top_of f m) b rounds.1 })
 
 bounds_told : (path : Path) (given : Given) (uses : Uses) (a m : ℕ) (fact : Fact) → TellsSending path given uses a m → BoundsSending a m fact
-      → TellsFact path given uses fact
+    → TellsFact path given uses fact
 bounds_told path given uses a m fact told bounds = elim bounds [
   | inl late ↦ subst (TellsFact path given uses) (sym late) told.late
   | inr first ↦ subst (TellsFact path given uses) (sym first.1) (told.first first.0)
 ]
 
 pub frames_read : (path : Path) (given : Given) (uses : Uses) (n a b : ℕ)
-      → (n < length path.instance.nodes → IsTold uses.levels (last_of (fixes_below path.instance n) path.turns))
+    → (n < length path.instance.nodes → IsTold uses.levels (last_of (fixes_below path.instance n) path.turns))
     → TellsEach (λ uses m. TellsFrame path given uses a b m) (messages_of path.instance n) uses → IsStepRead path given uses (XFrames n a b)
 frames_read path given uses n a b node each = record {
   facts = λ goal f known there fact reads.
       let m = reads.0 in
       let within = within_is path.instance f n a b m reads.2.0 in
       let frame = told_of (λ uses m. TellsFrame path given uses a b m) (is_message_of path.instance n) (length path.instance.messages) uses m each
-          reads.1 within.0 in
+      reads.1 within.0 in
       bounds_told path given uses a m fact (frame.sending f known within.1) reads.2.1;
   limits = λ goal f known there premise limit reads. elim reads [
     | inl is ↦ rw is (node there)
@@ -68,22 +68,22 @@ frames_read path given uses n a b node each = record {
         let m = some.0 in
         let within = within_is path.instance f n a b m some.2 in
         let frame = told_of (λ uses m. TellsFrame path given uses a b m) (is_message_of path.instance n) (length path.instance.messages) uses m each
-            some.1 within.0 in
+        some.1 within.0 in
         rw some.3 (frame.twice f known within.1)
   ];
 }
 
 pub halves_read : (path : Path) (given : Given) (uses : Uses) (k n a b : ℕ)
-      → (n < length path.instance.nodes → IsTold uses.levels (last_of (fixes_below path.instance n) path.turns))
+    → (n < length path.instance.nodes → IsTold uses.levels (last_of (fixes_below path.instance n) path.turns))
     → (2 ≤ path.instance.cluster.channels → TellsEach (λ uses m. TellsHalf path given uses k a b m) (messages_of path.instance n) uses) → IsStepRead
-        path given uses (XChannel k n a b)
+    path given uses (XChannel k n a b)
 halves_read path given uses k n a b node each = record {
   facts = λ goal f known there fact reads.
       let m = reads.0 in
       let counts = and_parts (counts_on (choice_of path) k m) (sent_within path.instance f n a b m) reads.2.0 in
       let within = within_is path.instance f n a b m counts.1 in
       let half = told_of (λ uses m. TellsHalf path given uses k a b m) (is_message_of path.instance n) (length path.instance.messages) uses m
-          (each there.1.0) reads.1 within.0 in
+      (each there.1.0) reads.1 within.0 in
       bounds_told path given uses a m fact (half.sending f known counts.0 within.1) reads.2.1;
   limits = λ goal f known there premise limit reads. elim reads [
     | inl is ↦ rw is (node there.0)
@@ -92,7 +92,7 @@ halves_read path given uses k n a b node each = record {
         let counts = and_parts (counts_on (choice_of path) k m) (sent_within path.instance f n a b m) some.2 in
         let within = within_is path.instance f n a b m counts.1 in
         let half = told_of (λ uses m. TellsHalf path given uses k a b m) (is_message_of path.instance n) (length path.instance.messages) uses m
-            (each there.1.0) some.1 within.0 in
+        (each there.1.0) some.1 within.0 in
         rw some.3 (half.counted f known counts.0 within.1)
   ];
 }

@@ -44,7 +44,7 @@ used_is_kept path old new levels ms leaf w are room keeps told marked closes =
     let closed : ClosesSharply i (choice_of path) leaf = subst (λ (ds : List Decision). ClosesSharply i (chosen i ds) leaf) same closes in
     subst (λ (ds : List Decision). UseKept i ms leaf.goal (first_facts i (chosen i ds)) [] leaf.steps) (sym same)
     (use_kept path new levels ms marked keeps leaf.goal [] (first_facts i (choice_of path)) leaf.steps closed.0 w
-        (first_facts_fit i (choice_of path) ok) (behind_none path) closed.1 (told read))
+    (first_facts_fit i (choice_of path) ok) (behind_none path) closed.1 (told read))
 
 -- the same of an instance that is the path's
 pub used_is_kept_of : (i : Instance) (path : Path) (old new : Uses) (levels : List Bool) (ms : List Marked) (leaf : Leaf) → path.instance ≡ i → IsInstance i
@@ -54,13 +54,13 @@ pub used_is_kept_of : (i : Instance) (path : Path) (old new : Uses) (levels : Li
     → UseKept i ms leaf.goal (first_facts i (chosen i (all_of ms))) [] leaf.steps
 used_is_kept_of i path old new levels ms leaf same w are room keeps told marked closes =
     let of_path = subst (λ (j : Instance). IsInstance j → AreOpenDecisions j (root_choice j) (all_of ms) → ClosesSharply j (chosen j (all_of ms))
-        leaf → UseKept j ms leaf.goal (first_facts j (chosen j (all_of ms))) [] leaf.steps) same
+    leaf → UseKept j ms leaf.goal (first_facts j (chosen j (all_of ms))) [] leaf.steps) same
     (λ w are closes. used_is_kept path old new levels ms leaf w are room keeps told marked closes) in
     of_path w are closes
 
 -- no flag is up in front of a leaf
 pub begun : (i : Instance) (old new : Given) → new.processes ≡ old.processes → new.least ≡ replicate (length old.least) false
-      → new.greatest ≡ replicate (length old.greatest) false
+    → new.greatest ≡ replicate (length old.greatest) false
     → new.before ≡ replicate (length old.before) false → HasFlags i old → HasFlags i new × IsGivenBy i new []
 begun i old new processes least greatest before has =
     let flags = flags_still i old new processes

@@ -27,7 +27,7 @@ module _ (i : Instance) (w : IsInstance i) where
       let ranges = w.ranges AtCluster in
       let small : slice_index (node_at i n).capacities 0 ≤ MOST_BYTES = list.small 0 0 (omega (arith, list.some)) in
       let bytes = mul-le-mul {n₁ = i.cluster.per_byte} {m₁ = slice_index (node_at i n).capacities 0} {n₂ = MOST_PER_BYTE} {m₂ = MOST_BYTES}
-          ranges.per_byte small in
+      ranges.per_byte small in
       omega (arith, bytes, ranges.lead, ranges.head, ranges.trail)
 
   pub transfer_small : (n : ℕ) → n < length i.nodes → least_transfer i n ≤ most_transfer
@@ -50,7 +50,7 @@ module _ (i : Instance) (w : IsInstance i) where
 
   -- Times that rise along links and messages.
   pub ends_raised : (ends : List ℕ) (q time : ℕ) → q < length i.processes → ChainEnds i q time → AreChainEnds i ends
-        → AreChainEnds i (slice_set ends q (max (slice_index ends q) time))
+      → AreChainEnds i (slice_set ends q (max (slice_index ends q) time))
   ends_raised ends q time inside chain are = record {
     all = length-set _ _ _ ∙ are.all;
     reached = λ p h. elim (cases_eq p q) [
@@ -76,7 +76,7 @@ module _ (i : Instance) (w : IsInstance i) where
   raised_reach ends q time inside = omega (arith, get_or-set_same ends q (max (slice_index ends q) time) 0 inside)
 
   pub ends_first : (ends : List ℕ) → length ends ≡ length i.processes
-        → ((p : ℕ) → p < length i.processes → slice_index ends p ≡ (process_at i p).release + (process_at i p).wcet) → AreEnds i 1 ends
+      → ((p : ℕ) → p < length i.processes → slice_index ends p ≡ (process_at i p).release + (process_at i p).wcet) → AreEnds i 1 ends
   ends_first ends all each = record {
     chains = record { all = all; reached = λ p h. rw (each p h) (one p h) };
     greatest = at_most;
@@ -88,10 +88,10 @@ module _ (i : Instance) (w : IsInstance i) where
       at_most _ _ _ le (on_message n p q time chain message) = absurd (omega (arith, le, chain_some i n p time chain))
 
   pub ends_next : (count : ℕ) (ends between new : List ℕ) → 1 ≤ count → AreEnds i count ends → AreChainEnds i new → AreKept ends between
-        → ((p q : ℕ) → HasLink i p q → slice_index ends p + (process_at i q).wcet ≤ slice_index between q) → AreKept between new
-        → ((m q : ℕ) → m < length i.messages → Contains (message_at i m).receivers q
-        → slice_index between (message_at i m).sender + least_transfer i (node_of i (message_at i m).sender) + (process_at i q).wcet ≤ slice_index new q)
-        → AreEnds i (count + 1) new
+      → ((p q : ℕ) → HasLink i p q → slice_index ends p + (process_at i q).wcet ≤ slice_index between q) → AreKept between new
+      → ((m q : ℕ) → m < length i.messages → Contains (message_at i m).receivers q
+      → slice_index between (message_at i m).sender + least_transfer i (node_of i (message_at i m).sender) + (process_at i q).wcet ≤ slice_index new q)
+      → AreEnds i (count + 1) new
   ends_next count ends between new some are chains kept links later messages = record { chains = chains; greatest = at_most }
     where
       at_most : (n p time : ℕ) → n ≤ count + 1 → Chain i n p time → time ≤ slice_index new p
@@ -99,7 +99,7 @@ module _ (i : Instance) (w : IsInstance i) where
       at_most _ _ _ le (on_link n p q time chain link) = omega (arith, are.greatest n p time (omega (arith, le)) chain, links p q link, later q)
       at_most _ _ _ le (on_message n p q time chain message) =
           let sent : slice_index between p + least_transfer i (node_of i p) + (process_at i q).wcet ≤ slice_index new q = rw (← message.sender)
-              (messages message.message q message.is_there message.receiver) in
+          (messages message.message q message.is_there message.receiver) in
           omega (arith, are.greatest n p time (omega (arith, le)) chain, kept p, sent)
 
   pub longest_found : (ends : List ℕ) (count : ℕ) → length i.processes ≤ count → AreEnds i count ends → AreLongest i ends
@@ -125,7 +125,7 @@ module _ (i : Instance) (w : IsInstance i) where
 
   -- a time that is read
   pub end_small : (ends : List ℕ) (p end : ℕ) → AreChainEnds i ends → p < length i.processes → end ≡ get_or ends p end
-        → (end < 2 ^ 32) × (end ≡ slice_index ends p)
+      → (end < 2 ^ 32) × (end ≡ slice_index ends p)
   end_small ends p end are inside is =
       let same : end ≡ slice_index ends p = is ∙ get_or_default_zero ends p end (omega (arith, inside, are.all)) in
       (omega (arith, same, chain_small p (slice_index ends p) (are.reached p inside)), same)
@@ -135,12 +135,12 @@ module _ (i : Instance) (w : IsInstance i) where
 
   -- one more link is followed
   pub link_followed : (begun ends new : List ℕ) (l : ℕ) (link : Link) (end wcet : ℕ) → l < length i.links → link ≡ link_at i l → AreChainEnds i ends
-        → AreKept begun ends
-        → ((k : ℕ) → k < l → slice_index begun (link_at i k).before + (process_at i (link_at i k).after).wcet ≤ slice_index ends (link_at i k).after)
-        → end ≡ slice_index ends link.before → wcet ≡ (process_at i link.after).wcet
-        → new ≡ slice_set ends link.after (max (slice_index ends link.after) (end + wcet))
-        → AreChainEnds i new × AreKept begun new × ((k : ℕ) → k < l + 1
-        → slice_index begun (link_at i k).before + (process_at i (link_at i k).after).wcet ≤ slice_index new (link_at i k).after)
+      → AreKept begun ends
+      → ((k : ℕ) → k < l → slice_index begun (link_at i k).before + (process_at i (link_at i k).after).wcet ≤ slice_index ends (link_at i k).after)
+      → end ≡ slice_index ends link.before → wcet ≡ (process_at i link.after).wcet
+      → new ≡ slice_set ends link.after (max (slice_index ends link.after) (end + wcet))
+      → AreChainEnds i new × AreKept begun new × ((k : ℕ) → k < l + 1
+      → slice_index begun (link_at i k).before + (process_at i (link_at i k).after).wcet ≤ slice_index new (link_at i k).after)
   link_followed begun ends new l link end wcet inside is are kept reach read long made =
       let before = ap (λ (x : Link). x.before) (sym is) in
       let after = ap (λ (x : Link). x.after) (sym is) in
@@ -149,7 +149,7 @@ module _ (i : Instance) (w : IsInstance i) where
       let after_in : link.after < length i.processes = rw is (link_ends_inside l inside).1 in
       let there : link.after < length ends = omega (arith, after_in, are.all) in
       let chain : ChainEnds i link.after (end + wcet) = rw (read, long)
-          (by_link link.before link.after (slice_index ends link.before) (are.reached link.before before_in) has) in
+      (by_link link.before link.after (slice_index ends link.before) (are.reached link.before before_in) has) in
       let reached = raised_reach ends link.after (end + wcet) there in
       rw made (
         ends_raised ends link.after (end + wcet) after_in chain are,
@@ -165,14 +165,14 @@ module _ (i : Instance) (w : IsInstance i) where
 
   -- one more receiver is followed
   pub receiver_followed : (begun ends new : List ℕ) (m k start arrival wcet : ℕ) → m < length i.messages → k < length (message_at i m).receivers
-        → ChainEnds i (message_at i m).sender start → arrival ≡ start + least_transfer i (node_of i (message_at i m).sender) → AreChainEnds i ends
-        → AreKept begun ends → ((j : ℕ) → j < k
-        → arrival + (process_at i (slice_index (message_at i m).receivers j)).wcet ≤ slice_index ends (slice_index (message_at i m).receivers j))
-        → wcet ≡ (process_at i (slice_index (message_at i m).receivers k)).wcet
-        → new ≡ slice_set ends (slice_index (message_at i m).receivers k)
-        (max (slice_index ends (slice_index (message_at i m).receivers k)) (arrival + wcet))
-        → AreChainEnds i new × AreKept begun new × ((j : ℕ) → j < k + 1
-        → arrival + (process_at i (slice_index (message_at i m).receivers j)).wcet ≤ slice_index new (slice_index (message_at i m).receivers j))
+      → ChainEnds i (message_at i m).sender start → arrival ≡ start + least_transfer i (node_of i (message_at i m).sender) → AreChainEnds i ends
+      → AreKept begun ends → ((j : ℕ) → j < k
+      → arrival + (process_at i (slice_index (message_at i m).receivers j)).wcet ≤ slice_index ends (slice_index (message_at i m).receivers j))
+      → wcet ≡ (process_at i (slice_index (message_at i m).receivers k)).wcet
+      → new ≡ slice_set ends (slice_index (message_at i m).receivers k)
+      (max (slice_index ends (slice_index (message_at i m).receivers k)) (arrival + wcet))
+      → AreChainEnds i new × AreKept begun new × ((j : ℕ) → j < k + 1
+      → arrival + (process_at i (slice_index (message_at i m).receivers j)).wcet ≤ slice_index new (slice_index (message_at i m).receivers j))
   receiver_followed begun ends new m k start arrival wcet inside place begins is are kept reach long made =
       let q = slice_index (message_at i m).receivers k in
       let receives = Contains-get_or (message_at i m).receivers k 0 place in
@@ -198,7 +198,7 @@ from_places P xs each q has =
 
 -- the greatest of numbers, with one more
 pub max_reached : (xs : List ℕ) (n best : ℕ) → n < length xs → ((k : ℕ) × (k < length xs) × (slice_index xs k ≡ best))
-      → (k : ℕ) × (k < length xs) × (slice_index xs k ≡ max best (slice_index xs n))
+    → (k : ℕ) × (k < length xs) × (slice_index xs k ≡ max best (slice_index xs n))
 max_reached xs n best inside old = elim (cases_eq (max best (slice_index xs n)) best) [
   | inl same ↦ (old.0, old.1, old.2 ∙ sym same)
   | inr other ↦ (n, inside, (let e : slice_index xs n ≡ max best (slice_index xs n) = omega (arith, other) in e))

@@ -67,7 +67,7 @@ unfolding position_slots
 position-has c i plan r k channel there = numbered (slot_at c i plan Nothing r k) i.cluster.channels channel there
 
 round-has : (c : Canvas) (i : Instance) (plan : Plan) (r k : ℕ) → k < length i.nodes
-      → IsPartOf (position_slots c i plan Nothing r k) (round_slots c i plan Nothing r)
+    → IsPartOf (position_slots c i plan Nothing r k) (round_slots c i plan Nothing r)
 unfolding round_slots
 round-has c i plan r k inside = numbered (position_slots c i plan Nothing r) (length i.nodes) k inside
 
@@ -136,7 +136,7 @@ process-drawn i plan width shown p inside =
     spelled box (process_box i plan p) whole (rectangle-written (process_rectangle i plan p)) rectangle
 
 slot-written : (i : Instance) (plan : Plan) (r k channel : ℕ)
-      → rectangle_text (slot_rectangle (slot_of i plan r k channel)) ≡ slot_box i plan (slice_index plan.order k) r channel
+    → rectangle_text (slot_rectangle (slot_of i plan r k channel)) ≡ slot_box i plan (slice_index plan.order k) r channel
 slot-written i plan r k channel =
     let n = slice_index plan.order k in
     let start = slot_start i.cluster plan.order plan.caps n r in

@@ -30,6 +30,6 @@ module _ (bytes : List ℕ) (table : Members) (fault : TextError) (document : Is
   told_fault e told other = same_fault e told
 
   pub first_fault : (result : Result Instance TextError) → IfOk result (λ i. States bytes (Ok i)) → IfErr result (IsFirstTextFault bytes)
-        → IsErrAnd result (λ e. e ≢ OutOfMemory → e ≡ fault)
+      → IsErrAnd result (λ e. e ≢ OutOfMemory → e ≡ fault)
   first_fault (Ok i) ok err = absurd (no_instance_stated i ok)
   first_fault (Err e) ok err = told_fault e err

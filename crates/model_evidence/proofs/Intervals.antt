@@ -10,7 +10,7 @@ use Rattle.load_bounds.specs.Loads.{IsNodeLoad, IsLawfulNow}
 
 module _ (s : Facts) (n a b : ℕ) where
   pub not_just_full : (answer : Option Step) → IsNodeLoad s n answer
-        → b - a ≡ total (load_within s.instance s.known n a b) (length s.instance.processes) → answer ≢ Some (XLoad n a b)
+      → b - a ≡ total (load_within s.instance s.known n a b) (length s.instance.processes) → answer ≢ Some (XLoad n a b)
   not_just_full (Some step) says full same =
       let is = says.1.1.0 in
       let from : says.0 ≡ a = cc in
@@ -20,7 +20,7 @@ module _ (s : Facts) (n a b : ℕ) where
   not_just_full None says full same = cc
 
   pub too_short : (answer : Option Step) → IsNodeLoad s n answer → n < length s.instance.nodes → a ≤ b
-        → b - a < total (load_within s.instance s.known n a b) (length s.instance.processes) → IsSome answer
+      → b - a < total (load_within s.instance s.known n a b) (length s.instance.processes) → IsSome answer
   too_short (Some step) says there span load = refl
   too_short None says there span load = absurd (says a b (record {
     after = sharpened s.instance s.known NothingLeft;

@@ -28,7 +28,7 @@ All-flat_map-range P f (suc n) each =
     rw (← more) (All-append P (flat_map f (range_with_len 0 n)) (f n) before (each n (omega arith)))
 
 concerned : (i : Instance) (node m : ℕ) (sends receives : Bool) → (sends || receives) ≡ true → (sends ≡ true → source_of i m ≡ node)
-      → (receives ≡ true → Any (λ q. node_of i q ≡ node) (message_at i m).receivers) → Concerns i node m
+    → (receives ≡ true → Any (λ q. node_of i q ≡ node) (message_at i m).receivers) → Concerns i node m
 concerned i node m true receives shown sent received = inl (sent refl)
 concerned i node m false receives shown sent received = inr (received shown)
 
@@ -47,11 +47,11 @@ module _ (i : Instance) (plan : Plan) where
 
   -- what holds of the entries of each row holds of those of the node's table in the tables of the plan
   each_entry : (t : Medl) (node : ℕ) (P : Row → Entry → Type 0) → t ≡ medl_of i plan → node < length i.nodes
-        → ((r k : ℕ) → let row = row_of i plan node r k in All (P row) row.messages) → EachEntry t node P
+      → ((r k : ℕ) → let row = row_of i plan node r k in All (P row) row.messages) → EachEntry t node P
   each_entry t node P is inside each =
       rw (is, get_or-map-range_with_len (rows_of i plan) 0 (length i.nodes) node node [] inside (omega arith))
       (All-flat_map (λ (row : Row). All (P row) row.messages) (round_rows i plan node) _
-          (λ r. All-map-range (λ (row : Row). All (P row) row.messages) (row_of i plan node r) (length plan.order) (λ k _. each r k)))
+      (λ r. All-map-range (λ (row : Row). All (P row) row.messages) (row_of i plan node r) (length plan.order) (λ k _. each r k)))
 
   pub own_messages : (t : Medl) (node : ℕ) → t ≡ medl_of i plan → node < length i.nodes → EachEntry t node (λ row e. Concerns i node e.message)
   own_messages t node is inside = each_entry t node (λ row e. Concerns i node e.message) is inside (λ r k.

@@ -23,12 +23,12 @@ use Rattle.model_evidence.specs.Membership.{agrees}
 
 module _ {E : Type 0} (t : Medl) (losses : List Loss) where
   pub not_at_sender : (result : Result Trace E) (k : ℕ) → OnOk result (CanBeReplayed t losses) → k < length losses
-        → (slice_index_or losses k no_loss).receiver ≡ (row_at t 0 (slice_index_or losses k no_loss).slot).sender → IsErr result
+      → (slice_index_or losses k no_loss).receiver ≡ (row_at t 0 (slice_index_or losses k no_loss).slot).sender → IsErr result
   not_at_sender (Ok trace) k able inside same = absurd ((able.losses_of k inside).other same)
   not_at_sender (Err e) k able inside same = refl
 
   pub has_left : (result : Result Trace E) (slot : ℕ) → IfOk result (λ trace. trace ≡ replay_of t losses) → OnOk result (SenderLeaves t losses slot)
-        → slot + 3 ≡ slot_count t → IfOk result (λ trace. has_member (state_at trace.states (row_at t 0 slot).sender).vector (row_at t 0 slot).sender ≡ false)
+      → slot + 3 ≡ slot_count t → IfOk result (λ trace. has_member (state_at trace.states (row_at t 0 slot).sender).vector (row_at t 0 slot).sender ≡ false)
   has_left (Ok trace) slot is leaves last = rw (is, ← last) leaves.left
   has_left (Err e) slot is leaves last = tt
 
@@ -71,8 +71,8 @@ module _ (m i : ℕ) where
   second_false false b e = refl
 
   node_is_other : (row : Row) (losses : List Loss) (messages : List Entry) (states : List NodeState)
-        → is_same (state_at states row.sender).vector (next_state row losses states i).vector ≡ false → (j : ℕ)
-        → All IsOther (node_events row losses messages states j)
+      → is_same (state_at states row.sender).vector (next_state row losses states i).vector ≡ false → (j : ℕ)
+      → All IsOther (node_events row losses messages states j)
   unfolding node_events
   node_is_other row losses messages states differ j =
       told (is_told row states j) _ (All-append IsOther (step_events (step_at row losses states j) j row.sender (state_at states j).vector) _
@@ -80,14 +80,14 @@ module _ (m i : ℕ) where
       (taken (takes_messages row losses states j) j messages (λ same. rw same (second_false _ _ differ))))
 
   pub none_delivered : {E : Type 0} (t : Medl) (losses : List Loss) (result : Result Trace E) (slot : ℕ)
-        → IfOk result (λ trace. trace ≡ replay_of t losses) → slot < slot_count t → agrees t losses slot i ≡ false
-        → IfOk result (λ trace. ¬ Contains (slot_at trace slot).events (Deliver m i))
+      → IfOk result (λ trace. trace ≡ replay_of t losses) → slot < slot_count t → agrees t losses slot i ≡ false
+      → IfOk result (λ trace. ¬ Contains (slot_at trace slot).events (Deliver m i))
   unfolding slot_of
   none_delivered t losses (Ok trace) slot is inside differ =
       let row = row_at t 0 slot in
       let states = states_before t losses slot in
       let each = All-flat_map IsOther (λ j. node_events row losses (row_at t j slot).messages states j) (range_with_len 0 (length states))
-          (λ j. node_is_other row losses (row_at t j slot).messages states differ j) in
+      (λ j. node_is_other row losses (row_at t j slot).messages states differ j) in
       rw (is, get_or-map-range_with_len (slot_of t losses) 0 (slot_count t) slot slot no_slot inside (omega arith))
-          (λ there. All-contains IsOther _ (Deliver m i) each there refl)
+      (λ there. All-contains IsOther _ (Deliver m i) each there refl)
   none_delivered t losses (Err e) slot is inside differ = tt

@@ -38,7 +38,7 @@ known_keys true part fault x e = e
 known_keys false part fault x e = absurd cc
 
 first_item : {A B : Type 0} (read : ℕ → A → Stated B) (x : A) (xs : List A) (ys : List B) → each read 0 (x ∷ xs) ≡ Ok ys
-      → (y : B) × (rest : List B) × (read 0 x ≡ Ok y) × (ys ≡ y ∷ rest)
+    → (y : B) × (rest : List B) × (read 0 x ≡ Ok y) × (ys ≡ y ∷ rest)
 first_item read x xs ys e =
     let one = bind_ok (read 0 x) _ ys e in
     let more = bind_ok (each read 1 xs) _ ys one.2 in
@@ -46,17 +46,17 @@ first_item read x xs ys e =
 
 -- what the row of a process's node says, where this is its index
 found_node : (index : Index) (process : Members) (name : List ℕ) (n m : ℕ) → get_member (codes "node") process ≡ Some (string name)
-      → at_row (at.Process 0) (knows_nodes index) process (needed key.Node a_node) ≡ Ok n → n ≡ m → index name ≡ Some m
+    → at_row (at.Process 0) (knows_nodes index) process (needed key.Node a_node) ≡ Ok n → n ≡ m → index name ≡ Some m
 found_node index process name n m states reads same = found_ok (at.Process 0) key.Node (index name) m (rw (states, same) at reads)
 
 -- the node that a process states is the one of that name
 placed : (index : Index) (process : Members) (name : List ℕ) (p : Process) → get_member (codes "node") process ≡ Some (string name)
-      → process_of index 0 process ≡ Ok p → index name ≡ Some p.node
+    → process_of index 0 process ≡ Ok p → index name ≡ Some p.node
 placed index process name p states reads =
     let known = knows_nodes index in
     let row = λ (r : KeyRow). at_row (at.Process 0) known process r in
     let whole = known_keys (has_only (keys_at (at.Process 0)) process) (in_turn (at.Process 0) known process (rows (at.Process 0)) the_process)
-        (UnknownKey (at.Process 0)) p reads in
+    (UnknownKey (at.Process 0)) p reads in
     let named = bind_ok (row (needed key.Name text)) _ p whole in
     let node = bind_ok (row (needed key.Node a_node)) _ p named.2 in
     let time = bind_ok (row (needed key.Wcet number)) _ p node.2 in
@@ -67,10 +67,10 @@ placed index process name p states reads =
     found_node index process name node.0 p.node states node.1 same
 
 on_named_node : (nodes : List Node) (processes : List Process) (tables : List Members) (process : Members) (others : List Members) (name : List ℕ)
-      → tables ≡ process ∷ others → get_member (codes "node") process ≡ Some (string name)
-      → processes_of (index_in (node_names nodes)) tables ≡ Ok processes
-      → (cluster : Cluster) (links : List Link) (messages : List Message) (i : Instance) → instance_with cluster nodes processes links messages ≡ i
-      → (node_at i (node_of i 0)).name ≡ name
+    → tables ≡ process ∷ others → get_member (codes "node") process ≡ Some (string name)
+    → processes_of (index_in (node_names nodes)) tables ≡ Ok processes
+    → (cluster : Cluster) (links : List Link) (messages : List Message) (i : Instance) → instance_with cluster nodes processes links messages ≡ i
+    → (node_at i (node_of i 0)).name ≡ name
 on_named_node nodes processes tables process others name first states reads cluster links messages i same =
     let one = first_item (process_of (index_in (node_names nodes))) process others processes (rw first at reads) in
     let found = placed (index_in (node_names nodes)) process name one.0 states one.2 in
@@ -80,8 +80,8 @@ on_named_node nodes processes tables process others name first states reads clus
     rw (← same, one.3) (sym (named ∙ get_or-map (λ (n : Node). n.name) nodes one.0.node no_node [] inside))
 
 first_process : (table : Members) (tables : Tables) (process : Members) (others : List Members) (name : List ℕ) (i : Instance)
-      → stated_tables table ≡ Ok tables → tables.processes ≡ process ∷ others → get_member (codes "node") process ≡ Some (string name)
-      → stated table ≡ Ok i → (node_at i (node_of i 0)).name ≡ name
+    → stated_tables table ≡ Ok tables → tables.processes ≡ process ∷ others → get_member (codes "node") process ≡ Some (string name)
+    → stated table ≡ Ok i → (node_at i (node_of i 0)).name ≡ name
 first_process table tables process others name i reads_tables first states reads =
     let cluster = bind_ok (cluster_of tables.cluster) _ i (rw reads_tables at reads) in
     let nodes = bind_ok (nodes_of tables.nodes) _ i cluster.2 in
@@ -92,9 +92,9 @@ first_process table tables process others name i reads_tables first states reads
     on_named_node nodes.0 processes.0 tables.processes process others name first states processes.1 cluster.0 links.0 messages.0 i same
 
 pub node_named : (bytes : List ℕ) (table : Members) (tables : Tables) (process : Members) (others : List Members) (name : List ℕ)
-      (result : Result Instance TextError) → IsDocument bytes table → stated_tables table ≡ Ok tables → tables.processes ≡ process ∷ others
-      → get_member (codes "node") process ≡ Some (string name) → IfOk result (λ i. States bytes (Ok i))
-      → IfOk result (λ i. (node_at i (node_of i 0)).name ≡ name)
+    (result : Result Instance TextError) → IsDocument bytes table → stated_tables table ≡ Ok tables → tables.processes ≡ process ∷ others
+    → get_member (codes "node") process ≡ Some (string name) → IfOk result (λ i. States bytes (Ok i))
+    → IfOk result (λ i. (node_at i (node_of i 0)).name ≡ name)
 node_named bytes table tables process others name (Ok i) document reads first states given =
     let one = given.document.parsed in
     let other = document.parsed in

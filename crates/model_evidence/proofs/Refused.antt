@@ -5,7 +5,7 @@ use Rattle.ttp_model.specs.Graph.{HasLink, Leads, IsClosedWalk}
 use Rattle.ttp_model.specs.Rules.{IsInstance}
 
 pub no_instance : {E : Type 0} (result : Result Instance E) (parts tables : Instance) → parts ≡ tables
-      → IfOk result (λ i. IsInstance i × (i ≡ parts)) → ¬ IsInstance tables → IsErr result
+    → IfOk result (λ i. IsInstance i × (i ≡ parts)) → ¬ IsInstance tables → IsErr result
 no_instance (Ok i) parts tables same ok broken = absurd (broken (rw (← same, ← ok.1) ok.0))
 no_instance (Err e) parts tables same ok broken = refl
 

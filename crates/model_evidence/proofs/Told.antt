@@ -23,12 +23,14 @@ row_begins i row = ([], flat_map (entry_text i) row.messages ++ codes "\n", simp
 table_has : (i : Instance) (node : ℕ) (rows : List Row) (row : Row) → Contains rows row → IsPartOf (row_line i row) (table_text i node rows)
 unfolding table_text
 table_has i node rows row there =
-    let line = element (row_line i) rows row there in
-    (codes "node" ++ spaced (node_at i node).name ++ codes "\n" ++ line.0, line.1,
-        rw line.2 (in_front (codes "node") (spaced (node_at i node).name) (codes "\n") line.0 (row_line i row) line.1))
+    let line = element (row_line i) rows row there in (
+      codes "node" ++ spaced (node_at i node).name ++ codes "\n" ++ line.0,
+      line.1,
+      rw line.2 (in_front (codes "node") (spaced (node_at i node).name) (codes "\n") line.0 (row_line i row) line.1),
+    )
 
 pub text_has : (i : Instance) (t : Medl) (node : ℕ) (row : Row) → node < length t.rows → Contains (slice_index_or t.rows node []) row
-      → IsPartOf (row_front i row) (tables_text i t)
+    → IsPartOf (row_front i row) (tables_text i t)
 unfolding text_at
 text_has i t node row inside there =
     let n = length t.rows in
@@ -39,4 +41,4 @@ text_has i t node row inside there =
     let whole : IsPartOf (text_at i t node) (tables_text i t) = (head ++ rounds ++ codes "\n" ++ table.0, table.1, rw table.2 same) in
     let rows = slice_index_or t.rows node [] in
     within (row_front i row) (row_line i row) (tables_text i t) (row_begins i row)
-        (within (row_line i row) (table_text i node rows) (tables_text i t) (table_has i node rows row there) whole)
+    (within (row_line i row) (table_text i node rows) (tables_text i t) (table_has i node rows row there) whole)

@@ -28,10 +28,10 @@ abbrev pub uneven_on : Cluster → ℕ → Instance
 uneven_on cluster deadline = instance_with cluster
     (record { name = codes "A"; capacities = 3 ∷ 5 ∷ [] } ∷ record { name = codes "B"; capacities = 1 ∷ 8 ∷ [] } ∷ [])
     (process_within (codes "p") 0 13 43 1000000 ∷ process_within (codes "r") 0 17 5 1000000 ∷ process_within (codes "q")
-        1 19 0 1000000 ∷ process_within (codes "s") 1 23 0 deadline ∷ [])
+    1 19 0 1000000 ∷ process_within (codes "s") 1 23 0 deadline ∷ [])
     (record { before = 0; after = 1 } ∷ [])
     (record { name = codes "m"; sender = 0; receivers = 3 ∷ 2 ∷ []; bytes = 3; both = false } ∷ record
-        { name = codes "l"; sender = 1; receivers = 3 ∷ []; bytes = 2; both = false } ∷ [])
+    { name = codes "l"; sender = 1; receivers = 3 ∷ []; bytes = 2; both = false } ∷ [])
 
 -- with 4 and 7 ticks, a horizon of 500 and a deadline of 200
 abbrev pub uneven : Instance

@@ -33,18 +33,18 @@ module _ (i : Instance) where
       IfSome known (λ bytes. (cert : Cert) → length bytes ≤ most_text_bytes → SpellsCert bytes cert → Proves i cert → IsBoundUnlessStopped cert.low answer)
 
   pub bound_only : (known : Option (List ℕ)) (low : ℕ) → Accepts known (Ok low)
-        → IfSome known (λ bytes. (cert : Cert) → HasCertificate bytes cert → Proves i cert → low ≡ cert.low)
+      → IfSome known (λ bytes. (cert : Cert) → HasCertificate bytes cert → Proves i cert → low ≡ cert.low)
   bound_only None low only = tt
   bound_only (Some bytes) low only = λ cert has proves. only cert has.within has.spelled proves
 
   pub fault_only : (known : Option (List ℕ)) (fault : StreamFault) → Accepts known (Err fault)
-        → IfSome known (λ bytes. (cert : Cert) → HasCertificate bytes cert → Proves i cert → IsNotOfTexts (fault_of fault))
+      → IfSome known (λ bytes. (cert : Cert) → HasCertificate bytes cert → Proves i cert → IsNotOfTexts (fault_of fault))
   fault_only None fault only = tt
   fault_only (Some bytes) fault only = λ cert has proves. stopped_fault cert.low fault (only cert has.within has.spelled proves)
 
 -- the instance isn't read
 pub unread_instance : (a b : Option (List ℕ)) (old : Option (List ℕ)) (fault : Fault)
-      → IfSome a (λ bytes. (i : Instance) → HasInstance bytes i → IsNotOfTexts fault)
+    → IfSome a (λ bytes. (i : Instance) → HasInstance bytes i → IsNotOfTexts fault)
     → IfSome a (λ instance. IfSome b (λ certificate. WritesProvedBound instance certificate old old (Refused fault)))
 unread_instance None b old fault only = tt
 unread_instance (Some instance) None old fault only = tt
@@ -62,7 +62,7 @@ proved_written (Some instance) None i low old new end read only writing = tt
 proved_written (Some instance) (Some certificate) i low old new end read only writing = λ problem cert has_instance has_certificate proves.
     let mine : Proves i cert = subst (λ (p : Instance). Proves p cert) (sym (read problem has_instance)) proves in
     made_unless_stopped (bound_line cert.low) old new end (subst (λ (n : ℕ). IsWritingUnlessMemory (bound_line n) old new end)
-        (only cert has_certificate mine) writing)
+    (only cert has_certificate mine) writing)
 
 pub proved_stopped : (a b : Option (List ℕ)) (i : Instance) (old : Option (List ℕ)) (fault : Fault) → IsReadAs a i
     → IfSome b (λ bytes. (cert : Cert) → HasCertificate bytes cert → Proves i cert → IsNotOfTexts fault)

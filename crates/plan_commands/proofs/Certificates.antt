@@ -13,13 +13,13 @@ use Rattle.command_streams.proofs.Outcomes.{keeps, made_outcome}
 
 -- a bound that is proved and written
 pub bound_of_readers : (a b : Option (List ℕ)) (i : Instance) (low : ℕ) (old new : Option (List ℕ)) (end : End)
-      → IfSome a (λ instance. HasInstance instance i) → IfSome b (λ certificate. HasBound i certificate low)
-      → IsWritingUnlessMemory (bound_line low) old new end → IfSome a (λ instance. IfSome b (λ certificate. IsCheckAnswer instance certificate old new end))
+    → IfSome a (λ instance. HasInstance instance i) → IfSome b (λ certificate. HasBound i certificate low)
+    → IsWritingUnlessMemory (bound_line low) old new end → IfSome a (λ instance. IfSome b (λ certificate. IsCheckAnswer instance certificate old new end))
 bound_of_readers None b i low old new end has_instance has_bound writing = tt
 bound_of_readers (Some instance) None i low old new end has_instance has_bound writing = tt
 bound_of_readers (Some instance) (Some certificate) i low old new end has_instance has_bound writing =
     made_outcome (IsBoundLine instance certificate) (IsUnproved instance certificate) (bound_line low)
-        (record { problem = i; low = low; has_instance = has_instance; has_bound = has_bound; line_is = refl }) old new tt end writing
+    (record { problem = i; low = low; has_instance = has_instance; has_bound = has_bound; line_is = refl }) old new tt end writing
 
 -- a certificate that is refused, and nothing is written
 module _ (instance certificate : List ℕ) (i : Instance) (has : HasInstance instance i) (old : Option (List ℕ)) where
@@ -47,8 +47,8 @@ module _ (instance certificate : List ℕ) (i : Instance) (has : HasInstance ins
   refused_here (Unwritten sink) refused = absurd refused
 
 pub refused_of_readers : (a b : Option (List ℕ)) (i : Instance) (old : Option (List ℕ)) (fault : Fault)
-      → IfSome a (λ instance. HasInstance instance i) → IfSome b (λ certificate. IsCertificateFault i certificate fault)
-      → IfSome a (λ instance. IfSome b (λ certificate. IsCheckAnswer instance certificate old old (Refused fault)))
+    → IfSome a (λ instance. HasInstance instance i) → IfSome b (λ certificate. IsCertificateFault i certificate fault)
+    → IfSome a (λ instance. IfSome b (λ certificate. IsCheckAnswer instance certificate old old (Refused fault)))
 refused_of_readers None b i old fault has refused = tt
 refused_of_readers (Some instance) None i old fault has refused = tt
 refused_of_readers (Some instance) (Some certificate) i old fault has refused = refused_here instance certificate i has old fault refused

@@ -34,7 +34,7 @@ module _ (shown : Shown) (instance plan : List ℕ) where
 -- so it is of what two readers tell, where they do
 module _ (shown : Shown) (IsTextAt : List ℕ → List ℕ → End → List ℕ → Type 0) (old : Option (List ℕ)) where
   pub undrawn : (a b : Option (List ℕ)) (fault : Fault) → IfSome a (λ instance. IfSome b (λ plan. IsRefused instance plan fault))
-        → IfSome a (λ instance. IfSome b (λ plan. IsCommandAnswer (IsTextAt instance plan) (IsDrawRefused shown instance plan) old old (Refused fault)))
+      → IfSome a (λ instance. IfSome b (λ plan. IsCommandAnswer (IsTextAt instance plan) (IsDrawRefused shown instance plan) old old (Refused fault)))
   undrawn None b fault refused = tt
   undrawn (Some instance) None fault refused = tt
   undrawn (Some instance) (Some plan) fault refused =
@@ -42,7 +42,7 @@ module _ (shown : Shown) (IsTextAt : List ℕ → List ℕ → End → List ℕ 
 
 module _ (width : ℕ) (shown : Shown) where
   too_large : (instance plan : List ℕ) (v : Verified) → IsVerified instance plan v → (fault : Fault) → IsUndrawn shown v.instance v.plan fault
-        → IsDrawRefused shown instance plan fault
+      → IsDrawRefused shown instance plan fault
   too_large instance plan v is Memory why = tt
   too_large instance plan v is (TooManySlots count) why = record { verified = v; is = is; many = why }
   too_large instance plan v is (NoSuchProcess k) why = absurd why
@@ -62,12 +62,12 @@ module _ (width : ℕ) (shown : Shown) where
   too_large instance plan v is (Unwritten sink) why = absurd why
 
   pub drawn_of_readers : (a b : Option (List ℕ)) (v : Verified) (old new : Option (List ℕ)) (end : End)
-        → IfSome a (λ instance. IfSome b (λ plan. IsVerified instance plan v))
-        → IsCommandAnswer (OnDone (IsPictureText width shown v.instance v.plan)) (IsUndrawn shown v.instance v.plan) old new end
-        → IfSome a (λ instance. IfSome b (λ plan. IsDrawAnswer width shown instance plan old new end))
+      → IfSome a (λ instance. IfSome b (λ plan. IsVerified instance plan v))
+      → IsCommandAnswer (OnDone (IsPictureText width shown v.instance v.plan)) (IsUndrawn shown v.instance v.plan) old new end
+      → IfSome a (λ instance. IfSome b (λ plan. IsDrawAnswer width shown instance plan old new end))
   drawn_of_readers None b v old new end is drawn = tt
   drawn_of_readers (Some instance) None v old new end is drawn = tt
   drawn_of_readers (Some instance) (Some plan) v old new end is drawn =
       answered (IsPictureText width shown v.instance v.plan) (IsTold (IsVerified instance plan) (IsPictureText width shown))
-          (λ text tells. record { verified = v; is = is; tells = tells })
+      (λ text tells. record { verified = v; is = is; tells = tells })
       (IsUndrawn shown v.instance v.plan) (IsDrawRefused shown instance plan) (too_large instance plan v is) old new end drawn

@@ -82,7 +82,7 @@ instance_once bytes i j first second =
 delay_once : (i : Instance) (text : List ℕ) (p q : Table) (d e : ℕ) → IsInstance i → HasValidPlan i text p d → HasValidPlan i text q e → d ≡ e
 delay_once i text p q d e w first second =
     let same = plan_text.spelled_once i p q d e w first.has_plan.spelled.value second.has_plan.spelled.value
-        (sym first.has_plan.spelled.spelled ∙ second.has_plan.spelled.spelled) in
+    (sym first.has_plan.spelled.spelled ∙ second.has_plan.spelled.spelled) in
     same.1
 
 text_once : (i : Instance) (text : List ℕ) (a b : Option ℕ) → IsInstance i → HasPlanOf i text a → HasPlanOf i text b → a ≡ b
@@ -110,7 +110,7 @@ bound_once i certificate a b first second =
 -- ---- they are judged by what they say
 
 at_limit : (i : Instance) (best : Option ℕ) (low : ℕ) → low ≤ limit_of i best → limit_of i best ≤ low
-      → (judgement : Judgement) × IsJudgementOf i best low judgement
+    → (judgement : Judgement) × IsJudgementOf i best low judgement
 at_limit i None low most least = (NoPlan, (refl, omega (arith, most, least)))
 at_limit i (Some d) low most least = (Least d, (refl, omega (arith, most, least)))
 
@@ -136,14 +136,14 @@ judgement_once i best low (Between told given) NoPlan first second =
 judgement_once i best low (Between told given) (Between other last) first second = rw (first.0, first.1.0, second.0, second.1.0) refl
 
 pub judged_of_texts : (instance plan certificate : List ℕ) (i : Instance) (best : Option ℕ) (low : ℕ) → HasInstance instance i
-      → StandsFor i plan best → HasBound i certificate low
+    → StandsFor i plan best → HasBound i certificate low
     → (judgement : Judgement) × IsJudged instance plan certificate judgement
 judged_of_texts instance plan certificate i best low has stands bound =
     let found = judgement_of i best low (bound_below i plan certificate best low stands bound) in
     (found.0, record { problem = i; has_instance = has; best = best; stands = stands; low = low; has_bound = bound; is = found.1 })
 
 pub by_what_they_say : (instance plan certificate : List ℕ) (i : Instance) (best : Option ℕ) (low : ℕ) (judgement : Judgement)
-      → HasInstance instance i → StandsFor i plan best → HasBound i certificate low
+    → HasInstance instance i → StandsFor i plan best → HasBound i certificate low
     → IsJudged instance plan certificate judgement ↔ IsJudgementOf i best low judgement
 by_what_they_say instance plan certificate i best low judgement has stands bound = (
   λ judged.
@@ -153,7 +153,7 @@ by_what_they_say instance plan certificate i best low judgement has stands bound
       let same_best : judged.best ≡ best = place_once i plan judged.best best has.instance stands_so stands in
       let same_low : judged.low ≡ low = bound_once i certificate judged.low low bound_so bound in
       let said : IsJudgementOf i judged.best judged.low judgement = subst (λ (j : Instance). IsJudgementOf j judged.best judged.low judgement)
-          same_instance judged.is in
+      same_instance judged.is in
       subst (λ (n : ℕ). IsJudgementOf i best n judgement) same_low (subst (λ (o : Option ℕ). IsJudgementOf i o judged.low judgement) same_best said),
   λ is. record { problem = i; has_instance = has; best = best; stands = stands; low = low; has_bound = bound; is = is },
 )

@@ -29,13 +29,13 @@ horizon_above i certificate best low is bound =
     rw is (omega (arith, bound.proves.low, bound.low_is))
 
 above : (i : Instance) (begun : Front) (rest certificate : List ℕ) (best : Option ℕ) (low : ℕ) → StandsBehind i begun rest best
-      → HasBound i certificate low → low ≤ limit_of i best
+    → HasBound i certificate low → low ≤ limit_of i best
 above i front.Plan rest certificate best low stands bound = plan_above i rest certificate best low stands bound
 above i front.Stopped rest certificate best low stands bound = plan_above i rest certificate best low stands bound
 above i front.NoPlan rest certificate best low stands bound = horizon_above i certificate best low stands.1 bound
 
 pub bound_below : (i : Instance) (plan certificate : List ℕ) (best : Option ℕ) (low : ℕ) → StandsFor i plan best → HasBound i certificate low
-      → low ≤ limit_of i best
+    → low ≤ limit_of i best
 bound_below i plan certificate best low stands bound = above i stands.begun stands.rest certificate best low stands.stands bound
 
 -- ---- a judgement that is told

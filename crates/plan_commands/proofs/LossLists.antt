@@ -22,7 +22,7 @@ pub well_formed : (words : List (List ℕ)) (losses : List LossWord) → AllSpel
 well_formed words losses all = λ k there. spelled_at words losses all k there
 
 AllSpell-push : (words : List (List ℕ)) (losses : List LossWord) (word : List ℕ) (loss : LossWord) → AllSpell words losses → Spells word loss
-      → AllSpell (words ++ word ∷ []) (losses ++ loss ∷ [])
+    → AllSpell (words ++ word ∷ []) (losses ++ loss ∷ [])
 AllSpell-push [] [] word loss all spelled = (spelled, tt)
 AllSpell-push [] (l ∷ losses) word loss all spelled = absurd all
 AllSpell-push (w ∷ words) [] word loss all spelled = absurd all
@@ -65,12 +65,12 @@ module _ (f : ℕ → Loss) (p : ℕ → Bool) (before : List Loss) (n : ℕ) wh
 
   -- one loss more, where the node passes the test
   kept : (now : List Loss) → p n ≡ true → now ≡ before ++ map f (filter p (range_with_len 0 n))
-        → now ++ f n ∷ [] ≡ before ++ map f (filter p (range_with_len 0 (n + 1)))
+      → now ++ f n ∷ [] ≡ before ++ map f (filter p (range_with_len 0 (n + 1)))
   kept now passes is = rw (kept-more, passes, is) (append_assoc before (map f (filter p (range_with_len 0 n))) (f n ∷ []))
 
   -- and none more where it doesn't
   left_out : (now : List Loss) → p n ≡ false → now ≡ before ++ map f (filter p (range_with_len 0 n))
-        → now ≡ before ++ map f (filter p (range_with_len 0 (n + 1)))
+      → now ≡ before ++ map f (filter p (range_with_len 0 (n + 1)))
   left_out now fails is = rw (kept-more, fails, append-nil (map f (filter p (range_with_len 0 n)))) is
 
 module _ (word : LossWord) (s : ℕ) (before : List Loss) (n : ℕ) (now : List Loss)

@@ -14,7 +14,7 @@ use Rattle.plan_commands.specs.LossWords.{CanBeAt, IsWordOfLoss, losses_before, 
 module _ (t : Medl) (words : List LossWord) where
   -- the losses before the next word are those before this one and this one's
   pub before_more : (k : ℕ) → k < length words
-        → length (losses_before t words (k + 1)) ≡ length (losses_before t words k) + length (losses_of_word t (slice_index_or words k no_word))
+      → length (losses_before t words (k + 1)) ≡ length (losses_before t words k) + length (losses_of_word t (slice_index_or words k no_word))
   before_more k there =
       let f = λ (word : LossWord). losses_of_word t word in
       omega (arith, length-flat_map f (take (k + 1) words), length-flat_map f (take k words), sum_by_more (λ word. length (f word)) words k no_word there)
@@ -22,18 +22,21 @@ module _ (t : Medl) (words : List LossWord) where
   before_le : (j n : ℕ) → n ≤ j → j ≤ length words → length (losses_before t words n) ≤ length (losses_before t words j)
   before_le zero n below there = let same : n ≡ 0 = omega (arith, below) in omega (arith, ap (λ k. length (losses_before t words k)) same)
   before_le (suc j) n below there = elim (cases_lt n (suc j)) [
-    | inl less ↦ (let more = rw add-one at (before_more j (omega (arith, there))) in omega (arith, more,
-        before_le j n (omega (arith, less)) (omega (arith, there))))
+    | inl less ↦ (let more = rw add-one at (before_more j (omega (arith, there))) in omega (
+      arith,
+      more,
+      before_le j n (omega (arith, less)) (omega (arith, there)),
+    ))
     | inr more ↦ (let same : n ≡ suc j = omega (arith, below, more) in omega (arith, ap (λ k. length (losses_before t words k)) same))
   ]
 
   -- a loss of a word stands among all
   read : (k x : ℕ) → k < length words → x < length (losses_of_word t (slice_index_or words k no_word))
-        → get_or (losses_of_words t words) (length (losses_before t words k) + x) no_loss ≡ get_or (losses_of_word t (slice_index_or words k no_word)) x no_loss
+      → get_or (losses_of_words t words) (length (losses_before t words k) + x) no_loss ≡ get_or (losses_of_word t (slice_index_or words k no_word)) x no_loss
   read k x there inside = get_or-flat_map (λ (word : LossWord). losses_of_word t word) words k x no_word no_loss there inside
 
   pub first_wrong_word : (losses : List Loss) → losses ≡ losses_of_words t words → (loss k : ℕ)
-        → IsFirstFailure (length losses) (IsLossAt t losses) loss → IsWordOfLoss t words loss k → IsFirstFailure (length words) (CanBeAt t words) k
+      → IsFirstFailure (length losses) (IsLossAt t losses) loss → IsWordOfLoss t words loss k → IsFirstFailure (length words) (CanBeAt t words) k
   first_wrong_word losses is loss k wrong of = record {
     within = of.there;
     fails = λ all.

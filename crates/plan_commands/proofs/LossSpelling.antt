@@ -98,5 +98,5 @@ spelled_once word a b first second =
     let whole = sym (first_cut word a first) ∙ first_cut word b second in
     let rest = sym (second_cut word a first) ∙ ap (cut 47) (ap rest_of whole) ∙ second_cut word b second in
     loss_once a.round a.slot b.round b.slot a.receivers b.receivers (number_once a.round b.round first.round second.round (ap front_of whole))
-        (number_once a.slot b.slot first.slot second.slot (ap front_of rest))
-        (receivers_once a.receivers b.receivers first.receivers second.receivers (ap rest_of rest))
+    (number_once a.slot b.slot first.slot second.slot (ap front_of rest))
+    (receivers_once a.receivers b.receivers first.receivers second.receivers (ap rest_of rest))

@@ -116,7 +116,7 @@ module _ (most : ℕ) where
       given (n, first.1)))
 
   of_numbers : (line : ℕ) (column : Column) (names : List (List ℕ)) (text : List ℕ) → line + length names ≤ most + 1
-        → IsWithin most (numbers_at line column names text)
+      → IsWithin most (numbers_at line column names text)
   unfolding numbers_at
   of_numbers line column [] text within = given ([], text)
   of_numbers line column (name ∷ names) text within =
@@ -145,9 +145,9 @@ of_plan i text =
     bind most (order_at (names_in i Nodes) stated.1) _ (of_order most (names_in i Nodes) stated.1 (omega arith)) (λ order.
     bind most (part_at i Capacity 4 order.1) _ (of_numbers most 4 Capacity (names_in i Nodes) order.1 (omega (arith, nodes))) (λ caps.
     bind most (part_at i Start (4 + length i.nodes) caps.1) _ (of_numbers most (4 + length i.nodes) Start (names_in i Processes) caps.1
-        (omega (arith, processes))) (λ starts.
+    (omega (arith, processes))) (λ starts.
     bind most (part_at i Round (4 + length i.nodes + length i.processes) starts.1) _
-        (of_numbers most (4 + length i.nodes + length i.processes) Round (names_in i Messages) starts.1 (omega (arith, messages))) (λ rounds.
+    (of_numbers most (4 + length i.nodes + length i.processes) Round (names_in i Messages) starts.1 (omega (arith, messages))) (λ rounds.
     bind most (channels_at i rounds.1) _ (of_channels most i rounds.1 (omega arith)) (λ channels.
     bind most (check (At (end_line i) Trailing) (length channels.1 == 0)) _ (of_check most (end_line i) Trailing (length channels.1 == 0) (omega arith)) (λ end.
     given most (record { order = order.0; caps = caps.0; starts = starts.0; rounds = rounds.0; channels = channels.0 }, stated.0)))))))))

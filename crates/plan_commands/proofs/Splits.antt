@@ -162,7 +162,7 @@ module _ (limit : ℕ) (taken : Taken) (all : List ℕ) (at : ℕ) (is_taken : I
     }
 
     pub outcome_all : (result : Result Verified Fault)
-          → MatchResult result (IsVerifiedPlan i (drop (at + 3) taken.bytes.items)) (IsPlanFault i (drop (at + 3) taken.bytes.items))
-          → MatchResult result (IsVerifiedBundle all) (IsRefusedBundle all)
+        → MatchResult result (IsVerifiedPlan i (drop (at + 3) taken.bytes.items)) (IsPlanFault i (drop (at + 3) taken.bytes.items))
+        → MatchResult result (IsVerifiedBundle all) (IsRefusedBundle all)
     outcome_all (Ok v) verified = verified_all v verified
     outcome_all (Err fault) refused = refused_all fault refused

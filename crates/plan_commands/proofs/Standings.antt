@@ -31,7 +31,7 @@ IsOfPlan _ = ⊥
 
 -- what holds of each fault of a plan
 by_kind : (Holds : Fault → Type 0) → ((error : PlanTextError) → Holds (PlanText error)) → ((fault : PlanFault) → Holds (Plan fault))
-      → ((d : ℕ) → Holds (StatedDelay d)) → (fault : Fault) → IsOfPlan fault → Holds fault
+    → ((d : ℕ) → Holds (StatedDelay d)) → (fault : Fault) → IsOfPlan fault → Holds fault
 by_kind Holds text broken misstated (PlanText error) is = text error
 by_kind Holds text broken misstated (Plan fault) is = broken fault
 by_kind Holds text broken misstated (StatedDelay d) is = misstated d
@@ -128,12 +128,12 @@ module _ (instance plan : List ℕ) (i : Instance) (has : HasInstance instance i
   ]
 
   judged_with : (result : Result Standing Fault) → MatchResult result (λ s. (s.instance ≡ i) × StandsFor i plan s.best) (IsRefusedOrLong i plan)
-        → MatchResult result (IsStanding instance plan) (HasNoStanding instance plan)
+      → MatchResult result (IsStanding instance plan) (HasNoStanding instance plan)
   judged_with (Ok s) judged = standing_with s judged
   judged_with (Err fault) judged = unstanding_with fault judged
 
 pub standing_of_readers : (a b : Option (List ℕ)) (i : Instance) (bytes : List ℕ) (result : Result Standing Fault)
-      → IfSome a (λ instance. HasInstance instance i) → IfSome b (λ plan. bytes ≡ plan)
+    → IfSome a (λ instance. HasInstance instance i) → IfSome b (λ plan. bytes ≡ plan)
     → MatchResult result (λ s. (s.instance ≡ i) × StandsFor i bytes s.best) (IsRefusedOrLong i bytes)
     → IfSome a (λ instance. IfSome b (λ plan. MatchResult result (IsStanding instance plan) (HasNoStanding instance plan)))
 standing_of_readers None b i bytes result has is judged = tt
@@ -146,7 +146,7 @@ enough : (plan : List ℕ) → place_limit < length plan → plan_limit < length
 enough plan long = omega (arith, long)
 
 pub unread_standing : (a b : Option (List ℕ)) (i : Instance) (fault : Fault) → IfSome a (λ instance. HasInstance instance i)
-      → IsReadFault source.Plan place_limit b fault → IfSome a (λ instance. IfSome b (λ plan. HasNoStanding instance plan fault))
+    → IsReadFault source.Plan place_limit b fault → IfSome a (λ instance. IfSome b (λ plan. HasNoStanding instance plan fault))
 unread_standing None b i fault has is = tt
 unread_standing (Some instance) None i fault has is = tt
 unread_standing (Some instance) (Some plan) i fault has is =

@@ -125,7 +125,7 @@ no_end bytes none front rest is = none_some _ _ none (ends_at bytes rest front i
 
 -- bytes whose line isn't one of a search that was stopped
 pub no_line : (bytes line rest : List ℕ) → Some (line, rest) ≡ cut 10 bytes → ((front : Front) → ¬ IsStoppedLine line front)
-      → (front : Front) (behind : List ℕ) → ¬ BeginsStopped bytes front behind
+    → (front : Front) (behind : List ℕ) → ¬ BeginsStopped bytes front behind
 no_line bytes line rest cuts wrong front behind is =
     let same = some_once _ _ _ cuts (ends_at bytes behind front is) in
     wrong front (subst (λ (text : List ℕ). IsStoppedLine text front) (sym (ap (λ (p : List ℕ × List ℕ). p.0) same)) is.is)

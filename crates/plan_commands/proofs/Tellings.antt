@@ -20,11 +20,11 @@ use Rattle.plan_commands.specs.Verdicts.{IsPlanFault, IsRefused, IsTold, IsValid
 
 -- the line of a delay is told of the plan that has it
 pub verdict_outcome : (IsVerifiedAs : Verified → Type 0) (IsRefusedBy : Fault → Type 0) (v : Verified) → IsVerifiedAs v
-      → delay v.instance v.plan ≡ v.delay → IsRefusedBy Memory → (old new : Option (List ℕ)) (end : End)
-      → IsWritingUnlessMemory (valid_line v.delay) old new end → IsCommandAnswer (OnDone (IsTold IsVerifiedAs IsValidLine)) IsRefusedBy old new end
+    → delay v.instance v.plan ≡ v.delay → IsRefusedBy Memory → (old new : Option (List ℕ)) (end : End)
+    → IsWritingUnlessMemory (valid_line v.delay) old new end → IsCommandAnswer (OnDone (IsTold IsVerifiedAs IsValidLine)) IsRefusedBy old new end
 verdict_outcome IsVerifiedAs IsRefusedBy v is has_delay memory old new end writing =
     made_outcome (IsTold IsVerifiedAs IsValidLine) IsRefusedBy (valid_line v.delay)
-        (record { verified = v; is = is; tells = ap valid_line (sym has_delay) }) old new memory end writing
+    (record { verified = v; is = is; tells = ap valid_line (sym has_delay) }) old new memory end writing
 
 module _ (instance plan : List ℕ) (i : Instance) (has_instance : HasInstance instance i) where
   verified_with : (v : Verified) → IsVerifiedPlan i plan v → IsVerified instance plan v
@@ -50,22 +50,22 @@ module _ (instance plan : List ℕ) (i : Instance) (has_instance : HasInstance i
   refused_with (StatedDelay d) refused = record { problem = i; has_instance = has_instance; refused = refused }
 
   pub judged_with : (result : Result Verified Fault) → MatchResult result (IsVerifiedPlan i plan) (IsPlanFault i plan)
-        → MatchResult result (IsVerified instance plan) (IsRefused instance plan)
+      → MatchResult result (IsVerified instance plan) (IsRefused instance plan)
   judged_with (Ok v) is = verified_with v is
   judged_with (Err fault) refused = refused_with fault refused
 
 -- so it is of what two readers tell, where they do
 pub judged_of_readers : (a b : Option (List ℕ)) (i : Instance) (bytes : List ℕ) (result : Result Verified Fault)
-      → IfSome a (λ instance. HasInstance instance i) → IfSome b (λ plan. bytes ≡ plan)
-      → MatchResult result (IsVerifiedPlan i bytes) (IsPlanFault i bytes)
-      → IfSome a (λ instance. IfSome b (λ plan. MatchResult result (IsVerified instance plan) (IsRefused instance plan)))
+    → IfSome a (λ instance. HasInstance instance i) → IfSome b (λ plan. bytes ≡ plan)
+    → MatchResult result (IsVerifiedPlan i bytes) (IsPlanFault i bytes)
+    → IfSome a (λ instance. IfSome b (λ plan. MatchResult result (IsVerified instance plan) (IsRefused instance plan)))
 judged_of_readers None b i bytes result has_instance is judged = tt
 judged_of_readers (Some instance) None i bytes result has_instance is judged = tt
 judged_of_readers (Some instance) (Some plan) i bytes result has_instance is judged = judged_with instance plan i has_instance result (rw is at judged)
 
 -- the second reader gave no text
 pub unread_of_readers : (a b : Option (List ℕ)) (i : Instance) (fault : Fault) → IfSome a (λ instance. HasInstance instance i)
-      → IsReadFault source.Plan plan_limit b fault → IfSome a (λ instance. IfSome b (λ plan. IsRefused instance plan fault))
+    → IsReadFault source.Plan plan_limit b fault → IfSome a (λ instance. IfSome b (λ plan. IsRefused instance plan fault))
 unread_of_readers None b i fault has is = tt
 unread_of_readers (Some instance) None i fault has is = tt
 unread_of_readers (Some instance) (Some plan) i fault has is =
@@ -73,8 +73,8 @@ unread_of_readers (Some instance) (Some plan) i fault has is =
     by_read_fault (IsRefused instance plan) source.Plan plan_limit (Some plan) tt states (λ long. (states, long)) fault is
 
 pub verdict_of_readers : (a b : Option (List ℕ)) (v : Verified) (old new : Option (List ℕ)) (end : End)
-      → IfSome a (λ instance. IfSome b (λ plan. IsVerified instance plan v)) → IsWritingUnlessMemory (valid_line v.delay) old new end
-      → IfSome a (λ instance. IfSome b (λ plan. IsVerdict instance plan old new end))
+    → IfSome a (λ instance. IfSome b (λ plan. IsVerified instance plan v)) → IsWritingUnlessMemory (valid_line v.delay) old new end
+    → IfSome a (λ instance. IfSome b (λ plan. IsVerdict instance plan old new end))
 verdict_of_readers None b v old new end is writing = tt
 verdict_of_readers (Some instance) None v old new end is writing = tt
 verdict_of_readers (Some instance) (Some plan) v old new end is writing =
@@ -82,26 +82,26 @@ verdict_of_readers (Some instance) (Some plan) v old new end is writing =
 
 -- a text that is told of what two readers tell
 pub told_of_readers : (Tells : Instance → Table → List ℕ → Type 0) (RefusedBy : List ℕ → List ℕ → Fault
-      → Type 0) (a b : Option (List ℕ)) (v : Verified) (text : List ℕ) (old new : Option (List ℕ)) (end : End)
-      → IfSome a (λ instance. IfSome b (λ plan. IsVerified instance plan v)) → Tells v.instance v.plan text → IsWriting text old new end
-      → IfSome a (λ instance. IfSome b (λ plan. IsCommandAnswer (OnDone (IsTold (IsVerified instance plan) Tells)) (RefusedBy instance plan) old new end))
+    → Type 0) (a b : Option (List ℕ)) (v : Verified) (text : List ℕ) (old new : Option (List ℕ)) (end : End)
+    → IfSome a (λ instance. IfSome b (λ plan. IsVerified instance plan v)) → Tells v.instance v.plan text → IsWriting text old new end
+    → IfSome a (λ instance. IfSome b (λ plan. IsCommandAnswer (OnDone (IsTold (IsVerified instance plan) Tells)) (RefusedBy instance plan) old new end))
 told_of_readers Tells RefusedBy None b v text old new end is tells writing = tt
 told_of_readers Tells RefusedBy (Some instance) None v text old new end is tells writing = tt
 told_of_readers Tells RefusedBy (Some instance) (Some plan) v text old new end is tells writing =
     written_outcome (IsTold (IsVerified instance plan) Tells) (RefusedBy instance plan) text (record { verified = v; is = is; tells = tells })
-        old new end writing
+    old new end writing
 
 -- a text that is made and told of what two readers tell
 pub made_of_readers : (Tells : Instance → Table → List ℕ → Type 0) (RefusedBy : List ℕ → List ℕ → Fault → Type 0)
-      → ((instance plan : List ℕ) → RefusedBy instance plan Memory)
-      → (a b : Option (List ℕ)) (v : Verified) (text : List ℕ) (old new : Option (List ℕ)) (end : End)
-      → IfSome a (λ instance. IfSome b (λ plan. IsVerified instance plan v)) → Tells v.instance v.plan text → IsWritingUnlessMemory text old new end
-      → IfSome a (λ instance. IfSome b (λ plan. IsCommandAnswer (OnDone (IsTold (IsVerified instance plan) Tells)) (RefusedBy instance plan) old new end))
+    → ((instance plan : List ℕ) → RefusedBy instance plan Memory)
+    → (a b : Option (List ℕ)) (v : Verified) (text : List ℕ) (old new : Option (List ℕ)) (end : End)
+    → IfSome a (λ instance. IfSome b (λ plan. IsVerified instance plan v)) → Tells v.instance v.plan text → IsWritingUnlessMemory text old new end
+    → IfSome a (λ instance. IfSome b (λ plan. IsCommandAnswer (OnDone (IsTold (IsVerified instance plan) Tells)) (RefusedBy instance plan) old new end))
 made_of_readers Tells RefusedBy may None b v text old new end is tells writing = tt
 made_of_readers Tells RefusedBy may (Some instance) None v text old new end is tells writing = tt
 made_of_readers Tells RefusedBy may (Some instance) (Some plan) v text old new end is tells writing =
     made_outcome (IsTold (IsVerified instance plan) Tells) (RefusedBy instance plan) text (record { verified = v; is = is; tells = tells }) old new
-        (may instance plan) end writing
+    (may instance plan) end writing
 
 -- what is answered of a plan is answered of the texts that spell it
 module _ (IsText Tells : List ℕ → Type 0) (told : (text : List ℕ) → IsText text → Tells text) where
@@ -167,8 +167,8 @@ module _ (IsTextAt : End → List ℕ → Type 0) (IsRefusedBy : Fault → Type 
   refused_outcome (Unwritten sink.Plan) refused = (refused, keeps old)
 
 pub refused_of_readers : (IsTextAt : List ℕ → List ℕ → End → List ℕ → Type 0) (a b old : Option (List ℕ)) (fault : Fault)
-      → IfSome a (λ instance. IfSome b (λ plan. IsRefused instance plan fault))
-      → IfSome a (λ instance. IfSome b (λ plan. IsCommandAnswer (IsTextAt instance plan) (IsRefused instance plan) old old (Refused fault)))
+    → IfSome a (λ instance. IfSome b (λ plan. IsRefused instance plan fault))
+    → IfSome a (λ instance. IfSome b (λ plan. IsCommandAnswer (IsTextAt instance plan) (IsRefused instance plan) old old (Refused fault)))
 refused_of_readers IsTextAt None b old fault refused = tt
 refused_of_readers IsTextAt (Some instance) None old fault refused = tt
 refused_of_readers IsTextAt (Some instance) (Some plan) old fault refused =

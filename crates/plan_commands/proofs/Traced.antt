@@ -31,7 +31,7 @@ module _ (i : Instance) (plan : Table) (t : Medl) (w : IsInstance i) (tables : A
   too_few few = omega (arith, tables-length i t tables, few)
 
   pub wrong_word : t ≡ medl_of i plan → (words : List LossWord) (losses : List Loss) (loss k : ℕ) → losses ≡ losses_of_words t words
-        → IsFault t losses (replay.WrongLoss loss) → IsWordOfLoss t words loss k → IsTraceFault words i plan (WrongLoss k)
+      → IsFault t losses (replay.WrongLoss loss) → IsWordOfLoss t words loss k → IsTraceFault words i plan (WrongLoss k)
   wrong_word of words losses loss k are wrong from =
       (omega (arith, tables-length i t tables, wrong.0), rw (← of) (first_wrong_word t words losses are loss k wrong.1 from))
 
@@ -60,7 +60,7 @@ module _ (words : List (List ℕ)) (instance plan : List ℕ) (old : Option (Lis
   as_verdict (StatedDelay d) are refused = ((are, refused), keeps old)
 
   as_trace : (losses : List LossWord) (v : Verified) (fault : Fault) → AllSpell words losses → IsVerified instance plan v
-        → IsTraceFault losses v.instance v.plan fault → IsReplayAnswer words instance plan old old (Refused fault)
+      → IsTraceFault losses v.instance v.plan fault → IsReplayAnswer words instance plan old old (Refused fault)
   as_trace losses v NoMark all is refused = absurd refused
   as_trace losses v (LossForm k) all is refused = absurd refused
   as_trace losses v (TooManySlots count) all is refused = absurd refused
@@ -84,14 +84,14 @@ module _ (words : List (List ℕ)) (instance plan : List ℕ) (old : Option (Lis
 -- so it is of what two readers tell, where they do
 module _ (words : List (List ℕ)) (old : Option (List ℕ)) (fault : Fault) where
   pub refused_as_verdict : (a b : Option (List ℕ)) → AreLossWords words → IfSome a (λ instance. IfSome b (λ plan. IsRefused instance plan fault))
-        → IfSome a (λ instance. IfSome b (λ plan. IsReplayAnswer words instance plan old old (Refused fault)))
+      → IfSome a (λ instance. IfSome b (λ plan. IsReplayAnswer words instance plan old old (Refused fault)))
   refused_as_verdict None b are refused = tt
   refused_as_verdict (Some instance) None are refused = tt
   refused_as_verdict (Some instance) (Some plan) are refused = as_verdict words instance plan old fault are refused
 
   pub refused_as_trace : (a b : Option (List ℕ)) (losses : List LossWord) (v : Verified) → AllSpell words losses
-        → IfSome a (λ instance. IfSome b (λ plan. IsVerified instance plan v)) → IsTraceFault losses v.instance v.plan fault
-        → IfSome a (λ instance. IfSome b (λ plan. IsReplayAnswer words instance plan old old (Refused fault)))
+      → IfSome a (λ instance. IfSome b (λ plan. IsVerified instance plan v)) → IsTraceFault losses v.instance v.plan fault
+      → IfSome a (λ instance. IfSome b (λ plan. IsReplayAnswer words instance plan old old (Refused fault)))
   refused_as_trace None b losses v all is refused = tt
   refused_as_trace (Some instance) None losses v all is refused = tt
   refused_as_trace (Some instance) (Some plan) losses v all is refused = as_trace words instance plan old losses v fault all is refused

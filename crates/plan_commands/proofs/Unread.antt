@@ -16,12 +16,12 @@ lacks_early bytes at first late earlier within is = first.first earlier (omega (
 
 -- a fault that is none of the instance isn't that it is unread
 pub not_unread : (Holds : Type 0) (result : Result Verified Fault) → IfErr result (λ fault. ¬ IsOfInstance fault)
-      → IfErr result (λ fault. fault ≡ Unread source.Instance → Holds)
+    → IfErr result (λ fault. fault ≡ Unread source.Instance → Holds)
 not_unread Holds (Ok v) later = tt
 not_unread Holds (Err fault) later = λ is. absurd (later (subst IsOfInstance (sym is) tt))
 
 -- so nothing is asked of it
 pub not_instance : (Holds : Type 0) (result : Result Verified Fault) → IfErr result (λ fault. ¬ IsOfInstance fault)
-      → IfErr result (λ fault. IsOfInstance fault → Holds)
+    → IfErr result (λ fault. IsOfInstance fault → Holds)
 not_instance Holds (Ok v) later = tt
 not_instance Holds (Err fault) later = λ is. absurd (later is)

@@ -23,7 +23,7 @@ use Rattle.pool_worker.specs.Tasks.{decisions_below, born}
 
 -- the choice of a child's task is the one that its parent's node leads to
 pub choice_of_child : (i : Instance) (t : Task) (n : Node) (k : ℕ)
-      → choice_of i (record t { decisions = decisions_below i t n k }) ≡ choice_below i (choice_of i t) n k
+    → choice_of i (record t { decisions = decisions_below i t n k }) ≡ choice_below i (choice_of i t) n k
 choice_of_child i t (node.Branch b) k = choice_after_child i t b.kind k
 choice_of_child i t (node.Leaf leaf) k = refl
 
@@ -33,7 +33,7 @@ numbered n ds k = record { name = n k; decisions = ds k }
 
 -- tasks with these names and decisions
 of_parts : (kids : List Task) (ks : List ℕ) (n : ℕ → Name) (ds : ℕ → List Decision) → map (λ (t : Task). t.name) kids ≡ map n ks
-      → map (λ (t : Task). t.decisions) kids ≡ map ds ks
+    → map (λ (t : Task). t.decisions) kids ≡ map ds ks
     → kids ≡ map (numbered n ds) ks
 of_parts [] [] n ds e f = refl
 of_parts [] (k ∷ ks) n ds e f = absurd cc
@@ -69,5 +69,5 @@ module _ (i : Instance) (t : Task) (goal : ℕ) (k : Kind) (kids : List Task) (s
   branch_right b e =
       let many = counted i (choice_of i t) k (length kids) split.branch in
       let is : IsRight i (choice_of i t) (node.Branch (branch_of k (length kids)))
-          = record { is_open = split.branch.is_open; just = many ∙ split.branch.just } in
+      = record { is_open = split.branch.is_open; just = many ∙ split.branch.just } in
       subst (λ (b' : Branch). IsRight i (choice_of i t) (node.Branch b')) (sym e) is

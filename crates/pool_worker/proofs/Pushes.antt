@@ -11,7 +11,7 @@ pub none_pushed : (before tasks : List Task) → Pushes before before tasks task
 none_pushed before tasks = record { gave = []; pushes = sym (append-nil before); all = IsPermutation-refl tasks }
 
 pub one_pushed : (before after more tasks left rest : List Task) (t : Task) → Pushes before after tasks left → left ≡ rest ++ t ∷ []
-      → more ≡ after ++ t ∷ [] → Pushes before more tasks rest
+    → more ≡ after ++ t ∷ [] → Pushes before more tasks rest
 one_pushed before after more tasks left rest t p is then =
     let turned = IsPermutation-append_right p.gave _ _ (IsPermutation-append_comm rest (t ∷ [])) in
     let behind = then_same _ _ _ p.all (ap (λ (l : List Task). p.gave ++ l) is) in

@@ -29,7 +29,7 @@ same_hand_still a b c h k = record { number = k.number ∙ h.number; own = k.own
 
 -- one more at the end
 pub taken_more : {X : Type 0} (t : X) (new old begun took : List X) → IsPermutation new (t ∷ old) → IsPermutation old (begun ++ took)
-      → IsPermutation new (begun ++ (took ++ t ∷ []))
+    → IsPermutation new (begun ++ (took ++ t ∷ []))
 taken_more t new old begun took h k =
     IsPermutation-trans _ _ _ h (IsPermutation-trans _ _ _ (IsPermutation-cons t old (begun ++ took) k)
     (then_same _ _ _ (IsPermutation-append_comm (t ∷ []) (begun ++ took)) (append_assoc begun took (t ∷ []))))
@@ -37,7 +37,7 @@ taken_more t new old begun took h k =
 module _ {J : Type 0} (i : Instance) (begun : Hand J) where
   -- a task was taken, and left or kept in hand
   pub account_leaves : (old new : Hand J) (pieces : List Piece) (t : Task) (spared after : List Task) (rest : Rest)
-        → IsPermutation (taken new) (t ∷ taken old) → pushed new ≡ pushed old → IsTask i t
+      → IsPermutation (taken new) (t ∷ taken old) → pushed new ≡ pushed old → IsTask i t
       → held after rest ≡ spared ++ t ∷ [] → unpushed rest ≡ [] → HasAccount i begun old pieces spared Nothing → HasAccount i begun new pieces after rest
   account_leaves old new pieces t spared after rest more same is held_is none a = record {
     turns = a.turns;
@@ -58,7 +58,7 @@ module _ {J : Type 0} (i : Instance) (begun : Hand J) where
 
   -- and worked; what its branch gave was pushed, or is left
   pub account_works : (old mid new : Hand J) (pieces : List Piece) (turn : Turn) (spared : List Task) (rest : Rest) → held spared rest ≡ spared
-        → IsPermutation (taken mid) (turn.task ∷ taken old) → pushed mid ≡ pushed old
+      → IsPermutation (taken mid) (turn.task ∷ taken old) → pushed mid ≡ pushed old
       → taken new ≡ taken mid → Pushes (pushed mid) (pushed new) (born i turn) (unpushed rest) → IsTurn i turn → All (IsTask i) (unpushed rest)
       → HasAccount i begun old pieces spared Nothing → HasAccount i begun new (pieces ++ turn.piece ∷ []) spared rest
   account_works old mid new pieces turn spared rest none more same still p is left a =
@@ -66,7 +66,7 @@ module _ {J : Type 0} (i : Instance) (begun : Hand J) where
       let tasks = map-append (λ (t : Turn). t.task) a.turns (turn ∷ []) in
       let grown = flat_map-append (born i) a.turns (turn ∷ []) ∙ ap (λ (l : List Task). all_born i a.turns ++ l) (append-nil (born i turn)) in
       let behind = then_same _ _ _ (IsPermutation-append_left one a.took (tasks_of a.turns ++ spared) a.account.took)
-          (append_assoc (tasks_of a.turns) spared one) in
+      (append_assoc (tasks_of a.turns) spared one) in
       let turned = IsPermutation-append_right (tasks_of a.turns) _ _ (IsPermutation-append_comm spared one) in
       let gave = then_same _ _ _ a.account.gave (append-nil a.gave) in
       record {
@@ -80,10 +80,10 @@ module _ {J : Type 0} (i : Instance) (begun : Hand J) where
         account = record {
           took = then_same _ _ _ (IsPermutation-trans _ _ _ behind turned)
               (sym (append_assoc (tasks_of a.turns) one spared) ∙ (ap (λ (l : List Task). l ++ spared) (sym tasks) ∙ ap
-                  (λ (l : List Task). tasks_of (a.turns ++ turn ∷ []) ++ l) (sym none)));
+              (λ (l : List Task). tasks_of (a.turns ++ turn ∷ []) ++ l) (sym none)));
           gave =
               first_same _ _ _ grown (then_same _ _ _ (IsPermutation-append (all_born i a.turns) a.gave (born i turn) (p.gave ++ unpushed rest)
-                  gave p.all) (sym (append_assoc a.gave p.gave (unpushed rest))));
+              gave p.all) (sym (append_assoc a.gave p.gave (unpushed rest))));
         };
         one_of = subst (All (IsTask i)) (sym none) a.one_of;
         others_of = left;
@@ -119,10 +119,10 @@ module _ (begun old new : Watch) (before : Follows begun old) (after : Follows o
 
   -- the goals of one more node
   goals_grow : (goals : List ℕ) (made : Node) → AreGoals begun old goals → All (IsBelowView old) (goals_at made)
-        → All (IsReached new) (goals_at made) → AreGoals begun new (goals ++ goals_at made)
+      → All (IsReached new) (goals_at made) → AreGoals begun new (goals ++ goals_at made)
   goals_grow goals (node.Branch b) h below reached =
       subst (AreGoals begun new) (sym (append-nil goals))
-          (record { falls = h.falls; below = h.below; reached = All-weaker (IsReached old) (IsReached new) reached_still goals h.reached })
+      (record { falls = h.falls; below = h.below; reached = All-weaker (IsReached old) (IsReached new) reached_still goals h.reached })
   goals_grow goals (node.Leaf leaf) h below reached =
       let low = All-head (IsBelowView old) leaf.goal [] below in
       record {
@@ -135,10 +135,10 @@ module _ (begun old new : Watch) (before : Follows begun old) (after : Follows o
   goals_still goals h = record { falls = h.falls; below = h.below; reached = All-weaker (IsReached old) (IsReached new) reached_still goals h.reached }
 
   pub goals_more : (pieces all : List Piece) (piece : Piece) → all ≡ pieces ++ piece ∷ [] → AreGoals begun old (goals_of pieces)
-        → All (IsBelowView old) (goals_at piece.node) → All (IsReached new) (goals_at piece.node) → AreGoals begun new (goals_of all)
+      → All (IsBelowView old) (goals_at piece.node) → All (IsReached new) (goals_at piece.node) → AreGoals begun new (goals_of all)
   goals_more pieces all piece e h below reached =
       let grown = ap goals_of e ∙ (flat_map-append (λ (p : Piece). goals_at p.node) pieces (piece ∷ [])
-          ∙ ap (λ (l : List ℕ). goals_of pieces ++ l) (append-nil (goals_at piece.node))) in
+      ∙ ap (λ (l : List ℕ). goals_of pieces ++ l) (append-nil (goals_at piece.node))) in
       subst (AreGoals begun new) (sym grown) (goals_grow (goals_of pieces) piece.node h below reached)
 
 -- ---- the best plan

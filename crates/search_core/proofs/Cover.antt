@@ -91,7 +91,7 @@ abbrev pub HasPieces : World → World → Type 0
 HasPieces m n = (x : Piece) → Contains (all_pieces m) x → Contains (all_pieces n) x
 
 covered_still : (i : Instance) (m n : World) (plan : Plan) → HasPieces m n → (covered : IsCovered i m plan)
-      → Contains (open_names n) covered.open_plan.name → IsCovered i n plan
+    → Contains (open_names n) covered.open_plan.name → IsCovered i n plan
 covered_still i m n plan more covered there =
     let o = covered.open_plan in
     record {
@@ -114,7 +114,7 @@ open_still m n name same there = contained name (open_names n) (omega (arith, sa
 
 -- an event that leaves the open names and the known delay
 kept : (i : Instance) (top : ℕ) (m n : World) → HasPieces m n → HasOpen m n → known n ≡ known m → IsOneOf i top n.best
-      → Each (IsSound i (known m)) n.seats → Holds i top m → Holds i top n
+    → Each (IsSound i (known m)) n.seats → Holds i top m → Holds i top n
 kept i top m n more same knows best seats h = record {
   seats = let P : ℕ → Type 0 = λ k. Each (IsSound i k) n.seats in subst P (sym knows) seats;
   best = best;
@@ -128,7 +128,7 @@ put_open m w t there same g =
     omega (arith, open_weight g m, open_weight g (put m w t), put_weight (openw g) m w t there, same g)
 
 pub put_pieces : (m : World) (w : ℕ) (t : Worker) → IsThere m w → ((x : Piece) → Contains (worker_at m w).pieces x → Contains t.pieces x)
-      → HasPieces m (put m w t)
+    → HasPieces m (put m w t)
 put_pieces m w t there more x = pieces_put m.seats w t (idle_seat 0) x there (more x)
 
 pub same_pieces : (s t : Worker) → t.pieces ≡ s.pieces → (x : Piece) → Contains s.pieces x → Contains t.pieces x
@@ -169,14 +169,14 @@ names_count (Children names) name others e k = refl
 names_count (Value v) name others e k = absurd (omega (arith, ap length e))
 
 popped : (i : Instance) (top : ℕ) (m : World) (w : ℕ) (name : Name) (t : Worker) → IsThere m w → Pops (worker_at m w) name t → Holds i top m
-      → Holds i top (put m w t)
+    → Holds i top (put m w t)
 popped i top m w name t there p h =
     let s = worker_at m w in
     let hand : t.hand ≡ Task name = ap (λ (x : Worker). x.hand) p.after in
     local i top m w t there (ap (λ (x : Worker). x.pieces) p.after) (λ g. pops_open g s t name p)
     (λ k. counts t (Task name) hand (λ j. refl) k ∙ sym (counts s Empty p.hand (λ j. refl) k))
     (still_sound i (known m) s t (seat_sound i top m w there h) (ap (λ (x : Worker). x.seen) p.after) (ap (λ (x : Worker). x.pieces) p.after)
-        (no_value i t (Task name) hand (λ v e. cc))) h
+    (no_value i t (Task name) hand (λ v e. cc))) h
 
 looked : (i : Instance) (top : ℕ) (m : World) (w : ℕ) (t : Worker) → IsThere m w → Looks (worker_at m w) m.best t → Holds i top m → Holds i top (put m w t)
 looked i top m w t there p h =
@@ -199,7 +199,7 @@ pushed i top m w t there p h =
     local i top m w t there (ap (λ (x : Worker). x.pieces) p.after) (λ g. pushes_open g s t p)
     (λ k. counts t (children_left p.others) hand (left_counts p.others) k ∙ sym (counts s (Children (p.name ∷ p.others)) p.hand (λ j. refl) k))
     (still_sound i (known m) s t (seat_sound i top m w there h) (ap (λ (x : Worker). x.seen) p.after) (ap (λ (x : Worker). x.pieces) p.after)
-        (no_value i t (children_left p.others) hand (left_no_value p.others))) h
+    (no_value i t (children_left p.others) hand (left_no_value p.others))) h
 
 rested : (i : Instance) (top : ℕ) (m : World) (w : ℕ) (t : Worker) → IsThere m w → Rests (worker_at m w) t → Holds i top m → Holds i top (put m w t)
 rested i top m w t there p h =
@@ -208,7 +208,7 @@ rested i top m w t there p h =
     local i top m w t there (ap (λ (x : Worker). x.pieces) p.after) (λ g. rests_open g s t p)
     (λ k. counts t (children_left p.others) hand (left_counts p.others) k ∙ sym (names_count s.hand p.name p.others p.hand k))
     (still_sound i (known m) s t (seat_sound i top m w there h) (ap (λ (x : Worker). x.seen) p.after) (ap (λ (x : Worker). x.pieces) p.after)
-        (no_value i t (children_left p.others) hand (left_no_value p.others))) h
+    (no_value i t (children_left p.others) hand (left_no_value p.others))) h
 
 min_is : (a b : ℕ) → (min a b ≡ a) ⊎ (min a b ≡ b)
 min_is a b = elim (cases_lt a b) [ inl lt ↦ inl (omega arith) | inr le ↦ inr (omega arith) ]
@@ -220,7 +220,7 @@ lesser_is i top best v one value =
     elim (min_is best v) [ inl e ↦ subst P (sym e) one | inr e ↦ subst P (sym e) (inr value) ]
 
 offered : (i : Instance) (top : ℕ) (m : World) (w v : ℕ) (t : Worker) → IsThere m w → Offers (worker_at m w) v t → Holds i top m
-      → Holds i top (put (record m { best = min m.best v }) w t)
+    → Holds i top (put (record m { best = min m.best v }) w t)
 offered i top m w v t there p h =
     let s = worker_at m w in
     let sound = seat_sound i top m w there h in
@@ -232,10 +232,10 @@ offered i top m w v t there p h =
     kept i top m n (put_pieces m w t there (same_pieces s t pieces)) (put_open m w t there (λ g. offers_open g s t v p)) knows
     (lesser_is i top m.best v h.best (sound.value v p.hand))
     (Each-set (IsSound i (known m)) m.seats w t (still_sound i (known m) s t sound (ap (λ (x : Worker). x.seen) p.after) pieces
-        (no_value i t Empty hand (λ v e. cc))) h.seats) h
+    (no_value i t Empty hand (λ v e. cc))) h.seats) h
 
 stolen : (i : Instance) (top : ℕ) (m : World) (w v : ℕ) (name : Name) (t u : Worker) → IsThere m w → IsThere m v → w ≢ v
-      → TakesName (worker_at m w) name t → LosesFirst (worker_at m v) name u → Holds i top m → Holds i top (put (put m v u) w t)
+    → TakesName (worker_at m w) name t → LosesFirst (worker_at m v) name u → Holds i top m → Holds i top (put (put m v u) w t)
 stolen i top m w v name t u at from other r l h =
     let middle = put m v u in
     let s = worker_at m w in
@@ -249,9 +249,9 @@ stolen i top m w v name t u at from other r l h =
     least_put m.best middle.seats w t (idle_seat 0) (there_still m w v u at)
     (λ k. counts t (Task name) hand (λ j. refl) k ∙ sym (counts (worker_at middle w) Empty (ap (λ (x : Worker). x.hand) same ∙ r.hand) (λ j. refl) k)) in
     let sound_u = still_sound i (known m) (worker_at m v) u lost (ap (λ (x : Worker). x.seen) l.after) (ap (λ (x : Worker). x.pieces) l.after)
-        (λ k is. lost.value k (sym held ∙ is)) in
+    (λ k is. lost.value k (sym held ∙ is)) in
     let sound_t = still_sound i (known m) s t (seat_sound i top m w at h) (ap (λ (x : Worker). x.seen) r.after)
-        (ap (λ (x : Worker). x.pieces) r.after) (no_value i t (Task name) hand (λ v e. cc)) in
+    (ap (λ (x : Worker). x.pieces) r.after) (no_value i t (Task name) hand (λ v e. cc)) in
     kept i top m (put middle w t)
     (λ x there. put_pieces middle w t (there_still m w v u at) (same_pieces (worker_at middle w) t pieces) x
     (put_pieces m v u from (same_pieces (worker_at m v) u (ap (λ (x : Worker). x.pieces) l.after)) x there))
@@ -277,7 +277,7 @@ work_keeps m w worked t there p =
     subst P (sym (work_pieces s t worked p)) (Contains-append_left s.pieces (piece_made s t worked p ∷ []) x h))
 
 work_adds : (m : World) (w : ℕ) (worked : Worked) (t : Worker) (there : IsThere m w) (p : Works (worker_at m w) worked t)
-      → Contains (all_pieces (put m w t)) (piece_made (worker_at m w) t worked p)
+    → Contains (all_pieces (put m w t)) (piece_made (worker_at m w) t worked p)
 work_adds m w worked t there p =
     let s = worker_at m w in
     let piece = piece_made s t worked p in
@@ -287,27 +287,30 @@ work_adds m w worked t there p =
 
 -- what stands open at another name stands so still
 other_open : (m : World) (w : ℕ) (worked : Worked) (t : Worker) (there : IsThere m w) (p : Works (worker_at m w) worked t) (name : Name)
-      → name ≢ p.name → Contains (open_names m) name → Contains (open_names (put m w t)) name
+    → name ≢ p.name → Contains (open_names m) name → Contains (open_names (put m w t)) name
 other_open m w worked t there p name other h =
     contained name (open_names (put m w t))
     (omega (arith, work_open m w worked t there p (only name), only-other name p.name other, weighs name (open_names m) h))
 
 -- and so does a child of the piece
 child_open : (m : World) (w : ℕ) (worked : Worked) (t : Worker) (there : IsThere m w) (p : Works (worker_at m w) worked t) (j : ℕ)
-      → j < children (node_made worked) → Contains (open_names (put m w t)) (child_name p.name j)
+    → j < children (node_made worked) → Contains (open_names (put m w t)) (child_name p.name j)
 child_open m w worked t there p j inside =
     let name = child_name p.name j in
     let below = names_below (piece_made (worker_at m w) t worked p) in
     let count = children (node_made worked) in
-    let at : Contains below name = (j, omega (arith, length-map-range_with_len (child_name p.name) 0 count, inside),
-        get_or-map-range_with_len (child_name p.name) 0 count j j name inside (omega arith)) in
+    let at : Contains below name = (
+      j,
+      omega (arith, length-map-range_with_len (child_name p.name) 0 count, inside),
+      get_or-map-range_with_len (child_name p.name) 0 count j j name inside (omega arith),
+    ) in
     let other : name ≢ p.name = λ e. absurd (omega (arith, ap length e, length-append p.name (j ∷ []))) in
     contained name (open_names (put m w t))
     (omega (arith, work_open m w worked t there p (only name), only-other name p.name other, weighs name below at))
 
 -- a plan in the choice of the task is in a child's
 split_covers : (i : Instance) (m : World) (w : ℕ) (kind : Kind) (k : ℕ) (t : Worker) (there : IsThere m w)
-      (p : Works (worker_at m w) (Split kind k) t) (c : Choice) (plan : Plan)
+    (p : Works (worker_at m w) (Split kind k) t) (c : Choice) (plan : Plan)
     → IsChoice i c → IsIn i c plan → IsValid i plan → StandsAt i (all_pieces m) p.name c → IsBranch i c kind (children_of kind k) → IsCovered i (put m w t) plan
 split_covers i m w kind k t there p c plan choice within valid stands right =
     let n = put m w t in
@@ -332,7 +335,7 @@ abbrev Handles : Instance → World → World → ℕ → Name → Plan → Type
 Handles i m n goal name plan = (c : Choice) → IsChoice i c → IsIn i c plan → StandsAt i (all_pieces m) name c → delay i plan < goal → IsCovered i n plan
 
 work_covers : (i : Instance) (m : World) (w : ℕ) (worked : Worked) (t : Worker) (there : IsThere m w) (p : Works (worker_at m w) worked t)
-      (plan : Plan) (goal : ℕ)
+    (plan : Plan) (goal : ℕ)
     → Handles i m (put m w t) goal p.name plan → (covered : IsCovered i m plan) → delay i plan < goal → IsCovered i (put m w t) plan
 work_covers i m w worked t there p plan goal handles covered below =
     let o = covered.open_plan in
@@ -345,7 +348,7 @@ work_covers i m w worked t there p plan goal handles covered below =
 
 -- after work, where the piece's goal is at least k
 work_sound : (i : Instance) (k : ℕ) (s t : Worker) (worked : Worked) (p : Works s worked t) → IsSound i k s
-      → ((leaf : Leaf) → node_made worked ≡ node.Leaf leaf → k ≤ leaf.goal) → HasDelay i t → IsSound i k t
+    → ((leaf : Leaf) → node_made worked ≡ node.Leaf leaf → k ≤ leaf.goal) → HasDelay i t → IsSound i k t
 work_sound i k s t worked p sound goal value = record {
   seen = omega (arith, sound.seen, ap (λ (x : Worker). x.seen) p.after);
   leaves = λ piece leaf there is.
@@ -369,9 +372,9 @@ worked i top m w (Split kind k) t ok there p honest h =
     let n = put m w t in
     let hand : t.hand ≡ Children (child_names p.name k) = ap (λ (x : Worker). x.hand) p.after in
     let knows : known n ≡ known m = least_put m.best m.seats w t (idle_seat 0) there
-        (λ j. counts t (Children (child_names p.name k)) hand (λ l. refl) j ∙ sym (counts s (Task p.name) p.hand (λ l. refl) j)) in
+    (λ j. counts t (Children (child_names p.name k)) hand (λ l. refl) j ∙ sym (counts s (Task p.name) p.hand (λ l. refl) j)) in
     let sound = work_sound i (known m) s t (Split kind k) p (seat_sound i top m w there h) (λ leaf e. cc)
-        (no_value i t (Children (child_names p.name k)) hand (λ v e. cc)) in
+    (no_value i t (Children (child_names p.name k)) hand (λ v e. cc)) in
     record {
       seats = let P : ℕ → Type 0 = λ j. Each (IsSound i j) n.seats in subst P (sym knows) (Each-set (IsSound i (known m)) m.seats w t sound h.seats);
       best = h.best;
@@ -387,9 +390,9 @@ worked i top m w (Closed leaf) t ok there p honest h =
     let before = seat_sound i top m w there h in
     let hand : t.hand ≡ Empty = ap (λ (x : Worker). x.hand) p.after in
     let knows : known n ≡ known m = least_put m.best m.seats w t (idle_seat 0) there
-        (λ j. counts t Empty hand (λ l. refl) j ∙ sym (counts s (Task p.name) p.hand (λ l. refl) j)) in
+    (λ j. counts t Empty hand (λ l. refl) j ∙ sym (counts s (Task p.name) p.hand (λ l. refl) j)) in
     let sound = work_sound i (known m) s t (Closed leaf) p before (λ other e. omega (arith, leaf_goal leaf other e, p.fits, before.seen))
-        (no_value i t Empty hand (λ v e. cc)) in
+    (no_value i t Empty hand (λ v e. cc)) in
     record {
       seats = let P : ℕ → Type 0 = λ j. Each (IsSound i j) n.seats in subst P (sym knows) (Each-set (IsSound i (known m)) m.seats w t sound h.seats);
       best = h.best;
@@ -397,7 +400,7 @@ worked i top m w (Closed leaf) t ok there p honest h =
           let lower : delay i plan < known m = omega (arith, knows, below) in
           work_covers i m w (Closed leaf) t there p plan (known m)
           (λ c choice within stands b. absurd (leaf_leaves_none i c leaf ok choice (honest.1 p.name c p.hand stands) plan
-              (sought i c leaf.goal plan settled within (omega (arith, b, p.fits, before.seen)))))
+          (sought i c leaf.goal plan settled within (omega (arith, b, p.fits, before.seen)))))
           (h.cover plan settled lower) lower;
     }
 worked i top m w (Found leaf v) t ok there p honest h =
@@ -406,28 +409,28 @@ worked i top m w (Found leaf v) t ok there p honest h =
     let before = seat_sound i top m w there h in
     let hand : t.hand ≡ Value v = ap (λ (x : Worker). x.hand) p.after in
     let knows : known n ≡ min v (known m) = least_found m.best m.seats w t (idle_seat 0) v there (counts s (Task p.name) p.hand (λ l. refl))
-        (λ j. ap (λ x. with_hand x j) hand) in
+    (λ j. ap (λ x. with_hand x j) hand) in
     let lowered : known n ≤ known m = omega (arith, knows) in
     let least : known n ≤ leaf.goal = omega (arith, knows, p.fits.0) in
     let P : ℕ → Type 0 = λ u. IsDelay i u in
     let value : HasDelay i t = λ u is. (let e : v ≡ u = cc (hand, is) in subst P e honest.0) in
     let sound = work_sound i (known n) s t (Found leaf v) p (IsSound-lower i (known n) (known m) lowered s before)
-        (λ other e. omega (arith, leaf_goal leaf other e, least)) value in
+    (λ other e. omega (arith, leaf_goal leaf other e, least)) value in
     record {
       seats =
           Each-set (IsSound i (known n)) m.seats w t sound (Each-weaker (IsSound i (known m)) (IsSound i (known n)) m.seats
-              (IsSound-lower i (known n) (known m) lowered) h.seats);
+          (IsSound-lower i (known n) (known m) lowered) h.seats);
       best = h.best;
       cover = λ plan settled below.
           let lower : delay i plan < known m = omega (arith, lowered, below) in
           work_covers i m w (Found leaf v) t there p plan (known n)
           (λ c choice within stands b. absurd (leaf_leaves_none i c leaf ok choice (honest.1 p.name c p.hand stands) plan
-              (sought i c leaf.goal plan settled within (omega (arith, b, least)))))
+          (sought i c leaf.goal plan settled within (omega (arith, b, least)))))
           (h.cover plan settled lower) below;
     }
 
 step_holds : (i : Instance) (top : ℕ) (m : World) (event : Event) (n : World) (reply : Reply) → IsInstance i → Step m event n reply
-      → IsHonest i m event → Holds i top m → Holds i top n
+    → IsHonest i m event → Holds i top m → Holds i top n
 step_holds i top m _ _ _ ok (pops w name t there p) honest h = popped i top m w name t there p h
 step_holds i top m _ _ _ ok (steals w v name t u at from other r l) honest h = stolen i top m w v name t u at from other r l h
 step_holds i top m _ _ _ ok (looks w t there p) honest h = looked i top m w t there p h
@@ -437,7 +440,7 @@ step_holds i top m _ _ _ ok (offers w v t there p) honest h = offered i top m w 
 step_holds i top m _ _ _ ok (rests w t there p) honest h = rested i top m w t there p h
 
 runs_hold : (i : Instance) (top : ℕ) (m : World) (events : List Event) (result : Result Unit Illegal) (last : World) → IsInstance i
-      → Runs m events result last → AreHonest i m events → Holds i top m → Holds i top last
+    → Runs m events result last → AreHonest i m events → Holds i top m → Holds i top last
 runs_hold i top _ _ _ _ ok (ends m) honest h = h
 runs_hold i top _ _ _ _ ok (goes m event reply n step events result last run) honest h =
     let now = honest n reply step in
@@ -485,7 +488,7 @@ start_holds i (suc count) top ok some =
 -- what holds at a moment, as bounds
 
 leaves_at : (i : Instance) (k : ℕ) (seats : List Worker) → Each (IsSound i k) seats → (piece : Piece) (leaf : Leaf)
-      → Contains (flat_map pieces_of seats) piece → piece.node ≡ node.Leaf leaf → k ≤ leaf.goal
+    → Contains (flat_map pieces_of seats) piece → piece.node ≡ node.Leaf leaf → k ≤ leaf.goal
 leaves_at i k [] all piece leaf there is = absurd (omega (arith, there.1))
 leaves_at i k (s ∷ seats) all piece leaf there is =
     elim (Contains-append_cases s.pieces (flat_map pieces_of seats) piece there) [
@@ -501,7 +504,7 @@ known_reached i top m h =
     ]
 
 covers : (i : Instance) (top : ℕ) (m : World) → IsInstance i → Holds i top m → (plan : Plan) → IsValid i plan → delay i plan < known m
-      → (settled : Plan) × IsSettled i settled × (delay i settled ≤ delay i plan) × IsOpenPlan i m settled
+    → (settled : Plan) × IsSettled i settled × (delay i settled ≤ delay i plan) × IsOpenPlan i m settled
 covers i top m ok h plan valid below =
     let r = settled_reached i plan ok valid in
     (r.0, r.1, r.2, (h.cover r.0 r.1 (omega (arith, r.2, below))).open_plan)

@@ -54,7 +54,7 @@ there_still m w v u there = omega (arith, length-set m.seats v u)
 
 -- after work the hand holds the names below the piece
 pub hand_below : (name : Name) (seen : ℕ) (worked : Worked) → IsFitting seen worked
-      → held_names (hand_after name worked) ≡ names_below (record { name = name; node = node_made worked })
+    → held_names (hand_after name worked) ≡ names_below (record { name = name; node = node_made worked })
 hand_below name seen (Split kind k) fits = ap (child_names name) fits.1
 hand_below name seen (Closed leaf) fits = refl
 hand_below name seen (Found leaf v) fits = refl
@@ -92,11 +92,11 @@ pub looks_open : (g : Name → ℕ) (s t : Worker) (best : ℕ) → Looks s best
 looks_open g s t best h = ap (openw g) h.after
 
 pub works_open : (g : Name → ℕ) (s t : Worker) (worked : Worked) (h : Works s worked t)
-      → openw g t + g h.name ≡ openw g s + weigh g (names_below (piece_made s t worked h))
+    → openw g t + g h.name ≡ openw g s + weigh g (names_below (piece_made s t worked h))
 works_open g s t worked h =
     let hand : weigh g (held_names s.hand) ≡ g h.name + 0 = ap (λ x. weigh g (held_names x)) h.hand in
     let below : weigh g (held_names (hand_after h.name worked)) ≡ weigh g (names_below (piece_made s t worked h)) = ap (weigh g)
-        (hand_below h.name s.seen worked h.fits) in
+    (hand_below h.name s.seen worked h.fits) in
     let after : openw g t ≡ weigh g s.deque + weigh g (held_names (hand_after h.name worked)) + weigh g s.left = ap (openw g) h.after in
     omega (arith, hand, below, after)
 
@@ -123,7 +123,7 @@ rests_open g s t h =
 -- Steals move one name from one worker to another.
 
 pub steals_open : (g : Name → ℕ) (m : World) (w v : ℕ) (name : Name) (t u : Worker) → IsThere m w → IsThere m v → w ≢ v
-      → TakesName (worker_at m w) name t → LosesFirst (worker_at m v) name u
+    → TakesName (worker_at m w) name t → LosesFirst (worker_at m v) name u
     → weigh (openw g) (put (put m v u) w t).seats ≡ weigh (openw g) m.seats
 steals_open g m w v name t u at from other receives loses =
     let first = put_weight (openw g) m v u from in
@@ -133,7 +133,7 @@ steals_open g m w v name t u at from other receives loses =
 
 -- whatever the pieces of workers weigh, a steal leaves it
 pub steals_pieces : (f : List Piece → ℕ) (m : World) (w v : ℕ) (name : Name) (t u : Worker) → IsThere m w → IsThere m v → w ≢ v
-      → TakesName (worker_at m w) name t → LosesFirst (worker_at m v) name u
+    → TakesName (worker_at m w) name t → LosesFirst (worker_at m v) name u
     → weigh (λ (s : Worker). f s.pieces) (put (put m v u) w t).seats ≡ weigh (λ (s : Worker). f s.pieces) m.seats
 steals_pieces f m w v name t u at from other receives loses =
     let weight : Worker → ℕ = λ s. f s.pieces in

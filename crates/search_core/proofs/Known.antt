@@ -25,7 +25,7 @@ with_lesser (Value u) v k = omega arith
 
 -- a worker whose hand counts as before
 pub least_put : (best : ℕ) (xs : List Worker) (w : ℕ) (t d : Worker) → w < length xs
-      → ((k : ℕ) → with_hand t.hand k ≡ with_hand (get_or xs w d).hand k) → least_with best (set xs w t) ≡ least_with best xs
+    → ((k : ℕ) → with_hand t.hand k ≡ with_hand (get_or xs w d).hand k) → least_with best (set xs w t) ≡ least_with best xs
 least_put best [] w t d h same = refl
 least_put best (x ∷ xs) zero t d h same = same (least_with best xs)
 least_put best (x ∷ xs) (suc w) t d h same =
@@ -34,7 +34,7 @@ least_put best (x ∷ xs) (suc w) t d h same =
 
 -- a worker that found a value
 pub least_found : (best : ℕ) (xs : List Worker) (w : ℕ) (t d : Worker) (v : ℕ) → w < length xs → ((k : ℕ) → with_hand (get_or xs w d).hand k ≡ k)
-      → ((k : ℕ) → with_hand t.hand k ≡ min v k) → least_with best (set xs w t) ≡ min v (least_with best xs)
+    → ((k : ℕ) → with_hand t.hand k ≡ min v k) → least_with best (set xs w t) ≡ min v (least_with best xs)
 least_found best [] w t d v h none value = absurd (omega (arith, h))
 least_found best (x ∷ xs) zero t d v h none value = value (least_with best xs) ∙ ap (min v) (sym (none (least_with best xs)))
 least_found best (x ∷ xs) (suc w) t d v h none value =
@@ -43,7 +43,7 @@ least_found best (x ∷ xs) (suc w) t d v h none value =
 
 -- a worker that gave its value away
 pub least_given : (best : ℕ) (xs : List Worker) (w : ℕ) (t d : Worker) (v : ℕ) → w < length xs
-      → ((k : ℕ) → with_hand (get_or xs w d).hand k ≡ min v k) → ((k : ℕ) → with_hand t.hand k ≡ k) → least_with best xs ≡ min v (least_with best (set xs w t))
+    → ((k : ℕ) → with_hand (get_or xs w d).hand k ≡ min v k) → ((k : ℕ) → with_hand t.hand k ≡ k) → least_with best xs ≡ min v (least_with best (set xs w t))
 least_given best [] w t d v h value none = absurd (omega (arith, h))
 least_given best (x ∷ xs) zero t d v h value none = value (least_with best xs) ∙ ap (min v) (sym (none (least_with best xs)))
 least_given best (x ∷ xs) (suc w) t d v h value none =

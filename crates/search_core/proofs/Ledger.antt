@@ -67,7 +67,7 @@ Moves-none g s = record { took = omega arith; gave = omega arith; left = omega a
 
 -- the same at a worker that is the one
 at_worker : (g : Name → ℕ) (m : World) (w v : ℕ) (t : Worker) (took gave tasks children : List Name) → IsThere m v
-      → Moves g (worker_at m v) t took gave tasks children
+    → Moves g (worker_at m v) t took gave tasks children
     → Moves g (worker_at m w) (worker_at (put m v t) w) (cond (eqb v w) took []) (cond (eqb v w) gave []) (cond (eqb v w) tasks []) (cond (eqb v w) children [])
 at_worker g m w v t took gave tasks children there moves =
     elim (cases_eq v w) [
@@ -75,7 +75,7 @@ at_worker g m w v t took gave tasks children there moves =
           let test : eqb v w ≡ true = eq-eqb v w e in
           let here : worker_at (put m v t) v ≡ t = get_or-set_same m.seats v t (idle_seat 0) there in
           let P : Bool → Type 0 = λ b. Moves g (worker_at m w) (worker_at (put m v t) w) (cond b took []) (cond b gave []) (cond b tasks [])
-              (cond b children []) in
+          (cond b children []) in
           let Q : Worker → Type 0 = λ s. Moves g (worker_at m v) s took gave tasks children in
           let R : ℕ → Type 0 = λ x. Moves g (worker_at m x) (worker_at (put m v t) x) took gave tasks children in
           subst P (sym test) (subst R e (subst Q (sym here) moves))
@@ -84,7 +84,7 @@ at_worker g m w v t took gave tasks children there moves =
           let other : w ≢ v = λ e. ne (sym e) in
           let same : worker_at (put m v t) w ≡ worker_at m w = seat_other m w v t other in
           let P : Bool → Type 0 = λ b. Moves g (worker_at m w) (worker_at (put m v t) w) (cond b took []) (cond b gave []) (cond b tasks [])
-              (cond b children []) in
+          (cond b children []) in
           let Q : Worker → Type 0 = λ s. Moves g (worker_at m w) s [] [] [] [] in
           subst P (sym test) (subst Q (sym same) (Moves-none g (worker_at m w)))
     ]
@@ -130,17 +130,17 @@ left_children g (name ∷ names) = refl
 pop_moves : (g : Name → ℕ) (s t : Worker) (name : Name) → Pops s name t → Moves g s t (name ∷ []) [] [] []
 pop_moves g s t name p =
     by_hand g s t Empty (Task name) (name ∷ []) [] p.hand (ap (λ (x : Worker). x.hand) p.after) (ap (λ (x : Worker). x.pieces) p.after)
-        (ap (λ (x : Worker). x.left) p.after) (omega arith) refl
+    (ap (λ (x : Worker). x.left) p.after) (omega arith) refl
 
 receive_moves : (g : Name → ℕ) (s t : Worker) (name : Name) → TakesName s name t → Moves g s t (name ∷ []) [] [] []
 receive_moves g s t name p =
     by_hand g s t Empty (Task name) (name ∷ []) [] p.hand (ap (λ (x : Worker). x.hand) p.after) (ap (λ (x : Worker). x.pieces) p.after)
-        (ap (λ (x : Worker). x.left) p.after) (omega arith) refl
+    (ap (λ (x : Worker). x.left) p.after) (omega arith) refl
 
 offer_moves : (g : Name → ℕ) (s t : Worker) (v : ℕ) → Offers s v t → Moves g s t [] [] [] []
 offer_moves g s t v p =
     by_hand g s t (Value v) Empty [] [] p.hand (ap (λ (x : Worker). x.hand) p.after) (ap (λ (x : Worker). x.pieces) p.after)
-        (ap (λ (x : Worker). x.left) p.after) refl refl
+    (ap (λ (x : Worker). x.left) p.after) refl refl
 
 push_moves : (g : Name → ℕ) (s t : Worker) → Pushes s t → Moves g s t [] (take 1 (held_names s.hand)) [] []
 push_moves g s t p =
@@ -148,7 +148,7 @@ push_moves g s t p =
     let P : List Name → Type 0 = λ names. Moves g s t [] names [] [] in
     subst P (sym first)
     (by_hand g s t (Children (p.name ∷ p.others)) (children_left p.others) [] (p.name ∷ []) p.hand (ap (λ (x : Worker). x.hand) p.after)
-        (ap (λ (x : Worker). x.pieces) p.after) (ap (λ (x : Worker). x.left) p.after)
+    (ap (λ (x : Worker). x.pieces) p.after) (ap (λ (x : Worker). x.left) p.after)
     (omega (arith, left_tasks g p.others)) (omega (arith, left_children g p.others)))
 
 -- after work the hand holds no task, and the children below the piece
@@ -216,16 +216,16 @@ rest_moves g s t p =
 
 -- a worker that loses a name beside, and then one that moves
 steal_moves : (g : Name → ℕ) (m : World) (w a v : ℕ) (name : Name) (t u : Worker) → IsThere m a → IsThere m v → a ≢ v
-      → TakesName (worker_at m a) name t → LosesFirst (worker_at m v) name u
+    → TakesName (worker_at m a) name t → LosesFirst (worker_at m v) name u
     → Moves g (worker_at m w) (worker_at (put (put m v u) a t) w) (cond (eqb a w) (name ∷ []) []) (cond (eqb a w) [] []) (cond (eqb a w) [] [])
-        (cond (eqb a w) [] [])
+    (cond (eqb a w) [] [])
 steal_moves g m w a v name t u at from other r l =
     let middle = put m v u in
     let Q : Worker → Type 0 = λ s. Moves g s t (name ∷ []) [] [] [] in
     let mine : Moves g (worker_at middle a) t (name ∷ []) [] [] [] = subst Q (sym (seat_other m a v u other)) (receive_moves g (worker_at m a) t name r) in
     let second = at_worker g middle w a t (name ∷ []) [] [] [] (there_still m a v u at) mine in
     let quiet = silent g (worker_at m v) u (ap (λ (x : Worker). x.hand) l.after) (ap (λ (x : Worker). x.pieces) l.after)
-        (ap (λ (x : Worker). x.left) l.after) in
+    (ap (λ (x : Worker). x.left) l.after) in
     let first = at_worker g m w v u [] [] [] [] from quiet in
     record {
       took = omega (arith, first.took, second.took, none_either g (eqb v w));
@@ -235,12 +235,12 @@ steal_moves g m w a v name t u at from other r l =
 
 step_moves : (g : Name → ℕ) (w : ℕ) (m : World) (event : Event) (n : World) (reply : Reply) → Step m event n reply
     → Moves g (worker_at m w) (worker_at n w) (of_worker w event (name_told reply)) (of_worker w event (name_pushed m event))
-        (of_worker w event (task_left m event)) (of_worker w event (child_left m event))
+    (of_worker w event (task_left m event)) (of_worker w event (child_left m event))
 step_moves g w m _ _ _ (pops a name t there p) = at_worker g m w a t (name ∷ []) [] [] [] there (pop_moves g (worker_at m a) t name p)
 step_moves g w m _ _ _ (steals a v name t u at from other r l) = steal_moves g m w a v name t u at from other r l
 step_moves g w m _ _ _ (looks a t there p) =
     at_worker g m w a t [] [] [] [] there (silent g (worker_at m a) t (ap (λ (x : Worker). x.hand) p.after) (ap (λ (x : Worker). x.pieces) p.after)
-        (ap (λ (x : Worker). x.left) p.after))
+    (ap (λ (x : Worker). x.left) p.after))
 step_moves g w m _ _ _ (works a worked t there p) = at_worker g m w a t [] [] [] [] there (work_moves g (worker_at m a) t worked p)
 step_moves g w m _ _ _ (pushes a t there p) = at_worker g m w a t [] (take 1 (held_names (worker_at m a).hand)) [] [] there (push_moves g (worker_at m a) t p)
 step_moves g w m _ _ _ (offers a v t there p) = at_worker g m w a t [] [] [] [] there (offer_moves g (worker_at m a) t v p)
@@ -254,21 +254,36 @@ abbrev children_kept : ℕ → List Done → List Name
 children_kept w dones = flat_map (λ (d : Done). of_worker w d.event (child_left d.before d.event)) dones
 
 all_moves : (g : Name → ℕ) (w : ℕ) (m : World) (dones : List Done) (last : World) → Goes m dones last
-      → Moves g (worker_at m w) (worker_at last w) (taken w dones) (pushed w dones) (tasks_left w dones) (children_kept w dones)
+    → Moves g (worker_at m w) (worker_at last w) (taken w dones) (pushed w dones) (tasks_left w dones) (children_kept w dones)
 all_moves g w _ _ _ (none m) = Moves-none g (worker_at m w)
 all_moves g w _ _ _ (more m event reply n step dones last others) =
     let first = step_moves g w m event n reply step in
     let rest = all_moves g w n dones last others in
     record {
       took =
-          omega (arith, first.took, rest.took, weigh-append g (of_worker w event (name_told reply)) (taken w dones),
-              weigh-append g (of_worker w event (task_left m event)) (tasks_left w dones));
+          omega (
+            arith,
+            first.took,
+            rest.took,
+            weigh-append g (of_worker w event (name_told reply)) (taken w dones),
+            weigh-append g (of_worker w event (task_left m event)) (tasks_left w dones),
+          );
       gave =
-          omega (arith, first.gave, rest.gave, weigh-append g (of_worker w event (name_pushed m event)) (pushed w dones),
-              weigh-append g (of_worker w event (child_left m event)) (children_kept w dones));
+          omega (
+            arith,
+            first.gave,
+            rest.gave,
+            weigh-append g (of_worker w event (name_pushed m event)) (pushed w dones),
+            weigh-append g (of_worker w event (child_left m event)) (children_kept w dones),
+          );
       left =
-          omega (arith, first.left, rest.left, weigh-append g (of_worker w event (task_left m event)) (tasks_left w dones),
-              weigh-append g (of_worker w event (child_left m event)) (children_kept w dones));
+          omega (
+            arith,
+            first.left,
+            rest.left,
+            weigh-append g (of_worker w event (task_left m event)) (tasks_left w dones),
+            weigh-append g (of_worker w event (child_left m event)) (children_kept w dones),
+          );
     }
 
 -- before the first event a worker has no pieces, no hand, and has left nothing
@@ -300,12 +315,12 @@ accounted workers top dones last w run =
     let held = task_in s.hand ++ tasks_left w dones in
     let unpushed = children_in s.hand ++ children_kept w dones in
     let moves : (g : Name → ℕ) → Moves g (worker_at (start workers top) w) s (taken w dones) (pushed w dones) (tasks_left w dones)
-        (children_kept w dones) = λ g. all_moves g w (start workers top) dones last run in
+    (children_kept w dones) = λ g. all_moves g w (start workers top) dones last run in
     let no_task : (g : Name → ℕ) → weigh g (task_in (worker_at (start workers top) w).hand) ≡ 0 = λ g. ap (λ x. weigh g (task_in x)) fresh.hand in
     let no_children : (g : Name → ℕ) → weigh g (children_in (worker_at (start workers top) w).hand) ≡ 0 = λ g. ap (λ x. weigh g (children_in x)) fresh.hand in
     let no_names : (g : Name → ℕ) → namew g (worker_at (start workers top) w) ≡ 0 = λ g. ap (weigh (λ (piece : Piece). g piece.name)) fresh.pieces in
     let no_below : (g : Name → ℕ) → beloww g (worker_at (start workers top) w) ≡ 0 = λ g. ap (weigh (λ (piece : Piece). weigh g (names_below piece)))
-        fresh.pieces in
+    fresh.pieces in
     let no_left : (g : Name → ℕ) → weigh g (worker_at (start workers top) w).left ≡ 0 = λ g. ap (weigh g) fresh.left in
     record {
       held = held;

@@ -71,6 +71,32 @@ is_closed same = absurd (ap (λ (f : Known). f.closed) same)
 
 pub closes_at_9 : ClosesSharply one_message (root_choice one_message) leaf_at_9
 unfolding at_first sent arrived ended closed
-closes_at_9 =
-    (closed, (refl, (sent, m_is_sent, sent_later, (refl, (arrived, m_arrives, starts_later, (refl, (ended, q_ends, ends_sooner,
-    (refl, (closed, window_closes, is_closed, refl)))))))), refl)
+closes_at_9 = (
+  closed,
+  (
+    refl,
+    (
+      sent,
+      m_is_sent,
+      sent_later,
+      (
+        refl,
+        (
+          arrived,
+          m_arrives,
+          starts_later,
+          (
+            refl,
+            (
+              ended,
+              q_ends,
+              ends_sooner,
+              (refl, (closed, window_closes, is_closed, refl)),
+            ),
+          ),
+        ),
+      ),
+    ),
+  ),
+  refl,
+)

@@ -43,7 +43,7 @@ after_look : (m n : World) (r : Reply) → Step m (Look 0) n r → IsBare m → 
 after_look m _ _ (looks _ t there p) bare x h = bare x (none_new m 0 t there (ap (λ (s : Worker). s.pieces) p.after) x h)
 
 closes : (pieces : List Piece) → ((x : Piece) → ¬ Contains pieces x) → (name : Name) (c : Choice) → StandsAt one_message pieces name c
-      → ClosesSharply one_message c leaf_at_9
+    → ClosesSharply one_message c leaf_at_9
 closes pieces none _ _ at_root = closes_at_9
 closes pieces none _ _ (at_child piece c k there stands inside) = absurd (none piece there)
 

@@ -29,7 +29,7 @@ use Rattle.subtree_tasks.proofs.Weights.{weigh, weigh-get_or, only, only-same, c
 -- Pieces after an event: those before it, and the one that work makes.
 
 pieces_back : (xs : List Worker) (w : ℕ) (t d : Worker) (x : Piece) → w < length xs → Contains (flat_map pieces_of (set xs w t)) x
-      → Contains (flat_map pieces_of xs) x ⊎ Contains t.pieces x
+    → Contains (flat_map pieces_of xs) x ⊎ Contains t.pieces x
 pieces_back [] w t d x h there = inl there
 pieces_back (s ∷ xs) zero t d x h there =
     elim (Contains-append_cases t.pieces (flat_map pieces_of xs) x there) [
@@ -62,12 +62,12 @@ none_new m w t there same x h =
 -- the choice at a piece's name is the one that stood there before
 still_right : (i : Instance) (m n : World) → IsWholeTree (all_pieces m) (open_names m) → IsWholeTree (all_pieces n) (open_names n)
     → ((x : Piece) → Contains (all_pieces m) x → Contains (all_pieces n) x) → AreRight i (all_pieces m) → (x : Piece) (c : Choice)
-        → Contains (all_pieces m) x → StandsAt i (all_pieces n) x.name c → IsRight i c x.node
+    → Contains (all_pieces m) x → StandsAt i (all_pieces n) x.name c → IsRight i c x.node
 still_right i m n before after more right x c there stands =
     let r = stands_somehow i (all_pieces m) (open_names m) x.name before (Contains-append_left (names_of (all_pieces m)) (open_names m) x.name
-        (piece_named (all_pieces m) x there)) in
+    (piece_named (all_pieces m) x there)) in
     let same : r.0 ≡ c = stands_alone i (all_pieces n) (open_names n) x.name r.0 c after
-        (stands_still i (all_pieces m) (all_pieces n) more x.name r.0 r.1) stands in
+    (stands_still i (all_pieces m) (all_pieces n) more x.name r.0 r.1) stands in
     let P : Choice → Type 0 = λ d. IsRight i d x.node in
     subst P same (right x r.0 there r.1)
 
@@ -84,9 +84,9 @@ task_open m w worked t there p =
     (omega (arith, hand, only-same p.name, open_weight (only p.name) m, weigh-get_or (openw (only p.name)) m.seats w (idle_seat 0) there))
 
 worked_right : (i : Instance) (m : World) (w : ℕ) (worked : Worked) (t : Worker) (there : IsThere m w) (p : Works (worker_at m w) worked t)
-      → IsHonest i m (Work w worked)
+    → IsHonest i m (Work w worked)
     → IsWholeTree (all_pieces m) (open_names m) → IsWholeTree (all_pieces (put m w t)) (open_names (put m w t)) → AreRight i (all_pieces m)
-        → AreRight i (all_pieces (put m w t))
+    → AreRight i (all_pieces (put m w t))
 worked_right i m w worked t there p honest before after right x c at stands =
     let n = put m w t in
     let s = worker_at m w in
@@ -100,26 +100,26 @@ worked_right i m w worked t there p honest before after right x c at stands =
             | inl old ↦ still_right i m n before after more right x c (pieces_at m.seats w (idle_seat 0) x there old) stands
             | inr e ↦
                 let r = stands_somehow i (all_pieces m) (open_names m) p.name before
-                    (Contains-append_right (names_of (all_pieces m)) (open_names m) p.name (task_open m w worked t there p)) in
+                (Contains-append_right (names_of (all_pieces m)) (open_names m) p.name (task_open m w worked t there p)) in
                 let Q : Piece → Type 0 = λ y. StandsAt i (all_pieces n) y.name c in
                 let R : Piece → Type 0 = λ y. IsRight i c y.node in
                 let S : Choice → Type 0 = λ d. IsRight i d (node_made worked) in
                 let same : r.0 ≡ c = stands_alone i (all_pieces n) (open_names n) p.name r.0 c after
-                    (stands_still i (all_pieces m) (all_pieces n) more p.name r.0 r.1) (subst Q (sym e) stands) in
+                (stands_still i (all_pieces m) (all_pieces n) more p.name r.0 r.1) (subst Q (sym e) stands) in
                 subst R e (subst S same (honest.1 p.name r.0 p.hand r.1))
           ]
     ]
 
 local_right : (i : Instance) (m : World) (w : ℕ) (t : Worker) → IsThere m w → t.pieces ≡ (worker_at m w).pieces
     → IsWholeTree (all_pieces m) (open_names m) → IsWholeTree (all_pieces (put m w t)) (open_names (put m w t)) → AreRight i (all_pieces m)
-        → AreRight i (all_pieces (put m w t))
+    → AreRight i (all_pieces (put m w t))
 local_right i m w t there same before after right =
     kept_right i m (put m w t) before after (put_pieces m w t there (same_pieces (worker_at m w) t same)) (none_new m w t there same) right
 
 stolen_right : (i : Instance) (m : World) (w v : ℕ) (name : Name) (t u : Worker) → IsThere m w → IsThere m v → w ≢ v
-      → TakesName (worker_at m w) name t → LosesFirst (worker_at m v) name u
+    → TakesName (worker_at m w) name t → LosesFirst (worker_at m v) name u
     → IsWholeTree (all_pieces m) (open_names m) → IsWholeTree (all_pieces (put (put m v u) w t)) (open_names (put (put m v u) w t))
-        → AreRight i (all_pieces m) → AreRight i (all_pieces (put (put m v u) w t))
+    → AreRight i (all_pieces m) → AreRight i (all_pieces (put (put m v u) w t))
 stolen_right i m w v name t u at from other r l before after right =
     let middle = put m v u in
     let lost : u.pieces ≡ (worker_at m v).pieces = ap (λ (x : Worker). x.pieces) l.after in

@@ -18,7 +18,7 @@ pieces_at (s ∷ xs) (suc w) d x h there =
     Contains-append_right s.pieces (flat_map pieces_of xs) x (pieces_at xs w d x less there)
 
 pub pieces_put : (xs : List Worker) (w : ℕ) (t d : Worker) (x : Piece) → w < length xs → (Contains (get_or xs w d).pieces x → Contains t.pieces x)
-      → Contains (flat_map pieces_of xs) x → Contains (flat_map pieces_of (set xs w t)) x
+    → Contains (flat_map pieces_of xs) x → Contains (flat_map pieces_of (set xs w t)) x
 pieces_put [] w t d x h more there = there
 pieces_put (s ∷ xs) zero t d x h more there =
     elim (Contains-append_cases s.pieces (flat_map pieces_of xs) x there) [
@@ -33,7 +33,7 @@ pieces_put (s ∷ xs) (suc w) t d x h more there =
     ]
 
 pub pieces_new : (xs : List Worker) (w : ℕ) (t d : Worker) (x : Piece) → w < length (set xs w t) → w < length xs → Contains t.pieces x
-      → Contains (flat_map pieces_of (set xs w t)) x
+    → Contains (flat_map pieces_of (set xs w t)) x
 pieces_new xs w t d x there h here =
     let P : Worker → Type 0 = λ s. Contains s.pieces x in
     pieces_at (set xs w t) w d x there (subst P (sym (get_or-set_same xs w t d h)) here)

@@ -22,7 +22,7 @@ Balanced g seats = weigh (namew g) seats + weigh (openw g) seats ≡ g root_name
 
 -- a worker's change that leaves its pieces and open names
 kept : (g : Name → ℕ) (m : World) (w : ℕ) (t : Worker) → IsThere m w → t.pieces ≡ (worker_at m w).pieces → openw g t ≡ openw g (worker_at m w)
-      → Balanced g m.seats → Balanced g (put m w t).seats
+    → Balanced g m.seats → Balanced g (put m w t).seats
 kept g m w t there pieces opens before =
     let names : namew g t ≡ namew g (worker_at m w) = ap (weigh (λ (piece : Piece). g piece.name)) pieces in
     let below : beloww g t ≡ beloww g (worker_at m w) = ap (weigh (λ (piece : Piece). weigh g (names_below piece))) pieces in
@@ -30,7 +30,7 @@ kept g m w t there pieces opens before =
 
 -- a task becomes a piece
 worked_kept : (g : Name → ℕ) (m : World) (w : ℕ) (worked : Worked) (t : Worker) → IsThere m w → Works (worker_at m w) worked t → Balanced g m.seats
-      → Balanced g (put m w t).seats
+    → Balanced g (put m w t).seats
 worked_kept g m w worked t there h before =
     let s = worker_at m w in
     let piece = piece_made s t worked h in
@@ -39,8 +39,16 @@ worked_kept g m w worked t there h before =
     ap (weigh (λ (x : Piece). g x.name)) pieces ∙ weigh-append (λ (x : Piece). g x.name) s.pieces (piece ∷ []) in
     let below : beloww g t ≡ beloww g s + (weigh g (names_below piece) + 0) =
     ap (weigh (λ (x : Piece). weigh g (names_below x))) pieces ∙ weigh-append (λ (x : Piece). weigh g (names_below x)) s.pieces (piece ∷ []) in
-    omega (arith, before, names, below, works_open g s t worked h, put_weight (namew g) m w t there, put_weight (openw g) m w t there,
-        put_weight (beloww g) m w t there)
+    omega (
+      arith,
+      before,
+      names,
+      below,
+      works_open g s t worked h,
+      put_weight (namew g) m w t there,
+      put_weight (openw g) m w t there,
+      put_weight (beloww g) m w t there,
+    )
 
 pub step_kept : (g : Name → ℕ) (m : World) (event : Event) (n : World) (reply : Reply) → Step m event n reply → Balanced g m.seats → Balanced g n.seats
 step_kept g m _ _ _ (pops w name t there h) before = kept g m w t there (ap (λ (x : Worker). x.pieces) h.after) (pops_open g (worker_at m w) t name h) before
@@ -59,7 +67,7 @@ step_kept g m _ _ _ (offers w v t there h) before = kept g m w t there (ap (λ (
 step_kept g m _ _ _ (rests w t there h) before = kept g m w t there (ap (λ (x : Worker). x.pieces) h.after) (rests_open g (worker_at m w) t h) before
 
 runs_kept : (g : Name → ℕ) (m : World) (events : List Event) (result : Result Unit Illegal) (last : World) → Runs m events result last
-      → Balanced g m.seats → Balanced g last.seats
+    → Balanced g m.seats → Balanced g last.seats
 runs_kept g _ _ _ _ (ends m) before = before
 runs_kept g _ _ _ _ (goes m event reply n step events result last run) before =
     runs_kept g n events result last run (step_kept g m event n reply step before)
@@ -81,6 +89,6 @@ tree_at m balanced =
     (λ g. omega (arith, balanced g, weigh-append g (names_of (all_pieces m)) (open_names m), name_weight g m, open_weight g m, below_weight g m))
 
 pub whole_tree : (workers top : ℕ) (events : List Event) (result : Result Unit Illegal) (last : World) → 1 ≤ workers
-      → Runs (start workers top) events result last → IsWholeTree (all_pieces last) (open_names last)
+    → Runs (start workers top) events result last → IsWholeTree (all_pieces last) (open_names last)
 whole_tree workers top events result last some run =
     tree_at last (λ g. runs_kept g (start workers top) events result last run (start_balanced g workers top some))

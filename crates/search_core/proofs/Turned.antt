@@ -28,7 +28,7 @@ put_same m w s t is same =
     ap (λ seats. let n : World = record { best = m.best; seats = seats } in n) e
 
 pub refused_at : (m : World) (event : Event) (fault : Illegal) → (fault ≡ OutOfMemory → TakesMemory event) → HasWorkers m event
-      → IsUnmet (HasHand m event) (HasName m event) (HasFit m event) fault → IsIllegal m event fault
+    → IsUnmet (HasHand m event) (HasName m event) (HasFit m event) fault → IsIllegal m event fault
 refused_at m event NoSuchWorker memory there h = absurd h
 refused_at m event WrongHand memory there h = (there, h)
 refused_at m event EmptyDeque memory there h = (there, h)
@@ -36,34 +36,34 @@ refused_at m event Misfit memory there h = (there, h)
 refused_at m event OutOfMemory memory there h = (memory refl, there, h)
 
 pub popped : (m : World) (w : ℕ) (s t : Worker) (name : Name) → w < length m.seats → s ≡ get_or m.seats w s → Pops s name t
-      → Step m (Pop w) (put m w t) (reply.Name name)
+    → Step m (Pop w) (put m w t) (reply.Name name)
 popped m w s t name there is h =
     let P : Worker → Type 0 = λ x. Pops x name t in pops w name t there (subst P (seat_is m w s there is) h)
 
 pub pop_refused : (m : World) (w : ℕ) (s t : Worker) (fault : Illegal) → w < length m.seats → s ≡ get_or m.seats w s → t ≡ s
-      → IsUnmet (s.hand ≡ Empty) (s.deque ≢ []) (Unit {0}) fault → Answers m (Pop w) (Err fault) (put m w t)
+    → IsUnmet (s.hand ≡ Empty) (s.deque ≢ []) (Unit {0}) fault → Answers m (Pop w) (Err fault) (put m w t)
 pop_refused m w s t fault there is same h =
     let P : Worker → Type 0 = λ x. IsUnmet (x.hand ≡ Empty) (x.deque ≢ []) (Unit {0}) fault in
     (put_same m w s t is same, refused_at m (Pop w) fault (λ _. tt) there (subst P (seat_is m w s there is) h))
 
 pub looked : (m : World) (w : ℕ) (s t : Worker) → w < length m.seats → s ≡ get_or m.seats w s → Looks s m.best t
-      → Step m (Look w) (put m w t) (reply.Best m.best)
+    → Step m (Look w) (put m w t) (reply.Best m.best)
 looked m w s t there is h =
     let P : Worker → Type 0 = λ x. Looks x m.best t in looks w t there (subst P (seat_is m w s there is) h)
 
 pub look_refused : (m : World) (w : ℕ) (s t : Worker) (fault : Illegal) → w < length m.seats → s ≡ get_or m.seats w s → t ≡ s → fault ≢ OutOfMemory
-      → IsUnmet (HasTask s.hand) (Unit {0}) (Unit {0}) fault → Answers m (Look w) (Err fault) (put m w t)
+    → IsUnmet (HasTask s.hand) (Unit {0}) (Unit {0}) fault → Answers m (Look w) (Err fault) (put m w t)
 look_refused m w s t fault there is same none h =
     let P : Worker → Type 0 = λ x. IsUnmet (HasTask x.hand) (Unit {0}) (Unit {0}) fault in
     (put_same m w s t is same, refused_at m (Look w) fault (λ memory. absurd (none memory)) there (subst P (seat_is m w s there is) h))
 
 pub worked_on : (m : World) (w : ℕ) (s t : Worker) (worked : Worked) → w < length m.seats → s ≡ get_or m.seats w s → Works s worked t
-      → Step m (Work w worked) (put m w t) reply.Done
+    → Step m (Work w worked) (put m w t) reply.Done
 worked_on m w s t worked there is h =
     let P : Worker → Type 0 = λ x. Works x worked t in works w worked t there (subst P (seat_is m w s there is) h)
 
 pub work_refused : (m : World) (w : ℕ) (s t : Worker) (worked : Worked) (fault : Illegal) → w < length m.seats → s ≡ get_or m.seats w s → t ≡ s
-      → IsUnmet (HasTask s.hand) (Unit {0}) (IsFitting s.seen worked) fault → Answers m (Work w worked) (Err fault) (put m w t)
+    → IsUnmet (HasTask s.hand) (Unit {0}) (IsFitting s.seen worked) fault → Answers m (Work w worked) (Err fault) (put m w t)
 work_refused m w s t worked fault there is same h =
     let P : Worker → Type 0 = λ x. IsUnmet (HasTask x.hand) (Unit {0}) (IsFitting x.seen worked) fault in
     (put_same m w s t is same, refused_at m (Work w worked) fault (λ _. tt) there (subst P (seat_is m w s there is) h))
@@ -73,20 +73,20 @@ pushed_on m w s t there is h =
     let P : Worker → Type 0 = λ x. Pushes x t in pushes w t there (subst P (seat_is m w s there is) h)
 
 pub push_refused : (m : World) (w : ℕ) (s t : Worker) (fault : Illegal) → w < length m.seats → s ≡ get_or m.seats w s → t ≡ s
-      → IsUnmet (HasChildren s.hand) (Unit {0}) (Unit {0}) fault → Answers m (Push w) (Err fault) (put m w t)
+    → IsUnmet (HasChildren s.hand) (Unit {0}) (Unit {0}) fault → Answers m (Push w) (Err fault) (put m w t)
 push_refused m w s t fault there is same h =
     let P : Worker → Type 0 = λ x. IsUnmet (HasChildren x.hand) (Unit {0}) (Unit {0}) fault in
     (put_same m w s t is same, refused_at m (Push w) fault (λ _. tt) there (subst P (seat_is m w s there is) h))
 
 pub offered : (m : World) (w : ℕ) (s t : Worker) (v least : ℕ) → w < length m.seats → s ≡ get_or m.seats w s → Offers s v t → least ≡ min m.best v
-      → Step m (Offer w) (put (record m { best = least }) w t) (reply.Best least)
+    → Step m (Offer w) (put (record m { best = least }) w t) (reply.Best least)
 offered m w s t v least there is h e =
     let P : Worker → Type 0 = λ x. Offers x v t in
     let Q : ℕ → Type 0 = λ b. Step m (Offer w) (put (record m { best = b }) w t) (reply.Best b) in
     subst Q (sym e) (offers w v t there (subst P (seat_is m w s there is) h))
 
 pub offer_refused : (m : World) (w : ℕ) (s t : Worker) (fault : Illegal) → w < length m.seats → s ≡ get_or m.seats w s → t ≡ s → fault ≢ OutOfMemory
-      → IsUnmet (HasValue s.hand) (Unit {0}) (Unit {0}) fault → Answers m (Offer w) (Err fault) (put m w t)
+    → IsUnmet (HasValue s.hand) (Unit {0}) (Unit {0}) fault → Answers m (Offer w) (Err fault) (put m w t)
 offer_refused m w s t fault there is same none h =
     let P : Worker → Type 0 = λ x. IsUnmet (HasValue x.hand) (Unit {0}) (Unit {0}) fault in
     (put_same m w s t is same, refused_at m (Offer w) fault (λ memory. absurd (none memory)) there (subst P (seat_is m w s there is) h))
@@ -96,7 +96,7 @@ rested m w s t there is h =
     let P : Worker → Type 0 = λ x. Rests x t in rests w t there (subst P (seat_is m w s there is) h)
 
 pub rest_refused : (m : World) (w : ℕ) (s t : Worker) (fault : Illegal) → w < length m.seats → s ≡ get_or m.seats w s → t ≡ s
-      → IsUnmet (HasNames s.hand) (Unit {0}) (Unit {0}) fault → Answers m (Rest w) (Err fault) (put m w t)
+    → IsUnmet (HasNames s.hand) (Unit {0}) (Unit {0}) fault → Answers m (Rest w) (Err fault) (put m w t)
 rest_refused m w s t fault there is same h =
     let P : Worker → Type 0 = λ x. IsUnmet (HasNames x.hand) (Unit {0}) (Unit {0}) fault in
     (put_same m w s t is same, refused_at m (Rest w) fault (λ _. tt) there (subst P (seat_is m w s there is) h))
@@ -111,14 +111,14 @@ with_hand hand deque fit is OutOfMemory h = (is, h.1, h.2)
 
 -- the children behind the first
 pub children_behind : (parent : Name) (next last : ℕ) → next < last
-      → map (child_name parent) (range_with_len (next + 1) (last - (next + 1))) ≡ drop 1 (map (child_name parent) (range_with_len next (last - next)))
+    → map (child_name parent) (range_with_len (next + 1) (last - (next + 1))) ≡ drop 1 (map (child_name parent) (range_with_len next (last - next)))
 children_behind parent next last h =
     let e : last - next ≡ suc (last - (next + 1)) = omega arith in
     rw e refl
 
 pub stolen : (m : World) (w v : ℕ) (s t r u : Worker) (name copy : Name) → w < length m.seats → v < length m.seats → w ≢ v → copy ≡ name
-      → s ≡ get_or m.seats v s → LosesFirst s name u → r ≡ get_or (set m.seats v u) w r → TakesName r name t
-      → Step m (Steal w v) (put (put m v u) w t) (reply.Name copy)
+    → s ≡ get_or m.seats v s → LosesFirst s name u → r ≡ get_or (set m.seats v u) w r → TakesName r name t
+    → Step m (Steal w v) (put (put m v u) w t) (reply.Name copy)
 stolen m w v s t r u name copy at from other same is loses was receives =
     let P : Worker → Type 0 = λ x. LosesFirst x name u in
     let Q : Worker → Type 0 = λ x. TakesName x name t in
@@ -127,20 +127,20 @@ stolen m w v s t r u name copy at from other same is loses was receives =
     subst N (sym same) (steals w v name t u at from other (subst Q (seat_is m w r at e) receives) (subst P (seat_is m v s from is) loses))
 
 pub steal_refused : (m : World) (w v : ℕ) (r s u : Worker) (fault : Illegal) → w < length m.seats → v < length m.seats → w ≢ v
-      → r ≡ get_or m.seats w r → r.hand ≡ Empty → s ≡ get_or m.seats v s → u ≡ s → IsUnmet (Unit {0}) (s.deque ≢ []) (Unit {0}) fault
-      → Answers m (Steal w v) (Err fault) (put m v u)
+    → r ≡ get_or m.seats w r → r.hand ≡ Empty → s ≡ get_or m.seats v s → u ≡ s → IsUnmet (Unit {0}) (s.deque ≢ []) (Unit {0}) fault
+    → Answers m (Steal w v) (Err fault) (put m v u)
 steal_refused m w v r s u fault at from other was idle is same h =
     let P : Worker → Type 0 = λ x. IsUnmet (Unit {0}) (x.deque ≢ []) (Unit {0}) fault in
     let Q : Worker → Type 0 = λ x. x.hand ≡ Empty in (
       put_same m v s u is same,
       refused_at m (Steal w v) fault (λ _. tt) (at, from, other)
           (with_hand ((worker_at m w).hand ≡ Empty) ((worker_at m v).deque ≢ []) (Unit {0}) (subst Q (seat_is m w r at was) idle) fault
-              (subst P (seat_is m v s from is) h)),
+          (subst P (seat_is m v s from is) h)),
     )
 
 -- at first: the first worker, and so many more
 pub start_is : (workers top : ℕ) → 1 ≤ workers
-      → (record (idle_seat top) { deque = root_name ∷ [] }) ∷ replicate (workers - 1) (idle_seat top) ≡ (start workers top).seats
+    → (record (idle_seat top) { deque = root_name ∷ [] }) ∷ replicate (workers - 1) (idle_seat top) ≡ (start workers top).seats
 start_is workers top h =
     let e : workers ≡ suc (workers - 1) = omega arith in
     let P : ℕ → Type 0 = λ n. (record (idle_seat top) { deque = root_name ∷ [] }) ∷ replicate (workers - 1) (idle_seat top) ≡ (start n top).seats in
@@ -152,7 +152,7 @@ replicate_more zero x = refl
 replicate_more (suc n) x = ap (λ xs. x ∷ xs) (replicate_more n x)
 
 pub worker_more : (top counter : ℕ) (first : Worker) → 1 ≤ counter
-      → (first ∷ replicate (counter - 1) (idle_seat top)) ++ idle_seat top ∷ [] ≡ first ∷ replicate (counter + 1 - 1) (idle_seat top)
+    → (first ∷ replicate (counter - 1) (idle_seat top)) ++ idle_seat top ∷ [] ≡ first ∷ replicate (counter + 1 - 1) (idle_seat top)
 worker_more top counter first h =
     let e : suc (counter - 1) ≡ counter + 1 - 1 = omega arith in
     ap (λ xs. first ∷ xs) (replicate_more (counter - 1) (idle_seat top) ∙ ap (λ n. replicate n (idle_seat top)) e)
@@ -171,7 +171,7 @@ goes_on initial m n all before after event answer e step so_far result last run 
     so_far result last (subst P (sym e) (goes m event answer n step after result last run))
 
 pub stops_there : (initial m n : World) (all before after : List Event) (event : Event) (fault : Illegal) → before ≡ event ∷ after
-      → Answers m event (Err fault) n
+    → Answers m event (Err fault) n
     → ((result : Result Unit Illegal) (last : World) → Runs m before result last → Runs initial all result last)
     → Runs initial all (Err fault) n
 stops_there initial m n all before after event fault e refused so_far =

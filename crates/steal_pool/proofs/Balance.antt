@@ -21,7 +21,7 @@ weight_of v = cond v.live 1 0
 
 -- the count after a change of one view
 total_set : (views : List Tally) (port : ℕ) (v w : Tally) → get_elem? views port ≡ some v
-      → live_count (set views port w) + weight_of v ≡ live_count views + weight_of w
+    → live_count (set views port w) + weight_of v ≡ live_count views + weight_of w
 total_set [] port v w e = absurd (some-ne-none v (sym e))
 total_set (x ∷ xs) zero v w e =
     let is : weight_of x ≡ weight_of v = ap weight_of (some-injective x v e) in omega (arith, sum_by-cons weight_of w xs, sum_by-cons weight_of x xs)
@@ -36,7 +36,7 @@ weight_le (x ∷ xs) zero v e = let is : weight_of x ≡ weight_of v = ap weight
 weight_le (x ∷ xs) (suc port) v e = omega (arith, sum_by-cons weight_of x xs, weight_le xs port v e)
 
 each_set : (F : ℕ → Tally → Type 0) (views : List Tally) (port : ℕ) (w : Tally) → F port w
-      → ((j : ℕ) (u : Tally) → j ≢ port → get_elem? views j ≡ some u → F j u) → (j : ℕ) (u : Tally) → get_elem? (set views port w) j ≡ some u → F j u
+    → ((j : ℕ) (u : Tally) → j ≢ port → get_elem? views j ≡ some u → F j u) → (j : ℕ) (u : Tally) → get_elem? (set views port w) j ≡ some u → F j u
 each_set F views port w mine others j u e = ⊎_elim (λ (x : (j ≡ port) × (w ≡ u)). subst (λ (y : ℕ × Tally). F y.0 y.1) (λ i. (sym x.0 i, x.1 i)) mine)
     (λ (x : (j ≢ port) × (get_elem? views j ≡ some u)). others j u x.0 x.1) (at_set views port j w u e)
 
@@ -50,13 +50,17 @@ pushed_of v = v.pushed
 
 -- the fits of all views where one view keeps all but its lists
 same_each : (views : List Tally) (port : ℕ) (v w : Tally) → get_elem? views port ≡ some v → w.live ≡ v.live → w.owner ≡ v.owner → w.out ≡ v.out
-      → (v.owner ≡ false → w.pushed ≡ []) → (w.live ≡ false → (w.pushed ≡ []) × (w.taken ≡ [])) → FitsEach (live_count views) views
-      → FitsEach (live_count (set views port w)) (set views port w)
+    → (v.owner ≡ false → w.pushed ≡ []) → (w.live ≡ false → (w.pushed ≡ []) × (w.taken ≡ [])) → FitsEach (live_count views) views
+    → FitsEach (live_count (set views port w)) (set views port w)
 same_each views port v w at live owner out others ended each =
     let same = same_count views port v w at live in let mine = each port v at in
     each_set (FitsAt (live_count (set views port w))) views port w
-    (record { owner = λ o. let f = mine.owner (sym owner ∙ o) in (f.0, same ∙ f.1 ∙ ap (λ (k : ℕ). k + 1) (sym out)); others = λ o. others
-        (sym owner ∙ o); ended = ended })
+    (record {
+      owner = λ o. let f = mine.owner (sym owner ∙ o) in (f.0, same ∙ f.1 ∙ ap (λ (k : ℕ). k + 1) (sym out));
+      others = λ o. others
+          (sym owner ∙ o);
+      ended = ended;
+    })
     (λ j u other e. let f = each j u e in record { owner = λ o. ((f.owner o).0, same ∙ (f.owner o).1); others = f.others; ended = f.ended })
 
 begins_each : (port : ℕ) (v : Tally) → get_elem? (opened ∷ []) port ≡ some v → FitsAt 1 port v
@@ -67,14 +71,14 @@ pub begins : (P : Task → Type 0) → Fits P [] (opened ∷ [])
 begins P = record { balance = IsPermutation-refl []; each = begins_each; tasks = All-nil P }
 
 pub pushes : (P : Task → Type 0) (port : ℕ) (v : Tally) (xs : List Task) → All P xs → v.owner ≡ true → v.live ≡ true
-      → deque.Pushes (Fits P) port v xs (Pushed v xs)
+    → deque.Pushes (Fits P) port v xs (Pushed v xs)
 pushes P port v xs all owner live items views h at =
     let w = with_pushed v xs in
     let ts = all_taken views in
     let more : IsPermutation (all_pushed (set views port w)) (xs ++ all_pushed views) = more_in_one (λ (u : Tally). u.pushed) views port v w xs at refl in
     let same : all_taken (set views port w) ≡ ts = same_in_all (λ (u : Tally). u.taken) views port v w at refl in
     let around : IsPermutation (xs ++ all_pushed views) ((ts ++ items) ++ xs) = IsPermutation-trans _ _ _
-        (IsPermutation-append_right xs _ _ h.balance) (IsPermutation-append_comm xs (ts ++ items)) in (
+    (IsPermutation-append_right xs _ _ h.balance) (IsPermutation-append_comm xs (ts ++ items)) in (
       w,
       record {
         balance = then_same _ _ _ (IsPermutation-trans _ _ _ more around) (append_assoc ts items xs ∙ ap (λ (l : List Task). l ++ (items ++ xs)) (sym same));
@@ -86,7 +90,7 @@ pushes P port v xs all owner live items views h at =
 
 -- some tasks leave the deque, and one pass has taken them
 leaves : (P : Task → Type 0) (port : ℕ) (v : Tally) (xs : List Task) → v.live ≡ true → (items : List Task) (views : List Tally) → All P items
-      → IsPermutation (all_pushed views) (all_taken views ++ (xs ++ items)) → FitsEach (live_count views) views → get_elem? views port ≡ some v
+    → IsPermutation (all_pushed views) (all_taken views ++ (xs ++ items)) → FitsEach (live_count views) views → get_elem? views port ≡ some v
     → Fits P items (set views port (with_taken v xs))
 leaves P port v xs live items views all balance each at =
     let w = with_taken v xs in
@@ -95,7 +99,7 @@ leaves P port v xs live items views all balance each at =
     let same : all_pushed (set views port w) ≡ all_pushed views = same_in_all (λ (u : Tally). u.pushed) views port v w at refl in
     let around : IsPermutation (ts ++ (xs ++ items)) (xs ++ (ts ++ items)) = second_first ts xs items in
     let end : IsPermutation (xs ++ (ts ++ items)) (all_taken (set views port w) ++ items) = first_same _ _ _ (sym (append_assoc xs ts items))
-        (IsPermutation-append_left items _ _ (IsPermutation-sym _ _ more)) in
+    (IsPermutation-append_left items _ _ (IsPermutation-sym _ _ more)) in
     record {
       balance = first_same _ _ _ same (IsPermutation-trans _ _ _ balance (IsPermutation-trans _ _ _ around end));
       each = same_each views port v w at refl refl refl (each port v at).others (λ dead. absurd (true≢false (sym live ∙ dead))) each;
@@ -110,7 +114,7 @@ all_behind : (P : Task → Type 0) (xs ys : List Task) → All P (xs ++ ys) → 
 all_behind P xs ys all k d h =
     let place : length xs + k - length xs ≡ k = omega arith in
     subst P (get_or-append_right xs ys (length xs) (length xs + k) d refl (omega arith) ∙ ap (λ (n : ℕ). get_or ys n d) place)
-        (all (length xs + k) d (omega (arith, h, length-append xs ys)))
+    (all (length xs + k) d (omega (arith, h, length-append xs ys)))
 
 weightless : (b : Bool) → cond {A = ℕ} b 1 0 ≡ 0 → b ≡ false
 weightless true e = absurd (omega arith)
@@ -118,7 +122,7 @@ weightless false e = refl
 
 -- with no other pass out, all others are no more
 others_ended : (views : List Tally) (port : ℕ) (v : Tally) → get_elem? views port ≡ some v → v.live ≡ true → live_count views ≡ 1
-      → FitsEach (live_count views) views → (j : ℕ) (u : Tally) → j ≢ port → get_elem? views j ≡ some u → (u.pushed ≡ []) × (u.taken ≡ [])
+    → FitsEach (live_count views) views → (j : ℕ) (u : Tally) → j ≢ port → get_elem? views j ≡ some u → (u.pushed ≡ []) × (u.taken ≡ [])
 others_ended views port v at live one each j u apart there =
     let ws = set views j spent in
     let less : live_count ws + weight_of u ≡ live_count views + 0 = total_set views j u spent there in
@@ -129,7 +133,7 @@ others_ended views port v at live one each j u apart there =
 
 -- and then all that was pushed and taken is this one's
 alone : (P : Task → Type 0) (port : ℕ) (v : Tally) (items : List Task) (views : List Tally) → Fits P items views → get_elem? views port ≡ some v
-      → v.owner ≡ true → v.live ≡ true → v.out ≡ 0 → (all_pushed views ≡ v.pushed) × (all_taken views ≡ v.taken)
+    → v.owner ≡ true → v.live ≡ true → v.out ≡ 0 → (all_pushed views ≡ v.pushed) × (all_taken views ≡ v.taken)
 alone P port v items views h at is_owner live none_out =
     let one : live_count views ≡ 1 = ((h.each port v at).owner is_owner).1 ∙ ap (λ (k : ℕ). k + 1) none_out in
     let ended = others_ended views port v at live one h.each in (
@@ -148,26 +152,31 @@ within P port v items views h at is_owner live none_out =
     omega (arith, length-append (all_taken views) items)
 
 sources : (P : Task → Type 0) (port : ℕ) (v : Tally) (items : List Task) (views : List Tally) → Fits P items views → get_elem? views port ≡ some v
-      → HasSources v
+    → HasSources v
 sources P port v items views h at is_owner live none_out =
     let mine = alone P port v items views h at is_owner live none_out in
     λ t there.
     let among : Contains (all_taken views ++ items) t = Contains-append_left (all_taken views) items t
-        (subst (λ (l : List Task). Contains l t) (sym mine.1) there) in
+    (subst (λ (l : List Task). Contains l t) (sym mine.1) there) in
     subst (λ (l : List Task). Contains l t) mine.0 (Contains-permutation (all_taken views ++ items) (all_pushed views) t
-        (IsPermutation-sym _ _ h.balance) among)
+    (IsPermutation-sym _ _ h.balance) among)
 
 pub learns : (P : Task → Type 0) (port : ℕ) (v : Tally) → deque.Learns (Fits P) port v (λ items. IsWithin v × HasSources v)
 learns P port v items views h at = (within P port v items views h at, sources P port v items views h at)
 
 -- what is known of a pass that took these
 taken_of : (P : Task → Type 0) (port : ℕ) (v : Tally) (xs items : List Task) (views : List Tally) → Fits P items (set views port (with_taken v xs))
-      → get_elem? views port ≡ some v → All P xs → Took P v xs (with_taken v xs)
+    → get_elem? views port ≡ some v → All P xs → Took P v xs (with_taken v xs)
 taken_of P port v xs items views now at all =
     let w = with_taken v xs in
     let here : get_elem? (set views port w) port ≡ some w = set_here views port w (at_length views port v at) in
-    record { after = refl; within = within P port w items (set views port w) now here; sources = sources P port w items (set views port w)
-        now here; tasks = all }
+    record {
+      after = refl;
+      within = within P port w items (set views port w) now here;
+      sources = sources P port w items (set views port w)
+          now here;
+      tasks = all;
+    }
 
 pub takes : (P : Task → Type 0) (port : ℕ) (v : Tally) → v.live ≡ true → deque.Takes (Fits P) port v 1 (Took P v)
 takes P port v live xs items views _ _ h at =
@@ -178,7 +187,7 @@ pub pops : (P : Task → Type 0) (port : ℕ) (v : Tally) → v.live ≡ true �
 pops P port v live x items views h at =
     let xs = x ∷ [] in let w = with_taken v xs in
     let now = leaves P port v xs live items views (all_before P items xs h.tasks)
-        (IsPermutation-trans _ _ _ h.balance (IsPermutation-append_right (all_taken views) _ _ (IsPermutation-append_comm items xs))) h.each at in
+    (IsPermutation-trans _ _ _ h.balance (IsPermutation-append_right (all_taken views) _ _ (IsPermutation-append_comm items xs))) h.each at in
     (w, now, taken_of P port v xs items views now at (all_behind P items xs h.tasks))
 
 newcomer_fits : (count port : ℕ) → FitsAt count port newcomer
@@ -197,9 +206,9 @@ forks P port v is_owner items views h at =
     let count : live_count ws ≡ live_count views + 1 = sum_by_push weight_of vs newcomer ∙ ap (λ (k : ℕ). k + 1) (same_count views port v l at refl) in
     let first : (port ≡ 0) × (live_count views ≡ v.out + 1) = mine.owner is_owner in
     let pushed : all_pushed ws ≡ all_pushed views = all_snoc (λ (u : Tally). u.pushed) vs newcomer refl
-        ∙ same_in_all (λ (u : Tally). u.pushed) views port v l at refl in
+    ∙ same_in_all (λ (u : Tally). u.pushed) views port v l at refl in
     let taken : all_taken ws ≡ all_taken views = all_snoc (λ (u : Tally). u.taken) vs newcomer refl
-        ∙ same_in_all (λ (u : Tally). u.taken) views port v l at refl in
+    ∙ same_in_all (λ (u : Tally). u.taken) views port v l at refl in
     let old : (j : ℕ) (u : Tally) → get_elem? vs j ≡ some u → FitsAt (live_count ws) j u =
     each_set (FitsAt (live_count ws)) views port l
     (record { owner = λ _. (first.0, count ∙ ap (λ (k : ℕ). k + 1) first.1); others = mine.others; ended = mine.ended })
@@ -217,7 +226,7 @@ settles P port v views h at is_owner live none_out =
     first_same _ _ _ (sym mine.0) (then_same _ _ _ h.balance (append-nil (all_taken views) ∙ mine.1))
 
 pub merges : (P : Task → Type 0) (port : ℕ) (v : Tally) (other : ℕ) (w : Tally) → v.owner ≡ true → v.live ≡ true → w.owner ≡ false → w.live ≡ true
-      → deque.Merges (Fits P) port v other w (taken_in v w) spent
+    → deque.Merges (Fits P) port v other w (taken_in v w) spent
 merges P port v other w is_owner live guest alive items views h at two at' =
     let b = taken_in v w in let vs = set views port b in let ws = set vs other spent in let zs = set views other spent in
     let apart : port ≢ other = λ e. two (sym e) in
@@ -238,7 +247,7 @@ merges P port v other w is_owner live guest alive items views h at two at' =
     same_in_all (λ (u : Tally). u.pushed) vs other w spent at' (sym (theirs.others guest)) ∙ same_in_all (λ (u : Tally). u.pushed) views port v b at refl in
     let taken : IsPermutation (all_taken ws) (all_taken views) =
     first_same _ _ _ (ap all_taken turned) (IsPermutation-trans _ _ _ (more_in_one (λ (u : Tally). u.taken) zs port v b w.taken here refl)
-        (IsPermutation-sym _ _ (less_in_one (λ (u : Tally). u.taken) views other w spent was refl))) in
+    (IsPermutation-sym _ _ (less_in_one (λ (u : Tally). u.taken) views other w spent was refl))) in
     record {
       balance = first_same _ _ _ pushed (IsPermutation-trans _ _ _ h.balance (IsPermutation-append_left items _ _ (IsPermutation-sym _ _ taken)));
       each = each_set (FitsAt (live_count ws)) vs other spent (spent_fits (live_count ws) other)
@@ -249,7 +258,7 @@ merges P port v other w is_owner live guest alive items views h at two at' =
             ended = λ dead. absurd (true≢false (sym live ∙ dead));
           }))
           (λ (x : (j ≢ port) × (get_elem? views j ≡ some u)). let f = h.each j u x.1 in record
-              { owner = λ o. absurd (x.0 ((f.owner o).0 ∙ sym first.0)); others = f.others; ended = f.ended })
+          { owner = λ o. absurd (x.0 ((f.owner o).0 ∙ sym first.0)); others = f.others; ended = f.ended })
           (at_set views port j b u e));
       tasks = h.tasks;
     }

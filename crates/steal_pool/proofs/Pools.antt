@@ -14,19 +14,19 @@ use Rattle.steal_pool.specs.Hand.{pushed, taken, own_taken, own_deque, deques, o
 use Rattle.steal_pool.proofs.Orders.{at_length, snoc_cases, none_in_all}
 
 pub changed : {J : Type 0} → (hands : List (Hand J)) (place : ℕ) (R : Hand J → Hand J → Type 0) (g h : Hand J) → place < length hands
-      → g ≡ get_or hands place g → R g h → ChangesAt hands place R (set hands place h)
+    → g ≡ get_or hands place g → R g h → ChangesAt hands place R (set hands place h)
 changed hands place R g h small at r = (g, h, at_index hands place g small at, refl, r)
 
 abbrev pub Each : {J : Type 0} → (ℕ → Hand J → Type 0) → List (Hand J) → Type 0
 Each {J} F hands = (place : ℕ) (h : Hand J) → get_elem? hands place ≡ some h → F place h
 
 pub each_change : {J : Type 0} → (F G : ℕ → Hand J → Type 0) (old : List (Hand J)) (place : ℕ) (R : Hand J → Hand J → Type 0) (new : List (Hand J))
-      → Each F old → ChangesAt old place R new
+    → Each F old → ChangesAt old place R new
     → ((k : ℕ) (h : Hand J) → k ≢ place → F k h → G k h) → ((g h : Hand J) → F place g → R g h → G place h) → Each G new
 each_change {J} F G old place R new all change others here k x e =
     ⊎_elim
     (λ (p : (k ≡ place) × (change.1 ≡ x)). subst (λ (y : ℕ × Hand J). G y.0 y.1) (λ i. (sym p.0 i, p.1 i))
-        (here change.0 change.1 (all place change.0 change.2) change.4))
+    (here change.0 change.1 (all place change.0 change.2) change.4))
     (λ (p : (k ≢ place) × (get_elem? old k ≡ some x)). others k x p.0 (all k x p.1))
     (at_set old place k change.1 x (subst (λ (l : List (Hand J)). get_elem? l k ≡ some x) change.3 e))
 
@@ -54,7 +54,7 @@ map_append f (x ∷ xs) ys = λ k. f x ∷ map_append f xs ys k
 
 -- one more way is made
 pub opens : {J : Type 0} → (ids : List DequeId) (to from : ℕ) (old : List (Hand J)) (d : Door J) (new : List (Hand J))
-      → Each (Made ids to from from) old → ChangesAt old from (λ g h. OpensDoor g d h) new
+    → Each (Made ids to from from) old → ChangesAt old from (λ g h. OpensDoor g d h) new
     → Each (Made ids to (from + 1) from) new × (get_elem? ids from ≡ some (deque_of d)) × (taken_by d ≡ [])
 opens ids to from old d new all change = (
   each_change (Made ids to from from) (Made ids to (from + 1) from) old from (λ g h. OpensDoor g d h) new all change
@@ -87,7 +87,7 @@ opens ids to from old d new all change = (
 )
 
 pub adds : {J : Type 0} → (ids : List DequeId) (to from : ℕ) (old : List (Hand J)) (d : Door J) (new : List (Hand J))
-      → Each (Made ids to (from + 1) from) old → get_elem? ids from ≡ some (deque_of d) → taken_by d ≡ [] → ChangesAt old to (λ g h. AddsDoor g d h) new
+    → Each (Made ids to (from + 1) from) old → get_elem? ids from ≡ some (deque_of d) → taken_by d ≡ [] → ChangesAt old to (λ g h. AddsDoor g d h) new
     → Each (Made ids to (from + 1) (from + 1)) new
 adds ids to from old d new all leads unused change =
     each_change (Made ids to (from + 1) from) (Made ids to (from + 1) (from + 1)) old to (λ g h. AddsDoor g d h) new all change
@@ -110,21 +110,21 @@ adds ids to from old d new all leads unused change =
       own_taken = a.own_taken ∙ m.own_taken;
       ways_taken =
           ap (flat_map taken_by) a.doors ∙ (flat_map-append taken_by g.doors.items (d ∷ [])
-              ∙ (ap (λ (l : List Task). l ++ (taken_by d ++ [])) m.ways_taken ∙ ap (λ (l : List Task). l ++ []) unused));
+          ∙ (ap (λ (l : List Task). l ++ (taken_by d ++ [])) m.ways_taken ∙ ap (λ (l : List Task). l ++ []) unused));
       before = λ less. absurd (omega arith);
       after = λ less. absurd (omega arith);
       here =
           λ is. ap (map deque_of) a.doors ∙ (map_append deque_of g.doors.items (d ∷ [])
-              ∙ (ap (λ (l : List DequeId). l ++ deque_of d ∷ []) (m.here is) ∙ sym (take_snoc ids from (deque_of d) leads)));
+          ∙ (ap (λ (l : List DequeId). l ++ deque_of d ∷ []) (m.here is) ∙ sym (take_snoc ids from (deque_of d) leads)));
       opened = λ less. a.out ∙ m.opened less;
       unopened = λ le. a.out ∙ m.unopened le;
     })
 
 pub fresh_more : {J : Type 0} → (hands : List (Hand J)) (n : ℕ) (h : Hand J) → n ≡ length hands → Each IsFresh hands → IsFresh n h
-      → Each IsFresh (hands ++ h ∷ [])
+    → Each IsFresh (hands ++ h ∷ [])
 fresh_more {J} hands n h long all new k x e =
     ⊎_elim (all k x) (λ (p : (k ≡ length hands) × (h ≡ x)). subst (λ (y : ℕ × Hand J). IsFresh y.0 y.1) (λ i. ((long ∙ sym p.0) i, p.1 i)) new)
-        (snoc_cases hands h x k e)
+    (snoc_cases hands h x k e)
 
 pub starts : {J : Type 0} → (hands : List (Hand J)) → Each IsFresh hands → Each (Made (map own_deque hands) 0 0 0) hands
 starts hands all k h e = let f = all k h e in record {
@@ -144,7 +144,7 @@ pub less_cases : (k n : ℕ) → k < n + 1 → (k < n) ⊎ (k ≡ n)
 less_cases k n h = grind arith
 
 pub turns : {J : Type 0} → (ids : List DequeId) (to n : ℕ) (hands : List (Hand J)) → n ≡ length ids → n ≡ length hands → Each (Made ids to n n) hands
-      → Each (Made ids (to + 1) 0 0) hands
+    → Each (Made ids (to + 1) 0 0) hands
 turns ids to n hands long many all k h e =
     let m = all k h e in let small : k < n = rw many (at_length hands k h e) in
     let whole : take n ids ≡ ids = ap (λ (j : ℕ). take j ids) long ∙ take-length ids in

@@ -25,14 +25,14 @@ few_children i c (Chan m) w ok is = omega arith
 
 -- a child's number is small
 pub small_number : (i : Instance) (c : Choice) (kind : Kind) (decisions : List Decision) (k : ℕ) → IsInstance i → IsChoice i c → IsOpen i c kind
-      → decisions ≡ decisions_of i c kind → k < length decisions → k + 1 ≤ MOST_NODES
+    → decisions ≡ decisions_of i c kind → k < length decisions → k + 1 ≤ MOST_NODES
 small_number i c kind decisions k w ok is same inside =
     omega (arith, inside, ap length same, length-decisions_of i c kind, few_children i c kind w ok is)
 
 -- the next name, and the next task's decisions
 pub names_more : (name : Name) (tasks after : List Task) (task : Task) (done : List Decision) (next : Decision) → after ≡ tasks ++ task ∷ []
-      → task.name ≡ child_name name (length done) → map (λ (t : Task). t.name) tasks ≡ child_names name (length done)
-      → map (λ (t : Task). t.name) after ≡ child_names name (length (done ++ next ∷ []))
+    → task.name ≡ child_name name (length done) → map (λ (t : Task). t.name) tasks ≡ child_names name (length done)
+    → map (λ (t : Task). t.name) after ≡ child_names name (length (done ++ next ∷ []))
 names_more name tasks after task done next pushed named before =
     let all = ap (map (λ (t : Task). t.name)) pushed ∙ map-append (λ (t : Task). t.name) tasks (task ∷ []) in
     let both : map (λ (t : Task). t.name) tasks ++ task.name ∷ [] ≡ child_names name (length done) ++ child_name name (length done) ∷ [] = cc in
@@ -45,8 +45,8 @@ abbrev pub with_one : List Decision → Decision → List Decision
 with_one above d = above ++ d ∷ []
 
 pub decisions_more : (above : List Decision) (tasks after : List Task) (task : Task) (done : List Decision) (next : Decision)
-      → after ≡ tasks ++ task ∷ [] → task.decisions ≡ with_one above next → map (λ (t : Task). t.decisions) tasks ≡ map (with_one above) done
-      → map (λ (t : Task). t.decisions) after ≡ map (with_one above) (done ++ next ∷ [])
+    → after ≡ tasks ++ task ∷ [] → task.decisions ≡ with_one above next → map (λ (t : Task). t.decisions) tasks ≡ map (with_one above) done
+    → map (λ (t : Task). t.decisions) after ≡ map (with_one above) (done ++ next ∷ [])
 decisions_more above tasks after task done next pushed is before =
     let all = ap (map (λ (t : Task). t.decisions)) pushed ∙ map-append (λ (t : Task). t.decisions) tasks (task ∷ []) in
     let both : map (λ (t : Task). t.decisions) tasks ++ task.decisions ∷ [] ≡ map (with_one above) done ++ with_one above next ∷ [] = cc in
@@ -54,13 +54,13 @@ decisions_more above tasks after task done next pushed is before =
 
 -- all of them
 pub all_children : (i : Instance) (t : Task) (kind : Kind) (decisions done : List Decision) (tasks : List Task)
-      → decisions ≡ decisions_of i (choice_of i t) kind → map (λ (d : Decision). d) done ≡ decisions
-      → map (λ (task : Task). task.name) tasks ≡ child_names t.name (length done)
-      → map (λ (task : Task). task.decisions) tasks ≡ map (with_one t.decisions) done → AreChildren i t kind tasks
+    → decisions ≡ decisions_of i (choice_of i t) kind → map (λ (d : Decision). d) done ≡ decisions
+    → map (λ (task : Task). task.name) tasks ≡ child_names t.name (length done)
+    → map (λ (task : Task). task.decisions) tasks ≡ map (with_one t.decisions) done → AreChildren i t kind tasks
 all_children i t kind decisions done tasks same whole names made =
     let all : done ≡ decisions_of i (choice_of i t) kind = sym (map-id done) ∙ whole ∙ same in
     let count : length done ≡ length tasks = sym (length-map done (with_one t.decisions)) ∙ ap length (sym made)
-        ∙ length-map tasks (λ (task : Task). task.decisions) in
+    ∙ length-map tasks (λ (task : Task). task.decisions) in
     record {
       names = names ∙ ap (child_names t.name) count;
       decisions = made ∙ ap (map (with_one t.decisions)) all;

@@ -33,14 +33,14 @@ passing_more p n = ap (filter p) (range_more n) ∙ filter-append p (range_with_
 
 -- a node that isn't placed is one decision more
 pub next_more : (c : Choice) (n : ℕ) → is_placed c n ≡ false
-      → map placing (filter (λ m. not (is_placed c m)) (range_with_len 0 n)) ++ placing n ∷ []
-      ≡ map placing (filter (λ m. not (is_placed c m)) (range_with_len 0 (n + 1)))
+    → map placing (filter (λ m. not (is_placed c m)) (range_with_len 0 n)) ++ placing n ∷ []
+    ≡ map placing (filter (λ m. not (is_placed c m)) (range_with_len 0 (n + 1)))
 next_more c n new =
     rw (passing_more (λ m. not (is_placed c m)) n, new) (sym (map-append placing (filter (λ m. not (is_placed c m)) (range_with_len 0 n)) (n ∷ [])))
 
 -- a node that is placed is none
 pub next_same : (c : Choice) (n : ℕ) → is_placed c n ≡ true
-      → map placing (filter (λ m. not (is_placed c m)) (range_with_len 0 n)) ≡ map placing (filter (λ m. not (is_placed c m)) (range_with_len 0 (n + 1)))
+    → map placing (filter (λ m. not (is_placed c m)) (range_with_len 0 n)) ≡ map placing (filter (λ m. not (is_placed c m)) (range_with_len 0 (n + 1)))
 next_same c n placed = rw (passing_more (λ m. not (is_placed c m)) n, placed) (grind (arith, common_steps))
 
 -- the unplaced nodes, each put next, are the decisions of a place
@@ -53,5 +53,5 @@ length-decisions_of i c kind = length-map-range_with_len (decision_of i c kind) 
 
 -- the decision of a child
 pub decision_at : (i : Instance) (c : Choice) (kind : Kind) (k : ℕ) (d : Decision) → k < children i c kind
-      → slice_index_or (decisions_of i c kind) k d ≡ decision_of i c kind k
+    → slice_index_or (decisions_of i c kind) k d ≡ decision_of i c kind k
 decision_at i c kind k d inside = get_or-map-range_with_len (decision_of i c kind) 0 (children i c kind) k k d inside (zero-add k)

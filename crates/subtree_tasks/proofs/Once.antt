@@ -57,8 +57,11 @@ early_child : (a : Name) (k first count : ℕ) → k < first → weigh (only (ch
 early_child a k first zero h = refl
 early_child a k first (suc count) h =
     let later : k < first + 1 = omega arith in
-    omega (arith, only-other (child_name a k) (child_name a first) (λ e. absurd (omega (arith, (child_parts a a k first e).1))),
-        early_child a k (first + 1) count later)
+    omega (
+      arith,
+      only-other (child_name a k) (child_name a first) (λ e. absurd (omega (arith, (child_parts a a k first e).1))),
+      early_child a k (first + 1) count later,
+    )
 
 -- a child stands once at most
 one_child : (a : Name) (k first count : ℕ) → weigh (only (child_name a k)) (map (child_name a) (range_with_len first count)) ≤ 1
@@ -109,7 +112,7 @@ at_root pieces name e =
     subst P (sym e) here
 
 at_child : (pieces : List Piece) (parent name : Name) (k : ℕ) → name ≡ child_name parent k → weigh (only parent) (names_of pieces) ≤ 1
-      → weigh (only name) (root_name ∷ all_below pieces) ≤ 1
+    → weigh (only name) (root_name ∷ all_below pieces) ≤ 1
 at_child pieces parent name k e h =
     let P : Name → Type 0 = λ x. weigh (only x) (root_name ∷ all_below pieces) ≤ 1 in
     let here : P (child_name parent k) = omega (arith, only-other (child_name parent k) root_name (no_child_is_root parent k), below_all parent k pieces, h) in
@@ -117,7 +120,7 @@ at_child pieces parent name k e h =
 
 -- each name stands once at most
 pub weighs_one : (pieces : List Piece) (unworked : List Name) → IsWholeTree pieces unworked → (n : ℕ) (name : Name) → length name ≤ n
-      → weigh (only name) (names_of pieces ++ unworked) ≤ 1
+    → weigh (only name) (names_of pieces ++ unworked) ≤ 1
 weighs_one pieces unworked tree zero name h =
     let same = weigh-permutation (only name) (names_of pieces ++ unworked) (root_name ∷ all_below pieces) tree in
     elim (same_or_other name root_name) [

@@ -91,7 +91,7 @@ root_or_below pieces name (zero, inside, is) = inl (sym is)
 root_or_below pieces name (suc k, inside, is) = inr (k, omega (arith, inside), is)
 
 some_stands : (i : Instance) (pieces : List Piece) (unworked : List Name) → IsWholeTree pieces unworked → (n : ℕ) (name : Name) → length name ≤ n
-      → Contains (names_of pieces ++ unworked) name → Standing i pieces name
+    → Contains (names_of pieces ++ unworked) name → Standing i pieces name
 some_stands i pieces unworked tree zero name short h =
     root_stands i pieces name (no_steps name short)
 some_stands i pieces unworked tree (suc n) name short h =
@@ -106,7 +106,7 @@ some_stands i pieces unworked tree (suc n) name short h =
     ]
 
 pub stands_somehow : (i : Instance) (pieces : List Piece) (unworked : List Name) (name : Name) → IsWholeTree pieces unworked
-      → Contains (names_of pieces ++ unworked) name → (c : Choice) × StandsAt i pieces name c
+    → Contains (names_of pieces ++ unworked) name → (c : Choice) × StandsAt i pieces name c
 stands_somehow i pieces unworked name tree h =
     let r = some_stands i pieces unworked tree (length name) name (omega arith) h in
     (r.choice, r.stands)
@@ -116,7 +116,7 @@ abbrev IsNamedOnce : List Piece → Type 0
 IsNamedOnce pieces = (name : Name) → weigh (only name) (names_of pieces) ≤ 1
 
 two_places : (pieces : List Piece) (a b : Piece) (j k : ℕ) → IsNamedOnce pieces → j < k → k < length pieces → get_or pieces j a ≡ a
-      → get_or pieces k b ≡ b → a.name ≡ b.name → a ≡ b
+    → get_or pieces k b ≡ b → a.name ≡ b.name → a ≡ b
 two_places pieces a b j k once lt h first second e =
     let g : Piece → ℕ = λ x. only a.name x.name in
     let two = weigh-two g pieces j k a lt h in
@@ -137,7 +137,7 @@ one_piece pieces a b once x y e =
     ]
 
 only_one : (i : Instance) (pieces : List Piece) → IsNamedOnce pieces → (a b : Name) (c d : Choice) → StandsAt i pieces a c → StandsAt i pieces b d
-      → a ≡ b → c ≡ d
+    → a ≡ b → c ≡ d
 only_one i pieces once _ _ _ _ at_root at_root e = refl
 only_one i pieces once _ _ _ _ at_root (at_child q d k there stands inside) e = absurd (no_child_is_root q.name k (sym e))
 only_one i pieces once _ _ _ _ (at_child p c j there stands inside) at_root e = absurd (no_child_is_root p.name j e)
@@ -152,12 +152,12 @@ named_once pieces unworked tree name =
     omega (arith, weighs_one pieces unworked tree (length name) name (omega arith), weigh-append (only name) (names_of pieces) unworked)
 
 pub stands_alone : (i : Instance) (pieces : List Piece) (unworked : List Name) (name : Name) (c d : Choice) → IsWholeTree pieces unworked
-      → StandsAt i pieces name c → StandsAt i pieces name d → c ≡ d
+    → StandsAt i pieces name c → StandsAt i pieces name d → c ≡ d
 stands_alone i pieces unworked name c d tree one other = only_one i pieces (named_once pieces unworked tree) name name c d one other refl
 
 -- more pieces leave what stands at a name
 pub stands_still : (i : Instance) (few many : List Piece) → ((x : Piece) → Contains few x → Contains many x) → (name : Name) (c : Choice)
-      → StandsAt i few name c → StandsAt i many name c
+    → StandsAt i few name c → StandsAt i many name c
 stands_still i few many more _ _ at_root = at_root
 stands_still i few many more _ _ (at_child piece c k there stands inside) =
     at_child piece c k (more piece there) (stands_still i few many more piece.name c stands) inside

@@ -41,7 +41,7 @@ pairs_bound count sum is few =
 pairs_few : (i : Instance) (c : Choice) → length i.processes ≤ MOST_PROCESSES → unordered_pairs i c ≤ MOST_PAIRS
 pairs_few i c few =
     let below : unordered_pairs i c ≤ total (λ p. p) (length i.processes) = total_le (unordered_below i c) (λ p. p) (length i.processes)
-        (λ p h. below_few i c p) in
+    (λ p h. below_few i c p) in
     let most = pairs_bound (length i.processes) (total (λ p. p) (length i.processes)) (numbers_sum (length i.processes)) few in
     omega (arith, below, most)
 
@@ -52,10 +52,10 @@ range_few i m inside short =
     length-digits_of-le 2 MOST_HALVINGS (greatest_round (root_choice i) m - least_round (root_choice i) m) (omega arith) small
 
 ranges_few : (i : Instance) → length i.messages ≤ MOST_MESSAGES → i.cluster.horizon ≤ MOST_TICKS
-      → total (range_size (root_choice i)) (length i.messages) ≤ MOST_MESSAGES * MOST_HALVINGS
+    → total (range_size (root_choice i)) (length i.messages) ≤ MOST_MESSAGES * MOST_HALVINGS
 ranges_few i few short =
     let most : total (range_size (root_choice i)) (length i.messages) ≤ length i.messages * MOST_HALVINGS = total_bound (range_size (root_choice i))
-        MOST_HALVINGS (length i.messages) (λ m inside. range_few i m inside short) in
+    MOST_HALVINGS (length i.messages) (λ m inside. range_few i m inside short) in
     omega (arith, most, few)
 
 caps_few : (i : Instance) → length i.nodes ≤ MOST_NODES → count_by is_none (root_choice i).fixed ≤ MOST_NODES
@@ -71,7 +71,7 @@ channels_few i w =
     omega (arith, all, messages, w.limits.messages)
 
 five : (a b c d e : ℕ) → a ≤ MOST_NODES → b ≤ MOST_NODES → c ≤ MOST_PAIRS → d ≤ MOST_MESSAGES * MOST_HALVINGS → e ≤ MOST_MESSAGES
-      → a + b + c + d + e ≤ MOST_BRANCHES_ABOVE
+    → a + b + c + d + e ≤ MOST_BRANCHES_ABOVE
 five a b c d e ha hb hc hd he = omega arith
 
 -- a branch for each node, one for each of their capacities, one for each two processes, and for each

@@ -93,7 +93,7 @@ pub next_both : {A : Type 0} (f : A → List ℕ) (xs ys : List A) (k : ℕ) (x 
     → k < length xs → k < length ys
     → whole ≡ order_of (flat_map f (drop k xs) ++ u) (flat_map f (drop k ys) ++ v)
     → whole ≡ ordering_then (order_of (f (get_or xs k x)) (f (get_or ys k y))) (order_of (flat_map f (drop (k + 1) xs) ++ u)
-        (flat_map f (drop (k + 1) ys) ++ v))
+    (flat_map f (drop (k + 1) ys) ++ v))
 next_both f xs ys k x y u v whole are too in_xs in_ys so_far =
     so_far ∙ ap (λ (l : List ℕ). order_of l (flat_map f (drop k ys) ++ v)) (from_stretch f xs k (k + 1) x u in_xs refl)
     ∙ ap (order_of (f (get_or xs k x) ++ (flat_map f (drop (k + 1) xs) ++ u))) (from_stretch f ys k (k + 1) y v in_ys refl)
@@ -129,7 +129,7 @@ pub order_of_more : {A : Type 0} (f : A → List ℕ) (xs ys : List A) (n : ℕ)
 order_of_more f xs ys n u v order rest whole behind is eq compared =
     ap ordering_reverse compared ∙ sym (turned u (flat_map f (drop n ys) ++ v))
     ∙ sym (is ∙ undecided order (order_of (flat_map f (drop n xs) ++ u) (flat_map f (drop n ys) ++ v)) eq
-        ∙ ap (λ (l : List ℕ). order_of l (flat_map f (drop n ys) ++ v)) (none_left f xs n u behind))
+    ∙ ap (λ (l : List ℕ). order_of l (flat_map f (drop n ys) ++ v)) (none_left f xs n u behind))
 
 -- it has no more of them
 pub order_of_rest : {A : Type 0} (f : A → List ℕ) (xs ys : List A) (n : ℕ) (u v : List ℕ) (order rest whole : Ordering) → length ys ≤ n
@@ -139,4 +139,4 @@ pub order_of_rest : {A : Type 0} (f : A → List ℕ) (xs ys : List A) (n : ℕ)
 order_of_rest f xs ys n u v order rest whole behind is eq compared =
     compared
     ∙ sym (is ∙ undecided order (order_of (flat_map f (drop n xs) ++ u) (flat_map f (drop n ys) ++ v)) eq
-        ∙ ap (order_of (flat_map f (drop n xs) ++ u)) (none_left f ys n v behind))
+    ∙ ap (order_of (flat_map f (drop n xs) ++ u)) (none_left f ys n v behind))

@@ -13,8 +13,8 @@ use Rattle.path_bounds.specs.Propagation.{Propagates, IsReached, IsClosed, Finds
 use Rattle.subtree_tasks.specs.Trials.{IsLeft}
 
 pub left_from : (i : Instance) (c : Choice) (goal : ℕ) (old new : List Step) (answer : Result Reached MemoryFault) (facts : Facts)
-      → Propagates i c goal old new answer → ((bound : ℕ) → IsPathBound i bound → goal ≤ bound → IfOk answer IsClosed)
-      → (IsComplete i c → IfOk answer (FindsPlan i c goal)) → answer ≡ Ok (At facts) → IsLeft i c goal facts
+    → Propagates i c goal old new answer → ((bound : ℕ) → IsPathBound i bound → goal ≤ bound → IfOk answer IsClosed)
+    → (IsComplete i c → IfOk answer (FindsPlan i c goal)) → answer ≡ Ok (At facts) → IsLeft i c goal facts
 left_from i c goal old new answer facts p within complete is = record {
   of =
       let reached : IsReached i c goal p.known (At facts) = subst (λ (a : Result Reached MemoryFault). IfOk a (IsReached i c goal p.known)) is p.reached in

@@ -47,7 +47,7 @@ IsBranch-bare i c kind count is_open just = record {
 
 -- the choices that a branch's decisions lead to, where none is kept, are its children
 each_child : (i : Instance) (c : Choice) (kind : Kind) (a n : ℕ)
-      → map (choice_after i c) (map (decision_of i c kind) (range_with_len a n)) ≡ map (child i (bare c) kind) (range_with_len a n)
+    → map (choice_after i c) (map (decision_of i c kind) (range_with_len a n)) ≡ map (child i (bare c) kind) (range_with_len a n)
 each_child i c kind a zero = refl
 each_child i c kind a (suc n) =
     let here : choice_after i c (decision_of i c kind a) ≡ child i (bare c) kind a = sym (child_after i c kind a) ∙ sym (child-bare i c kind a) in
@@ -69,6 +69,6 @@ pub length-decisions_of : (i : Instance) (c : Choice) (kind : Kind) → length (
 length-decisions_of i c kind = length-mapped (decision_of i c kind) (range_with_len 0 (children i c kind)) ∙ length-counted 0 (children i c kind)
 
 pub branch_suits : (i : Instance) (c : Choice) (branch : Branch) (decisions : List Decision) → IsOpen i c branch.kind
-      → decisions ≡ decisions_of i c branch.kind → length decisions ≡ branch.children → IsBranch i (bare c) branch.kind branch.children
+    → decisions ≡ decisions_of i c branch.kind → length decisions ≡ branch.children → IsBranch i (bare c) branch.kind branch.children
 branch_suits i c branch decisions is_open all count =
     IsBranch-bare i c branch.kind branch.children is_open (sym count ∙ (ap length all ∙ length-decisions_of i c branch.kind))

@@ -30,7 +30,7 @@ BoundsBelow i low c = (plan : Plan) → IsSettled i plan → IsIn i c plan → l
 
 -- what bounds all children bounds the choice
 from_children : (i : Instance) (low : ℕ) (c : Choice) (k : Kind) → IsChoice i c → IsOpen i c k → All (BoundsBelow i low) (child_choices i c k)
-      → BoundsBelow i low c
+    → BoundsBelow i low c
 from_children i low c k ok is_open each plan settled chosen =
     let there = child-IsIn i c k plan ok is_open settled.valid chosen in
     let same = get_or-map-range_with_len (child i c k) 0 (children i c k) there.0 there.0 c there.1 (zero-add there.0) in
@@ -44,7 +44,7 @@ below_are i low c (Leaf leaf) ok suits = λ k d h. absurd (omega (arith, h))
 
 -- a node that suits, with proofs below it, bounds its choice
 node_bounds : (i : Instance) (low : ℕ) (c : Choice) (node : Node) → IsInstance i → IsChoice i c → Suits i low c node
-      → All (BoundsBelow i low) (choices_below i c node) → BoundsBelow i low c
+    → All (BoundsBelow i low) (choices_below i c node) → BoundsBelow i low c
 node_bounds i low c (Branch branch) w ok suits each = from_children i low c branch.kind ok suits.is_open each
 node_bounds i low c (Leaf leaf) w ok suits each = λ plan settled chosen. elim (cases_order (delay i plan) leaf.goal) [
   | inl same ↦ omega (arith, same, suits.goal)
@@ -55,7 +55,7 @@ node_bounds i low c (Leaf leaf) w ok suits each = λ plan settled chosen. elim (
 ]
 
 pub proofs_bound : (i : Instance) (low : ℕ) (cs : List Choice) (trees : Trees) → IsInstance i → All (IsChoice i) cs → AreProofs i low cs trees
-      → All (BoundsBelow i low) cs
+    → All (BoundsBelow i low) cs
 proofs_bound i low [] none w ok are = λ k d h. absurd (omega (arith, h))
 proofs_bound i low [] (grow node below beside) w ok are = absurd are
 proofs_bound i low (c ∷ cs) none w ok are = absurd are
@@ -72,7 +72,7 @@ proved_bound i cert w proves plan valid =
     let alone = All-cons (IsChoice i) (root_choice i) [] (IsChoice-root i w) (λ k d h. absurd (omega (arith, h))) in
     let reached = settled_reached i plan w valid in
     let low = proofs_bound i cert.low (root_choice i ∷ []) cert.tree w alone proves.tree 0 (root_choice i) (omega arith) reached.0 reached.1
-        (IsIn-root i reached.0 w reached.1.valid) in
+    (IsIn-root i reached.0 w reached.1.valid) in
     omega (arith, low, reached.2)
 
 -- with a bound past the horizon
@@ -82,5 +82,5 @@ proved_none i cert w proves past plan valid =
 
 -- and with a plan whose delay is the bound
 pub proved_least : (i : Instance) (cert : Cert) (plan : Plan) → IsInstance i → Proves i cert → IsValid i plan → delay i plan ≡ cert.low
-      → IsLeastDelay i cert.low
+    → IsLeastDelay i cert.low
 proved_least i cert plan w proves valid reached = record { plan = plan; valid = valid; reached = reached; bound = proved_bound i cert w proves }

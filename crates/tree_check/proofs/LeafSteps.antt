@@ -14,21 +14,21 @@ use Rattle.tree_check.specs.Faults.{IsRefusedAt, told_line}
 
 -- one step more
 pub Lead-more : (i : Instance) (c : Choice) (goal : ℕ) (steps : List Step) (k : ℕ) (step : Step) (f g : Known) → k < length steps
-      → step ≡ slice_index_or steps k step → Lead i c goal (first_facts i c) (take k steps) f → IsFalse f.closed → IsLawful i c goal f step g
-      → Lead i c goal (first_facts i c) (take (k + 1) steps) g
+    → step ≡ slice_index_or steps k step → Lead i c goal (first_facts i c) (take k steps) f → IsFalse f.closed → IsLawful i c goal f step g
+    → Lead i c goal (first_facts i c) (take (k + 1) steps) g
 Lead-more i c goal steps k step f g inside here lead still lawful =
     rw (take_more steps k step inside, ← here) (Lead-append i c goal (first_facts i c) (take k steps) (step ∷ []) f g lead (still, (g, lawful, refl)))
 
 -- a step that is refused
 pub refused_at : (i : Instance) (c : Choice) (goal : ℕ) (steps : List Step) (k : ℕ) (step : Step) (f : Known) (fault : StepFault) → k < length steps
-      → step ≡ slice_index_or steps k step → Lead i c goal (first_facts i c) (take k steps) f → IsStepFault i c goal f step fault → IsRefusedAt i c goal steps k
+    → step ≡ slice_index_or steps k step → Lead i c goal (first_facts i c) (take k steps) f → IsStepFault i c goal f step fault → IsRefusedAt i c goal steps k
 refused_at i c goal steps k step f fault inside here lead refused = record {
   before = take k steps;
   step = step;
   after = drop (k + 1) steps;
   steps_are =
       sym (take-append-drop k steps) ∙ (ap (λ (rest : List Step). take k steps ++ rest) (drop_more steps k step inside)
-          ∙ ap (λ (s : Step). take k steps ++ s ∷ drop (k + 1) steps) (sym here));
+      ∙ ap (λ (s : Step). take k steps ++ s ∷ drop (k + 1) steps) (sym here));
   place_is = length-take k steps ∙ omega (arith, inside);
   known = f;
   lead = lead;

@@ -24,7 +24,7 @@ use Rattle.tree_check.specs.Seen.{TellsFirst}
 
 -- nothing is wrong with a branch that is open and has just its children,
 no_branch_fault : (i : Instance) (c : Choice) (branch : Branch) (fault : NodeFault) → IsBranch i c branch.kind branch.children
-      → ¬ IsBranchFault i c branch fault
+    → ¬ IsBranchFault i c branch fault
 no_branch_fault i c branch NotOpen suits is = is suits.is_open
 no_branch_fault i c branch ChildCount suits is = is.1 suits.just
 no_branch_fault i c branch LowGoal suits is = is
@@ -33,7 +33,7 @@ no_branch_fault i c branch NotClosed suits is = is
 
 -- nor with a leaf that closes: it has no step that is refused, and doesn't stay open
 no_leaf_fault : (i : Instance) (low : ℕ) (c : Choice) (leaf : Leaf) (line at : ℕ) (fault : NodeFault) → ClosesFrom i low c leaf
-      → ¬ IsLeafFault i low c leaf line at fault
+    → ¬ IsLeafFault i low c leaf line at fault
 no_leaf_fault i low c leaf line at NotOpen suits is = is
 no_leaf_fault i low c leaf line at ChildCount suits is = is
 no_leaf_fault i low c leaf line at LowGoal suits is = absurd (omega (arith, is.1, suits.goal))
@@ -49,12 +49,12 @@ no_leaf_fault i low c leaf line at NotClosed suits is =
 
 -- nothing is wrong with a node that suits its choice
 no_node_fault : (i : Instance) (low : ℕ) (c : Choice) (node : Node) (line at : ℕ) (fault : NodeFault) → Suits i low c node
-      → ¬ IsNodeFault i low c node line at fault
+    → ¬ IsNodeFault i low c node line at fault
 no_node_fault i low c (node.Branch branch) line at fault suits is = no_branch_fault i c branch fault suits is.1
 no_node_fault i low c (node.Leaf leaf) line at fault suits is = no_leaf_fault i low c leaf line at fault suits is
 
 no_first_fault : (i : Instance) (low : ℕ) (cs : List Choice) (trees : Trees) (line at : ℕ) (fault : NodeFault) → AreProofs i low cs trees
-      → ¬ IsFirstTreeFault i low cs trees line at fault
+    → ¬ IsFirstTreeFault i low cs trees line at fault
 no_first_fault i low [] trees line at fault are is = is
 no_first_fault i low (c ∷ cs) none line at fault are is = is
 no_first_fault i low (c ∷ cs) (grow node below beside) line at fault are is = elim is [

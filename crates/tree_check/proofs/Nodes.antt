@@ -26,7 +26,7 @@ pub record IsGone (i : Instance) (low : ℕ) (nodes : List Node) (k : ℕ) (w : 
   pub trees : AreTrees (length left) (trees_of (drop k nodes))
 
 pub gone_first : (i : Instance) (cert : Cert) (nodes : List Node) (w : Walk) → IsTree cert.tree → nodes ≡ preorder cert.tree
-      → IsWalk i w (root_choice i ∷ []) → IsGone i cert.low nodes 0 w
+    → IsWalk i w (root_choice i ∷ []) → IsGone i cert.low nodes 0 w
 gone_first i cert nodes w tree all walk =
     let same : trees_of nodes ≡ cert.tree = ap trees_of all ∙ trees_of-preorder 1 cert.tree tree.one in
     record {
@@ -45,24 +45,24 @@ to_node nodes k node inside here = take_more nodes k node inside ∙ ap (λ (n :
 
 -- and the line behind it is as many further as it takes
 pub line_after : (nodes : List Node) (k : ℕ) (node : Node) → k < length nodes → node ≡ slice_index_or nodes k node
-      → line_of nodes (k + 1) ≡ line_of nodes k + node_lines node
+    → line_of nodes (k + 1) ≡ line_of nodes k + node_lines node
 line_after nodes k node inside here =
     let more = ap total_lines (to_node nodes k node inside here) in
     omega (arith, more, total_lines-append (take k nodes) (node ∷ []))
 
 -- a choice is left for it
 left_for : (node : Node) (nodes : List Node) (left : List Choice) → AreTrees (length left) (trees_of (node ∷ nodes))
-      → (c : Choice) × (others : List Choice) × (left ≡ c ∷ others)
+    → (c : Choice) × (others : List Choice) × (left ≡ c ∷ others)
 unfolding trees_of
 left_for node nodes [] trees = absurd trees
 left_for node nodes (c ∷ others) trees = (c, others, refl)
 
 trees_below : (node : Node) (nodes : List Node) (others : ℕ) → AreTrees (suc others) (trees_of (node ∷ nodes))
-      → AreTrees (children node + others) (trees_of nodes)
+    → AreTrees (children node + others) (trees_of nodes)
 unfolding trees_of
 trees_below node nodes others trees =
     let own : AreTrees (children node) (first_trees (children node) (trees_of nodes))
-        × AreTrees others (trees_after (children node) (trees_of nodes)) = trees in
+    × AreTrees others (trees_after (children node) (trees_of nodes)) = trees in
     AreTrees-join (children node) others (trees_of nodes) own.0 own.1
 
 module _ (i : Instance) (low : ℕ) (nodes : List Node) (k : ℕ) (node : Node) (w : Walk) (inside : k < length nodes)
@@ -70,7 +70,7 @@ module _ (i : Instance) (low : ℕ) (nodes : List Node) (k : ℕ) (node : Node) 
   choice_left : (c : Choice) × (others : List Choice) × (gone.left ≡ c ∷ others)
   choice_left =
       left_for node (drop (k + 1) nodes) gone.left (subst (λ (ns : List Node). AreTrees (length gone.left) (trees_of ns))
-          (from_node nodes k node inside here) gone.trees)
+      (from_node nodes k node inside here) gone.trees)
 
   pub gone_next : (c : Choice) × (left : List Choice) × IsWalk i w (c ∷ left)
   gone_next = (choice_left.0, choice_left.1, subst (IsWalk i w) choice_left.2 gone.walk)
@@ -89,15 +89,18 @@ module _ (i : Instance) (low : ℕ) (nodes : List Node) (k : ℕ) (node : Node) 
     at_choice = subst (λ (c : Choice). IsSeen i low (take k nodes) [] (c ∷ choice_left.1)) (sym there.0) seen_here
 
     pub gone_on : (new : Walk) → Suits i low (bare next.choice) node
-          → ((left : List Choice) → IsWalk i next left → IsWalk i new (choices_below i (bare next.choice) node ++ left)) → IsGone i low nodes (k + 1) new
+        → ((left : List Choice) → IsWalk i next left → IsWalk i new (choices_below i (bare next.choice) node ++ left)) → IsGone i low nodes (k + 1) new
     gone_on new suits below =
         let count = below_count i low (bare next.choice) node suits in
         let one : length gone.left ≡ suc (length choice_left.1) = ap length choice_left.2 in
         let all : AreTrees (suc (length choice_left.1)) (trees_of (drop k nodes)) = subst (λ (n : ℕ). AreTrees n (trees_of (drop k nodes))) one gone.trees in
         let both : AreTrees (suc (length choice_left.1)) (trees_of (node ∷ drop (k + 1) nodes)) = subst
-            (λ (ns : List Node). AreTrees (suc (length choice_left.1)) (trees_of ns)) (from_node nodes k node inside here) all in
-        let size : length (choices_below i (bare next.choice) node ++ choice_left.1) ≡ children node + length choice_left.1 = omega (arith,
-            length-append (choices_below i (bare next.choice) node) choice_left.1, count) in
+        (λ (ns : List Node). AreTrees (suc (length choice_left.1)) (trees_of ns)) (from_node nodes k node inside here) all in
+        let size : length (choices_below i (bare next.choice) node ++ choice_left.1) ≡ children node + length choice_left.1 = omega (
+          arith,
+          length-append (choices_below i (bare next.choice) node) choice_left.1,
+          count,
+        ) in
         record {
           left = choices_below i (bare next.choice) node ++ choice_left.1;
           walk = below choice_left.1 there.1;
@@ -106,11 +109,11 @@ module _ (i : Instance) (low : ℕ) (nodes : List Node) (k : ℕ) (node : Node) 
         }
 
     pub gone_fails : (line : ℕ) (fault : CertFault) → line ≡ told_line (line_of nodes k) → TellsNode i low (bare next.choice) node line fault
-          → TellsFirst i low (trees_of nodes) fault
+        → TellsFirst i low (trees_of nodes) fault
     gone_fails line fault is tells =
         let fails = node_fails i low (take k nodes) [] (bare next.choice) choice_left.1 node line fault tt at_choice is tells in
         let all : (take k nodes ++ node ∷ []) ++ drop (k + 1) nodes ≡ nodes = append_assoc (take k nodes) (node ∷ []) (drop (k + 1) nodes)
-            ∙ (ap (λ (ns : List Node). take k nodes ++ ns) (sym (from_node nodes k node inside here)) ∙ take-append-drop k nodes) in
+        ∙ (ap (λ (ns : List Node). take k nodes ++ ns) (sym (from_node nodes k node inside here)) ∙ take-append-drop k nodes) in
         subst (λ (ns : List Node). TellsFirst i low (trees_of ns) fault) all (fails (drop (k + 1) nodes))
 
 -- nothing follows, and nothing is left
@@ -120,7 +123,7 @@ none_left [] trees = refl
 none_left (c ∷ left) trees = absurd trees
 
 pub gone_all : (i : Instance) (low : ℕ) (nodes : List Node) (k : ℕ) (w : Walk) → length nodes ≤ k → IsGone i low nodes k w
-      → AreProofs i low (root_choice i ∷ []) (trees_of nodes)
+    → AreProofs i low (root_choice i ∷ []) (trees_of nodes)
 unfolding trees_of
 gone_all i low nodes k w past gone =
     let ended : drop k nodes ≡ [] = drop_all k nodes past in

@@ -35,7 +35,7 @@ module _ (i : Instance) (alone : i.cluster.channels ≡ 1) where
       absurd cc
 
   lawful_step : (c : Choice) (goal : ℕ) (f : Known) (step : Step) → IsChoice i c → (rule i c goal f step).there → (rule i c goal f step).premise
-        → allows_step One step ≡ true
+      → allows_step One step ≡ true
   lawful_step c goal f (EsRelease p) ok there premise = refl
   lawful_step c goal f (EsLink l) ok there premise = refl
   lawful_step c goal f (EsBefore p q) ok there premise = refl

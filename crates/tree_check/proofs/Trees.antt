@@ -19,7 +19,7 @@ below_count i low c (Leaf leaf) suits = refl
 
 -- the first trees are proofs for the first choices, and those behind them for the others
 pub AreProofs-split : (i : Instance) (low : ℕ) (cs ds : List Choice) (trees : Trees) → AreProofs i low (cs ++ ds) trees
-      → AreProofs i low cs (first_trees (length cs) trees) × AreProofs i low ds (trees_after (length cs) trees)
+    → AreProofs i low cs (first_trees (length cs) trees) × AreProofs i low ds (trees_after (length cs) trees)
 unfolding first_trees trees_after
 AreProofs-split i low [] ds trees are = (_, are)
 AreProofs-split i low (c ∷ cs) ds none are = absurd are
@@ -29,10 +29,10 @@ AreProofs-split i low (c ∷ cs) ds (grow node below beside) are =
 
 -- the first fault is one of the first trees, or, where those are proofs, one of the others
 pub IsFirstFault-split : (i : Instance) (low : ℕ) (cs ds : List Choice) (trees : Trees) (line at : ℕ) (fault : NodeFault)
-      → IsFirstTreeFault i low (cs ++ ds) trees line at fault
-      → IsFirstTreeFault i low cs (first_trees (length cs) trees) line at fault ⊎
-      (AreProofs i low cs (first_trees (length cs) trees) × IsFirstTreeFault i low ds (trees_after (length cs) trees)
-      (line + lines (first_trees (length cs) trees)) at fault)
+    → IsFirstTreeFault i low (cs ++ ds) trees line at fault
+    → IsFirstTreeFault i low cs (first_trees (length cs) trees) line at fault ⊎
+    (AreProofs i low cs (first_trees (length cs) trees) × IsFirstTreeFault i low ds (trees_after (length cs) trees)
+    (line + lines (first_trees (length cs) trees)) at fault)
 unfolding first_trees trees_after
 IsFirstFault-split i low [] ds trees line at fault is =
     let here : line ≡ line + 0 = omega arith in
@@ -47,7 +47,7 @@ IsFirstFault-split i low (c ∷ cs) ds (grow node below beside) line at fault is
       | inr others ↦
           let grown = lines-grow node below (first_trees (length cs) beside) in
           let here : line + node_lines node + lines below + lines (first_trees (length cs) beside)
-              ≡ line + lines (grow node below (first_trees (length cs) beside)) = omega (arith, grown) in
+          ≡ line + lines (grow node below (first_trees (length cs) beside)) = omega (arith, grown) in
           inr ((later.0, (aside.0, others.0)), subst (λ (l : ℕ). IsFirstTreeFault i low ds (trees_after (length cs) beside) l at fault) here others.1)
     ]
   ]

@@ -22,7 +22,7 @@ AllOpen i c [] = Unit {0}
 AllOpen i c (d ∷ ds) = IsOpenDecision i c d × AllOpen i c ds
 
 each_open : (i : Instance) (c : Choice) (kind : Kind) (a n : ℕ) → IsOpen i c kind → a + n ≤ children i c kind
-      → AllOpen i c (map (decision_of i c kind) (range_with_len a n))
+    → AllOpen i c (map (decision_of i c kind) (range_with_len a n))
 each_open i c kind a zero is_open le = tt
 each_open i c kind a (suc n) is_open le =
     (decision_is_open i c kind a is_open (omega (arith, le)), each_open i c kind (a + 1) n is_open (omega (arith, le)))
@@ -32,20 +32,20 @@ all_open i c kind is_open = each_open i c kind 0 (children i c kind) is_open (om
 
 -- Down to each child and up again, and then on.
 pub lead_each : (i : Instance) (c : Choice) (path : List Choice) (turns : List Turn) (left : List Choice) (ds : List Decision) → AllOpen i c ds
-      → LeadTo i c path turns left → LeadTo i c path (turns_to ds ++ turns) (map (choice_after i c) ds ++ left)
+    → LeadTo i c path turns left → LeadTo i c path (turns_to ds ++ turns) (map (choice_after i c) ds ++ left)
 lead_each i c path turns left [] open_ones lead = lead
 lead_each i c path turns left (d ∷ ds) open_ones lead =
     (map (choice_after i c) ds ++ left, refl, (open_ones.0, lead_each i c path turns left ds open_ones.1 lead))
 
 pub walk_below : (i : Instance) (old new : Walk) (kind : Kind) (decisions : List Decision) (left : List Choice) → IsOpen i old.choice kind
-      → decisions ≡ decisions_of i old.choice kind → new.choice ≡ old.choice
-      → reverse new.turns.items ≡ turns_to decisions ++ reverse old.turns.items → IsWalk i old left
-      → IsWalk i new (child_choices i (bare old.choice) kind ++ left)
+    → decisions ≡ decisions_of i old.choice kind → new.choice ≡ old.choice
+    → reverse new.turns.items ≡ turns_to decisions ++ reverse old.turns.items → IsWalk i old left
+    → IsWalk i new (child_choices i (bare old.choice) kind ++ left)
 walk_below i old new kind decisions left is_open all same turns walk =
     let open_ones : AllOpen i old.choice decisions = rw all (all_open i old.choice kind is_open) in
     let led = lead_each i old.choice walk.path (reverse old.turns.items) left decisions open_ones walk.turns in
     let to : map (choice_after i old.choice) decisions ≡ child_choices i (bare old.choice) kind = ap (map (choice_after i old.choice)) all
-        ∙ children_after i old.choice kind in
+    ∙ children_after i old.choice kind in
     record {
       path = walk.path;
       choice = rw same walk.choice;
@@ -64,7 +64,7 @@ taken : (turns : List Turn) (turn : Turn) → reverse (turns ++ turn ∷ []) ≡
 taken turns turn = reverse-append turns (turn ∷ [])
 
 pub turn_next : (i : Instance) (old new : Walk) (turn : Turn) (left : List Choice) → old.turns.items ≡ new.turns.items ++ turn ∷ []
-      → new.choice ≡ old.choice → IsWalk i old left → TurnsNext i new turn left
+    → new.choice ≡ old.choice → IsWalk i old left → TurnsNext i new turn left
 turn_next i old new turn left last same walk =
     let turns : reverse old.turns.items ≡ turn ∷ reverse new.turns.items = ap reverse last ∙ taken new.turns.items turn in
     record {
@@ -76,7 +76,7 @@ turn_next i old new turn left last same walk =
 
 -- up,
 up_path : (i : Instance) (c : Choice) (path : List Choice) (turns : List Turn) (left : List Choice) → LeadTo i c path (Up ∷ turns) left
-      → IsBelow i c path → (above : Choice) × (others : List Choice) × (IsDecided i above c × (IsBelow i above others × LeadTo i above others turns left))
+    → IsBelow i c path → (above : Choice) × (others : List Choice) × (IsDecided i above c × (IsBelow i above others × LeadTo i above others turns left))
 up_path i c [] turns left lead below = absurd lead
 up_path i c (above ∷ others) turns left lead below = (above, others, (below.0, (below.1, lead)))
 
@@ -108,7 +108,7 @@ pub next_open : (i : Instance) (w : Walk) (d : Decision) (left : List Choice) �
 next_open i w d left next = next.turns.2.0
 
 pub walk_down : (i : Instance) (old new : Walk) (d : Decision) (c : Choice) (left : List Choice) → TurnsNext i old (Down d) (c ∷ left)
-      → new.turns.items ≡ old.turns.items → new.choice ≡ kept_after i old.choice d → (bare new.choice ≡ c) × IsWalk i new left
+    → new.turns.items ≡ old.turns.items → new.choice ≡ kept_after i old.choice d → (bare new.choice ≡ c) × IsWalk i new left
 walk_down i old new d c left next turns is =
     let first = head_and_tail c (choice_after i old.choice d) left next.turns.0 next.turns.1 in
     let decided : IsDecided i old.choice new.choice = record { decision = d; choice = next.choice; is_open = next.turns.2.0; is = is } in
@@ -135,12 +135,12 @@ turns_last [] d turns = refl
 turns_last (first ∷ ds) d turns = ap (λ (ts : List Turn). Down first ∷ Up ∷ ts) (turns_last ds d turns)
 
 pub pushed_front : (ds others : List Decision) (d : Decision) (old mid new : List Turn) → ds ≡ others ++ d ∷ [] → mid ≡ old ++ Up ∷ []
-      → new ≡ mid ++ Down d ∷ [] → turns_to others ++ reverse new ≡ turns_to ds ++ reverse old
+    → new ≡ mid ++ Down d ∷ [] → turns_to others ++ reverse new ≡ turns_to ds ++ reverse old
 pushed_front ds others d old mid new last up down =
     let front : reverse new ≡ Down d ∷ Up ∷ reverse old = ap reverse down ∙ taken mid (Down d)
-        ∙ ap (λ (ts : List Turn). Down d ∷ ts) (ap reverse up ∙ taken old Up) in
+    ∙ ap (λ (ts : List Turn). Down d ∷ ts) (ap reverse up ∙ taken old Up) in
     ap (λ (ts : List Turn). turns_to others ++ ts) front ∙ sym (ap (λ (xs : List Decision). turns_to xs ++ reverse old) last ∙ turns_last others d
-        (reverse old))
+    (reverse old))
 
 pub all_in_front : (ds : List Decision) (turns front : List Turn) → ds ≡ [] → turns_to ds ++ reverse turns ≡ front → reverse turns ≡ front
 all_in_front ds turns front none is = subst (λ (xs : List Decision). turns_to xs ++ reverse turns ≡ front) none is

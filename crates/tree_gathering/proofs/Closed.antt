@@ -42,16 +42,16 @@ parent_of_name pieces name h =
 pub name_of_parent : (pieces : List Piece) (name : Name) → HasParent pieces name → Has (all_below pieces) name
 name_of_parent pieces name h =
     let inside : Has (range_with_len 0 (children h.parent.node)) h.index = has_range 0 (children h.parent.node) h.index (omega arith)
-        (omega (arith, h.child)) in
+    (omega (arith, h.child)) in
     subst (Has (all_below pieces)) (sym h.is)
     (has_flat_map names_below pieces h.parent (child_name h.parent.name h.index) h.there
-        (has_map (child_name h.parent.name) (range_with_len 0 (children h.parent.node)) h.index inside))
+    (has_map (child_name h.parent.name) (range_with_len 0 (children h.parent.node)) h.index inside))
 
 -- ---- children are there
 
 -- of trees side by side each is there
 pub each_there : (name : Name) (k count j : ℕ) (trees : Trees) → AreTrees count trees → j < count
-      → HasPiece (pieces_below name k trees) (child_name name (k + j))
+    → HasPiece (pieces_below name k trees) (child_name name (k + j))
 each_there name k zero j trees are lt = absurd (omega arith)
 each_there name k (suc count) j none are lt = absurd are
 each_there name k (suc count) zero (grow node below beside) are lt =
@@ -74,7 +74,7 @@ wider xs ys name h piece = record { piece = piece.piece; there = h piece.piece p
 
 -- the children of a piece that is there are there
 pub children_there : (name : Name) (k count : ℕ) (trees : Trees) (p : Piece) (j : ℕ) → AreTrees count trees → Has (pieces_below name k trees) p
-      → j < children p.node → HasPiece (pieces_below name k trees) (child_name p.name j)
+    → j < children p.node → HasPiece (pieces_below name k trees) (child_name p.name j)
 children_there name k zero none p j are h lt = absurd h
 children_there name k zero (grow node below beside) p j are h lt = absurd are
 children_there name k (suc count) none p j are h lt = absurd are
@@ -89,7 +89,7 @@ children_there name k (suc count) (grow node below beside) p j are h lt =
           let own : j < children node = subst (λ (q : Piece). j < children q.node) (sym same) lt in
           let named : (child_name name k) ≡ p.name = ap (λ (q : Piece). q.name) same in
           subst (λ (w : Name). HasPiece whole (child_name w j)) named (wider under whole (child_name (child_name name k) j) from_under
-              (first_there (child_name name k) (children node) j below are.0 own))
+          (first_there (child_name name k) (children node) j below are.0 own))
       | inr later ↦ elim (has_either under after p later) [
         | inl left ↦ wider under whole (child_name p.name j) from_under (children_there (child_name name k) 0 (children node) below p j are.0 left lt)
         | inr right ↦ wider after whole (child_name p.name j) from_after (children_there name (k + 1) count beside p j are.1 right lt)
@@ -97,7 +97,7 @@ children_there name k (suc count) (grow node below beside) p j are h lt =
     ]
 
 pub tree_children : (tree : Trees) (p : Piece) (j : ℕ) → AreTrees 1 tree → Has (pieces_of tree) p → j < children p.node
-      → HasPiece (pieces_of tree) (child_name p.name j)
+    → HasPiece (pieces_of tree) (child_name p.name j)
 tree_children none p j are h lt = absurd are
 tree_children (grow node below beside) p j are h lt =
     let under = pieces_below root_name 0 below in
@@ -108,7 +108,7 @@ tree_children (grow node below beside) p j are h lt =
           let own : j < children node = subst (λ (q : Piece). j < children q.node) (sym same) lt in
           let named : root_name ≡ p.name = ap (λ (q : Piece). q.name) same in
           subst (λ (w : Name). HasPiece whole (child_name w j)) named (wider under whole (child_name root_name j) from_under
-              (first_there root_name (children node) j below are.0 own))
+          (first_there root_name (children node) j below are.0 own))
       | inr later ↦ wider under whole (child_name p.name j) from_under (children_there root_name 0 (children node) below p j are.0 later lt)
     ]
 
@@ -124,7 +124,7 @@ wider_parent xs ys name h parent =
     record { parent = parent.parent; index = parent.index; there = h parent.parent parent.there; child = parent.child; is = parent.is }
 
 pub parents_there : (name : Name) (k count : ℕ) (trees : Trees) (p : Piece) → AreTrees count trees → Has (pieces_below name k trees) p
-      → IsTopOrChild name k count (pieces_below name k trees) p
+    → IsTopOrChild name k count (pieces_below name k trees) p
 parents_there name k zero none p are h = absurd h
 parents_there name k zero (grow node below beside) p are h = absurd are
 parents_there name k (suc count) none p are h = absurd are
@@ -138,8 +138,16 @@ parents_there name k (suc count) (grow node below beside) p are h =
       | inl same ↦ inl (k, (omega arith, omega arith, sym (ap (λ (q : Piece). q.name) same)))
       | inr later ↦ elim (has_either under after p later) [
         | inl left ↦ elim (parents_there (child_name name k) 0 (children node) below p are.0 left) [
-          | inl top ↦ inr (record { parent = record { name = child_name name k; node = node }; index = top.0; there = inl refl; child = omega (arith,
-              top.1.1); is = top.1.2 })
+          | inl top ↦ inr (record {
+            parent = record { name = child_name name k; node = node };
+            index = top.0;
+            there = inl refl;
+            child = omega (
+              arith,
+              top.1.1,
+            );
+            is = top.1.2;
+          })
           | inr child ↦ inr (wider_parent under whole p.name from_under child)
         ]
         | inr right ↦ elim (parents_there name (k + 1) count beside p are.1 right) [
@@ -158,8 +166,16 @@ tree_parents (grow node below beside) p are h =
     elim h [
       | inl same ↦ inl (ap (λ (q : Piece). q.name) same)
       | inr later ↦ elim (parents_there root_name 0 (children node) below p are.0 later) [
-        | inl top ↦ inr (record { parent = record { name = root_name; node = node }; index = top.0; there = inl refl; child = omega (arith,
-            top.1.1); is = top.1.2 })
+        | inl top ↦ inr (record {
+          parent = record { name = root_name; node = node };
+          index = top.0;
+          there = inl refl;
+          child = omega (
+            arith,
+            top.1.1,
+          );
+          is = top.1.2;
+        })
         | inr child ↦ inr (wider_parent under whole p.name from_under child)
       ]
     ]

@@ -29,7 +29,7 @@ other_name a b other = by_test (pointwise nat_eq a b) refl
     by_test false e = sym e
 
 one_more : (a : Name) (names : List Name) (name : Name) (test : Bool) → pointwise nat_eq a name ≡ test
-      → times (a ∷ names) name ≡ cond test 1 0 + times names name
+    → times (a ∷ names) name ≡ cond test 1 0 + times names name
 one_more a names name test e =
     sum_by-cons (λ (other : Name). cond (pointwise nat_eq other name) 1 0) a names ∙ ap (λ (b : Bool). cond b 1 0 + times names name) e
 
@@ -78,7 +78,7 @@ twice (a ∷ b ∷ names) (suc k) lt same =
 pub times_move : (xs ys : List Piece) (name : Name) → IsPermutation xs ys → times (names_of ys) name ≡ times (names_of xs) name
 times_move xs ys name moved =
     sum_by-IsPermutation (λ (other : Name). cond (pointwise nat_eq other name) 1 0) (names_of xs) (names_of ys)
-        (IsPermutation-map (λ (p : Piece). p.name) xs ys moved)
+    (IsPermutation-map (λ (p : Piece). p.name) xs ys moved)
 
 pub names_move : (xs ys : List Piece) (name : Name) → IsPermutation xs ys → Contains (names_of xs) name → Contains (names_of ys) name
 names_move xs ys name moved there =
@@ -138,10 +138,10 @@ closed_by_names pieces names = record {
   root = found root_name (inl refl);
   below =
       λ p j there lt. found (child_name p.name j)
-          (inr (name_of_parent pieces (child_name p.name j) (record { parent = p; index = j; there = there; child = lt; is = refl })));
+      (inr (name_of_parent pieces (child_name p.name j) (record { parent = p; index = j; there = there; child = lt; is = refl })));
   own =
       λ p there. by_cases p (has_from_contains (wanted_names pieces) p.name (names.own p.name
-          (contains_from_has (names_of pieces) p.name (name_of_piece pieces p.name (record { piece = p; there = there; named = refl })))));
+      (contains_from_has (names_of pieces) p.name (name_of_piece pieces p.name (record { piece = p; there = there; named = refl })))));
 }
   where
     found : (name : Name) → Has (wanted_names pieces) name → HasPiece pieces name

@@ -31,7 +31,7 @@ in_front : (pieces : List Piece) (name : Name) (k count : ℕ) (here : HasPiece 
     → Made pieces (child_name name k) 0 (children here.piece.node) → Made pieces name (k + 1) count → Made pieces name k (suc count)
 in_front pieces name k count here under beside =
     let is : record { name = child_name name k; node = here.piece.node } ≡ here.piece = ap
-        (λ (w : Name). record { name = w; node = here.piece.node }) (sym here.named) in
+    (λ (w : Name). record { name = w; node = here.piece.node }) (sym here.named) in
     record {
       trees = grow here.piece.node under.trees beside.trees;
       are = (under.are, beside.are);
@@ -54,10 +54,10 @@ side_by_side pieces name k (suc count) below there =
     let here : HasPiece pieces (child_name name k) = subst (λ (n : ℕ). HasPiece pieces (child_name name n)) first (there 0 (omega arith)) in
     let long : length here.piece.name ≡ length name + 1 = ap (λ (w : Name). length w) here.named ∙ child-length name k in
     let under : Made pieces (child_name name k) 0 (children here.piece.node) = subst (λ (w : Name). Made pieces w 0 (children here.piece.node))
-        here.named (below here.piece here.there long) in
+    here.named (below here.piece here.there long) in
     in_front pieces name k count here under
     (side_by_side pieces name (k + 1) count below (λ j lt. let next : k + suc j ≡ (k + 1) + j = omega arith in subst
-        (λ (n : ℕ). HasPiece pieces (child_name name n)) next (there (suc j) (omega arith))))
+    (λ (n : ℕ). HasPiece pieces (child_name name n)) next (there (suc j) (omega arith))))
 
 -- a piece's children, by their number alone
 from_none : (pieces : List Piece) (p : Piece) → IsClosed pieces → Has pieces p → (j : ℕ) → j < children p.node → HasPiece pieces (child_name p.name (0 + j))
@@ -65,13 +65,13 @@ from_none pieces p closed there j lt =
     subst (λ (n : ℕ). HasPiece pieces (child_name p.name n)) (sym (zero-add j)) (closed.below p j there lt)
 
 made : (pieces : List Piece) (most left : ℕ) (p : Piece) → IsClosed pieces → ((q : Piece) → Has pieces q → length q.name ≤ most) → Has pieces p
-      → most ≤ length p.name + left
+    → most ≤ length p.name + left
     → Made pieces p.name 0 (children p.node)
 made pieces most zero p closed deep there room =
     side_by_side pieces p.name 0 (children p.node) (λ q has long. absurd (omega (arith, deep q has, long, room))) (from_none pieces p closed there)
 made pieces most (suc left) p closed deep there room =
     side_by_side pieces p.name 0 (children p.node) (λ q has long. made pieces most left q closed deep has (omega (arith, long, room)))
-        (from_none pieces p closed there)
+    (from_none pieces p closed there)
 
 -- the longest name's length
 longest : List Piece → ℕ
@@ -89,13 +89,13 @@ at_most_longest (q ∷ pieces) p h = elim h [
 -- ---- all pieces are in the tree
 
 by_root : (pieces : List Piece) (tree : Trees) (p : Piece) → Rises pieces → ((q : Piece) → Has (pieces_of tree) q → Has pieces q)
-      → HasPiece (pieces_of tree) root_name → Has pieces p → root_name ≡ p.name
+    → HasPiece (pieces_of tree) root_name → Has pieces p → root_name ≡ p.name
     → Has (pieces_of tree) p
 by_root pieces tree p up from root there is_root =
     subst (Has (pieces_of tree)) (one_of_name pieces root.piece p up (from root.piece root.there) there (root.named ∙ is_root)) root.there
 
 by_parent : (pieces : List Piece) (tree : Trees) (p : Piece) → Rises pieces → AreTrees 1 tree → ((q : Piece) → Has (pieces_of tree) q → Has pieces q)
-      → Has pieces p → (child : HasParent pieces p.name)
+    → Has pieces p → (child : HasParent pieces p.name)
     → Has (pieces_of tree) child.parent → Has (pieces_of tree) p
 by_parent pieces tree p up are from there child above =
     let again = tree_children tree child.parent child.index are above child.child in
@@ -105,7 +105,7 @@ longer : (pieces : List Piece) (p : Piece) (child : HasParent pieces p.name) →
 longer pieces p child = ap (λ (w : Name). length w) child.is ∙ child-length child.parent.name child.index
 
 reached : (pieces : List Piece) (tree : Trees) (n : ℕ) (p : Piece) → Rises pieces → IsClosed pieces → AreTrees 1 tree
-      → ((q : Piece) → Has (pieces_of tree) q → Has pieces q)
+    → ((q : Piece) → Has (pieces_of tree) q → Has pieces q)
     → HasPiece (pieces_of tree) root_name → Has pieces p → length p.name ≤ n → Has (pieces_of tree) p
 reached pieces tree zero p up closed are from root there short = elim (closed.own p there) [
   | inl is_root ↦ by_root pieces tree p up from root there is_root
@@ -128,10 +128,10 @@ tree_exists pieces up closed =
     let root = closed.root in
     let under : Made pieces root_name 0 (children root.piece.node) =
     subst (λ (w : Name). Made pieces w 0 (children root.piece.node)) root.named (made pieces (longest pieces) (longest pieces) root.piece closed
-        (at_most_longest pieces) root.there (omega arith)) in
+    (at_most_longest pieces) root.there (omega arith)) in
     let tree = grow root.piece.node under.trees none in
     let top : record { name = root_name; node = root.piece.node } ≡ root.piece = ap (λ (w : Name). record { name = w; node = root.piece.node })
-        (sym root.named) in
+    (sym root.named) in
     let from : (p : Piece) → Has (pieces_of tree) p → Has pieces p = λ p h. elim h [
       | inl same ↦ subst (Has pieces) (sym top ∙ same) root.there
       | inr later ↦ under.from p later
@@ -141,8 +141,10 @@ tree_exists pieces up closed =
       tree = tree;
       one = (under.are, tt);
       is =
-          same_list (pieces_of tree) pieces (pieces_rise tree) up from (λ p h. reached pieces tree (length p.name) p up closed (under.are,
-              tt) from first h (omega arith));
+          same_list (pieces_of tree) pieces (pieces_rise tree) up from (λ p h. reached pieces tree (length p.name) p up closed (
+            under.are,
+            tt,
+          ) from first h (omega arith));
     }
 
 -- ---- its nodes and its height
@@ -152,7 +154,7 @@ nodes_below name k none = refl
 nodes_below name k (grow node below beside) =
     let rest : preorder below ++ preorder beside ≡ map (λ (p : Piece). p.node) (pieces_below (child_name name k) 0 below ++ pieces_below name (k + 1) beside) =
     rw (nodes_below (child_name name k) 0 below, nodes_below name (k + 1) beside)
-        (sym (map-append (λ (p : Piece). p.node) (pieces_below (child_name name k) 0 below) (pieces_below name (k + 1) beside))) in
+    (sym (map-append (λ (p : Piece). p.node) (pieces_below (child_name name k) 0 below) (pieces_below name (k + 1) beside))) in
     ap (λ (ns : List Node). node ∷ ns) rest
 
 pub tree_nodes : (tree : Trees) → AreTrees 1 tree → preorder tree ≡ map (λ (p : Piece). p.node) (pieces_of tree)
@@ -161,14 +163,14 @@ tree_nodes (grow node below none) are = ap (λ (ns : List Node). node ∷ ns) (s
 tree_nodes (grow node below (grow other under beside)) are = absurd are.1
 
 levels_below : (name : Name) (k most : ℕ) (trees : Trees) → length name ≤ most
-      → ((p : Piece) → Has (pieces_below name k trees) p → length p.name ≤ most) → length name + levels trees ≤ most
+    → ((p : Piece) → Has (pieces_below name k trees) p → length p.name ≤ most) → length name + levels trees ≤ most
 levels_below name k most none short deep = omega arith
 levels_below name k most (grow node below beside) short deep =
     let own = deep (record { name = child_name name k; node = node }) (inl refl) in
     let under = levels_below (child_name name k) 0 most below own (λ p h. deep p
-        (inr (has_left (pieces_below (child_name name k) 0 below) (pieces_below name (k + 1) beside) p h))) in
+    (inr (has_left (pieces_below (child_name name k) 0 below) (pieces_below name (k + 1) beside) p h))) in
     let after = levels_below name (k + 1) most beside short
-        (λ p h. deep p (inr (has_right (pieces_below (child_name name k) 0 below) (pieces_below name (k + 1) beside) p h))) in
+    (λ p h. deep p (inr (has_right (pieces_below (child_name name k) 0 below) (pieces_below name (k + 1) beside) p h))) in
     omega (arith, child-length name k)
 
 pub tree_levels : (tree : Trees) (most : ℕ) → AreTrees 1 tree → ((p : Piece) → Has (pieces_of tree) p → length p.name ≤ most) → levels tree ≤ most + 1

@@ -34,17 +34,17 @@ pub record IsAnswered (low : ℕ) (pieces sorted : List Piece) : Type 0 where
 nodes_are : (sorted : List Piece) (found : IsListOf sorted) → trees_of (map (λ (p : Piece). p.node) sorted) ≡ found.tree
 nodes_are sorted found =
     ap trees_of (sym (tree_nodes found.tree found.one ∙ ap (λ (ps : List Piece). map (λ (p : Piece). p.node) ps) found.is))
-        ∙ trees_of-preorder 1 found.tree found.one
+    ∙ trees_of-preorder 1 found.tree found.one
 
 pub gathered : (low : ℕ) (pieces sorted : List Piece) → AreShallow pieces → IsPermutation pieces sorted → Rises sorted → HasWantedNames sorted
-      → IsOwn sorted → HaveGoals low sorted
+    → IsOwn sorted → HaveGoals low sorted
     → IsAnswered low pieces sorted
 gathered low pieces sorted shallow same up complete own goals =
     let found = tree_exists sorted up (closed_by_names sorted (record { once = λ name. once_rising sorted name up; complete = complete; own = own })) in
     let short : AreShallow sorted = All-permutation (λ (p : Piece). length p.name ≤ MOST_BRANCHES_ABOVE) pieces sorted same shallow in
     let low_tree = tree_levels found.tree MOST_BRANCHES_ABOVE found.one
     (λ p there. All-contains (λ (q : Piece). length q.name ≤ MOST_BRANCHES_ABOVE) sorted p short
-        (contains_from_has sorted p (subst (λ (ps : List Piece). Has ps p) found.is there))) in
+    (contains_from_has sorted p (subst (λ (ps : List Piece). Has ps p) found.is there))) in
     let whole : IsTreeOf pieces found.tree = record { one = found.one; same = subst (λ (ps : List Piece). IsPermutation pieces ps) (sym found.is) same } in
     record {
       is_tree = subst IsTree (sym (nodes_are sorted found)) (record { one = found.one; shallow = low_tree });
@@ -84,7 +84,7 @@ tree_is_one pieces a b is_a is_b =
     let across = IsPermutation-trans (pieces_of a) pieces (pieces_of b) (IsPermutation-sym pieces (pieces_of a) is_a.same) is_b.same in
     let back = IsPermutation-sym (pieces_of a) (pieces_of b) across in
     let lists : pieces_of a ≡ pieces_of b = same_list (pieces_of a) (pieces_of b) (pieces_rise a) (pieces_rise b)
-        (same_pieces (pieces_of a) (pieces_of b) across) (same_pieces (pieces_of b) (pieces_of a) back) in
+    (same_pieces (pieces_of a) (pieces_of b) across) (same_pieces (pieces_of b) (pieces_of a) back) in
     let nodes : preorder a ≡ preorder b = tree_nodes a is_a.one ∙ ap (λ (ps : List Piece). map (λ (p : Piece). p.node) ps) lists
-        ∙ sym (tree_nodes b is_b.one) in
+    ∙ sym (tree_nodes b is_b.one) in
     sym (trees_of-preorder 1 a is_a.one) ∙ ap trees_of nodes ∙ trees_of-preorder 1 b is_b.one

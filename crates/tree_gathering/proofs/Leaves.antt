@@ -26,10 +26,10 @@ nothing_below (p ∷ pieces) leaves =
 pub closed_whole : (pieces closed : List Piece) → IsWholeTree pieces (names_of closed) → All IsLeafPiece closed → IsWholeTree (pieces ++ closed) []
 closed_whole pieces closed whole leaves =
     let names : names_of (pieces ++ closed) ++ [] ≡ names_of pieces ++ names_of closed = append-nil (names_of (pieces ++ closed))
-        ∙ map-append (λ (p : Piece). p.name) pieces closed in
+    ∙ map-append (λ (p : Piece). p.name) pieces closed in
     let below : all_below (pieces ++ closed) ≡ all_below pieces =
     flat_map-append names_below pieces closed ∙ ap (λ (more : List Name). all_below pieces ++ more) (nothing_below closed leaves)
-        ∙ append-nil (all_below pieces) in
+    ∙ append-nil (all_below pieces) in
     subst (λ (all : List Name). IsPermutation all (root_name ∷ all_below (pieces ++ closed))) (sym names)
     (subst (λ (all : List Name). IsPermutation (names_of pieces ++ names_of closed) (root_name ∷ all)) (sym below) whole)
 
@@ -40,7 +40,7 @@ no_child p k leaf lt =
 
 -- below leaves nothing stands
 stands_above : (i : Instance) (pieces closed : List Piece) → All IsLeafPiece closed → {name : Name} {c : Choice}
-      → StandsAt i (pieces ++ closed) name c → StandsAt i pieces name c
+    → StandsAt i (pieces ++ closed) name c → StandsAt i pieces name c
 stands_above i pieces closed leaves at_root = at_root
 stands_above i pieces closed leaves (at_child p c k there stands lt) = elim (Contains-append_cases pieces closed p there) [
   | inl worked ↦ at_child p c k worked (stands_above i pieces closed leaves stands) lt
@@ -49,7 +49,7 @@ stands_above i pieces closed leaves (at_child p c k there stands lt) = elim (Con
 
 -- pieces that are right, and leaves that are right where their names stand, are right together
 pub closed_right : (i : Instance) (pieces closed : List Piece) → All IsLeafPiece closed → AreRight i pieces
-      → ((p : Piece) (c : Choice) → Contains closed p → StandsAt i pieces p.name c → IsRight i c p.node) → AreRight i (pieces ++ closed)
+    → ((p : Piece) (c : Choice) → Contains closed p → StandsAt i pieces p.name c → IsRight i c p.node) → AreRight i (pieces ++ closed)
 closed_right i pieces closed leaves right own p c there stands =
     let above : StandsAt i pieces p.name c = stands_above i pieces closed leaves stands in
     elim (Contains-append_cases pieces closed p there) [

@@ -13,7 +13,7 @@ low_moves low xs ys moved leaf =
     record { piece = leaf.piece; there = Contains-permutation xs ys leaf.piece moved leaf.there; below = leaf.below }
 
 pub first_fault_moves : (low : ℕ) (xs ys : List Piece) (fault : GatherFault) → IsPermutation xs ys → IsFirstGatherFault low xs fault
-      → IsFirstGatherFault low ys fault
+    → IsFirstGatherFault low ys fault
 first_fault_moves low xs ys DoubledName moved is = doubled_moves xs ys moved is
 first_fault_moves low xs ys MissingName moved is = (once_moves xs ys moved is.0, lacks_moves xs ys moved is.1)
 first_fault_moves low xs ys StrayName moved is = (once_moves xs ys moved is.0, complete_moves xs ys moved is.1, stray_moves xs ys moved is.2)

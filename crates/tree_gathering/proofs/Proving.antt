@@ -27,7 +27,7 @@ suits i low c (Leaf leaf) right goal = record { goal = goal; closes = closes_sha
 
 -- the choices below it are those of its children, in order
 below_is : (i : Instance) (c : Choice) (node : Node) → IsRight i c node
-      → choices_below i c node ≡ map (choice_below i c node) (range_with_len 0 (children node))
+    → choices_below i c node ≡ map (choice_below i c node) (range_with_len 0 (children node))
 below_is i c (Branch branch) right = ap (λ (n : ℕ). map (child i c branch.kind) (range_with_len 0 n)) (sym right.just)
 below_is i c (Leaf leaf) right = refl
 
@@ -62,7 +62,7 @@ proofs_below i low pieces name f k (suc count) (grow node below beside) are righ
     )
 
 tree_proofs : (i : Instance) (low : ℕ) (pieces : List Piece) (tree : Trees) → AreTrees 1 tree → AreRight i pieces → HaveGoals low pieces
-      → ((p : Piece) → Has (pieces_of tree) p → Contains pieces p)
+    → ((p : Piece) → Has (pieces_of tree) p → Contains pieces p)
     → AreProofs i low (root_choice i ∷ []) tree
 tree_proofs i low pieces none are right goals there = absurd are
 tree_proofs i low pieces (grow node below (grow other under beside)) are right goals there = absurd are.1
@@ -82,11 +82,11 @@ tree_proofs i low pieces (grow node below none) are right goals there =
     )
 
 pub gathered_proves : (i : Instance) (pieces : List Piece) (low : ℕ) (cert : Cert) → AreRight i pieces → low ≤ i.cluster.horizon + 1
-      → IsGathered low pieces cert → Proves i cert
+    → IsGathered low pieces cert → Proves i cert
 gathered_proves i pieces low cert right short is =
     let back = IsPermutation-sym pieces (pieces_of cert.tree) is.tree.same in
     let there : (p : Piece) → Has (pieces_of cert.tree) p → Contains pieces p = λ p h. Contains-permutation (pieces_of cert.tree) pieces p back
-        (contains_from_has (pieces_of cert.tree) p h) in
+    (contains_from_has (pieces_of cert.tree) p h) in
     record {
       low = omega (arith, is.bound);
       tree =

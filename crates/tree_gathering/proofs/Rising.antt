@@ -47,7 +47,7 @@ below_first name k a b below beside =
     let first = up name k a below in
     subst (λ (w : Name). SortsBefore w b.name) (sym (below.is ∙ append_assoc name (k ∷ []) (below.index ∷ below.rest)))
     (subst (SortsBefore (name ++ k ∷ (below.index ∷ below.rest))) (sym beside.is)
-        (sibling_before name k beside.index (below.index ∷ below.rest) beside.rest (omega (arith, beside.from))))
+    (sibling_before name k beside.index (below.index ∷ below.rest) beside.rest (omega (arith, beside.from))))
 
 child_first : (name : Name) (k : ℕ) (b : Piece) → IsUnder name (k + 1) b → SortsBefore (child_name name k) b.name
 child_first name k b beside =
@@ -72,14 +72,15 @@ below_rises name k (grow node below beside) =
           (below_rises name (k + 1) beside)
           (each_weaker (IsUnder (child_name name k) 0) (AreBefore (pieces_below name (k + 1) beside)) _
           (λ a first. each_weaker (IsUnder name (k + 1)) (λ (y : Piece). SortsBefore a.name y.name) _ (λ b next. below_first name k a b first next)
-              after) under),
+          after) under),
     )
 
 pub pieces_rise : (tree : Trees) → Rises (pieces_of tree)
 pieces_rise none = tt
-pieces_rise (grow node below beside) =
-    (each_weaker (IsUnder root_name 0) (λ (y : Piece). SortsBefore root_name y.name) _ (own_first root_name 0) (all_under root_name 0 below),
-        below_rises root_name 0 below)
+pieces_rise (grow node below beside) = (
+  each_weaker (IsUnder root_name 0) (λ (y : Piece). SortsBefore root_name y.name) _ (own_first root_name 0) (all_under root_name 0 below),
+  below_rises root_name 0 below,
+)
 
 -- ---- lists that rise
 

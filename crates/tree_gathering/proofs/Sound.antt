@@ -19,7 +19,7 @@ use Rattle.tree_gathering.proofs.Gathered.{IsAnswered, gathered, tree_has_names,
 use Rattle.tree_gathering.proofs.Whole.{whole_tree_names}
 
 pub no_fault : (low : ℕ) (pieces : List Piece) (fault : GatherFault) → HasTreeNames pieces → HaveGoals low pieces
-      → IsFirstGatherFault low pieces fault → fault ≡ OutOfMemory
+    → IsFirstGatherFault low pieces fault → fault ≡ OutOfMemory
 no_fault low pieces DoubledName names goals is = absurd (omega (arith, is.twice, names.once is.name))
 no_fault low pieces MissingName names goals is = absurd (is.1.lacking (names.complete is.1.name is.1.wanted))
 no_fault low pieces StrayName names goals is = absurd (is.2.unwanted (names.own is.2.name is.2.there))
@@ -27,24 +27,24 @@ no_fault low pieces LowGoal names goals is = absurd (is.1.below (All-contains (�
 no_fault low pieces OutOfMemory names goals is = refl
 
 pub whole_trees_are_sound : (pieces : List Piece) (low : ℕ) (fault : GatherFault) → IsWholeTree pieces [] → HaveGoals low pieces
-      → IsFirstGatherFault low pieces fault → fault ≡ OutOfMemory
+    → IsFirstGatherFault low pieces fault → fault ≡ OutOfMemory
 whole_trees_are_sound pieces low fault whole goals is = no_fault low pieces fault (whole_tree_names pieces whole) goals is
 
 same_cert : (cert : Cert) (low : ℕ) (tree : Trees) → cert.version ≡ version_of_tree cert.tree → cert.low ≡ low → cert.tree ≡ tree
-      → cert ≡ record { version = version_of_tree tree; low = low; tree = tree }
+    → cert ≡ record { version = version_of_tree tree; low = low; tree = tree }
 same_cert cert low tree a b c =
     let version = a ∙ ap version_of_tree c in
     λ i. record { version = version i; low = b i; tree = c i }
 
 pub only_answer : (low : ℕ) (pieces : List Piece) (r : Result Cert GatherFault) → IfOk r (IsGathered low pieces)
-      → IfErr r (IsFirstGatherFault low pieces) → (tree : Trees) → IsTreeOf pieces tree → HaveGoals low pieces
+    → IfErr r (IsFirstGatherFault low pieces) → (tree : Trees) → IsTreeOf pieces tree → HaveGoals low pieces
     → (r ≡ Err OutOfMemory → ⊥) → r ≡ Ok (record { version = version_of_tree tree; low = low; tree = tree })
 only_answer low pieces (Ok cert) ok err tree is goals memory =
     ap Ok (same_cert cert low tree ok.version ok.bound (tree_is_one pieces cert.tree tree ok.tree is))
 only_answer low pieces (Err fault) ok err tree is goals memory = absurd (memory (ap Err (no_fault low pieces fault (tree_has_names pieces tree is) goals err)))
 
 pub gathered_whole : (low : ℕ) (pieces sorted : List Piece) → AreShallow pieces → HasTreeNames pieces → HaveGoals low pieces
-      → IsPermutation pieces sorted → IsSorted sorted
+    → IsPermutation pieces sorted → IsSorted sorted
     → IsAnswered low pieces sorted
 gathered_whole low pieces sorted shallow names goals same order =
     let moved = tree_names_move pieces sorted same names in

@@ -27,11 +27,11 @@ times_append xs ys name = sum_by-append (counts name) xs ys
 
 -- a name is none of a parent's children from one of them on, where it is another's child or an earlier one
 no_children : (parent : Name) (start count : ℕ) (name : Name) → ((k : ℕ) → start ≤ k → child_name parent k ≡ name → ⊥)
-      → times (map (child_name parent) (range_with_len start count)) name ≡ 0
+    → times (map (child_name parent) (range_with_len start count)) name ≡ 0
 no_children parent start zero name other = refl
 no_children parent start (suc count) name other =
     times_other (child_name parent start) (map (child_name parent) (range_with_len (start + 1) count)) name
-        (other_name (child_name parent start) name (other start (omega arith)))
+    (other_name (child_name parent start) name (other start (omega arith)))
     ∙ no_children parent (start + 1) count name (λ k from. other k (omega arith))
 
 at_most_once : (parent : Name) (start count : ℕ) (name : Name) → times (map (child_name parent) (range_with_len start count)) name ≤ 1
@@ -39,7 +39,7 @@ at_most_once parent start zero name = omega arith
 at_most_once parent start (suc count) name = by_test (pointwise nat_eq (child_name parent start) name) refl (at_most_once parent (start + 1) count name)
   where
     by_test : (test : Bool) → test ≡ pointwise nat_eq (child_name parent start) name
-          → times (map (child_name parent) (range_with_len (start + 1) count)) name ≤ 1
+        → times (map (child_name parent) (range_with_len (start + 1) count)) name ≤ 1
         → times (map (child_name parent) (range_with_len start (suc count))) name ≤ 1
     by_test true e more =
         let same : child_name parent start ≡ name = same_text (child_name parent start) name e in
@@ -55,8 +55,13 @@ below_at_most (p ∷ pieces) parent k = by_test (pointwise nat_eq p.name parent)
     by_test : (test : Bool) → test ≡ pointwise nat_eq p.name parent → times (all_below pieces) (child_name parent k) ≤ times (names_of pieces) parent
         → times (all_below (p ∷ pieces)) (child_name parent k) ≤ times (names_of (p ∷ pieces)) parent
     by_test true e more =
-        omega (arith, more, times_append (names_below p) (all_below pieces) (child_name parent k),
-            at_most_once p.name 0 (children p.node) (child_name parent k), times_same p.name (names_of pieces) parent (sym e))
+        omega (
+          arith,
+          more,
+          times_append (names_below p) (all_below pieces) (child_name parent k),
+          at_most_once p.name 0 (children p.node) (child_name parent k),
+          times_same p.name (names_of pieces) parent (sym e),
+        )
     by_test false e more =
         let other : p.name ≡ parent → ⊥ = λ same. true≢false (sym (subst (λ (w : Name). pointwise nat_eq p.name w ≡ true) same (same_name p.name)) ∙ sym e) in
         let none = no_children p.name 0 (children p.node) (child_name parent k) (λ j from is. other (snoc_same p.name parent j k is).0) in
@@ -86,16 +91,22 @@ made (x ∷ name) = in_front x name (made name)
 same_times : (pieces : List Piece) (name : Name) → IsWholeTree pieces [] → times (names_of pieces) name ≡ times (wanted_names pieces) name
 same_times pieces name whole =
     sym (sum_by-IsPermutation (counts name) (names_of pieces ++ []) (root_name ∷ all_below pieces) whole
-        ∙ ap (λ (names : List Name). times names name) (append-nil (names_of pieces)))
+    ∙ ap (λ (names : List Name). times names name) (append-nil (names_of pieces)))
 
 by_making : (pieces : List Piece) (name : Name) → IsMade name → IsWholeTree pieces []
-      → ((parent : Name) → length parent < length name → times (names_of pieces) parent ≤ 1) → times (names_of pieces) name ≤ 1
+    → ((parent : Name) → length parent < length name → times (names_of pieces) parent ≤ 1) → times (names_of pieces) name ≤ 1
 by_making pieces name at_root whole above =
     omega (arith, same_times pieces root_name whole, times_same root_name (all_below pieces) root_name (same_name root_name), no_root_below pieces)
 by_making pieces name (at_child parent k) whole above =
     let not_root : root_name ≡ child_name parent k → ⊥ = λ e. absurd (omega (arith, ap (λ (w : Name). length w) e, child-length parent k)) in
-    omega (arith, same_times pieces (child_name parent k) whole, times_other root_name (all_below pieces) (child_name parent k)
-        (other_name root_name (child_name parent k) not_root), below_at_most pieces parent k, above parent (omega (arith, child-length parent k)))
+    omega (
+      arith,
+      same_times pieces (child_name parent k) whole,
+      times_other root_name (all_below pieces) (child_name parent k)
+          (other_name root_name (child_name parent k) not_root),
+      below_at_most pieces parent k,
+      above parent (omega (arith, child-length parent k)),
+    )
 
 once_up_to : (pieces : List Piece) (n : ℕ) (name : Name) → IsWholeTree pieces [] → length name < n → times (names_of pieces) name ≤ 1
 once_up_to pieces zero name whole short = absurd (omega arith)
@@ -106,7 +117,7 @@ whole_tree_names pieces whole = record {
   once = λ name. once_up_to pieces (length name + 1) name whole (omega arith);
   complete = λ name wanted. subst (λ (names : List Name). Contains names name) (append-nil (names_of pieces))
       (Contains-permutation (root_name ∷ all_below pieces) (names_of pieces ++ []) name
-          (IsPermutation-sym (names_of pieces ++ []) (root_name ∷ all_below pieces) whole) wanted);
+      (IsPermutation-sym (names_of pieces ++ []) (root_name ∷ all_below pieces) whole) wanted);
   own = λ name there. Contains-permutation (names_of pieces ++ []) (root_name ∷ all_below pieces) name whole
       (subst (λ (names : List Name). Contains names name) (sym (append-nil (names_of pieces))) there);
 }

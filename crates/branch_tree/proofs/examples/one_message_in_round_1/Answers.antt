@@ -21,4 +21,4 @@ returns-clause-plan c = is_earliest
 pub returns-clause-closed : goal.returns-clause-closed
 returns-clause-closed c =
     λ at within. plan_closed one_message (one_message_in 1) at one_message_is_instance (is_choice 1 (lit< tt)) (is_complete 1) (one_message_plan 0)
-        is_earliest within
+    is_earliest within

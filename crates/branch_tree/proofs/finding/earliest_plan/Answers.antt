@@ -10,7 +10,7 @@ overflow_cast-result c =
     let i = c.args.instance.now in
     let d = c.args.choice.now in
     let answer : IsEarliest i d c.in-Plan.plan × (c.in-Plan.ticks ≡ delay i c.in-Plan.plan) = subst (λ (e : Earliest). IsEarliestAnswer i d e)
-        c.in-Plan.is c.in_ok-plan.ensures in
+    c.in-Plan.is c.in_ok-plan.ensures in
     let below = earliest_below i d c.args.goal c.in-Plan.plan c.processes-processes.ensures.instance answer.0 c.requires.better in
     omega (arith, answer.1, below, c.ranges.goal)
 
@@ -19,6 +19,6 @@ returns-clause-below c =
     let i = c.args.instance.now in
     let d = c.args.choice.now in
     let answer : IsEarliest i d c.in-Plan.plan × (c.in-Plan.ticks ≡ delay i c.in-Plan.plan) = subst (λ (e : Earliest). IsEarliestAnswer i d e)
-        c.in-Plan.is c.in_ok-plan.ensures in
+    c.in-Plan.is c.in_ok-plan.ensures in
     let below = earliest_below i d c.args.goal c.in-Plan.plan c.processes-processes.ensures.instance answer.0 c.requires.better in
     omega (arith, answer.1, below)

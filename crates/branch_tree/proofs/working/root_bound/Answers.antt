@@ -9,4 +9,4 @@ returns-clause-bound c =
     let i = c.args.instance.now in
     let leaf = c.in_ok-leaf.leaf in
     root_leaf_bounds i leaf c.nodes-nodes.ensures.instance (subst (λ (t : Task). ClosesSharply i (choice_of i t) leaf)
-        c.in_ok-root.ensures.value c.in_ok-leaf.ensures.closes)
+    c.in_ok-root.ensures.value c.in_ok-leaf.ensures.closes)

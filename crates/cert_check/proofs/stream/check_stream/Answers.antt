@@ -13,7 +13,7 @@ returns-clause-taken g c =
     let origin : Origin = record { reader = first.lines.reader.ghost_name; bytes = remaining c.args.reader.now } in
     let from = c.judge_all-answer.ensures.from origin (refl, c.new-stream.ensures.from.1) in
     taken_from remaining last _ origin c.judge_all-answer.result (search (rules, from.0, c.new-stream.ensures.from.0, c.into_reader-reader.ensures))
-        from c.judge_all-answer.ensures.all
+    from c.judge_all-answer.ensures.all
 
 pub returns-clause-only : goal.returns-clause-only
 returns-clause-only g c =
@@ -27,4 +27,4 @@ returns-clause-only g c =
     let from = c.judge_all-answer.ensures.from origin (refl, c.new-stream.ensures.from.1) in
     let judged = answer_by i (LeavesCert remaining first) (BytesRead known) answer c.new-stream.ensures.text c.judge_all-answer.ensures.answer in
     bound_of_proof i known (remaining last.lines.reader.now) answer judged
-        (record { taken = bytes_taken last; from = from.1; all = c.judge_all-answer.ensures.all })
+    (record { taken = bytes_taken last; from = from.1; all = c.judge_all-answer.ensures.all })

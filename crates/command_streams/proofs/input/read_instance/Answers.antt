@@ -15,4 +15,4 @@ returns-in_err-bytes-clause-judged g c =
 pub returns-clause-only : goal.returns-clause-only
 returns-clause-only g c =
     read_only (g.R.Read.remaining c.args.reader.now) c.in_ok-bytes.bytes.items c.instance_of_text.result c.in_ok-bytes.ensures.read
-        (rw c.as_slice.ensures.value at c.instance_of_text.ensures.only)
+    (rw c.as_slice.ensures.value at c.instance_of_text.ensures.only)

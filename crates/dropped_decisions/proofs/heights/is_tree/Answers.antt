@@ -13,7 +13,7 @@ loop-left-preserved c = record {
   inside = omega arith;
   have =
       one_more c.args.nodes.now c.loop-left.left c.index-nodes-left.result c.children.result c.in-Some.most c.loop-left.heights.items
-          c.take_off.new.heights.items c.push.new.self.items
+      c.take_off.new.heights.items c.push.new.self.items
       c.loop-left-test.true c.loop-left.invariant.inside c.index-nodes-left.is c.children.ensures c.loop-left.invariant.have c.in-Some.ensures
-          c.in_ok-push-in-Some.ensures.items;
+      c.in_ok-push-in-Some.ensures.items;
 }

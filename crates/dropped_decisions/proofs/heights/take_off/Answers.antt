@@ -10,4 +10,4 @@ pub loop-k-preserved : goal.loop-k-preserved
 loop-k-preserved c =
     subst (λ (most : ℕ). AreTaken (c.loop-k._k + 1) most c.args.heights.now.items c.pop.new.self.items) (sym c.higher-most.ensures)
     (one_taken c.loop-k._k c.loop-k.most c.in_ok-height.height c.args.heights.now.items c.loop-k.heights.items c.pop.new.self.items
-        c.loop-k.invariant c.in_ok-height.ensures.items)
+    c.loop-k.invariant c.in_ok-height.ensures.items)

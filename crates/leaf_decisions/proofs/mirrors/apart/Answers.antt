@@ -26,5 +26,5 @@ returns-else-rounds_count c = record {
   more = more_none c.args.uses.now;
   told =
       λ read first second f known fact tells. absurd (both_ways _ c.if-rounds_count.false (c.rounds_count.ensures f known first second
-          (is_apart f c.args.m c.args.k fact tells)));
+      (is_apart f c.args.m c.args.k fact tells)));
 }

@@ -16,7 +16,7 @@ returns c =
       more = more_twice c.args.uses.now one two c.channel.ensures.more c.each_lower.ensures.more;
       told = λ read. mirror_read path given two c.args.m read.are_open
           (λ there. told_grown one.levels two.levels (last_of (fixes_any c.args.m) path.turns) c.each_lower.ensures.more.levels
-              (c.channel.ensures.told read there))
+          (c.channel.ensures.told read there))
           (λ there.
           let source = rw c.instance.ensures at c.source-n.ensures.value in
           subst (λ (n : ℕ). TellsEach (λ uses k. k < c.args.m → TellsAside path given uses c.args.m k) (messages_of path.instance n) two) (source there)

@@ -13,5 +13,5 @@ returns-in-None c = record {
   more = more_none c.args.uses.now;
   told =
       λ read row column never. inr (none_told c.args.uses.now.levels (last_of (sets_order c.args.p c.args.q) c.args.path.now.turns)
-          (sym c.in-None.is ∙ c.before-2.ensures row column));
+      (sym c.in-None.is ∙ c.before-2.ensures row column));
 }

@@ -18,7 +18,7 @@ loop-m-preserved c =
     let inside = rw c.instance.ensures at c.received_by-m-items.ensures.inside in
     let there = All-get_or (λ (k : ℕ). k < length path.instance.messages) list c.loop-m.m-index 0 c.loop-m-test.true inside in
     told_next path (Unit {0}) (λ (uses : Uses) (m : ℕ). TellsArrival path c.args.given.now uses m) list c.args.uses.now c.loop-m.uses
-        c.arrival.new.uses c.loop-m.m-index
+    c.arrival.new.uses c.loop-m.m-index
     (arrival_stays path c.args.given.now) c.loop-m.invariant c.arrival.ensures.more (λ read so. c.arrival.ensures.told read there)
 
 pub returns : goal.returns
@@ -28,6 +28,6 @@ returns c =
       more = c.loop-m.invariant.more;
       told = λ read.
           let all = told_all path (Unit {0}) (λ (uses : Uses) (m : ℕ). TellsArrival path c.args.given.now uses m) list c.args.uses.now c.loop-m.uses
-              c.loop-m.m-index c.loop-m-test.false c.loop-m.invariant read tt in
+          c.loop-m.m-index c.loop-m-test.false c.loop-m.invariant read tt in
           rw (c.received_by-m-items.ensures.value, c.instance.ensures) at all;
     }

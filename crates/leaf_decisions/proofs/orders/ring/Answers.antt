@@ -14,6 +14,6 @@ returns c =
         next = c.neighbours.ensures.told (read_more path c.args.uses.now one c.ahead.ensures.more read);
         around =
             pair_more path c.args.given.now one two (slice_index ring (length ring - 1)) (slice_index ring 0) c.neighbours.ensures.more
-                (c.ahead.ensures.told read);
+            (c.ahead.ensures.told read);
       };
     }

@@ -18,7 +18,7 @@ loop-x-preserved c =
     let inside = rw c.instance.ensures at c.processes_on-x-items.ensures.inside in
     let there = All-get_or (λ (k : ℕ). k < length path.instance.processes) list c.loop-x.x-index 0 c.loop-x-test.true inside in
     told_next path (Unit {0}) (λ (uses : Uses) (x : ℕ). TellsRival path c.args.given.now uses c.args.p x) list c.args.uses.now c.loop-x.uses
-        c.rival.new.uses c.loop-x.x-index
+    c.rival.new.uses c.loop-x.x-index
     (rival_stays path c.args.given.now c.args.p) c.loop-x.invariant c.rival.ensures.more (λ read so. c.rival.ensures.told read)
 
 pub returns : goal.returns
@@ -28,6 +28,6 @@ returns c =
       more = c.loop-x.invariant.more;
       told = λ read.
           let all = told_all path (Unit {0}) (λ (uses : Uses) (x : ℕ). TellsRival path c.args.given.now uses c.args.p x) list c.args.uses.now
-              c.loop-x.uses c.loop-x.x-index c.loop-x-test.false c.loop-x.invariant read tt in
+          c.loop-x.uses c.loop-x.x-index c.loop-x-test.false c.loop-x.invariant read tt in
           rw (c.processes_on-x-items.ensures.value, c.instance.ensures) at all;
     }

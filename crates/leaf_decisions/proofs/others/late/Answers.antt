@@ -25,9 +25,9 @@ returns c =
       told = λ read. late_read path given new c.args.m c.args.r
           (λ there. limit_more path one new one_on (LeastSlot (source_of path.instance c.args.m)) (c.least_slot.ensures.told there))
           (λ there. limit_more path two new two_on (LeastFrame (source_of path.instance c.args.m))
-              (c.least_frame.ensures.told (read_more path old one c.least_slot.ensures.more read) there))
+          (c.least_frame.ensures.told (read_more path old one c.least_slot.ensures.more read) there))
           (λ there. fact_more path three new c.others.ensures.more given (FirstRound c.args.m)
-              (c.least.ensures.told (read_more path old two to_two read) there))
+          (c.least.ensures.told (read_more path old two to_two read) there))
           (λ there.
           let source = rw c.instance.ensures at c.source-n.ensures.value in
           subst (λ (n : ℕ). TellsEach (λ uses k. k ≢ c.args.m → TellsKeptOut path given uses c.args.r k) (messages_of path.instance n) new) (source there)

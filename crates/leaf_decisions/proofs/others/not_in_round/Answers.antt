@@ -8,7 +8,7 @@ returns-then-is_later c = record {
   more = c.least.ensures.more;
   told =
       λ read there. later_told c.args.path.now c.args.given.now c.least.new.uses c.args.m c.args.r there
-          (c.is_later.ensures.given c.if-is_later.true) (c.is_later.ensures.behind c.if-is_later.true there) (c.least.ensures.told read there);
+      (c.is_later.ensures.given c.if-is_later.true) (c.is_later.ensures.behind c.if-is_later.true there) (c.least.ensures.told read there);
 }
 
 pub returns-then-ends_before : goal.returns-then-ends_before
@@ -16,7 +16,7 @@ returns-then-ends_before c = record {
   more = c.greatest.ensures.more;
   told =
       λ read there. earlier_told c.args.path.now c.args.given.now c.greatest.new.uses c.args.m c.args.r there
-          (c.is_later.ensures.no c.if-is_later.false there) (c.greatest.ensures.told read there);
+      (c.is_later.ensures.no c.if-is_later.false there) (c.greatest.ensures.told read there);
 }
 
 pub returns-else-ends_before : goal.returns-else-ends_before
@@ -24,5 +24,5 @@ returns-else-ends_before c = record {
   more = more_none c.args.uses.now;
   told =
       λ read there. neither_told c.args.path.now c.args.given.now c.args.uses.now c.args.m c.args.r there
-          (c.is_later.ensures.no c.if-is_later.false there) (sym (c.ends_before.ensures there) ∙ c.if-ends_before.false);
+      (c.is_later.ensures.no c.if-is_later.false there) (sym (c.ends_before.ensures there) ∙ c.if-ends_before.false);
 }

@@ -10,7 +10,7 @@ pub loop-k-init : goal.loop-k-init
 loop-k-init c =
     let path = c.args.path.now in
     told_first path (Unit {0}) (λ (uses : Uses) (k : ℕ). k ≢ c.args.m → TellsKeptOut path c.args.given.now uses c.args.r k)
-        c.messages_of-k-items.result.now c.args.uses.now
+    c.messages_of-k-items.result.now c.args.uses.now
 
 pub loop-k-preserved : goal.loop-k-preserved
 loop-k-preserved c =
@@ -19,7 +19,7 @@ loop-k-preserved c =
     let inside = rw c.instance.ensures at c.messages_of-k-items.ensures.inside in
     let there = All-get_or (λ (k : ℕ). k < length path.instance.messages) list c.loop-k.k-index 0 c.loop-k-test.true inside in
     told_next path (Unit {0}) (λ (uses : Uses) (k : ℕ). k ≢ c.args.m → TellsKeptOut path c.args.given.now uses c.args.r k) list c.args.uses.now
-        c.loop-k.uses c.other.new.uses c.loop-k.k-index
+    c.loop-k.uses c.other.new.uses c.loop-k.k-index
     (other_stays path c.args.given.now c.args.m c.args.r) c.loop-k.invariant c.other.ensures.more (λ read so. c.other.ensures.told read there)
 
 pub returns : goal.returns
@@ -29,6 +29,6 @@ returns c =
       more = c.loop-k.invariant.more;
       told = λ read.
           let all = told_all path (Unit {0}) (λ (uses : Uses) (k : ℕ). k ≢ c.args.m → TellsKeptOut path c.args.given.now uses c.args.r k) list
-              c.args.uses.now c.loop-k.uses c.loop-k.k-index c.loop-k-test.false c.loop-k.invariant read tt in
+          c.args.uses.now c.loop-k.uses c.loop-k.k-index c.loop-k-test.false c.loop-k.invariant read tt in
           rw (c.messages_of-k-items.ensures.value, c.instance.ensures) at all;
     }

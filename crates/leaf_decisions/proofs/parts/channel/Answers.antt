@@ -8,5 +8,5 @@ returns c = record {
   more = c.channel-2.ensures.more;
   told =
       λ read there. told_on_channel c.channel-2.new.self.levels (length c.args.uses.now.levels) (fixes_any c.args.m) c.args.path.now.turns read.room
-          c.channel.result (c.channel.ensures there) c.channel-2.ensures.told;
+      c.channel.result (c.channel.ensures there) c.channel-2.ensures.told;
 }

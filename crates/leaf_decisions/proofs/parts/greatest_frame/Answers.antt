@@ -14,5 +14,5 @@ returns c = record {
       let new = c.branch-uses.new.self.levels in
       subst (λ (n : ℕ). IsTold new (last_of (fixes_below c.args.path.now.instance n) c.args.path.now.turns)) (is there)
       (told_level new (length c.args.uses.now.levels) (fixes_below c.args.path.now.instance c.source-n.result) c.args.path.now.turns read.room
-          c.below_most.result (c.below_most.ensures (inside there)) c.branch-uses.ensures.told);
+      c.below_most.result (c.below_most.ensures (inside there)) c.branch-uses.ensures.told);
 }

@@ -10,5 +10,5 @@ returns c = record {
       let is = rw c.instance.ensures at c.source-n.ensures.value in
       let inside = rw c.instance.ensures at c.source-n.ensures.inside in
       greatest_slot_told c.args.path.now c.greatest_slot.new.self c.source-n.result (source_of i c.args.m) (is there) (inside there)
-          c.greatest_slot.ensures.capacities c.greatest_slot.ensures.place;
+      c.greatest_slot.ensures.capacities c.greatest_slot.ensures.place;
 }

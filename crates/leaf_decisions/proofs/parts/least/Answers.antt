@@ -12,5 +12,5 @@ returns c = record {
   more = c.cut.ensures.more;
   told =
       λ read there. inr (told_cut c.cut.new.self.levels (length c.args.uses.now.levels) (sets_least c.args.m) c.args.path.now.turns read.room
-          c.least.result (c.least.ensures there) c.cut.ensures.told);
+      c.least.result (c.least.ensures there) c.cut.ensures.told);
 }

@@ -14,5 +14,5 @@ returns c = record {
       let new = c.branch-uses.new.self.levels in
       subst (λ (n : ℕ). IsTold new (last_of (fixes_above n) c.args.path.now.turns)) (is there)
       (told_level new (length c.args.uses.now.levels) (fixes_above c.source-n.result) c.args.path.now.turns read.room c.above_least.result
-          (c.above_least.ensures (inside there)) c.branch-uses.ensures.told);
+      (c.above_least.ensures (inside there)) c.branch-uses.ensures.told);
 }

@@ -10,5 +10,5 @@ returns c = record {
       let is = rw c.instance.ensures at c.source-n.ensures.value in
       let inside = rw c.instance.ensures at c.source-n.ensures.inside in
       least_slot_told c.args.path.now c.least_slot.new.self c.source-n.result (source_of i c.args.m) (is there) (inside there)
-          c.least_slot.ensures.capacities c.least_slot.ensures.front c.least_slot.ensures.all;
+      c.least_slot.ensures.capacities c.least_slot.ensures.front c.least_slot.ensures.all;
 }

@@ -12,5 +12,5 @@ returns c = record {
   more = c.branch-uses.ensures.more;
   told =
       λ read first second. inr (told_level c.branch-uses.new.self.levels (length c.args.uses.now.levels) (sets_order c.args.p c.args.q)
-          c.args.path.now.turns read.room c.before-2.result (c.before-2.ensures first second) c.branch-uses.ensures.told);
+      c.args.path.now.turns read.room c.before-2.result (c.before-2.ensures first second) c.branch-uses.ensures.told);
 }

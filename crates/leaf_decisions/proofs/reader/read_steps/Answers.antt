@@ -18,7 +18,7 @@ loop-step-preserved c =
     take_more steps c.loop-step.step-index step c.loop-step-test.true ∙ ap (λ (x : Step). take c.loop-step.step-index steps ++ x ∷ []) (sym c.step-item.is) in
     let writes : c.target.result ≡ target path.instance step = rw c.instance.ensures at c.target.ensures in
     rw more (read_more_steps path c.args.uses.now c.args.given.now c.loop-step.given c.give.new.self c.loop-step.uses c.read.new.uses
-        (take c.loop-step.step-index steps) step
+    (take c.loop-step.step-index steps) step
     c.loop-step.invariant c.read.ensures.more c.read.ensures.told c.give.ensures.flags
     (λ so. c.give.ensures.given path.instance (behind [] (take c.loop-step.step-index steps)) step writes so))
 

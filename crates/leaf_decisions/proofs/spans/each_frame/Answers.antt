@@ -10,7 +10,7 @@ pub loop-m-init : goal.loop-m-init
 loop-m-init c =
     let path = c.args.path.now in
     told_first path (Unit {0}) (λ (uses : Uses) (m : ℕ). TellsFrame path c.args.given.now uses c.args.a c.args.b m) c.messages_of-m-items.result.now
-        c.args.uses.now
+    c.args.uses.now
 
 pub loop-m-preserved : goal.loop-m-preserved
 loop-m-preserved c =
@@ -19,7 +19,7 @@ loop-m-preserved c =
     let inside = rw c.instance.ensures at c.messages_of-m-items.ensures.inside in
     let there = All-get_or (λ (k : ℕ). k < length path.instance.messages) list c.loop-m.m-index 0 c.loop-m-test.true inside in
     told_next path (Unit {0}) (λ (uses : Uses) (m : ℕ). TellsFrame path c.args.given.now uses c.args.a c.args.b m) list c.args.uses.now c.loop-m.uses
-        c.frame.new.uses c.loop-m.m-index
+    c.frame.new.uses c.loop-m.m-index
     (frame_stays path c.args.given.now c.args.a c.args.b) c.loop-m.invariant c.frame.ensures.more (λ read so. c.frame.ensures.told read there)
 
 pub returns : goal.returns
@@ -29,6 +29,6 @@ returns c =
       more = c.loop-m.invariant.more;
       told = λ read.
           let all = told_all path (Unit {0}) (λ (uses : Uses) (m : ℕ). TellsFrame path c.args.given.now uses c.args.a c.args.b m) list
-              c.args.uses.now c.loop-m.uses c.loop-m.m-index c.loop-m-test.false c.loop-m.invariant read tt in
+          c.args.uses.now c.loop-m.uses c.loop-m.m-index c.loop-m-test.false c.loop-m.invariant read tt in
           rw (c.messages_of-m-items.ensures.value, c.instance.ensures) at all;
     }

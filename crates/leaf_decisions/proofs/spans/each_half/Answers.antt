@@ -10,7 +10,7 @@ pub loop-m-init : goal.loop-m-init
 loop-m-init c =
     let path = c.args.path.now in
     told_first path (2 ≤ path.instance.cluster.channels) (λ (uses : Uses) (m : ℕ). TellsHalf path c.args.given.now uses c.args.k c.args.a c.args.b m)
-        c.messages_of-m-items.result.now c.args.uses.now
+    c.messages_of-m-items.result.now c.args.uses.now
 
 pub loop-m-preserved : goal.loop-m-preserved
 loop-m-preserved c =
@@ -19,7 +19,7 @@ loop-m-preserved c =
     let inside = rw c.instance.ensures at c.messages_of-m-items.ensures.inside in
     let there = All-get_or (λ (k : ℕ). k < length path.instance.messages) list c.loop-m.m-index 0 c.loop-m-test.true inside in
     told_next path (2 ≤ path.instance.cluster.channels) (λ (uses : Uses) (m : ℕ). TellsHalf path c.args.given.now uses c.args.k c.args.a c.args.b m)
-        list c.args.uses.now c.loop-m.uses c.half.new.uses c.loop-m.m-index
+    list c.args.uses.now c.loop-m.uses c.half.new.uses c.loop-m.m-index
     (half_stays path c.args.given.now c.args.k c.args.a c.args.b) c.loop-m.invariant c.half.ensures.more (λ read so. c.half.ensures.told read so there)
 
 pub returns : goal.returns
@@ -29,6 +29,6 @@ returns c =
       more = c.loop-m.invariant.more;
       told = λ read some.
           let all = told_all path (2 ≤ path.instance.cluster.channels) (λ (uses : Uses) (m : ℕ). TellsHalf path c.args.given.now uses c.args.k
-              c.args.a c.args.b m) list c.args.uses.now c.loop-m.uses c.loop-m.m-index c.loop-m-test.false c.loop-m.invariant read some in
+          c.args.a c.args.b m) list c.args.uses.now c.loop-m.uses c.loop-m.m-index c.loop-m-test.false c.loop-m.invariant read some in
           rw (c.messages_of-m-items.ensures.value, c.instance.ensures) at all;
     }

@@ -16,6 +16,6 @@ returns c =
       told = λ read. halves_read path c.args.given.now two c.args.k c.args.n c.args.a c.args.b
           (λ there. told_grown one.levels two.levels (last_of picks path.turns) c.each_half.ensures.more.levels
           (told_level one.levels (length c.args.uses.now.levels) picks path.turns read.room c.below_most.result (c.below_most.ensures there)
-              c.branch-uses.ensures.told))
+          c.branch-uses.ensures.told))
           (c.each_half.ensures.told (read_more path c.args.uses.now one c.branch-uses.ensures.more read));
     }

@@ -7,7 +7,7 @@ use Rattle.leaf_decisions.proofs.spans.is_put_on_both.Goals as goal
 pub returns-in-Some : goal.returns-in-Some
 returns-in-Some c =
     λ there. on_test (λ (k : ℕ). k == both_channels) (last_of (fixes_any c.args.m) c.args.path.now.turns) c.in-Some.on
-        (sym c.in-Some.is ∙ c.channel.ensures there)
+    (sym c.in-Some.is ∙ c.channel.ensures there)
 
 pub returns-in-None : goal.returns-in-None
 returns-in-None c =

@@ -11,4 +11,4 @@ returns-then-has_least c = λ f known there from. refl
 pub returns : goal.returns
 returns c = λ f known there from. c.begins_from.ensures there
     ∙ begins_there c.args.path.now c.args.given.now f known c.args.m there c.args.a (omega (arith, c.if-a-eq0.false)) from
-        (sym c.has_least.ensures ∙ c.if-has_least.false)
+    (sym c.has_least.ensures ∙ c.if-has_least.false)

@@ -11,4 +11,4 @@ returns-then-has_greatest c = λ f known there until. refl
 pub returns : goal.returns
 returns c = λ f known there until. rw (c.cluster.ensures.value, c.instance.ensures)
     (horizon_within c.args.path.now c.args.given.now f known c.args.m there c.args.b until
-        (sym (c.ends_before.ensures there) ∙ c.if-ends_before.false) (sym c.has_greatest.ensures ∙ c.if-has_greatest.false))
+    (sym (c.ends_before.ensures there) ∙ c.if-ends_before.false) (sym c.has_greatest.ensures ∙ c.if-has_greatest.false))

@@ -9,7 +9,7 @@ returns-then-is_put_on_both c = record {
   more = c.channel.ensures.more;
   told =
       λ read there. told_channel c.args.path.now.instance c.args.m there c.args.path.now.turns read.are_open c.channel.new.uses.levels
-          (λ (k : ℕ). k == both_channels) (c.channel.ensures.told read there);
+      (λ (k : ℕ). k == both_channels) (c.channel.ensures.told read there);
 }
 
 pub returns-else-is_put_on_both : goal.returns-else-is_put_on_both
@@ -17,6 +17,6 @@ returns-else-is_put_on_both c = record {
   more = more_none c.args.uses.now;
   told =
       λ read there. told_no_channel c.args.path.now.instance c.args.m there c.args.path.now.turns read.are_open c.args.uses.now.levels
-          (λ (k : ℕ). k == both_channels)
+      (λ (k : ℕ). k == both_channels)
       (sym (c.is_put_on_both.ensures there) ∙ c.if-is_put_on_both.false);
 }

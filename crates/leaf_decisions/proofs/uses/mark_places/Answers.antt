@@ -16,7 +16,7 @@ loop-placed-preserved c =
     let one = get_or xs c.loop-placed.placed-index none in
     let more = take_more xs c.loop-placed.placed-index none c.loop-placed-test.true in
     rw more (marked_more (take c.loop-placed.placed-index xs) one c.args.levels.now c.loop-placed.levels c.insert.new.self c.loop-placed.invariant
-        c.insert.ensures)
+    c.insert.ensures)
 
 pub returns : goal.returns
 returns c =

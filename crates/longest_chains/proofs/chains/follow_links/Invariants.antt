@@ -8,5 +8,5 @@ invariant-loop-l l = record {
   chains : AreChainEnds l.instance l.ends.items;
   kept : AreKept l.initial.ends.items l.ends.items;
   reach : (k : ℕ) → k < l.l → slice_index l.initial.ends.items (link_at l.instance k).before + (process_at l.instance (link_at l.instance k).after).wcet ≤
-        slice_index l.ends.items (link_at l.instance k).after;
+      slice_index l.ends.items (link_at l.instance k).after;
 }

@@ -8,5 +8,5 @@ invariant-loop-q l = record {
   chains : AreChainEnds l.instance l.ends.items;
   kept : AreKept l.initial.ends.items l.ends.items;
   reach : (k : ℕ) → k < l.q-index → l.arrival + (process_at l.instance (slice_index (message_at l.instance l.m).receivers k)).wcet ≤ slice_index l.ends.items
-        (slice_index (message_at l.instance l.m).receivers k);
+      (slice_index (message_at l.instance l.m).receivers k);
 }

@@ -9,6 +9,6 @@ invariant-loop-m l = record {
   chains : AreChainEnds l.instance l.ends.items;
   kept : AreKept l.initial.ends.items l.ends.items;
   reach : (k q : ℕ) → k < l.m → Contains (message_at l.instance k).receivers q
-        → slice_index l.initial.ends.items (message_at l.instance k).sender + least_transfer l.instance (source_of l.instance k) +
-        (process_at l.instance q).wcet ≤ slice_index l.ends.items q;
+      → slice_index l.initial.ends.items (message_at l.instance k).sender + least_transfer l.instance (source_of l.instance k) +
+      (process_at l.instance q).wcet ≤ slice_index l.ends.items q;
 }

@@ -9,5 +9,5 @@ use Rattle.model_evidence.proofs.rules.received_by_nobody.Goals as goal
 pub returns : goal.returns
 returns c = λ p sent. no_instance _ _ _ c.tables.view_is c.build.ensures.ok
     (λ w. let inside : length c.args.tables.processes < length c.args.tables.processes = All-contains (IsProcess c.args.tables)
-        (message_at c.args.tables sent.message).receivers (length c.args.tables.processes)
-        (w.indices (AtMessage sent.message) sent.is_there).1 sent.receiver in omega arith)
+    (message_at c.args.tables sent.message).receivers (length c.args.tables.processes)
+    (w.indices (AtMessage sent.message) sent.is_there).1 sent.receiver in omega arith)

@@ -12,8 +12,15 @@ returns c =
     let plan = c.args.plan.now in
     let valid = c.in-Ok.ensures.ok in
     let order = rw (← valid.lengths.capacities) at valid.order in
-    let first = offset-at cluster plan.order plan.caps order 0 (omega (arith, order.all, valid.lengths.capacities,
-        c.nodes-nodes.ensures.instance.limits.nodes_least)) in
-    let start : c.slot_start.result ≡ slot_start cluster plan.order plan.caps (slice_index plan.order 0) c.args.round = rw (c.of-layout.ensures,
-        c.as_slice-order.ensures, c.as_slice.ensures) at c.slot_start.ensures.value in
+    let first = offset-at cluster plan.order plan.caps order 0 (omega (
+      arith,
+      order.all,
+      valid.lengths.capacities,
+      c.nodes-nodes.ensures.instance.limits.nodes_least,
+    )) in
+    let start : c.slot_start.result ≡ slot_start cluster plan.order plan.caps (slice_index plan.order 0) c.args.round = rw (
+      c.of-layout.ensures,
+      c.as_slice-order.ensures,
+      c.as_slice.ensures,
+    ) at c.slot_start.ensures.value in
     omega (arith, first, start)

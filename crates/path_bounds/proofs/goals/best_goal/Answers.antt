@@ -6,7 +6,7 @@ use Rattle.ttp_model.specs.Chains.{IsPathBound}
 use Rattle.path_bounds.proofs.goals.best_goal.Goals as goal
 
 lesser : (i : Instance) (top : ℕ) (answer : Result Leaf MemoryFault) → IfOk answer (λ leaf. (bound : ℕ) → IsPathBound i bound → bound ≤ leaf.goal)
-      → IfOk answer (λ leaf. (bound : ℕ) → IsPathBound i bound → min top bound ≤ leaf.goal)
+    → IfOk answer (λ leaf. (bound : ℕ) → IsPathBound i bound → min top bound ≤ leaf.goal)
 lesser i top (Ok leaf) h = λ bound is. omega (arith, h bound is)
 lesser i top (Err fault) h = h
 

@@ -36,9 +36,9 @@ returns-clause-judged c = λ bundle is_taken.
     let instance = rw (c.split_at.ensures.front, c.as_slice-bytes.ensures.value) at c.in-Ok.ensures.judged in
     let ended : c.args.taken.now.stop ≡ AtEnd = same_true the_type (search rules) _ _ (not_false _ (sym c.if-ne.false ∙ c.ne.ensures)) in
     let rest : c.split_at.result.1.now ≡ drop c.in-Some.at c.args.taken.now.bytes.items = c.split_at.ensures.back
-        ∙ ap (drop c.in-Some.at) c.as_slice-bytes.ensures.value in
+    ∙ ap (drop c.in-Some.at) c.as_slice-bytes.ensures.value in
     let plan : c.split_at-2.result.1.now ≡ drop (c.in-Some.at + 3) c.args.taken.now.bytes.items = c.split_at-2.ensures.back ∙ ap (drop 3) rest
-        ∙ drop-drop 3 c.in-Some.at c.args.taken.now.bytes.items in
+    ∙ drop-drop 3 c.in-Some.at c.args.taken.now.bytes.items in
     outcome_all _ c.args.taken.now bundle _ is_taken ended first _ instance _ (rw plan at c.verified_of_text.ensures.judged)
 
 pub returns-clause-unread : goal.returns-clause-unread
@@ -48,9 +48,9 @@ pub returns-then-ne-clause-whole : goal.returns-then-ne-clause-whole
 returns-then-ne-clause-whole c = λ whole.
     let first = rw c.as_slice-bytes.ensures.value at c.in-Some.ensures in
     let rest : c.split_at.result.1.now ≡ drop c.in-Some.at c.args.taken.now.bytes.items = c.split_at.ensures.back
-        ∙ ap (drop c.in-Some.at) c.as_slice-bytes.ensures.value in
+    ∙ ap (drop c.in-Some.at) c.as_slice-bytes.ensures.value in
     let plan : c.split_at-2.result.1.now ≡ drop (c.in-Some.at + 3) c.args.taken.now.bytes.items = c.split_at-2.ensures.back ∙ ap (drop 3) rest
-        ∙ drop-drop 3 c.in-Some.at c.args.taken.now.bytes.items in
+    ∙ drop-drop 3 c.in-Some.at c.args.taken.now.bytes.items in
     let few = whole.plan c.in-Some.at first in
     elim c.then-ne.branch [
       | then-ne-via-then-ne w ↦ false≢true (sym (rw whole.ended at c.ne.ensures) ∙ w.if-ne.true)

@@ -9,7 +9,7 @@ pub returns-in-Ok-clause-verdict : goal.returns-in-Ok-clause-verdict
 returns-in-Ok-clause-verdict g c =
     IfSome_then _ c.in-Ok.ensures.judged (λ bundle verified.
     verdict_outcome (IsVerifiedBundle bundle) (IsRefusedBundle bundle) c.in-Ok.verified verified verified.verified.has_plan.has_delay tt _ _ _
-        c.write_verdict-end.ensures)
+    c.write_verdict-end.ensures)
 
 pub returns-in-Err-clause-verdict : goal.returns-in-Err-clause-verdict
 returns-in-Err-clause-verdict g c =

@@ -16,15 +16,15 @@ returns-in-Ok-read_bound-clause-order g c = written_later _ _ _ _ _ c.write_boun
 pub returns-in-Err-clause-only : goal.returns-in-Err-clause-only
 returns-in-Err-clause-only g c =
     unread_instance (g.I.Read.remaining c.args.instance.now) (g.C.Read.remaining c.args.certificate.now) (g.W.Write.contents c.args.out.now)
-        c.in-Err.fault c.in-Err.ensures.only
+    c.in-Err.fault c.in-Err.ensures.only
 
 pub returns-in-Ok-read_bound-clause-only : goal.returns-in-Ok-read_bound-clause-only
 returns-in-Ok-read_bound-clause-only g c =
     proved_written (g.I.Read.remaining c.args.instance.now) (g.C.Read.remaining c.args.certificate.now) c.in-Ok.instance c.in-Ok-read_bound.low
-        (g.W.Write.contents c.args.out.now) (g.W.Write.contents c.write_bound.new.out) c.write_bound.result
+    (g.W.Write.contents c.args.out.now) (g.W.Write.contents c.write_bound.new.out) c.write_bound.result
     c.in-Ok.ensures.only c.in-Ok-read_bound.ensures.only c.write_bound.ensures
 
 pub returns-clause-only : goal.returns-clause-only
 returns-clause-only g c =
     proved_stopped (g.I.Read.remaining c.args.instance.now) (g.C.Read.remaining c.args.certificate.now) c.in-Ok.instance
-        (g.W.Write.contents c.args.out.now) c.in-Err-read_bound.fault c.in-Ok.ensures.only c.in-Err-read_bound.ensures.only
+    (g.W.Write.contents c.args.out.now) c.in-Err-read_bound.fault c.in-Ok.ensures.only c.in-Err-read_bound.ensures.only

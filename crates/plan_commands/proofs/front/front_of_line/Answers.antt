@@ -26,7 +26,7 @@ returns-then-not-is_why-clause-none c = elim c.then-not-is_why.branch [
 pub returns-clause-some : goal.returns-clause-some
 returns-clause-some c =
     right_line _ _ c.in_ok-words.ensures.value _ _ c.in_ok-why.ensures.value _ _ c.in_ok-low.ensures.value (c.if-not-is_why.ensures.0 refl)
-        (c.if-not-is_number.ensures.0 refl) _ c.front_of_best.ensures.some
+    (c.if-not-is_number.ensures.0 refl) _ c.front_of_best.ensures.some
 
 pub returns-clause-none : goal.returns-clause-none
 returns-clause-none c =

@@ -7,7 +7,7 @@ returns-in-Err-clause-answer g c = unstanding_of_readers _ _ _ _ c.in-Err.fault 
 pub returns-in-Ok-read_bound-clause-answer : goal.returns-in-Ok-read_bound-clause-answer
 returns-in-Ok-read_bound-clause-answer g c =
     judged_of_readers _ _ _ _ c.in-Ok.standing c.in-Ok-read_bound.low c.judgement_of.result _ _ c.in-Ok.ensures.judged
-        c.in-Ok-read_bound.ensures.judged c.judgement_of.ensures c.write_judgement.ensures
+    c.in-Ok-read_bound.ensures.judged c.judgement_of.ensures c.write_judgement.ensures
 
 pub returns-clause-answer : goal.returns-clause-answer
 returns-clause-answer g c =

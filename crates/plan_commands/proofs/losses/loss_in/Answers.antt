@@ -19,4 +19,4 @@ returns-in_err-number_in-2-clause-none c =
 pub returns-in_err-receivers_in-clause-none : goal.returns-in_err-receivers_in-clause-none
 returns-in_err-receivers_in-clause-none c =
     rw c.from_residual-in_err-receivers_in.ensures
-        (no_receivers _ _ _ c.in_ok-round.ensures.value _ _ c.in_ok-slot.ensures.value c.in_err-receivers_in.ensures.only)
+    (no_receivers _ _ _ c.in_ok-round.ensures.value _ _ c.in_ok-slot.ensures.value c.in_err-receivers_in.ensures.only)

@@ -8,4 +8,4 @@ returns-in_default c =
 pub loop-k-preserved : goal.loop-k-preserved
 loop-k-preserved c =
     rw c.in_ok-push.ensures.items (spelled_next c.args.words.now _ _ _ c.loop-k-test.true c.loop-k.invariant _ c.as_bytes.ensures.value
-        c.in-Some.loss c.in-Some.ensures.some)
+    c.in-Some.loss c.in-Some.ensures.some)

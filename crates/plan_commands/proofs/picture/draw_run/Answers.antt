@@ -15,4 +15,4 @@ returns-in-Ok-clause-order g c = never_of_instance _ _ c.write_picture-end.ensur
 pub returns-in-Err-clause-answer : goal.returns-in-Err-clause-answer
 returns-in-Err-clause-answer g c =
     undrawn c.args.shown (λ instance plan. OnDone (IsTold (IsVerified instance plan) (IsPictureText c.args.width c.args.shown)))
-        _ _ _ c.in-Err.fault c.in-Err.ensures.judged
+    _ _ _ c.in-Err.fault c.in-Err.ensures.judged

@@ -15,4 +15,4 @@ pub returns-in_err-bytes-clause-judged : goal.returns-in_err-bytes-clause-judged
 returns-in_err-bytes-clause-judged g c =
     let p = err_from_is_err_and c.from_residual-in_err-bytes.result c.from_residual-in_err-bytes.ensures.1 in
     rw (p.1, p.2) (unread_of_readers (g.I.Read.remaining c.args.instance.now) (g.P.Read.remaining c.args.plan.now)
-        c.in_ok-instance.instance c.in_err-bytes.field-0.0 c.in_ok-instance.ensures.judged c.in_err-bytes.ensures.err)
+    c.in_ok-instance.instance c.in_err-bytes.field-0.0 c.in_ok-instance.ensures.judged c.in_err-bytes.ensures.err)

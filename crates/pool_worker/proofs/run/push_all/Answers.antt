@@ -28,8 +28,8 @@ loop-task-preserved g c =
       takes = c.push.ensures.taken ∙ before.takes;
       pushes =
           one_pushed (pushed c.args.hand.now) (pushed c.loop-task.hand) (pushed c.push.new.self)
-              c.args.tasks.items c.loop-task.left.items c.pop.new.self.items c.in-Some.task before.pushes c.in-Some.ensures.items c.in_default-push.ensures.ok;
+          c.args.tasks.items c.loop-task.left.items c.pop.new.self.items c.in-Some.task before.pushes c.in-Some.ensures.items c.in_default-push.ensures.ok;
       each =
           All-tail P c.in-Some.task left (All-permutation P (left ++ c.in-Some.task ∷ []) (c.in-Some.task ∷ left)
-              (IsPermutation-append_comm left (c.in-Some.task ∷ [])) (subst (All P) c.in-Some.ensures.items before.each));
+          (IsPermutation-append_comm left (c.in-Some.task ∷ [])) (subst (All P) c.in-Some.ensures.items before.each));
     }

@@ -52,9 +52,17 @@ loop-left-preserved g c =
     let given = given_back _ _ _ _ c.in-Some.ensures.some in
     let taken = taken_back _ _ _ _ c.close_at.ensures.closes in
     let same : IsPermutation (all_taken c.close_at.new.hands.items) (all_taken c.loop-left.hands.items) = IsPermutation-trans _ _ _ taken.1
-        (IsPermutation-sym _ _ given.1) in
-    (inv.0, p, omega arith, long, search rules, closes inv.0 c.loop-from.from p _ _ _ inside back.0 c.close_at.ensures.closes, taken.0
-        ∙ (given.0 ∙ inv.6), IsPermutation-trans _ _ _ same inv.7)
+    (IsPermutation-sym _ _ given.1) in (
+      inv.0,
+      p,
+      omega arith,
+      long,
+      search rules,
+      closes inv.0 c.loop-from.from p _ _ _ inside back.0 c.close_at.ensures.closes,
+      taken.0
+          ∙ (given.0 ∙ inv.6),
+      IsPermutation-trans _ _ _ same inv.7,
+    )
 
 pub loop-from-preserved : goal.loop-from-preserved
 loop-from-preserved g c =
@@ -62,9 +70,15 @@ loop-from-preserved g c =
     let ways : ℕ = inv.1 in
     let sum : ways + c.loop-left.left ≡ c.len-count.result = inv.2 in
     let none : ways ≡ 0 = omega arith in
-    let many : vec_len c.loop-left.hands ≡ length c.loop-left.hands.items = search rules in
-    (inv.0, inv.3, inv.4, turns_back _ _ _ _ (sym inv.3) (sym inv.4 ∙ many) (subst
-        (λ (w : ℕ). Each (Left inv.0 c.loop-from.from w w) c.loop-left.hands.items) none inv.5), inv.6, inv.7)
+    let many : vec_len c.loop-left.hands ≡ length c.loop-left.hands.items = search rules in (
+      inv.0,
+      inv.3,
+      inv.4,
+      turns_back _ _ _ _ (sym inv.3) (sym inv.4 ∙ many) (subst
+          (λ (w : ℕ). Each (Left inv.0 c.loop-from.from w w) c.loop-left.hands.items) none inv.5),
+      inv.6,
+      inv.7,
+    )
 
 pub loop-place-init : goal.loop-place-init
 loop-place-init g c =
@@ -72,7 +86,7 @@ loop-place-init g c =
     let end : c.loop-from.from ≡ c.len-count.result = omega arith in
     let many : vec_len c.loop-from.hands ≡ length c.loop-from.hands.items = search rules in
     let closed = all_closed inv.0 c.len-count.result _ (sym inv.1) (sym inv.2 ∙ many)
-        (subst (λ (f : ℕ). Each (Left inv.0 f c.len-count.result c.len-count.result) c.loop-from.hands.items) end inv.3) in
+    (subst (λ (f : ℕ). Each (Left inv.0 f c.len-count.result c.len-count.result) c.loop-from.hands.items) end inv.3) in
     (inv.2, record { closed = closed; within = λ k h e less. absurd (omega arith); sources = λ k h e less. absurd (omega arith) }, inv.4, inv.5)
 
 pub loop-place-preserved : goal.loop-place-preserved

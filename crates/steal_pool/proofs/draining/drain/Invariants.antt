@@ -13,7 +13,7 @@ invariant-loop-from g l =
 abbrev pub invariant-loop-left : goal.invariant-loop-left
 invariant-loop-left g l =
     (ids : List DequeId) × (ways : ℕ) × (ways + l.left ≡ l.count) × (length ids ≡ l.count) × (vec_len l.hands ≡ l.count)
-        × Each (Left ids l.from ways ways) l.hands.items
+    × Each (Left ids l.from ways ways) l.hands.items
     × (all_pushed l.hands.items ≡ all_pushed l.fn.hands.items) × IsPermutation (all_taken l.hands.items) (all_taken l.fn.hands.items)
 
 abbrev pub invariant-loop-place : goal.invariant-loop-place

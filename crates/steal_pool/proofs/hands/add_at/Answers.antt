@@ -6,4 +6,4 @@ pub returns-clause-adds : goal.returns-clause-adds
 returns-clause-adds g c =
     let small : c.args.place < length c.args.hands.now.items = search rules in
     changed _ _ _ _ _ small c.index_mut-hand.ensures.value
-        (record { number = refl; own = refl; out = refl; pushed = refl; own_taken = refl; doors = search rules })
+    (record { number = refl; own = refl; out = refl; pushed = refl; own_taken = refl; doors = search rules })

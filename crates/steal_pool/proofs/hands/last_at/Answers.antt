@@ -9,7 +9,7 @@ pub returns-in-Some-clause-some : goal.returns-in-Some-clause-some
 returns-in-Some-clause-some g c =
     let small : c.args.place < length c.args.hands.now.items = search rules in
     changed _ _ _ _ _ small c.index_mut-hand.ensures.value
-        (record { number = refl; own = refl; out = refl; pushed = refl; own_taken = refl; doors = search rules })
+    (record { number = refl; own = refl; out = refl; pushed = refl; own_taken = refl; doors = search rules })
 
 pub returns-in-None-clause-none : goal.returns-in-None-clause-none
 returns-in-None-clause-none g c = λ g e.

@@ -13,9 +13,13 @@ loop-number-preserved g c =
 pub loop-to-init : goal.loop-to-init
 loop-to-init g c =
     let many : vec_len c.loop-number.hands ≡ length c.loop-number.hands.items = search rules in
-    let end : c.loop-number.number ≡ c.args.workers = omega arith in
-    (map own_deque c.loop-number.hands.items, length-map c.loop-number.hands.items own_deque
-        ∙ (sym many ∙ (c.loop-number.invariant.0 ∙ end)), c.loop-number.invariant.0 ∙ end, starts _ c.loop-number.invariant.1)
+    let end : c.loop-number.number ≡ c.args.workers = omega arith in (
+      map own_deque c.loop-number.hands.items,
+      length-map c.loop-number.hands.items own_deque
+          ∙ (sym many ∙ (c.loop-number.invariant.0 ∙ end)),
+      c.loop-number.invariant.0 ∙ end,
+      starts _ c.loop-number.invariant.1,
+    )
 
 pub loop-from-preserved : goal.loop-from-preserved
 loop-from-preserved g c =

@@ -9,19 +9,19 @@ pub returns-then-is_ne : goal.returns-then-is_ne
 returns-then-is_ne c =
     order_decided _ _ _
     (compared arc_slice_items c.args.stretches.now c.loop-stretch.stretch-index c.min.result c.stretch-item.result c.args.own.now _ _ _ _ _ _
-        c.loop-stretch-test.true
+    c.loop-stretch-test.true
     c.stretch-item.is c.as_slice-items.ensures.value (omega arith) c.split_at.ensures.front c.split_at.ensures.back c.cmp-order.ensures
-        c.loop-stretch.invariant)
+    c.loop-stretch.invariant)
     (sym c.is_ne.ensures ∙ c.if-is_ne.true)
 
 pub loop-stretch-preserved : goal.loop-stretch-preserved
 loop-stretch-preserved c =
     compared arc_slice_items c.args.stretches.now c.loop-stretch.stretch-index c.min.result c.stretch-item.result c.args.own.now _ _ _ _ _ _
-        c.loop-stretch-test.true
+    c.loop-stretch-test.true
     c.stretch-item.is c.as_slice-items.ensures.value (omega arith) c.split_at.ensures.front c.split_at.ensures.back c.cmp-order.ensures c.loop-stretch.invariant
     ∙ undecided _ _ (sym c.is_ne.ensures ∙ c.if-is_ne.false)
 
 pub returns : goal.returns
 returns c =
     c.cmp.ensures ∙ sym (c.loop-stretch.invariant ∙ ap (λ (l : List ℕ). slice_cmp nat_cmp l c.loop-stretch.rest.now)
-        (none_left arc_slice_items c.args.stretches.now c.loop-stretch.stretch-index c.args.own.now c.loop-stretch-test.false))
+    (none_left arc_slice_items c.args.stretches.now c.loop-stretch.stretch-index c.args.own.now c.loop-stretch-test.false))

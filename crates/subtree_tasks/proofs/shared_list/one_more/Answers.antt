@@ -15,4 +15,4 @@ returns-clause-whole g c =
     let copies = whole_copies arc_slice_items c.args.stretches.now c.in_ok-all.all.items c.in_ok-all.ensures.items c.requires.whole in
     let last = ap length c.in_ok-last.ensures.ok ∙ c.requires.length in
     subst (AreWhole arc_slice_items) {x = c.in_ok-all.all.items ++ c.in_ok-last.last ∷ []} (sym c.in_ok-push.ensures.items)
-        (whole_more arc_slice_items c.in_ok-all.all.items c.in_ok-last.last copies last)
+    (whole_more arc_slice_items c.in_ok-all.all.items c.in_ok-last.last copies last)

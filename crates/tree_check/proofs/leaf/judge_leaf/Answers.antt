@@ -14,7 +14,7 @@ loop-place-preserved c =
       about = c.in-Ok.ensures.others ∙ ap (λ (s : Facts). after s known) c.loop-place.invariant.about;
       lead =
           Lead-more c.args.room.instance (bare c.args.choice.now) c.args.goal steps c.loop-place.place c.index-steps-place.result
-              c.loop-place.facts.known known c.loop-place-test.true here c.loop-place.invariant.lead taken.0 taken.1;
+          c.loop-place.facts.known known c.loop-place-test.true here c.loop-place.invariant.lead taken.0 taken.1;
     }
 
 pub returns-in-Err-clause-err : goal.returns-in-Err-clause-err
@@ -23,8 +23,17 @@ returns-in-Err-clause-err c = λ first is.
     let refused = rw c.loop-place.invariant.about at c.in-Err.ensures.step in
     let here = c.index-steps-place.is in
     let inside = c.loop-place-test.true in
-    let low : c.args.low ≤ c.args.goal = omega (arith, c.if-goal-low.false) in
-    (first + (1 + c.loop-place.place), c.saturating_add-line.ensures ∙ told_on c.args.line first (1 + c.loop-place.place) is, (low,
-        (c.loop-place.place, omega arith, refused_at c.args.room.instance (bare c.args.choice.now)
-        c.args.goal steps c.loop-place.place c.index-steps-place.result c.loop-place.facts.known c.in-Err.field-0 inside here
-        c.loop-place.invariant.lead refused.0)))
+    let low : c.args.low ≤ c.args.goal = omega (arith, c.if-goal-low.false) in (
+      first + (1 + c.loop-place.place),
+      c.saturating_add-line.ensures ∙ told_on c.args.line first (1 + c.loop-place.place) is,
+      (
+        low,
+        (
+          c.loop-place.place,
+          omega arith,
+          refused_at c.args.room.instance (bare c.args.choice.now)
+              c.args.goal steps c.loop-place.place c.index-steps-place.result c.loop-place.facts.known c.in-Err.field-0 inside here
+              c.loop-place.invariant.lead refused.0,
+        ),
+      ),
+    )

@@ -33,7 +33,7 @@ judge-requires-clause-walk c =
     let inside = rw c.nodes-nodes.ensures.nodes at c.loop-k-test.true in
     let here = rw c.nodes-nodes.ensures.nodes at c.index-nodes-k.is in
     gone_there c.args.instance.now cert.low (preorder cert.tree) c.loop-k.k c.index-nodes-k.result c.loop-k.walk inside here c.loop-k.invariant.gone
-        c.go_on.new.self c.in_ok-go_on.ensures
+    c.go_on.new.self c.in_ok-go_on.ensures
 
 pub returns-in_err-room-2-clause-err : goal.returns-in_err-room-2-clause-err
 returns-in_err-room-2-clause-err c =
@@ -44,7 +44,7 @@ returns-in_err-room-2-clause-err c =
     let inside = rw c.nodes-nodes.ensures.nodes at c.loop-k-test.true in
     let here = rw c.nodes-nodes.ensures.nodes at c.index-nodes-k.is in
     let fails = gone_fails i cert.low nodes c.loop-k.k c.index-nodes-k.result c.loop-k.walk inside here c.loop-k.invariant.gone c.go_on.new.self
-        c.in_ok-go_on.ensures c.loop-k.line fault c.loop-k.invariant.line (rw c.low-low.ensures at c.in_err-room-2.ensures.err) in
+    c.in_ok-go_on.ensures c.loop-k.line fault c.loop-k.invariant.line (rw c.low-low.ensures at c.in_err-room-2.ensures.err) in
     let p = err_from_is_err_and c.from_residual-in_err-room-2.result c.from_residual-in_err-room-2.ensures.1 in
     rw (p.1, p.2) (subst (λ (trees : Trees). TellsFirst i cert.low trees fault) (trees_of-preorder 1 cert.tree c.nodes-nodes.ensures.tree.one) fails)
 
@@ -57,11 +57,11 @@ loop-k-preserved c =
     record {
       gone =
           gone_on c.args.instance.now cert.low nodes c.loop-k.k c.index-nodes-k.result c.loop-k.walk inside here c.loop-k.invariant.gone
-              c.go_on.new.self c.in_ok-go_on.ensures c.judge.new.walk (rw c.low-low.ensures at c.in_ok-room-2.ensures.suits) c.in_ok-room-2.ensures.below;
+          c.go_on.new.self c.in_ok-go_on.ensures c.judge.new.walk (rw c.low-low.ensures at c.in_ok-room-2.ensures.suits) c.in_ok-room-2.ensures.below;
       room = c.in_ok-room-2.ensures.room;
       line =
           rw (line_after nodes c.loop-k.k c.index-nodes-k.result inside here) (c.saturating_add-line.ensures ∙ rw c.lines.ensures
-              (told_on c.loop-k.line (line_of nodes c.loop-k.k) (node_lines c.index-nodes-k.result) c.loop-k.invariant.line));
+          (told_on c.loop-k.line (line_of nodes c.loop-k.k) (node_lines c.index-nodes-k.result) c.loop-k.invariant.line));
     }
 
 pub returns-clause-ok : goal.returns-clause-ok

@@ -8,7 +8,7 @@ use Rattle.branch_tree.proofs.workbench.Workbench.go_back.Goals as goal
 pub returns-clause-at : goal.returns-clause-at
 returns-clause-at c =
     IfOk-weaker c.start.result (IsStarted c.args.instance.now c.args.goal) (IsAt c.args.instance.now c.args.goal)
-        (started_at c.args.instance.now c.args.goal) c.start.ensures
+    (started_at c.args.instance.now c.args.goal) c.start.ensures
 
 pub returns-clause-first : goal.returns-clause-first
 returns-clause-first c =

@@ -12,7 +12,7 @@ returns-in_err-pass-clause-answers g c = λ i low first w hs stands closed.
     let p = err_from_is_err_and c.from_residual.result c.from_residual.ensures.1 in
     let rest = c.in_err-pass.ensures.rest i stands.at w stands.left stands.is_ahead in
     rw (p.1, p.2) (fault_ends i low g.R.Read.remaining first stands.at stands.left hs stands.under_way (bytes_taken c.pass.new.stream)
-        closed c.in_err-pass.field-0.0 rest)
+    closed c.in_err-pass.field-0.0 rest)
 
 pub returns-in-Fault-clause-answers : goal.returns-in-Fault-clause-answers
 returns-in-Fault-clause-answers g c = λ i low first w hs stands closed.

@@ -7,4 +7,4 @@ returns-clause-answers g c = λ i low first w hs stands told.
     let rest = c.pass-rest.ensures.rest i stands.at w stands.left stands.is_ahead in
     rw c.first_of.ensures
     (all_told i low g.R.Read.remaining first stands.at stands.left hs stands.under_way (bytes_taken c.pass-rest.new.stream)
-        c.args.self c.args.fault c.pass-rest.result told rest)
+    c.args.self c.args.fault c.pass-rest.result told rest)

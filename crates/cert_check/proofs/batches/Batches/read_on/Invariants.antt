@@ -7,7 +7,7 @@ use Rattle.cert_check.proofs.batches.Batches.read_on.Given as goal
 abbrev pub invariant-nodes : goal.invariant-nodes
 invariant-nodes g l = record {
   stands : (low : ℕ) (first : CertStream g.row.R.Denot) (front : List HeldLeaf)
-        → Stands l.instance low g.R.Read.remaining first l.fn.stream l.fn.self.walk (front ++ l.fn.self.held.leaves.items) l.fn.self.ahead
+      → Stands l.instance low g.R.Read.remaining first l.fn.stream l.fn.self.walk (front ++ l.fn.self.held.leaves.items) l.fn.self.ahead
       → Stands l.instance low g.R.Read.remaining first l.stream l.self.walk (front ++ l.self.held.leaves.items) l.self.ahead;
   room : length l.self.held.leaves.items < l.self.held.most;
   most : l.self.held.most ≡ l.fn.self.held.most;

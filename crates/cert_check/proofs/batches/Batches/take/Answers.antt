@@ -24,7 +24,7 @@ returns-in_Err-self-in-Ok-OfBranch-clause-err c = λ d left walk.
     let i = c.args.instance.now in
     let there = c.in-Ok-OfBranch.ensures d left walk in
     rw c.in-Ok-OfBranch.is-1 (subst (λ (x : Choice). TellsBranch i x c.in-Ok-OfBranch.branch c.args.line c.in_Err-self-in-Ok-OfBranch.fault)
-        there.0 c.in_Err-self-in-Ok-OfBranch.ensures.err)
+    there.0 c.in_Err-self-in-Ok-OfBranch.ensures.err)
 
 pub returns-in-Ok-clause-takes : goal.returns-in-Ok-clause-takes
 returns-in-Ok-clause-takes c = λ d left walk.
@@ -34,10 +34,10 @@ returns-in-Ok-clause-takes c = λ d left walk.
     let there = c.in-Ok-OfLeaf.ensures d left walk in
     let choice = c.go_on.new.self.choice in
     let first : Waits c.args.instance.now (held_leaf (bare c.go_on.new.self.choice)
-        c.args.version c.in-Ok-OfLeaf.goal c.in-Ok-OfLeaf.count c.args.line c.args.self.now.text) =
+    c.args.version c.in-Ok-OfLeaf.goal c.in-Ok-OfLeaf.count c.args.line c.args.self.now.text) =
     record { choice = IsChoice-keeping i choice [] there.1.choice; none_kept = refl; line = c.requires.line; few = c.in-Ok.ensures.few } in
     let waits = subst (λ (x : Choice). Waits i (held_leaf x c.args.version goal count c.args.line c.args.self.now.text)) there.0 first in
     let on : IsWalk c.args.instance.now c.hold.new.self.walk left = rw c.in-Ok.ensures.walk there.1 in
     let held = subst (λ (x : Choice). c.hold.new.self.held.leaves.items ≡ c.args.self.now.held.leaves.items
-        ++ held_leaf x c.args.version goal count c.args.line c.args.self.now.text ∷ []) there.0 c.in-Ok.ensures.held in
+    ++ held_leaf x c.args.version goal count c.args.line c.args.self.now.text ∷ []) there.0 c.in-Ok.ensures.held in
     rw c.in-Ok-OfLeaf.is-1 (waits, (on, held))

@@ -9,7 +9,7 @@ returns-in-Err-clause-stands g c = λ low first front s.
     let open_here = rw c.requires.open at s in
     rw c.from.ensures
     (lines_fail c.args.instance.now low g.R.Read.remaining first c.args.stream.now own.walk (front ++ own.held.leaves.items)
-        open_here c.next_piece.new.self e.from own.walk c.in-Err.fault e.err)
+    open_here c.next_piece.new.self e.from own.walk c.in-Err.fault e.err)
 
 pub returns-in_default-clause-stands : goal.returns-in_default-clause-stands
 returns-in_default-clause-stands g c = λ low first front s.
@@ -19,7 +19,7 @@ returns-in_default-clause-stands g c = λ low first front s.
     let ends = rw c.in_default.is at e.next in
     let closed = rw c.in_default.is at e.closed in
     lines_end c.args.instance.now low g.R.Read.remaining first c.args.stream.now own.walk (front ++ own.held.leaves.items)
-        open_here c.next_piece.new.self e.from own.walk ends closed
+    open_here c.next_piece.new.self e.from own.walk ends closed
 
 pub take-requires-clause-walk : goal.take-requires-clause-walk
 take-requires-clause-walk g c =
@@ -32,7 +32,7 @@ take-requires-clause-walk g c =
     let there = c.requires.somewhere in
     let open_here = rw c.requires.open at there.3 in
     next_there c.args.instance.now there.0 g.R.Read.remaining there.1 now own.walk (there.2 ++ own.held.leaves.items)
-        open_here next said.0 said.1 c.next_piece.new.steps piece
+    open_here next said.0 said.1 c.next_piece.new.steps piece
 
 pub returns-in-Ok-take-clause-stands : goal.returns-in-Ok-take-clause-stands
 returns-in-Ok-take-clause-stands g c = λ low first front s.
@@ -45,7 +45,7 @@ returns-in-Ok-take-clause-stands g c = λ low first front s.
     let open_here = rw c.requires.open at s in
     let new = c.take.new.self in
     taken_on c.args.instance.now low g.R.Read.remaining first now own.walk front own.held.leaves.items open_here next new.walk new.held.leaves.items
-        said.0 said.1 c.next_piece.new.steps piece (rw c.version.ensures at c.in-Ok-take.ensures.takes)
+    said.0 said.1 c.next_piece.new.steps piece (rw c.version.ensures at c.in-Ok-take.ensures.takes)
 
 pub returns-in-Err-take-clause-stands : goal.returns-in-Err-take-clause-stands
 returns-in-Err-take-clause-stands g c = λ low first front s.
@@ -58,4 +58,4 @@ returns-in-Err-take-clause-stands g c = λ low first front s.
     let open_here = rw c.requires.open at s in
     let new = c.take.new.self in
     not_taken c.args.instance.now low g.R.Read.remaining first now own.walk front own.held.leaves.items open_here next new.walk new.held.leaves.items
-        said.0 said.1 c.next_piece.new.steps piece c.in-Err-take.fault c.in-Err-take.ensures.kept c.in-Err-take.ensures.err
+    said.0 said.1 c.next_piece.new.steps piece c.in-Err-take.fault c.in-Err-take.ensures.kept c.in-Err-take.ensures.err

@@ -21,5 +21,5 @@ loop-preserved g c =
       of = c.in-Ok-run.ensures.of;
       closed =
           rw (c.push_reserved.ensures.items, c.reserve.ensures.items) (All-push (RunCloses i low c.args.leaves.now)
-              c.loop.closed.items place c.loop.invariant.closed closes);
+          c.loop.closed.items place c.loop.invariant.closed closes);
     }

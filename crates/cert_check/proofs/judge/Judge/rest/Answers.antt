@@ -21,6 +21,6 @@ run_there-requires-clause-closes g c = λ is.
     let place = c.loop-place.place in
     let marks = c.in-Some.marks.items in
     let marked : IsTrue (slice_index_or marks place false) = sym (get_or_read_under marks place (length marks)
-        c.index.result.now false c.index.ensures (omega (arith, c.loop-place-test.true, c.in-Some.ensures.count)) refl) ∙ is in
+    c.index.result.now false c.index.ensures (omega (arith, c.loop-place-test.true, c.in-Some.ensures.count)) refl) ∙ is in
     All-contains (RunCloses c.args.self.now.instance.now c.args.self.now.low c.args.leaves.now) c.args.closed.now place c.requires.closed
-        (c.in-Some.ensures.only place c.loop-place-test.true marked)
+    (c.in-Some.ensures.only place c.loop-place-test.true marked)

@@ -15,7 +15,7 @@ returns-in-Err-clause-err g c =
     let h = c.index-run-k.result in
     let waits = leaf_waits_here c.args.run.now c.loop-k.k h c.loop-k-test.true c.index-run-k.is i c.requires.waits in
     judged_fault c.args.run.now c.loop-k.k h c.loop-k-test.true c.index-run-k.is i low c.loop-k.invariant.closed c.in-Err.fault
-        (one_judged i low h (Err c.in-Err.fault) waits c.in-Err.ensures.err)
+    (one_judged i low h (Err c.in-Err.fault) waits c.in-Err.ensures.err)
 
 pub loop-k-preserved : goal.loop-k-preserved
 loop-k-preserved g c =
@@ -27,5 +27,5 @@ loop-k-preserved g c =
       of = c.in-Ok.ensures.of;
       closed =
           judged_on c.args.run.now c.loop-k.k h c.loop-k-test.true c.index-run-k.is i low c.loop-k.invariant.closed
-              (one_judged i low h (Ok tt) waits c.in-Ok.ensures.ok);
+          (one_judged i low h (Ok tt) waits c.in-Ok.ensures.ok);
     }

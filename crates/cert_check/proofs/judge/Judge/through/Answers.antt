@@ -22,16 +22,18 @@ batches-init g c =
 pub next_batch-requires-clause-somewhere : goal.next_batch-requires-clause-somewhere
 next_batch-requires-clause-somewhere g c κs within =
     let b = c.batches.batches in
-    let first = c.args.stream.now in
-    (first, subst (λ (hs : List HeldLeaf). Stands c.args.self.now.instance.now c.args.self.now.low g.R.Read.remaining first c.batches.stream b.walk
-        (hs ++ b.held.leaves.items) b.ahead) (sym c.as_slice.ensures.value) c.batches.invariant.stands)
+    let first = c.args.stream.now in (
+      first,
+      subst (λ (hs : List HeldLeaf). Stands c.args.self.now.instance.now c.args.self.now.low g.R.Read.remaining first c.batches.stream b.walk
+          (hs ++ b.held.leaves.items) b.ahead) (sym c.as_slice.ensures.value) c.batches.invariant.stands,
+    )
 
 pub returns-in_err-next_batch-clause-from : goal.returns-in_err-next_batch-clause-from
 returns-in_err-next_batch-clause-from g c = λ origin is.
     let b = c.batches.batches in
     let first = c.args.stream.now in
     let s = subst (λ (hs : List HeldLeaf). Stands c.args.self.now.instance.now c.args.self.now.low g.R.Read.remaining first c.batches.stream b.walk
-        (hs ++ b.held.leaves.items) b.ahead) (sym c.as_slice.ensures.value) c.batches.invariant.stands in
+    (hs ++ b.held.leaves.items) b.ahead) (sym c.as_slice.ensures.value) c.batches.invariant.stands in
     c.in_err-next_batch.ensures.from first s origin is
 
 pub batches-preserved : goal.batches-preserved
@@ -47,9 +49,9 @@ batches-preserved g c =
     let on = c.in_ok-next_batch.ensures.on in
     let e = c.in_ok-hand_over.ensures in
     let s = subst (λ (hs : List HeldLeaf). Stands i low remaining first c.batches.stream b.walk (hs ++ b.held.leaves.items) b.ahead)
-        (sym c.as_slice.ensures.value) c.batches.invariant.stands in
+    (sym c.as_slice.ensures.value) c.batches.invariant.stands in
     let closed = front_closes i low remaining first next new.walk new.ahead front new.held.leaves.items (on.stands low first front s)
-        c.in_ok-next_batch.ensures.judges in
+    c.in_ok-next_batch.ensures.judges in
     let whole : c.hand_over.new.front.items ++ c.hand_over.new.self.held.leaves.items ≡ new.held.leaves.items =
     ap (λ (hs : List HeldLeaf). c.hand_over.new.front.items ++ hs) e.empty ∙ (append-nil c.hand_over.new.front.items ∙ e.front) in
     let same : length c.hand_over.new.front.items ≡ length new.held.leaves.items = ap length e.front in
@@ -65,22 +67,24 @@ returns-in_err-hand_over-clause-from g c = λ origin is.
     let b = c.batches.batches in
     let first = c.args.stream.now in
     let s = subst (λ (hs : List HeldLeaf). Stands c.args.self.now.instance.now c.args.self.now.low g.R.Read.remaining first c.batches.stream b.walk
-        (hs ++ b.held.leaves.items) b.ahead) (sym c.as_slice.ensures.value) c.batches.invariant.stands in
+    (hs ++ b.held.leaves.items) b.ahead) (sym c.as_slice.ensures.value) c.batches.invariant.stands in
     (c.in_ok-next_batch.ensures.on.stands c.args.self.now.low first c.as_slice.result.now s).from origin is
 
 pub next_batch-requires-2-clause-somewhere : goal.next_batch-requires-2-clause-somewhere
 next_batch-requires-2-clause-somewhere g c κs within =
     let b = c.batches.batches in
-    let first = c.args.stream.now in
-    (first, subst (λ (hs : List HeldLeaf). Stands c.args.self.now.instance.now c.args.self.now.low g.R.Read.remaining first c.batches.stream b.walk
-        (hs ++ b.held.leaves.items) b.ahead) (sym c.as_slice-2.ensures.value) c.batches.invariant.stands)
+    let first = c.args.stream.now in (
+      first,
+      subst (λ (hs : List HeldLeaf). Stands c.args.self.now.instance.now c.args.self.now.low g.R.Read.remaining first c.batches.stream b.walk
+          (hs ++ b.held.leaves.items) b.ahead) (sym c.as_slice-2.ensures.value) c.batches.invariant.stands,
+    )
 
 pub returns-in_err-next_batch-2-clause-from : goal.returns-in_err-next_batch-2-clause-from
 returns-in_err-next_batch-2-clause-from g c = λ origin is.
     let b = c.batches.batches in
     let first = c.args.stream.now in
     let s = subst (λ (hs : List HeldLeaf). Stands c.args.self.now.instance.now c.args.self.now.low g.R.Read.remaining first c.batches.stream b.walk
-        (hs ++ b.held.leaves.items) b.ahead) (sym c.as_slice-2.ensures.value) c.batches.invariant.stands in
+    (hs ++ b.held.leaves.items) b.ahead) (sym c.as_slice-2.ensures.value) c.batches.invariant.stands in
     c.in_err-next_batch-2.ensures.from first s origin is
 
 pub returns-clause-answers : goal.returns-clause-answers
@@ -94,12 +98,12 @@ returns-clause-answers g c =
     let new = c.next_batch-2.new.batches in
     let on = c.in_ok-next_batch-2.ensures.on in
     let s = subst (λ (hs : List HeldLeaf). Stands i low remaining first c.batches.stream b.walk (hs ++ b.held.leaves.items) b.ahead)
-        (sym c.as_slice-2.ensures.value) c.batches.invariant.stands in
+    (sym c.as_slice-2.ensures.value) c.batches.invariant.stands in
     let same = on.still (nothing_to_come b.ahead c.batches.stream (c.is_open.ensures.no c.batches-test.false)) in
     let none : new.held.leaves.items ≡ [] = rw same c.batches.invariant.none_held in
     let whole : front ++ new.held.leaves.items ≡ front = ap (λ (hs : List HeldLeaf). front ++ hs) none ∙ append-nil front in
     let ended = subst (λ (hs : List HeldLeaf). Stands i low remaining first c.next_batch-2.new.stream new.walk hs new.ahead) whole
-        (on.stands low first front s) in
+    (on.stands low first front s) in
     c.end.ensures.answers i low first front ended c.in_ok-next_batch-2.ensures.judges
 
 pub returns-clause-from : goal.returns-clause-from
@@ -107,5 +111,5 @@ returns-clause-from g c = λ origin is.
     let b = c.batches.batches in
     let first = c.args.stream.now in
     let s = subst (λ (hs : List HeldLeaf). Stands c.args.self.now.instance.now c.args.self.now.low g.R.Read.remaining first c.batches.stream b.walk
-        (hs ++ b.held.leaves.items) b.ahead) (sym c.as_slice-2.ensures.value) c.batches.invariant.stands in
+    (hs ++ b.held.leaves.items) b.ahead) (sym c.as_slice-2.ensures.value) c.batches.invariant.stands in
     c.end.ensures.from origin ((c.in_ok-next_batch-2.ensures.on.stands c.args.self.now.low first c.as_slice-2.result.now s).from origin is)

@@ -43,6 +43,6 @@ pub returns-in-Order : goal.returns-in-Order
 returns-in-Order c = record {
   flags =
       λ i has. rw c.give_before.ensures (flags_still i c.args.self.now _ refl refl refl (length-set c.args.self.now.before
-          (order_place c.args.self.now.processes c.in-Order.p c.in-Order.q) true) has);
+      (order_place c.args.self.now.processes c.in-Order.p c.in-Order.q) true) has);
   given = λ i before step is so. rw c.give_before.ensures (given_before i c.args.self.now before step so c.in-Order.p c.in-Order.q (sym c.in-Order.is ∙ is));
 }

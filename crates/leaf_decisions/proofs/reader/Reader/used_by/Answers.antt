@@ -18,12 +18,12 @@ returns-clause-kept c = λ ms same room w are keeps closes.
       kept = c.levels.ensures.kept;
       places =
           c.levels.ensures.places (wider path.turns (length c.in_ok-uses.uses.levels) (length c.read_steps.new.uses.levels)
-              (omega (arith, c.read_steps.ensures.more.room)) wide);
+          (omega (arith, c.read_steps.ensures.more.room)) wide);
       above =
           c.levels.ensures.above (wider path.turns (length c.in_ok-uses.uses.levels) (length c.read_steps.new.uses.levels)
-              (omega (arith, c.read_steps.ensures.more.room)) wide);
+          (omega (arith, c.read_steps.ensures.more.room)) wide);
       below =
           c.levels.ensures.below (wider path.turns (length c.in_ok-uses.uses.levels) (length c.read_steps.new.uses.levels)
-              (omega (arith, c.read_steps.ensures.more.room)) wide);
+          (omega (arith, c.read_steps.ensures.more.room)) wide);
     })
     closes

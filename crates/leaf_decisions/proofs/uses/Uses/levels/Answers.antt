@@ -12,16 +12,16 @@ returns-clause-places c = λ room.
     places_grown c.mark_places.new.levels c.mark_below.new.levels c.args.self.places placed
     (λ level is. c.mark_below.ensures.grown.kept level (c.mark_above.ensures.grown.kept level is))
     (places_marked c.mark_places.new.levels count c.args.self.places placed (placed_hold (λ level. level < count) c.args.path.now.turns room)
-        c.mark_places.ensures.marked)
+    c.mark_places.ensures.marked)
 
 pub returns-clause-above : goal.returns-clause-above
 returns-clause-above c = λ room used n inside.
     let wide = subst (λ (k : ℕ). All (λ (turn : Turn). turn.level < k) c.args.path.now.turns) (sym c.mark_places.ensures.as_wide) room in
     told_grown c.mark_above.new.levels c.mark_below.new.levels (last_of (fixes_above n) c.args.path.now.turns) c.mark_below.ensures.grown.kept
-        (c.mark_above.ensures.told wide used n inside)
+    (c.mark_above.ensures.told wide used n inside)
 
 pub returns-clause-below : goal.returns-clause-below
 returns-clause-below c = λ room used n inside.
     let wide = subst (λ (k : ℕ). All (λ (turn : Turn). turn.level < k) c.args.path.now.turns)
-        (sym (c.mark_above.ensures.grown.room ∙ c.mark_places.ensures.as_wide)) room in
+    (sym (c.mark_above.ensures.grown.room ∙ c.mark_places.ensures.as_wide)) room in
     c.mark_below.ensures.told wide used n inside

@@ -20,9 +20,15 @@ overflow_cast-len g c =
     let i = c.args.instance.now in
     let t = c.args.task in
     let split : IsSplit i t c.look-goal.result c.in-Ok-Split.kind c.in-Ok-Split.tasks.items = subst (IsWorked i t c.look-goal.result)
-        c.in-Ok-Split.field-0-is c.in-Ok-Split.ensures.worked in
-    omega (arith, c.len.ensures, c.in-Ok-Split.tasks.ok.0, split.branch.just, few_children i (choice_of i t)
-        c.in-Ok-Split.kind c.nodes-nodes.ensures.instance (task_choice i t c.nodes-nodes.ensures.instance c.requires.task) split.branch.is_open)
+    c.in-Ok-Split.field-0-is c.in-Ok-Split.ensures.worked in
+    omega (
+      arith,
+      c.len.ensures,
+      c.in-Ok-Split.tasks.ok.0,
+      split.branch.just,
+      few_children i (choice_of i t)
+          c.in-Ok-Split.kind c.nodes-nodes.ensures.instance (task_choice i t c.nodes-nodes.ensures.instance c.requires.task) split.branch.is_open,
+    )
 
 pub push_all-left-requires : goal.push_all-left-requires
 push_all-left-requires g c =
@@ -30,7 +36,7 @@ push_all-left-requires g c =
     let t = c.args.task in
     let kids = c.in-Ok-Split.tasks.items in
     let split : IsSplit i t c.look-goal.result c.in-Ok-Split.kind kids = subst (IsWorked i t c.look-goal.result)
-        c.in-Ok-Split.field-0-is c.in-Ok-Split.ensures.worked in
+    c.in-Ok-Split.field-0-is c.in-Ok-Split.ensures.worked in
     subst (λ (j : Instance). All (IsTask j) kids) c.requires.of split.each
 
 pub returns-then-is_err-clause-back : goal.returns-then-is_err-clause-back
@@ -69,7 +75,7 @@ returns-in-Ok-Split-clause-made g c =
     let t = c.args.task in
     let kids = c.in-Ok-Split.tasks.items in
     let split : IsSplit i t c.look-goal.result c.in-Ok-Split.kind kids = subst (IsWorked i t c.look-goal.result)
-        c.in-Ok-Split.field-0-is c.in-Ok-Split.ensures.worked in
+    c.in-Ok-Split.field-0-is c.in-Ok-Split.ensures.worked in
     let many : c.len.result ≡ length kids = omega (arith, c.len.ensures, c.in-Ok-Split.tasks.ok.0) in
     let made : c.new.result ≡ branch_of c.in-Ok-Split.kind (length kids) = c.new.ensures ∙ ap (branch_of c.in-Ok-Split.kind) many in
     let all = kids_born i t c.look-goal.result c.in-Ok-Split.kind kids split c.in-Ok.name c.new.result made in
@@ -78,12 +84,16 @@ returns-in-Ok-Split-clause-made g c =
       takes = c.push_all-left.ensures.taken;
       pushes =
           subst (λ (l : List Task). Pushes (pushed c.args.self.now.hand) (pushed c.push_all-left.new.hand) l c.push_all-left.result.items)
-              all c.push_all-left.ensures.pushes;
+          all c.push_all-left.ensures.pushes;
       pieces = c.make_room.ensures.same;
       spared = refl;
       right =
-          record { of = c.requires.task; name = search rules; right = branch_right i t c.look-goal.result c.in-Ok-Split.kind kids split c.in-Ok.name
-              c.new.result made };
+          record {
+            of = c.requires.task;
+            name = search rules;
+            right = branch_right i t c.look-goal.result c.in-Ok-Split.kind kids split c.in-Ok.name
+                c.new.result made;
+          };
       left = subst (λ (j : Instance). All (IsTask j) c.push_all-left.result.items) (sym c.requires.of) c.push_all-left.ensures.left;
       follows =
           looked c.args.self.now.watch c.look-goal.new.watch c.look-goal.result c.look-goal.ensures.same c.look-goal.ensures.seen c.look-goal.ensures.offers;
@@ -98,7 +108,7 @@ returns-in-Ok-Closed-clause-made g c =
     let t = c.args.task in
     let leaf = c.in-Ok-Closed.leaf in
     let closed : ClosesAt i (choice_of i t) c.look-goal.result leaf = subst (IsWorked i t c.look-goal.result)
-        c.in-Ok-Closed.field-0-is c.in-Ok-Closed.ensures.worked in
+    c.in-Ok-Closed.field-0-is c.in-Ok-Closed.ensures.worked in
     let old = c.args.self.now.watch in
     let new = c.look-goal.new.watch in
     record {
@@ -106,7 +116,7 @@ returns-in-Ok-Closed-clause-made g c =
       takes = refl;
       pushes =
           subst (Pushes (pushed c.args.self.now.hand) (pushed c.args.self.now.hand) []) (sym c.new-in-Ok-Closed.ensures.items)
-              (none_pushed (pushed c.args.self.now.hand) []);
+          (none_pushed (pushed c.args.self.now.hand) []);
       pieces = c.make_room.ensures.same;
       spared = refl;
       right = record { of = c.requires.task; name = search rules; right = closed.closes };
@@ -114,8 +124,12 @@ returns-in-Ok-Closed-clause-made g c =
       follows = looked old new c.look-goal.result c.look-goal.ensures.same c.look-goal.ensures.seen c.look-goal.ensures.offers;
       below = one (IsBelowView old) leaf.goal (subst (IsBelowView old) (sym closed.at) c.look-goal.ensures.below);
       reached =
-          one (IsReached new) leaf.goal (record { value = c.look-goal.result; known = inl
-              (last _ _ c.look-goal.result c.look-goal.ensures.seen); at_most = omega (arith, closed.at) });
+          one (IsReached new) leaf.goal (record {
+            value = c.look-goal.result;
+            known = inl
+                (last _ _ c.look-goal.result c.look-goal.ensures.seen);
+            at_most = omega (arith, closed.at);
+          });
       best = inl (record { offered = c.look-goal.ensures.offers; best = refl });
     }
 
@@ -125,7 +139,7 @@ returns-in-Ok-Found-clause-made g c =
     let t = c.args.task in
     let leaf = c.in-Ok-Found.leaf in
     let find : IsFind i (choice_of i t) c.look-goal.result c.in-Ok-Found.plan c.in-Ok-Found.delay leaf = subst (IsWorked i t c.look-goal.result)
-        c.in-Ok-Found.field-0-is c.in-Ok-Found.ensures.worked in
+    c.in-Ok-Found.field-0-is c.in-Ok-Found.ensures.worked in
     let old = c.args.self.now.watch in
     let mid = c.look-goal.new.watch in
     let new = c.offer.new.watch in
@@ -138,7 +152,7 @@ returns-in-Ok-Found-clause-made g c =
       takes = refl;
       pushes =
           subst (Pushes (pushed c.args.self.now.hand) (pushed c.args.self.now.hand) []) (sym c.new-in-Ok-Found.ensures.items)
-              (none_pushed (pushed c.args.self.now.hand) []);
+          (none_pushed (pushed c.args.self.now.hand) []);
       pieces = c.make_room.ensures.same;
       spared = refl;
       right = record { of = c.requires.task; name = search rules; right = find.closes };
@@ -146,8 +160,12 @@ returns-in-Ok-Found-clause-made g c =
       follows = follows_still old mid new looks offers_one;
       below = one (IsBelowView old) leaf.goal (still_below old c.look-goal.result leaf.goal under c.look-goal.ensures.below);
       reached =
-          one (IsReached new) leaf.goal (record { value = c.in-Ok-Found.delay; known = inr
-              (last _ _ c.in-Ok-Found.delay c.offer.ensures.offers); at_most = find.no_later });
+          one (IsReached new) leaf.goal (record {
+            value = c.in-Ok-Found.delay;
+            known = inr
+                (last _ _ c.in-Ok-Found.delay c.offer.ensures.offers);
+            at_most = find.no_later;
+          });
       best = inr (record {
         plan = c.in-Ok-Found.plan;
         ticks = c.in-Ok-Found.delay;

@@ -25,20 +25,27 @@ returns-else-is_empty-clause-goes_on g c = λ hand watch run.
     let made = c.in-Ok.ensures.made in
     let pieces = c.push_reserved.ensures.items ∙ ap (λ (l : List Piece). l ++ c.in-Ok.piece ∷ []) made.pieces in
     let turn : Turn = record { task = c.in-Some.task; piece = c.in-Ok.piece } in
-    let mid : Run g.row.J.Denot = record { hand = c.take.new.self; watch = old.watch; pieces = old.pieces; spared = old.spared; room = old.room;
-        workers = old.workers; best = old.best } in
+    let mid : Run g.row.J.Denot = record {
+      hand = c.take.new.self;
+      watch = old.watch;
+      pieces = old.pieces;
+      spared = old.spared;
+      room = old.room;
+      workers = old.workers;
+      best = old.best;
+    } in
     let account = account_works i hand old.hand c.take.new.self c.make.new.self.hand old.pieces.items turn old.spared.items (Children c.in-Ok.left)
-        refl c.in-Some.ensures.some c.in-Some.ensures.pushed made.takes made.pushes made.right made.left run.account in
+    refl c.in-Some.ensures.some c.in-Some.ensures.pushed made.takes made.pushes made.right made.left run.account in
     record {
       same = same_hand_still hand old.hand _ run.same (same_hand_still old.hand c.take.new.self c.make.new.self.hand c.in-Some.ensures.same made.same);
       follows = follows_still watch old.watch c.make.new.self.watch run.follows made.follows;
       account = rw pieces (rw made.spared account);
       goals =
           goals_more watch old.watch c.make.new.self.watch run.follows made.follows old.pieces.items c.push_reserved.new.self.items c.in-Ok.piece
-              pieces run.goals made.below made.reached;
+          pieces run.goals made.below made.reached;
       best =
           ⊎_elim (λ (k : KeepsBest mid c.make.new.self). best_still i watch mid c.make.new.self k run.best)
-              (λ (f : FindsBest i mid c.make.new.self). best_found i watch mid c.make.new.self f run.best) made.best;
+          (λ (f : FindsBest i mid c.make.new.self). best_found i watch mid c.make.new.self f run.best) made.best;
     }
 
 pub returns-then-is_empty-clause-goes_on : goal.returns-then-is_empty-clause-goes_on
@@ -48,22 +55,29 @@ returns-then-is_empty-clause-goes_on g c = λ hand watch run.
     let made = c.in-Ok.ensures.made in
     let pieces = c.push_reserved.ensures.items ∙ ap (λ (l : List Piece). l ++ c.in-Ok.piece ∷ []) made.pieces in
     let turn : Turn = record { task = c.in-Some.task; piece = c.in-Ok.piece } in
-    let mid : Run g.row.J.Denot = record { hand = c.take.new.self; watch = old.watch; pieces = old.pieces; spared = old.spared; room = old.room;
-        workers = old.workers; best = old.best } in
+    let mid : Run g.row.J.Denot = record {
+      hand = c.take.new.self;
+      watch = old.watch;
+      pieces = old.pieces;
+      spared = old.spared;
+      room = old.room;
+      workers = old.workers;
+      best = old.best;
+    } in
     let none : c.in-Ok.left.items ≡ [] = nil_of_length c.in-Ok.left.items (search rules) in
     let pushes = subst (Pushes (pushed c.take.new.self) (pushed c.make.new.self.hand) (born i turn)) none made.pushes in
     let account = account_works i hand old.hand c.take.new.self c.make.new.self.hand old.pieces.items turn old.spared.items Nothing refl
-        c.in-Some.ensures.some c.in-Some.ensures.pushed made.takes pushes made.right (All-nil (IsTask i)) run.account in
+    c.in-Some.ensures.some c.in-Some.ensures.pushed made.takes pushes made.right (All-nil (IsTask i)) run.account in
     record {
       same = same_hand_still hand old.hand _ run.same (same_hand_still old.hand c.take.new.self c.make.new.self.hand c.in-Some.ensures.same made.same);
       follows = follows_still watch old.watch c.make.new.self.watch run.follows made.follows;
       account = rw pieces (rw made.spared account);
       goals =
           goals_more watch old.watch c.make.new.self.watch run.follows made.follows old.pieces.items c.push_reserved.new.self.items c.in-Ok.piece
-              pieces run.goals made.below made.reached;
+          pieces run.goals made.below made.reached;
       best =
           ⊎_elim (λ (k : KeepsBest mid c.make.new.self). best_still i watch mid c.make.new.self k run.best)
-              (λ (f : FindsBest i mid c.make.new.self). best_found i watch mid c.make.new.self f run.best) made.best;
+          (λ (f : FindsBest i mid c.make.new.self). best_found i watch mid c.make.new.self f run.best) made.best;
     }
 
 pub returns-in-Err-clause-goes_on : goal.returns-in-Err-clause-goes_on
@@ -71,20 +85,27 @@ returns-in-Err-clause-goes_on g c = λ hand watch run.
     let i = c.args.instance.now in
     let old = c.args.self.now in
     let back = c.in-Err.ensures.back in
-    let mid : Run g.row.J.Denot = record { hand = c.take.new.self; watch = old.watch; pieces = old.pieces; spared = old.spared; room = old.room;
-        workers = old.workers; best = old.best } in
+    let mid : Run g.row.J.Denot = record {
+      hand = c.take.new.self;
+      watch = old.watch;
+      pieces = old.pieces;
+      spared = old.spared;
+      room = old.room;
+      workers = old.workers;
+      best = old.best;
+    } in
     let is : IsTask i c.in-Some.task = subst (λ (j : Instance). IsTask j c.in-Some.task) (sym c.requires.of) c.in-Some.ensures.task in
     let one = account_leaves i hand old.hand c.make.new.self.hand old.pieces.items c.in-Some.task old.spared.items old.spared.items
-        (One c.in-Some.task) (first_same _ _ _ back.1.takes c.in-Some.ensures.some) (back.1.pushes ∙ c.in-Some.ensures.pushed) is refl refl run.account in
+    (One c.in-Some.task) (first_same _ _ _ back.1.takes c.in-Some.ensures.some) (back.1.pushes ∙ c.in-Some.ensures.pushed) is refl refl run.account in
     let same : HasAccount i hand c.make.new.self.hand old.pieces.items old.spared.items (One c.in-Err.task) = subst
-        (λ (t : Task). HasAccount i hand c.make.new.self.hand old.pieces.items old.spared.items (One t)) (sym back.0) one in
+    (λ (t : Task). HasAccount i hand c.make.new.self.hand old.pieces.items old.spared.items (One t)) (sym back.0) one in
     record {
       same = same_hand_still hand old.hand _ run.same (same_hand_still old.hand c.take.new.self c.make.new.self.hand c.in-Some.ensures.same back.1.same);
       follows = follows_still watch old.watch c.make.new.self.watch run.follows back.1.follows;
       account = rw back.1.pieces (rw back.1.spared same);
       goals =
           subst (λ (l : List Piece). AreGoals watch c.make.new.self.watch (goals_of l)) (sym back.1.pieces)
-              (goals_still watch old.watch c.make.new.self.watch run.follows back.1.follows (goals_of old.pieces.items) run.goals);
+          (goals_still watch old.watch c.make.new.self.watch run.follows back.1.follows (goals_of old.pieces.items) run.goals);
       best = best_still i watch mid c.make.new.self back.1.best run.best;
     }
 
@@ -95,7 +116,7 @@ returns-then-is_left-clause-goes_on g c = λ hand watch run.
     let spares = c.spare.ensures in
     let is : IsTask i c.in-Some.task = subst (λ (j : Instance). IsTask j c.in-Some.task) (sym c.requires.of) c.in-Some.ensures.task in
     let account = account_leaves i hand old.hand c.take.new.self old.pieces.items c.in-Some.task old.spared.items c.spare.new.self.spared.items
-        (rest_after c.spare.result) c.in-Some.ensures.some c.in-Some.ensures.pushed is spares.left spares.others run.account in
+    (rest_after c.spare.result) c.in-Some.ensures.some c.in-Some.ensures.pushed is spares.left spares.others run.account in
     record {
       same = rw spares.hand (same_hand_still hand old.hand c.take.new.self run.same c.in-Some.ensures.same);
       follows = rw spares.watch run.follows;

@@ -7,10 +7,10 @@ use Rattle.search_core.proofs.world.World.look.Goals as goal
 pub returns : goal.returns
 returns c =
     rw (← c.self.view_is) (looked (the_view c.self.inside) c.args.worker c.index_mut.result.now c.look.new.self (omega arith)
-        c.index_mut.ensures.value c.in_ok-look.ensures.done)
+    c.index_mut.ensures.value c.in_ok-look.ensures.done)
 
 pub returns-in_err-look : goal.returns-in_err-look
 returns-in_err-look c =
     let p = err_from_is_err_and c.from_residual.result c.from_residual.ensures.1 in
     rw (p.1, p.2, ← c.self.view_is) (look_refused (the_view c.self.inside) c.args.worker c.index_mut.result.now c.look.new.self
-        c.in_err-look.field-0.0 (omega arith) c.index_mut.ensures.value c.in_err-look.ensures.same c.in_err-look.ensures.memory c.in_err-look.ensures.refused)
+    c.in_err-look.field-0.0 (omega arith) c.index_mut.ensures.value c.in_err-look.ensures.same c.in_err-look.ensures.memory c.in_err-look.ensures.refused)

@@ -14,4 +14,4 @@ returns g c =
     let own = rw (c.as_slice-2.ensures.value, c.in_ok-own.ensures.items) at c.in_ok-extend_from_slice.ensures.items in
     let are = rw c.as_slice-3.ensures.value at c.in_ok-stretches-2.ensures.items in
     copied_items arc_slice_items c.self.inside.stretches.items c.in_ok-stretches-2.stretches.items c.self.inside.own.items
-        c.extend_from_slice.new.self.items are own ∙ c.self.view_is
+    c.extend_from_slice.new.self.items are own ∙ c.self.view_is

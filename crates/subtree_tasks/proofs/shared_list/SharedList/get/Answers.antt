@@ -12,15 +12,20 @@ returns-then-stretch-len g c =
     let item = rw c.as_slice.ensures.value at c.item_at.ensures in
     item ∙ ap (λ s. slice_get (arc_slice_items s) (c.args.k % 64)) c.index.ensures
     ∙ sym (item_of_stretch arc_slice_items stretches c.self.inside.own.items (c.args.k / 64) (c.args.k % 64)
-        c.args.k c.index.result.now c.self.invariant there place at)
+    c.args.k c.index.result.now c.self.invariant there place at)
     ∙ ap (λ l. slice_get l c.args.k) c.self.view_is
 
 pub returns-else-stretch-len : goal.returns-else-stretch-len
 returns-else-stretch-len g c =
     let stretches = c.self.inside.stretches.items in
     let count : c.len-else-stretch-len.result ≡ length stretches = omega (arith, c.len-else-stretch-len.ensures, c.self.inside.stretches.ok.0) in
-    let behind : c.args.k ≡ length stretches * 64 + (c.args.k - c.len-else-stretch-len.result * 64) = omega (arith, c.if-stretch-len.false,
-        c.len.ensures, count, c.self.inside.stretches.ok.0) in
+    let behind : c.args.k ≡ length stretches * 64 + (c.args.k - c.len-else-stretch-len.result * 64) = omega (
+      arith,
+      c.if-stretch-len.false,
+      c.len.ensures,
+      count,
+      c.self.inside.stretches.ok.0,
+    ) in
     let item = rw c.as_slice-else-stretch-len.ensures.value at c.item_at-else-stretch-len.ensures in
     item ∙ sym (item_behind arc_slice_items stretches c.self.inside.own.items (c.args.k - c.len-else-stretch-len.result * 64) c.args.k c.self.invariant behind)
     ∙ ap (λ l. slice_get l c.args.k) c.self.view_is

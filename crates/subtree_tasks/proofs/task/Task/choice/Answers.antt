@@ -8,14 +8,14 @@ use Rattle.subtree_tasks.proofs.task.Task.choice.Goals as goal
 pub change-requires-clause-bare : goal.change-requires-clause-bare
 change-requires-clause-bare c =
     rw c.loop-decision.invariant.made (none_kept-after_all c.args.instance.now (root_choice c.args.instance.now)
-        (take c.loop-decision.decision-index c.args.self.now.decisions) refl)
+    (take c.loop-decision.decision-index c.args.self.now.decisions) refl)
 
 pub change-requires-clause-open : goal.change-requires-clause-open
 change-requires-clause-open c =
     let i = c.args.instance.now in
     let inside = rw (c.as_slice-decision-items.ensures.value, c.in_ok-decisions.ensures) at c.loop-decision-test.true in
     rw (c.as_slice-decision-items.ensures.value, c.in_ok-decisions.ensures, c.loop-decision.invariant.made)
-        (open_at i (root_choice i) c.args.self.now.decisions c.loop-decision.decision-index (Place 0) c.requires.decisions inside)
+    (open_at i (root_choice i) c.args.self.now.decisions c.loop-decision.decision-index (Place 0) c.requires.decisions inside)
 
 pub loop-decision-preserved : goal.loop-decision-preserved
 loop-decision-preserved c =
@@ -24,6 +24,6 @@ loop-decision-preserved c =
     record {
       made =
           (rw (c.as_slice-decision-items.ensures.value, c.in_ok-decisions.ensures, c.loop-decision.invariant.made) at c.in_ok-change.ensures.ok)
-              ∙ after_next i (root_choice i) c.args.self.now.decisions c.loop-decision.decision-index (Place 0) inside;
+          ∙ after_next i (root_choice i) c.args.self.now.decisions c.loop-decision.decision-index (Place 0) inside;
       is = c.in_ok-change.ensures.choice;
     }

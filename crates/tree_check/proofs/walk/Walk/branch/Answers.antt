@@ -10,9 +10,21 @@ returns-then-len-branch-clause-err c =
     let d = c.args.self.now.choice in
     let kind = c.args.branch.now.kind in
     let is_open : IsOpen i d kind = search rules in
-    let count = ap length c.in_ok-decisions.ensures in
-    (refl, (IsOpen-keeping i d [] kind is_open, λ just. absurd (omega (arith, just, count, length-decisions_of i d kind, children-bare i d kind,
-        c.len.ensures, c.if-len-branch.true))))
+    let count = ap length c.in_ok-decisions.ensures in (
+      refl,
+      (
+        IsOpen-keeping i d [] kind is_open,
+        λ just. absurd (omega (
+          arith,
+          just,
+          count,
+          length-decisions_of i d kind,
+          children-bare i d kind,
+          c.len.ensures,
+          c.if-len-branch.true,
+        )),
+      ),
+    )
 
 pub returns-clause-suits : goal.returns-clause-suits
 returns-clause-suits c =
@@ -27,4 +39,4 @@ returns-clause-below c = λ left walk.
     let d = c.args.self.now.choice in
     let is_open : IsOpen i d c.args.branch.now.kind = search rules in
     walk_below i c.args.self.now (record { choice = d; turns = c.push_turns.new.turns })
-        c.args.branch.now.kind c.in_ok-decisions.decisions.items left is_open c.in_ok-decisions.ensures refl c.in_ok-push_turns.ensures walk
+    c.args.branch.now.kind c.in_ok-decisions.decisions.items left is_open c.in_ok-decisions.ensures refl c.in_ok-push_turns.ensures walk

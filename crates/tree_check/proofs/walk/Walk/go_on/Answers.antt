@@ -18,7 +18,7 @@ returns-in-Some c =
     let i = c.args.instance.now in
     on_ok_weaker c.decide.result
     (λ is d left walk. walk_down i c.go_up.new.self (record { choice = c.decide.new.self; turns = c.go_up.new.self.turns }) c.in-Some.decision d left
-        (c.in-Some.ensures.down i (d ∷ left) walk) refl is)
+    (c.in-Some.ensures.down i (d ∷ left) walk) refl is)
     c.decide.ensures.ok
 
 pub returns-in-None : goal.returns-in-None
