@@ -1,0 +1,5 @@
+pub mod Holding
+pub mod Falling
+pub mod Leading
+pub mod Short
+pub mod Telling

@@ -1,0 +1,15 @@
+//! Why does no plan end before the path bound? The chain of links and messages that adds up to it, from a release on.
+#![tactic(auto)]
+
+mod causes;
+mod chain;
+mod laws;
+mod words;
+
+pub use chain::{Cause, ChainPart, chain_of};
+pub use laws::{
+    bounds_past_the_horizon_leave_no_plan, chains_are_short, chains_begin_at_a_release,
+    chains_end_at_the_path_bound, parts_are_joined,
+};
+pub use ttp_model::MemoryFault;
+pub use words::print;
