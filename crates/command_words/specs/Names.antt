@@ -20,3 +20,7 @@ is_rooted (c ∷ rest) = c == 47
 -- two words name one file: both begin at the root or neither does, and their parts are the same
 abbrev pub NameOneFile : List ℕ → List ℕ → Type 0
 NameOneFile a b = (is_rooted a ≡ is_rooted b) × (parts a ≡ parts b)
+
+-- they don't
+abbrev pub IsOtherFile : List ℕ → List ℕ → Type 0
+IsOtherFile a b = NameOneFile a b → ⊥

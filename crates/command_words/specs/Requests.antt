@@ -2,9 +2,10 @@
 use Rattle.std.specs.Prelude.{◌≤◌, IfSome}
 use Rattle.command_words.specs.declared.words.Request.{Request}
 use Rattle.command_words.specs.declared.words.Request.TheVariants.{OnFiles, Solve}
+use Rattle.command_words.specs.declared.words.Search.{Search}
 use Rattle.command_words.specs.declared.words.Task.{Task}
 use Rattle.command_words.specs.declared.words.Task.TheVariants.{Draw}
-use Rattle.command_words.specs.Names.{NameOneFile}
+use Rattle.command_words.specs.Names.{IsOtherFile}
 use Rattle.plan_picture.specs.Limits.{least_width, most_width}
 
 -- a picture is as wide as it may be
@@ -12,9 +13,15 @@ abbrev pub IsSoundTask : Task → Type 0
 IsSoundTask (Draw width shown) = (least_width ≤ width) × (width ≤ most_width)
 IsSoundTask _ = Unit {0}
 
--- a search has 1 to 16 workers, and by its name its certificate's file is another than the instance's
+-- a search has 1 to 16 workers; by their names the certificate's file is another than the instance's, and that of the best plan so far another than these
+pub record IsSoundSearch (search : Search) : Type 0 where
+  pub some : 1 ≤ search.workers
+  pub few : search.workers ≤ 16
+  pub certificate : IfSome search.certificate (λ file. IsOtherFile file.now search.instance.now)
+  pub kept : IfSome search.kept (λ file. IsOtherFile file.now search.instance.now)
+  pub both : IfSome search.kept (λ file. IfSome search.certificate (λ other. IsOtherFile file.now other.now))
+
 abbrev pub IsSound : Request → Type 0
 IsSound (OnFiles instance plan task) = IsSoundTask task
-IsSound (Solve instance certificate workers budget progress until seconds) =
-    (1 ≤ workers) × (workers ≤ 16) × IfSome certificate (λ file. NameOneFile file.now instance.now → ⊥)
+IsSound (Solve search) = IsSoundSearch search
 IsSound _ = Unit {0}

@@ -7,5 +7,6 @@ mod numbers;
 mod refusal;
 mod words;
 
+pub use misuse::keeping_over;
 pub use refusal::refuse;
-pub use words::{Explained, Request, Task, VERSION, all, request_in};
+pub use words::{Explained, Request, Search, Task, VERSION, all, request_in};

@@ -18,6 +18,8 @@ pub enum Misuse<'a> {
     Number(NumberOption, &'a str),
     /// When the certificate would be written over the instance.
     Overwriting(&'a str),
+    /// When the best plan so far would be kept in a file that is read or written besides.
+    Keeping(&'a str),
     /// When memory was wanted, and refused.
     Memory,
 }
@@ -53,6 +55,9 @@ impl Misuse<'_> {
             Misuse::Overwriting(word) => format!(in alloc;
                 "invalid value '{word}' for '--cert <FILE>': that is the instance's file, which would be emptied"
             ),
+            Misuse::Keeping(word) => format!(in alloc;
+                "invalid value '{word}' for '--keep <FILE>': a plan kept there would take the place of the instance or of the certificate"
+            ),
             Misuse::Memory => Err(AllocError),
         }
     }
@@ -71,5 +76,14 @@ impl Misuse<'_> {
             _ => solve_command(alloc)?.bin_name("ttplan solve")?,
         };
         command.error(ErrorKind::ValueValidation, text.as_str())
+    }
+}
+
+/// Why a search is refused that would keep its best plan in a file which another of its words names by a link, or by a way through other
+/// folders.
+pub fn keeping_over(alloc: Global, file: &str) -> Error {
+    match Misuse::Keeping(file).error(alloc) {
+        Ok(error) => error,
+        Err(error) => Error::from(error),
     }
 }

@@ -1,6 +1,7 @@
 //! What the words of the command line ask for.
 
-ghost use Rattle.std.specs.Prelude.{◌<◌, ◌≤◌, ◌^◌, IfOk, IfSome};
+ghost use Rattle.std.specs.Prelude.{◌≡◌, ◌<◌, ◌≤◌, ◌^◌, false, IfOk, IfSome};
+ghost use Rattle.command_words.specs.Names.{IsOtherFile};
 ghost use Rattle.command_words.specs.Requests.{IsSound, IsSoundTask};
 
 use crate::misuse::Misuse;
@@ -40,6 +41,26 @@ pub enum Explained<'a> {
     Certificate(&'a str),
 }
 
+/// How an instance is to be searched.
+#[derive(Clone, Copy, Debug, PartialEq, Eq)]
+pub struct Search<'a> {
+    pub instance: &'a str,
+    /// Where the certificate is written.
+    pub certificate: Option<&'a str>,
+    /// Where the best plan so far is kept.
+    pub kept: Option<&'a str>,
+    /// How many workers search, 1 to 16.
+    pub workers: u32,
+    /// How many subtrees are searched at most.
+    pub budget: u64,
+    /// Whether it is to say how far it is.
+    pub progress: bool,
+    /// It ends once a plan of at most so many ticks is known.
+    pub until: Option<u32>,
+    /// It ends so many seconds after the start.
+    pub seconds: Option<u64>,
+}
+
 /// A command, with the files that it names.
 #[derive(Debug, Drop)]
 pub enum Request<'a> {
@@ -49,21 +70,8 @@ pub enum Request<'a> {
         plan: &'a str,
         task: Task<'a>,
     },
-    /// Search the instance of a file, and write the certificate to another where one is named.
-    Solve {
-        instance: &'a str,
-        certificate: Option<&'a str>,
-        /// How many workers search, 1 to 16.
-        workers: u32,
-        /// How many subtrees are searched at most.
-        budget: u64,
-        /// Whether it is to say how far it is.
-        progress: bool,
-        /// It ends once a plan of at most so many ticks is known.
-        until: Option<u32>,
-        /// It ends so many seconds after the start.
-        seconds: Option<u64>,
-    },
+    /// Search the instance of a file.
+    Solve(Search<'a>),
     /// Check the certificate of one file for the instance of another.
     Check {
         instance: &'a str,
@@ -101,7 +109,7 @@ const INSTANCE_HELP: &str = "The cluster and its processes, in TOML";
 
 /// What a search prints, and how to go on where it is stopped.
 const SOLVE_HELP: &str =
-    "It prints one of these, and ends with the status beside it:\n   0  the text of a plan: it is valid, and no valid plan has a smaller delay\n  10  `none`: no plan is valid\n  11  `stopped WHY LOW BEST`, and behind it the text of the best plan found\n\nWHY is `budget`, where the budget is spent, `memory`, where memory ran out, `until`, where the best plan found is as short as was asked for, or `time`, where the seconds have passed. No valid plan has a delay below LOW ticks. BEST is the delay of the best plan found, or `none`, and then no text follows.\n\nA search that is interrupted keeps nothing: no plan is printed, and FILE is empty. To go in steps, begin with a small budget, and take ten times as much after each `stopped budget`. Each run begins anew; those before the last work at most a ninth of its budget.\n\nBefore the search a good plan is looked for, where more than 32 are left to choose: nodes to place, capacities, pairs of processes, and binary digits of rounds.";
+    "It prints one of these, and ends with the status beside it:\n   0  the text of a plan: it is valid, and no valid plan has a smaller delay\n  10  `none`: no plan is valid\n  11  `stopped WHY LOW BEST`, and behind it the text of the best plan found\n\nWHY is `budget`, where the budget is spent, `memory`, where memory ran out, `until`, where the best plan found is as short as was asked for, or `time`, where the seconds have passed. No valid plan has a delay below LOW ticks. BEST is the delay of the best plan found, or `none`, and then no text follows.\n\nA search that is interrupted prints no plan, and its certificate's file is empty; with --keep its best plan so far is left. To go in steps, begin with a small budget, and take ten times as much after each `stopped budget`. Each run begins anew; those before the last work at most a ninth of its budget.\n\nBefore the search a good plan is looked for, where more than 32 are left to choose: nodes to place, capacities, pairs of processes, and binary digits of rounds.";
 
 /// What a judgement prints.
 const JUDGE_HELP: &str =
@@ -214,6 +222,13 @@ fn certificate<'a>(alloc: Global) -> Arg<'a> {
     )
 }
 
+/// The file of the best plan so far.
+fn kept<'a>(alloc: Global) -> Arg<'a> {
+    Arg::new(alloc, "keep").long("keep").value_name("FILE").help(
+        "Keeps the best plan so far in this file, at every time as a whole, so that an interrupt leaves it there: a better one is written to FILE.new, which is then renamed. INSTANCE and the certificate's file are refused",
+    )
+}
+
 /// Whether a search says how far it is.
 fn progress<'a>(alloc: Global) -> Arg<'a> {
     Arg::new(alloc, "progress")
@@ -253,6 +268,7 @@ pub(crate) fn solve_command<'a>(alloc: Global) -> Result<Command<'a>, AllocError
         .arg(until)?
         .arg(seconds)?
         .arg(certificate(alloc))?
+        .arg(kept(alloc))?
         .arg(progress(alloc))
 }
 
@@ -350,32 +366,68 @@ fn some_u32_of<'a>(
     }
 }
 
-/// A search with its numbers, each in its range, and a certificate that isn't written over the instance.
+/// Whether a second word names the same file, where there is one.
+fn is_named_by(alloc: Global, file: &str, other: Option<&str>) -> Result<bool, AllocError>
+    ensures { IfOk result (λ same. same ≡ false → IfSome other (λ name. IsOtherFile file.now name.now)) }
+{
+    match other {
+        Some(other) => name_one_file(alloc, file, other),
+        None => Ok(false),
+    }
+}
+
+/// The certificate's file, which isn't the instance's by its name.
+fn certificate_of<'a>(
+    alloc: Global,
+    matches: &ArgMatches<'a>,
+    instance: &str,
+) -> Result<Option<&'a str>, Misuse<'a>>
+    ensures { IfOk result (λ name. IfSome name (λ file. IsOtherFile file.now instance.now)) }
+{
+    let certificate = matches.get_str("cert");
+    match certificate {
+        Some(file) if name_one_file(alloc, file, instance)? => Err(Misuse::Overwriting(file)),
+        _ => Ok(certificate),
+    }
+}
+
+/// The file of the best plan so far, which isn't the instance's nor the certificate's by its name.
+fn kept_of<'a>(
+    alloc: Global,
+    matches: &ArgMatches<'a>,
+    instance: &str,
+    certificate: Option<&str>,
+) -> Result<Option<&'a str>, Misuse<'a>>
+    ensures instance { IfOk result (λ name. IfSome name (λ file. IsOtherFile file.now instance.now)) }
+    ensures certificate { IfOk result (λ name. IfSome name (λ file. IfSome certificate (λ other. IsOtherFile file.now other.now))) }
+{
+    let Some(file) = matches.get_str("keep") else {
+        return Ok(None);
+    };
+    if name_one_file(alloc, file, instance)? || is_named_by(alloc, file, certificate)? {
+        return Err(Misuse::Keeping(file));
+    }
+    Ok(Some(file))
+}
+
+/// A search with its numbers, each in its range, and files to be written that aren't those which it reads.
 fn solve_request<'a>(alloc: Global, matches: &ArgMatches<'a>) -> Result<Request<'a>, Misuse<'a>>
     ensures { IfOk result IsSound }
 {
     let Some(instance) = matches.get_str("INSTANCE") else {
         return Err(Misuse::Missing);
     };
-    let workers = number_of(WORKERS, matches)? as u32;
-    let budget = number_of(BUDGET, matches)?;
-    let until = some_u32_of(UNTIL, matches)?;
-    let seconds = some_number_of(SECONDS, matches)?;
-    let certificate = matches.get_str("cert");
-    if let Some(file) = certificate {
-        if name_one_file(alloc, file, instance)? {
-            return Err(Misuse::Overwriting(file));
-        }
-    }
-    Ok(Request::Solve {
+    let certificate = certificate_of(alloc, matches, instance)?;
+    Ok(Request::Solve(Search {
         instance,
         certificate,
-        workers,
-        budget,
+        kept: kept_of(alloc, matches, instance, certificate)?,
+        workers: number_of(WORKERS, matches)? as u32,
+        budget: number_of(BUDGET, matches)?,
         progress: matches.get_flag("progress"),
-        until,
-        seconds,
-    })
+        until: some_u32_of(UNTIL, matches)?,
+        seconds: some_number_of(SECONDS, matches)?,
+    }))
 }
 
 /// A check of a certificate.

@@ -6,6 +6,8 @@ mod failing_streams;
 #[cfg(test)]
 mod hostile_texts;
 #[cfg(test)]
+mod keeping;
+#[cfg(test)]
 mod limits;
 #[cfg(test)]
 mod patience;

@@ -1,11 +1,13 @@
 //! The command that searches for the shortest plan.
 #![tactic(auto)]
 
+mod keeping;
 mod laws;
 mod patience;
 mod progress;
 mod solve;
 
+pub use keeping::{Keeper, Shelf, kept_end};
 pub use laws::untils_are_met;
 pub use patience::{Patience, Patient};
 pub use planner::{FreeGate, Options};

@@ -3,15 +3,23 @@
 
 ghost use Rattle.command_words.specs.Requests.{IsSound, IsSoundTask};
 
+mod plan_file;
+
+use crate::plan_file::{PlanFile, name_beside, name_one_file};
 use command_streams::end_with;
 pub use command_streams::{End, Fault, SearchFault, Sink, Source, report, status};
-use command_words::{Explained, Request, Task, VERSION, refuse, request_in};
+use command_words::{
+    Explained, Request, Search, Task, VERSION, keeping_over, refuse, request_in,
+};
 pub use explain_command::{explain_certificate, explain_instance, explain_plan};
 pub use plan_commands::{
     check_run, draw_run, judge_run, replay_run, schedule_run, tables, verify, verify_bundle,
 };
-use solve_command::{Follower, FreeGate, Patience, Patient, Progress, solve_run_with};
+use solve_command::{
+    Follower, FreeGate, Keeper, Patience, Patient, Progress, kept_end, solve_run_with,
+};
 pub use solve_command::{Options, solve_run};
+use std::alloc::AllocError;
 use std::fs::File;
 use std::io;
 use std::marker::Sync;
@@ -158,68 +166,97 @@ fn create_certificate(rt: &HostRuntime, name: Option<&str>) -> Result<Option<Fil
     }
 }
 
-/// Searches an instance: its file is opened first, then that of the certificate, and then the first is read.
+/// What a search reads and writes beside its answer.
+#[derive(Drop)]
+struct Files {
+    instance: File,
+    certificate: Option<File>,
+}
+
+/// The files of a search: that of the instance is opened first, and then that of the certificate.
+fn open_files(rt: &HostRuntime, search: &Search) -> Result<Files, Fault> {
+    let Ok(instance) = File::open(rt, search.instance) else {
+        return Err(Fault::Unread(Source::Instance));
+    };
+    let certificate = create_certificate(rt, search.certificate)?;
+    Ok(Files {
+        instance,
+        certificate,
+    })
+}
+
+/// Searches an instance. All files are open before one is read, that of the best plan so far last.
 fn run_solve(
     rt: &HostRuntime,
     threads: &(impl Threads + Wait + Sync),
-    instance: &str,
-    certificate: Option<&str>,
-    options: Options,
-    patience: Patience,
-    progress: bool,
+    search: &Search,
 ) -> End {
-    let Ok(mut instance) = File::open(rt, instance) else {
-        return End::Refused(Fault::Unread(Source::Instance));
-    };
-    let mut certificate = match create_certificate(rt, certificate) {
-        Ok(file) => file,
+    let files = match open_files(rt, search) {
+        Ok(files) => files,
         Err(fault) => return End::Refused(fault),
     };
-    let certificate = certificate.as_mut();
-    if !progress {
-        return search_files(
-            rt,
-            threads,
-            &mut instance,
-            certificate,
-            options,
-            patience,
-            &FreeGate,
-        );
+    if !search.progress {
+        return search_keeping(rt, threads, search, files, &FreeGate);
     }
-    match Progress::on(rt.alloc(), rt, options.workers) {
-        Ok(progress) => search_files(
-            rt,
-            threads,
-            &mut instance,
-            certificate,
-            options,
-            patience,
-            &progress,
-        ),
+    match Progress::on(rt.alloc(), rt, search.workers) {
+        Ok(progress) => search_keeping(rt, threads, search, files, &progress),
         Err(_) => End::Refused(Fault::Memory),
     }
 }
 
-/// Searches the instance of a file, writes the certificate to another where there is one, and tells a follower how the search goes on.
+/// Searches the instance of a file, tells a follower how the search goes on, and keeps the best plan so far where that is asked for.
+fn search_keeping(
+    rt: &HostRuntime,
+    threads: &(impl Threads + Wait + Sync),
+    search: &Search,
+    files: Files,
+    follower: &(impl Follower + Sync),
+) -> End {
+    let Some(name) = search.kept else {
+        return search_files(rt, threads, search, files, follower);
+    };
+    let Ok(next) = name_beside(rt, name) else {
+        return End::Refused(Fault::Memory);
+    };
+    let Ok(shelf) = PlanFile::at(rt, name, next.as_str()) else {
+        return End::Refused(Fault::Unwritten(Sink::Plan));
+    };
+    let keeper = Keeper::beside(follower, threads, rt.alloc(), shelf);
+    let end = search_files(rt, threads, search, files, &keeper);
+    let has_failed = keeper.has_failed();
+    keeper.shelf().clear();
+    kept_end(end, has_failed)
+}
+
+/// Searches the instance of a file, and tells a follower how the search goes on.
 fn search_files(
     rt: &HostRuntime,
     threads: &(impl Threads + Wait + Sync),
-    instance: &mut File,
-    certificate: Option<&mut File>,
-    options: Options,
-    patience: Patience,
+    search: &Search,
+    files: Files,
     follower: &(impl Follower + Sync),
 ) -> End {
+    let Files {
+        mut instance,
+        mut certificate,
+    } = files;
+    let options = Options {
+        workers: search.workers,
+        budget: search.budget,
+    };
+    let patience = Patience {
+        until: search.until,
+        seconds: search.seconds,
+    };
     let patient = Patient::beside(follower, rt, patience);
     solve_run_with(
         threads,
         rt.alloc(),
-        instance,
+        &mut instance,
         options,
         patience.until,
         &patient,
-        certificate,
+        certificate.as_mut(),
         &mut rt.stdout(),
     )
 }
@@ -234,27 +271,7 @@ fn run(rt: &HostRuntime, threads: &(impl Threads + Wait + Sync), request: Reques
             plan,
             task,
         } => run_on_files(rt, instance, plan, task),
-        Request::Solve {
-            instance,
-            certificate,
-            workers,
-            budget,
-            progress,
-            until,
-            seconds,
-        } => {
-            let options = Options { workers, budget };
-            let patience = Patience { until, seconds };
-            run_solve(
-                rt,
-                threads,
-                instance,
-                certificate,
-                options,
-                patience,
-                progress,
-            )
-        }
+        Request::Solve(search) => run_solve(rt, threads, &search),
         Request::Check {
             instance,
             certificate,
@@ -273,15 +290,46 @@ fn run(rt: &HostRuntime, threads: &(impl Threads + Wait + Sync), request: Reques
     }
 }
 
+/// Whether a search keeps its best plan, or what is to take its place, in a file that another of its words names.
+fn keeps_over_another(rt: &HostRuntime, search: &Search, kept: &str) -> Result<bool, AllocError> {
+    let next = name_beside(rt, kept)?;
+    let others = [Some(search.instance), search.certificate];
+    for other in others.into_iter().flatten() {
+        if name_one_file(rt, kept, other) || name_one_file(rt, next.as_str(), other) {
+            return Ok(true);
+        }
+    }
+    Ok(false)
+}
+
+/// The file in which a request would keep its best plan, though it names that file besides.
+fn overwritten<'a>(
+    rt: &HostRuntime,
+    request: &Request<'a>,
+) -> Result<Option<&'a str>, AllocError> {
+    match request {
+        Request::Solve(search) => match search.kept {
+            Some(kept) if keeps_over_another(rt, search, kept)? => Ok(Some(kept)),
+            _ => Ok(None),
+        },
+        _ => Ok(None),
+    }
+}
+
 /// Runs the words' request, says on standard error why it was refused, and gives the status.
 fn status_of_words(
     rt: &HostRuntime,
     threads: &(impl Threads + Wait + Sync),
     words: &[String],
 ) -> u8 {
-    match request_in(rt.alloc(), words) {
-        Ok(request) => ended(rt, &run(rt, threads, request)),
-        Err(error) => refuse(&error, &mut rt.stderr()),
+    let request = match request_in(rt.alloc(), words) {
+        Ok(request) => request,
+        Err(error) => return refuse(&error, &mut rt.stderr()),
+    };
+    match overwritten(rt, &request) {
+        Ok(Some(file)) => refuse(&keeping_over(rt.alloc(), file), &mut rt.stderr()),
+        Ok(None) => ended(rt, &run(rt, threads, request)),
+        Err(_) => ended(rt, &End::Refused(Fault::Memory)),
     }
 }
 

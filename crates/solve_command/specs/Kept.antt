@@ -1,0 +1,26 @@
+-- What is kept of a search as it goes on, and how one ends that had to keep its best plan.
+use Rattle.std.specs.Prelude.{◌≡◌, ℕ, List, Bool, cond}
+use Rattle.ttp_model.specs.declared.plan.Plan.{Plan as Table}
+use Rattle.ttp_model.specs.Instance.{Instance}
+use Rattle.ttp_model.specs.Plans.{IsValid}
+use Rattle.ttp_model.specs.Delays.{delay}
+use Rattle.plan_format.specs.Spelling.{SpellsPlan}
+use Rattle.command_streams.specs.declared.ending.Sink.TheVariants as sink
+use Rattle.command_streams.specs.declared.ending.Fault.TheVariants.{Unwritten}
+use Rattle.command_streams.specs.declared.ending.End.{End}
+use Rattle.command_streams.specs.declared.ending.End.TheVariants.{Done, Absent, Stopped, Refused}
+
+-- the text of a valid plan that takes so many ticks, and says so
+pub record IsPlanText (text : List ℕ) (ticks : ℕ) : Type 0 where
+  pub problem : Instance
+  pub plan : Table
+  pub valid : IsValid problem plan
+  pub takes : ticks ≡ delay problem plan
+  pub spelled : SpellsPlan problem text plan ticks
+
+-- the end of a search whose best plan was to be kept: that it couldn't be is told where nothing else is
+abbrev pub kept_end : Bool → End → End
+kept_end failed Done = cond failed (Refused (Unwritten sink.Plan)) Done
+kept_end failed Absent = cond failed (Refused (Unwritten sink.Plan)) Absent
+kept_end failed Stopped = cond failed (Refused (Unwritten sink.Plan)) Stopped
+kept_end failed (Refused fault) = Refused fault
