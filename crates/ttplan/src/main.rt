@@ -8,9 +8,7 @@ mod plan_file;
 use crate::plan_file::{PlanFile, name_beside, name_one_file};
 use command_streams::end_with;
 pub use command_streams::{End, Fault, SearchFault, Sink, Source, report, status};
-use command_words::{
-    Explained, Request, Search, Task, VERSION, keeping_over, refuse, request_in,
-};
+use command_words::{Explained, Request, Search, Task, VERSION, keeping_over, refuse, request_in};
 pub use explain_command::{explain_certificate, explain_instance, explain_plan};
 pub use plan_commands::{
     check_run, draw_run, judge_run, replay_run, schedule_run, tables, verify, verify_bundle,
@@ -186,11 +184,7 @@ fn open_files(rt: &HostRuntime, search: &Search) -> Result<Files, Fault> {
 }
 
 /// Searches an instance. All files are open before one is read, that of the best plan so far last.
-fn run_solve(
-    rt: &HostRuntime,
-    threads: &(impl Threads + Wait + Sync),
-    search: &Search,
-) -> End {
+fn run_solve(rt: &HostRuntime, threads: &(impl Threads + Wait + Sync), search: &Search) -> End {
     let files = match open_files(rt, search) {
         Ok(files) => files,
         Err(fault) => return End::Refused(fault),
@@ -303,10 +297,7 @@ fn keeps_over_another(rt: &HostRuntime, search: &Search, kept: &str) -> Result<b
 }
 
 /// The file in which a request would keep its best plan, though it names that file besides.
-fn overwritten<'a>(
-    rt: &HostRuntime,
-    request: &Request<'a>,
-) -> Result<Option<&'a str>, AllocError> {
+fn overwritten<'a>(rt: &HostRuntime, request: &Request<'a>) -> Result<Option<&'a str>, AllocError> {
     match request {
         Request::Solve(search) => match search.kept {
             Some(kept) if keeps_over_another(rt, search, kept)? => Ok(Some(kept)),

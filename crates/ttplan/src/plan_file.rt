@@ -66,8 +66,7 @@ impl<'a> Shelf for PlanFile<'a> {
     }
 
     fn put(&mut self, text: &[u8], ticks: u64) -> bool {
-        let stands =
-            self.write(text).is_ok() && fs::rename(self.rt, self.next, self.name).is_ok();
+        let stands = self.write(text).is_ok() && fs::rename(self.rt, self.next, self.name).is_ok();
         if stands {
             self.kept = ticks;
         }
