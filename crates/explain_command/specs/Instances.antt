@@ -4,6 +4,7 @@ use Rattle.ttp_model.specs.Instance.{Instance}
 use Rattle.instance_text.specs.declared.error.TextError.{TextError}
 use Rattle.instance_words.specs.Described.{description}
 use Rattle.instance_words.specs.Explained.{IsExplanation}
+use Rattle.path_words.specs.Lines.{IsChainText}
 use Rattle.command_streams.specs.Endings.{fault_status}
 use Rattle.command_streams.specs.Instances.{HasInstance, IsInstanceFault}
 use Rattle.command_streams.specs.declared.ending.Fault.TheVariants as fault
@@ -20,11 +21,17 @@ pub record TellsRefused (bytes text : List ℕ) : Type 0 where
   pub are : IsExplanation bytes wrong words
   pub told : text ≡ line_of (fault.InstanceText wrong) ++ words
 
--- bytes that state one: how large it is, and which messages fit into no frame
+-- an instance that keeps its rules: how large it is, which messages fit into no frame, and why no plan ends before its path bound
+pub record TellsSizes (i : Instance) (text : List ℕ) : Type 0 where
+  pub words : List ℕ
+  pub are : IsChainText i words
+  pub told : text ≡ description i ++ words
+
+-- bytes that state one
 pub record TellsGood (bytes text : List ℕ) : Type 0 where
   pub problem : Instance
   pub has_instance : HasInstance bytes problem
-  pub told : text ≡ description problem
+  pub tells : TellsSizes problem text
 
 -- the bytes of an instance
 abbrev pub TellsInstance : List ℕ → List ℕ → Type 0

@@ -1,13 +1,14 @@
 //! What does `explain` say of an instance, of a plan and of a certificate?
 
 ghost use Rattle.std.specs.Prelude.{◌≡◌, ◌+◌, IfErr, IfOk, IfSome, string_bytes};
+ghost use Rattle.std.specs.Io.KnownBytes.{Keeps};
+ghost use Rattle.command_streams.specs.Instances.{StatesSome};
 ghost use Rattle.command_streams.specs.Limits.{certificate_limit, instance_limit, plan_limit};
 ghost use Rattle.command_streams.specs.Streams.{TakesAtMost};
 ghost use Rattle.command_streams.specs.declared.ending.Fault.TheVariants.{Memory};
-ghost use Rattle.instance_words.specs.Described.{description};
 ghost use Rattle.explain_command.specs.Explained.{IsCertificateExplained, IsCertificateUntold, IsInstanceExplained, IsPlanExplained, IsPlanUntold, IsUntold, TellsBoth};
 ghost use Rattle.explain_command.specs.Certificates.{IsUnreadable, TellsCertificateBytes};
-ghost use Rattle.explain_command.specs.Instances.{IsStatedOf, TellsInstance};
+ghost use Rattle.explain_command.specs.Instances.{IsStatedOf, TellsInstance, TellsSizes};
 ghost use Rattle.explain_command.specs.Plans.{IsPlanUnread, TellsPlanBytes};
 
 use crate::certificates::told_certificate;
@@ -36,10 +37,12 @@ fn stated_of_reader<I: Read>(alloc: Global, instance: &mut I) -> Result<Stated, 
 
 /// What is told of an instance that keeps its rules.
 fn described(alloc: Global, instance: &Instance) -> Result<String, Fault>
-    ensures ok { IfOk result (λ text. string_bytes text ≡ description instance.now) }
+    ensures ok { IfOk result (λ text. TellsSizes instance.now (string_bytes text)) }
     ensures err { IfErr result (λ wrong. wrong ≡ Memory) }
 {
-    let text = describe_instance(alloc, instance)?;
+    let chain = path_words::print(alloc, instance)?;
+    let mut text = describe_instance(alloc, instance)?;
+    text.push_str(chain.as_str())?;
     Ok(text)
 }
 
@@ -59,9 +62,9 @@ fn instance_told<I: Read>(alloc: Global, instance: &mut I) -> Result<String, Fau
     }
 }
 
-/// Tells an instance: `instance` with its sizes and each message that fits into no frame, or the line of `verify` where it is
-/// refused, and behind it why, in sentences. Where anything else ends the command nothing is written, and after a failed write a
-/// prefix of the text stands.
+/// Tells an instance: `instance` with its sizes, each message that fits into no frame, and why no plan ends before its path bound;
+/// or the line of `verify` where it is refused, and behind it why, in sentences. Where anything else ends the command nothing is
+/// written, and after a failed write a prefix of the text stands.
 pub fn explain_instance<I: Read, W: Write>(alloc: Global, instance: &mut I, out: &mut W) -> End
     ensures answer { IfSome (I.remaining instance.old) (λ i. IsInstanceExplained i (W.contents out.old) (W.contents out.new) result) }
     ensures instance { TakesAtMost (instance_limit + 1) (I.remaining instance.old) (I.remaining instance.new) }
@@ -94,6 +97,7 @@ fn plan_told<I: Read, P: Read>(
     ensures err { IfSome (I.remaining instance.old) (λ i. IfSome (P.remaining plan.old) (λ p. IfErr result (IsPlanUntold i p))) }
     ensures instance { TakesAtMost (instance_limit + 1) (I.remaining instance.old) (I.remaining instance.new) }
     ensures plan { TakesAtMost (plan_limit + 1) (P.remaining plan.old) (P.remaining plan.new) }
+    ensures order { IfSome (I.remaining instance.old) (λ i. ¬ StatesSome i → Keeps (P.remaining plan.old) (P.remaining plan.new)) }
 {
     match stated_of_reader(alloc, instance)? {
         Stated::Refused(text) => Ok(text),
@@ -106,7 +110,8 @@ fn plan_told<I: Read, P: Read>(
 }
 
 /// Tells a plan: the line of `verify`, and in sentences why it is refused, or why it ends when it does. The instance is read and
-/// judged first. Where anything else ends the command nothing is written, and after a failed write a prefix of the text stands.
+/// judged first, and where there is none the plan isn't read. Where anything else ends the command nothing is written, and after a
+/// failed write a prefix of the text stands.
 pub fn explain_plan<I: Read, P: Read, W: Write>(
     alloc: Global,
     instance: &mut I,
@@ -117,6 +122,7 @@ pub fn explain_plan<I: Read, P: Read, W: Write>(
         IsPlanExplained i p (W.contents out.old) (W.contents out.new) result)) }
     ensures instance { TakesAtMost (instance_limit + 1) (I.remaining instance.old) (I.remaining instance.new) }
     ensures plan { TakesAtMost (plan_limit + 1) (P.remaining plan.old) (P.remaining plan.new) }
+    ensures order { IfSome (I.remaining instance.old) (λ i. ¬ StatesSome i → Keeps (P.remaining plan.old) (P.remaining plan.new)) }
 {
     match plan_told(alloc, instance, plan) {
         Ok(text) => end_with(out, text.as_bytes()),
@@ -151,6 +157,7 @@ fn certificate_told<I: Read, C: Read>(
     ensures err { IfSome (I.remaining instance.old) (λ i. IfSome (C.remaining certificate.old) (λ c. IfErr result (IsCertificateUntold i c))) }
     ensures instance { TakesAtMost (instance_limit + 1) (I.remaining instance.old) (I.remaining instance.new) }
     ensures certificate { TakesAtMost (certificate_limit + 1) (C.remaining certificate.old) (C.remaining certificate.new) }
+    ensures order { IfSome (I.remaining instance.old) (λ i. ¬ StatesSome i → Keeps (C.remaining certificate.old) (C.remaining certificate.new)) }
 {
     match stated_of_reader(alloc, instance)? {
         Stated::Refused(text) => Ok(text),
@@ -163,8 +170,8 @@ fn certificate_told<I: Read, C: Read>(
 }
 
 /// Tells a certificate: the line of `check`, and in sentences why it doesn't prove its bound, or how it does: step by step where
-/// it is one leaf, and else how large it is. The instance is read and judged first. The certificate's text is held in memory. Where
-/// anything else ends the command nothing is written, and after a failed write a prefix of the text stands.
+/// it is one leaf, and else how large it is. The instance is read and judged first, and where there is none the certificate isn't
+/// read. The certificate's text is held in memory. Where anything else ends the command nothing is written, and after a failed write a prefix of the text stands.
 pub fn explain_certificate<I: Read, C: Read, W: Write>(
     rt: &(impl Threads + Sync),
     alloc: Global,
@@ -176,6 +183,7 @@ pub fn explain_certificate<I: Read, C: Read, W: Write>(
         IsCertificateExplained i c (W.contents out.old) (W.contents out.new) result)) }
     ensures instance { TakesAtMost (instance_limit + 1) (I.remaining instance.old) (I.remaining instance.new) }
     ensures certificate { TakesAtMost (certificate_limit + 1) (C.remaining certificate.old) (C.remaining certificate.new) }
+    ensures order { IfSome (I.remaining instance.old) (λ i. ¬ StatesSome i → Keeps (C.remaining certificate.old) (C.remaining certificate.new)) }
 {
     match certificate_told(rt, alloc, instance, certificate) {
         Ok(text) => end_with(out, text.as_bytes()),
