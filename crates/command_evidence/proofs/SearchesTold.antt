@@ -12,7 +12,8 @@ use Rattle.command_streams.specs.declared.ending.End.{End}
 use Rattle.command_streams.specs.declared.ending.End.TheVariants.{Done, Refused, Stopped}
 use Rattle.command_streams.specs.Instances.{HasInstance}
 use Rattle.command_streams.specs.Outcomes.{IsWritten}
-use Rattle.solve_command.specs.Solved.{IsAnswerText, IsSolveAnswer, end_told}
+use Rattle.solve_command.specs.Solved.{IsAnswerText, IsSolveAnswer}
+use Rattle.solve_command.specs.Telling.{end_told}
 use Rattle.command_evidence.specs.Answers.{IsCertificate, StopsWithPlan}
 
 -- the text of an answer that is told as stopped

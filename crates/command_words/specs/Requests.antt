@@ -1,5 +1,5 @@
 -- What holds of a request.
-use Rattle.std.specs.Prelude.{◌≤◌, IfSome}
+use Rattle.std.specs.Prelude.{◌≤◌, ℕ, List, IfSome}
 use Rattle.command_words.specs.declared.words.Request.{Request}
 use Rattle.command_words.specs.declared.words.Request.TheVariants.{OnFiles, Solve}
 use Rattle.command_words.specs.declared.words.Search.{Search}
@@ -13,12 +13,16 @@ abbrev pub IsSoundTask : Task → Type 0
 IsSoundTask (Draw width shown) = (least_width ≤ width) × (width ≤ most_width)
 IsSoundTask _ = Unit {0}
 
--- a search has 1 to 16 workers; by their names the certificate's file is another than the instance's, and that of the best plan so far another than these
+-- by its name a file is none that a search reads
+abbrev pub IsApart : Search → List ℕ → Type 0
+IsApart search file = IsOtherFile file search.instance.now × IfSome search.start (λ plan. IsOtherFile file plan.now)
+
+-- a search has 1 to 16 workers; by their names the files that it writes are none that it reads, and not the same
 pub record IsSoundSearch (search : Search) : Type 0 where
   pub some : 1 ≤ search.workers
   pub few : search.workers ≤ 16
-  pub certificate : IfSome search.certificate (λ file. IsOtherFile file.now search.instance.now)
-  pub kept : IfSome search.kept (λ file. IsOtherFile file.now search.instance.now)
+  pub certificate : IfSome search.certificate (λ file. IsApart search file.now)
+  pub kept : IfSome search.kept (λ file. IsApart search file.now)
   pub both : IfSome search.kept (λ file. IfSome search.certificate (λ other. IsOtherFile file.now other.now))
 
 abbrev pub IsSound : Request → Type 0

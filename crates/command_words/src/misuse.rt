@@ -18,6 +18,8 @@ pub enum Misuse<'a> {
     Number(NumberOption, &'a str),
     /// When the certificate would be written over the instance.
     Overwriting(&'a str),
+    /// When it would be written over the plan to begin with.
+    OverwritingPlan(&'a str),
     /// When the best plan so far would be kept in a file that is read or written besides.
     Keeping(&'a str),
     /// When memory was wanted, and refused.
@@ -55,8 +57,11 @@ impl Misuse<'_> {
             Misuse::Overwriting(word) => format!(in alloc;
                 "invalid value '{word}' for '--cert <FILE>': that is the instance's file, which would be emptied"
             ),
+            Misuse::OverwritingPlan(word) => format!(in alloc;
+                "invalid value '{word}' for '--cert <FILE>': that is the plan's file, which would be emptied"
+            ),
             Misuse::Keeping(word) => format!(in alloc;
-                "invalid value '{word}' for '--keep <FILE>': a plan kept there would take the place of the instance or of the certificate"
+                "invalid value '{word}' for '--keep <FILE>': a plan kept there would take the place of another file of the search"
             ),
             Misuse::Memory => Err(AllocError),
         }

@@ -45,6 +45,8 @@ pub enum Explained<'a> {
 #[derive(Clone, Copy, Debug, PartialEq, Eq)]
 pub struct Search<'a> {
     pub instance: &'a str,
+    /// Where the plan stands with which it begins.
+    pub start: Option<&'a str>,
     /// Where the certificate is written.
     pub certificate: Option<&'a str>,
     /// Where the best plan so far is kept.
@@ -218,14 +220,24 @@ fn number<'a>(alloc: Global, option: NumberOption, help: &'a str) -> Arg<'a> {
 /// The file of a certificate.
 fn certificate<'a>(alloc: Global) -> Arg<'a> {
     Arg::new(alloc, "cert").long("cert").value_name("FILE").help(
-        "Also writes the certificate that proves the answer, whichever it is, to this file, before the answer is printed; `ttplan check INSTANCE FILE` accepts it. A file that is there is emptied first; INSTANCE itself is refused",
+        "Also writes the certificate that proves the answer, whichever it is, to this file, before the answer is printed; `ttplan check INSTANCE FILE` accepts it. A file that is there is emptied first; INSTANCE itself is refused, and PLAN",
     )
+}
+
+/// The plan with which a search begins.
+fn start<'a>(alloc: Global) -> Arg<'a> {
+    Arg::new(alloc, "start")
+        .long("start")
+        .value_name("PLAN")
+        .help(
+            "Begins with this plan: what is printed takes no longer. It is refused as by `ttplan verify` where it isn't valid",
+        )
 }
 
 /// The file of the best plan so far.
 fn kept<'a>(alloc: Global) -> Arg<'a> {
     Arg::new(alloc, "keep").long("keep").value_name("FILE").help(
-        "Keeps the best plan so far in this file, at every time as a whole, so that an interrupt leaves it there: a better one is written to FILE.new, which is then renamed. INSTANCE and the certificate's file are refused",
+        "Keeps the best plan so far in this file, at every time as a whole, so that an interrupt leaves it there: a better one is written to FILE.new, which is then renamed. INSTANCE, PLAN and the certificate's file are refused",
     )
 }
 
@@ -267,6 +279,7 @@ pub(crate) fn solve_command<'a>(alloc: Global) -> Result<Command<'a>, AllocError
         .arg(budget)?
         .arg(until)?
         .arg(seconds)?
+        .arg(start(alloc))?
         .arg(certificate(alloc))?
         .arg(kept(alloc))?
         .arg(progress(alloc))
@@ -376,35 +389,47 @@ fn is_named_by(alloc: Global, file: &str, other: Option<&str>) -> Result<bool, A
     }
 }
 
-/// The certificate's file, which isn't the instance's by its name.
+/// The certificate's file, which by its name is none that is read.
 fn certificate_of<'a>(
     alloc: Global,
     matches: &ArgMatches<'a>,
     instance: &str,
+    start: Option<&str>,
 ) -> Result<Option<&'a str>, Misuse<'a>>
-    ensures { IfOk result (λ name. IfSome name (λ file. IsOtherFile file.now instance.now)) }
+    ensures instance { IfOk result (λ name. IfSome name (λ file. IsOtherFile file.now instance.now)) }
+    ensures start { IfOk result (λ name. IfSome name (λ file. IfSome start (λ plan. IsOtherFile file.now plan.now))) }
 {
-    let certificate = matches.get_str("cert");
-    match certificate {
-        Some(file) if name_one_file(alloc, file, instance)? => Err(Misuse::Overwriting(file)),
-        _ => Ok(certificate),
+    let Some(file) = matches.get_str("cert") else {
+        return Ok(None);
+    };
+    if name_one_file(alloc, file, instance)? {
+        return Err(Misuse::Overwriting(file));
     }
+    if is_named_by(alloc, file, start)? {
+        return Err(Misuse::OverwritingPlan(file));
+    }
+    Ok(Some(file))
 }
 
-/// The file of the best plan so far, which isn't the instance's nor the certificate's by its name.
+/// The file of the best plan so far, which by its name is none that is read, nor the certificate's.
 fn kept_of<'a>(
     alloc: Global,
     matches: &ArgMatches<'a>,
     instance: &str,
+    start: Option<&str>,
     certificate: Option<&str>,
 ) -> Result<Option<&'a str>, Misuse<'a>>
     ensures instance { IfOk result (λ name. IfSome name (λ file. IsOtherFile file.now instance.now)) }
+    ensures start { IfOk result (λ name. IfSome name (λ file. IfSome start (λ plan. IsOtherFile file.now plan.now))) }
     ensures certificate { IfOk result (λ name. IfSome name (λ file. IfSome certificate (λ other. IsOtherFile file.now other.now))) }
 {
     let Some(file) = matches.get_str("keep") else {
         return Ok(None);
     };
-    if name_one_file(alloc, file, instance)? || is_named_by(alloc, file, certificate)? {
+    if name_one_file(alloc, file, instance)?
+        || is_named_by(alloc, file, start)?
+        || is_named_by(alloc, file, certificate)?
+    {
         return Err(Misuse::Keeping(file));
     }
     Ok(Some(file))
@@ -417,11 +442,13 @@ fn solve_request<'a>(alloc: Global, matches: &ArgMatches<'a>) -> Result<Request<
     let Some(instance) = matches.get_str("INSTANCE") else {
         return Err(Misuse::Missing);
     };
-    let certificate = certificate_of(alloc, matches, instance)?;
+    let start = matches.get_str("start");
+    let certificate = certificate_of(alloc, matches, instance, start)?;
     Ok(Request::Solve(Search {
         instance,
+        start,
         certificate,
-        kept: kept_of(alloc, matches, instance, certificate)?,
+        kept: kept_of(alloc, matches, instance, start, certificate)?,
         workers: number_of(WORKERS, matches)? as u32,
         budget: number_of(BUDGET, matches)?,
         progress: matches.get_flag("progress"),

@@ -25,4 +25,4 @@ pub use node_tables::tables;
 pub use picture::draw_run;
 pub use replay::replay_run;
 pub use sheets::schedule_run;
-pub use verdict::{PLAN_LIMIT, verify};
+pub use verdict::{PLAN_LIMIT, Verified, verified_of_readers, verify};

@@ -7,5 +7,6 @@ pub mod Ending
 pub mod Crews
 pub mod Reports
 pub mod Jobs
+pub mod Starts
 pub mod Pools
 pub mod Collected

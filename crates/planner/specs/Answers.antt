@@ -71,6 +71,12 @@ cert_of (Optimal plan ticks cert) = cert
 cert_of (Infeasible cert) = cert
 cert_of (Stopped why low best cert) = cert
 
+-- the plan that an answer has, with its delay, where it has one
+abbrev pub best_of : Outcome → Option (Plan × ℕ)
+best_of (Optimal plan ticks cert) = Some (plan, ticks)
+best_of (Infeasible cert) = None
+best_of (Stopped why low best cert) = best
+
 -- the answer with this certificate in place of its own; that of a search that was stopped keeps its own
 abbrev pub certified_by : Cert → Outcome → Outcome
 certified_by cert (Optimal plan ticks own) = Optimal plan ticks cert

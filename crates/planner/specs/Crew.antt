@@ -67,6 +67,11 @@ pub record IsBetter (i : Instance) (a b best : Option (Plan × ℕ)) : Type 0 wh
   pub first : limit_of i best ≤ limit_of i a
   pub second : limit_of i best ≤ limit_of i b
 
+-- a plan that may have been found, which is no later than one before it
+pub record IsNoLater (i : Instance) (old new : Option (Plan × ℕ)) : Type 0 where
+  pub found : IsFound i new
+  pub limit : limit_of i new ≤ limit_of i old
+
 -- What workers that began with these hands came to: each piece is right for a task that one of them took. They took
 -- these tasks and those that they hold; they pushed what their branches gave, but for what they hold of it. The best plan
 -- is at most each offer, and each leaf's goal at least something that one of them has seen or offered.

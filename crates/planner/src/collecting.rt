@@ -160,6 +160,7 @@ fn collected<J: Searched>(word: Incumbent, crew: Crew<J>) -> Result<Search, Memo
     requires instance { IsInstance J.instance }
     ensures searching { IfOk result (λ s. IsSearching J.instance s.pieces.items s.tasks.items s.best) }
     ensures same { IfOk result (λ s. s.pieces ≡ crew.pieces) }
+    ensures best { IfOk result (λ s. s.best ≡ crew.best) }
 {
     let Crew {
         hands,
@@ -218,6 +219,7 @@ fn crewed<J: Searched + Send + Sync, G: Gate + Sync, R: Threads + Wait>(
     requires nobody { IsNobody J.instance word.now crew.old }
     ensures ended { OnOk result (HaveEnded J.instance word.now crew.new) }
     ensures within { OnOk result (length crew.new.pieces.items ≤ options.budget) }
+    ensures no_later { OnOk result (limit_of J.instance crew.new.best ≤ limit_of J.instance crew.old.best) }
 {
     let hands = planted::<J>(alloc, instance, options.workers.max(1) as usize)?;
     let jobs = deal(alloc, word, &mut crew.watch, hands, options.budget)?;
@@ -234,7 +236,8 @@ fn begun<J: Searched>(
     first: Option<(Plan, u64)>,
 ) -> Result<(Incumbent, Crew<J>), MemoryFault>
     requires { IsFound instance.now first }
-    ensures { IfOk result (λ r. IsNobody instance.now r.0 r.1) }
+    ensures nobody { IfOk result (λ r. IsNobody instance.now r.0 r.1) }
+    ensures best { IfOk result (λ r. r.1.best ≡ first) }
 {
     let (word, opening) = Incumbent::begin(alloc, instance.past_horizon())?;
     let mut opening = opening;
@@ -257,6 +260,7 @@ pub fn searched<J: Searched + Send + Sync, G: Gate + Sync, R: Threads + Wait>(
     requires found { IsFound instance.now first }
     ensures searching { IfOk result (λ s. IsSearching instance.now s.pieces.items s.tasks.items s.best) }
     ensures within { IfOk result (λ s. length s.pieces.items ≤ options.budget) }
+    ensures no_later { IfOk result (λ s. limit_of instance.now s.best ≤ limit_of instance.now first) }
 {
     let _nodes = instance.nodes();
     let (word, crew) = begun::<J>(alloc, instance, options.workers.max(1) as usize, first)?;

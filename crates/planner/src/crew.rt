@@ -8,7 +8,7 @@ ghost use Rattle.steal_pool.specs.declared.hand.Hand.{Hand};
 ghost use Rattle.planner.specs.declared.crew.Job.{Job};
 ghost use Rattle.search_turns.specs.declared.outcome.SolveFault.TheVariants as fault;
 ghost use Rattle.search_turns.specs.Searching.{IsFound};
-ghost use Rattle.planner.specs.Crew.{IsBetter, IsReportOfJob, AreReportsOf, IsJob, hands_of, budget_of, tasks_in, Gathers};
+ghost use Rattle.planner.specs.Crew.{IsBetter, IsNoLater, IsReportOfJob, AreReportsOf, IsJob, hands_of, budget_of, tasks_in, Gathers};
 
 use crate::joining::{keep_roomier, take_in};
 use branch_tree::{Piece, Task};
@@ -69,7 +69,7 @@ fn done<J: Searched, G: Gate>(
 }
 
 /// The better of two plans with their delays, where there is one.
-fn better(a: Option<(Plan, u64)>, b: Option<(Plan, u64)>) -> Option<(Plan, u64)>
+pub fn better(a: Option<(Plan, u64)>, b: Option<(Plan, u64)>) -> Option<(Plan, u64)>
     ensures { (i : Instance) → IsInstance i → IsFound i a → IsFound i b → IsBetter i a b result }
 {
     match (a, b) {
@@ -163,6 +163,8 @@ impl<J: Searched> Crew<J> {
             → Gathers J.instance word.now count (begun ++ job.hand ∷ []) self.new) }
         ensures opening { OnOk result (IsOpening word.now self.new.watch) }
         ensures more { OnOk result (length self.new.pieces.items ≡ length self.old.pieces.items + length report.pieces.items) }
+        ensures no_later { OnOk result ((job : Job J) → IsInstance J.instance → IsFound J.instance self.old.best → IsReportOfJob J.instance job report
+            → IsNoLater J.instance self.old.best self.new.best) }
     {
         let Report {
             hand,
@@ -196,6 +198,8 @@ impl<J: Searched> Crew<J> {
             → Gathers J.instance word.now count [] self.old → Gathers J.instance word.now count (hands_of jobs) self.new) }
         ensures within { OnOk result ((jobs : List (Job J)) → AreReportsOf J.instance jobs reports.items
             → length self.new.pieces.items ≤ length self.old.pieces.items + budget_of jobs) }
+        ensures no_later { OnOk result ((jobs : List (Job J)) → IsInstance J.instance → IsFound J.instance self.old.best
+            → AreReportsOf J.instance jobs reports.items → IsNoLater J.instance self.old.best self.new.best) }
     {
         for report in reports {
             self.add(word, report)?;

@@ -14,7 +14,7 @@ mod versions;
 pub use laws::{answers_have_certificate_texts, answers_show, searches_answer};
 pub use pool_worker::{FreeGate, Gate};
 pub use search_turns::{Options, Outcome, SolveFault, Why};
-pub use solving::{solve, solve_in, solve_with};
+pub use solving::{solve, solve_in, solve_towards, solve_with};
 pub use tree_gathering::{
     GatherFault, gather, gathered_certificates_have_texts, leaves_close_a_tree,
     names_make_one_tree, whole_trees_prove,

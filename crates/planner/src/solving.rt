@@ -1,19 +1,22 @@
 //! The shortest plan of an instance, or how short it can be at best.
 
 ghost use Rattle.std.specs.Prelude.{◌≡◌, ◌≤◌, ◌+◌, ℕ, IfOk, IfErr, IfSome, All, length, []};
+ghost use Rattle.ttp_model.specs.Delays.{delay};
 ghost use Rattle.ttp_model.specs.Instance.{Instance};
+ghost use Rattle.ttp_model.specs.Plans.{IsValid};
 ghost use Rattle.subtree_tasks.specs.Account.{IsWholeTree};
 ghost use Rattle.subtree_tasks.specs.Task.{IsTask};
 ghost use Rattle.tree_check.specs.Proofs.{Proves};
 ghost use Rattle.dropped_decisions.specs.Branches.{branches};
 ghost use Rattle.tree_gathering.specs.Gathering.{AreShallow, HaveGoals, IsGathered};
 ghost use Rattle.search_turns.specs.declared.outcome.SolveFault.TheVariants as fault;
-ghost use Rattle.planner.specs.Answers.{answer_version, IsOutcome, Shows};
+ghost use Rattle.planner.specs.Answers.{answer_version, best_of, IsOutcome, Shows};
 ghost use Rattle.planner.specs.Closing.{AreClosedBehind, IsClosedTree};
 ghost use Rattle.search_turns.specs.Searching.{limit_of, IsFound, IsWorkedOut, IsSearching};
 
 use crate::closing::close_all;
 use crate::collecting::searched;
+use crate::crew::better;
 use crate::joining::join;
 use crate::leaner::{lean_proof, leaner};
 use crate::reserve::Reserve;
@@ -28,7 +31,8 @@ use std::marker::{Brand, Sync};
 use std::sync::Wait;
 use std::thread::Threads;
 use tree_gathering::gather_whole;
-use ttp_model::{Instance, MemoryFault, Plan};
+use tt_settle::settle;
+use ttp_model::{Instance, MemoryFault, Plan, delay};
 use used_decisions::{Manner, usual_manner};
 
 /// A plan to begin with; none is looked for with a budget of 0, or in a plain search.
@@ -45,6 +49,47 @@ fn first_plan<R: Threads + Sync>(
         Manner::Sparing if options.budget > 0 => good_plan(rt, alloc, instance, options.workers),
         _ => Ok(None),
     }
+}
+
+/// A settled plan with its delay, to which moves lead from a plan that is known, where one is.
+fn known_plan(
+    alloc: Global,
+    instance: &Instance,
+    start: Option<Plan>,
+) -> Result<Option<(Plan, u64)>, MemoryFault>
+    requires { IfSome start (IsValid instance.now) }
+    ensures found { IfOk result (IsFound instance.now) }
+    ensures no_later { IfOk result (λ known. IfSome start (λ plan. limit_of instance.now known ≤ delay instance.now plan)) }
+{
+    let Some(plan) = start else {
+        return Ok(None);
+    };
+    match settle(alloc, instance, plan) {
+        Ok(plan) => {
+            let ticks = delay(instance, &plan);
+            Ok(Some((plan, ticks)))
+        }
+        Err((_, fault)) => Err(fault),
+    }
+}
+
+/// The better of a plan that is known and of one that is looked for at once, where there is one.
+fn begun_with<R: Threads + Sync>(
+    rt: &R,
+    alloc: Global,
+    instance: &Instance,
+    options: Options,
+    manner: Manner,
+    start: Option<Plan>,
+) -> Result<Option<(Plan, u64)>, MemoryFault>
+    requires { IfSome start (IsValid instance.now) }
+    ensures found { IfOk result (IsFound instance.now) }
+    ensures no_later { IfOk result (λ first. IfSome start (λ plan. limit_of instance.now first ≤ delay instance.now plan)) }
+{
+    let _nodes = instance.nodes();
+    let known = known_plan(alloc, instance, start)?;
+    let good = first_plan(rt, alloc, instance, options, manner)?;
+    Ok(better(known, good))
 }
 
 /// Tells a gate of the plan to begin with, where there is one.
@@ -121,6 +166,7 @@ fn concluded(
     requires within { length search.pieces.items ≤ options.budget }
     requires cause { IsWorkedOut options.budget search.pieces.items why }
     ensures answer { IfOk result (IsOutcome instance.now options) }
+    ensures best { IfOk result (λ outcome. best_of outcome ≡ search.best) }
     ensures err { IfErr result (λ e. e ≡ fault.Memory) }
 {
     let _nodes = instance.nodes();
@@ -164,6 +210,7 @@ fn go_on<G: Gate>(
     ensures searching { IsSearching instance.now search.new.pieces.items search.new.tasks.items search.new.best }
     ensures within { length search.new.pieces.items ≤ options.budget }
     ensures cause { IsWorkedOut options.budget search.new.pieces.items result }
+    ensures no_later { limit_of instance.now search.new.best ≤ limit_of instance.now search.old.best }
 {
     match search.go(alloc, instance, part, Order::Newest, gate) {
         Why::Budget => search.go(alloc, instance, options.budget, Order::Rising, gate),
@@ -187,6 +234,7 @@ fn worked_out<G: Gate>(
     requires part { part ≤ options.budget }
     ensures answer { IfOk result (IsOutcome instance.now options) }
     ensures shows { IfOk result (Shows instance.now) }
+    ensures no_later { IfOk result (λ outcome. limit_of instance.now (best_of outcome) ≤ limit_of instance.now search.best) }
     ensures err { IfErr result (λ e. e ≡ fault.Memory) }
 {
     let _nodes = instance.nodes();
@@ -207,7 +255,8 @@ fn settled(instance: &Instance, options: Options, best: Option<(Plan, u64)>, cer
     requires version { cert.version ≡ answer_version instance.now }
     requires low { cert.low ≡ limit_of instance.now best }
     requires within { branches cert.tree ≤ options.budget }
-    ensures { IsOutcome instance.now options result }
+    ensures answer { IsOutcome instance.now options result }
+    ensures best { best_of result ≡ best }
 {
     let _nodes = instance.nodes();
     match best {
@@ -228,9 +277,27 @@ pub fn solve_in<R: Threads + Wait + Sync, G: Gate + Sync>(
     ensures answer { IfOk result (IsOutcome instance.now options) }
     ensures shows { IfOk result (Shows instance.now) }
 {
+    solve_from(rt, alloc, instance, options, manner, None, gate)
+}
+
+/// Searches in this manner, and begins with the better of a plan that is known, where one is, and of one that is looked for at once.
+fn solve_from<R: Threads + Wait + Sync, G: Gate + Sync>(
+    rt: &R,
+    alloc: Global,
+    instance: &Instance,
+    options: Options,
+    manner: Manner,
+    start: Option<Plan>,
+    gate: &G,
+) -> Result<Outcome, SolveFault>
+    requires { IfSome start (IsValid instance.now) }
+    ensures answer { IfOk result (IsOutcome instance.now options) }
+    ensures shows { IfOk result (Shows instance.now) }
+    ensures start { IfOk result (λ outcome. IfSome start (λ plan. limit_of instance.now (best_of outcome) ≤ delay instance.now plan)) }
+{
     let _nodes = instance.nodes();
     let reserve = Reserve::begin(alloc, instance)?;
-    let first = first_plan(rt, alloc, instance, options, manner)?;
+    let first = begun_with(rt, alloc, instance, options, manner, start)?;
     tell_first(instance, &first, gate);
     let part = workers_part(options.budget, manner);
     let theirs = Options {
@@ -262,6 +329,25 @@ pub fn solve_with<R: Threads + Wait + Sync, G: Gate + Sync>(
 {
     let manner = usual_manner(alloc, instance)?;
     solve_in(rt, alloc, instance, options, manner, gate)
+}
+
+/// Searches for the shortest plan of an instance, as `solve_with` does, and begins with a plan that is known, where one is: the plan that is
+/// answered takes no longer. None is looked for with a budget of 0 all the same.
+pub fn solve_towards<R: Threads + Wait + Sync, G: Gate + Sync>(
+    rt: &R,
+    alloc: Global,
+    instance: &Instance,
+    options: Options,
+    start: Option<Plan>,
+    gate: &G,
+) -> Result<Outcome, SolveFault>
+    requires { IfSome start (IsValid instance.now) }
+    ensures answer { IfOk result (IsOutcome instance.now options) }
+    ensures shows { IfOk result (Shows instance.now) }
+    ensures start { IfOk result (λ outcome. IfSome start (λ plan. limit_of instance.now (best_of outcome) ≤ delay instance.now plan)) }
+{
+    let manner = usual_manner(alloc, instance)?;
+    solve_from(rt, alloc, instance, options, manner, start, gate)
 }
 
 /// Searches for the shortest plan of an instance, by workers in threads of their own: works at most `budget` subtrees, what the

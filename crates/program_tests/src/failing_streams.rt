@@ -17,7 +17,7 @@ use command_streams::End;
 use plan_commands::{judge_run, verify_bundle};
 use plan_picture::Shown::All;
 use plan_sheets::Table::Slots;
-use solve_command::{Options, solve_run};
+use solve_command::{FreeGate, Options, solve_run, solve_run_from};
 use std::alloc::{Alloc, AllocError, Global};
 use std::io;
 use std::io::{Read, Write};
@@ -162,7 +162,7 @@ struct Streams<'a> {
 }
 
 /// A command on two texts, on a bundle, the judgement of a plan by the first example's certificate, or the search of an instance
-/// within a budget, with a certificate or without.
+/// within a budget, with a certificate or without, or from a plan.
 #[derive(Clone, Copy)]
 enum Command {
     OfTwo(Asked<'static>),
@@ -170,6 +170,7 @@ enum Command {
     Judge,
     Search(u64),
     SearchAlone(u64),
+    SearchFrom(u64),
 }
 
 impl Command {
@@ -206,6 +207,20 @@ impl Command {
                     alloc,
                     instance,
                     Options { workers, budget },
+                    certificate,
+                    out,
+                )
+            }
+            Command::SearchFrom(budget) => {
+                let certificate = Some(&mut streams.certificate);
+                solve_run_from(
+                    rt,
+                    alloc,
+                    instance,
+                    second,
+                    Options { workers, budget },
+                    None,
+                    &FreeGate,
                     certificate,
                     out,
                 )
@@ -404,6 +419,8 @@ type Row = (
 /// One process of 5 ticks, by a horizon that leaves a plan and by one that leaves none.
 const ONE_PLAN: &[&str] = &[CLUSTER_BEFORE_HORIZON, "horizon = 5\n", ONE_PROCESS];
 
+const ITS_PLAN: &str = "ttplan 1\ndelay 5\norder A\ncap A 0\nstart p 0\n";
+
 const NO_PLAN: &[&str] = &[CLUSTER_BEFORE_HORIZON, "horizon = 4\n", ONE_PROCESS];
 
 const ONE_PROCESS: &str =
@@ -432,6 +449,7 @@ static ROWS: &[Row] = &[
     (Command::Search(100), ONE_PLAN, "", ("", 0), SHORT),
     (Command::Search(100), NO_PLAN, "", ("none\n", 10), SHORT),
     (Command::Search(0), ONE_PLAN, "", ("", 11), SHORT),
+    (Command::SearchFrom(0), ONE_PLAN, ITS_PLAN, (ITS_PLAN, 0), SHORT),
     (Command::SearchAlone(100), ONE_PLAN, "", ("", 0), SHORT),
     (Command::SearchAlone(100), NO_PLAN, "", ("none\n", 10), SHORT),
     (Command::SearchAlone(0), ONE_PLAN, "", ("", 11), SHORT),

@@ -64,10 +64,11 @@ impl Shelf for Board {
 }
 
 /// The plan that one worker finds first of the first example.
-const LATER_PLAN: &str =
+pub const LATER_PLAN: &str =
     "ttplan 1\ndelay 10\norder B A\ncap A 2\ncap B 0\nstart p 0\nstart q 8\nround m 1\n";
 
-const BUDGET_SPENT: &str =
+/// What a search says that is stopped with it.
+pub const LATER_STOPPED: &str =
     "stopped budget 9 10\nttplan 1\ndelay 10\norder B A\ncap A 2\ncap B 0\nstart p 0\nstart q 8\nround m 1\n";
 
 /// A budget, which plan can't be kept, what the search writes, what it says on standard error, its status, and what is kept.
@@ -78,8 +79,8 @@ static ROWS: &[Row] = &[
     (1000, 0, FIRST_PLAN, "", 0, FIRST_PLAN),
     (1000, 1, FIRST_PLAN, "write plan\n", 6, FIRST_PLAN),
     (1000, 2, FIRST_PLAN, "write plan\n", 6, LATER_PLAN),
-    (20, 0, BUDGET_SPENT, "", 11, LATER_PLAN),
-    (20, 1, BUDGET_SPENT, "write plan\n", 6, ""),
+    (20, 0, LATER_STOPPED, "", 11, LATER_PLAN),
+    (20, 1, LATER_STOPPED, "write plan\n", 6, ""),
     (0, 1, "stopped budget 9 none\n", "", 11, ""),
 ];
 

@@ -22,6 +22,8 @@ mod requests;
 #[cfg(test)]
 mod solves;
 #[cfg(test)]
+mod starts;
+#[cfg(test)]
 mod told;
 #[cfg(test)]
 mod two_channels;

@@ -1,6 +1,7 @@
 //! Commands in which memory is refused: each test is run with each allocation refused in turn. A command that says so ends its test
 //! with that, so a run that meets no refusal passes by the answers alone.
 
+use crate::keeping::{Board, LATER_PLAN};
 use crate::solves::CLUSTER_BEFORE_HORIZON;
 use crate::told::Asked::{
     Check, Draw, ExplainCertificate, ExplainPlan, Replay, Schedule, Tables, Verify,
@@ -16,7 +17,7 @@ use command_streams::{End, report, status};
 use plan_commands::{judge_run, verify_bundle};
 use plan_picture::Shown::Used;
 use plan_sheets::Table::{Processes, Slots};
-use solve_command::{Options, solve_run};
+use solve_command::{FreeGate, Keeper, Options, kept_end, solve_run, solve_run_from};
 use std::alloc::{Alloc, Global};
 use std::io::Cursor;
 use std::sync::Wait;
@@ -93,11 +94,12 @@ fn judgement_tells(rt: &(impl Alloc<A = Global> + Threads + Sync)) -> Result<boo
     is_told(&end, &out, "least 9\n")
 }
 
-/// A search of an instance in parts: a plan that it may find, what each one begins with, what certificates begin with, and what a
-/// whole one does.
+/// A search of an instance in parts: the plan that it begins with, where there is one, a plan that it may find, what each one begins
+/// with, what certificates begin with, and what a whole one does.
 #[derive(Clone, Copy)]
 struct Search {
     instance: &'static [&'static str],
+    start: Option<&'static str>,
     plan: &'static str,
     head: &'static str,
     version: &'static str,
@@ -106,6 +108,7 @@ struct Search {
 
 const OF_FIRST: Search = Search {
     instance: FIRST,
+    start: Some(LATER_PLAN),
     plan: FIRST_PLAN,
     head: FIRST_PLAN,
     version: "ttcert 1\nlow ",
@@ -120,16 +123,19 @@ const OF_TWO_CHANNELS: Search = Search {
         "horizon = 7\nchannels = 2\n",
         TWO_CHANNELS_PARTS,
     ],
+    start: None,
     plan: TWO_CHANNELS_PLAN,
     head: "ttplan 2\ndelay 6\norder B A\n",
     version: "ttcert 2\nlow ",
     bound: "ttcert 2\nlow 6\n",
 };
 
-/// Whether a search with this status says that memory was refused: it has written nothing, or bounds and a certificate.
+/// Whether a search with this status says that memory was refused: it has written nothing, or bounds and a certificate, or all but a plan
+/// that was to be kept.
 fn is_refused(search: Search, status: u8, out: &Page, certificate: &Page, error: &Page) -> bool {
     match status {
         4 => has(out, "") && has(error, "memory\n"),
+        6 => begins(certificate, search.version) && has(error, "write plan\n"),
         7 => has(out, "") && has(error, "solve thread\n"),
         11 => begins(out, "stopped memory ")
             && begins(certificate, search.version)
@@ -150,6 +156,35 @@ fn is_found(search: Search, end: &End, out: &Page, certificate: &Page) -> Result
     Ok(status(end) == 0 && is_whole && has(&error, ""))
 }
 
+/// How a search ends, which keeps its best plan where it begins with one.
+fn end_of<R: Threads + Wait + Sync>(
+    rt: &R,
+    alloc: Global,
+    (instance, start): (&str, Option<&str>),
+    options: Options,
+    certificate: &mut Page,
+    out: &mut Page,
+) -> End {
+    let mut instance = instance.as_bytes();
+    let certificate = Some(certificate);
+    let Some(start) = start else {
+        return solve_run(rt, alloc, &mut instance, options, certificate, out);
+    };
+    let keeper = Keeper::beside(&FreeGate, rt, alloc, Board::new(0));
+    let end = solve_run_from(
+        rt,
+        alloc,
+        &mut instance,
+        &mut start.as_bytes(),
+        options,
+        None,
+        &keeper,
+        certificate,
+        out,
+    );
+    kept_end(end, keeper.has_failed())
+}
+
 /// Whether a search with so many workers does so.
 fn search_finds<R: Threads + Wait + Sync>(
     rt: &R,
@@ -163,14 +198,8 @@ fn search_finds<R: Threads + Wait + Sync>(
         workers,
         budget: 1_000,
     };
-    let end = solve_run(
-        rt,
-        alloc,
-        &mut instance.as_bytes(),
-        options,
-        Some(&mut certificate),
-        &mut out,
-    );
+    let texts = (instance.as_str(), search.start);
+    let end = end_of(rt, alloc, texts, options, &mut certificate, &mut out);
     is_found(search, &end, &out, &certificate)
 }
 

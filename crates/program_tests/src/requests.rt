@@ -36,8 +36,11 @@ const NO_WIDTH: &str = "for '--width <PX>': a whole number from 200 to 10000 is 
 const OVERWRITING: &str =
     "for '--cert <FILE>': that is the instance's file, which would be emptied";
 
+const OVERWRITING_PLAN: &str =
+    "for '--cert <FILE>': that is the plan's file, which would be emptied";
+
 const KEEPING: &str =
-    "for '--keep <FILE>': a plan kept there would take the place of the instance or of the certificate";
+    "for '--keep <FILE>': a plan kept there would take the place of another file of the search";
 
 #[rattlefmt::skip]
 static ROWS: &[Row] = &[
@@ -78,35 +81,39 @@ static ROWS: &[Row] = &[
     (&["ttplan", "explain", "--cert=a", "a"], Ok("Explain { instance: \"a\", explained: Certificate(\"a\") }")),
     (
         &["ttplan", "solve", "a"],
-        Ok("Solve(Search { instance: \"a\", certificate: None, kept: None, workers: 4, budget: 1000000, progress: false, until: None, seconds: None })"),
+        Ok("Solve(Search { instance: \"a\", start: None, certificate: None, kept: None, workers: 4, budget: 1000000, progress: false, until: None, seconds: None })"),
     ),
     (
         &["ttplan", "solve", "a", "--cert", "c", "--workers", "1", "--budget", "0"],
-        Ok("Solve(Search { instance: \"a\", certificate: Some(\"c\"), kept: None, workers: 1, budget: 0, progress: false, until: None, seconds: None })"),
+        Ok("Solve(Search { instance: \"a\", start: None, certificate: Some(\"c\"), kept: None, workers: 1, budget: 0, progress: false, until: None, seconds: None })"),
     ),
     (
         &["ttplan", "solve", "a", "--workers", "16", "--budget", "18446744073709551615"],
-        Ok("Solve(Search { instance: \"a\", certificate: None, kept: None, workers: 16, budget: 18446744073709551615, progress: false, until: None, seconds: None })"),
+        Ok("Solve(Search { instance: \"a\", start: None, certificate: None, kept: None, workers: 16, budget: 18446744073709551615, progress: false, until: None, seconds: None })"),
     ),
     (
         &["ttplan", "solve", "a", "--progress", "--cert", "b/a"],
-        Ok("Solve(Search { instance: \"a\", certificate: Some(\"b/a\"), kept: None, workers: 4, budget: 1000000, progress: true, until: None, seconds: None })"),
+        Ok("Solve(Search { instance: \"a\", start: None, certificate: Some(\"b/a\"), kept: None, workers: 4, budget: 1000000, progress: true, until: None, seconds: None })"),
     ),
     (
         &["ttplan", "solve", "/a", "--cert", "a"],
-        Ok("Solve(Search { instance: \"/a\", certificate: Some(\"a\"), kept: None, workers: 4, budget: 1000000, progress: false, until: None, seconds: None })"),
+        Ok("Solve(Search { instance: \"/a\", start: None, certificate: Some(\"a\"), kept: None, workers: 4, budget: 1000000, progress: false, until: None, seconds: None })"),
     ),
     (
         &["ttplan", "solve", "a", "--until", "4294967295"],
-        Ok("Solve(Search { instance: \"a\", certificate: None, kept: None, workers: 4, budget: 1000000, progress: false, until: Some(4294967295), seconds: None })"),
+        Ok("Solve(Search { instance: \"a\", start: None, certificate: None, kept: None, workers: 4, budget: 1000000, progress: false, until: Some(4294967295), seconds: None })"),
     ),
     (
         &["ttplan", "solve", "a", "--seconds", "1"],
-        Ok("Solve(Search { instance: \"a\", certificate: None, kept: None, workers: 4, budget: 1000000, progress: false, until: None, seconds: Some(1) })"),
+        Ok("Solve(Search { instance: \"a\", start: None, certificate: None, kept: None, workers: 4, budget: 1000000, progress: false, until: None, seconds: Some(1) })"),
     ),
     (
         &["ttplan", "solve", "a", "--keep", "b", "--cert", "a.new"],
-        Ok("Solve(Search { instance: \"a\", certificate: Some(\"a.new\"), kept: Some(\"b\"), workers: 4, budget: 1000000, progress: false, until: None, seconds: None })"),
+        Ok("Solve(Search { instance: \"a\", start: None, certificate: Some(\"a.new\"), kept: Some(\"b\"), workers: 4, budget: 1000000, progress: false, until: None, seconds: None })"),
+    ),
+    (
+        &["ttplan", "solve", "a", "--start", "b"],
+        Ok("Solve(Search { instance: \"a\", start: Some(\"b\"), certificate: None, kept: None, workers: 4, budget: 1000000, progress: false, until: None, seconds: None })"),
     ),
     (&["ttplan", "--version"], Ok("Version")),
     (&["ttplan", "-V"], Ok("Version")),
@@ -147,6 +154,9 @@ static ROWS: &[Row] = &[
     (&["ttplan", "solve", "a", "--keep=./a"], Err(KEEPING)),
     (&["ttplan", "solve", "a", "--keep", "b//c", "--cert", "./b/c"], Err(KEEPING)),
     (&["ttplan", "solve", "a", "--keep"], Err("<FILE>")),
+    (&["ttplan", "solve", "a", "--start", "b", "--keep", ".//b"], Err(KEEPING)),
+    (&["ttplan", "solve", "a", "--cert=b", "--start=./b"], Err(OVERWRITING_PLAN)),
+    (&["ttplan", "solve", "a", "--start"], Err("<PLAN>")),
 ];
 
 /// Whether the words ask for this.

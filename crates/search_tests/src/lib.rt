@@ -32,6 +32,8 @@ mod refusals;
 #[cfg(test)]
 mod searches;
 #[cfg(test)]
+mod starts;
+#[cfg(test)]
 mod subtrees;
 #[cfg(test)]
 mod trees;

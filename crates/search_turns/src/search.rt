@@ -79,6 +79,7 @@ impl Search {
         requires bench { IsWorkbenchOf instance.now bench.old }
         ensures searching { IsSearching instance.now self.new.pieces.items self.new.tasks.items self.new.best }
         ensures one { length self.new.pieces.items ≡ length self.old.pieces.items + cond result 1 0 }
+        ensures no_later { limit_of instance.now self.new.best ≤ limit_of instance.now self.old.best }
         ensures bench { IsWorkbenchOf instance.now bench.new }
     {
         let _nodes = instance.nodes();
@@ -125,6 +126,7 @@ impl Search {
         requires bench { IsWorkbenchOf instance.now rising.old.bench }
         ensures searching { IsSearching instance.now self.new.pieces.items self.new.tasks.items self.new.best }
         ensures pieces { self.new.pieces.items ≡ self.old.pieces.items }
+        ensures best { self.new.best ≡ self.old.best }
         ensures bench { IsWorkbenchOf instance.now rising.new.bench }
     {
         let at = rising.pick(alloc, instance, self.tasks.as_slice());
@@ -151,6 +153,7 @@ impl Search {
         ensures searching { IsSearching instance.now self.new.pieces.items self.new.tasks.items self.new.best }
         ensures within { length self.new.pieces.items ≤ length self.old.pieces.items + turns }
         ensures cause { IsWorkedOut (length self.old.pieces.items + turns) self.new.pieces.items result }
+        ensures no_later { limit_of instance.now self.new.best ≤ limit_of instance.now self.old.best }
     {
         for _turn in 0..turns {
             if !gate.goes_on(0) {
@@ -179,6 +182,7 @@ impl Search {
         ensures searching { IsSearching instance.now self.new.pieces.items self.new.tasks.items self.new.best }
         ensures within { length self.new.pieces.items ≤ budget }
         ensures cause { IsWorkedOut budget self.new.pieces.items result }
+        ensures no_later { limit_of instance.now self.new.best ≤ limit_of instance.now self.old.best }
     {
         let mut bench = Workbench::new();
         let turns = budget - self.pieces.len() as u64;

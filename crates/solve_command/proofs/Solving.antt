@@ -1,11 +1,18 @@
--- An answer that is found, certified and written is the outcome of `solve`.
-use Rattle.std.proofs.Common.{ℕ, Bool, true, List, Option, None, Some, Err, IfSome, inl, inr, refl}
-use Rattle.std.specs.Io.KnownBytes.{Appends}
+-- What was found, or that nothing was, is told as the answer of `solve` that it is.
+use Rattle.std.proofs.Common.{ℕ, Bool, List, Option, None, Some, Result, Ok, Err, IfSome, MatchResult, inl, inr, refl}
+use Rattle.std.specs.Prelude.{IsTrue}
+use Rattle.std.specs.Io.KnownBytes.{Appends, Keeps}
+use Rattle.ttp_model.specs.declared.plan.Plan.{Plan as Table}
+use Rattle.ttp_model.specs.Instance.{Instance}
 use Rattle.planner.specs.outcome.Options.{Options}
 use Rattle.planner.specs.outcome.Outcome.{Outcome}
 use Rattle.planner.specs.outcome.Outcome.TheVariants as answer
 use Rattle.planner.specs.Answers as answers
+use Rattle.plan_commands.specs.declared.verdict.Verified.{Verified}
+use Rattle.plan_commands.specs.Verdicts.{IsVerified}
 use Rattle.solve_command.specs.declared.solve.Solved.{Solved}
+use Rattle.command_streams.specs.declared.ending.SearchFault.TheVariants as search
+use Rattle.command_streams.specs.declared.ending.Sink.{Sink}
 use Rattle.command_streams.specs.declared.ending.Sink.TheVariants as sink
 use Rattle.command_streams.specs.declared.ending.Fault.{Fault}
 use Rattle.command_streams.specs.declared.ending.Fault.TheVariants.{NoMark, LossForm, InstanceText, Memory, PlanText, Plan, StatedDelay, CertificateText, Certificate, TooFewNodes, WrongLoss, NoSuchProcess, TooManySlots, Search, TooLong, Unread, Unwritten}
@@ -13,8 +20,8 @@ use Rattle.command_streams.specs.declared.ending.End.{End}
 use Rattle.command_streams.specs.declared.ending.End.TheVariants.{Refused}
 use Rattle.command_streams.specs.Outcomes.{IsCommandAnswer}
 use Rattle.command_streams.specs.Instances.{HasInstance}
-use Rattle.solve_command.specs.Solved.{IsAnswerText, IsCertified, IsCertifying, IsSolveAnswer, IsSolved, IsToldAnswer, IsUnsolved, IsUntold, IsWritingTo, end_told}
-use Rattle.command_streams.proofs.Outcomes.{keeps}
+use Rattle.solve_command.specs.Solved.{IsNoSearch, IsSearchOf, IsSolveAnswer, IsSolved, IsSolvedFrom, IsStartedAnswer, IsUnsolved, IsUnsolvedFrom}
+use Rattle.solve_command.specs.Telling.{end_told, IsCertified, IsCertifying, IsTelling, IsTellingOf, IsToldAnswer, IsToldOf, IsUntold, IsWritingTo}
 
 -- an answer's text at the end of that answer
 at_end : (outcome : Outcome) (IsTextAt : End → List ℕ → Type 0) (IsRefusedBy : Fault → Type 0) (text : List ℕ) (old new : Option (List ℕ)) → IsTextAt (end_told outcome) text → Appends old new text → IsCommandAnswer IsTextAt IsRefusedBy old new (end_told outcome)
@@ -22,70 +29,164 @@ at_end (answer.Optimal plan ticks cert) IsTextAt IsRefusedBy text old new is app
 at_end (answer.Infeasible cert) IsTextAt IsRefusedBy text old new is appends = record { text = text; is = is; appends = appends }
 at_end (answer.Stopped why low best cert) IsTextAt IsRefusedBy text old new is appends = record { text = text; is = is; appends = appends }
 
-module _ (bytes : List ℕ) (options : Options) (until : Option ℕ) where
-  module _ (from to : Option (List ℕ)) (solved : Solved) (is : IsSolved bytes options until solved) (old : Option (List ℕ)) where
-    -- it is certified, and its text is written or the writer fails
-    told : (wanted : Bool) → IsCertified (answers.cert_of solved.outcome) from to → (new : Option (List ℕ)) (end : End)
-        → IsWritingTo (end_told solved.outcome) solved.text.items old new end → IsSolveAnswer bytes options until wanted from to old new end
-    unfolding IsSolveAnswer
-    told wanted certified new end writing =
-        let said : IsToldAnswer bytes options until wanted from to (end_told solved.outcome) solved.text.items =
-        record { solved = solved; is = is; ends = refl; text_is = refl; certified = certified } in
-        elim writing [
-          | inl whole ↦ rw whole.0 (at_end solved.outcome (IsToldAnswer bytes options until wanted from to)
-              (IsUntold bytes options until wanted from to) solved.text.items old new said whole.1)
-          | inr part ↦ rw part.0 (record { at = end_told solved.outcome; text = solved.text.items; is = said; part = part.1 })
-        ]
+-- nothing is lacking for a writer's sake, and memory may be
+record CanLack (IsLackingFor : Fault → Type 0) : Type 0 where
+  memory : IsLackingFor Memory
+  writers : (s : Sink) → IsLackingFor (Unwritten s) → ⊥
 
-    -- it isn't certified, and no text is written
-    uncertified : (fault : Fault) → IsCertifying (answers.cert_of solved.outcome) from to (Err fault)
-        → IsSolveAnswer bytes options until true from to old old (Refused fault)
-    unfolding IsSolveAnswer
-    uncertified Memory kept = ((tt, kept), keeps old)
-    uncertified (Unwritten sink.Certificate) part = (record { is_wanted = refl; solved = solved; is = is; part = part }, keeps old)
-    uncertified (Unwritten sink.Plan) never = absurd never
-    uncertified (Unwritten sink.Out) never = absurd never
-    uncertified NoMark never = absurd never
-    uncertified (LossForm k) never = absurd never
-    uncertified (InstanceText error) never = absurd never
-    uncertified (PlanText error) never = absurd never
-    uncertified (Plan fault) never = absurd never
-    uncertified (StatedDelay d) never = absurd never
-    uncertified (CertificateText error) never = absurd never
-    uncertified (Certificate fault) never = absurd never
-    uncertified TooFewNodes never = absurd never
-    uncertified (TooManySlots count) never = absurd never
-    uncertified (NoSuchProcess k) never = absurd never
-    uncertified (WrongLoss k) never = absurd never
-    uncertified (Search fault) never = absurd never
-    uncertified (Unread source) never = absurd never
-    uncertified (TooLong source) never = absurd never
+module _ (IsFoundSo : Solved → Type 0) (IsLackingFor : Fault → Type 0) (can : CanLack IsLackingFor) (wanted : Bool) (from to old new : Option (List ℕ)) where
+  -- it is certified, and its text is written or the writer fails
+  told : (solved : Solved) → IsFoundSo solved → IsCertified (answers.cert_of solved.outcome) from to → (end : End)
+      → IsWritingTo (end_told solved.outcome) solved.text.items old new end → IsToldOf IsFoundSo IsLackingFor wanted from to old new end
+  told solved is certified end writing =
+      let said : IsToldAnswer IsFoundSo IsLackingFor wanted from to (end_told solved.outcome) solved.text.items =
+      record { solved = solved; is = is; ends = refl; text_is = refl; certified = certified } in
+      elim writing [
+        | inl whole ↦ rw whole.0 (at_end solved.outcome (IsToldAnswer IsFoundSo IsLackingFor wanted from to)
+            (IsUntold IsFoundSo IsLackingFor wanted from to) solved.text.items old new said whole.1)
+        | inr part ↦ rw part.0 (record { at = end_told solved.outcome; text = solved.text.items; is = said; part = part.1 })
+      ]
 
--- so it is of what a reader gives, where it tells
-pub told_of_reader : (a : Option (List ℕ)) (options : Options) (until : Option ℕ) (wanted : Bool) (from to old : Option (List ℕ)) (solved : Solved)
-    → IfSome a (λ bytes. IsSolved bytes options until solved) → IsCertified (answers.cert_of solved.outcome) from to
-    → (new : Option (List ℕ)) (end : End) → IsWritingTo (end_told solved.outcome) solved.text.items old new end
+  -- it isn't certified, and no text is written
+  uncertified : (solved : Solved) → IsFoundSo solved → IsTrue wanted → (fault : Fault) → IsCertifying (answers.cert_of solved.outcome) from to (Err fault)
+      → Keeps old new → IsToldOf IsFoundSo IsLackingFor wanted from to old new (Refused fault)
+  uncertified solved is asked Memory kept keeps = ((can.memory, kept), keeps)
+  uncertified solved is asked (Unwritten sink.Certificate) part keeps = (record { is_wanted = asked; solved = solved; is = is; part = part }, keeps)
+  uncertified solved is asked (Unwritten sink.Plan) never keeps = absurd never
+  uncertified solved is asked (Unwritten sink.Out) never keeps = absurd never
+  uncertified solved is asked NoMark never keeps = absurd never
+  uncertified solved is asked (LossForm k) never keeps = absurd never
+  uncertified solved is asked (InstanceText error) never keeps = absurd never
+  uncertified solved is asked (PlanText error) never keeps = absurd never
+  uncertified solved is asked (Plan fault) never keeps = absurd never
+  uncertified solved is asked (StatedDelay d) never keeps = absurd never
+  uncertified solved is asked (CertificateText error) never keeps = absurd never
+  uncertified solved is asked (Certificate fault) never keeps = absurd never
+  uncertified solved is asked TooFewNodes never keeps = absurd never
+  uncertified solved is asked (TooManySlots count) never keeps = absurd never
+  uncertified solved is asked (NoSuchProcess k) never keeps = absurd never
+  uncertified solved is asked (WrongLoss k) never keeps = absurd never
+  uncertified solved is asked (Search fault) never keeps = absurd never
+  uncertified solved is asked (Unread source) never keeps = absurd never
+  uncertified solved is asked (TooLong source) never keeps = absurd never
+
+  -- there is none
+  untold : (fault : Fault) → IsLackingFor fault → Keeps from to → Keeps old new → IsToldOf IsFoundSo IsLackingFor wanted from to old new (Refused fault)
+  untold (Unwritten s) why kept keeps = absurd (can.writers s why)
+  untold Memory why kept keeps = ((why, kept), keeps)
+  untold NoMark why kept keeps = ((why, kept), keeps)
+  untold (LossForm k) why kept keeps = ((why, kept), keeps)
+  untold (InstanceText error) why kept keeps = ((why, kept), keeps)
+  untold (PlanText error) why kept keeps = ((why, kept), keeps)
+  untold (Plan fault) why kept keeps = ((why, kept), keeps)
+  untold (StatedDelay d) why kept keeps = ((why, kept), keeps)
+  untold (CertificateText error) why kept keeps = ((why, kept), keeps)
+  untold (Certificate fault) why kept keeps = ((why, kept), keeps)
+  untold TooFewNodes why kept keeps = ((why, kept), keeps)
+  untold (TooManySlots count) why kept keeps = ((why, kept), keeps)
+  untold (NoSuchProcess k) why kept keeps = ((why, kept), keeps)
+  untold (WrongLoss k) why kept keeps = ((why, kept), keeps)
+  untold (Search fault) why kept keeps = ((why, kept), keeps)
+  untold (Unread source) why kept keeps = ((why, kept), keeps)
+  untold (TooLong source) why kept keeps = ((why, kept), keeps)
+
+  found_told : (found : Result Solved Fault) → MatchResult found IsFoundSo IsLackingFor → (end : End) → IsTellingOf found wanted from to old new end
+      → IsToldOf IsFoundSo IsLackingFor wanted from to old new end
+  found_told (Err fault) why end telling = rw telling.0 (untold fault why telling.1 telling.2)
+  found_told (Ok solved) is end telling = elim telling [
+    | inl written ↦ told solved is written.0 end written.1
+    | inr failed ↦ rw failed.3 (uncertified solved is failed.1 failed.0 failed.2 failed.4)
+  ]
+
+-- so it is of what readers give, where they tell
+pub told_of_reader : (a : Option (List ℕ)) (found : Result Solved Fault) (options : Options) (until : Option ℕ) (wanted : Bool) (from to old new : Option (List ℕ)) (end : End)
+    → IfSome a (λ bytes. MatchResult found (IsSolved bytes options until) (IsUnsolved bytes)) → IsTellingOf found wanted from to old new end
     → IfSome a (λ bytes. IsSolveAnswer bytes options until wanted from to old new end)
-told_of_reader None options until wanted from to old solved is certified new end writing = tt
-told_of_reader (Some bytes) options until wanted from to old solved is certified new end writing =
-    told bytes options until from to solved is old wanted certified new end writing
+unfolding IsSolveAnswer
+told_of_reader None found options until wanted from to old new end is telling = tt
+told_of_reader (Some bytes) found options until wanted from to old new end is telling =
+    found_told (IsSolved bytes options until) (IsUnsolved bytes) (record { memory = tt; writers = λ s never. absurd never }) wanted from to old new found is end telling
 
-pub uncertified_of_reader : (a : Option (List ℕ)) (options : Options) (until : Option ℕ) (from to old : Option (List ℕ)) (solved : Solved)
-    → (fault : Fault) → IfSome a (λ bytes. IsSolved bytes options until solved) → IsCertifying (answers.cert_of solved.outcome) from to (Err fault)
-    → IfSome a (λ bytes. IsSolveAnswer bytes options until true from to old old (Refused fault))
-uncertified_of_reader None options until from to old solved fault is certifying = tt
-uncertified_of_reader (Some bytes) options until from to old solved fault is certifying = uncertified bytes options until from to solved is old fault certifying
+pub told_of_readers : (a b : Option (List ℕ)) (found : Result Solved Fault) (options : Options) (until : Option ℕ) (wanted : Bool) (from to old new : Option (List ℕ)) (end : End)
+    → IfSome a (λ bytes. IfSome b (λ plan. MatchResult found (IsSolvedFrom bytes plan options until) (IsUnsolvedFrom bytes plan)))
+    → IsTellingOf found wanted from to old new end → IfSome a (λ bytes. IfSome b (λ plan. IsStartedAnswer bytes plan options until wanted from to old new end))
+unfolding IsStartedAnswer
+told_of_readers None b found options until wanted from to old new end is telling = tt
+told_of_readers (Some bytes) None found options until wanted from to old new end is telling = tt
+told_of_readers (Some bytes) (Some plan) found options until wanted from to old new end is telling =
+    found_told (IsSolvedFrom bytes plan options until) (IsUnsolvedFrom bytes plan) (record { memory = tt; writers = λ s never. absurd never }) wanted from to old new found is end telling
 
--- an answer to the instance that a reader's bytes state, with its text
-pub solved_of_bytes : (a : Option (List ℕ)) (options : Options) (until : Option ℕ) (solved : Solved)
-    → IfSome a (λ bytes. HasInstance bytes solved.instance) → answers.IsOutcome solved.instance options solved.outcome
-    → answers.Shows solved.instance solved.outcome → IsAnswerText until solved.instance solved.outcome solved.text.items
-    → IfSome a (λ bytes. IsSolved bytes options until solved)
-solved_of_bytes None options until solved has_instance is shows tells = tt
-solved_of_bytes (Some bytes) options until solved has_instance is shows tells =
-    record { has_instance = has_instance; is_answer = is; shows = shows; tells = tells }
+-- what is found of an instance is found of the bytes that state it
+solved_bytes : (bytes : List ℕ) (i : Instance) (start : Option Table) (options : Options) (until : Option ℕ) (solved : Solved)
+    → HasInstance bytes i → IsSearchOf i start options until solved → IsSolved bytes options until solved
+solved_bytes bytes i start options until solved has_instance is = record {
+  has_instance = rw is.of has_instance;
+  is_answer = rw is.of is.is_answer;
+  shows = rw is.of is.shows;
+  tells = rw is.of is.tells;
+}
 
--- none, where memory was refused
-pub unsolved_of_bytes : (a : Option (List ℕ)) → IfSome a (λ bytes. IsUnsolved bytes Memory)
-unsolved_of_bytes None = tt
-unsolved_of_bytes (Some bytes) = tt
+unsolved_bytes : (bytes : List ℕ) (i : Instance) (fault : Fault) → HasInstance bytes i → IsNoSearch fault → IsUnsolved bytes fault
+unsolved_bytes bytes i Memory has_instance is = tt
+unsolved_bytes bytes i (Search search.Memory) has_instance is = record { problem = i; has_instance = has_instance }
+unsolved_bytes bytes i (Search search.Thread) has_instance is = record { problem = i; has_instance = has_instance }
+unsolved_bytes bytes i (Unwritten s) has_instance is = absurd is
+unsolved_bytes bytes i NoMark has_instance is = absurd is
+unsolved_bytes bytes i (LossForm k) has_instance is = absurd is
+unsolved_bytes bytes i (InstanceText error) has_instance is = absurd is
+unsolved_bytes bytes i (PlanText error) has_instance is = absurd is
+unsolved_bytes bytes i (Plan fault) has_instance is = absurd is
+unsolved_bytes bytes i (StatedDelay d) has_instance is = absurd is
+unsolved_bytes bytes i (CertificateText error) has_instance is = absurd is
+unsolved_bytes bytes i (Certificate fault) has_instance is = absurd is
+unsolved_bytes bytes i TooFewNodes has_instance is = absurd is
+unsolved_bytes bytes i (TooManySlots count) has_instance is = absurd is
+unsolved_bytes bytes i (NoSuchProcess k) has_instance is = absurd is
+unsolved_bytes bytes i (WrongLoss k) has_instance is = absurd is
+unsolved_bytes bytes i (Unread source) has_instance is = absurd is
+unsolved_bytes bytes i (TooLong source) has_instance is = absurd is
+
+pub solved_of_bytes : (a : Option (List ℕ)) (i : Instance) (start : Option Table) (options : Options) (until : Option ℕ) (found : Result Solved Fault)
+    → IfSome a (λ bytes. HasInstance bytes i) → MatchResult found (IsSearchOf i start options until) IsNoSearch
+    → IfSome a (λ bytes. MatchResult found (IsSolved bytes options until) (IsUnsolved bytes))
+solved_of_bytes None i start options until found has_instance is = tt
+solved_of_bytes (Some bytes) i start options until (Ok solved) has_instance is = solved_bytes bytes i start options until solved has_instance is
+solved_of_bytes (Some bytes) i start options until (Err fault) has_instance is = unsolved_bytes bytes i fault has_instance is
+
+-- and where it began with a plan, of the bytes that spell that one
+solved_texts : (bytes plan : List ℕ) (v : Verified) (options : Options) (until : Option ℕ) (solved : Solved)
+    → IsVerified bytes plan v → IsSearchOf v.instance (Some v.plan) options until solved → IsSolvedFrom bytes plan options until solved
+solved_texts bytes plan v options until solved verified is = record {
+  is = solved_bytes bytes v.instance (Some v.plan) options until solved verified.has_instance is;
+  first = v.plan;
+  ticks = v.delay;
+  begins = rw is.of verified.has_plan;
+  no_later = rw (is.of, ← verified.has_plan.has_delay) is.no_later;
+}
+
+unsolved_texts : (bytes plan : List ℕ) (v : Verified) (fault : Fault) → IsVerified bytes plan v → IsNoSearch fault → IsUnsolvedFrom bytes plan fault
+unsolved_texts bytes plan v Memory verified is = tt
+unsolved_texts bytes plan v (Search fault) verified is = record { verified = v; is = verified }
+unsolved_texts bytes plan v (Unwritten s) verified is = absurd is
+unsolved_texts bytes plan v NoMark verified is = absurd is
+unsolved_texts bytes plan v (LossForm k) verified is = absurd is
+unsolved_texts bytes plan v (InstanceText error) verified is = absurd is
+unsolved_texts bytes plan v (PlanText error) verified is = absurd is
+unsolved_texts bytes plan v (Plan fault) verified is = absurd is
+unsolved_texts bytes plan v (StatedDelay d) verified is = absurd is
+unsolved_texts bytes plan v (CertificateText error) verified is = absurd is
+unsolved_texts bytes plan v (Certificate fault) verified is = absurd is
+unsolved_texts bytes plan v TooFewNodes verified is = absurd is
+unsolved_texts bytes plan v (TooManySlots count) verified is = absurd is
+unsolved_texts bytes plan v (NoSuchProcess k) verified is = absurd is
+unsolved_texts bytes plan v (WrongLoss k) verified is = absurd is
+unsolved_texts bytes plan v (Unread source) verified is = absurd is
+unsolved_texts bytes plan v (TooLong source) verified is = absurd is
+
+pub solved_of_texts : (a b : Option (List ℕ)) (v : Verified) (options : Options) (until : Option ℕ) (found : Result Solved Fault)
+    → IfSome a (λ bytes. IfSome b (λ plan. IsVerified bytes plan v)) → MatchResult found (IsSearchOf v.instance (Some v.plan) options until) IsNoSearch
+    → IfSome a (λ bytes. IfSome b (λ plan. MatchResult found (IsSolvedFrom bytes plan options until) (IsUnsolvedFrom bytes plan)))
+solved_of_texts None b v options until found verified is = tt
+solved_of_texts (Some bytes) None v options until found verified is = tt
+solved_of_texts (Some bytes) (Some plan) v options until (Ok solved) verified is = solved_texts bytes plan v options until solved verified is
+solved_of_texts (Some bytes) (Some plan) v options until (Err fault) verified is = unsolved_texts bytes plan v fault verified is

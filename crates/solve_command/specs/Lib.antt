@@ -1,2 +1,3 @@
 pub mod Kept
+pub mod Telling
 pub mod Solved

@@ -1,14 +1,10 @@
--- What the bytes of an instance are answered by a search, and what `solve` writes of the answer.
+-- What the bytes of an instance, and of a plan to begin with, are answered by a search, and what `solve` writes of the answer.
 use Rattle.std.specs.Prelude.{◌≡◌, ℕ, ◌<◌, ◌≤◌, List, [], ◌∷◌, ◌++◌, length, codes, decimal, nat_le}
-use Rattle.std.specs.Prelude.{◌⊎◌, Bool, true, false, IsTrue, Option, None, Some, IfSome, Result, Ok, Err}
-use Rattle.std.proofs.Common.{inl, inr}
-use Rattle.std.specs.Borrow.{MutBor}
-use Rattle.std.specs.Io.KnownBytes.{Appends, Keeps}
+use Rattle.std.specs.Prelude.{Bool, true, false, Option, None, Some, IfSome}
 use Rattle.ttp_model.specs.declared.plan.Plan.{Plan as Table}
 use Rattle.ttp_model.specs.Instance.{Instance}
+use Rattle.ttp_model.specs.Delays.{delay}
 use Rattle.plan_format.specs.Spelling as plan_text
-use Rattle.certificate.specs.Cert.{Cert}
-use Rattle.certificate.specs.Spelling as certificate_text
 use Rattle.planner.specs.outcome.Options.{Options}
 use Rattle.planner.specs.outcome.Outcome.{Outcome}
 use Rattle.planner.specs.outcome.Outcome.TheVariants as answer
@@ -18,24 +14,18 @@ use Rattle.planner.specs.outcome.SolveFault.{SolveFault}
 use Rattle.planner.specs.outcome.SolveFault.TheVariants as solving
 use Rattle.planner.specs.Answers as answers
 use Rattle.solve_command.specs.declared.solve.Solved.{Solved}
+use Rattle.search_turns.specs.Searching.{limit_of}
+use Rattle.plan_commands.specs.declared.verdict.Verified.{Verified}
+use Rattle.plan_commands.specs.Verdicts.{HasValidPlan, IsRefused, IsVerified}
 use Rattle.command_streams.specs.declared.ending.Source.TheVariants as source
-use Rattle.command_streams.specs.declared.ending.Sink.TheVariants as sink
 use Rattle.command_streams.specs.declared.ending.SearchFault.{SearchFault}
 use Rattle.command_streams.specs.declared.ending.SearchFault.TheVariants as search
 use Rattle.command_streams.specs.declared.ending.Fault.{Fault}
-use Rattle.command_streams.specs.declared.ending.Fault.TheVariants.{InstanceText, Memory, Search, TooLong, Unread, Unwritten}
+use Rattle.command_streams.specs.declared.ending.Fault.TheVariants.{InstanceText, Memory, Search, TooLong, Unread}
 use Rattle.command_streams.specs.declared.ending.End.{End}
-use Rattle.command_streams.specs.declared.ending.End.TheVariants.{Done, Absent, Stopped, Refused}
 use Rattle.command_streams.specs.Limits.{instance_limit}
-use Rattle.command_streams.specs.Streams.{AppendsPart}
-use Rattle.command_streams.specs.Outcomes.{IsCommandAnswer, IsWritten}
 use Rattle.command_streams.specs.Instances.{HasInstance, IsInstanceFault, StatesSome}
-
--- the end at which each answer is told
-abbrev pub end_told : Outcome → End
-end_told (answer.Optimal plan ticks cert) = Done
-end_told (answer.Infeasible cert) = Absent
-end_told (answer.Stopped why low best cert) = Stopped
+use Rattle.solve_command.specs.Telling.{IsToldOf}
 
 -- what each fault of a search is told as
 abbrev pub fault_of : SolveFault → SearchFault
@@ -83,6 +73,20 @@ IsAnswerText until i (answer.Optimal plan ticks cert) text = plan_text.SpellsPla
 IsAnswerText until i (answer.Infeasible cert) text = text ≡ codes "none\n"
 IsAnswerText until i (answer.Stopped why low best cert) text = IsStoppedText until i why low best text
 
+-- an answer to this instance with its text; it has a plan that takes no longer than the one that the search began with, where there is one
+pub record IsSearchOf (i : Instance) (start : Option Table) (options : Options) (until : Option ℕ) (solved : Solved) : Type 0 where
+  pub of : solved.instance ≡ i
+  pub is_answer : answers.IsOutcome i options solved.outcome
+  pub shows : answers.Shows i solved.outcome
+  pub tells : IsAnswerText until i solved.outcome solved.text.items
+  pub no_later : IfSome start (λ plan. limit_of i (answers.best_of solved.outcome) ≤ delay i plan)
+
+-- why there is none: there was no memory, or no thread
+abbrev pub IsNoSearch : Fault → Type 0
+IsNoSearch Memory = Unit {0}
+IsNoSearch (Search fault) = Unit {0}
+IsNoSearch _ = ⊥
+
 -- the bytes state the instance, and this is an answer to it with its text
 pub record IsSolved (bytes : List ℕ) (options : Options) (until : Option ℕ) (solved : Solved) : Type 0 where
   pub has_instance : HasInstance bytes solved.instance
@@ -100,62 +104,28 @@ IsUnsolved bytes (Search search.Memory) = StatesSome bytes
 IsUnsolved bytes (Search search.Thread) = StatesSome bytes
 IsUnsolved bytes _ = ⊥
 
--- how the writing of a text ends a command: at its own end, or the writer failed and gained a prefix
-abbrev pub IsWritingTo : End → List ℕ → Option (List ℕ) → Option (List ℕ) → End → Type 0
-IsWritingTo last text old new end =
-    ((end ≡ last) × Appends old new text) ⊎ ((end ≡ Refused (Unwritten sink.Out)) × AppendsPart old new text)
+-- the same of a search that begins with the valid plan that other bytes spell: the answer has a plan that takes no longer
+pub record IsSolvedFrom (bytes plan : List ℕ) (options : Options) (until : Option ℕ) (solved : Solved) : Type 0 where
+  pub is : IsSolved bytes options until solved
+  pub first : Table
+  pub ticks : ℕ
+  pub begins : HasValidPlan solved.instance plan first ticks
+  pub no_later : limit_of solved.instance (answers.best_of solved.outcome) ≤ ticks
 
--- the writer gained a prefix of the certificate's text
-pub record IsCertificatePart (cert : Cert) (old new : Option (List ℕ)) : Type 0 where
-  pub text : List ℕ
-  pub spelled : certificate_text.SpellsCert text cert
-  pub part : AppendsPart old new text
+-- the bytes of an instance, and of a plan that is valid for it and states its own delay
+pub record AreVerified (instance plan : List ℕ) : Type 0 where
+  pub verified : Verified
+  pub is : IsVerified instance plan verified
 
--- a writer that tells its bytes gained the certificate's text
-abbrev pub IsCertified : Cert → Option (List ℕ) → Option (List ℕ) → Type 0
-IsCertified cert old new = IfSome old (λ before. IsWritten (λ text. certificate_text.SpellsCert text cert) old new)
+-- why these have no answer: `verify` refuses them too, or there was no memory or no thread for a search
+abbrev pub IsUnsolvedFrom : List ℕ → List ℕ → Fault → Type 0
+IsUnsolvedFrom instance plan (Search fault) = AreVerified instance plan
+IsUnsolvedFrom instance plan fault = IsRefused instance plan fault
 
--- how the writing of a certificate ends: the writer gained its text, or a prefix where it failed, or nothing where
--- memory was refused
-abbrev pub IsCertifying : Cert → Option (List ℕ) → Option (List ℕ) → Result Unit Fault → Type 0
-IsCertifying cert old new (Ok done) = IsCertified cert old new
-IsCertifying cert old new (Err Memory) = Keeps old new
-IsCertifying cert old new (Err (Unwritten sink.Certificate)) = IsCertificatePart cert old new
-IsCertifying cert old new (Err _) = ⊥
+-- what `solve` answers of the bytes of an instance, and what it writes; a plan of at most `until` is asked for, if any
+unfoldable pub IsSolveAnswer : (bytes : List ℕ) (options : Options) (until : Option ℕ) (wanted : Bool) (from to old new : Option (List ℕ)) → End → Type 0
+IsSolveAnswer bytes options until = IsToldOf (IsSolved bytes options until) (IsUnsolved bytes)
 
--- a plan of at most `until` is asked for, if any; `wanted` says whether there is a writer for the certificate; `from` and `to` are what it held and holds
-module _ (bytes : List ℕ) (options : Options) (until : Option ℕ) (wanted : Bool) (from to : Option (List ℕ)) where
-  -- an answer that is told by this text at this end, and whose certificate was written in full
-  pub record IsToldAnswer (end : End) (text : List ℕ) : Type 0 where
-    pub solved : Solved
-    pub is : IsSolved bytes options until solved
-    pub ends : end ≡ end_told solved.outcome
-    pub text_is : text ≡ solved.text.items
-    pub certified : IsCertified (answers.cert_of solved.outcome) from to
-
-  -- an answer whose certificate was wanted, and could only be written in part
-  pub record IsHalfCertified : Type 0 where
-    pub is_wanted : IsTrue wanted
-    pub solved : Solved
-    pub is : IsSolved bytes options until solved
-    pub part : IsCertificatePart (answers.cert_of solved.outcome) from to
-
-  -- why nothing is told: the certificate's writer failed, or there is no answer and the writer keeps what it held
-  abbrev pub IsUntold : Fault → Type 0
-  IsUntold (Unwritten sink.Certificate) = IsHalfCertified
-  IsUntold fault = IsUnsolved bytes fault × Keeps from to
-
-  -- what `solve` answers of the bytes of an instance, and what it writes: the certificate, and then the answer's text
-  unfoldable pub IsSolveAnswer : Option (List ℕ) → Option (List ℕ) → End → Type 0
-  IsSolveAnswer = IsCommandAnswer IsToldAnswer IsUntold
-
--- what the certificate's writer holds, where there is one
-abbrev pub held : {C : Type 0} → (C → Option (List ℕ)) → Option (MutBor C) → Option (List ℕ)
-held contents None = None
-held contents (Some writer) = contents writer.now
-
--- and what it holds as it is left
-abbrev pub left : {C : Type 0} → (C → Option (List ℕ)) → Unit {0} ⊎ ((MutBor C × Unit {0}) ⊎ ⊥) → Option (List ℕ)
-left contents (inl none) = None
-left contents (inr (inl writer)) = contents writer.0.now
-left contents (inr (inr never)) = absurd never
+-- what it answers where it begins with the plan that other bytes spell
+unfoldable pub IsStartedAnswer : (bytes plan : List ℕ) (options : Options) (until : Option ℕ) (wanted : Bool) (from to old new : Option (List ℕ)) → End → Type 0
+IsStartedAnswer bytes plan options until = IsToldOf (IsSolvedFrom bytes plan options until) (IsUnsolvedFrom bytes plan)

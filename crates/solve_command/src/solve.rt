@@ -1,17 +1,22 @@
 //! What `solve` says of an instance, and the certificate that shows it.
 
-ghost use Rattle.std.specs.Prelude.{◌≡◌, ◌+◌, None, true, false, is_some, string_bytes, IfErr, IfOk, IfSome, MatchResult};
+ghost use Rattle.std.specs.Prelude.{◌≡◌, ◌≤◌, ◌+◌, None, true, false, is_some, string_bytes, IfOk, IfSome, MatchResult};
+ghost use Rattle.ttp_model.specs.Delays.{delay};
+ghost use Rattle.ttp_model.specs.Plans.{IsValid};
 ghost use Rattle.certificate.specs.Versions.{Allows};
-ghost use Rattle.command_streams.specs.Limits.{instance_limit};
+ghost use Rattle.command_streams.specs.Limits.{instance_limit, plan_limit};
 ghost use Rattle.command_streams.specs.Streams.{TakesAtMost};
-ghost use Rattle.planner.specs.Answers.{cert_of, IsBestPlan, IsOutcome, Shows};
-ghost use Rattle.solve_command.specs.Solved.{best_word, end_told, fault_of, held, left, stopped_line, why_word, IsAnswerText, IsCertifying, IsSolveAnswer, IsSolved, IsStoppedText, IsUnsolved, IsWritingTo};
+ghost use Rattle.search_turns.specs.Searching.{limit_of};
+ghost use Rattle.planner.specs.Answers.{best_of, cert_of, IsBestPlan, IsOutcome, Shows};
+ghost use Rattle.solve_command.specs.Solved.{best_word, fault_of, stopped_line, why_word, IsAnswerText, IsNoSearch, IsSearchOf, IsSolveAnswer, IsSolved, IsSolvedFrom, IsStartedAnswer, IsStoppedText, IsUnsolved, IsUnsolvedFrom};
+ghost use Rattle.solve_command.specs.Telling.{end_told, held, left, IsCertifying, IsTellingOf, IsWritingTo};
 
 use crate::patience::is_enough;
 use crate::progress::Follower;
 use certificate::Cert;
 use command_streams::{End, Fault, SearchFault, Sink, read_instance, write_text};
-use planner::{FreeGate, Options, Outcome, SolveFault, Why, solve_with};
+use plan_commands::{Verified, verified_of_readers};
+use planner::{FreeGate, Options, Outcome, SolveFault, Why, solve_towards};
 use std::alloc::{AllocError, Global};
 use std::fmt;
 use std::io::{Read, Write};
@@ -161,24 +166,57 @@ fn fault_of(fault: SolveFault) -> SearchFault
     }
 }
 
-/// Searches an instance, and tells a follower of it.
+/// Searches an instance from a plan, where one is given, and tells a follower of it.
 fn searched<R: Threads + Wait + Sync, G: Follower + Sync>(
     rt: &R,
     alloc: Global,
     instance: &Instance,
+    start: Option<Plan>,
     options: Options,
     follower: &G,
 ) -> Result<Outcome, SolveFault>
+    requires { IfSome start (IsValid instance.now) }
     ensures answer { IfOk result (IsOutcome instance.now options) }
     ensures shows { IfOk result (Shows instance.now) }
+    ensures start { IfOk result (λ outcome. IfSome start (λ plan. limit_of instance.now (best_of outcome) ≤ delay instance.now plan)) }
 {
     follower.begin(alloc, instance);
-    let searched = solve_with(rt, alloc, instance, options, follower);
+    let searched = solve_towards(rt, alloc, instance, options, start, follower);
     follower.end();
     searched
 }
 
-/// Searches the instance that a reader's bytes state, and makes the answer's text.
+/// Searches an instance from a plan, where one is given, and makes the answer's text.
+fn solved_instance<R: Threads + Wait + Sync, G: Follower + Sync>(
+    rt: &R,
+    alloc: Global,
+    instance: Instance,
+    start: Option<Plan>,
+    options: Options,
+    until: Option<u32>,
+    follower: &G,
+) -> Result<Solved, Fault>
+    requires { IfSome start (IsValid instance) }
+    ensures found { MatchResult result (IsSearchOf instance start options until) IsNoSearch }
+    ensures printable { IfOk result (λ solved.
+        Allows (cert_of solved.outcome).version (cert_of solved.outcome).tree) }
+{
+    let _nodes = instance.nodes();
+    let outcome = match searched(rt, alloc, &instance, start, options, follower) {
+        Ok(outcome) => outcome,
+        Err(fault) => return Err(Fault::Search(fault_of(fault))),
+    };
+    match answer_text(alloc, until, &instance, &outcome) {
+        Ok(text) => Ok(Solved {
+            instance,
+            outcome,
+            text,
+        }),
+        Err(_) => Err(Fault::Memory),
+    }
+}
+
+/// Searches the instance that a reader's bytes state.
 fn solved_of_reader<R: Threads + Wait + Sync, G: Follower + Sync, I: Read>(
     rt: &R,
     alloc: Global,
@@ -195,19 +233,29 @@ fn solved_of_reader<R: Threads + Wait + Sync, G: Follower + Sync, I: Read>(
     ensures most { TakesAtMost (instance_limit + 1) (I.remaining instance.old) (I.remaining instance.new) }
 {
     let instance = read_instance(alloc, instance)?;
-    let _nodes = instance.nodes();
-    let outcome = match searched(rt, alloc, &instance, options, follower) {
-        Ok(outcome) => outcome,
-        Err(fault) => return Err(Fault::Search(fault_of(fault))),
-    };
-    match answer_text(alloc, until, &instance, &outcome) {
-        Ok(text) => Ok(Solved {
-            instance,
-            outcome,
-            text,
-        }),
-        Err(_) => Err(Fault::Memory),
-    }
+    solved_instance(rt, alloc, instance, None, options, until, follower)
+}
+
+/// Searches the instance that a reader's bytes state, from the valid plan that another's spell.
+fn solved_of_readers<R: Threads + Wait + Sync, G: Follower + Sync, I: Read, P: Read>(
+    rt: &R,
+    alloc: Global,
+    instance: &mut I,
+    start: &mut P,
+    options: Options,
+    until: Option<u32>,
+    follower: &G,
+) -> Result<Solved, Fault>
+    ensures judged { IfSome (I.remaining instance.old) (λ bytes. IfSome (P.remaining start.old) (λ plan. MatchResult result
+        (IsSolvedFrom bytes plan options until)
+        (IsUnsolvedFrom bytes plan))) }
+    ensures printable { IfOk result (λ solved.
+        Allows (cert_of solved.outcome).version (cert_of solved.outcome).tree) }
+    ensures instance { TakesAtMost (instance_limit + 1) (I.remaining instance.old) (I.remaining instance.new) }
+    ensures plan { TakesAtMost (plan_limit + 1) (P.remaining start.old) (P.remaining start.new) }
+{
+    let Verified { instance, plan, .. } = verified_of_readers(alloc, instance, start)?;
+    solved_instance(rt, alloc, instance, Some(plan), options, until, follower)
 }
 
 /// Writes a certificate whose version allows all its lines.
@@ -235,45 +283,28 @@ fn write_answer<W: Write>(solved: &Solved, out: &mut W) -> End
     }
 }
 
-/// `solve_run` where no certificate is asked for.
-#[tactic(auto, unfolding(crate::specs::Solved::IsSolveAnswer))]
-fn solve_alone<R: Threads + Wait + Sync, G: Follower + Sync, I: Read, W: Write>(
-    rt: &R,
-    alloc: Global,
-    instance: &mut I,
-    options: Options,
-    until: Option<u32>,
-    follower: &G,
-    out: &mut W,
-) -> End
-    ensures answer { IfSome (I.remaining instance.old) (λ bytes.
-        IsSolveAnswer bytes options until false None None (W.contents out.old) (W.contents out.new) result) }
-    ensures most { TakesAtMost (instance_limit + 1) (I.remaining instance.old) (I.remaining instance.new) }
+/// Writes what was found, where no certificate is asked for.
+fn tell<W: Write>(found: Result<Solved, Fault>, out: &mut W) -> End
+    ensures { IsTellingOf found false None None (W.contents out.old) (W.contents out.new) result }
 {
-    match solved_of_reader(rt, alloc, instance, options, until, follower) {
+    match found {
         Ok(solved) => write_answer(&solved, out),
         Err(fault) => End::Refused(fault),
     }
 }
 
-/// `solve_run` with a writer for the certificate.
-#[tactic(auto, unfolding(crate::specs::Solved::IsSolveAnswer))]
-fn solve_certified<R: Threads + Wait + Sync, G: Follower + Sync, I: Read, C: Write, W: Write>(
-    rt: &R,
+/// Writes what was found behind its certificate.
+fn tell_certified<C: Write, W: Write>(
     alloc: Global,
-    instance: &mut I,
-    options: Options,
-    until: Option<u32>,
-    follower: &G,
+    found: Result<Solved, Fault>,
     certificate: &mut C,
     out: &mut W,
 ) -> End
-    ensures answer { IfSome (I.remaining instance.old) (λ bytes.
-        IsSolveAnswer bytes options until true (C.contents certificate.old) (C.contents certificate.new)
-        (W.contents out.old) (W.contents out.new) result) }
-    ensures most { TakesAtMost (instance_limit + 1) (I.remaining instance.old) (I.remaining instance.new) }
+    requires { IfOk found (λ solved. Allows (cert_of solved.outcome).version (cert_of solved.outcome).tree) }
+    ensures { IsTellingOf found true (C.contents certificate.old) (C.contents certificate.new)
+        (W.contents out.old) (W.contents out.new) result }
 {
-    let solved = match solved_of_reader(rt, alloc, instance, options, until, follower) {
+    let solved = match found {
         Ok(solved) => solved,
         Err(fault) => return End::Refused(fault),
     };
@@ -301,11 +332,44 @@ pub fn solve_run_with<R: Threads + Wait + Sync, G: Follower + Sync, I: Read, C: 
         (W.contents out.old) (W.contents out.new) result) }
     ensures most { TakesAtMost (instance_limit + 1) (I.remaining instance.old) (I.remaining instance.new) }
 {
+    let found = solved_of_reader(rt, alloc, instance, options, until, follower);
     match certificate {
-        None => solve_alone(rt, alloc, instance, options, until, follower, out),
-        Some(writer) => {
-            solve_certified(rt, alloc, instance, options, until, follower, writer, out)
-        }
+        None => tell(found, out),
+        Some(writer) => tell_certified(alloc, found, writer, out),
+    }
+}
+
+/// Searches and writes as `solve_run_with` does, and begins with a plan: that is read behind the instance, and refused as by `verify`. The plan
+/// that is answered takes no longer.
+pub fn solve_run_from<
+    R: Threads + Wait + Sync,
+    G: Follower + Sync,
+    I: Read,
+    P: Read,
+    C: Write,
+    W: Write,
+>(
+    rt: &R,
+    alloc: Global,
+    instance: &mut I,
+    start: &mut P,
+    options: Options,
+    until: Option<u32>,
+    follower: &G,
+    certificate: Option<&mut C>,
+    out: &mut W,
+) -> End
+    ensures answer { IfSome (I.remaining instance.old) (λ bytes. IfSome (P.remaining start.old) (λ plan.
+        IsStartedAnswer bytes plan options until (is_some certificate.entry)
+        (held C.contents certificate.entry) (left C.contents certificate.exit)
+        (W.contents out.old) (W.contents out.new) result)) }
+    ensures instance { TakesAtMost (instance_limit + 1) (I.remaining instance.old) (I.remaining instance.new) }
+    ensures plan { TakesAtMost (plan_limit + 1) (P.remaining start.old) (P.remaining start.new) }
+{
+    let found = solved_of_readers(rt, alloc, instance, start, options, until, follower);
+    match certificate {
+        None => tell(found, out),
+        Some(writer) => tell_certified(alloc, found, writer, out),
     }
 }
 
@@ -330,10 +394,9 @@ pub fn solve_run<R: Threads + Wait + Sync, I: Read, C: Write, W: Write>(
     // No more is taken of the reader than its limit and one byte.
     ensures most { TakesAtMost (instance_limit + 1) (I.remaining instance.old) (I.remaining instance.new) }
 {
+    let found = solved_of_reader(rt, alloc, instance, options, None, &FreeGate);
     match certificate {
-        None => solve_alone(rt, alloc, instance, options, None, &FreeGate, out),
-        Some(writer) => {
-            solve_certified(rt, alloc, instance, options, None, &FreeGate, writer, out)
-        }
+        None => tell(found, out),
+        Some(writer) => tell_certified(alloc, found, writer, out),
     }
 }

@@ -14,7 +14,8 @@ pub use plan_commands::{
     check_run, draw_run, judge_run, replay_run, schedule_run, tables, verify, verify_bundle,
 };
 use solve_command::{
-    Follower, FreeGate, Keeper, Patience, Patient, Progress, kept_end, solve_run_with,
+    Follower, FreeGate, Keeper, Patience, Patient, Progress, kept_end, solve_run_from,
+    solve_run_with,
 };
 pub use solve_command::{Options, solve_run};
 use std::alloc::AllocError;
@@ -168,17 +169,31 @@ fn create_certificate(rt: &HostRuntime, name: Option<&str>) -> Result<Option<Fil
 #[derive(Drop)]
 struct Files {
     instance: File,
+    start: Option<File>,
     certificate: Option<File>,
 }
 
-/// The files of a search: that of the instance is opened first, and then that of the certificate.
+/// The file of the plan with which a search begins, where one is named.
+fn open_start(rt: &HostRuntime, name: Option<&str>) -> Result<Option<File>, Fault> {
+    match name {
+        None => Ok(None),
+        Some(name) => match File::open(rt, name) {
+            Ok(file) => Ok(Some(file)),
+            Err(_) => Err(Fault::Unread(Source::Plan)),
+        },
+    }
+}
+
+/// The files of a search: that of the instance is opened first, then that of the plan to begin with, and then that of the certificate.
 fn open_files(rt: &HostRuntime, search: &Search) -> Result<Files, Fault> {
     let Ok(instance) = File::open(rt, search.instance) else {
         return Err(Fault::Unread(Source::Instance));
     };
+    let start = open_start(rt, search.start)?;
     let certificate = create_certificate(rt, search.certificate)?;
     Ok(Files {
         instance,
+        start,
         certificate,
     })
 }
@@ -222,7 +237,7 @@ fn search_keeping(
     kept_end(end, has_failed)
 }
 
-/// Searches the instance of a file, and tells a follower how the search goes on.
+/// Searches the instance of a file, from the plan of another where there is one, and tells a follower how the search goes on.
 fn search_files(
     rt: &HostRuntime,
     threads: &(impl Threads + Wait + Sync),
@@ -232,6 +247,7 @@ fn search_files(
 ) -> End {
     let Files {
         mut instance,
+        start,
         mut certificate,
     } = files;
     let options = Options {
@@ -243,16 +259,31 @@ fn search_files(
         seconds: search.seconds,
     };
     let patient = Patient::beside(follower, rt, patience);
-    solve_run_with(
-        threads,
-        rt.alloc(),
-        &mut instance,
-        options,
-        patience.until,
-        &patient,
-        certificate.as_mut(),
-        &mut rt.stdout(),
-    )
+    let certificate = certificate.as_mut();
+    let out = &mut rt.stdout();
+    match start {
+        None => solve_run_with(
+            threads,
+            rt.alloc(),
+            &mut instance,
+            options,
+            patience.until,
+            &patient,
+            certificate,
+            out,
+        ),
+        Some(mut plan) => solve_run_from(
+            threads,
+            rt.alloc(),
+            &mut instance,
+            &mut plan,
+            options,
+            patience.until,
+            &patient,
+            certificate,
+            out,
+        ),
+    }
 }
 
 /// Does what is asked for. A search starts threads and waits for them, and so does the check of a certificate.
@@ -287,7 +318,7 @@ fn run(rt: &HostRuntime, threads: &(impl Threads + Wait + Sync), request: Reques
 /// Whether a search keeps its best plan, or what is to take its place, in a file that another of its words names.
 fn keeps_over_another(rt: &HostRuntime, search: &Search, kept: &str) -> Result<bool, AllocError> {
     let next = name_beside(rt, kept)?;
-    let others = [Some(search.instance), search.certificate];
+    let others = [Some(search.instance), search.start, search.certificate];
     for other in others.into_iter().flatten() {
         if name_one_file(rt, kept, other) || name_one_file(rt, next.as_str(), other) {
             return Ok(true);

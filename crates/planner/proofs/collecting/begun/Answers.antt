@@ -4,8 +4,8 @@ use Rattle.search_turns.specs.Searching.{IsFound}
 use Rattle.planner.specs.Crew.{told}
 use Rattle.planner.proofs.collecting.begun.Goals as goal
 
-pub returns : goal.returns
-returns g c =
+pub returns-clause-nobody : goal.returns-clause-nobody
+returns-clause-nobody g c =
     let first = c.args.first in
     let crew = c.in_ok-crew.ensures in
     record {

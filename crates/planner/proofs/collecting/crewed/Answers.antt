@@ -43,3 +43,7 @@ returns-clause-ended g c =
       takes = ap all_taken dealt.hands ∙ c.in_ok-hands.ensures.taken;
       top = nobody.top;
     }
+
+pub returns-clause-no_later : goal.returns-clause-no_later
+returns-clause-no_later g c =
+    (c.in_ok-add_all.ensures.no_later c.in_ok-jobs.jobs.items c.requires.instance c.requires.nobody.found c.in_ok-reports.ensures.reports).limit

@@ -1,6 +1,7 @@
-use Rattle.std.proofs.Common.{arith, ◌≡◌, length, subst}
+use Rattle.std.proofs.Common.{arith, ◌≡◌, ◌≤◌, length, ap, sym, subst}
 use Rattle.ttp_model.specs.Instance.{Instance}
 use Rattle.ttp_model.specs.Rules.{IsInstance}
+use Rattle.search_turns.specs.Searching.{limit_of}
 use Rattle.planner.specs.Crew.{IsNobody}
 use Rattle.planner.proofs.collecting.searched.Goals as goal
 
@@ -8,9 +9,17 @@ pub crewed-requires-clause-instance : goal.crewed-requires-clause-instance
 crewed-requires-clause-instance g c κs within = subst IsInstance c.requires.of c.nodes-nodes.ensures.instance
 
 pub crewed-requires-clause-nobody : goal.crewed-requires-clause-nobody
-crewed-requires-clause-nobody g c κs within = subst (λ (i : Instance). IsNobody i c.in_ok-word.word c.in_ok-word.crew) c.requires.of c.in_ok-word.ensures
+crewed-requires-clause-nobody g c κs within = subst (λ (i : Instance). IsNobody i c.in_ok-word.word c.in_ok-word.crew) c.requires.of c.in_ok-word.ensures.nobody
 
 pub returns-clause-within : goal.returns-clause-within
 returns-clause-within g c =
     let same : length c.in_ok-search.search.pieces.items ≡ length c.crewed.new.crew.pieces.items = λ k. length (c.in_ok-search.ensures.same k).items in
     omega (arith, same, c.in_ok-crewed.ensures.within)
+
+pub returns-clause-no_later : goal.returns-clause-no_later
+returns-clause-no_later g c =
+    let i = c.args.instance.now in
+    let began = ap (limit_of i) c.in_ok-word.ensures.best in
+    let ended = ap (limit_of i) c.in_ok-search.ensures.best in
+    let crewed = subst (λ (x : Instance). limit_of x c.crewed.new.crew.best ≤ limit_of x c.in_ok-word.crew.best) (sym c.requires.of) c.in_ok-crewed.ensures.no_later in
+    omega (arith, began, ended, crewed)

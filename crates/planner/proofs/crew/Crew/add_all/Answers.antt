@@ -12,6 +12,7 @@ loop-report-init g c = record {
   opening = c.requires.opening;
   gathers = λ count jobs w are each gathers. subst (λ (js : List (Job g.row.J.Denot)). Gathers g.J.Searched.instance c.args.word.now count (hands_of js) c.args.self.now) (sym (no_jobs g.J.Searched.instance jobs each)) gathers;
   within = λ jobs each. omega arith;
+  no_later = λ jobs w found each. record { found = found; limit = omega arith };
 }
 
 pub loop-report-preserved : goal.loop-report-preserved
@@ -34,4 +35,9 @@ loop-report-preserved g c =
           let last = last_report i jobs done report each in
           let sum = ap budget_of last.is ∙ sum_by_push (λ (job : Job g.row.J.Denot). job.budget) last.front last.job in
           omega (arith, sum, inv.within last.front last.each, c.in_ok-add.ensures.more, last.last.within);
+      no_later = λ jobs w found each.
+          let last = last_report i jobs done report each in
+          let before = inv.no_later last.front w found last.each in
+          let after = c.in_ok-add.ensures.no_later last.job w before.found last.last in
+          record { found = after.found; limit = omega (arith, after.limit, before.limit) };
     }

@@ -116,3 +116,11 @@ found-requires g c =
     let find : IsFind i (choice_of i t) c.limit-goal.result c.in-Ok-Found.plan c.in-Ok-Found.delay c.in-Ok-Found.leaf =
     subst (IsWorked i t c.limit-goal.result) c.in-Ok-Found.field-0-is c.in-Ok-Found.ensures.worked in
     record { settled = find.settled; delay_is = find.delay_is }
+
+pub returns-in-Ok-Found-clause-no_later : goal.returns-in-Ok-Found-clause-no_later
+returns-in-Ok-Found-clause-no_later g c =
+    let i = c.args.instance.now in
+    let find : IsFind i (choice_of i c.in-Some.task) c.limit-goal.result c.in-Ok-Found.plan c.in-Ok-Found.delay c.in-Ok-Found.leaf =
+    subst (IsWorked i c.in-Some.task c.limit-goal.result) c.in-Ok-Found.field-0-is c.in-Ok-Found.ensures.worked in
+    let same = ap (limit_of i) c.make_room.ensures.best in
+    omega (arith, find.no_later, find.below, c.limit-goal.ensures, same)

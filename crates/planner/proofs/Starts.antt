@@ -1,0 +1,33 @@
+-- What an answer has of the plan that a search begins with.
+use Rattle.std.proofs.Common.{◌≡◌, ℕ, ◌≤◌, Option, None, Some, IfSome, refl, sym, ap, ◌∙◌, subst, arith}
+use Rattle.ttp_model.specs.declared.plan.Plan.{Plan}
+use Rattle.ttp_model.specs.Instance.{Instance}
+use Rattle.ttp_model.specs.Delays.{delay}
+use Rattle.certificate.specs.Cert.{Cert}
+use Rattle.search_turns.specs.declared.outcome.Outcome.{Outcome}
+use Rattle.search_turns.specs.declared.outcome.Outcome.TheVariants.{Optimal, Infeasible, Stopped}
+use Rattle.search_turns.specs.declared.outcome.Why.{Why}
+use Rattle.search_turns.specs.Searching.{limit_of}
+use Rattle.search_turns.specs.Ends.{IsAnswerOf}
+use Rattle.planner.specs.Answers.{best_of, certified_by}
+
+-- an answer has the best plan that the search knew
+pub answer_best : (i : Instance) (why : Why) (best : Option (Plan × ℕ)) (low : ℕ) (cert : Cert) (outcome : Outcome) → IsAnswerOf i why best low cert outcome → best_of outcome ≡ best
+answer_best i why best low cert (Optimal plan ticks own) is = sym is.0
+answer_best i why best low cert (Infeasible own) is = sym is.0
+answer_best i why best low cert (Stopped cause bound found own) is = is.3
+
+-- and keeps it with another certificate
+pub same_best : (cert : Cert) (outcome other : Outcome) → other ≡ certified_by cert outcome → best_of other ≡ best_of outcome
+same_best cert outcome other is = ap best_of is ∙ kept cert outcome
+  where
+    kept : (cert : Cert) (outcome : Outcome) → best_of (certified_by cert outcome) ≡ best_of outcome
+    kept cert (Optimal plan ticks own) = refl
+    kept cert (Infeasible own) = refl
+    kept cert (Stopped why low best own) = refl
+
+-- what is no later than a plan that begins no later than the start is no later than that
+pub no_later_than : (i : Instance) (start : Option Plan) (first best : Option (Plan × ℕ)) → limit_of i best ≤ limit_of i first
+    → IfSome start (λ plan. limit_of i first ≤ delay i plan) → IfSome start (λ plan. limit_of i best ≤ delay i plan)
+no_later_than i None first best later begins = tt
+no_later_than i (Some plan) first best later begins = omega (arith, later, begins)
