@@ -1,5 +1,5 @@
 -- The root of the example with one message closes at 9, by steps each of which sharpens what is known.
-use Rattle.std.proofs.Common.{◌≡◌, ◌≢◌, ℕ, ◌≤◌, ◌-◌, min, List, [], ◌∷◌, zero, suc, lit<, arith, refl, ap, slice_index}
+use Rattle.std.proofs.Common.{◌≢◌, ℕ, ◌≤◌, zero, suc, lit<, arith, refl, ap, slice_index, true≢false}
 use Rattle.ttp_model.specs.declared.step.Step.TheVariants.{LoSend, EsArrive, LeOwn, XWindow}
 use Rattle.ttp_model.specs.Worked.{one_message}
 use Rattle.tt_choice.specs.Branches.{root_choice}
@@ -67,7 +67,7 @@ ends_sooner same = absurd (omega (arith, ap (λ (f : Known). slice_index f.le 1)
 
 is_closed : closed ≢ ended
 unfolding at_first sent arrived ended closed
-is_closed same = absurd (ap (λ (f : Known). f.closed) same)
+is_closed same = absurd (true≢false (ap (λ (f : Known). f.closed) same))
 
 pub closes_at_9 : ClosesSharply one_message (root_choice one_message) leaf_at_9
 unfolding at_first sent arrived ended closed
