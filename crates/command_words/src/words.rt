@@ -381,7 +381,7 @@ fn some_u32_of<'a>(
 
 /// Whether a second word names the same file, where there is one.
 fn is_named_by(alloc: Global, file: &str, other: Option<&str>) -> Result<bool, AllocError>
-    ensures { IfOk result (λ same. same ≡ false → IfSome other (λ name. IsOtherFile file.now name.now)) }
+    ensures { IfOk result (λ same. same ≡ false → IfSome other.entry (λ name. IsOtherFile file.now name.now)) }
 {
     match other {
         Some(other) => name_one_file(alloc, file, other),
@@ -397,7 +397,7 @@ fn certificate_of<'a>(
     start: Option<&str>,
 ) -> Result<Option<&'a str>, Misuse<'a>>
     ensures instance { IfOk result (λ name. IfSome name (λ file. IsOtherFile file.now instance.now)) }
-    ensures start { IfOk result (λ name. IfSome name (λ file. IfSome start (λ plan. IsOtherFile file.now plan.now))) }
+    ensures start { IfOk result (λ name. IfSome name (λ file. IfSome start.entry (λ plan. IsOtherFile file.now plan.now))) }
 {
     let Some(file) = matches.get_str("cert") else {
         return Ok(None);
@@ -420,8 +420,8 @@ fn kept_of<'a>(
     certificate: Option<&str>,
 ) -> Result<Option<&'a str>, Misuse<'a>>
     ensures instance { IfOk result (λ name. IfSome name (λ file. IsOtherFile file.now instance.now)) }
-    ensures start { IfOk result (λ name. IfSome name (λ file. IfSome start (λ plan. IsOtherFile file.now plan.now))) }
-    ensures certificate { IfOk result (λ name. IfSome name (λ file. IfSome certificate (λ other. IsOtherFile file.now other.now))) }
+    ensures start { IfOk result (λ name. IfSome name (λ file. IfSome start.entry (λ plan. IsOtherFile file.now plan.now))) }
+    ensures certificate { IfOk result (λ name. IfSome name (λ file. IfSome certificate.entry (λ other. IsOtherFile file.now other.now))) }
 {
     let Some(file) = matches.get_str("keep") else {
         return Ok(None);
