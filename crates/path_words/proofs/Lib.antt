@@ -1,5 +1,6 @@
 pub mod Holding
 pub mod Falling
 pub mod Leading
+pub mod OneChain
 pub mod Short
 pub mod Telling

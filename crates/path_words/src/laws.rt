@@ -1,12 +1,13 @@
 //! What follows from the definitions alone. These functions do nothing: their contracts are the laws.
 
-ghost use Rattle.std.specs.Prelude.{ℕ, ◌<◌, ◌≤◌, ◌++◌, ◌∷◌, [], List, length};
+ghost use Rattle.std.specs.Prelude.{◌≡◌, ℕ, ◌<◌, ◌≤◌, ◌++◌, ◌∷◌, [], List, length};
 ghost use Rattle.ttp_model.specs.Instance.{Instance};
 ghost use Rattle.ttp_model.specs.Rules.{IsInstance};
 ghost use Rattle.ttp_model.specs.Chains.{IsPathBound};
 ghost use Rattle.ttp_model.specs.Delays.{HasNoPlan};
 ghost use Rattle.path_words.specs.declared.chain.ChainPart.{ChainPart};
 ghost use Rattle.path_words.specs.Chain.{AreJoined, BeginsAtRelease, IsChain};
+ghost use Rattle.path_words.specs.Lines.{IsChainText};
 
 /// A chain has a part, and its last process, which is told first, ends at the path bound.
 pub fn chains_end_at_the_path_bound()
@@ -34,4 +35,10 @@ pub fn chains_are_short()
 /// Where the path bound is past the horizon no plan is valid.
 pub fn bounds_past_the_horizon_leave_no_plan()
     ensures { (i : Instance) (bound : ℕ) → IsInstance i → IsPathBound i bound → i.cluster.horizon < bound → HasNoPlan i }
+{}
+
+/// There is one such chain, and one text of it.
+pub fn one_chain_is_told()
+    ensures chain { (i : Instance) (a b : List ChainPart) → IsChain i a → IsChain i b → a ≡ b }
+    ensures text { (i : Instance) (a b : List ℕ) → IsChainText i a → IsChainText i b → a ≡ b }
 {}

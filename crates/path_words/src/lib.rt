@@ -9,7 +9,7 @@ mod words;
 pub use chain::{Cause, ChainPart, chain_of};
 pub use laws::{
     bounds_past_the_horizon_leave_no_plan, chains_are_short, chains_begin_at_a_release,
-    chains_end_at_the_path_bound, parts_are_joined,
+    chains_end_at_the_path_bound, one_chain_is_told, parts_are_joined,
 };
 pub use ttp_model::MemoryFault;
 pub use words::print;
