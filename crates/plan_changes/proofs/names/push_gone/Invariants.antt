@@ -1,0 +1,8 @@
+use Rattle.std.proofs.Common.{◌≡◌, ◌++◌, map, take}
+use Rattle.plan_format.specs.Names.{names_in}
+use Rattle.plan_changes.specs.Names.{gone_from}
+use Rattle.plan_changes.proofs.names.push_gone.Given as goal
+
+abbrev pub invariant-loop-k : goal.invariant-loop-k
+invariant-loop-k l =
+    map (λ n. n.now) l.names.items ≡ map (λ n. n.now) l.initial.names.items ++ gone_from (names_in l.new l.part) (take l.k (names_in l.old l.part))

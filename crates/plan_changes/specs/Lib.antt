@@ -1,0 +1,5 @@
+pub mod Planned
+pub mod Names
+pub mod Units
+pub mod Figures
+pub mod Changes
