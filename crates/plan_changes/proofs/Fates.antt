@@ -8,7 +8,8 @@ use Rattle.plan_changes.specs.Planned.{Planned}
 use Rattle.plan_changes.specs.Units.{are_loaded_alike, fate_at}
 
 -- a node of both
-pub fate_at-both : (old new : Planned) (before after : Option ℕ) (k n : ℕ) (alike : Bool) → Some k ≡ before → Some n ≡ after → alike ≡ are_loaded_alike old k new n → fate_at old new before after ≡ (if alike then Same else Changed)
+pub fate_at-both : (old new : Planned) (before after : Option ℕ) (k n : ℕ) (alike : Bool) → Some k ≡ before → Some n ≡ after
+    → alike ≡ are_loaded_alike old k new n → fate_at old new before after ≡ (if alike then Same else Changed)
 fate_at-both old new before after k n alike first second is = rw (← first, ← second, is) refl
 
 module _ {X : Type 0} (P : X → Type 0) (xs : List X) (k : ℕ) (d : X) (inside : k < length xs) where

@@ -51,7 +51,8 @@ fates-itself p =
 order_text-itself : (p : Planned) → order_text p p ≡ []
 unfolding order_text
 order_text-itself p =
-    let same = (slice_eq-Decides bytes_eq-Decides (names_in_order p) (names_in_order p) (pointwise bytes_eq (names_in_order p) (names_in_order p)) refl).1 refl in
+    let names = names_in_order p in
+    let same = (slice_eq-Decides bytes_eq-Decides names names (pointwise bytes_eq names names) refl).1 refl in
     rw same refl
 
 option_eq-same : (figure : Option ℕ) → option_eq nat_eq figure figure ≡ true
@@ -64,7 +65,8 @@ difference_text-same column name figure = rw (option_eq-same figure) refl
 
 differences_text-itself : (p : Planned) (column : Column) → differences_text p p column ≡ []
 differences_text-itself p column =
-    flat_map-none (λ name. difference_text column name (figure_for column p name) (figure_for column p name)) (names_of_either (names_of column p) (names_of column p))
+    let names = names_of_either (names_of column p) (names_of column p) in
+    flat_map-none (λ name. difference_text column name (figure_for column p name) (figure_for column p name)) names
     (λ name. difference_text-same column name (figure_for column p name))
 
 pub plan_text-itself : (p : Planned) → plan_text p p ≡ []
@@ -79,8 +81,9 @@ flat_map-same f g (x ∷ xs) same = rw (same 0 x (omega arith), flat_map-same f 
 units_text-itself : (p : Planned) → units_text p p ≡ flat_map (fate_line Same) (names_in p.instance Nodes)
 units_text-itself p =
     let told = λ (name : List ℕ). fate_line (fate_of p p name) name in
-    let each : All (λ name. told name ≡ fate_line Same name) (nodes_of_either p p) = λ k d inside. ap (λ fate. fate_line fate (get_or (nodes_of_either p p) k d)) (fates-itself p k d inside) in
-    flat_map-same told (fate_line Same) (nodes_of_either p p) each ∙ ap (flat_map (fate_line Same)) (names_of_either-itself (names_in p.instance Nodes))
+    let names = nodes_of_either p p in
+    let each : All (λ name. told name ≡ fate_line Same name) names = λ k d inside. ap (λ fate. fate_line fate (get_or names k d)) (fates-itself p k d inside) in
+    flat_map-same told (fate_line Same) names each ∙ ap (flat_map (fate_line Same)) (names_of_either-itself (names_in p.instance Nodes))
 
 pub changes_text-itself : (p : Planned) → changes_text p p ≡ flat_map (fate_line Same) (names_in p.instance Nodes)
 changes_text-itself p = rw plan_text-itself (append-nil (units_text p p) ∙ units_text-itself p)

@@ -1,5 +1,6 @@
 -- The names of either list are those of both, and each is told once.
-use Rattle.std.proofs.Common.{◌≡◌, ◌≢◌, ◌⊎◌, ℕ, zero, suc, ◌<◌, Bool, true, false, cond, List, [], ◌∷◌, All, AllPairs, Contains, inl, inr, length, get_or, refl, arith}
+use Rattle.std.proofs.Common.{◌≡◌, ◌≢◌, ◌⊎◌, ℕ, zero, suc, ◌<◌, Bool, true, false, cond, List, [], ◌∷◌, All, AllPairs, Contains, length, get_or}
+use Rattle.std.proofs.Common.{arith, inl, inr, refl}
 use Rattle.std.specs.Prelude.{filter, is_none}
 use Rattle.std.proofs.lemmas.List.{get_or-map, length-map}
 use Rattle.std.proofs.lemmas.List.Elements.{Contains-append_cases, Contains-append_left, Contains-append_right, Contains-get_or, filter_passes}
@@ -27,8 +28,10 @@ module _ {X : Type 0} (p : X → Bool) (x : X) (passes : p x ≡ true) where
   Contains-passing (y ∷ ys) zero inside is = rw (is, passes) (zero, omega arith, refl)
   Contains-passing (y ∷ ys) (suc k) inside is = behind (p y) y (filter p ys) (Contains-passing ys k (omega (arith, inside)) is)
 
-of_old : (old new : List (List ℕ)) (name : List ℕ) (gone : Bool) → is_none (place_in new name) ≡ gone → Contains old name → Contains (names_of_either old new) name
-of_old old new name true is there = Contains-append_right new (gone_from new old) name (Contains-passing (λ n. is_none (place_in new n)) name is old there.0 there.1 there.2)
+of_old : (old new : List (List ℕ)) (name : List ℕ) (gone : Bool) → is_none (place_in new name) ≡ gone → Contains old name
+    → Contains (names_of_either old new) name
+of_old old new name true is there =
+    Contains-append_right new (gone_from new old) name (Contains-passing (λ n. is_none (place_in new n)) name is old there.0 there.1 there.2)
 of_old old new name false is there = Contains-append_left new (gone_from new old) name (place_in-tells new name is)
 
 from_gone : (old new : List (List ℕ)) (name : List ℕ) → Contains new name ⊎ Contains (gone_from new old) name → Contains old name ⊎ Contains new name
@@ -66,4 +69,5 @@ pub either-once : (i j : Instance) → IsInstance i → IsInstance j → AllPair
 either-once i j first second =
     let old = names_in i Nodes in
     let new = names_in j Nodes in
-    AllPairs-append AreOther new (gone_from new old) (nodes_differ j second) (AllPairs-filter AreOther (λ n. is_none (place_in new n)) old (nodes_differ i first)) (gone_differ old new)
+    let gone = AllPairs-filter AreOther (λ n. is_none (place_in new n)) old (nodes_differ i first) in
+    AllPairs-append AreOther new (gone_from new old) (nodes_differ j second) gone (gone_differ old new)

@@ -13,7 +13,8 @@ pub bytes_eq-same : (name : List ℕ) → bytes_eq name name ≡ true
 bytes_eq-same name = (bytes_eq-Decides name name).1 refl
 
 module _ (names : List (List ℕ)) (name : List ℕ) where
-  found_by : (k : ℕ) → k < length names → get_or names k name ≡ name → (inside : Bool) → nat_lt (position_or_len (λ n. bytes_eq n name) names) (length names) ≡ inside
+  found_by : (k : ℕ) → k < length names → get_or names k name ≡ name → (inside : Bool)
+      → nat_lt (position_or_len (λ n. bytes_eq n name) names) (length names) ≡ inside
       → is_none (cond inside (Some (position_or_len (λ n. bytes_eq n name) names)) None) ≡ false
   found_by k lt there true is = refl
   found_by k lt there false is =

@@ -19,7 +19,8 @@ not_true true = λ no. absurd (no refl)
 not_true false = λ no. refl
 
 -- where one is another
-pub names-other : (xs ys : List (List ℕ)) (k : ℕ) (a b : List ℕ) → a ≡ get_or xs k [] → b ≡ get_or ys k [] → true ≡ not (bytes_eq a b) → pointwise bytes_eq xs ys ≡ false
+pub names-other : (xs ys : List (List ℕ)) (k : ℕ) (a b : List ℕ) → a ≡ get_or xs k [] → b ≡ get_or ys k [] → true ≡ not (bytes_eq a b)
+    → pointwise bytes_eq xs ys ≡ false
 names-other xs ys k a b first second other =
     not_true (pointwise bytes_eq xs ys) (λ is.
     let same = (slice_eq-Decides bytes_eq-Decides xs ys (pointwise bytes_eq xs ys) refl).0 is in

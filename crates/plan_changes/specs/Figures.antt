@@ -42,4 +42,5 @@ difference_text column name old new = if option_eq nat_eq old new then [] else f
 -- what is different of a column, name by name
 abbrev pub differences_text : Planned → Planned → Column → List ℕ
 differences_text old new column =
-    flat_map (λ name. difference_text column name (figure_for column old name) (figure_for column new name)) (names_of_either (names_of column old) (names_of column new))
+    flat_map (λ name. difference_text column name (figure_for column old name) (figure_for column new name))
+    (names_of_either (names_of column old) (names_of column new))

@@ -5,7 +5,9 @@ use Rattle.plan_changes.proofs.changes.have_same_order.Goals as goal
 
 pub returns-then-ne : goal.returns-then-ne
 returns-then-ne c =
-    sym (names-other (names_in_order c.args.old.now) (names_in_order c.args.new.now) c.loop-k.k _ _ c.name_at.ensures c.name_at-in-loop-k.ensures c.if-ne.ensures)
+    let old = names_in_order c.args.old.now in
+    let new = names_in_order c.args.new.now in
+    sym (names-other old new c.loop-k.k _ _ c.name_at.ensures c.name_at-in-loop-k.ensures c.if-ne.ensures)
 
 pub returns : goal.returns
 returns c =

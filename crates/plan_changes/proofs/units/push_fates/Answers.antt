@@ -16,6 +16,7 @@ loop-name-preserved c =
             rw w.same-is (all_so-lost is_same c.args.names.now c.loop-name.name-index _ (omega arith) _ c.in_ok-push_unit.ensures.same w.if-not-branch.true)
         | else-not-branch w ↦
             rw w.same-is
-            (all_so-kept is_same c.args.names.now c.loop-name.name-index _ (omega arith) c.loop-name.same _ c.loop-name.invariant.same c.in_ok-push_unit.ensures.same w.if-not-branch.false)
+            (all_so-kept is_same c.args.names.now c.loop-name.name-index _ (omega arith) c.loop-name.same _ c.loop-name.invariant.same
+            c.in_ok-push_unit.ensures.same w.if-not-branch.false)
       ];
     }
