@@ -199,6 +199,10 @@ fault_line (Unread source) = codes "read " ++ source_word source
 fault_line (TooLong source) = codes "read " ++ source_word source
 fault_line (Unwritten sink) = codes "write " ++ sink_word sink
 
+-- the line of a fault behind words, with its end
+abbrev pub line_behind : List ℕ → Fault → List ℕ
+line_behind words fault = words ++ (fault_line fault ++ 10 ∷ [])
+
 -- what is written on standard error at each end
 abbrev pub report_of : End → List ℕ
 report_of Done = []

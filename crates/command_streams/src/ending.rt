@@ -115,7 +115,7 @@ pub enum End {
 }
 
 /// The status of a refusal.
-fn status_of_fault(fault: &Fault) -> u8
+pub fn status_of_fault(fault: &Fault) -> u8
     ensures { result ≡ fault_status fault.now }
 {
     match fault {

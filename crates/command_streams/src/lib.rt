@@ -7,9 +7,9 @@ mod lines;
 mod output;
 mod reporting;
 
-pub use ending::{End, Fault, SearchFault, Sink, Source, status};
+pub use ending::{End, Fault, SearchFault, Sink, Source, status, status_of_fault};
 pub use input::{
     INSTANCE_LIMIT, Stop, Taken, instance_of_text, read_all, read_instance, take_input,
 };
 pub use output::{WriteFault, end_with, write_text};
-pub use reporting::report;
+pub use reporting::{report, report_fault};

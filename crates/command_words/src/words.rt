@@ -85,6 +85,13 @@ pub enum Request<'a> {
         plan: &'a str,
         certificate: &'a str,
     },
+    /// Tell what is different of a second instance and its plan, each in a file, by the names of what is different.
+    Compare {
+        old_instance: &'a str,
+        old_plan: &'a str,
+        new_instance: &'a str,
+        new_plan: &'a str,
+    },
     /// Tell in sentences why the instance of a file, or a plan or a certificate for it, is refused, or what there is to say of it.
     Explain {
         instance: &'a str,
@@ -120,6 +127,10 @@ const JUDGE_HELP: &str =
 /// What an explanation prints.
 const EXPLAIN_HELP: &str =
     "The first line is the one that `ttplan verify` or `ttplan check` gives, of an instance alone how many nodes, processes, links and messages it has. Sentences follow: of what is refused which two things a rule compares, both numbers, and by how much they fail it; of a valid plan what held its last process back, and what that, down to a release; of a certificate of one leaf each step.\n\nIt ends with status 0 wherever it explained something, a refusal too.";
+
+/// What a comparison prints.
+const COMPARE_HELP: &str =
+    "It prints a line for each node of either instance, by its name: `same`, where its table and its guardian's windows are the same bytes in both, `changed`, where they aren't, `new` or `gone`. Behind these lines is told what is different of the plan: `order changed`, and `cap`, `start`, `round` and `chan`, each with a name, the old value and the new one, or `-` where there is none.\n\nIt ends with status 0 where each node is the same and nothing is different, and else with 1. Both plans have to be valid: else it says so as `ttplan verify` does, behind the word `old` or `new`.";
 
 /// A file that has to be named.
 fn file<'a>(alloc: Global, name: &'a str, help: &'a str) -> Arg<'a> {
@@ -321,6 +332,22 @@ fn explain_command<'a>(alloc: Global) -> Result<Command<'a>, AllocError> {
         .arg(certificate)
 }
 
+fn compare_command<'a>(alloc: Global) -> Result<Command<'a>, AllocError> {
+    Command::new(alloc, "compare")
+        .about(
+            "Tells which nodes a change of an instance and its plan touches, and what is different of the plan",
+        )
+        .after_help(COMPARE_HELP)
+        .arg(file(alloc, "OLD_INSTANCE", INSTANCE_HELP))?
+        .arg(file(alloc, "OLD_PLAN", "The text of a plan of it"))?
+        .arg(file(
+            alloc,
+            "NEW_INSTANCE",
+            "The cluster and its processes as they are to be, in TOML",
+        ))?
+        .arg(file(alloc, "NEW_PLAN", "The text of a plan of that"))
+}
+
 /// The command line that is understood.
 fn command<'a>(alloc: Global) -> Result<Command<'a>, AllocError> {
     Command::new(alloc, "ttplan")
@@ -337,7 +364,8 @@ fn command<'a>(alloc: Global) -> Result<Command<'a>, AllocError> {
         .subcommand(tables_command(alloc)?)?
         .subcommand(replay_command(alloc)?)?
         .subcommand(schedule_command(alloc)?)?
-        .subcommand(draw_command(alloc)?)
+        .subcommand(draw_command(alloc)?)?
+        .subcommand(compare_command(alloc)?)
 }
 
 /// The number of an option.
@@ -493,6 +521,18 @@ fn explain_request<'a>(matches: &ArgMatches<'a>) -> Option<Request<'a>>
     })
 }
 
+/// A comparison of two instances, each with a plan of it.
+fn compare_request<'a>(matches: &ArgMatches<'a>) -> Option<Request<'a>>
+    ensures { IfSome result IsSound }
+{
+    Some(Request::Compare {
+        old_instance: matches.get_str("OLD_INSTANCE")?,
+        old_plan: matches.get_str("OLD_PLAN")?,
+        new_instance: matches.get_str("NEW_INSTANCE")?,
+        new_plan: matches.get_str("NEW_PLAN")?,
+    })
+}
+
 /// A task on an instance and a plan.
 fn request_on_files<'a>(matches: &ArgMatches<'a>, task: Task<'a>) -> Option<Request<'a>>
     requires { IsSoundTask task }
@@ -551,6 +591,7 @@ fn request_of<'a>(
         "check" => check_request(matches),
         "judge" => judge_request(matches),
         "explain" => explain_request(matches),
+        "compare" => compare_request(matches),
         "verify" => request_on_files(matches, Task::Verify),
         "tables" => request_on_files(matches, Task::Tables),
         "replay" => request_on_files(matches, replay_task(alloc, matches)?),

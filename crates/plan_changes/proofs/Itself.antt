@@ -1,14 +1,17 @@
 -- What is compared with itself: each name is found where it stands, and nothing is different.
 use Rattle.std.proofs.Common.{◌≡◌, ◌∙◌, ℕ, Bool, true, false, List, [], ◌∷◌, Option, None, Some, All, Contains, get_or, refl, ap, arith, eq-eqb}
-use Rattle.std.specs.Prelude.{bytes_eq, filter, is_none, nat_eq}
+use Rattle.std.specs.Prelude.{bytes_eq, filter, is_none, nat_eq, ◌||◌}
 use Rattle.std.specs.List.{flat_map}
 use Rattle.std.specs.Cmp.Lexicographic.{pointwise}
 use Rattle.std.specs.Option.{option_eq}
+use Rattle.std.proofs.lemmas.Bool.{cond_both}
 use Rattle.std.proofs.lemmas.List.{append-nil}
 use Rattle.std.proofs.lemmas.List.Elements.{All-contains_itself, All-tail}
 use Rattle.std.proofs.lemmas.Slice.Eq.{bytes_eq-Decides, slice_eq-Decides}
 use Rattle.ttp_model.specs.declared.error.Part.TheVariants.{Nodes}
 use Rattle.plan_format.specs.declared.column.Column.{Column}
+use Rattle.plan_format.specs.declared.column.Column.TheVariants.{Channel}
+use Rattle.plan_format.specs.Channels.{has_two_channels}
 use Rattle.plan_format.specs.Names.{names_in}
 use Rattle.medl_tables.proofs.FrameEntries.{flat_map-none}
 use Rattle.plan_changes.specs.declared.fate.Fate.TheVariants.{Same}
@@ -16,7 +19,7 @@ use Rattle.plan_changes.specs.Planned.{Planned}
 use Rattle.plan_changes.specs.Names.{gone_from, names_of_either, place_in}
 use Rattle.plan_changes.specs.Units.{fate_at, fate_line, fate_of, nodes_of_either, table_lines, units_text, window_lines}
 use Rattle.plan_changes.specs.Figures.{difference_text, differences_text, figure_for, names_of}
-use Rattle.plan_changes.specs.Changes.{changes_text, names_in_order, order_text, plan_text}
+use Rattle.plan_changes.specs.Changes.{changes_text, channels_text, names_in_order, order_text, plan_text}
 use Rattle.plan_changes.proofs.Places.{bytes_eq-same, place_in-there}
 
 -- ---- names
@@ -69,8 +72,12 @@ differences_text-itself p column =
     flat_map-none (λ name. difference_text column name (figure_for column p name) (figure_for column p name)) names
     (λ name. difference_text-same column name (figure_for column p name))
 
+channels_text-itself : (p : Planned) → channels_text p p ≡ []
+unfolding channels_text
+channels_text-itself p = rw (differences_text-itself p Channel) (cond_both (has_two_channels p.instance || has_two_channels p.instance) [] [] (λ told. told ≡ []) (λ _. refl) (λ _. refl))
+
 pub plan_text-itself : (p : Planned) → plan_text p p ≡ []
-plan_text-itself p = simp (order_text-itself, differences_text-itself)
+plan_text-itself p = simp (order_text-itself, differences_text-itself, channels_text-itself)
 
 -- ---- the text
 

@@ -2,7 +2,8 @@
 
 ghost use Rattle.std.specs.Prelude.{◌≡◌, ◌++◌, ◌<◌, ◌↔◌, [], IfOk, IsTrue, OnOk, bytes_eq, length, slice_index_or};
 ghost use Rattle.std.specs.Cmp.Lexicographic.{pointwise};
-ghost use Rattle.plan_changes.specs.Changes.{IsUnchanged, changes_text, names_in_order, order_text, plan_text};
+ghost use Rattle.plan_format.specs.Channels.{has_two_channels};
+ghost use Rattle.plan_changes.specs.Changes.{IsUnchanged, changes_text, channels_text, names_in_order, order_text, plan_text};
 
 use crate::figures::push_differences;
 use crate::planned::Planned;
@@ -56,6 +57,29 @@ fn push_order(text: &mut Vec<u8>, old: &Planned, new: &Planned) -> Result<(), Al
     text.extend_from_slice(b"order changed\n")
 }
 
+/// Whether a bus has two channels.
+fn has_two_channels(planned: &Planned) -> bool
+    ensures { result ≡ has_two_channels planned.now.instance }
+{
+    planned.instance().cluster().channels == 2
+}
+
+/// Adds what is different of channels, where one of both has two.
+#[tactic(auto, unfolding(crate::specs::Changes::channels_text))]
+fn push_channels(
+    alloc: Global,
+    text: &mut Vec<u8>,
+    old: &Planned,
+    new: &Planned,
+) -> Result<(), MemoryFault>
+    ensures { OnOk result (text.new.items ≡ text.old.items ++ channels_text old.now new.now) }
+{
+    if has_two_channels(old) || has_two_channels(new) {
+        push_differences(alloc, text, old, new, Column::Channel)?;
+    }
+    Ok(())
+}
+
 /// Adds what is different of the plan.
 fn push_plan(
     alloc: Global,
@@ -69,12 +93,12 @@ fn push_plan(
     push_differences(alloc, text, old, new, Column::Capacity)?;
     push_differences(alloc, text, old, new, Column::Start)?;
     push_differences(alloc, text, old, new, Column::Round)?;
-    push_differences(alloc, text, old, new, Column::Channel)
+    push_channels(alloc, text, old, new)
 }
 
 /// What is told of a change, from one instance with its plan to another: a line for each node of either, `same`, `changed`, `new`
 /// or `gone` with its name, and then `order changed`, and `cap`, `start`, `round` and `chan` with a name, the old figure and the
-/// new one. Made whole; for each node both tables and both lists of windows are made, one node after another.
+/// new one; `chan` where one of both has two channels. Made whole; for each node both tables and both lists of windows are made, one node after another.
 pub fn changes_of(alloc: Global, old: &Planned, new: &Planned) -> Result<Changes, MemoryFault>
     ensures text { IfOk result (λ changes. changes.text.items ≡ changes_text old.now new.now) }
     ensures unchanged { IfOk result (λ changes. IsTrue changes.unchanged ↔ IsUnchanged old.now new.now) }

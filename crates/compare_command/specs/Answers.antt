@@ -1,0 +1,89 @@
+-- What `compare` answers of the bytes of two instances and their plans, and what it writes.
+use Rattle.std.specs.Prelude.{◌≡◌, ◌⊎◌, ℕ, List, Bool, true, false, Option}
+use Rattle.std.specs.Io.KnownBytes.{Appends, Keeps}
+use Rattle.command_streams.specs.declared.ending.Sink.TheVariants.{Out}
+use Rattle.command_streams.specs.declared.ending.Fault.{Fault}
+use Rattle.command_streams.specs.declared.ending.Fault.TheVariants.{Memory, Unwritten}
+use Rattle.command_streams.specs.Streams.{AppendsPart}
+use Rattle.command_streams.specs.Outcomes.{IsWritten}
+use Rattle.plan_commands.specs.declared.verdict.Verified.{Verified}
+use Rattle.plan_commands.specs.Verdicts.{IsRefused, IsVerified}
+use Rattle.plan_changes.specs.Planned.{Planned}
+use Rattle.plan_changes.specs.Changes.{IsUnchanged, changes_text}
+use Rattle.compare_command.specs.declared.ending.Release.{Release}
+use Rattle.compare_command.specs.declared.ending.Release.TheVariants.{New, Old}
+use Rattle.compare_command.specs.declared.ending.Compared.{Compared}
+use Rattle.compare_command.specs.declared.ending.Compared.TheVariants.{Different, Refused, Same}
+
+-- the bytes of an instance and of a plan
+pub record Texts : Type 0 where
+  pub instance : List ℕ
+  pub plan : List ℕ
+
+-- they are those of an instance and of a valid plan of it that states its own delay
+abbrev pub SayVerified : Texts → Verified → Type 0
+SayVerified texts v = IsVerified texts.instance texts.plan v
+
+-- what is compared of these
+abbrev pub planned_of : Verified → Planned
+planned_of v = record { instance = v.instance; plan = v.plan }
+
+-- at which end nothing is different, and at which something is
+abbrev pub EndsAs : Planned → Planned → Compared → Type 0
+EndsAs old new Same = IsUnchanged old new
+EndsAs old new Different = ¬ IsUnchanged old new
+EndsAs old new (Refused release fault) = ⊥
+
+-- what is told of two releases, both of which are verified, at this end
+pub record IsComparison (old new : Texts) (end : Compared) (text : List ℕ) : Type 0 where
+  pub before : Verified
+  pub says_before : SayVerified old before
+  pub after : Verified
+  pub says_after : SayVerified new after
+  pub told : text ≡ changes_text (planned_of before) (planned_of after)
+  pub ends : EndsAs (planned_of before) (planned_of after) end
+
+-- a write failed: a prefix of what is told was written
+pub record IsCutOff (old new : Texts) (fault : Fault) (before after : Option (List ℕ)) : Type 0 where
+  pub unwritten : fault ≡ Unwritten Out
+  pub at : Compared
+  pub text : List ℕ
+  pub is : IsComparison old new at text
+  pub part : AppendsPart before after text
+
+-- the old release is verified, and the new one is refused as `verify` refuses it
+pub record IsNewRefused (old new : Texts) (fault : Fault) : Type 0 where
+  pub verified : Verified
+  pub says : SayVerified old verified
+  pub refused : IsRefused new.instance new.plan fault
+
+-- why nothing is told: for the old release, or else for the new one
+abbrev pub IsReleaseRefused : Texts → Texts → Release → Fault → Type 0
+IsReleaseRefused old new Old fault = IsRefused old.instance old.plan fault
+IsReleaseRefused old new New fault = IsNewRefused old new fault
+
+-- what `compare` answers of the bytes of the old release and of the new one, and what it writes
+abbrev pub IsCompareAnswer : Texts → Texts → Option (List ℕ) → Option (List ℕ) → Compared → Type 0
+IsCompareAnswer old new before after Same = IsWritten (IsComparison old new Same) before after
+IsCompareAnswer old new before after Different = IsWritten (IsComparison old new Different) before after
+IsCompareAnswer old new before after (Refused release fault) =
+    IsCutOff old new fault before after ⊎ (IsReleaseRefused old new release fault × Keeps before after)
+
+-- what holds of a release and its fault, where one is refused
+abbrev pub IfReleaseRefused : Compared → (Release → Fault → Type 0) → Type 0
+IfReleaseRefused (Refused release fault) Says = Says release fault
+IfReleaseRefused _ Says = Unit {0}
+
+-- how the writing of a text ends, of which it is known whether nothing is different
+abbrev pub IsWritingOf : List ℕ → Bool → Option (List ℕ) → Option (List ℕ) → Compared → Type 0
+IsWritingOf text unchanged before after Same = (unchanged ≡ true) × Appends before after text
+IsWritingOf text unchanged before after Different = (unchanged ≡ false) × Appends before after text
+IsWritingOf text unchanged before after (Refused release fault) =
+    (release ≡ New) × (fault ≡ Unwritten Out) × AppendsPart before after text
+
+-- how the telling of two plans ends: their text is written, or a prefix of it, or memory was refused
+abbrev pub IsTelling : Planned → Planned → Option (List ℕ) → Option (List ℕ) → Compared → Type 0
+IsTelling old new before after Same = IsUnchanged old new × Appends before after (changes_text old new)
+IsTelling old new before after Different = (¬ IsUnchanged old new) × Appends before after (changes_text old new)
+IsTelling old new before after (Refused release fault) =
+    (release ≡ New) × (((fault ≡ Unwritten Out) × AppendsPart before after (changes_text old new)) ⊎ ((fault ≡ Memory) × Keeps before after))
