@@ -138,8 +138,3 @@ stated_at (Some bytes) stated problem is of = subst (IsStatedOf bytes) is of
 pub never_asked : (Asked : Type 0) (a : Option (List ℕ)) (problem : Instance) → IfSome a (λ i. HasInstance i problem) → IfSome a (λ i. ¬ StatesSome i → Asked)
 never_asked Asked None problem has = tt
 never_asked Asked (Some i) problem has = λ none. absurd (none (record { problem = problem; has_instance = has }))
-
--- what holds anyhow is had of them
-pub anyhow : (Asked : Type 0) (a : Option (List ℕ)) → Asked → IfSome a (λ i. ¬ StatesSome i → Asked)
-anyhow Asked None is = tt
-anyhow Asked (Some i) is = λ none. is
