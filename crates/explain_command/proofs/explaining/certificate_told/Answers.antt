@@ -15,8 +15,8 @@ returns-in-Instance-clause-err g c =
     let has = stated_at (g.I.Read.remaining c.args.instance.now) c.in_ok-text.field-0 problem c.in-Instance.is c.in_ok-text.ensures.ok in
     no_certificate_told _ _ problem has c.told_of_certificate-told.result c.told_of_certificate-told.ensures.err
 
-pub returns-in-Instance-clause-order : goal.returns-in-Instance-clause-order
-returns-in-Instance-clause-order g c =
+pub returns-in-Instance-clause-unread : goal.returns-in-Instance-clause-unread
+returns-in-Instance-clause-unread g c =
     let problem = c.in-Instance.instance in
     let has = stated_at (g.I.Read.remaining c.args.instance.now) c.in_ok-text.field-0 problem c.in-Instance.is c.in_ok-text.ensures.ok in
     never_asked _ _ problem has
