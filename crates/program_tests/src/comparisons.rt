@@ -2,7 +2,7 @@
 
 use crate::failing_streams::{Calls, Keeper, Source};
 use crate::refusals::{has, page};
-use crate::told::{FIRST, FIRST_PLAN, NEXT_PARTS, NEXT_PLAN, NEXT_TOLD, CLUSTER, joined};
+use crate::told::{CLUSTER, FIRST, FIRST_PLAN, NEXT_PARTS, NEXT_PLAN, NEXT_TOLD, joined};
 use compare_command::{compare_run, report, status};
 use std::alloc::{Alloc, AllocError, Global};
 use std::process::Abort;
