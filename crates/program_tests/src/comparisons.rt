@@ -87,7 +87,7 @@ struct Instances {
     new: String,
 }
 
-fn instances(alloc: Global) -> Result<Instances, AllocError> {
+fn both_instances(alloc: Global) -> Result<Instances, AllocError> {
     Ok(Instances {
         old: joined(alloc, FIRST)?,
         new: joined(alloc, &[CLUSTER, NEXT_PARTS])?,
@@ -160,7 +160,7 @@ fn expect_stops(
 
 #[test]
 fn failing_streams_of_a_comparison(rt: HostRuntime) -> Result<(), Fail> {
-    let texts = instances(rt.alloc())?;
+    let texts = both_instances(rt.alloc())?;
     for most in [1, 64, usize::MAX] {
         for (place, stream) in STREAMS.iter().enumerate() {
             expect_stops(&rt, &texts, (place, *stream), most);
@@ -191,7 +191,7 @@ fn tells(alloc: Global, texts: &Instances) -> Result<bool, Fail> {
 
 #[test]
 fn comparison_refused_in_turn(rt: HostRuntime) -> Result<(), Fail> {
-    let texts = instances(rt.alloc())?;
+    let texts = both_instances(rt.alloc())?;
     assert!(rt; tells(rt.alloc(), &texts)?);
     Ok(())
 }
