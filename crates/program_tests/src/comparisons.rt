@@ -82,13 +82,13 @@ impl Failure {
 
 /// The texts of both releases' instances.
 #[derive(Drop)]
-struct Releases {
+struct Instances {
     old: String,
     new: String,
 }
 
-fn both_instances(alloc: Global) -> Result<Releases, AllocError> {
-    Ok(Releases {
+fn both_instances(alloc: Global) -> Result<Instances, AllocError> {
+    Ok(Instances {
         old: joined(alloc, FIRST)?,
         new: joined(alloc, &[CLUSTER, NEXT_PARTS])?,
     })
@@ -104,7 +104,7 @@ fn source<'a>(text: &'a str, failure: Failure, stream: Stream) -> Source<'a> {
 
 /// Whether a comparison with this failure tells it and has written a part of what is written else, or writes all; and whether the
 /// stream failed.
-fn is_right(alloc: Global, texts: &Releases, failure: Failure) -> (bool, bool) {
+fn is_right(alloc: Global, texts: &Instances, failure: Failure) -> (bool, bool) {
     let mut old_instance = source(texts.old.as_str(), failure, Stream::OldInstance);
     let mut old_plan = source(FIRST_PLAN, failure, Stream::OldPlan);
     let mut new_instance = source(texts.new.as_str(), failure, Stream::NewInstance);
@@ -140,7 +140,7 @@ fn is_right(alloc: Global, texts: &Releases, failure: Failure) -> (bool, bool) {
 /// Checks a comparison wherever this stream fails, whose calls move at most so many bytes.
 fn expect_stops(
     rt: &(impl Abort + Alloc<A = Global>),
-    texts: &Releases,
+    texts: &Instances,
     (place, stream): (usize, Stream),
     most: usize,
 ) {
@@ -171,7 +171,7 @@ fn failing_streams_of_a_comparison(rt: HostRuntime) -> Result<(), Fail> {
 
 /// Whether a comparison tells what it does where there is memory. One that has written nothing and says that there is none ends the
 /// test.
-fn tells(alloc: Global, texts: &Releases) -> Result<bool, Fail> {
+fn tells(alloc: Global, texts: &Instances) -> Result<bool, Fail> {
     let mut out = page();
     let compared = compare_run(
         alloc,
