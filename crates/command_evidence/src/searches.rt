@@ -80,7 +80,8 @@ pub fn answer_is_no_later_than_the_start<R: Threads + Wait + Sync>(
             best: Some((_, delay)),
             ..
         } => Ok(delay),
-        Outcome::Infeasible { .. } | Outcome::Stopped { best: None, .. } => unreachable!(),
+        Outcome::Stopped { best: None, .. } => unreachable!(),
+        Outcome::Infeasible { .. } => unreachable!(),
     }
 }
 
