@@ -1,0 +1,37 @@
+//! What follows from the definitions alone? These functions do nothing: their contracts are laws.
+
+ghost use Rattle.std.specs.Prelude.{◌≡◌, List};
+ghost use Rattle.ttp_model.specs.declared.plan.Plan.{Plan};
+ghost use Rattle.ttp_model.specs.Instance.{Instance};
+ghost use Rattle.ttp_model.specs.Rules.{IsInstance};
+ghost use Rattle.ttp_model.specs.Plans.{IsValid};
+ghost use Rattle.ttp_model.specs.Delays.{HasNoPlan};
+ghost use Rattle.kept_constraints.specs.declared.constraints.Constraint.{Constraint};
+ghost use Rattle.kept_constraints.specs.declared.constraints.Constraints.{Constraints};
+ghost use Rattle.kept_constraints.specs.Constraints.{all_of, without, without_all};
+ghost use Rattle.kept_constraints.specs.Only.{only, plan_with};
+ghost use Rattle.kept_constraints.specs.Fewer.{AreAmong};
+
+/// What some of the constraints of an instance make of it keeps the rules of instances; and all of them make it itself.
+pub fn kept_constraints_make_instances()
+    ensures rules { (i : Instance) (K : Constraints) → IsInstance i → IsInstance (only i K) }
+    ensures all { (i : Instance) → IsInstance i → only i (all_of i) ≡ i }
+{}
+
+/// What is left once a constraint is left out is among what there was, and where there was more, more is left.
+pub fn what_is_left_is_fewer()
+    ensures one { (K : Constraints) (c : Constraint) → AreAmong (without K c) K }
+    ensures many { (K : Constraints) (cs : List Constraint) → AreAmong (without_all K cs) K }
+    ensures more { (fewer more : Constraints) (c : Constraint) → AreAmong fewer more
+        → AreAmong (without fewer c) (without more c) }
+{}
+
+/// A valid plan, without what it says of the messages that are left out, is valid by fewer constraints. So where some constraints leave
+/// no plan, there is none, and none by more of them.
+pub fn fewer_constraints_keep_the_plans()
+    ensures plans { (i : Instance) (K : Constraints) (plan : Plan) → IsInstance i → IsValid i plan
+        → IsValid (only i K) (plan_with i K plan) }
+    ensures none { (i : Instance) (K : Constraints) → IsInstance i → HasNoPlan (only i K) → HasNoPlan i }
+    ensures more { (i : Instance) (fewer more : Constraints) → IsInstance i → AreAmong fewer more
+        → HasNoPlan (only i fewer) → HasNoPlan (only i more) }
+{}
