@@ -10,7 +10,7 @@ use Rattle.ttp_model.specs.Plans.{IsValid, round_of, channel_of}
 use Rattle.ttp_model.specs.Delays.{HasNoPlan}
 use Rattle.kept_constraints.specs.declared.constraints.Constraints.{Constraints}
 use Rattle.kept_constraints.specs.Only.{kept_messages, only, plan_with}
-use Rattle.kept_constraints.specs.Fewer.{AreAmong}
+use Rattle.kept_constraints.specs.Fewer.{AreAmong, HasPlan}
 use Rattle.kept_constraints.proofs.Looser.{Loosened, AreSentAlike}
 use Rattle.kept_constraints.proofs.ValidLooser.{valid_loosened}
 use Rattle.kept_constraints.proofs.RulesLooser.{rules_loosened}
@@ -43,10 +43,17 @@ plan_kept i K plan good valid =
 pub no_plan_left : (i : Instance) (K : Constraints) → IsInstance i → HasNoPlan (only i K) → HasNoPlan i
 no_plan_left i K good none plan valid = none (plan_with i K plan) (plan_kept i K plan good valid)
 
+pub plan_by_fewer : (i : Instance) (fewer more : Constraints) → IsInstance i → AreAmong fewer more → HasPlan (only i more) → HasPlan (only i fewer)
+plan_by_fewer i fewer more good among has =
+    let w = kept_of i fewer more in
+    let rounds = map (λ m. round_of has.plan (w.message_place m)) (range_with_len 0 (length w.messages)) in
+    let channels = map (λ m. channel_of has.plan (w.message_place m)) (range_with_len 0 (length w.messages)) in
+    record {
+      plan = record has.plan { rounds = rounds; channels = channels };
+      valid = valid_loosened (only i more) w has.plan rounds channels (fewer_is_looser i fewer more good among) (sent_alike w has.plan) has.valid;
+    }
+
 pub no_plan_by_more : (i : Instance) (fewer more : Constraints) → IsInstance i → AreAmong fewer more → HasNoPlan (only i fewer) → HasNoPlan (only i more)
 no_plan_by_more i fewer more good among none plan valid =
-    let w = kept_of i fewer more in
-    let rounds = map (λ m. round_of plan (w.message_place m)) (range_with_len 0 (length w.messages)) in
-    let channels = map (λ m. channel_of plan (w.message_place m)) (range_with_len 0 (length w.messages)) in
-    none (record plan { rounds = rounds; channels = channels })
-    (valid_loosened (only i more) w plan rounds channels (fewer_is_looser i fewer more good among) (sent_alike w plan) valid)
+    let has = plan_by_fewer i fewer more good among (record { plan = plan; valid = valid }) in
+    none has.plan has.valid

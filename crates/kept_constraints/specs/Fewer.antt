@@ -1,5 +1,8 @@
--- When constraints are among others. Own profile.
+-- When constraints are among others, and when plans are left. Own profile.
 use Rattle.std.specs.Prelude.{ℕ, List, Bool, IsTrue}
+use Rattle.ttp_model.specs.declared.plan.Plan.{Plan}
+use Rattle.ttp_model.specs.Instance.{Instance}
+use Rattle.ttp_model.specs.Plans.{IsValid}
 use Rattle.kept_constraints.specs.declared.constraints.Constraints.{Constraints}
 use Rattle.kept_constraints.specs.Constraints.{is_set}
 
@@ -15,3 +18,8 @@ pub record AreAmong (fewer more : Constraints) : Type 0 where
   pub links : AreSetAmong fewer.links more.links
   pub messages : AreSetAmong fewer.messages more.messages
   pub both : AreSetAmong fewer.both more.both
+
+-- some plan is valid
+pub record HasPlan (i : Instance) : Type 0 where
+  pub plan : Plan
+  pub valid : IsValid i plan

@@ -10,7 +10,7 @@ ghost use Rattle.kept_constraints.specs.declared.constraints.Constraint.{Constra
 ghost use Rattle.kept_constraints.specs.declared.constraints.Constraints.{Constraints};
 ghost use Rattle.kept_constraints.specs.Constraints.{all_of, without, without_all};
 ghost use Rattle.kept_constraints.specs.Only.{only, plan_with};
-ghost use Rattle.kept_constraints.specs.Fewer.{AreAmong};
+ghost use Rattle.kept_constraints.specs.Fewer.{AreAmong, HasPlan};
 
 /// What some of the constraints of an instance make of it keeps the rules of instances; and all of them make it itself.
 pub fn kept_constraints_make_instances()
@@ -26,12 +26,14 @@ pub fn what_is_left_is_fewer()
         → AreAmong (without fewer c) (without more c) }
 {}
 
-/// A valid plan, without what it says of the messages that are left out, is valid by fewer constraints. So where some constraints leave
-/// no plan, there is none, and none by more of them.
+/// A valid plan, without what it says of the messages that are left out, is valid by fewer constraints. So where there is a plan by some
+/// constraints there is one by fewer of them; and where some leave no plan, there is none, and none by more of them.
 pub fn fewer_constraints_keep_the_plans()
     ensures plans { (i : Instance) (K : Constraints) (plan : Plan) → IsInstance i → IsValid i plan
         → IsValid (only i K) (plan_with i K plan) }
     ensures none { (i : Instance) (K : Constraints) → IsInstance i → HasNoPlan (only i K) → HasNoPlan i }
+    ensures fewer { (i : Instance) (fewer more : Constraints) → IsInstance i → AreAmong fewer more
+        → HasPlan (only i more) → HasPlan (only i fewer) }
     ensures more { (i : Instance) (fewer more : Constraints) → IsInstance i → AreAmong fewer more
         → HasNoPlan (only i fewer) → HasNoPlan (only i more) }
 {}
