@@ -8,3 +8,4 @@ pub mod Fewer
 pub mod KeptLaws
 pub mod Whole
 pub mod Leaving
+pub mod Keeps

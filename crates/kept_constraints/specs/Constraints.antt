@@ -38,6 +38,15 @@ all_of i = record {
   both = map is_on_both i.messages;
 }
 
+-- a constraint is kept
+abbrev pub keeps : Constraints → Constraint → Bool
+keeps K one.Horizon = K.horizon
+keeps K (one.Deadline p) = is_set K.deadlines p
+keeps K (one.Release p) = is_set K.releases p
+keeps K (one.Link l) = is_set K.links l
+keeps K (one.Message m) = is_set K.messages m
+keeps K (one.Both m) = is_set K.both m
+
 -- all but one; a message that is left out needn't be on both channels either
 abbrev pub without : Constraints → Constraint → Constraints
 without K one.Horizon = record K { horizon = false }

@@ -1,6 +1,6 @@
 //! What follows from the definitions alone? These functions do nothing: their contracts are laws.
 
-ghost use Rattle.std.specs.Prelude.{◌≡◌, List};
+ghost use Rattle.std.specs.Prelude.{◌≡◌, All, Contains, List, true, false};
 ghost use Rattle.ttp_model.specs.declared.plan.Plan.{Plan};
 ghost use Rattle.ttp_model.specs.Instance.{Instance};
 ghost use Rattle.ttp_model.specs.Rules.{IsInstance};
@@ -8,7 +8,7 @@ ghost use Rattle.ttp_model.specs.Plans.{IsValid};
 ghost use Rattle.ttp_model.specs.Delays.{HasNoPlan};
 ghost use Rattle.kept_constraints.specs.declared.constraints.Constraint.{Constraint};
 ghost use Rattle.kept_constraints.specs.declared.constraints.Constraints.{Constraints};
-ghost use Rattle.kept_constraints.specs.Constraints.{all_of, without, without_all};
+ghost use Rattle.kept_constraints.specs.Constraints.{all_of, keeps, listed, without, without_all};
 ghost use Rattle.kept_constraints.specs.Only.{only, plan_with};
 ghost use Rattle.kept_constraints.specs.Fewer.{AreAmong, HasPlan};
 
@@ -24,6 +24,15 @@ pub fn what_is_left_is_fewer()
     ensures many { (K : Constraints) (cs : List Constraint) → AreAmong (without_all K cs) K }
     ensures more { (fewer more : Constraints) (c : Constraint) → AreAmong fewer more
         → AreAmong (without fewer c) (without more c) }
+    ensures gone { (K : Constraints) (cs : List Constraint) → All (λ c. keeps (without_all K cs) c ≡ false) cs }
+{}
+
+/// Just the constraints that are kept are listed, and each is kept among more of them.
+pub fn kept_constraints_are_listed()
+    ensures listed { (K : Constraints) → All (λ c. keeps K c ≡ true) (listed K) }
+    ensures kept { (K : Constraints) (c : Constraint) → keeps K c ≡ true → Contains (listed K) c }
+    ensures among { (fewer more : Constraints) (c : Constraint) → AreAmong fewer more
+        → keeps fewer c ≡ true → keeps more c ≡ true }
 {}
 
 /// A valid plan, without what it says of the messages that are left out, is valid by fewer constraints. So where there is a plan by some

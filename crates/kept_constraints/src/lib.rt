@@ -9,6 +9,7 @@ mod only;
 pub use constraints::{Constraint, Constraints};
 pub use flags::Flags;
 pub use laws::{
-    fewer_constraints_keep_the_plans, kept_constraints_make_instances, what_is_left_is_fewer,
+    fewer_constraints_keep_the_plans, kept_constraints_are_listed, kept_constraints_make_instances,
+    what_is_left_is_fewer,
 };
 pub use only::with_only;
