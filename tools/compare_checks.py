@@ -311,6 +311,8 @@ def case(dice, examples, two_channels):
 def second(command, instance, *texts):
     """The second checker's status and text. Behind the plan of `schedule` stands the table's name."""
     try:
+        if command == "compare":
+            return second_check.comparison(second_check.released("old", instance, texts[0]), second_check.released("new", *texts[1:]))[::-1]
         judged = second_check.Instance(instance)
         if command == "judge":
             delay = second_check.given_delay(judged, texts[0])

@@ -8,9 +8,11 @@
                                                    writes the table
     tools/second_check.py draw INSTANCE PLAN [--width PX] [--used]
                                                    writes the picture
+    tools/second_check.py compare OLD_INSTANCE OLD_PLAN NEW_INSTANCE NEW_PLAN
+                                                   writes what is different
 
 Anything else is told in one line on standard error, with the words and the statuses of `ttplan verify`, `check`, `judge`,
-`schedule` and `draw`.
+`schedule`, `draw` and `compare`.
 It was written from docs/FORMATS.md and docs/CERTIFICATES.md alone, but for the elements and colours of a picture, which stand in
 crates/plan_picture/specs, and is proved in no way: where it and ttplan differ, a
 document is wrong, or one of the two programs is.
@@ -20,6 +22,7 @@ Two things may differ: which circle of processes is told (M13), where there are 
 a second 60 and the year 0."""
 
 import codecs
+import contextlib
 import functools
 import itertools
 import math
@@ -559,6 +562,85 @@ def schedule(instance, plan_text, table):
     """The text of a table of a valid plan; raises Refused."""
     rows = TABLES[table](instance, verified(instance, plan_text))
     return "\n".join(",".join(str(cell) for cell in row) for row in rows)
+
+
+# Two releases
+
+
+def table_lines(instance, plan, node):
+    """The lines of a node's table."""
+    lines = []
+    for r in range(-(-plan.delay // slot_times(instance, plan)[0])):
+        for k, n in enumerate(plan.order):
+            words = ["row", r, k, instance.nodes[n].name, plan.caps[n]]
+            for c in range(instance.channels):
+                offset = 0
+                for m in instance.sent_by[n]:
+                    message = instance.messages[m]
+                    if plan.rounds[m] != r or c not in on_channels(plan, m):
+                        continue
+                    if node == n or any(instance.processes[q].node == node for q in message.to):
+                        words.append(":".join(map(str, [message.name, c, offset] if instance.channels > 1 else [message.name, offset])))
+                    offset += message.bytes
+            lines.append(" ".join(map(str, words)))
+    return lines
+
+
+def window_lines(instance, plan, node):
+    """The lines of the windows of a node's slots."""
+    length, begins, durations = slot_times(instance, plan)
+    for r in range(-(-plan.delay // length)):
+        start = r * length + begins[node]
+        opens = start + instance.lead - instance.precision
+        yield f"window {r} {instance.nodes[node].name} {opens} {start + durations[node] - instance.trail + instance.precision}"
+
+
+def figures(things, numbers):
+    return {thing.name: number for thing, number in zip(things, numbers)}
+
+
+def by_name(instance, plan):
+    """What is loaded for each node, the order, and the figures of a plan, all by names."""
+    loads = {node.name: (table_lines(instance, plan, n), list(window_lines(instance, plan, n))) for n, node in enumerate(instance.nodes)}
+    words = [CHANNEL_WORDS[number].decode() for number in plan.channels]
+    return loads, [instance.nodes[n].name for n in plan.order], {
+        "cap": figures(instance.nodes, plan.caps), "start": figures(instance.processes, plan.starts),
+        "round": figures(instance.messages, plan.rounds), "chan": figures(instance.messages, words)}
+
+
+def comparison(old, new):
+    """What is different of two instances, each with a valid plan of it, and the status."""
+    (old_loads, old_order, old_figures), (new_loads, new_order, new_figures) = by_name(*old), by_name(*new)
+    lines = []
+    for name in [*new_loads, *(name for name in old_loads if name not in new_loads)]:
+        fate = "new" if name not in old_loads else "gone" if name not in new_loads else "same" if old_loads[name] == new_loads[name] else "changed"
+        lines.append(f"{fate} {name}")
+    if old_order != new_order:
+        lines.append("order changed")
+    if old[0].channels == new[0].channels == 1:
+        del old_figures["chan"], new_figures["chan"]
+    for keyword, after in new_figures.items():
+        before = old_figures[keyword]
+        for name in [*after, *(name for name in before if name not in after)]:
+            if before.get(name) != after.get(name):
+                lines.append(f"{keyword} {name} {before.get(name, '-')} {after.get(name, '-')}")
+    return "\n".join(lines), int(any(not line.startswith("same ") for line in lines))
+
+
+@contextlib.contextmanager
+def of_release(word):
+    """Tells a refusal behind the word for a release."""
+    try:
+        yield
+    except Refused as fault:
+        raise Refused(fault.status, word, fault.line) from fault
+
+
+def released(word, instance_text, plan_text):
+    """An instance with a valid plan of it; raises Refused."""
+    with of_release(word):
+        instance = Instance(instance_text)
+        return instance, verified(instance, plan_text)
 
 
 # A plan as a picture
@@ -1168,7 +1250,8 @@ def check(instance, certificate_text):
 
 
 USAGE = ("usage: second_check.py verify INSTANCE PLAN | check INSTANCE CERT | judge INSTANCE PLAN CERT"
-         " | schedule INSTANCE PLAN [--table TABLE] | draw INSTANCE PLAN [--width PX] [--used]")
+         " | schedule INSTANCE PLAN [--table TABLE] | draw INSTANCE PLAN [--width PX] [--used]"
+         " | compare OLD_INSTANCE OLD_PLAN NEW_INSTANCE NEW_PLAN")
 COMMANDS = {"verify": (verify, "plan", PLAN_BYTES), "check": (check, "certificate", CERTIFICATE_BYTES)}
 
 
@@ -1203,6 +1286,22 @@ def judge(paths):
         return judgement(judged, delay, proved_bound(judged, taken(certificate, "certificate", CERTIFICATE_BYTES)))
 
 
+def compare(paths):
+    """What is different of the releases of files; raises Refused."""
+    with contextlib.ExitStack() as files:
+        releases = []
+        for word, paths_there in (("old", paths[:2]), ("new", paths[2:])):
+            with of_release(word):
+                there = [files.enter_context(opened(path, what)) for path, what in zip(paths_there, ("instance", "plan"))]
+            releases.append((word, there))
+        judged = []
+        for word, (instance, plan) in releases:
+            with of_release(word):
+                problem = Instance(taken(instance, "instance", INSTANCE_BYTES))
+                judged.append((problem, verified(problem, taken(plan, "plan", PLAN_BYTES))))
+        return comparison(*judged)
+
+
 def command_of(words):
     """What is judged by the words, without the table or the look of a picture that they name."""
     table = "processes"
@@ -1231,6 +1330,8 @@ def drawing_of(words):
 def run(words):
     if len(words) == 4 and words[0] == "judge":
         return judge(words[1:])
+    if len(words) == 5 and words[0] == "compare":
+        return compare(words[1:])
     command, what, limit = command_of(words)
     with opened(words[1], "instance") as instance, opened(words[2], what) as text:
         judged = Instance(taken(instance, "instance", INSTANCE_BYTES))

@@ -1,9 +1,10 @@
 -- A request that is sound spares the instance's file.
-use Rattle.std.proofs.Common.{◌≡◌, ◌++◌, ◌∙◌, ℕ, List, None, Some, codes, false, refl, ap, sym}
+use Rattle.std.proofs.Common.{◌≡◌, ◌++◌, ◌∙◌, ℕ, List, Option, None, Some, IfSome, Bor, codes, false, refl, ap, sym}
 use Rattle.command_words.specs.declared.words.Request.{Request}
-use Rattle.command_words.specs.declared.words.Request.TheVariants.{OnFiles, Solve, Check, Judge, Explain, VerifyBundle, Version}
+use Rattle.command_words.specs.declared.words.Request.TheVariants.{OnFiles, Solve, Check, Judge, Compare, Explain, VerifyBundle, Version}
 use Rattle.command_words.specs.Names.{NameOneFile, is_rooted, parts}
-use Rattle.command_words.specs.Requests.{IsSound}
+use Rattle.command_words.specs.declared.words.Search.{Search}
+use Rattle.command_words.specs.Requests.{IsApart, IsSound}
 use Rattle.command_evidence.specs.Words.{SparesInstance}
 
 here_again : (name : List ℕ) → parts (codes "./" ++ name) ≡ parts name
@@ -12,13 +13,17 @@ here_again name = refl
 spelled_again : (name file : List ℕ) → is_rooted name ≡ false → file ≡ codes "./" ++ name → NameOneFile file name
 spelled_again name file local is = (ap is_rooted is ∙ sym local, ap parts is ∙ here_again name)
 
+another : (search : Search) (certificate : Option (Bor (List ℕ))) → IfSome certificate (λ file. IsApart search file.now)
+    → IfSome certificate (λ file. is_rooted search.instance.now ≡ false → file.now ≡ codes "./" ++ search.instance.now → ⊥)
+another search None apart = tt
+another search (Some file) apart = λ local is. apart.0 (spelled_again search.instance.now file.now local is)
+
 pub spares : (request : Request) → IsSound request → SparesInstance request
 spares (OnFiles instance plan task) sound = tt
-spares (Solve instance None workers budget progress until seconds) sound = tt
-spares (Solve instance (Some file) workers budget progress until seconds) sound =
-    λ local is. sound.2 (spelled_again instance.now file.now local is)
+spares (Solve search) sound = another search search.certificate sound.certificate
 spares (Check instance certificate) sound = tt
 spares (Judge instance plan certificate) sound = tt
+spares (Compare old_instance old_plan new_instance new_plan) sound = tt
 spares (Explain instance explained) sound = tt
 spares VerifyBundle sound = tt
 spares Version sound = tt

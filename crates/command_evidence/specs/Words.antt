@@ -6,6 +6,6 @@ use Rattle.command_words.specs.Names.{is_rooted}
 
 -- the certificate isn't written to the instance's file, of which the name is given again with `./` before it
 abbrev pub SparesInstance : Request → Type 0
-SparesInstance (Solve instance certificate workers budget progress until seconds) =
-    IfSome certificate (λ file. is_rooted instance.now ≡ false → file.now ≡ codes "./" ++ instance.now → ⊥)
+SparesInstance (Solve search) =
+    IfSome search.certificate (λ file. is_rooted search.instance.now ≡ false → file.now ≡ codes "./" ++ search.instance.now → ⊥)
 SparesInstance _ = Unit {0}

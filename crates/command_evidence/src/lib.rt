@@ -46,8 +46,8 @@ pub use propagations::{
     refused_decision_is_not_kept, supposed_order_is_not_known, what_was_known_is_known_again,
 };
 pub use searches::{
-    found_plan_is_settled, leaf_of_a_find_is_below_the_goal, least_is_told_of_a_least_delay,
-    task_left_is_closed_at_the_path_bound,
+    answer_is_no_later_than_the_start, found_plan_is_settled, leaf_of_a_find_is_below_the_goal,
+    least_is_told_of_a_least_delay, task_left_is_closed_at_the_path_bound,
 };
 pub use smaller_trees::{
     bound_is_the_one_asked_for, branches_are_few_enough, tree_that_is_given_is_a_proof,

@@ -3,13 +3,14 @@
 ghost use Rattle.std.specs.Prelude.{◌≡◌, ℕ, ◌<◌, ◌≤◌, IfOk, IfSome, min};
 ghost use Rattle.ttp_model.specs.declared.step.Leaf.{Leaf};
 ghost use Rattle.ttp_model.specs.Chains.{IsPathBound};
-ghost use Rattle.ttp_model.specs.Delays.{IsLeastDelay};
+ghost use Rattle.ttp_model.specs.Delays.{delay, IsLeastDelay};
 ghost use Rattle.ttp_model.specs.Moves.{IsSettled};
+ghost use Rattle.ttp_model.specs.Plans.{IsValid};
 ghost use Rattle.certificate.specs.declared.node.Node.TheVariants.{Leaf as AsLeaf};
 ghost use Rattle.subtree_tasks.specs.Task.{IsTask};
 
 use branch_tree::{Piece, Task, Worked, close_left, work};
-use planner::{Options, Outcome, SolveFault, solve};
+use planner::{FreeGate, Options, Outcome, SolveFault, solve, solve_towards};
 use std::alloc::Global;
 use std::sync::Wait;
 use std::thread::Threads;
@@ -59,6 +60,28 @@ pub fn task_left_is_closed_at_the_path_bound(
         → piece.node ≡ AsLeaf leaf → min top bound ≤ leaf.goal) }
 {
     close_left(alloc, instance, task, top)
+}
+
+/// Begun with a plan, a search answers one that takes no longer.
+pub fn answer_is_no_later_than_the_start<R: Threads + Wait + Sync>(
+    rt: &R,
+    alloc: Global,
+    instance: &Instance,
+    options: Options,
+    start: Plan,
+) -> Result<u64, SolveFault>
+    requires { IsValid instance.now start }
+    ensures { IfOk result (λ ticks. ticks ≤ delay instance.now start) }
+{
+    let _nodes = instance.nodes();
+    match solve_towards(rt, alloc, instance, options, Some(start), &FreeGate)? {
+        Outcome::Optimal { delay, .. } => Ok(delay),
+        Outcome::Stopped {
+            best: Some((_, delay)),
+            ..
+        } => Ok(delay),
+        Outcome::Infeasible { .. } | Outcome::Stopped { best: None, .. } => unreachable!(),
+    }
 }
 
 /// A delay that is told as the least is, also where the budget is spent.

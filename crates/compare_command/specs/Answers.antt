@@ -28,27 +28,28 @@ SayVerified texts v = IsVerified texts.instance texts.plan v
 abbrev pub planned_of : Verified → Planned
 planned_of v = record { instance = v.instance; plan = v.plan }
 
--- at which end nothing is different, and at which something is
-abbrev pub EndsAs : Planned → Planned → Compared → Type 0
-EndsAs old new Same = IsUnchanged old new
-EndsAs old new Different = ¬ IsUnchanged old new
-EndsAs old new (Refused release fault) = ⊥
-
--- what is told of two releases, both of which are verified, at this end
-pub record IsComparison (old new : Texts) (end : Compared) (text : List ℕ) : Type 0 where
+-- what is told of two releases, both of which are verified, and of which this holds
+pub record IsComparison (Holds : Planned → Planned → Type 0) (old new : Texts) (text : List ℕ) : Type 0 where
   pub before : Verified
   pub says_before : SayVerified old before
   pub after : Verified
   pub says_after : SayVerified new after
   pub told : text ≡ changes_text (planned_of before) (planned_of after)
-  pub ends : EndsAs (planned_of before) (planned_of after) end
+  pub holds : Holds (planned_of before) (planned_of after)
+
+-- something is different
+abbrev pub IsChanged : Planned → Planned → Type 0
+IsChanged old new = ¬ IsUnchanged old new
+
+-- whether something is or not
+abbrev pub IsEither : Planned → Planned → Type 0
+IsEither old new = Unit {0}
 
 -- a write failed: a prefix of what is told was written
 pub record IsCutOff (old new : Texts) (fault : Fault) (before after : Option (List ℕ)) : Type 0 where
   pub unwritten : fault ≡ Unwritten Out
-  pub at : Compared
   pub text : List ℕ
-  pub is : IsComparison old new at text
+  pub is : IsComparison IsEither old new text
   pub part : AppendsPart before after text
 
 -- the old release is verified, and the new one is refused as `verify` refuses it
@@ -64,8 +65,8 @@ IsReleaseRefused old new New fault = IsNewRefused old new fault
 
 -- what `compare` answers of the bytes of the old release and of the new one, and what it writes
 abbrev pub IsCompareAnswer : Texts → Texts → Option (List ℕ) → Option (List ℕ) → Compared → Type 0
-IsCompareAnswer old new before after Same = IsWritten (IsComparison old new Same) before after
-IsCompareAnswer old new before after Different = IsWritten (IsComparison old new Different) before after
+IsCompareAnswer old new before after Same = IsWritten (IsComparison IsUnchanged old new) before after
+IsCompareAnswer old new before after Different = IsWritten (IsComparison IsChanged old new) before after
 IsCompareAnswer old new before after (Refused release fault) =
     IsCutOff old new fault before after ⊎ (IsReleaseRefused old new release fault × Keeps before after)
 
@@ -84,6 +85,6 @@ IsWritingOf text unchanged before after (Refused release fault) =
 -- how the telling of two plans ends: their text is written, or a prefix of it, or memory was refused
 abbrev pub IsTelling : Planned → Planned → Option (List ℕ) → Option (List ℕ) → Compared → Type 0
 IsTelling old new before after Same = IsUnchanged old new × Appends before after (changes_text old new)
-IsTelling old new before after Different = (¬ IsUnchanged old new) × Appends before after (changes_text old new)
+IsTelling old new before after Different = IsChanged old new × Appends before after (changes_text old new)
 IsTelling old new before after (Refused release fault) =
     (release ≡ New) × (((fault ≡ Unwritten Out) × AppendsPart before after (changes_text old new)) ⊎ ((fault ≡ Memory) × Keeps before after))

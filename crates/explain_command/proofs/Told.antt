@@ -1,13 +1,16 @@
 -- What is told of a text for an instance, once both are read; and a text that is told and written is a command's outcome.
 use Rattle.std.proofs.Common.{◌≡◌, ℕ, List, Option, None, Some, Result, Ok, Err, IfErr, IfOk, IfSome, inr, subst}
 use Rattle.ttp_model.specs.Instance.{Instance}
-use Rattle.command_streams.specs.Instances.{HasInstance}
+use Rattle.command_streams.specs.Instances.{HasInstance, StatesSome}
 use Rattle.command_streams.specs.Outcomes.{IsCommandAnswer, IsWriting, OnDone}
 use Rattle.command_streams.specs.declared.ending.End.{End}
+use Rattle.command_streams.specs.declared.ending.End.TheVariants.{Refused}
+use Rattle.command_streams.specs.declared.ending.Sink.TheVariants.{Out}
 use Rattle.command_streams.specs.declared.ending.Source.TheVariants as source
 use Rattle.command_streams.specs.declared.ending.Fault.{Fault}
 use Rattle.command_streams.specs.declared.ending.Fault.TheVariants.{NoMark, LossForm, InstanceText, Memory, PlanText, Plan, StatedDelay, CertificateText, Certificate, TooFewNodes, WrongLoss, NoSuchProcess, TooManySlots, Search, TooLong, Unread, Unwritten}
 use Rattle.command_streams.proofs.Outcomes.{written_outcome}
+use Rattle.plan_commands.proofs.Tellings.{refused_outcome}
 use Rattle.explain_command.specs.declared.instances.Stated.{Stated}
 use Rattle.explain_command.specs.declared.instances.Stated.TheVariants.{Instance as Of}
 use Rattle.explain_command.specs.Instances.{IsStatedOf}
@@ -28,6 +31,14 @@ pub told_of_two : (Tells : List ℕ → List ℕ → List ℕ → Type 0) (Refus
 told_of_two Tells RefusedBy None b text old new end is writing = tt
 told_of_two Tells RefusedBy (Some i) None text old new end is writing = tt
 told_of_two Tells RefusedBy (Some i) (Some p) text old new end is writing = written_outcome (Tells i p) (RefusedBy i p) text is old new end writing
+
+-- of two nothing is told, for this fault
+pub untold_of_two : (Tells : List ℕ → List ℕ → List ℕ → Type 0) (RefusedBy : List ℕ → List ℕ → Fault → Type 0) (a b old : Option (List ℕ)) (fault : Fault)
+    → ((i p : List ℕ) → ¬ RefusedBy i p (Unwritten Out)) → IfSome a (λ i. IfSome b (λ p. RefusedBy i p fault))
+    → IfSome a (λ i. IfSome b (λ p. IsCommandAnswer (OnDone (Tells i p)) (RefusedBy i p) old old (Refused fault)))
+untold_of_two Tells RefusedBy None b old fault never is = tt
+untold_of_two Tells RefusedBy (Some i) None old fault never is = tt
+untold_of_two Tells RefusedBy (Some i) (Some p) old fault never is = refused_outcome (OnDone (Tells i p)) (RefusedBy i p) (never i p) old fault is
 
 -- a text that is told behind the instance
 pub behind : (Tells : Instance → List ℕ → List ℕ → Type 0) (a b : Option (List ℕ)) (problem : Instance) (text : List ℕ) → IfSome a (λ i. HasInstance i problem)
@@ -122,3 +133,8 @@ pub stated_at : (a : Option (List ℕ)) (stated : Stated) (problem : Instance) �
     → IfSome a (λ bytes. HasInstance bytes problem)
 stated_at None stated problem is of = tt
 stated_at (Some bytes) stated problem is of = subst (IsStatedOf bytes) is of
+
+-- where the instance was read its bytes state one, so nothing is asked of those that state none
+pub never_asked : (Asked : Type 0) (a : Option (List ℕ)) (problem : Instance) → IfSome a (λ i. HasInstance i problem) → IfSome a (λ i. ¬ StatesSome i → Asked)
+never_asked Asked None problem has = tt
+never_asked Asked (Some i) problem has = λ none. absurd (none (record { problem = problem; has_instance = has }))

@@ -2,8 +2,9 @@
 
 ghost use Rattle.std.specs.Prelude.{◌≡◌, ◌+◌, IfErr, IfOk, IfSome, string_bytes};
 ghost use Rattle.std.specs.Io.KnownBytes.{Keeps};
-ghost use Rattle.command_streams.specs.Instances.{StatesSome};
+ghost use Rattle.command_streams.specs.Instances.{IsOfInstance, StatesSome};
 ghost use Rattle.command_streams.specs.Limits.{certificate_limit, instance_limit, plan_limit};
+ghost use Rattle.command_streams.specs.Outcomes.{IfRefused};
 ghost use Rattle.command_streams.specs.Streams.{TakesAtMost};
 ghost use Rattle.command_streams.specs.declared.ending.Fault.TheVariants.{Memory};
 ghost use Rattle.explain_command.specs.Explained.{IsCertificateExplained, IsCertificateUntold, IsInstanceExplained, IsPlanExplained, IsPlanUntold, IsUntold, TellsBoth};
@@ -79,6 +80,7 @@ pub fn explain_instance<I: Read, W: Write>(alloc: Global, instance: &mut I, out:
 fn told_of_plan<P: Read>(alloc: Global, instance: &Instance, plan: &mut P) -> Result<String, Fault>
     ensures ok { IfSome (P.remaining plan.old) (λ p. IfOk result (λ text. TellsPlanBytes instance.now p (string_bytes text))) }
     ensures err { IfSome (P.remaining plan.old) (λ p. IfErr result (IsPlanUnread p)) }
+    ensures later { IfErr result (λ fault. ¬ IsOfInstance fault) }
     ensures plan { TakesAtMost (plan_limit + 1) (P.remaining plan.old) (P.remaining plan.new) }
 {
     let bytes = read_all(alloc, plan, PLAN_LIMIT, Source::Plan)?;
@@ -97,7 +99,8 @@ fn plan_told<I: Read, P: Read>(
     ensures err { IfSome (I.remaining instance.old) (λ i. IfSome (P.remaining plan.old) (λ p. IfErr result (IsPlanUntold i p))) }
     ensures instance { TakesAtMost (instance_limit + 1) (I.remaining instance.old) (I.remaining instance.new) }
     ensures plan { TakesAtMost (plan_limit + 1) (P.remaining plan.old) (P.remaining plan.new) }
-    ensures order { IfSome (I.remaining instance.old) (λ i. ¬ StatesSome i → Keeps (P.remaining plan.old) (P.remaining plan.new)) }
+    ensures order { IfErr result (λ fault. IsOfInstance fault → Keeps (P.remaining plan.old) (P.remaining plan.new)) }
+    ensures unread { IfSome (I.remaining instance.old) (λ i. ¬ StatesSome i → Keeps (P.remaining plan.old) (P.remaining plan.new)) }
 {
     match stated_of_reader(alloc, instance)? {
         Stated::Refused(text) => Ok(text),
@@ -122,7 +125,8 @@ pub fn explain_plan<I: Read, P: Read, W: Write>(
         IsPlanExplained i p (W.contents out.old) (W.contents out.new) result)) }
     ensures instance { TakesAtMost (instance_limit + 1) (I.remaining instance.old) (I.remaining instance.new) }
     ensures plan { TakesAtMost (plan_limit + 1) (P.remaining plan.old) (P.remaining plan.new) }
-    ensures order { IfSome (I.remaining instance.old) (λ i. ¬ StatesSome i → Keeps (P.remaining plan.old) (P.remaining plan.new)) }
+    ensures order { IfRefused result (λ fault. IsOfInstance fault → Keeps (P.remaining plan.old) (P.remaining plan.new)) }
+    ensures unread { IfSome (I.remaining instance.old) (λ i. ¬ StatesSome i → Keeps (P.remaining plan.old) (P.remaining plan.new)) }
 {
     match plan_told(alloc, instance, plan) {
         Ok(text) => end_with(out, text.as_bytes()),
@@ -139,6 +143,7 @@ fn told_of_certificate<C: Read>(
 ) -> Result<String, Fault>
     ensures ok { IfSome (C.remaining certificate.old) (λ c. IfOk result (λ text. TellsCertificateBytes instance.now c (string_bytes text))) }
     ensures err { IfSome (C.remaining certificate.old) (λ c. IfErr result (IsUnreadable c)) }
+    ensures later { IfErr result (λ fault. ¬ IsOfInstance fault) }
     ensures certificate { TakesAtMost (certificate_limit + 1) (C.remaining certificate.old) (C.remaining certificate.new) }
 {
     let bytes = read_all(alloc, certificate, CERTIFICATE_LIMIT, Source::Certificate)?;
@@ -157,7 +162,8 @@ fn certificate_told<I: Read, C: Read>(
     ensures err { IfSome (I.remaining instance.old) (λ i. IfSome (C.remaining certificate.old) (λ c. IfErr result (IsCertificateUntold i c))) }
     ensures instance { TakesAtMost (instance_limit + 1) (I.remaining instance.old) (I.remaining instance.new) }
     ensures certificate { TakesAtMost (certificate_limit + 1) (C.remaining certificate.old) (C.remaining certificate.new) }
-    ensures order { IfSome (I.remaining instance.old) (λ i. ¬ StatesSome i → Keeps (C.remaining certificate.old) (C.remaining certificate.new)) }
+    ensures order { IfErr result (λ fault. IsOfInstance fault → Keeps (C.remaining certificate.old) (C.remaining certificate.new)) }
+    ensures unread { IfSome (I.remaining instance.old) (λ i. ¬ StatesSome i → Keeps (C.remaining certificate.old) (C.remaining certificate.new)) }
 {
     match stated_of_reader(alloc, instance)? {
         Stated::Refused(text) => Ok(text),
@@ -171,7 +177,8 @@ fn certificate_told<I: Read, C: Read>(
 
 /// Tells a certificate: the line of `check`, and in sentences why it doesn't prove its bound, or how it does: step by step where
 /// it is one leaf, and else how large it is. The instance is read and judged first, and where there is none the certificate isn't
-/// read. The certificate's text is held in memory. Where anything else ends the command nothing is written, and after a failed write a prefix of the text stands.
+/// read. The certificate's text is held in memory. Where anything else ends the command nothing is written, and after a failed
+/// write a prefix of the text stands.
 pub fn explain_certificate<I: Read, C: Read, W: Write>(
     rt: &(impl Threads + Sync),
     alloc: Global,
@@ -183,7 +190,8 @@ pub fn explain_certificate<I: Read, C: Read, W: Write>(
         IsCertificateExplained i c (W.contents out.old) (W.contents out.new) result)) }
     ensures instance { TakesAtMost (instance_limit + 1) (I.remaining instance.old) (I.remaining instance.new) }
     ensures certificate { TakesAtMost (certificate_limit + 1) (C.remaining certificate.old) (C.remaining certificate.new) }
-    ensures order { IfSome (I.remaining instance.old) (λ i. ¬ StatesSome i → Keeps (C.remaining certificate.old) (C.remaining certificate.new)) }
+    ensures order { IfRefused result (λ fault. IsOfInstance fault → Keeps (C.remaining certificate.old) (C.remaining certificate.new)) }
+    ensures unread { IfSome (I.remaining instance.old) (λ i. ¬ StatesSome i → Keeps (C.remaining certificate.old) (C.remaining certificate.new)) }
 {
     match certificate_told(rt, alloc, instance, certificate) {
         Ok(text) => end_with(out, text.as_bytes()),

@@ -6,6 +6,7 @@ ghost use Rattle.std.specs.Prelude.{◌≤◌};
 ghost use Rattle.plan_picture.specs.Limits.{least_width, most_width};
 
 use command_streams::{End, report, status, take_input, write_text};
+use compare_command::{Compared, compare_run};
 use explain_command::{explain_certificate, explain_instance, explain_plan};
 use line_text::{NumberWord, cut, number_word, push_number, push_number_word};
 use plan_commands::{
@@ -56,6 +57,7 @@ enum Command {
     ExplainInstance,
     ExplainPlan,
     ExplainCertificate,
+    Compare,
 }
 
 /// What a case asks for, and the lengths of its texts. The second text of a bundle, or of an instance that is explained alone, isn't looked at.
@@ -65,15 +67,25 @@ struct Header {
     first: u32,
     second: u32,
     third: u32,
+    fourth: u32,
 }
 
-/// What a case asks for, and its texts. The third is a certificate, or words.
+/// What a case asks for, and its texts. The third is a certificate, words, or an instance with whose plan, the fourth, the first two are
+/// compared.
 #[derive(Drop)]
 struct Case {
     command: Command,
     first: Vec<u8>,
     second: Vec<u8>,
     third: Vec<u8>,
+    fourth: Vec<u8>,
+}
+
+/// How a command ends.
+#[derive(Drop)]
+enum Ended {
+    End(End),
+    Compared(Compared),
 }
 
 fn command_of(word: &[u8]) -> Option<Command> {
@@ -89,6 +101,7 @@ fn command_of(word: &[u8]) -> Option<Command> {
         b"explain-alone" => Some(Command::ExplainInstance),
         b"explain-plan" => Some(Command::ExplainPlan),
         b"explain-cert" => Some(Command::ExplainCertificate),
+        b"compare" => Some(Command::Compare),
         _ => None,
     }
 }
@@ -100,14 +113,22 @@ fn length_of(word: &[u8]) -> Option<u32> {
     }
 }
 
-fn third_length(command: Command, rest: &[u8]) -> Option<u32> {
+/// How many texts a case has, or words in a text's place.
+fn texts_of(command: Command) -> u32 {
     match command {
-        Command::Replay | Command::Judge | Command::Schedule | Command::Draw => {
-            let (third, _) = cut(b' ', rest)?;
-            length_of(third)
-        }
-        _ => Some(0),
+        Command::Replay | Command::Judge | Command::Schedule | Command::Draw => 3,
+        Command::Compare => 4,
+        _ => 2,
     }
+}
+
+/// The next length of a header, and what stands behind it: 0 where there is no such text.
+fn next_length(is_there: bool, rest: &[u8]) -> Option<(u32, &[u8])> {
+    if !is_there {
+        return Some((0, rest));
+    }
+    let (length, rest) = cut(b' ', rest)?;
+    Some((length_of(length)?, rest))
 }
 
 fn header_of(bytes: &[u8]) -> Option<Header> {
@@ -115,11 +136,14 @@ fn header_of(bytes: &[u8]) -> Option<Header> {
     let (first, rest) = cut(b' ', rest)?;
     let (second, rest) = cut(b' ', rest)?;
     let command = command_of(command)?;
+    let (third, rest) = next_length(texts_of(command) > 2, rest)?;
+    let (fourth, _) = next_length(texts_of(command) > 3, rest)?;
     Some(Header {
         command,
         first: length_of(first)?,
         second: length_of(second)?,
-        third: third_length(command, rest)?,
+        third,
+        fourth,
     })
 }
 
@@ -156,6 +180,7 @@ fn next_case<R: Read>(alloc: Global, input: &mut R) -> Result<Option<Case>, Stop
         first: next_text(alloc, input, header.first)?,
         second: next_text(alloc, input, header.second)?,
         third: next_text(alloc, input, header.third)?,
+        fourth: next_text(alloc, input, header.fourth)?,
     }))
 }
 
@@ -198,6 +223,18 @@ fn shown_of(words: &[&str]) -> Shown {
     }
 }
 
+/// How the comparison of a case's two instances with their plans ends.
+fn compared_of<W: Write>(alloc: Global, case: &Case, out: &mut W) -> Compared {
+    compare_run(
+        alloc,
+        &mut case.first.as_slice(),
+        &mut case.second.as_slice(),
+        &mut case.third.as_slice(),
+        &mut case.fourth.as_slice(),
+        out,
+    )
+}
+
 /// How a command ends on its texts.
 fn end_of<W: Write>(
     rt: &(impl Threads + Sync),
@@ -205,9 +242,9 @@ fn end_of<W: Write>(
     case: &Case,
     words: &[&str],
     out: &mut W,
-) -> End {
+) -> Ended {
     let (mut first, mut second) = (case.first.as_slice(), case.second.as_slice());
-    match case.command {
+    let end = match case.command {
         Command::Verify => verify(alloc, &mut first, &mut second, out),
         Command::Bundle => verify_bundle(alloc, &mut first, out),
         Command::Tables => tables(alloc, &mut first, &mut second, out),
@@ -231,6 +268,22 @@ fn end_of<W: Write>(
         Command::ExplainCertificate => {
             explain_certificate(rt, alloc, &mut first, &mut second, out)
         }
+        Command::Compare => return Ended::Compared(compared_of(alloc, case, out)),
+    };
+    Ended::End(end)
+}
+
+/// Tells why a command was refused, and gives its status.
+fn told<W: Write>(ended: &Ended, error: &mut W) -> u8 {
+    match ended {
+        Ended::End(end) => {
+            let _ = report(end, error);
+            status(end)
+        }
+        Ended::Compared(compared) => {
+            let _ = compare_command::report(compared, error);
+            compare_command::status(compared)
+        }
     }
 }
 
@@ -242,10 +295,10 @@ fn answer_of(
     words: &[&str],
 ) -> Result<Vec<u8>, AllocError> {
     let (mut out, mut error) = (Vec::new(alloc), Vec::new(alloc));
-    let end = end_of(rt, alloc, case, words, &mut out);
-    let _ = report(&end, &mut error);
+    let ended = end_of(rt, alloc, case, words, &mut out);
+    let status = told(&ended, &mut error);
     let mut answer = Vec::new(alloc);
-    push_number(&mut answer, u64::from(status(&end)))?;
+    push_number(&mut answer, u64::from(status))?;
     push_number_word(&mut answer, out.len() as u64)?;
     push_number_word(&mut answer, error.len() as u64)?;
     answer.push(b'\n')?;

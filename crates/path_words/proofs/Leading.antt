@@ -1,5 +1,6 @@
 -- A chain part by part: how one grows, what its neighbours are, and where it ends.
-use Rattle.std.proofs.Common.{◌≡◌, ℕ, zero, suc, ◌<◌, List, [], ◌∷◌, ◌++◌, length, slice_index, slice_index_or, Option, None, Some, append_assoc, arith, ap, refl, sym, ◌∙◌}
+use Rattle.std.proofs.Common.{◌≡◌, ℕ, zero, suc, ◌<◌, List, [], ◌∷◌, ◌++◌, length, slice_index, slice_index_or, Option, None, Some}
+use Rattle.std.proofs.Common.{append_assoc, arith, ap, refl, sym, ◌∙◌}
 use Rattle.std.proofs.lemmas.List.{append-nil}
 use Rattle.ttp_model.specs.Instance.{Instance, link_at, message_at, process_at}
 use Rattle.path_words.specs.declared.chain.Cause.{Cause}

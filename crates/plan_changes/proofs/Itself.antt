@@ -74,7 +74,9 @@ differences_text-itself p column =
 
 channels_text-itself : (p : Planned) → channels_text p p ≡ []
 unfolding channels_text
-channels_text-itself p = rw (differences_text-itself p Channel) (cond_both (has_two_channels p.instance || has_two_channels p.instance) [] [] (λ told. told ≡ []) (λ _. refl) (λ _. refl))
+channels_text-itself p =
+    let two = has_two_channels p.instance in
+    rw (differences_text-itself p Channel) (cond_both (two || two) [] [] (λ told. told ≡ []) (λ _. refl) (λ _. refl))
 
 pub plan_text-itself : (p : Planned) → plan_text p p ≡ []
 plan_text-itself p = simp (order_text-itself, differences_text-itself, channels_text-itself)

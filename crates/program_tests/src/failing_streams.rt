@@ -57,9 +57,9 @@ impl Calls {
 
 /// A reader of these bytes.
 #[derive(Drop)]
-struct Source<'a> {
-    bytes: &'a [u8],
-    calls: Calls,
+pub struct Source<'a> {
+    pub bytes: &'a [u8],
+    pub calls: Calls,
 }
 
 impl<'a> Read for Source<'a> {

@@ -2,6 +2,8 @@
 #![tactic(auto)]
 
 #[cfg(test)]
+mod comparisons;
+#[cfg(test)]
 mod failing_streams;
 #[cfg(test)]
 mod hostile_texts;

@@ -26,14 +26,14 @@ use std::thread::Threads;
 use ttp_model::MemoryFault;
 
 /// A page that takes no memory.
-type Page = Cursor<[u8; 4096]>;
+pub type Page = Cursor<[u8; 4096]>;
 
-fn page() -> Page {
+pub fn page() -> Page {
     Cursor::new([0; 4096])
 }
 
 /// Whether a page has just this text.
-fn has(page: &Page, text: &str) -> bool {
+pub fn has(page: &Page, text: &str) -> bool {
     let end = page.position() as usize;
     page.get_ref().get(..end) == Some(text.as_bytes())
 }

@@ -75,6 +75,10 @@ static ROWS: &[Row] = &[
     ),
     (&["ttplan", "check", "a", "c"], Ok("Check { instance: \"a\", certificate: \"c\" }")),
     (&["ttplan", "judge", "a", "b", "c"], Ok("Judge { instance: \"a\", plan: \"b\", certificate: \"c\" }")),
+    (
+        &["ttplan", "compare", "a", "b", "c", "d"],
+        Ok("Compare { old_instance: \"a\", old_plan: \"b\", new_instance: \"c\", new_plan: \"d\" }"),
+    ),
     (&["ttplan", "explain", "a"], Ok("Explain { instance: \"a\", explained: Instance }")),
     (&["ttplan", "explain", "a", "b"], Ok("Explain { instance: \"a\", explained: Plan(\"b\") }")),
     (&["ttplan", "explain", "a", "--cert", "c"], Ok("Explain { instance: \"a\", explained: Certificate(\"c\") }")),

@@ -22,6 +22,16 @@ pub const FIRST: &[&str] = &[CLUSTER, FIRST_PARTS];
 pub const FIRST_PLAN: &str =
     "ttplan 1\ndelay 9\norder A B\ncap A 2\ncap B 0\nstart p 0\nstart q 7\nround m 1\n";
 
+/// Its next release: B is renamed, and C has a process that receives the message too; a plan of that, and what is told of the change.
+pub const NEXT_PARTS: &str =
+    "[[node]]\nname = \"A\"\ncapacities = [2]\n[[node]]\nname = \"D\"\ncapacities = [0]\n[[node]]\nname = \"C\"\ncapacities = [0]\n[[process]]\nname = \"p\"\nnode = \"A\"\nwcet = 3\n[[process]]\nname = \"q\"\nnode = \"D\"\nwcet = 2\n[[process]]\nname = \"r\"\nnode = \"C\"\nwcet = 1\n[[message]]\nname = \"m\"\nfrom = \"p\"\nto = [\"q\", \"r\"]\nbytes = 2\n";
+
+pub const NEXT_PLAN: &str =
+    "ttplan 1\ndelay 10\norder A D C\ncap A 2\ncap D 0\ncap C 0\nstart p 0\nstart q 8\nstart r 8\nround m 1\n";
+
+pub const NEXT_TOLD: &str =
+    "changed A\nnew D\nnew C\ngone B\norder changed\ncap D - 0\ncap C - 0\ncap B 0 -\nstart q 7 8\nstart r - 8\n";
+
 pub const FIRST_TABLES: &str =
     "ttmedl 1\nrounds 3\nnode A\nrow 0 0 A 2\nrow 0 1 B 0\nrow 1 0 A 2 m:0\nrow 1 1 B 0\nrow 2 0 A 2\nrow 2 1 B 0\nnode B\nrow 0 0 A 2\nrow 0 1 B 0\nrow 1 0 A 2 m:0\nrow 1 1 B 0\nrow 2 0 A 2\nrow 2 1 B 0\nttguard 1\nwindow 0 A 0 3\nwindow 0 B 3 4\nwindow 1 A 4 7\nwindow 1 B 7 8\nwindow 2 A 8 11\nwindow 2 B 11 12\n";
 

@@ -21,7 +21,7 @@ use Rattle.command_streams.specs.declared.ending.End.TheVariants.{Refused}
 use Rattle.command_streams.specs.Outcomes.{IsCommandAnswer}
 use Rattle.command_streams.specs.Instances.{HasInstance}
 use Rattle.solve_command.specs.Solved.{IsNoSearch, IsSearchOf, IsSolveAnswer, IsSolved, IsSolvedFrom, IsStartedAnswer, IsUnsolved, IsUnsolvedFrom}
-use Rattle.solve_command.specs.Telling.{end_told, IsCertified, IsCertifying, IsTelling, IsTellingOf, IsToldAnswer, IsToldOf, IsUntold, IsWritingTo}
+use Rattle.solve_command.specs.Telling.{end_told, IsCertified, IsCertifying, IsTellingOf, IsToldAnswer, IsToldOf, IsUntold, IsWritingTo}
 
 -- an answer's text at the end of that answer
 at_end : (outcome : Outcome) (IsTextAt : End → List ℕ → Type 0) (IsRefusedBy : Fault → Type 0) (text : List ℕ) (old new : Option (List ℕ)) → IsTextAt (end_told outcome) text → Appends old new text → IsCommandAnswer IsTextAt IsRefusedBy old new (end_told outcome)

@@ -9,6 +9,7 @@ use crate::plan_file::{PlanFile, name_beside, name_one_file};
 use command_streams::end_with;
 pub use command_streams::{End, Fault, SearchFault, Sink, Source, report, status};
 use command_words::{Explained, Request, Search, Task, VERSION, keeping_over, refuse, request_in};
+pub use compare_command::{Compared, Release, compare_run};
 pub use explain_command::{explain_certificate, explain_instance, explain_plan};
 pub use plan_commands::{
     check_run, draw_run, judge_run, replay_run, schedule_run, tables, verify, verify_bundle,
@@ -154,6 +155,26 @@ fn run_explain(
     }
 }
 
+/// Compares two instances, each with a plan of it: all four files are open before one is read.
+fn run_compare(rt: &HostRuntime, old: (&str, &str), new: (&str, &str)) -> Compared {
+    let (mut old_instance, mut old_plan) = match open_both(rt, old.0, old.1, Source::Plan) {
+        Ok(files) => files,
+        Err(source) => return Compared::Refused(Release::Old, Fault::Unread(source)),
+    };
+    let (mut new_instance, mut new_plan) = match open_both(rt, new.0, new.1, Source::Plan) {
+        Ok(files) => files,
+        Err(source) => return Compared::Refused(Release::New, Fault::Unread(source)),
+    };
+    compare_run(
+        rt.alloc(),
+        &mut old_instance,
+        &mut old_plan,
+        &mut new_instance,
+        &mut new_plan,
+        &mut rt.stdout(),
+    )
+}
+
 /// Where a certificate is written, where one was asked for: a file that is created anew.
 fn create_certificate(rt: &HostRuntime, name: Option<&str>) -> Result<Option<File>, Fault> {
     match name {
@@ -286,11 +307,12 @@ fn search_files(
     }
 }
 
-/// Does what is asked for. A search starts threads and waits for them, and so does the check of a certificate.
-fn run(rt: &HostRuntime, threads: &(impl Threads + Wait + Sync), request: Request) -> End
+/// Does what is asked for, says on standard error why it was refused, and gives the status. A search starts threads and waits for
+/// them, and so does the check of a certificate.
+fn run(rt: &HostRuntime, threads: &(impl Threads + Wait + Sync), request: Request) -> u8
     requires { IsSound request }
 {
-    match request {
+    let end = match request {
         Request::OnFiles {
             instance,
             plan,
@@ -310,9 +332,20 @@ fn run(rt: &HostRuntime, threads: &(impl Threads + Wait + Sync), request: Reques
             instance,
             explained,
         } => run_explain(rt, threads, instance, explained),
+        Request::Compare {
+            old_instance,
+            old_plan,
+            new_instance,
+            new_plan,
+        } => {
+            let compared = run_compare(rt, (old_instance, old_plan), (new_instance, new_plan));
+            let _ = compare_command::report(&compared, &mut rt.stderr());
+            return compare_command::status(&compared);
+        }
         Request::VerifyBundle => { verify_bundle(rt.alloc(), &mut rt.stdin(), &mut rt.stdout()) }
         Request::Version => end_with(&mut rt.stdout(), VERSION.as_bytes()),
-    }
+    };
+    ended(rt, &end)
 }
 
 /// Whether a search keeps its best plan, or what is to take its place, in a file that another of its words names.
@@ -350,7 +383,7 @@ fn status_of_words(
     };
     match overwritten(rt, &request) {
         Ok(Some(file)) => refuse(&keeping_over(rt.alloc(), file), &mut rt.stderr()),
-        Ok(None) => ended(rt, &run(rt, threads, request)),
+        Ok(None) => run(rt, threads, request),
         Err(_) => ended(rt, &End::Refused(Fault::Memory)),
     }
 }

@@ -1,0 +1,64 @@
+-- What is told of two plans is an answer of what four readers tell, where they do.
+use Rattle.std.proofs.Common.{List, ℕ, Option, None, Some, IfSome, inl, inr, refl}
+use Rattle.command_streams.specs.declared.ending.Fault.{Fault}
+use Rattle.command_streams.proofs.Outcomes.{keeps}
+use Rattle.plan_changes.specs.Changes.{changes_text}
+use Rattle.plan_commands.specs.declared.verdict.Verified.{Verified}
+use Rattle.plan_commands.specs.Verdicts.{IsRefused, IsVerified}
+use Rattle.compare_command.specs.declared.ending.Release.TheVariants.{New, Old}
+use Rattle.compare_command.specs.declared.ending.Compared.{Compared}
+use Rattle.compare_command.specs.declared.ending.Compared.TheVariants.{Different, Refused, Same}
+use Rattle.compare_command.specs.Answers.{IsCompareAnswer, IsTelling, SayVerified, Texts, planned_of}
+
+module _ (old new : Texts) (before after : Verified) (says_before : SayVerified old before) (says_after : SayVerified new after) where
+  answered : (out written : Option (List ℕ)) (end : Compared) → IsTelling (planned_of before) (planned_of after) out written end
+      → IsCompareAnswer old new out written end
+  answered out written Same told =
+      record {
+        text = changes_text (planned_of before) (planned_of after);
+        is = record { before = before; says_before = says_before; after = after; says_after = says_after; told = refl; holds = told.0 };
+        appends = told.1;
+      }
+  answered out written Different told =
+      record {
+        text = changes_text (planned_of before) (planned_of after);
+        is = record { before = before; says_before = says_before; after = after; says_after = says_after; told = refl; holds = told.0 };
+        appends = told.1;
+      }
+  answered out written (Refused Old fault) told = absurd cc
+  answered out written (Refused New fault) told = elim told.1 [
+    | inl cut ↦ inl (record {
+      unwritten = cut.0;
+      text = changes_text (planned_of before) (planned_of after);
+      is = record { before = before; says_before = says_before; after = after; says_after = says_after; told = refl; holds = tt };
+      part = cut.1;
+    })
+    | inr memory ↦ inr (record { verified = before; says = says_before; refused = rw memory.0 tt }, memory.1)
+  ]
+
+-- the new release is verified
+pub new_told : (a b : Option (List ℕ)) (old new : Verified) (out written : Option (List ℕ)) (end : Compared)
+    → IfSome a (λ i. IfSome b (λ p. IsVerified i p new)) → IsTelling (planned_of old) (planned_of new) out written end
+    → (texts : Texts) → SayVerified texts old → IfSome a (λ i. IfSome b (λ p. IsCompareAnswer texts (record { instance = i; plan = p }) out written end))
+new_told None b old new out written end verified told texts says = tt
+new_told (Some i) None old new out written end verified told texts says = tt
+new_told (Some i) (Some p) old new out written end verified told texts says =
+    answered texts (record { instance = i; plan = p }) old new says verified out written end told
+
+-- it is refused
+pub new_refused : (a b : Option (List ℕ)) (old : Verified) (out : Option (List ℕ)) (fault : Fault) → IfSome a (λ i. IfSome b (λ p. IsRefused i p fault))
+    → (texts : Texts) → SayVerified texts old
+    → IfSome a (λ i. IfSome b (λ p. IsCompareAnswer texts (record { instance = i; plan = p }) out out (Refused New fault)))
+new_refused None b old out fault refused texts says = tt
+new_refused (Some i) None old out fault refused texts says = tt
+new_refused (Some i) (Some p) old out fault refused texts says = inr (record { verified = old; says = says; refused = refused }, keeps out)
+
+-- the old one is verified, and what is answered then is known
+pub old_told : (a b c d : Option (List ℕ)) (old : Verified) (out written : Option (List ℕ)) (end : Compared)
+    → IfSome a (λ i. IfSome b (λ p. IsVerified i p old))
+    → ((texts : Texts) → SayVerified texts old → IfSome c (λ j. IfSome d (λ q. IsCompareAnswer texts (record { instance = j; plan = q }) out written end)))
+    → IfSome a (λ i. IfSome b (λ p. IfSome c (λ j. IfSome d (λ q.
+    IsCompareAnswer (record { instance = i; plan = p }) (record { instance = j; plan = q }) out written end))))
+old_told None b c d old out written end verified answers = tt
+old_told (Some i) None c d old out written end verified answers = tt
+old_told (Some i) (Some p) c d old out written end verified answers = answers (record { instance = i; plan = p }) verified
