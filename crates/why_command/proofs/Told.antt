@@ -9,8 +9,7 @@ use Rattle.planner.specs.outcome.Options.{Options}
 use Rattle.planner.proofs.AnswerVersions.{answer_allows}
 use Rattle.kept_constraints.specs.declared.constraints.Constraint.{Constraint}
 use Rattle.kept_constraints.specs.declared.constraints.Constraint.TheVariants as one
-use Rattle.kept_constraints.specs.declared.constraints.Constraints.{Constraints}
-use Rattle.kept_constraints.specs.Constraints.{all_of, has_deadline, has_release, is_on_both, is_set, keeps, listed}
+use Rattle.kept_constraints.specs.Constraints.{all_of, has_deadline, has_release, is_on_both, is_set, keeps}
 use Rattle.kept_constraints.proofs.Keeps.{kept_among, listed_kept}
 use Rattle.kept_constraints.proofs.KeptLaws.{rules_kept}
 use Rattle.conflicts.specs.Conflicts.{Answers}
@@ -51,7 +50,7 @@ are_told i options (told.None needs K cert) is =
     let kept = all_of_map (λ c. keeps K c ≡ true) (λ (need : Need). need.constraint) needs.items
     (subst (All (λ c. keeps K c ≡ true)) (sym is.all) (listed_kept K)) in
     All-weaker (λ (need : Need). keeps K need.constraint ≡ true) (λ need. IsOf i need.constraint)
-        (λ need has. is_of i need.constraint (kept_among K (all_of i) need.constraint is.fewer has)) needs.items kept
+    (λ need has. is_of i need.constraint (kept_among K (all_of i) need.constraint is.fewer has)) needs.items kept
 are_told i options told.Unknown is = tt
 
 -- the certificate has a text
