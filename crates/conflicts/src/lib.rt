@@ -1,0 +1,11 @@
+//! Which constraints of an instance leave no plan by themselves, and which of them can't be left out.
+#![tactic(auto)]
+
+mod any_plan;
+mod conflict;
+mod halving;
+mod laws;
+mod searched;
+
+pub use conflict::{Conflict, Need, conflict};
+pub use laws::conflicts_leave_no_plan;

@@ -1,0 +1,11 @@
+pub mod Listed
+pub mod Places
+pub mod Looser
+pub mod ValidLooser
+pub mod RulesLooser
+pub mod Kept
+pub mod Fewer
+pub mod KeptLaws
+pub mod Whole
+pub mod Leaving
+pub mod Keeps

@@ -1,0 +1,3 @@
+pub mod Constraints
+pub mod Only
+pub mod Fewer

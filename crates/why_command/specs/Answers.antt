@@ -1,0 +1,152 @@
+-- What `why` answers of the bytes of an instance, and what it writes.
+use Rattle.std.specs.Prelude.{◌≡◌, ◌⊎◌, ℕ, ◌<◌, List, [], length, Bool, true, false, Option, Ok}
+use Rattle.std.specs.Io.KnownBytes.{Appends, Keeps}
+use Rattle.ttp_model.specs.Instance.{Instance}
+use Rattle.instance_text.specs.Faults.{States}
+use Rattle.certificate.specs.Spelling.{SpellsCert}
+use Rattle.certificate.specs.Versions.{Allows}
+use Rattle.planner.specs.outcome.Options.{Options}
+use Rattle.planner.specs.outcome.SolveFault.{SolveFault}
+use Rattle.planner.specs.outcome.SolveFault.TheVariants as solving
+use Rattle.kept_constraints.specs.Only.{only}
+use Rattle.conflicts.specs.Conflicts.{Answers}
+use Rattle.conflicts.specs.declared.conflict.Conflict.{Conflict}
+use Rattle.conflicts.specs.declared.conflict.Conflict.TheVariants as told
+use Rattle.command_streams.specs.declared.ending.Source.TheVariants as source
+use Rattle.command_streams.specs.declared.ending.Sink.TheVariants as sink
+use Rattle.command_streams.specs.declared.ending.SearchFault.{SearchFault}
+use Rattle.command_streams.specs.declared.ending.SearchFault.TheVariants as search
+use Rattle.command_streams.specs.declared.ending.Fault.{Fault}
+use Rattle.command_streams.specs.declared.ending.Fault.TheVariants.{InstanceText, Memory, Search, TooLong, Unread, Unwritten}
+use Rattle.command_streams.specs.declared.ending.End.{End}
+use Rattle.command_streams.specs.declared.ending.End.TheVariants.{Absent, Done, Refused, Stopped}
+use Rattle.command_streams.specs.Limits.{instance_limit}
+use Rattle.command_streams.specs.Streams.{AppendsPart}
+use Rattle.command_streams.specs.Instances.{HasInstance, IsInstanceFault, StatesSome}
+use Rattle.why_command.specs.declared.ending.WhyEnd.{WhyEnd}
+use Rattle.why_command.specs.declared.ending.WhyEnd.TheVariants.{As, Unreduced}
+use Rattle.why_command.specs.declared.texts.Texts.{Texts}
+use Rattle.why_command.specs.declared.texts.Wanted.{Wanted}
+use Rattle.why_command.specs.declared.why.Found.{Found}
+use Rattle.why_command.specs.Words.{why_text}
+
+-- the end at which it is told what was found
+abbrev pub end_told : Conflict → End
+end_told (told.Plan ticks plan) = Done
+end_told (told.None needs K cert) = Absent
+end_told told.Unknown = Stopped
+
+-- what each fault of a search is told as
+abbrev pub fault_of : SolveFault → SearchFault
+fault_of solving.Memory = search.Memory
+fault_of solving.Thread = search.Thread
+
+-- the certificate, where there is one, has a text
+abbrev pub IsPrintable : Conflict → Type 0
+IsPrintable (told.Plan ticks plan) = Unit {0}
+IsPrintable (told.None needs K cert) = Allows cert.version cert.tree
+IsPrintable told.Unknown = Unit {0}
+
+-- what is written to the certificate's file: the certificate that the instance by the constraints told has no plan
+abbrev pub IsCertificateText : Bool → Conflict → List ℕ → Type 0
+IsCertificateText true (told.None needs K cert) text = SpellsCert text cert
+IsCertificateText true (told.Plan ticks plan) text = text ≡ []
+IsCertificateText true told.Unknown text = text ≡ []
+IsCertificateText false conflict text = text ≡ []
+
+-- what is written to the other file: a text that states that instance
+abbrev pub IsReducedText : Bool → Instance → Conflict → List ℕ → Type 0
+IsReducedText true i (told.None needs K cert) text = States text (Ok (only i K))
+IsReducedText true i (told.Plan ticks plan) text = text ≡ []
+IsReducedText true i told.Unknown text = text ≡ []
+IsReducedText false i conflict text = text ≡ []
+
+-- the texts that tell what was found
+pub record AreTextsOf (wanted : Wanted) (i : Instance) (conflict : Conflict) (texts : Texts) : Type 0 where
+  pub certificate : IsCertificateText wanted.certificate conflict texts.certificate.items
+  pub reduced : IsReducedText wanted.reduced i conflict texts.reduced.items
+  pub answer : texts.answer.items ≡ why_text i conflict
+
+-- what was found of this instance, with its texts
+pub record IsSearched (i : Instance) (options : Options) (wanted : Wanted) (found : Found) : Type 0 where
+  pub of : found.instance ≡ i
+  pub answers : Answers found.instance options found.conflict
+  pub texts : AreTextsOf wanted found.instance found.conflict found.texts
+
+-- why nothing was: there was no memory, or no thread
+abbrev pub IsUnsearched : Fault → Type 0
+IsUnsearched Memory = Unit {0}
+IsUnsearched (Search fault) = Unit {0}
+IsUnsearched _ = ⊥
+
+-- the bytes state the instance, and this was found of it
+pub record IsFound (bytes : List ℕ) (options : Options) (wanted : Wanted) (found : Found) : Type 0 where
+  pub has_instance : HasInstance bytes found.instance
+  pub answers : Answers found.instance options found.conflict
+  pub texts : AreTextsOf wanted found.instance found.conflict found.texts
+
+-- why nothing is told of bytes: they state no instance, or there was no memory or no thread for a search
+abbrev pub IsUnexplained : List ℕ → Fault → Type 0
+IsUnexplained bytes Memory = Unit {0}
+IsUnexplained bytes (Unread source.Instance) = Unit {0}
+IsUnexplained bytes (TooLong source.Instance) = instance_limit < length bytes
+IsUnexplained bytes (InstanceText error) = IsInstanceFault bytes (InstanceText error)
+IsUnexplained bytes (Search fault) = StatesSome bytes
+IsUnexplained bytes _ = ⊥
+
+-- How texts are written: the certificate to a file that held `from`, the instance to one that held `before`, and then the answer.
+module _ (texts : Texts) (from to before after old new : Option (List ℕ)) where
+  -- all are
+  pub record AreWritten : Type 0 where
+    pub certificate : Appends from to texts.certificate.items
+    pub reduced : Appends before after texts.reduced.items
+    pub answer : Appends old new texts.answer.items
+
+  -- the certificate is written in part, and nothing else is
+  pub record IsUncertified : Type 0 where
+    pub certificate : AppendsPart from to texts.certificate.items
+    pub reduced : Keeps before after
+    pub answer : Keeps old new
+
+  -- the instance is written in part, and no answer is
+  pub record IsUnreduced : Type 0 where
+    pub certificate : Appends from to texts.certificate.items
+    pub reduced : AppendsPart before after texts.reduced.items
+    pub answer : Keeps old new
+
+  -- the answer is written in part
+  pub record IsCutOff : Type 0 where
+    pub certificate : Appends from to texts.certificate.items
+    pub reduced : Appends before after texts.reduced.items
+    pub answer : AppendsPart old new texts.answer.items
+
+  -- how that ends: at its last end, or where a writer fails
+  abbrev pub IsWritingTo : End → WhyEnd → Type 0
+  IsWritingTo last Unreduced = IsUnreduced
+  IsWritingTo last (As (Refused (Unwritten sink.Certificate))) = IsUncertified
+  IsWritingTo last (As (Refused (Unwritten sink.Out))) = IsCutOff
+  IsWritingTo last (As end) = (end ≡ last) × AreWritten
+
+-- the same with the end behind the texts
+abbrev pub IsWritingOf : Texts → End → (from to before after old new : Option (List ℕ)) → WhyEnd → Type 0
+IsWritingOf texts last from to before after old new end = IsWritingTo texts from to before after old new last end
+
+-- what was found is told
+pub record IsToldAnswer (bytes : List ℕ) (options : Options) (wanted : Wanted) (from to before after old new : Option (List ℕ)) (end : WhyEnd) : Type 0 where
+  pub found : Found
+  pub is : IsFound bytes options wanted found
+  pub writing : IsWritingOf found.texts (end_told found.conflict) from to before after old new end
+
+-- nothing is told, for this fault, and nothing is written
+pub record IsUntold (bytes : List ℕ) (from to before after old new : Option (List ℕ)) (end : WhyEnd) : Type 0 where
+  pub fault : Fault
+  pub lacking : IsUnexplained bytes fault
+  pub ends : end ≡ As (Refused fault)
+  pub certificate : Keeps from to
+  pub reduced : Keeps before after
+  pub answer : Keeps old new
+
+-- what `why` answers, and what it writes
+abbrev pub IsWhyAnswer : List ℕ → Options → Wanted → (from to before after old new : Option (List ℕ)) → WhyEnd → Type 0
+IsWhyAnswer bytes options wanted from to before after old new end =
+    IsToldAnswer bytes options wanted from to before after old new end ⊎ IsUntold bytes from to before after old new end

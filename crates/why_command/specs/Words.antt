@@ -1,0 +1,75 @@
+-- What `why` writes of what was found. Own profile.
+use Rattle.std.specs.Prelude.{ℕ, ◌<◌, ◌++◌, List, [], ◌∷◌, All, Bool, true, false, codes, decimal, length}
+use Rattle.std.specs.List.{flat_map}
+use Rattle.ttp_model.specs.Instance.{Instance, link_at, process_at}
+use Rattle.process_words.specs.Names.{message_name, process_name}
+use Rattle.kept_constraints.specs.declared.constraints.Constraint.{Constraint}
+use Rattle.kept_constraints.specs.declared.constraints.Constraint.TheVariants as one
+use Rattle.conflicts.specs.declared.conflict.Need.{Need}
+use Rattle.conflicts.specs.declared.conflict.Conflict.{Conflict}
+use Rattle.conflicts.specs.declared.conflict.Conflict.TheVariants as told
+
+-- what a constraint is on is there
+abbrev pub IsOf : Instance → Constraint → Type 0
+IsOf i one.Horizon = Unit {0}
+IsOf i (one.Deadline p) = p < length i.processes
+IsOf i (one.Release p) = p < length i.processes
+IsOf i (one.Link l) = l < length i.links
+IsOf i (one.Message m) = m < length i.messages
+IsOf i (one.Both m) = m < length i.messages
+
+-- The next six are the words for a constraint: times with their ticks, and all but the horizon with names.
+abbrev pub horizon_words : Instance → List ℕ
+horizon_words i = codes "horizon " ++ decimal i.cluster.horizon
+
+abbrev pub deadline_words : Instance → ℕ → List ℕ
+deadline_words i p = codes "deadline " ++ (process_name i p ++ (codes " " ++ decimal (process_at i p).deadline))
+
+abbrev pub release_words : Instance → ℕ → List ℕ
+release_words i p = codes "release " ++ (process_name i p ++ (codes " " ++ decimal (process_at i p).release))
+
+abbrev pub link_words : Instance → ℕ → List ℕ
+link_words i l = codes "link " ++ (process_name i (link_at i l).before ++ (codes " " ++ process_name i (link_at i l).after))
+
+abbrev pub message_words : Instance → ℕ → List ℕ
+message_words i m = codes "message " ++ message_name i m
+
+abbrev pub both_words : Instance → ℕ → List ℕ
+both_words i m = codes "both " ++ message_name i m
+
+abbrev pub constraint_words : Instance → Constraint → List ℕ
+constraint_words i one.Horizon = horizon_words i
+constraint_words i (one.Deadline p) = deadline_words i p
+constraint_words i (one.Release p) = release_words i p
+constraint_words i (one.Link l) = link_words i l
+constraint_words i (one.Message m) = message_words i m
+constraint_words i (one.Both m) = both_words i m
+
+-- the word for whether a constraint is known to be needed
+abbrev pub need_word : Bool → List ℕ
+need_word true = codes "need "
+need_word false = codes "maybe "
+
+-- the line of a constraint that leaves no plan with others
+abbrev pub need_line : Instance → Need → List ℕ
+need_line i need = need_word need.is_shown ++ (constraint_words i need.constraint ++ 10 ∷ [])
+
+-- the text where there is a plan of this delay
+abbrev pub plan_text : ℕ → List ℕ
+plan_text ticks = codes "ttwhy 1\nplan " ++ (decimal ticks ++ 10 ∷ [])
+
+-- the text where these constraints leave none
+abbrev pub none_text : Instance → List Need → List ℕ
+none_text i needs = codes "ttwhy 1\nnone\n" ++ flat_map (need_line i) needs
+
+-- what is written of what was found
+abbrev pub why_text : Instance → Conflict → List ℕ
+why_text i (told.Plan ticks plan) = plan_text ticks
+why_text i (told.None needs K cert) = none_text i needs.items
+why_text i told.Unknown = codes "ttwhy 1\nunknown\n"
+
+-- the constraints that are told are those of this instance
+abbrev pub AreToldOf : Instance → Conflict → Type 0
+AreToldOf i (told.Plan ticks plan) = Unit {0}
+AreToldOf i (told.None needs K cert) = All (λ need. IsOf i need.constraint) needs.items
+AreToldOf i told.Unknown = Unit {0}

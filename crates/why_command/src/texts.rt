@@ -1,0 +1,81 @@
+//! Which texts tell what was found?
+
+ghost use Rattle.std.specs.Prelude.{IfOk};
+ghost use Rattle.why_command.specs.Answers.{AreTextsOf, IsCertificateText, IsPrintable, IsReducedText};
+ghost use Rattle.why_command.specs.Words.{AreToldOf};
+
+use crate::words::why_text;
+use conflicts::Conflict;
+use kept_constraints::with_only;
+use std::alloc::Global;
+use ttp_model::{Instance, MemoryFault};
+
+/// What is to be written beside the answer.
+#[derive(Clone, Copy, Debug, PartialEq, Eq)]
+pub struct Wanted {
+    pub certificate: bool,
+    /// The instance by the constraints that leave no plan.
+    pub reduced: bool,
+}
+
+/// What is written; of the certificate and the instance nothing where they aren't wanted, or where no constraints leave no plan.
+#[derive(Debug, Drop)]
+pub struct Texts {
+    pub certificate: Vec<u8>,
+    pub reduced: Vec<u8>,
+    pub answer: Vec<u8>,
+}
+
+/// The text of the certificate.
+fn certificate_text(
+    alloc: Global,
+    conflict: &Conflict,
+    wanted: bool,
+) -> Result<Vec<u8>, MemoryFault>
+    requires { IsPrintable conflict.now }
+    ensures { IfOk result (λ text. IsCertificateText wanted conflict.now text.items) }
+{
+    match conflict {
+        Conflict::None { cert, .. } if wanted => certificate::print(alloc, cert),
+        Conflict::Plan { .. } | Conflict::None { .. } | Conflict::Unknown => Ok(Vec::new(alloc)),
+    }
+}
+
+/// The text of the instance by the constraints that leave no plan.
+fn reduced_text(
+    alloc: Global,
+    instance: &Instance,
+    conflict: &Conflict,
+    wanted: bool,
+) -> Result<Vec<u8>, MemoryFault>
+    ensures { IfOk result (λ text. IsReducedText wanted instance.now conflict.now text.items) }
+{
+    match conflict {
+        Conflict::None { kept, .. } if wanted => {
+            let reduced = with_only(alloc, instance, kept)?;
+            instance_print::print(alloc, &reduced)
+        }
+        Conflict::Plan { .. } | Conflict::None { .. } | Conflict::Unknown => Ok(Vec::new(alloc)),
+    }
+}
+
+/// The texts that tell what was found.
+pub fn texts_of(
+    alloc: Global,
+    instance: &Instance,
+    conflict: &Conflict,
+    wanted: Wanted,
+) -> Result<Texts, MemoryFault>
+    requires printable { IsPrintable conflict.now }
+    requires told { AreToldOf instance.now conflict.now }
+    ensures { IfOk result (AreTextsOf wanted instance.now conflict.now) }
+{
+    let certificate = certificate_text(alloc, conflict, wanted.certificate)?;
+    let reduced = reduced_text(alloc, instance, conflict, wanted.reduced)?;
+    let answer = why_text(alloc, instance, conflict)?;
+    Ok(Texts {
+        certificate,
+        reduced,
+        answer,
+    })
+}

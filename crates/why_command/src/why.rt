@@ -1,0 +1,146 @@
+//! What does `why` say of an instance, and what does it write?
+
+ghost use Rattle.std.specs.Prelude.{◌≡◌, ◌+◌, IfSome, MatchResult};
+ghost use Rattle.command_streams.specs.Limits.{instance_limit};
+ghost use Rattle.command_streams.specs.Streams.{TakesAtMost};
+ghost use Rattle.why_command.specs.Answers.{IsFound, IsSearched, IsUnexplained, IsUnsearched, IsWhyAnswer, IsWritingOf, end_told, fault_of};
+
+use crate::ending::WhyEnd;
+use crate::texts::{Texts, Wanted, texts_of};
+use command_streams::{End, Fault, SearchFault, Sink, read_instance, write_text};
+use conflicts::{Conflict, find_conflict};
+use planner::{Options, SolveFault};
+use std::alloc::Global;
+use std::io::{Read, Write};
+use std::marker::Sync;
+use std::sync::Wait;
+use std::thread::Threads;
+use ttp_model::Instance;
+
+/// An instance, and which of its constraints leave no plan, with the texts that tell it.
+#[derive(Debug, Drop)]
+pub struct Found {
+    pub instance: Instance,
+    pub conflict: Conflict,
+    pub texts: Texts,
+}
+
+/// The end at which it is told.
+fn end_of(conflict: &Conflict) -> End
+    ensures { result ≡ end_told conflict.now }
+{
+    match conflict {
+        Conflict::Plan { .. } => End::Done,
+        Conflict::None { .. } => End::Absent,
+        Conflict::Unknown => End::Stopped,
+    }
+}
+
+/// The fault that the search's own is told as.
+fn fault_of(fault: SolveFault) -> SearchFault
+    ensures { result ≡ fault_of fault }
+{
+    match fault {
+        SolveFault::Memory => SearchFault::Memory,
+        SolveFault::Thread => SearchFault::Thread,
+    }
+}
+
+/// Looks for constraints of an instance that leave no plan, and makes the texts that tell them.
+#[tactic(auto, using(crate::proofs::Told::are_told, crate::proofs::Told::printable))]
+fn found_of<R: Threads + Wait + Sync>(
+    rt: &R,
+    alloc: Global,
+    instance: Instance,
+    options: Options,
+    wanted: Wanted,
+) -> Result<Found, Fault>
+    ensures { MatchResult result (IsSearched instance options wanted) IsUnsearched }
+{
+    let _nodes = instance.nodes();
+    let conflict = match find_conflict(rt, alloc, &instance, options) {
+        Ok(conflict) => conflict,
+        Err(fault) => return Err(Fault::Search(fault_of(fault))),
+    };
+    match texts_of(alloc, &instance, &conflict, wanted) {
+        Ok(texts) => Ok(Found {
+            instance,
+            conflict,
+            texts,
+        }),
+        Err(_) => Err(Fault::Memory),
+    }
+}
+
+/// The same of the instance that a reader's bytes state.
+#[tactic(auto, using(crate::proofs::Told::found_of_bytes))]
+fn found_of_reader<R: Threads + Wait + Sync, I: Read>(
+    rt: &R,
+    alloc: Global,
+    instance: &mut I,
+    options: Options,
+    wanted: Wanted,
+) -> Result<Found, Fault>
+    ensures judged { IfSome (I.remaining instance.old) (λ bytes. MatchResult result
+        (IsFound bytes options wanted)
+        (IsUnexplained bytes)) }
+    ensures most { TakesAtMost (instance_limit + 1) (I.remaining instance.old) (I.remaining instance.new) }
+{
+    let instance = read_instance(alloc, instance)?;
+    found_of(rt, alloc, instance, options, wanted)
+}
+
+/// Writes an answer behind what is written beside it.
+fn tell<C: Write, S: Write, W: Write>(
+    found: &Found,
+    certificate: &mut C,
+    reduced: &mut S,
+    out: &mut W,
+) -> WhyEnd
+    ensures { IsWritingOf found.now.texts (end_told found.now.conflict)
+        (C.contents certificate.old) (C.contents certificate.new) (S.contents reduced.old) (S.contents reduced.new)
+        (W.contents out.old) (W.contents out.new) result }
+{
+    if write_text(certificate, found.texts.certificate.as_slice()).is_err() {
+        return WhyEnd::As(End::Refused(Fault::Unwritten(Sink::Certificate)));
+    }
+    if write_text(reduced, found.texts.reduced.as_slice()).is_err() {
+        return WhyEnd::Unreduced;
+    }
+    if write_text(out, found.texts.answer.as_slice()).is_err() {
+        return WhyEnd::As(End::Refused(Fault::Unwritten(Sink::Out)));
+    }
+    WhyEnd::As(end_of(&found.conflict))
+}
+
+/// Reads an instance, and writes why it has no plan: the constraints that leave none by themselves, with the word `need` where
+/// there is a plan without one of them, and else with `maybe`, and then the end is `Absent`; the delay of a plan, where there is
+/// one; or that neither is known, and then the end is `Stopped`. Each search has the budget. Where they are wanted the certificate of
+/// the instance by these constraints alone is written first, and then the text of that instance; to a writer of what isn't wanted
+/// nothing is. All texts are made before one is written: where memory is refused nothing is written, and where a writer fails nothing
+/// is written to those behind it.
+pub fn why_run<R: Threads + Wait + Sync, I: Read, C: Write, S: Write, W: Write>(
+    rt: &R,
+    alloc: Global,
+    instance: &mut I,
+    options: Options,
+    wanted: Wanted,
+    certificate: &mut C,
+    reduced: &mut S,
+    out: &mut W,
+) -> WhyEnd
+    ensures answer { IfSome (I.remaining instance.old) (λ bytes. IsWhyAnswer bytes options wanted
+        (C.contents certificate.old) (C.contents certificate.new) (S.contents reduced.old) (S.contents reduced.new)
+        (W.contents out.old) (W.contents out.new) result) }
+    // No more is taken of the reader than its limit and one byte.
+    ensures most { TakesAtMost (instance_limit + 1) (I.remaining instance.old) (I.remaining instance.new) }
+{
+    match found_of_reader(rt, alloc, instance, options, wanted) {
+        Ok(found) => {
+            let end = tell(&found, certificate, reduced, out);
+            drop(found);
+            end
+        }
+        Err(fault) => WhyEnd::As(End::Refused(fault)),
+    }
+}
