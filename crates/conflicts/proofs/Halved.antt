@@ -1,7 +1,7 @@
 -- What is left out of constraints that leave no plan, part by part, and what is known of those that aren't.
-use Rattle.std.proofs.Common.{◌≡◌, ℕ, ◌+◌, ◌<◌, ◌≤◌, ◌⊎◌, Bool, true, false, IsTrue, All, Contains, List, [], ◌∷◌, ◌++◌, length, None, Some, arith, inl, inr, refl, sym, ap, subst, ◌∙◌, slice_index_or}
+use Rattle.std.proofs.Common.{◌≡◌, ℕ, ◌<◌, IsTrue, All, Contains, List, [], ◌∷◌, ◌++◌, length, take, drop, None, Some, arith, inl, inr, refl, sym, ap, subst, ◌∙◌, slice_index_or}
 use Rattle.std.proofs.lemmas.Bool.{true≢false}
-use Rattle.std.proofs.lemmas.List.{append-nil}
+use Rattle.std.proofs.lemmas.List.{append-nil, take-append-drop}
 use Rattle.std.proofs.lemmas.List.Elements.{All-append, All-cons, All-nil, All-push, Contains-append_left, Contains-push}
 use Rattle.ttp_model.specs.Instance.{Instance}
 use Rattle.ttp_model.specs.Rules.{IsInstance}
@@ -10,7 +10,7 @@ use Rattle.kept_constraints.specs.declared.constraints.Constraint.{Constraint}
 use Rattle.kept_constraints.specs.declared.constraints.Constraints.{Constraints}
 use Rattle.kept_constraints.specs.Constraints.{all_of, keeps, without, without_all}
 use Rattle.kept_constraints.specs.Only.{only}
-use Rattle.kept_constraints.specs.Fewer.{AreAmong, HasPlan}
+use Rattle.kept_constraints.specs.Fewer.{AreAmong}
 use Rattle.kept_constraints.proofs.KeptLaws.{plan_by_fewer}
 use Rattle.kept_constraints.proofs.Leaving.{among_same, among_trans, all_left_out, fewer_left}
 use Rattle.kept_constraints.proofs.Keeps.{kept_among, all_gone}
@@ -40,11 +40,18 @@ without_both : (K : Constraints) (front back : List Constraint) → without_all 
 without_both K [] back = refl
 without_both K (c ∷ front) back = without_both (without K c) front back
 
+pub in_two : (xs front back : List Constraint) (n : ℕ) → front ≡ take n xs → back ≡ drop n xs → xs ≡ front ++ back
+in_two xs front back n is_front is_back = rw (is_front, is_back) (sym (take-append-drop n xs))
+
 -- what there is without both parts is what there is without the second, once the first is left out
-pub without_back : (i : Instance) (options : Options) (old mid : Halving) (part front back : List Constraint) (without : Without) → part ≡ front ++ back →
-    LeavesOut i options old front mid None → IsWithout i options old.kept part without → IsWithout i options mid.kept back without
-without_back i options old mid part front back without parts left is =
-    rw left.0 (rw (parts, without_both old.kept front back) at is)
+pub without_back : (i : Instance) (options : Options) (old mid : Halving) (part front back : List Constraint) (known : Without) → part ≡ front ++ back →
+    LeavesOut i options old front mid None → IsWithout i options old.kept part known → IsWithout i options mid.kept back known
+without_back i options old mid part front back SomePlan parts left is =
+    let same = ap (without_all old.kept) parts ∙ without_both old.kept front back in
+    rw left.0 (rw same at is)
+without_back i options old mid part front back Unknown parts left is =
+    let same = ap (without_all old.kept) parts ∙ without_both old.kept front back in
+    rw left.0 (rw same at is)
 
 -- what was decided is so of fewer constraints, when no fewer are known to be needed
 decided_later : (i : Instance) (options : Options) (old new : Constraints) (needed more cs : List Constraint) → AreAmong new old →
@@ -53,7 +60,7 @@ decided_later i options old new needed more cs among grown each = λ k past belo
     let c : Constraint = slice_index_or cs k past in
     elim (each k past below (kept_among new old c among is)) [
       | inl there ↦ inl (grown c there)
-      | inr open ↦ inr (record { more = open.more; among = among_trans new old open.more among open.among; stopped = open.stopped })
+      | inr still ↦ inr (record { more = still.more; among = among_trans new old still.more among still.among; stopped = still.stopped })
     ]
 
 -- what was left out is decided
@@ -85,9 +92,10 @@ decides_both i options old mid new part front back parts one two = record {
 }
 
 -- where nothing is left out, nothing changes
-pub same_without : (i : Instance) (options : Options) (old new : Halving) (part : List Constraint) (without : Without) → LeavesOut i options old part new (Some without) →
-    IsWithout i options new.kept part without
-same_without i options old new part without left = rw left.0 left.1
+pub same_without : (i : Instance) (options : Options) (old new : Halving) (part : List Constraint) (known : Without) → LeavesOut i options old part new (Some known) →
+    IsWithout i options new.kept part known
+same_without i options old new part SomePlan left = rw left.0 left.1
+same_without i options old new part Unknown left = rw left.0 left.1
 
 -- the same constraints with the same certificate, of which others are known to be needed
 same_kept : (i : Instance) (options : Options) (old new : Halving) → IsHalving i options old → new.kept ≡ old.kept → new.cert ≡ old.cert →
@@ -133,8 +141,8 @@ one_open i options K needed c stopped =
     All-cons (IsDecided i options K needed) c [] (λ is. inr open_here) (All-nil (IsDecided i options K needed))
 
 -- one constraint, or none, of which it is known what there is without it
-pub decides_told : (i : Instance) (options : Options) (old new : Halving) (part : List Constraint) (without : Without) → length part < 2 → IsHalving i options old →
-    IsWithout i options old.kept part without → new.needed.items ≡ old.needed.items ++ needed_of without part → new.kept ≡ old.kept → new.cert ≡ old.cert →
+pub decides_told : (i : Instance) (options : Options) (old new : Halving) (part : List Constraint) (known : Without) → length part < 2 → IsHalving i options old →
+    IsWithout i options old.kept part known → new.needed.items ≡ old.needed.items ++ needed_of known part → new.kept ≡ old.kept → new.cert ≡ old.cert →
     Decides i options old part new
 decides_told i options old new [] SomePlan few h is needed kept cert =
     told_nothing i options old new [] h needed kept cert (All-nil (IsDecided i options old.kept old.needed.items))
@@ -143,4 +151,24 @@ decides_told i options old new [] Unknown few h is needed kept cert =
 decides_told i options old new (c ∷ []) SomePlan few h is needed kept cert = told_needed i options old new c h is needed kept cert
 decides_told i options old new (c ∷ []) Unknown few h is needed kept cert =
     told_nothing i options old new (c ∷ []) h needed kept cert (one_open i options old.kept old.needed.items c is)
-decides_told i options old new (c ∷ d ∷ part) without few h is needed kept cert = absurd (omega (arith, few))
+decides_told i options old new (c ∷ d ∷ part) known few h is needed kept cert = absurd (omega (arith, few))
+
+-- where nothing of a part was left out as a whole, what is left out of it is left out of what there was
+from_before : (i : Instance) (options : Options) (old mid new : Halving) (part : List Constraint) (known : Without) → LeavesOut i options old part mid (Some known) →
+    Decides i options mid part new → Decides i options old part new
+from_before i options old mid new part known left done = subst (λ (h : Halving). Decides i options h part new) left.0 done
+
+-- the second of two parts is left out as a whole, once the first is halved
+pub halved_and_gone : (i : Instance) (options : Options) (old mid late new : Halving) (part front back : List Constraint) (known : Without) → part ≡ front ++ back →
+    LeavesOut i options old front mid (Some known) → Decides i options mid front late → IsHalving i options new → LeavesOut i options late back new None →
+    Decides i options old part new
+halved_and_gone i options old mid late new part front back known parts left done h gone =
+    decides_both i options old late new part front back parts (from_before i options old mid late front known left done) (decides_gone i options late new back h gone)
+
+-- both are halved
+pub halved_both : (i : Instance) (options : Options) (old mid late last new : Halving) (part front back : List Constraint) (known more : Without) →
+    part ≡ front ++ back → LeavesOut i options old front mid (Some known) → Decides i options mid front late → LeavesOut i options late back last (Some more) →
+    Decides i options last back new → Decides i options old part new
+halved_both i options old mid late last new part front back known more parts left done again rest =
+    decides_both i options old late new part front back parts (from_before i options old mid late front known left done)
+    (from_before i options late last new back more again rest)

@@ -1,7 +1,7 @@
 -- What is told of constraints that leave no plan, once each is decided.
-use Rattle.std.proofs.Common.{◌≡◌, ◌↔◌, ℕ, ◌+◌, ◌<◌, ◌≤◌, Bool, true, false, IsTrue, All, Contains, List, length, map, slice_index_or, arith, inl, inr, refl, sym, ◌∙◌, subst}
+use Rattle.std.proofs.Common.{◌≡◌, ◌↔◌, ℕ, ◌+◌, ◌<◌, Bool, true, false, IsTrue, All, Contains, List, length, map, take, [], ◌∷◌, ◌++◌, slice_index_or, arith, inl, inr, refl, sym, subst}
 use Rattle.std.proofs.lemmas.Bool.{true≢false}
-use Rattle.std.proofs.lemmas.List.{get_or-map, length-map}
+use Rattle.std.proofs.lemmas.List.{get_or-map, length-map, map_push, take_more}
 use Rattle.std.proofs.lemmas.List.Elements.{All-contains}
 use Rattle.ttp_model.specs.Instance.{Instance}
 use Rattle.ttp_model.specs.Rules.{IsInstance}
@@ -56,3 +56,9 @@ whole_told i options K tried good is tells = subst (λ j. Tells j options tried)
 
 pub conflict_shows : (i : Instance) (options : Options) (needs : List Need) (K : Constraints) (cert : Cert) → IsInstance i → IsConflict i options needs K cert → HasNoPlan i
 conflict_shows i options needs K cert good c = no_plan_left i K good c.shown.none
+
+-- what is told of one constraint more
+pub one_more_told : (needs : List Need) (need : Need) (list : List Constraint) (k : ℕ) (past : Constraint) → map (λ (one : Need). one.constraint) needs ≡ take k list →
+    k < length list → need.constraint ≡ slice_index_or list k past → map (λ (one : Need). one.constraint) (needs ++ need ∷ []) ≡ take (k + 1) list
+one_more_told needs need list k past told inside is =
+    rw (map_push (λ (one : Need). one.constraint) needs need, told, is) (sym (take_more list k past inside))

@@ -1,5 +1,5 @@
 -- What is told of the constraints of an instance that leave no plan by themselves (conflicts, as of Junker, AAAI 2004). Own profile.
-use Rattle.std.specs.Prelude.{◌≡◌, ℕ, List, map, All, Bool, true, false, Option, None}
+use Rattle.std.specs.Prelude.{◌≡◌, ℕ, List, map, All, Bool, true, false, None}
 use Rattle.ttp_model.specs.declared.plan.Plan.{Plan}
 use Rattle.ttp_model.specs.Instance.{Instance}
 use Rattle.ttp_model.specs.Plans.{IsValid}

@@ -8,7 +8,7 @@ ghost use Rattle.conflicts.specs.declared.halving.Halving.{Halving};
 ghost use Rattle.conflicts.specs.Conflicts.{Answers};
 ghost use Rattle.conflicts.specs.Halving.{Decides, IsHalving, IsMarked};
 
-use crate::halving::{Halving, halve, leave_out};
+use crate::halving::{Halving, narrow};
 use crate::searched::{Tried, searched};
 use certificate::Cert;
 use kept_constraints::{Constraint, Constraints};
@@ -45,7 +45,19 @@ pub enum Conflict {
     Unknown,
 }
 
+/// A constraint, and whether it is among those that are known to be needed.
+fn need_of(needed: &[Constraint], constraint: Constraint) -> Need
+    ensures constraint { result.constraint ≡ constraint }
+    ensures marked { IsMarked needed.now result }
+{
+    Need {
+        constraint,
+        is_shown: needed.contains(&constraint),
+    }
+}
+
 /// The constraints that are kept, and whether each is among those that are known to be needed.
+#[tactic(auto, using(crate::proofs::Told::one_more_told))]
 fn needs_of(
     alloc: Global,
     kept: &Constraints,
@@ -57,15 +69,13 @@ fn needs_of(
     let list = kept.list(alloc)?;
     let mut needs = Vec::new(alloc);
     for constraint in list.as_slice() {
-        needs.push(Need {
-            constraint: *constraint,
-            is_shown: needed.contains(constraint),
-        })?;
+        needs.push(need_of(needed, *constraint))?;
     }
     Ok(needs)
 }
 
 /// What is told of constraints that leave no plan, once each is decided.
+#[tactic(auto, using(crate::proofs::Told::conflict_told))]
 fn told(alloc: Global, halving: Halving) -> Result<Conflict, MemoryFault>
     ensures { (i : Instance) (options : Options) (old : Halving) → Decides i options old (listed old.kept) halving
         → IfOk result (Answers i options) }
@@ -89,9 +99,7 @@ fn narrowed<R: Threads + Wait + Sync>(
 {
     let list = halving.kept.list(alloc)?;
     let mut halving = halving;
-    if let Some(without) = leave_out(rt, alloc, instance, options, &mut halving, list.as_slice())? {
-        halve(rt, alloc, instance, options, &mut halving, list.as_slice(), without)?;
-    }
+    narrow(rt, alloc, instance, options, &mut halving, list.as_slice())?;
     Ok(told(alloc, halving)?)
 }
 

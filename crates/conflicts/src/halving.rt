@@ -31,8 +31,7 @@ pub enum Without {
 }
 
 /// Leaves constraints out, where there is no plan without them either; else what there is without them.
-#[tactic(auto, using(crate::proofs::Halved::halving_left))]
-pub fn leave_out<R: Threads + Wait + Sync>(
+fn leave_out<R: Threads + Wait + Sync>(
     rt: &R,
     alloc: Global,
     instance: &Instance,
@@ -72,7 +71,7 @@ fn tell(halving: &mut Halving, part: &[Constraint], without: Without) -> Result<
 }
 
 /// Leaves out what can be of constraints of which it is known what there is without all of them.
-pub fn halve<R: Threads + Wait + Sync>(
+fn halve<R: Threads + Wait + Sync>(
     rt: &R,
     alloc: Global,
     instance: &Instance,
@@ -90,12 +89,34 @@ pub fn halve<R: Threads + Wait + Sync>(
         return Ok(());
     }
     let (front, back) = part.split_at(part.len() / 2);
-    let Some(without_front) = leave_out(rt, alloc, instance, options, halving, front)? else {
-        return halve(rt, alloc, instance, options, halving, back, without);
-    };
-    halve(rt, alloc, instance, options, halving, front, without_front)?;
-    match leave_out(rt, alloc, instance, options, halving, back)? {
-        Some(without_back) => halve(rt, alloc, instance, options, halving, back, without_back),
+    match leave_out(rt, alloc, instance, options, halving, front)? {
+        None => halve(rt, alloc, instance, options, halving, back, without),
+        Some(without_front) => {
+            halve(rt, alloc, instance, options, halving, front, without_front)?;
+            match leave_out(rt, alloc, instance, options, halving, back)? {
+                None => Ok(()),
+                Some(without_back) => {
+                    halve(rt, alloc, instance, options, halving, back, without_back)
+                }
+            }
+        }
+    }
+}
+
+/// Leaves out what can be of constraints.
+pub fn narrow<R: Threads + Wait + Sync>(
+    rt: &R,
+    alloc: Global,
+    instance: &Instance,
+    options: Options,
+    halving: &mut Halving,
+    list: &[Constraint],
+) -> Result<(), SolveFault>
+    requires { IsHalving instance.now options halving.old }
+    ensures { OnOk result (Decides instance.now options halving.old list.now halving.new) }
+{
+    match leave_out(rt, alloc, instance, options, halving, list)? {
         None => Ok(()),
+        Some(without) => halve(rt, alloc, instance, options, halving, list, without),
     }
 }
