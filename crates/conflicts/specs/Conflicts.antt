@@ -1,5 +1,5 @@
 -- What is told of the constraints of an instance that leave no plan by themselves (conflicts, as of Junker, AAAI 2004). Own profile.
-use Rattle.std.specs.Prelude.{◌≡◌, ℕ, List, map, All, IsTrue, Option, None}
+use Rattle.std.specs.Prelude.{◌≡◌, ℕ, List, map, All, Bool, true, false, None}
 use Rattle.ttp_model.specs.declared.plan.Plan.{Plan}
 use Rattle.ttp_model.specs.Instance.{Instance}
 use Rattle.ttp_model.specs.Plans.{IsValid}
@@ -46,20 +46,27 @@ Tells i options tried.Unknown = WasStopped i options
 abbrev pub IsNeeded : Instance → Constraints → Constraint → Type 0
 IsNeeded i K c = HasPlan (only i (without K c))
 
--- each constraint that is told as needed is
-abbrev pub AreNeeded : Instance → Constraints → List Need → Type 0
-AreNeeded i K needs = All (λ need. IsTrue need.is_shown → IsNeeded i K need.constraint) needs
+-- it isn't known to be: a search without it, by these constraints or more, was stopped, and had found no plan
+pub record IsOpen (i : Instance) (options : Options) (K : Constraints) (c : Constraint) : Type 0 where
+  pub more : Constraints
+  pub among : AreAmong K more
+  pub stopped : WasStopped (only i (without more c)) options
 
--- some of an instance's constraints leave no plan by themselves, as the certificate shows; all of them are told, and those that are
--- told as needed are
+-- what is told of a constraint
+abbrev pub IsTold : Instance → Options → Constraints → Bool → Constraint → Type 0
+IsTold i options K true c = IsNeeded i K c
+IsTold i options K false c = IsOpen i options K c
+
+-- some of an instance's constraints leave no plan by themselves, as the certificate shows, and of each of them is told whether it
+-- is known to be needed
 pub record IsConflict (i : Instance) (options : Options) (needs : List Need) (K : Constraints) (cert : Cert) : Type 0 where
   pub fewer : AreAmong K (all_of i)
   pub shown : IsShown (only i K) options cert
   pub all : map (λ need. need.constraint) needs ≡ listed K
-  pub needed : AreNeeded i K needs
+  pub told : All (λ need. IsTold i options K need.is_shown need.constraint) needs
 
 -- an answer: a valid plan, a conflict, or that a search was stopped before there was either
 abbrev pub Answers : Instance → Options → Conflict → Type 0
 Answers i options (told.Plan ticks plan) = IsPlanOf i ticks plan
-Answers i options (told.None needs K cert) = IsConflict i options needs K cert
+Answers i options (told.None needs K cert) = IsConflict i options needs.items K cert
 Answers i options told.Unknown = WasStopped i options

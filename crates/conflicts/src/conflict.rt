@@ -1,11 +1,14 @@
 //! Which constraints leave no plan, and which of them can't be left out?
 
-ghost use Rattle.std.specs.Prelude.{◌≡◌, IfOk, All, map};
+ghost use Rattle.std.specs.Prelude.{◌≡◌, All, IfOk, map};
+ghost use Rattle.ttp_model.specs.Instance.{Instance};
+ghost use Rattle.planner.specs.outcome.Options.{Options};
 ghost use Rattle.kept_constraints.specs.Constraints.{listed};
-ghost use Rattle.conflicts.specs.Conflicts.{Answers, AreNeeded, IsNeeded};
-ghost use Rattle.conflicts.specs.Halving.{IsHalving};
+ghost use Rattle.conflicts.specs.declared.halving.Halving.{Halving};
+ghost use Rattle.conflicts.specs.Conflicts.{Answers};
+ghost use Rattle.conflicts.specs.Halving.{Decides, IsHalving, IsMarked};
 
-use crate::halving::{Halving, halve};
+use crate::halving::{Halving, narrow};
 use crate::searched::{Tried, searched};
 use certificate::Cert;
 use kept_constraints::{Constraint, Constraints};
@@ -42,20 +45,83 @@ pub enum Conflict {
     Unknown,
 }
 
+/// A constraint, and whether it is among those that are known to be needed.
+fn need_of(needed: &[Constraint], constraint: Constraint) -> Need
+    ensures constraint { result.constraint ≡ constraint }
+    ensures marked { IsMarked needed.now result }
+{
+    Need {
+        constraint,
+        is_shown: needed.contains(&constraint),
+    }
+}
+
 /// The constraints that are kept, and whether each is among those that are known to be needed.
+#[tactic(auto, using(crate::proofs::Told::one_more_told))]
 fn needs_of(
     alloc: Global,
     kept: &Constraints,
     needed: &[Constraint],
 ) -> Result<Vec<Need>, MemoryFault>
     ensures all { IfOk result (λ needs. map (λ need. need.constraint) needs.items ≡ listed kept.now) }
-    ensures needed { (i : Instance) → All (IsNeeded i kept.now) needed.now → IfOk result (λ needs. AreNeeded i kept.now needs.items) }
+    ensures marked { IfOk result (λ needs. All (IsMarked needed.now) needs.items) }
 {
     let list = kept.list(alloc)?;
     let mut needs = Vec::new(alloc);
-    for constraint in list.iter().copied() {
-        let is_shown = needed.contains(&constraint);
-        needs.push(Need { constraint, is_shown })?;
+    for constraint in list.as_slice() {
+        needs.push(need_of(needed, *constraint))?;
     }
     Ok(needs)
+}
+
+/// What is told of constraints that leave no plan, once each is decided.
+#[tactic(auto, using(crate::proofs::Told::conflict_told))]
+fn told(alloc: Global, halving: Halving) -> Result<Conflict, MemoryFault>
+    ensures { (i : Instance) (options : Options) (old : Halving) → Decides i options old (listed old.kept) halving
+        → IfOk result (Answers i options) }
+{
+    let needs = needs_of(alloc, &halving.kept, halving.needed.as_slice())?;
+    let Halving { kept, cert, needed } = halving;
+    drop(needed);
+    Ok(Conflict::None { needs, kept, cert })
+}
+
+/// Which of an instance's constraints leave no plan by themselves, where it has none.
+fn narrowed<R: Threads + Wait + Sync>(
+    rt: &R,
+    alloc: Global,
+    instance: &Instance,
+    options: Options,
+    halving: Halving,
+) -> Result<Conflict, SolveFault>
+    requires { IsHalving instance.now options halving }
+    ensures { IfOk result (Answers instance.now options) }
+{
+    let list = halving.kept.list(alloc)?;
+    let mut halving = halving;
+    narrow(rt, alloc, instance, options, &mut halving, list.as_slice())?;
+    Ok(told(alloc, halving)?)
+}
+
+/// Looks for constraints of an instance that leave no plan by themselves, and leaves out what it can of them: the times first, then
+/// messages, then links, half by half. Each search has the budget, and ends once it has found a plan.
+pub fn find_conflict<R: Threads + Wait + Sync>(
+    rt: &R,
+    alloc: Global,
+    instance: &Instance,
+    options: Options,
+) -> Result<Conflict, SolveFault>
+    ensures { IfOk result (Answers instance.now options) }
+{
+    let _nodes = instance.nodes();
+    let kept = Constraints::of(alloc, instance)?;
+    match searched(rt, alloc, instance, &kept, options)? {
+        Tried::Plan { delay, plan } => Ok(Conflict::Plan { delay, plan }),
+        Tried::Unknown => Ok(Conflict::Unknown),
+        Tried::None { cert } => {
+            let needed = Vec::new(alloc);
+            let halving = Halving { kept, cert, needed };
+            narrowed(rt, alloc, instance, options, halving)
+        }
+    }
 }

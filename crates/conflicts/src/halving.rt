@@ -1,10 +1,7 @@
 //! Which constraints can be left out so that there is still no plan?
 
-ghost use Rattle.std.specs.Prelude.{◌≡◌, IfOk, OnOk, IsTrue};
-ghost use Rattle.kept_constraints.specs.Constraints.{without_all};
-ghost use Rattle.kept_constraints.specs.Only.{only};
-ghost use Rattle.kept_constraints.specs.Fewer.{HasPlan};
-ghost use Rattle.conflicts.specs.Halving.{IsHalving, IsFate};
+ghost use Rattle.std.specs.Prelude.{◌≡◌, ◌<◌, ◌++◌, IfOk, OnOk, length};
+ghost use Rattle.conflicts.specs.Halving.{needed_of, Decides, IsHalving, IsWithout, LeavesOut};
 
 use crate::searched::{Tried, searched};
 use certificate::Cert;
@@ -24,18 +21,16 @@ pub struct Halving {
     pub needed: Vec<Constraint>,
 }
 
-/// What became of constraints that were to be left out.
+/// What there is without some of the constraints.
 #[derive(Clone, Copy, Debug, PartialEq, Eq)]
-pub enum Fate {
-    /// There is no plan without them either, and they are left out.
-    LeftOut,
-    /// There is one.
-    Needed,
-    /// It isn't known.
+pub enum Without {
+    /// A valid plan.
+    SomePlan,
+    /// It isn't known: a search was stopped.
     Unknown,
 }
 
-/// Leaves constraints out, where there is no plan without them either.
+/// Leaves constraints out, where there is no plan without them either; else what there is without them.
 fn leave_out<R: Threads + Wait + Sync>(
     rt: &R,
     alloc: Global,
@@ -43,10 +38,10 @@ fn leave_out<R: Threads + Wait + Sync>(
     options: Options,
     halving: &mut Halving,
     part: &[Constraint],
-) -> Result<Fate, SolveFault>
+) -> Result<Option<Without>, SolveFault>
     requires { IsHalving instance.now options halving.old }
     ensures halving { OnOk result (IsHalving instance.now options halving.new) }
-    ensures fate { IfOk result (IsFate instance.now halving.old.kept part.now halving.new.kept) }
+    ensures left { IfOk result (LeavesOut instance.now options halving.old part.now halving.new) }
 {
     let _nodes = instance.nodes();
     let mut fewer = halving.kept.copy(alloc)?;
@@ -55,52 +50,73 @@ fn leave_out<R: Threads + Wait + Sync>(
         Tried::None { cert } => {
             halving.kept = fewer;
             halving.cert = cert;
-            Ok(Fate::LeftOut)
+            Ok(None)
         }
-        Tried::Plan { .. } => Ok(Fate::Needed),
-        Tried::Unknown => Ok(Fate::Unknown),
+        Tried::Plan { .. } => Ok(Some(Without::SomePlan)),
+        Tried::Unknown => Ok(Some(Without::Unknown)),
     }
 }
 
 /// Tells of a constraint that can't be left out, where it is known to be needed.
-fn tell(halving: &mut Halving, part: &[Constraint], is_needed: bool) -> Result<(), MemoryFault>
+fn tell(halving: &mut Halving, part: &[Constraint], without: Without) -> Result<(), MemoryFault>
     requires few { length part.now < 2 }
-    ensures { OnOk result (Tells halving.old part.now is_needed halving.new) }
+    ensures needed { OnOk result (halving.new.needed.items ≡ halving.old.needed.items ++ needed_of without part.now) }
+    ensures kept { halving.new.kept ≡ halving.old.kept }
+    ensures cert { halving.new.cert ≡ halving.old.cert }
 {
-    if let ([constraint], true) = (part, is_needed) {
+    if let ([constraint], Without::SomePlan) = (part, without) {
         halving.needed.push(*constraint)?;
     }
     Ok(())
 }
 
-/// Leaves out what can be of constraints that can't all be left out. Whether there is a plan without all of them may be known.
-pub fn halve<R: Threads + Wait + Sync>(
+/// Leaves out what can be of constraints of which it is known what there is without all of them.
+fn halve<R: Threads + Wait + Sync>(
     rt: &R,
     alloc: Global,
     instance: &Instance,
     options: Options,
     halving: &mut Halving,
     part: &[Constraint],
-    is_needed: bool,
+    without: Without,
 ) -> Result<(), SolveFault>
     requires halving { IsHalving instance.now options halving.old }
-    requires needed { IsTrue is_needed → HasPlan (only instance.now (without_all halving.old.kept part.now)) }
-    ensures { OnOk result (IsHalving instance.now options halving.new) }
+    requires without { IsWithout instance.now options halving.old.kept part.now without }
+    ensures { OnOk result (Decides instance.now options halving.old part.now halving.new) }
 {
     if part.len() < 2 {
-        return tell(halving, part, is_needed);
-    }
-    let (front, back) = part.split_at(part.len() / 2);
-    let fate = leave_out(rt, alloc, instance, options, halving, front)?;
-    if fate == Fate::LeftOut {
-        return halve(rt, alloc, instance, options, halving, back, is_needed);
-    }
-    let is_front_needed = fate == Fate::Needed;
-    halve(rt, alloc, instance, options, halving, front, is_front_needed)?;
-    let fate = leave_out(rt, alloc, instance, options, halving, back)?;
-    if fate == Fate::LeftOut {
+        tell(halving, part, without)?;
         return Ok(());
     }
-    let is_back_needed = fate == Fate::Needed;
-    halve(rt, alloc, instance, options, halving, back, is_back_needed)
+    let (front, back) = part.split_at(part.len() / 2);
+    match leave_out(rt, alloc, instance, options, halving, front)? {
+        None => halve(rt, alloc, instance, options, halving, back, without),
+        Some(without_front) => {
+            halve(rt, alloc, instance, options, halving, front, without_front)?;
+            match leave_out(rt, alloc, instance, options, halving, back)? {
+                None => Ok(()),
+                Some(without_back) => {
+                    halve(rt, alloc, instance, options, halving, back, without_back)
+                }
+            }
+        }
+    }
+}
+
+/// Leaves out what can be of constraints.
+pub fn narrow<R: Threads + Wait + Sync>(
+    rt: &R,
+    alloc: Global,
+    instance: &Instance,
+    options: Options,
+    halving: &mut Halving,
+    list: &[Constraint],
+) -> Result<(), SolveFault>
+    requires { IsHalving instance.now options halving.old }
+    ensures { OnOk result (Decides instance.now options halving.old list.now halving.new) }
+{
+    match leave_out(rt, alloc, instance, options, halving, list)? {
+        None => Ok(()),
+        Some(without) => halve(rt, alloc, instance, options, halving, list, without),
+    }
 }

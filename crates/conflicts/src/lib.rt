@@ -7,5 +7,5 @@ mod halving;
 mod laws;
 mod searched;
 
-pub use conflict::{Conflict, Need, conflict};
+pub use conflict::{Conflict, Need, find_conflict};
 pub use laws::conflicts_leave_no_plan;

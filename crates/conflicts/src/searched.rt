@@ -19,14 +19,9 @@ use ttp_model::{Instance, Plan};
 #[derive(Drop)]
 pub enum Tried {
     /// A valid plan, with its delay in ticks.
-    Plan {
-        delay: u64,
-        plan: Plan,
-    },
+    Plan { delay: u64, plan: Plan },
     /// There is none, as the certificate shows.
-    None {
-        cert: Cert,
-    },
+    None { cert: Cert },
     /// The search was stopped, and had found none.
     Unknown,
 }

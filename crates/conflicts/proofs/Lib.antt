@@ -1,0 +1,2 @@
+pub mod Halved
+pub mod Told
