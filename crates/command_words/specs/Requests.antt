@@ -1,8 +1,9 @@
 -- What holds of a request.
 use Rattle.std.specs.Prelude.{◌≤◌, ℕ, List, IfSome}
 use Rattle.command_words.specs.declared.words.Request.{Request}
-use Rattle.command_words.specs.declared.words.Request.TheVariants.{OnFiles, Solve}
+use Rattle.command_words.specs.declared.words.Request.TheVariants.{OnFiles, Solve, Why as Asking}
 use Rattle.command_words.specs.declared.words.Search.{Search}
+use Rattle.command_words.specs.declared.words.Why.{Why}
 use Rattle.command_words.specs.declared.words.Task.{Task}
 use Rattle.command_words.specs.declared.words.Task.TheVariants.{Draw}
 use Rattle.command_words.specs.Names.{IsOtherFile}
@@ -25,7 +26,16 @@ pub record IsSoundSearch (search : Search) : Type 0 where
   pub kept : IfSome search.kept (λ file. IsApart search file.now)
   pub both : IfSome search.kept (λ file. IfSome search.certificate (λ other. IsOtherFile file.now other.now))
 
+-- the same of a search for what leaves no plan: it reads the instance alone
+pub record IsSoundWhy (why : Why) : Type 0 where
+  pub some : 1 ≤ why.workers
+  pub few : why.workers ≤ 16
+  pub certificate : IfSome why.certificate (λ file. IsOtherFile file.now why.instance.now)
+  pub reduced : IfSome why.reduced (λ file. IsOtherFile file.now why.instance.now)
+  pub both : IfSome why.reduced (λ file. IfSome why.certificate (λ other. IsOtherFile file.now other.now))
+
 abbrev pub IsSound : Request → Type 0
 IsSound (OnFiles instance plan task) = IsSoundTask task
 IsSound (Solve search) = IsSoundSearch search
+IsSound (Asking why) = IsSoundWhy why
 IsSound _ = Unit {0}

@@ -7,6 +7,6 @@ mod numbers;
 mod refusal;
 mod words;
 
-pub use misuse::keeping_over;
+pub use misuse::{emptying_over, keeping_over};
 pub use refusal::refuse;
-pub use words::{Explained, Request, Search, Task, VERSION, all, request_in};
+pub use words::{Explained, Request, Search, Task, VERSION, Why, all, request_in};

@@ -4,7 +4,7 @@ ghost use Rattle.std.specs.Prelude.{◌≡◌};
 ghost use Rattle.command_words.specs.declared.misuse.Misuse.TheVariants.{Memory};
 
 use crate::numbers::{NumberOption, NumberedCommand};
-use crate::words::{draw_command, solve_command};
+use crate::words::{draw_command, solve_command, why_command};
 use clap::Error;
 use clap::error::ErrorKind;
 use std::alloc::{AllocError, Global};
@@ -22,6 +22,8 @@ pub enum Misuse<'a> {
     OverwritingPlan(&'a str),
     /// When the best plan so far would be kept in a file that is read or written besides.
     Keeping(&'a str),
+    /// When what tells why there is no plan would be written by this option over another file of its command.
+    Emptying(&'static str, &'a str),
     /// When memory was wanted, and refused.
     Memory,
 }
@@ -63,6 +65,9 @@ impl Misuse<'_> {
             Misuse::Keeping(word) => format!(in alloc;
                 "invalid value '{word}' for '--keep <FILE>': a plan kept there would take the place of another file of the search"
             ),
+            Misuse::Emptying(option, word) => format!(in alloc;
+                "invalid value '{word}' for '--{option} <FILE>': another file of the command would be emptied"
+            ),
             Misuse::Memory => Err(AllocError),
         }
     }
@@ -78,6 +83,14 @@ impl Misuse<'_> {
                 },
                 _,
             ) => draw_command(alloc)?.bin_name("ttplan draw")?,
+            Misuse::Number(
+                NumberOption {
+                    command: NumberedCommand::Why,
+                    ..
+                },
+                _,
+            )
+            | Misuse::Emptying(..) => why_command(alloc)?.bin_name("ttplan why")?,
             _ => solve_command(alloc)?.bin_name("ttplan solve")?,
         };
         command.error(ErrorKind::ValueValidation, text.as_str())
@@ -88,6 +101,15 @@ impl Misuse<'_> {
 /// folders.
 pub fn keeping_over(alloc: Global, file: &str) -> Error {
     match Misuse::Keeping(file).error(alloc) {
+        Ok(error) => error,
+        Err(error) => Error::from(error),
+    }
+}
+
+/// Why what tells that there is no plan is refused, whose option would write over another file that its words name, by a link, or by a way
+/// through other folders.
+pub fn emptying_over(alloc: Global, option: &'static str, file: &str) -> Error {
+    match Misuse::Emptying(option, file).error(alloc) {
         Ok(error) => error,
         Err(error) => Error::from(error),
     }

@@ -9,6 +9,7 @@ use plan_picture::{LEAST_WIDTH, MOST_WIDTH};
 pub enum NumberedCommand {
     Solve,
     Draw,
+    Why,
 }
 
 /// An option that takes a whole number within bounds.
@@ -37,6 +38,26 @@ pub const WORKERS: NumberOption = NumberOption {
 /// How many subtrees are searched at most.
 pub const BUDGET: NumberOption = NumberOption {
     command: NumberedCommand::Solve,
+    name: "budget",
+    value: "N",
+    least: 0,
+    most: u64::MAX,
+    default: Some("1000000"),
+};
+
+/// How many workers look for what leaves no plan.
+pub const WHY_WORKERS: NumberOption = NumberOption {
+    command: NumberedCommand::Why,
+    name: "workers",
+    value: "N",
+    least: 1,
+    most: 16,
+    default: Some("4"),
+};
+
+/// How many subtrees each of their searches has at most.
+pub const WHY_BUDGET: NumberOption = NumberOption {
+    command: NumberedCommand::Why,
     name: "budget",
     value: "N",
     least: 0,

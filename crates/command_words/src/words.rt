@@ -6,7 +6,9 @@ ghost use Rattle.command_words.specs.Requests.{IsSound, IsSoundTask};
 
 use crate::misuse::Misuse;
 use crate::names::name_one_file;
-use crate::numbers::{BUDGET, NumberOption, SECONDS, UNTIL, WIDTH, WORKERS};
+use crate::numbers::{
+    BUDGET, NumberOption, SECONDS, UNTIL, WHY_BUDGET, WHY_WORKERS, WIDTH, WORKERS,
+};
 use clap::error::ErrorKind;
 use clap::{Arg, ArgAction, ArgMatches, Command, Error};
 use plan_picture::Shown;
@@ -63,6 +65,20 @@ pub struct Search<'a> {
     pub seconds: Option<u64>,
 }
 
+/// How it is to be found out why an instance has no plan.
+#[derive(Clone, Copy, Debug, PartialEq, Eq)]
+pub struct Why<'a> {
+    pub instance: &'a str,
+    /// Where the certificate is written.
+    pub certificate: Option<&'a str>,
+    /// Where the instance by the constraints that leave no plan is written.
+    pub reduced: Option<&'a str>,
+    /// How many workers search, 1 to 16.
+    pub workers: u32,
+    /// How many subtrees each search has at most.
+    pub budget: u64,
+}
+
 /// A command, with the files that it names.
 #[derive(Debug, Drop)]
 pub enum Request<'a> {
@@ -74,6 +90,8 @@ pub enum Request<'a> {
     },
     /// Search the instance of a file.
     Solve(Search<'a>),
+    /// Tell why the instance of a file has no plan.
+    Why(Why<'a>),
     /// Check the certificate of one file for the instance of another.
     Check {
         instance: &'a str,
@@ -131,6 +149,10 @@ const EXPLAIN_HELP: &str =
 /// What a comparison prints.
 const COMPARE_HELP: &str =
     "It prints a line for each node of either instance, by its name: `same`, where its table and its guardian's windows are the same bytes in both, `changed`, where they aren't, `new` or `gone`. Behind these lines is told what is different of the plan: `order changed`, and `cap`, `start`, `round` and `chan`, each with a name, the old value and the new one, or `-` where there is none.\n\nIt ends with status 0 where each node is the same and nothing is different, and else with 1. Both plans have to be valid: else it says so as `ttplan verify` does, behind the word `old` or `new`.";
+
+/// What is printed of an instance without a plan.
+const WHY_HELP: &str =
+    "It prints a line `ttwhy 1`, and behind it one of these, and ends with the status beside it:\n   0  `plan D`: there is a plan, of D ticks; it need not be a shortest\n  10  `none`, and a line for each constraint of a set that leaves no plan by itself: the horizon, deadlines, releases, messages, that one is on both channels, and links\n  11  `unknown`: a search was stopped before that was known\n\nA line begins with `need`, where there is a plan by the others of the set, and with `maybe`, where a search for one was stopped.\n\nFirst times are left out, then messages, and then links, as long as there is still no plan. Each search is for any plan, and has N subtrees.";
 
 /// A file that has to be named.
 fn file<'a>(alloc: Global, name: &'a str, help: &'a str) -> Arg<'a> {
@@ -296,6 +318,33 @@ pub(crate) fn solve_command<'a>(alloc: Global) -> Result<Command<'a>, AllocError
         .arg(progress(alloc))
 }
 
+/// The subcommand that tells why there is no plan.
+pub(crate) fn why_command<'a>(alloc: Global) -> Result<Command<'a>, AllocError> {
+    let workers = number(alloc, WHY_WORKERS, "How many workers search, 1 to 16");
+    let budget = number(
+        alloc,
+        WHY_BUDGET,
+        "How many subtrees each search has at most",
+    );
+    let reduced = Arg::new(alloc, "reduced")
+        .long("reduced")
+        .value_name("FILE")
+        .help(
+            "Also writes the instance by these constraints alone to this file, in TOML; a file that is there is emptied first, and INSTANCE itself is refused",
+        );
+    let certificate = Arg::new(alloc, "cert").long("cert").value_name("FILE").help(
+        "Also writes the certificate that this instance has no plan to this file: `ttplan check` accepts it for the file of `--reduced`. A file that is there is emptied first; INSTANCE itself is refused, and that file",
+    );
+    Command::new(alloc, "why")
+        .about("Tells which constraints of an instance leave no plan")
+        .after_help(WHY_HELP)
+        .arg(file(alloc, "INSTANCE", INSTANCE_HELP))?
+        .arg(workers)?
+        .arg(budget)?
+        .arg(reduced)?
+        .arg(certificate)
+}
+
 fn check_command<'a>(alloc: Global) -> Result<Command<'a>, AllocError> {
     Command::new(alloc, "check")
         .about("Checks a certificate, and prints `bound` with the delay that no plan is below")
@@ -357,6 +406,7 @@ fn command<'a>(alloc: Global) -> Result<Command<'a>, AllocError> {
             "Without words it reads an instance, a line `%%` and a plan from standard input, and verifies the plan.",
         )
         .subcommand(solve_command(alloc)?)?
+        .subcommand(why_command(alloc)?)?
         .subcommand(verify_command(alloc)?)?
         .subcommand(check_command(alloc)?)?
         .subcommand(judge_command(alloc)?)?
@@ -485,6 +535,43 @@ fn solve_request<'a>(alloc: Global, matches: &ArgMatches<'a>) -> Result<Request<
     }))
 }
 
+/// The file that an option of `why` names, which by its name is neither the instance's nor another one.
+fn emptied_of<'a>(
+    alloc: Global,
+    matches: &ArgMatches<'a>,
+    option: &'static str,
+    instance: &str,
+    other: Option<&str>,
+) -> Result<Option<&'a str>, Misuse<'a>>
+    ensures instance { IfOk result (λ name. IfSome name (λ file. IsOtherFile file.now instance.now)) }
+    ensures other { IfOk result (λ name. IfSome name (λ file. IfSome other.entry (λ one. IsOtherFile file.now one.now))) }
+{
+    let Some(file) = matches.get_str(option) else {
+        return Ok(None);
+    };
+    if name_one_file(alloc, file, instance)? || is_named_by(alloc, file, other)? {
+        return Err(Misuse::Emptying(option, file));
+    }
+    Ok(Some(file))
+}
+
+/// A search for what leaves no plan, with its numbers, each in its range, and files to be written that aren't the one which it reads.
+fn why_request<'a>(alloc: Global, matches: &ArgMatches<'a>) -> Result<Request<'a>, Misuse<'a>>
+    ensures { IfOk result IsSound }
+{
+    let Some(instance) = matches.get_str("INSTANCE") else {
+        return Err(Misuse::Missing);
+    };
+    let certificate = emptied_of(alloc, matches, "cert", instance, None)?;
+    Ok(Request::Why(Why {
+        instance,
+        certificate,
+        reduced: emptied_of(alloc, matches, "reduced", instance, certificate)?,
+        workers: number_of(WHY_WORKERS, matches)? as u32,
+        budget: number_of(WHY_BUDGET, matches)?,
+    }))
+}
+
 /// A check of a certificate.
 fn check_request<'a>(matches: &ArgMatches<'a>) -> Option<Request<'a>>
     ensures { IfSome result IsSound }
@@ -588,6 +675,7 @@ fn request_of<'a>(
 {
     let request = match name {
         "solve" => return solve_request(alloc, matches),
+        "why" => return why_request(alloc, matches),
         "check" => check_request(matches),
         "judge" => judge_request(matches),
         "explain" => explain_request(matches),

@@ -8,7 +8,9 @@ mod plan_file;
 use crate::plan_file::{PlanFile, name_beside, name_one_file};
 use command_streams::end_with;
 pub use command_streams::{End, Fault, SearchFault, Sink, Source, report, status};
-use command_words::{Explained, Request, Search, Task, VERSION, keeping_over, refuse, request_in};
+use command_words::{
+    Explained, Request, Search, Task, VERSION, Why, emptying_over, keeping_over, refuse, request_in,
+};
 pub use compare_command::{Compared, Release, compare_run};
 pub use explain_command::{explain_certificate, explain_instance, explain_plan};
 pub use plan_commands::{
@@ -26,6 +28,7 @@ use std::marker::Sync;
 use std::process::ExitCode;
 use std::sync::Wait;
 use std::thread::Threads;
+pub use why_command::{Wanted, WhyEnd, why_run};
 
 /// An instance's file and a second one, both opened, in the order of the words.
 fn open_both(
@@ -307,6 +310,73 @@ fn search_files(
     }
 }
 
+/// The file of an option, where it is used: it is created anew.
+fn create_if_any(rt: &HostRuntime, name: Option<&str>) -> io::Result<Option<File>> {
+    match name {
+        None => Ok(None),
+        Some(name) => Ok(Some(File::create(rt, name)?)),
+    }
+}
+
+/// Tells why the instance of a file has no plan, with writers for what is wanted beside it.
+fn why_to(
+    rt: &HostRuntime,
+    threads: &(impl Threads + Wait + Sync),
+    why: &Why,
+    instance: &mut File,
+    certificate: &mut impl io::Write,
+    reduced: &mut impl io::Write,
+) -> WhyEnd {
+    let options = Options {
+        workers: why.workers,
+        budget: why.budget,
+    };
+    let wanted = Wanted {
+        certificate: why.certificate.is_some(),
+        reduced: why.reduced.is_some(),
+    };
+    why_run(
+        threads,
+        rt.alloc(),
+        instance,
+        options,
+        wanted,
+        certificate,
+        reduced,
+        &mut rt.stdout(),
+    )
+}
+
+/// Tells why the instance of a file has no plan. All files are open before one is read: that of the instance first, then that of the
+/// certificate.
+fn run_why(rt: &HostRuntime, threads: &(impl Threads + Wait + Sync), why: &Why) -> WhyEnd {
+    let Ok(mut instance) = File::open(rt, why.instance) else {
+        return WhyEnd::As(End::Refused(Fault::Unread(Source::Instance)));
+    };
+    let Ok(certificate) = create_if_any(rt, why.certificate) else {
+        return WhyEnd::As(End::Refused(Fault::Unwritten(Sink::Certificate)));
+    };
+    let Ok(reduced) = create_if_any(rt, why.reduced) else {
+        return WhyEnd::Unreduced;
+    };
+    let nothing = &mut Vec::new(rt.alloc());
+    let instance = &mut instance;
+    match (certificate, reduced) {
+        (Some(mut certificate), Some(mut reduced)) => {
+            why_to(rt, threads, why, instance, &mut certificate, &mut reduced)
+        }
+        (Some(mut certificate), None) => {
+            why_to(rt, threads, why, instance, &mut certificate, nothing)
+        }
+        (None, Some(mut reduced)) => {
+            why_to(rt, threads, why, instance, &mut Vec::new(rt.alloc()), &mut reduced)
+        }
+        (None, None) => {
+            why_to(rt, threads, why, instance, &mut Vec::new(rt.alloc()), nothing)
+        }
+    }
+}
+
 /// Does what is asked for, says on standard error why it was refused, and gives the status. A search starts threads and waits for
 /// them, and so does the check of a certificate.
 fn run(rt: &HostRuntime, threads: &(impl Threads + Wait + Sync), request: Request) -> u8
@@ -319,6 +389,11 @@ fn run(rt: &HostRuntime, threads: &(impl Threads + Wait + Sync), request: Reques
             task,
         } => run_on_files(rt, instance, plan, task),
         Request::Solve(search) => run_solve(rt, threads, &search),
+        Request::Why(why) => {
+            let end = run_why(rt, threads, &why);
+            let _ = why_command::report(&end, &mut rt.stderr());
+            return why_command::status(&end);
+        }
         Request::Check {
             instance,
             certificate,
@@ -371,6 +446,29 @@ fn overwritten<'a>(rt: &HostRuntime, request: &Request<'a>) -> Result<Option<&'a
     }
 }
 
+/// Whether a file is one of two others that are named.
+fn is_either(rt: &HostRuntime, file: &str, first: &str, second: Option<&str>) -> bool {
+    if name_one_file(rt, file, first) {
+        return true;
+    }
+    match second {
+        Some(second) => name_one_file(rt, file, second),
+        None => false,
+    }
+}
+
+/// The option by which a request would empty a file that it names besides, and that file.
+fn emptied<'a>(rt: &HostRuntime, request: &Request<'a>) -> Option<(&'static str, &'a str)> {
+    let Request::Why(why) = request else {
+        return None;
+    };
+    match (why.certificate, why.reduced) {
+        (Some(file), _) if is_either(rt, file, why.instance, None) => Some(("cert", file)),
+        (other, Some(file)) if is_either(rt, file, why.instance, other) => Some(("reduced", file)),
+        _ => None,
+    }
+}
+
 /// Runs the words' request, says on standard error why it was refused, and gives the status.
 fn status_of_words(
     rt: &HostRuntime,
@@ -381,6 +479,9 @@ fn status_of_words(
         Ok(request) => request,
         Err(error) => return refuse(&error, &mut rt.stderr()),
     };
+    if let Some((option, file)) = emptied(rt, &request) {
+        return refuse(&emptying_over(rt.alloc(), option, file), &mut rt.stderr());
+    }
     match overwritten(rt, &request) {
         Ok(Some(file)) => refuse(&keeping_over(rt.alloc(), file), &mut rt.stderr()),
         Ok(None) => run(rt, threads, request),
