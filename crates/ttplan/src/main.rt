@@ -369,10 +369,24 @@ fn run_why(rt: &HostRuntime, threads: &(impl Threads + Wait + Sync), why: &Why) 
             why_to(rt, threads, why, instance, &mut certificate, nothing)
         }
         (None, Some(mut reduced)) => {
-            why_to(rt, threads, why, instance, &mut Vec::new(rt.alloc()), &mut reduced)
+            why_to(
+                rt,
+                threads,
+                why,
+                instance,
+                &mut Vec::new(rt.alloc()),
+                &mut reduced,
+            )
         }
         (None, None) => {
-            why_to(rt, threads, why, instance, &mut Vec::new(rt.alloc()), nothing)
+            why_to(
+                rt,
+                threads,
+                why,
+                instance,
+                &mut Vec::new(rt.alloc()),
+                nothing,
+            )
         }
     }
 }
