@@ -16,6 +16,8 @@ mod patience;
 #[cfg(test)]
 mod progress;
 #[cfg(test)]
+mod reasons;
+#[cfg(test)]
 mod refusals;
 #[cfg(test)]
 mod reports;

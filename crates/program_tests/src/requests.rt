@@ -42,6 +42,12 @@ const OVERWRITING_PLAN: &str =
 const KEEPING: &str =
     "for '--keep <FILE>': a plan kept there would take the place of another file of the search";
 
+const EMPTYING_CERTIFICATE: &str =
+    "invalid value './a' for '--cert <FILE>': another file of the command would be emptied";
+
+const EMPTYING_REDUCED: &str =
+    "invalid value 'b' for '--reduced <FILE>': another file of the command would be emptied";
+
 #[rattlefmt::skip]
 static ROWS: &[Row] = &[
     (&["ttplan"], Ok("VerifyBundle")),
@@ -75,6 +81,17 @@ static ROWS: &[Row] = &[
     ),
     (&["ttplan", "check", "a", "c"], Ok("Check { instance: \"a\", certificate: \"c\" }")),
     (&["ttplan", "judge", "a", "b", "c"], Ok("Judge { instance: \"a\", plan: \"b\", certificate: \"c\" }")),
+    (
+        &["ttplan", "why", "a"],
+        Ok("Why(Why { instance: \"a\", certificate: None, reduced: None, workers: 4, budget: 1000000 })"),
+    ),
+    (
+        &["ttplan", "why", "--workers", "2", "a", "--reduced", "b", "--cert=c", "--budget", "7"],
+        Ok("Why(Why { instance: \"a\", certificate: Some(\"c\"), reduced: Some(\"b\"), workers: 2, budget: 7 })"),
+    ),
+    (&["ttplan", "why", "a", "--workers", "0"], Err(NO_WORKERS)),
+    (&["ttplan", "why", "a", "--cert", "./a"], Err(EMPTYING_CERTIFICATE)),
+    (&["ttplan", "why", "a", "--reduced", "b", "--cert", "b"], Err(EMPTYING_REDUCED)),
     (
         &["ttplan", "compare", "a", "b", "c", "d"],
         Ok("Compare { old_instance: \"a\", old_plan: \"b\", new_instance: \"c\", new_plan: \"d\" }"),
