@@ -109,10 +109,17 @@ fn written(
 fn constraints_that_leave_no_plan(rt: HostRuntime) -> Result<(), Fail> {
     for (k, (instance, budget, told, status)) in ROWS.iter().enumerate() {
         let written = written(&rt, instance, *budget)?;
-        assert!(rt; written.out.as_slice() == told.as_bytes(), "row {k}: {:?}", written.out);
+        assert!(rt;
+            written.out.as_slice() == told.as_bytes(),
+            "row {k}: {:?}",
+            written.out
+        );
         assert!(rt; written.status == *status, "row {k}: {}", written.status);
         let is_none = *status == 10;
-        assert!(rt; written.certificate.is_empty() != is_none, "row {k}: certificate");
+        assert!(rt;
+            written.certificate.is_empty() != is_none,
+            "row {k}: certificate"
+        );
         assert!(rt; written.reduced.is_empty() != is_none, "row {k}: instance");
     }
     Ok(())
@@ -211,8 +218,12 @@ fn is_right(
     } else {
         status(&end) == 10 && has(&error, "")
     };
-    let is_written = has_part(&certificate, whole.certificate.as_slice(), !uncertified, !unread)
-        && has_part(&reduced, whole.reduced.as_slice(), !unreduced, !uncertified)
+    let is_written = has_part(
+        &certificate,
+        whole.certificate.as_slice(),
+        !uncertified,
+        !unread,
+    ) && has_part(&reduced, whole.reduced.as_slice(), !unreduced, !uncertified)
         && has_part(&out, whole.out.as_slice(), !failed, !unreduced);
     (is_reported && is_told && is_written, failed)
 }
