@@ -23,33 +23,33 @@ const EARLY_REDUCED: &str =
 
 /// A message that fits in no frame, beside a deadline, a release and a link.
 const NO_FRAME: &[&str] = &[
-    CLUSTER,
     "node = [{name = 'A', capacities = [2]}, {name = 'B', capacities = [0]}]\n",
     "process = [{name = 'p', node = 'A', wcet = 1, release = 1}, {name = 'q', node = 'B', wcet = 1}, {name = 'r', node = 'B', wcet = 1, deadline = 50}]\n",
     "link = [{from = 'q', to = 'r'}]\n",
     "message = [{name = 'm', from = 'p', to = ['q'], bytes = 6}]\n",
+    CLUSTER,
 ];
 
 /// Two processes of one node that can't both be in time, each with a time of its own, joined by a link.
 const CROWDED: &[&str] = &[
-    CLUSTER,
     "node = [{name = 'A', capacities = [0]}]\n",
     "process = [{name = 'p', node = 'A', wcet = 3, release = 2}, {name = 'q', node = 'A', wcet = 2, deadline = 6}]\n",
     "link = [{from = 'p', to = 'q'}]\n",
+    CLUSTER,
 ];
 
 /// A message that is to be on both channels, where each has room for one and the horizon for one round.
 const BOTH: &[&str] = &[
-    CLUSTER_BEFORE_HORIZON,
-    "horizon = 7\nchannels = 2\n",
     "node = [{name = 'A', capacities = [2]}, {name = 'B', capacities = [0]}]\n",
     "process = [{name = 'p', node = 'A', wcet = 1}, {name = 'q', node = 'B', wcet = 1}]\n",
     "message = [{name = 'm', from = 'p', to = ['q'], bytes = 2, both = true}, {name = 'k', from = 'p', to = ['q'], bytes = 2}]\n",
+    CLUSTER_BEFORE_HORIZON,
+    "horizon = 7\nchannels = 2\n",
 ];
 
 const ALONE: &[&str] = &[
-    CLUSTER,
     "node = [{name = 'A', capacities = [0]}]\nprocess = [{name = 'p', node = 'A', wcet = 3}]\n",
+    CLUSTER,
 ];
 
 /// An instance, how many subtrees each search has, what is told, and the status.
@@ -75,7 +75,7 @@ struct Written {
 }
 
 /// What `why` writes of an instance in parts.
-fn written(
+fn written_of(
     rt: &(impl Alloc<A = Global> + Threads + Wait + Sync),
     instance: &[&str],
     budget: u64,
@@ -108,7 +108,7 @@ fn written(
 #[test]
 fn constraints_that_leave_no_plan(rt: HostRuntime) -> Result<(), Fail> {
     for (k, (instance, budget, told, status)) in ROWS.iter().enumerate() {
-        let written = written(&rt, instance, *budget)?;
+        let written = written_of(&rt, instance, *budget)?;
         assert!(rt;
             written.out.as_slice() == told.as_bytes(),
             "row {k}: {:?}",
@@ -254,7 +254,7 @@ fn expect_stops(
 #[test]
 fn failing_streams_of_reasons(rt: HostRuntime) -> Result<(), Fail> {
     let instance = joined(rt.alloc(), EARLY)?;
-    let whole = written(&rt, EARLY, 1_000)?;
+    let whole = written_of(&rt, EARLY, 1_000)?;
     assert!(rt; whole.reduced.as_slice() == EARLY_REDUCED.as_bytes());
     for most in [16, usize::MAX] {
         for stream in STREAMS {
