@@ -1,0 +1,6 @@
+mod OneOf
+mod Deadlines
+mod CutProcesses
+mod CutPlans
+mod CutEnds
+mod CutRules
