@@ -1,6 +1,6 @@
 mod OneOf
 mod Deadlines
 mod CutProcesses
-mod CutPlans
-mod CutEnds
-mod CutRules
+pub mod CutPlans
+pub mod CutEnds
+pub mod CutRules
