@@ -1,5 +1,5 @@
 -- Before which tick some processes can't end, and that their ends are small.
-use Rattle.std.proofs.Common.{◌≡◌, ℕ, ◌+◌, ◌^◌, ◌<◌, ◌≤◌, List, length, map, slice_index, slice_index_or, arith}
+use Rattle.std.proofs.Common.{ℕ, ◌^◌, ◌<◌, ◌≤◌, List, map, slice_index, slice_index_or, arith}
 use Rattle.ttp_model.specs.declared.limits.TheConstants.{MOST_TICKS}
 use Rattle.ttp_model.specs.declared.error.Place.TheVariants.{AtCluster}
 use Rattle.ttp_model.specs.declared.plan.Plan.{Plan}
@@ -35,15 +35,17 @@ module _ (i : Instance) (ps : List ℕ) (are : AreThere i ps) where
       pub low_small : low < 2 ^ 32
       low_small =
           let most = greatest_of_each (slice_index ends) 4294967295 0 ps (omega arith) (λ k e h.
-              let p = slice_index_or ps k e in
-              omega (arith, chain_small i w p (slice_index ends p) (longest.each p (are k e h)).reached)) in
+          let p = slice_index_or ps k e in
+          omega (arith, chain_small i w p (slice_index ends p) (longest.each p (are k e h)).reached)) in
           omega (arith, most)
 
       pub low_chains : IsBehindChains i ps low
       low_chains k e h time chain =
-          omega (arith, (longest.each (slice_index_or ps k e) (are k e h)).greatest time chain, (each_of_greatest (slice_index ends) low 0 ps (omega arith)).1 k e h)
+          let most = (each_of_greatest (slice_index ends) low 0 ps (omega arith)).1 k e h in
+          omega (arith, (longest.each (slice_index_or ps k e) (are k e h)).greatest time chain, most)
 
       pub low_end : IsLowerEnd i ps low
       low_end plan v = greatest_of_each (slice_index ends) (last_end i plan ps) 0 ps (omega arith) (λ k e h.
           let p = slice_index_or ps k e in
-          omega (arith, chain-le i plan w v p _ (longest.each p (are k e h)).reached, each_by_last i ps plan (last_end i plan ps) (omega arith) k e h))
+          let own = each_by_last i ps plan (last_end i plan ps) (omega arith) k e h in
+          omega (arith, chain-le i plan w v p _ (longest.each p (are k e h)).reached, own))

@@ -1,5 +1,5 @@
 -- What is learnt half way: of a plan that was found, and of none.
-use Rattle.std.proofs.Common.{◌≡◌, ℕ, ◌+◌, ◌-◌, ◌/◌, ◌<◌, ◌≤◌, List, arith, sym, ap, ◌∙◌}
+use Rattle.std.proofs.Common.{◌≡◌, ℕ, ◌+◌, ◌≤◌, List, arith, sym, ap, ◌∙◌}
 use Rattle.ttp_model.specs.declared.plan.Plan.{Plan}
 use Rattle.ttp_model.specs.Instance.{Instance}
 use Rattle.ttp_model.specs.Plans.{IsValid}
@@ -25,12 +25,14 @@ module _ (i : Instance) (ps : List ℕ) (are : AreThere i ps) (known : Known) (i
     pub known_found : (plan : Plan) → IsValid (cut i ps d) plan → new.low ≡ known.low → new.high ≡ last_end i plan ps → new.plan ≡ plan
         → IsKnown i ps new × (new.high ≤ d)
     known_found plan v low high same =
-        let by = last_by_each i ps plan d (end_by_of_cut i ps d plan are v) in
-        (record {
-          lower = λ other valid. omega (arith, low, is.lower other valid);
-          chains = λ k e h time chain. omega (arith, low, is.chains k e h time chain);
-          plan_ends = record { valid = rw same (valid_of_cut i ps d plan v); at = ap (λ p. last_end i p ps) same ∙ sym high };
-        }, omega (arith, by, high))
+        let by = last_by_each i ps plan d (end_by_of_cut i ps d plan are v) in (
+          record {
+            lower = λ other valid. omega (arith, low, is.lower other valid);
+            chains = λ k e h time chain. omega (arith, low, is.chains k e h time chain);
+            plan_ends = record { valid = rw same (valid_of_cut i ps d plan v); at = ap (λ p. last_end i p ps) same ∙ sym high };
+          },
+          omega (arith, by, high),
+        )
 
     -- there is none
     pub known_absent : HasNoPlan (cut i ps d) → known.low ≤ d → new ≡ record known { low = d + 1 } → IsKnown i ps new

@@ -1,16 +1,16 @@
 -- Nothing is between: the end is the least, and a search with these deadlines cut to it tells which plan is the shortest.
-use Rattle.std.proofs.Common.{◌≡◌, ◌⊎◌, ℕ, ◌<◌, ◌≤◌, List, Option, None, Some, arith, inl, inr, sym, ap, subst, ◌∙◌}
+use Rattle.std.proofs.Common.{◌≡◌, ◌⊎◌, ℕ, ◌≤◌, List, Option, Some, arith, inl, inr, sym, subst, ◌∙◌}
 use Rattle.ttp_model.specs.declared.plan.Plan.{Plan}
 use Rattle.ttp_model.specs.Instance.{Instance}
 use Rattle.ttp_model.specs.Plans.{IsValid}
-use Rattle.ttp_model.specs.Delays.{delay, HasNoPlan, IsLeastDelay}
+use Rattle.ttp_model.specs.Delays.{delay, HasNoPlan}
 use Rattle.certificate.specs.Cert.{Cert}
 use Rattle.planner.specs.outcome.Options.{Options}
 use Rattle.planner.specs.outcome.Outcome.TheVariants as outcome
 use Rattle.planner.specs.outcome.Why.{Why}
 use Rattle.planner.specs.Answers.{IsOutcome, IsBestPlan, Shows}
 use Rattle.cut_deadlines.specs.Cut.{CanEndBy, cut}
-use Rattle.cut_deadlines.specs.Ends.{AreThere, IsLeastEnd, last_end}
+use Rattle.cut_deadlines.specs.Ends.{AreThere, IsLeastEnd}
 use Rattle.cut_deadlines.proofs.CutPlans.{end_by_of_cut, valid_cut, valid_of_cut}
 use Rattle.cut_deadlines.proofs.CutEnds.{delay_kept, each_by_last, last_by_each, least_by}
 use Rattle.process_limits.specs.declared.halving.Known.{Known}

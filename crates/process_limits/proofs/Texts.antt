@@ -1,10 +1,9 @@
 -- The certificate of an answer has a text: the instance that was searched last keeps all rules.
-use Rattle.std.proofs.Common.{◌≡◌, ℕ, ◌+◌, ◌-◌, ◌/◌, ◌<◌, ◌≤◌, List, None, slice_index_or, arith}
+use Rattle.std.proofs.Common.{ℕ, List, None, slice_index_or, arith}
 use Rattle.ttp_model.specs.declared.plan.Plan.{Plan}
 use Rattle.ttp_model.specs.Instance.{Instance}
 use Rattle.ttp_model.specs.Rules.{IsInstance}
 use Rattle.ttp_model.specs.Delays.{delay}
-use Rattle.certificate.specs.Cert.{Cert}
 use Rattle.certificate.specs.Versions.{Allows}
 use Rattle.planner.specs.outcome.Options.{Options}
 use Rattle.planner.specs.outcome.Outcome.{Outcome}
@@ -17,7 +16,7 @@ use Rattle.cut_deadlines.proofs.CutEnds.{each_by_last}
 use Rattle.cut_deadlines.proofs.CutRules.{keeps_rules}
 use Rattle.process_limits.specs.declared.limit.EndLimit.{EndLimit}
 use Rattle.process_limits.specs.declared.limit.EndLimit.TheVariants.{Least, Reached, Between, Unknown, Infeasible}
-use Rattle.process_limits.specs.Answers.{cert_of, EndsAt, IsEndLimit, IsOpen, middle}
+use Rattle.process_limits.specs.Answers.{cert_of, EndsAt, IsEndLimit, middle}
 use Rattle.process_limits.proofs.Bounds.{room}
 
 module _ (i : Instance) (ps : List ℕ) (options : Options) (w : IsInstance i) (are : AreThere i ps) where
@@ -37,6 +36,7 @@ module _ (i : Instance) (ps : List ℕ) (options : Options) (w : IsInstance i) (
   limit_allows (Reached end plan cert) is =
       cut_allows end (outcome.Stopped is.why is.low is.best cert) (room_of_plan plan end is.plan_ends) is.answer
   limit_allows (Between low high plan cert) is =
-      cut_allows (middle low high) (outcome.Stopped is.answer.why is.answer.low None cert) (room i ps are low (middle low high) is.chains (omega arith)) is.answer.answer
+      let can = room i ps are low (middle low high) is.chains (omega arith) in
+      cut_allows (middle low high) (outcome.Stopped is.answer.why is.answer.low None cert) can is.answer.answer
   limit_allows (Unknown low cert) is = answer_allows i options (outcome.Stopped is.answer.why is.answer.low None cert) w is.answer.answer
   limit_allows (Infeasible cert) is = answer_allows i options (outcome.Infeasible cert) w is.1

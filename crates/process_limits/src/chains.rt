@@ -22,11 +22,7 @@ fn greatest_of(times: &[u64], processes: &[u32]) -> u64
 }
 
 /// What the longest chain to any of these processes adds up to: in no valid plan they have all ended before.
-pub fn longest_to(
-    alloc: Global,
-    instance: &Instance,
-    processes: &[u32],
-) -> Result<u32, MemoryFault>
+pub fn longest_to(alloc: Global, instance: &Instance, processes: &[u32]) -> Result<u32, MemoryFault>
     requires { AreThere instance.now processes.now }
     ensures lower { IfOk result (IsLowerEnd instance.now processes.now) }
     ensures chains { IfOk result (IsBehindChains instance.now processes.now) }

@@ -69,7 +69,9 @@ fn told(
     ensures { IsEndLimit instance.now processes.now options result }
 {
     let Known {
-        high: end, plan, ..
+        high: end,
+        plan,
+        ..
     } = known;
     match outcome {
         Outcome::Optimal { plan, cert, .. } => EndLimit::Least { end, plan, cert },

@@ -1,5 +1,4 @@
-use Rattle.std.proofs.Common.{◌≡◌, map, slice_index, arith, ap, ◌∙◌}
-use Rattle.ttp_model.specs.Lists.{greatest}
+use Rattle.std.proofs.Common.{arith}
 use Rattle.process_limits.proofs.Bounds.{low_chains, low_end, low_small}
 use Rattle.process_limits.proofs.chains.longest_to.Goals as goal
 

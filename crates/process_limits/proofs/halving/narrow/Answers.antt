@@ -19,7 +19,7 @@ returns-in-Found-clause-known g c =
 pub returns-in-Found-clause-closer : goal.returns-in-Found-clause-closer
 returns-in-Found-clause-closer g c =
     let found = known_found c.args.instance.now c.args.processes.now c.requires.there c.args.known.now c.requires.known c.middle-d.result c.note.new.self
-        c.in-Found.plan (rw c.in-Found.is at c.in_ok-plan.ensures) c.note.ensures.low c.note.ensures.high c.note.ensures.plan in
+    c.in-Found.plan (rw c.in-Found.is at c.in_ok-plan.ensures) c.note.ensures.low c.note.ensures.high c.note.ensures.plan in
     omega (arith, found.1, c.note.ensures.low, c.middle-d.ensures, c.requires.apart)
 
 pub returns-in-Absent-clause-known : goal.returns-in-Absent-clause-known

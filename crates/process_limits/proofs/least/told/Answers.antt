@@ -1,5 +1,5 @@
 use Rattle.cut_deadlines.proofs.CutPlans.{valid_of_cut}
-use Rattle.process_limits.proofs.Shortest.{is_least, is_reached, is_reached_by, some_plan}
+use Rattle.process_limits.proofs.Shortest.{is_least, is_reached_by, some_plan}
 use Rattle.process_limits.proofs.least.told.Goals as goal
 
 pub unreachable-requires : goal.unreachable-requires
@@ -21,4 +21,5 @@ returns-in-Some c =
     let best = rw c.in-Some.is at (rw c.in-Stopped.is at c.requires.shows).1 in
     let answer = rw c.in-Some.is at (rw c.in-Stopped.is at c.requires.answer) in
     is_reached_by c.args.instance.now c.args.processes.now c.requires.there c.args.known c.requires.known c.requires.met c.args.options c.in-Stopped.cert
-    c.in-Stopped.why c.in-Stopped.low c.in-Some.other c.in-Some.field-0-1 c.shorter-plan.result answer best c.shorter-plan.ensures.one c.shorter-plan.ensures.second
+    c.in-Stopped.why c.in-Stopped.low c.in-Some.other c.in-Some.field-0-1 c.shorter-plan.result answer best
+    c.shorter-plan.ensures.one c.shorter-plan.ensures.second
