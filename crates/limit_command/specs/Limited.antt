@@ -15,7 +15,7 @@ use Rattle.command_streams.specs.declared.ending.Sink.TheVariants as sink
 use Rattle.command_streams.specs.declared.ending.Fault.{Fault}
 use Rattle.command_streams.specs.declared.ending.Fault.TheVariants.{InstanceText, Memory, NoSuchProcess, Search, TooLong, Unread, Unwritten}
 use Rattle.command_streams.specs.declared.ending.End.{End}
-use Rattle.command_streams.specs.declared.ending.End.TheVariants as end
+use Rattle.command_streams.specs.declared.ending.End.TheVariants.{Done, Absent, Stopped}
 use Rattle.command_streams.specs.Limits.{instance_limit}
 use Rattle.command_streams.specs.Outcomes.{IsCommandAnswer}
 use Rattle.command_streams.specs.Instances.{HasInstance, IsInstanceFault}
@@ -54,11 +54,11 @@ IsLimitText i limit text = IsTextBehind i (line_of limit) (plan_of limit) text
 
 -- the end at which it is told: a search that was stopped leaves less known than was asked
 abbrev pub end_told : EndLimit → End
-end_told (Least end plan cert) = end.Done
-end_told (Reached end plan cert) = end.Stopped
-end_told (Between low high plan cert) = end.Stopped
-end_told (Unknown low cert) = end.Stopped
-end_told (Infeasible cert) = end.Absent
+end_told (Least end plan cert) = Done
+end_told (Reached end plan cert) = Stopped
+end_told (Between low high plan cert) = Stopped
+end_told (Unknown low cert) = Stopped
+end_told (Infeasible cert) = Absent
 
 -- a plan, where there is one, is valid
 abbrev pub HasValidPlan : Instance → Option Plan → Type 0
@@ -83,11 +83,16 @@ IsNoLimitOf i words (NoSuchProcess k) = IsNameFault i words (NoSuchProcess k)
 IsNoLimitOf i words (Search fault) = NameSome i words
 IsNoLimitOf i words _ = ⊥
 
--- the bytes state the instance, and this is an answer to it and the words with its text
+-- and this is its text
+pub record IsLimitedOf (i : Instance) (words : List (List ℕ)) (options : Options) (limited : Limited) : Type 0 where
+  pub answer : IsLimitOf i words options limited.limit
+  pub tells : IsLimitText i limited.limit limited.text.items
+
+-- the bytes state an instance, and this is an answer to it and the words
 pub record IsLimited (bytes : List ℕ) (words : List (List ℕ)) (options : Options) (limited : Limited) : Type 0 where
-  pub has_instance : HasInstance bytes limited.instance
-  pub is_answer : IsLimitOf limited.instance words options limited.limit
-  pub tells : IsLimitText limited.instance limited.limit limited.text.items
+  pub problem : Instance
+  pub has_instance : HasInstance bytes problem
+  pub is : IsLimitedOf problem words options limited
 
 -- the bytes state an instance, and there is no answer to it and the words
 pub record IsUnanswered (bytes : List ℕ) (words : List (List ℕ)) (fault : Fault) : Type 0 where
@@ -127,6 +132,6 @@ module _ (bytes : List ℕ) (words : List (List ℕ)) (options : Options) (wante
   IsUntold (Unwritten sink.Certificate) = IsHalfCertified
   IsUntold fault = IsUnlimited bytes words fault × Keeps from to
 
-  -- what `limit` answers of the bytes of an instance and of words, and what it writes: the certificate, and then the answer's text
+  -- what `limit` answers of the bytes of an instance and of words, and what it writes: the certificate, and then the text
   unfoldable pub IsLimitAnswer : Option (List ℕ) → Option (List ℕ) → End → Type 0
   IsLimitAnswer = IsCommandAnswer IsToldLimit IsUntold

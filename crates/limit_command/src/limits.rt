@@ -7,7 +7,7 @@ ghost use Rattle.command_streams.specs.Streams.{TakesAtMost};
 ghost use Rattle.process_limits.specs.Answers.{cert_of};
 ghost use Rattle.solve_command.specs.Solved.{held, left, IsWritingTo};
 ghost use Rattle.limit_command.specs.Names.{texts_of};
-ghost use Rattle.limit_command.specs.Limited.{end_told, IsLimitAnswer, IsLimitOf, IsLimited, IsNoLimitOf, IsUnlimited};
+ghost use Rattle.limit_command.specs.Limited.{end_told, IsLimitAnswer, IsLimitOf, IsLimited, IsLimitedOf, IsNoLimitOf, IsUnlimited};
 
 use crate::answer::{answer_text, end_of};
 use crate::names::processes_of;
@@ -21,10 +21,9 @@ use std::sync::Wait;
 use std::thread::Threads;
 use ttp_model::Instance;
 
-/// An instance, and what searches say of how early processes of it can end.
+/// What searches say of how early processes can end.
 #[derive(Debug, Drop)]
 pub struct Limited {
-    pub instance: Instance,
     pub limit: EndLimit,
     /// What is written of it.
     pub text: Vec<u8>,
@@ -49,7 +48,28 @@ fn limit_of<R: Threads + Wait + Sync>(
     }
 }
 
-/// How early the processes that words name can end, of the instance that a reader's bytes state, and the answer's text.
+/// That, and its text.
+fn limited_of<R: Threads + Wait + Sync>(
+    rt: &R,
+    alloc: Global,
+    instance: &Instance,
+    words: &[&str],
+    options: Options,
+) -> Result<Limited, Fault>
+    ensures judged { MatchResult result
+        (IsLimitedOf instance.now (texts_of words.now) options)
+        (IsNoLimitOf instance.now (texts_of words.now)) }
+    ensures printable { IfOk result (λ limited. Allows (cert_of limited.limit).version (cert_of limited.limit).tree) }
+{
+    let _nodes = instance.nodes();
+    let limit = limit_of(rt, alloc, instance, words, options)?;
+    match answer_text(alloc, instance, &limit) {
+        Ok(text) => Ok(Limited { limit, text }),
+        Err(_) => Err(Fault::Memory),
+    }
+}
+
+/// How early the processes that words name can end, of the instance that a reader's bytes state.
 fn limited_of_reader<R: Threads + Wait + Sync, I: Read>(
     rt: &R,
     alloc: Global,
@@ -64,16 +84,7 @@ fn limited_of_reader<R: Threads + Wait + Sync, I: Read>(
     ensures most { TakesAtMost (instance_limit + 1) (I.remaining instance.old) (I.remaining instance.new) }
 {
     let instance = read_instance(alloc, instance)?;
-    let _nodes = instance.nodes();
-    let limit = limit_of(rt, alloc, &instance, words, options)?;
-    match answer_text(alloc, &instance, &limit) {
-        Ok(text) => Ok(Limited {
-            instance,
-            limit,
-            text,
-        }),
-        Err(_) => Err(Fault::Memory),
-    }
+    limited_of(rt, alloc, &instance, words, options)
 }
 
 /// Writes an answer's text, and ends as the answer does.
@@ -158,8 +169,6 @@ pub fn limit_run<R: Threads + Wait + Sync, I: Read, C: Write, W: Write>(
 {
     match certificate {
         None => limit_alone(rt, alloc, instance, words, options, out),
-        Some(writer) => {
-            limit_certified(rt, alloc, instance, words, options, writer, out)
-        }
+        Some(writer) => { limit_certified(rt, alloc, instance, words, options, writer, out) }
     }
 }

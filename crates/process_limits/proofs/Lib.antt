@@ -1,4 +1,4 @@
 mod Bounds
 mod Halves
 mod Shortest
-mod Texts
+pub mod Texts
