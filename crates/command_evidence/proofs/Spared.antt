@@ -1,7 +1,7 @@
 -- A request that is sound spares the instance's file.
 use Rattle.std.proofs.Common.{◌≡◌, ◌++◌, ◌∙◌, ℕ, List, Option, None, Some, IfSome, Bor, codes, false, refl, ap, sym}
 use Rattle.command_words.specs.declared.words.Request.{Request}
-use Rattle.command_words.specs.declared.words.Request.TheVariants.{OnFiles, Solve, Check, Judge, Compare, Explain, VerifyBundle, Version}
+use Rattle.command_words.specs.declared.words.Request.TheVariants.{OnFiles, Solve, Why, Check, Judge, Compare, Explain, VerifyBundle, Version}
 use Rattle.command_words.specs.Names.{NameOneFile, is_rooted, parts}
 use Rattle.command_words.specs.declared.words.Search.{Search}
 use Rattle.command_words.specs.Requests.{IsApart, IsSound}
@@ -21,6 +21,7 @@ another search (Some file) apart = λ local is. apart.0 (spelled_again search.in
 pub spares : (request : Request) → IsSound request → SparesInstance request
 spares (OnFiles instance plan task) sound = tt
 spares (Solve search) sound = another search search.certificate sound.certificate
+spares (Why why) sound = tt
 spares (Check instance certificate) sound = tt
 spares (Judge instance plan certificate) sound = tt
 spares (Compare old_instance old_plan new_instance new_plan) sound = tt
