@@ -1,5 +1,5 @@
 //! Solves one instance, whose numbers are read from the standard input, and says what came of it.
-//! Arguments: `good` or `solve`, the budget, and the file for the certificate, or `-`.
+//! Arguments: `good` or `solve`, the budget, the gap, and the file for the certificate, or `-`.
 #![allow(warnings)]
 
 pub mod kit;
@@ -188,13 +188,18 @@ fn steps_of(cert: &Cert) -> usize {
     cert.nodes().iter().map(steps).sum()
 }
 
-fn tell_solved(instance: &Instance, budget: u64, file: &str) {
+fn tell_solved(instance: &Instance, budget: u64, _gap: u32, file: &str) {
     let from = Instant::now();
     let gate = Phases(Mutex::new(Moments {
         began: from,
         left: from,
     }));
-    let options = Options { workers: 1, budget };
+    let options = Options {
+        workers: 1,
+        budget,
+        #[cfg(searches_have_a_gap)]
+        gap: _gap,
+    };
     let outcome = planner::solve_with(&Runtime, Global, instance, options, &gate).unwrap();
     let solved = Instant::now();
     let (delay, cert) = said(&outcome);
@@ -223,6 +228,6 @@ fn main() {
     let instance = read_instance();
     match words[1].as_str() {
         "good" => tell_good(&instance),
-        _ => tell_solved(&instance, words[2].parse().unwrap(), &words[3]),
+        _ => tell_solved(&instance, words[2].parse().unwrap(), words[3].parse().unwrap(), &words[4]),
     }
 }

@@ -1,5 +1,5 @@
 #!/usr/bin/env python3
-"""Runs the planner of a clone as plain Rust on instances: run.py CLONE[,CLONE2..] INSTANCE.. [--good] [--cert DIR] [--budget N]"""
+"""Runs the planner of a clone as plain Rust on instances: run.py CLONE[,CLONE2..] INSTANCE.. [--good] [--cert DIR] [--budget N] [--gap N]"""
 import argparse
 import hashlib
 import os
@@ -29,10 +29,12 @@ def flags_of(files):
     good = "".join(text for name, text in files.items() if name.startswith("good_plan/"))
     head = good[good.index("pub fn good_plan"):].split("{")[0]
     parts = "".join(text for name, text in files.items() if name.startswith("ttp_model/"))
+    turns = "".join(text for name, text in files.items() if name.startswith("search_turns/"))
     return [
         *FLAGS,
         *(["--cfg", "good_plan_takes_workers"] if "workers" in head else []),
         *(["--cfg", "clusters_have_channels"] if "pub channels: u32" in parts else []),
+        *(["--cfg", "searches_have_a_gap"] if "pub gap: u32" in turns else []),
     ]
 
 
@@ -87,7 +89,7 @@ def instance_path(top, name):
 
 def run(program, path, options):
     file = Path(options.cert) / f"{path.stem}.cert" if options.cert else "-"
-    words = ["good" if options.good else "solve", options.budget, file]
+    words = ["good" if options.good else "solve", options.budget, options.gap, file]
     numbers = " ".join(map(str, numbers_of(path.read_text())))
     done = subprocess.run([program, *map(str, words)], input=numbers, stdout=subprocess.PIPE, text=True)
     return done.stdout.strip() or f"failed with {done.returncode}"
@@ -100,6 +102,7 @@ def options_of(words):
     parser.add_argument("--good", action="store_true", help="the good plan's delay and its time alone")
     parser.add_argument("--cert", help="a folder for the certificates' texts")
     parser.add_argument("--budget", type=int, default=10**9, help="how many subtrees may be worked")
+    parser.add_argument("--gap", type=int, default=0, help="within how many ticks of the bound a plan may be")
     return parser.parse_args(words)
 
 

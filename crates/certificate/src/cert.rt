@@ -57,6 +57,17 @@ impl Cert {
         }
     }
 
+    /// The same tree for another bound, in ticks.
+    pub fn with_low(self, low: u32) -> Self
+        ensures { result ≡ record { version = self.version; low = low; tree = self.tree } }
+    {
+        Cert {
+            version: self.version,
+            low,
+            nodes: self.nodes,
+        }
+    }
+
     /// The version of its text.
     pub fn version(&self) -> Version
         ensures { result ≡ self.now.version }

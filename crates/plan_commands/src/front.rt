@@ -25,6 +25,7 @@ fn is_why(word: &[u8]) -> bool
         || word == b"memory".as_slice()
         || word == b"until".as_slice()
         || word == b"time".as_slice()
+        || word == b"gap".as_slice()
 }
 
 /// Whether a word is a number that fits.

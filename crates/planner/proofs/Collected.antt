@@ -12,10 +12,12 @@ use Rattle.subtree_tasks.specs.Task.{Task, IsTask}
 use Rattle.incumbent.specs.declared.word.Incumbent.{Incumbent}
 use Rattle.incumbent.specs.Watch.{first_value, seen, offers, IsLeast}
 use Rattle.steal_pool.specs.Hand.{all_pushed, all_taken}
+use Rattle.pool_worker.specs.declared.goals.Aims.{Aims}
 use Rattle.pool_worker.specs.Goals.{goals_of, goals_at, IsReached}
 use Rattle.pool_worker.specs.Tasks.{tasks_of, all_born}
 use Rattle.planner.specs.declared.crew.Crew.{Crew}
-use Rattle.search_turns.specs.Searching.{limit_of, IsSearching}
+use Rattle.search_turns.specs.Searching.{aim_of, limit_of, IsSearching}
+use Rattle.pool_worker.proofs.Goals.{goal_rises}
 use Rattle.tree_gathering.specs.Gathering.{HasGoal, HaveGoals}
 use Rattle.planner.specs.Crew.{HasLeft, HaveEnded}
 use Rattle.search_turns.proofs.Searching.{first_is, then_is}
@@ -54,7 +56,7 @@ have_goals : (limit : ℕ) (Q : ℕ → Type 0) → ((x : ℕ) → Q x → limit
 have_goals limit Q above [] all = All-nil (λ (p : Piece). HasGoal limit p.node)
 have_goals limit Q above (piece ∷ pieces) all = one_goal limit Q above piece pieces piece.node refl all (λ rest. have_goals limit Q above pieces rest)
 
-module _ {J : Type 0} (i : Instance) (word : Incumbent) (crew : Crew J) (w : IsInstance i) (ended : HaveEnded i word crew) (least : ℕ) (is : IsLeast (first_value word ∷ offers crew.watch) least) (below : All (λ x. least ≤ x) (seen crew.watch)) (all : List Task)
+module _ {J : Type 0} (i : Instance) (aims : Aims) (word : Incumbent) (crew : Crew J) (w : IsInstance i) (ended : HaveEnded i aims word crew) (least : ℕ) (is : IsLeast (first_value word ∷ offers crew.watch) least) (below : All (λ x. least ≤ x) (seen crew.watch)) (all : List Task)
     (each : All (IsTask i) all) (left : HasLeft crew.hands.items crew.tasks.items all) where
   limit_below : limit_of i crew.best ≤ least
   limit_below =
@@ -62,13 +64,16 @@ module _ {J : Type 0} (i : Instance) (word : Incumbent) (crew : Crew J) (w : IsI
       let first : P (first_value word) = subst P (sym ended.top) (none_below i crew.best w ended.gathers.found) in
       All-contains P (first_value word ∷ offers crew.watch) least (All-cons P (first_value word) (offers crew.watch) first ended.gathers.best) is.0
 
-  reached_above : (x : ℕ) → IsReached crew.watch x → limit_of i crew.best ≤ x
-  reached_above x h = elim h.known [
-    | inl e ↦ let le = All-contains (λ y. least ≤ y) (seen crew.watch) h.value below e in omega (arith, le, limit_below, h.at_most)
-    | inr e ↦ let le = All-contains (λ y. limit_of i crew.best ≤ y) (offers crew.watch) h.value ended.gathers.best e in omega (arith, le, h.at_most)
+  value_above : (x : ℕ) (h : IsReached i aims crew.watch x) → limit_of i crew.best ≤ h.value
+  value_above x h = elim h.known [
+    | inl e ↦ let le = All-contains (λ y. least ≤ y) (seen crew.watch) h.value below e in omega (arith, le, limit_below)
+    | inr e ↦ All-contains (λ y. limit_of i crew.best ≤ y) (offers crew.watch) h.value ended.gathers.best e
   ]
 
-  pub ends_searching : IsSearching i crew.pieces.items all crew.best
+  reached_above : (x : ℕ) → IsReached i aims crew.watch x → aim_of i aims crew.best ≤ x
+  reached_above x h = omega (arith, goal_rises i aims (limit_of i crew.best) h.value (value_above x h), h.at_most)
+
+  pub ends_searching : IsSearching i aims crew.pieces.items all crew.best
   ends_searching =
       let g = ended.gathers in
       let takes = then_is _ _ _ g.takes (ap (λ (l : List Task). l ++ (tasks_of g.turns ++ g.in_hand)) ended.takes) in
@@ -80,6 +85,6 @@ module _ {J : Type 0} (i : Instance) (word : Incumbent) (crew : Crew J) (w : IsI
         pieces = g.pieces;
         account = first_is _ _ _ (ap (λ (l : List Task). tasks_of g.turns ++ l) left.then) (IsPermutation-trans _ _ _ worked tree);
         open_tasks = each;
-        goals = have_goals (limit_of i crew.best) (IsReached crew.watch) reached_above crew.pieces.items g.reached;
+        goals = have_goals (aim_of i aims crew.best) (IsReached i aims crew.watch) reached_above crew.pieces.items g.reached;
         found = g.found;
       }

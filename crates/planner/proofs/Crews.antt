@@ -15,6 +15,7 @@ use Rattle.incumbent.specs.declared.word.Incumbent.{Incumbent}
 use Rattle.incumbent.specs.Watch.{seen, offers, out_count, IsOpening}
 use Rattle.steal_pool.specs.declared.hand.Hand.{Hand}
 use Rattle.steal_pool.specs.Hand.{pushed, taken, IsSameHand, all_pushed, all_taken}
+use Rattle.pool_worker.specs.declared.goals.Aims.{Aims}
 use Rattle.pool_worker.specs.declared.report.Report.{Report}
 use Rattle.pool_worker.specs.Tasks.{Turn, IsTurn, tasks_of, pieces_of, all_born, born}
 use Rattle.pool_worker.specs.Goals.{goals_of, goals_at, IsReached}
@@ -105,8 +106,8 @@ all_goals P first second all same one other =
 
 -- ---- one more report
 
-module _ {J : Type 0} (i : Instance) (word : Incumbent) (count : ℕ) (begun : List (Hand J)) (old new : Crew J) (job : Job J) (report : Report J) (w : IsInstance i) (g : Gathers i word count begun old) (j : IsJob word job)
-    (r : IsReportOfJob i job report) (hands : new.hands.items ≡ old.hands.items ++ report.hand ∷ []) (pieces : AreTogether old.pieces.items report.pieces.items new.pieces.items)
+module _ {J : Type 0} (i : Instance) (aims : Aims) (word : Incumbent) (count : ℕ) (begun : List (Hand J)) (old new : Crew J) (job : Job J) (report : Report J) (w : IsInstance i) (g : Gathers i aims word count begun old) (j : IsJob word job)
+    (r : IsReportOfJob i aims job report) (hands : new.hands.items ≡ old.hands.items ++ report.hand ∷ []) (pieces : AreTogether old.pieces.items report.pieces.items new.pieces.items)
     (tasks : new.tasks.items ≡ old.tasks.items ++ tasks_in report.spared.items report.rest) (better : IsBetter i old.best report.best new.best) (opening : IsOpening word new.watch) (out : out_count new.watch ≡ out_count old.watch - 1)
     (sees : seen new.watch ≡ seen old.watch ++ seen report.watch) (offered : offers new.watch ≡ offers old.watch ++ offers report.watch) where
   takes_more : (turns : List Turn) → AreBoth i g.turns r.account.turns turns → IsPermutation (all_taken new.hands.items) (all_taken (begun ++ job.hand ∷ []) ++ (tasks_of turns ++ (g.in_hand ++ held report.spared.items report.rest)))
@@ -142,7 +143,7 @@ module _ {J : Type 0} (i : Instance) (word : Incumbent) (count : ℕ) (begun : L
       let second = lower_all (limit_of i report.best) (limit_of i new.best) r.best.made better.second (above_best i r.best.made report.best r.best.best) in
       subst (All P) (sym offered) (All-append P (offers old.watch) (offers report.watch) first (subst (All P) (sym own) second))
 
-  left_reached : (x : ℕ) → IsReached old.watch x → IsReached new.watch x
+  left_reached : (x : ℕ) → IsReached i aims old.watch x → IsReached i aims new.watch x
   left_reached x h = record {
     value = h.value;
     known = ⊎_elim (λ (e : Contains (seen old.watch) h.value). inl (subst (λ (l : List ℕ). Contains l h.value) (sym sees) (Contains-append_left (seen old.watch) (seen report.watch) h.value e)))
@@ -150,7 +151,7 @@ module _ {J : Type 0} (i : Instance) (word : Incumbent) (count : ℕ) (begun : L
     at_most = h.at_most;
   }
 
-  right_reached : (x : ℕ) → IsReached report.watch x → IsReached new.watch x
+  right_reached : (x : ℕ) → IsReached i aims report.watch x → IsReached i aims new.watch x
   right_reached x h = record {
     value = h.value;
     known = ⊎_elim (λ (e : Contains (seen report.watch) h.value). inl (subst (λ (l : List ℕ). Contains l h.value) (sym sees) (Contains-append_right (seen old.watch) (seen report.watch) h.value e)))
@@ -158,13 +159,13 @@ module _ {J : Type 0} (i : Instance) (word : Incumbent) (count : ℕ) (begun : L
     at_most = h.at_most;
   }
 
-  old_reached : All (IsReached new.watch) (goals_of old.pieces.items)
-  old_reached = All-weaker (IsReached old.watch) (IsReached new.watch) left_reached (goals_of old.pieces.items) g.reached
+  old_reached : All (IsReached i aims new.watch) (goals_of old.pieces.items)
+  old_reached = All-weaker (IsReached i aims old.watch) (IsReached i aims new.watch) left_reached (goals_of old.pieces.items) g.reached
 
-  own_reached : All (IsReached new.watch) (goals_of report.pieces.items)
-  own_reached = All-weaker (IsReached report.watch) (IsReached new.watch) right_reached (goals_of report.pieces.items) r.goals.reached
+  own_reached : All (IsReached i aims new.watch) (goals_of report.pieces.items)
+  own_reached = All-weaker (IsReached i aims report.watch) (IsReached i aims new.watch) right_reached (goals_of report.pieces.items) r.goals.reached
 
-  gathers_turns : (turns : List Turn) → AreBoth i g.turns r.account.turns turns → pieces_of turns ≡ new.pieces.items → All (IsReached new.watch) (goals_of new.pieces.items) → Gathers i word count (begun ++ job.hand ∷ []) new
+  gathers_turns : (turns : List Turn) → AreBoth i g.turns r.account.turns turns → pieces_of turns ≡ new.pieces.items → All (IsReached i aims new.watch) (goals_of new.pieces.items) → Gathers i aims word count (begun ++ job.hand ∷ []) new
   gathers_turns turns of_both made reached = record {
     same = subst (AreSameHands (begun ++ job.hand ∷ [])) (sym hands) (same_snoc begun old.hands.items job.hand report.hand g.same r.hand);
     turns = turns;
@@ -183,16 +184,16 @@ module _ {J : Type 0} (i : Instance) (word : Incumbent) (count : ℕ) (begun : L
     reached = reached;
   }
 
-  pub gathers_more : Gathers i word count (begun ++ job.hand ∷ []) new
+  pub gathers_more : Gathers i aims word count (begun ++ job.hand ∷ []) new
   gathers_more = ⊎_elim
       (λ (same : new.pieces.items ≡ old.pieces.items ++ report.pieces.items).
       gathers_turns (g.turns ++ r.account.turns) (in_order i g.turns r.account.turns)
       (map-append (λ (t : Turn). t.piece) g.turns r.account.turns ∙ (λ k. g.pieces k ++ r.account.pieces k) ∙ sym same)
-      (all_goals (IsReached new.watch) old.pieces.items report.pieces.items new.pieces.items same old_reached own_reached))
+      (all_goals (IsReached i aims new.watch) old.pieces.items report.pieces.items new.pieces.items same old_reached own_reached))
       (λ (same : new.pieces.items ≡ report.pieces.items ++ old.pieces.items).
       gathers_turns (r.account.turns ++ g.turns) (turned i g.turns r.account.turns)
       (map-append (λ (t : Turn). t.piece) r.account.turns g.turns ∙ (λ k. r.account.pieces k ++ g.pieces k) ∙ sym same)
-      (all_goals (IsReached new.watch) report.pieces.items old.pieces.items new.pieces.items same own_reached old_reached))
+      (all_goals (IsReached i aims new.watch) report.pieces.items old.pieces.items new.pieces.items same own_reached old_reached))
       pieces
 
 -- ---- nobody yet
@@ -201,9 +202,9 @@ pub told_above : (i : Instance) (found : Option (Plan × ℕ)) → All (λ value
 told_above i None = All-nil (λ value. limit_of i None ≤ value)
 told_above i (Some best) = one_only (λ value. best.1 ≤ value) best.1 (omega arith)
 
-pub nobody_yet : {J : Type 0} (i : Instance) (word : Incumbent) (count : ℕ) (crew : Crew J) → crew.hands.items ≡ [] → crew.pieces.items ≡ [] → crew.tasks.items ≡ [] → IsOpening word crew.watch → out_count crew.watch ≡ count → IsFound i crew.best
-    → offers crew.watch ≡ told [] crew.best → Gathers i word count [] crew
-nobody_yet {J} i word count crew hands pieces tasks opening out found offered =
+pub nobody_yet : {J : Type 0} (i : Instance) (aims : Aims) (word : Incumbent) (count : ℕ) (crew : Crew J) → crew.hands.items ≡ [] → crew.pieces.items ≡ [] → crew.tasks.items ≡ [] → IsOpening word crew.watch → out_count crew.watch ≡ count → IsFound i crew.best
+    → offers crew.watch ≡ told [] crew.best → Gathers i aims word count [] crew
+nobody_yet {J} i aims word count crew hands pieces tasks opening out found offered =
     let none : List (Hand J) = [] in
     record {
       same = subst (AreSameHands none) (sym hands) tt;
@@ -220,5 +221,5 @@ nobody_yet {J} i word count crew hands pieces tasks opening out found offered =
       joined = omega (arith, out);
       found = found;
       best = subst (All (λ value. limit_of i crew.best ≤ value)) (sym offered) (told_above i crew.best);
-      reached = subst (λ (l : List Piece). All (IsReached crew.watch) (goals_of l)) (sym pieces) (All-nil (IsReached crew.watch));
+      reached = subst (λ (l : List Piece). All (IsReached i aims crew.watch) (goals_of l)) (sym pieces) (All-nil (IsReached i aims crew.watch));
     }

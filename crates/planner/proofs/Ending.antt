@@ -16,8 +16,10 @@ use Rattle.subtree_tasks.specs.Pieces.{IsRight, StandsAt, AreRight}
 use Rattle.subtree_tasks.specs.Account.{IsWholeTree}
 use Rattle.branch_tree.specs.Work.{IsLeftClosed}
 use Rattle.subtree_tasks.proofs.OneChoice.{stands_alone}
+use Rattle.pool_worker.specs.declared.goals.Aims.{Aims}
 use Rattle.pool_worker.specs.Tasks.{tasks_of}
-use Rattle.search_turns.specs.Searching.{limit_of, IsWorkedOut, task_names, IsSearching}
+use Rattle.search_turns.specs.declared.outcome.Options.{Options}
+use Rattle.search_turns.specs.Searching.{aim_of, IsWorkedOut, task_names, IsSearching}
 use Rattle.tree_gathering.specs.Gathering.{HasGoal, HaveGoals, AreShallow, IsLeafPiece}
 use Rattle.planner.specs.Searched.{IsSearched, IsClosedLeaf, ReachesGoal}
 use Rattle.planner.specs.Closing.{ClosesOne, AreClosed}
@@ -46,7 +48,11 @@ closed_leaves i limit tasks closed each = All-weaker (ClosesOne i tasks limit) I
 
 -- ---- the pieces of a search, and those that close what it left
 
-module _ (i : Instance) (made : List Piece) (tasks : List Task) (found : Option (Plan × ℕ)) (limit low : ℕ) (closed : List Piece) (s : IsSearching i made tasks found) (c : AreClosed i tasks limit closed low) where
+module _ (i : Instance) (aims : Aims) (made : List Piece) (tasks : List Task) (found : Option (Plan × ℕ)) (low : ℕ) (closed : List Piece)
+    (s : IsSearching i aims made tasks found) (c : AreClosed i tasks (aim_of i aims found) closed low) where
+  abbrev limit : ℕ
+  limit = aim_of i aims found
+
   made_whole : IsWholeTree made (task_names tasks)
   made_whole = subst (λ (ps : List Piece). IsWholeTree ps (task_names tasks)) s.pieces (whole i s.turns tasks s.each s.account)
 
@@ -72,13 +78,10 @@ module _ (i : Instance) (made : List Piece) (tasks : List Task) (found : Option 
   pub end_whole : IsWholeTree (made ++ closed) []
   end_whole = closed_whole made closed (subst (IsWholeTree made) (sym c.names) made_whole) (closed_leaves i limit tasks closed c.each)
 
-  worked_goals : limit ≡ limit_of i found → HaveGoals limit made
-  worked_goals is = subst (λ (l : ℕ). HaveGoals l made) (sym is) s.goals
-
-  pub end_goals : limit ≡ limit_of i found → HaveGoals low (made ++ closed)
-  end_goals is =
+  pub end_goals : HaveGoals low (made ++ closed)
+  end_goals =
       All-append (λ (q : Piece). HasGoal low q.node) made closed
-      (All-weaker (λ (q : Piece). HasGoal limit q.node) (λ (q : Piece). HasGoal low q.node) (λ q. weaker_goal limit low (end_low low limit closed c.least) q.node) made (worked_goals is))
+      (All-weaker (λ (q : Piece). HasGoal limit q.node) (λ (q : Piece). HasGoal low q.node) (λ q. weaker_goal limit low (end_low low limit closed c.least) q.node) made s.goals)
       c.goals
 
   closes_right : (p : Piece) (d : Choice) → Contains closed p → StandsAt i made p.name d → IsRight i d p.node
@@ -88,14 +91,15 @@ module _ (i : Instance) (made : List Piece) (tasks : List Task) (found : Option 
       let same : choice_of i one.task ≡ d = stands_alone i made (task_names tasks) one.task.name (choice_of i one.task) d made_whole (made_stands one.task one.there) here in
       subst (λ (e : Choice). IsRight i e p.node) same (subst (IsRight i (choice_of i one.task)) (sym one.is.node) one.is.closes)
 
-  pub ended : (budget : ℕ) (why : Why) → limit ≡ limit_of i found → length made ≤ budget → IsWorkedOut budget made why → IsSearched i budget why found made closed low
-  ended budget why is within cause = record {
+  pub ends : (options : Options) (why : Why) → length made ≤ options.budget → IsWorkedOut options.budget made why
+      → IsSearched i options aims why found made closed low
+  ends options why within cause = record {
     whole = end_whole;
     right = closed_right i made closed (closed_leaves i limit tasks closed c.each) made_right closes_right;
     found = s.found;
     goals = s.goals;
-    leaves = subst (λ (l : ℕ). All (IsClosedLeaf i l low) closed) is (all_leaves i limit low tasks closed c.each c.goals);
-    least = subst (λ (l : ℕ). (low ≡ l) ⊎ ((low < l) × ReachesGoal low closed)) is c.least;
+    leaves = all_leaves i limit low tasks closed c.each c.goals;
+    most = end_low low limit closed c.least;
     within = within;
     cause = cause;
   }

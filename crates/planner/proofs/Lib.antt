@@ -2,6 +2,8 @@ pub mod Shown
 pub mod AnswerVersions
 pub mod OwnCertificates
 pub mod Searched
+pub mod Lowest
+pub mod Ended
 pub mod Standing
 pub mod Ending
 pub mod Crews

@@ -1,10 +1,10 @@
--- What a search leaves at its end makes an answer.
-use Rattle.std.proofs.Common.{◌≡◌, ℕ, ◌+◌, ◌<◌, ◌≤◌, Bool, true, false, List, [], ◌∷◌, ◌++◌, ◌⊎◌, inl, inr, Option, None, Some, refl, sym, ap, subst, ◌∙◌, arith, map, length, All, Contains, cond, min}
+-- What a search leaves at its end makes a tree from which it is told.
+use Rattle.std.proofs.Common.{◌≡◌, ℕ, ◌+◌, ◌-◌, ◌<◌, ◌≤◌, Bool, true, false, List, [], ◌∷◌, ◌++◌, ◌⊎◌, inl, inr, Option, None, Some, refl, sym, ap, subst, ◌∙◌, arith, map, length, All, Contains, cond, min}
 use Rattle.std.specs.Prelude.{count_by, nat_le}
 use Rattle.std.specs.List.Sorted.{IsPermutation}
 use Rattle.std.proofs.lemmas.Bool.{le-leb}
 use Rattle.std.proofs.lemmas.List.{map-append}
-use Rattle.std.proofs.lemmas.List.Elements.{All-head, All-tail, All-contains, All-map, Contains-append_right}
+use Rattle.std.proofs.lemmas.List.Elements.{All-head, All-tail, All-map, All-append, All-weaker}
 use Rattle.std.proofs.lemmas.List.Sums.{sum_by-cons, sum_by-append}
 use Rattle.std.proofs.lemmas.List.Sorted.{IsPermutation-map, Contains-permutation, All-permutation, sum_by-IsPermutation}
 use Rattle.ttp_model.specs.declared.plan.Plan.{Plan}
@@ -19,17 +19,17 @@ use Rattle.certificate.specs.Cert.{Cert}
 use Rattle.tree_check.specs.Proofs.{Proves}
 use Rattle.subtree_tasks.specs.declared.piece.Piece.{Piece}
 use Rattle.search_turns.specs.declared.outcome.Options.{Options}
-use Rattle.search_turns.specs.declared.outcome.Outcome.{Outcome}
-use Rattle.search_turns.specs.declared.outcome.Outcome.TheVariants.{Optimal, Infeasible, Stopped}
 use Rattle.search_turns.specs.declared.outcome.Why.{Why}
-use Rattle.search_turns.specs.declared.outcome.Why.TheVariants.{Budget, Memory, CalledOff}
+use Rattle.search_turns.specs.declared.outcome.Why.TheVariants.{Budget, Memory, CalledOff, Gap}
 use Rattle.tree_gathering.specs.Trees.{IsTreeOf, pieces_of}
 use Rattle.tree_gathering.specs.Gathering.{HasGoal, HaveGoals, IsGathered}
 use Rattle.dropped_decisions.specs.Branches.{is_branch, branches}
-use Rattle.planner.specs.Answers.{is_closed_at, worked_at, in_answer, IsBestAbove, IsLeastGoal, IsCause, IsOutcome}
-use Rattle.search_turns.specs.Searching.{limit_of, IsFound, IsWorkedOut}
-use Rattle.planner.specs.Searched.{IsClosedLeaf, ReachesGoal, IsSearched}
-use Rattle.search_turns.specs.Ends.{IsAnswerOf}
+use Rattle.planner.specs.Answers.{is_closed_at, worked_at, in_answer}
+use Rattle.search_turns.specs.Searching.{aim_of, limit_of, IsFound, IsWorkedOut}
+use Rattle.planner.specs.Searched.{AreAims, IsClosedLeaf, IsEndTree, IsReason, IsSearched}
+use Rattle.pool_worker.specs.declared.goals.Aims.{Aims}
+use Rattle.pool_worker.proofs.Goals.{goal_near}
+use Rattle.search_turns.proofs.Searching.{aim_below, weaker_goal}
 use Rattle.tree_gathering.proofs.Has.{has_map, has_from_contains, contains_from_has}
 use Rattle.tree_gathering.proofs.Existence.{tree_nodes}
 use Rattle.tree_gathering.proofs.Proving.{gathered_proves}
@@ -110,98 +110,64 @@ all_worked limit worked closed tree is goals =
       all_of_both limit worked goals,
     )
 
-least_goal : (low : ℕ) (worked closed : List Piece) (cert : Cert) → IsGathered low (worked ++ closed) cert → ReachesGoal low closed → IsLeastGoal cert.tree low
-least_goal low worked closed cert is reaches =
-    let pieces = worked ++ closed in
-    let there : Contains pieces reaches.piece = Contains-append_right worked closed reaches.piece reaches.there in
-    let moved = nodes_moved pieces cert.tree is.tree in
-    let in_nodes : Contains (nodes_of pieces) reaches.piece.node = contains_from_has (nodes_of pieces) reaches.piece.node (has_map (λ (p : Piece). p.node) pieces reaches.piece (has_from_contains pieces reaches.piece there)) in
-    let in_tree : Contains (preorder cert.tree) reaches.piece.node = Contains-permutation (nodes_of pieces) (preorder cert.tree) reaches.piece.node moved in_nodes in
-    record {
-      leaf = reaches.leaf;
-      there = subst (Contains (preorder cert.tree)) reaches.is in_tree;
-      reached = reaches.goal;
-      bound = All-permutation (HasGoal low) (nodes_of pieces) (preorder cert.tree) moved (All-map (HasGoal low) (λ (p : Piece). p.node) pieces is.goals);
-    }
+-- what holds of the goals of all pieces holds of those of the tree
+tree_goals : (low : ℕ) (pieces : List Piece) (tree : Trees) → IsTreeOf pieces tree → HaveGoals low pieces → All (HasGoal low) (preorder tree)
+tree_goals low pieces tree is goals =
+    All-permutation (HasGoal low) (nodes_of pieces) (preorder tree) (nodes_moved pieces tree is) (All-map (HasGoal low) (λ (p : Piece). p.node) pieces goals)
 
--- ---- the answer
+-- ---- the tree at the end
 
-limit_small : (i : Instance) (best : Option (Plan × ℕ)) → IsInstance i → IsFound i best → limit_of i best ≤ i.cluster.horizon + 1
+pub limit_small : (i : Instance) (best : Option (Plan × ℕ)) → IsInstance i → IsFound i best → limit_of i best ≤ i.cluster.horizon + 1
 limit_small i None w found = omega arith
 limit_small i (Some best) w found = omega (arith, delay_small i best.0 w found.settled.valid, found.delay_is)
 
-low_small : (i : Instance) (limit low : ℕ) (closed : List Piece) → (low ≡ limit) ⊎ ((low < limit) × ReachesGoal low closed) → low ≤ limit
-low_small i limit low closed (inl same) = omega arith
-low_small i limit low closed (inr less) = omega (arith, less.0)
+lower_goals : (high low : ℕ) → low ≤ high → (pieces : List Piece) → HaveGoals high pieces → HaveGoals low pieces
+lower_goals high low le pieces goals =
+    All-weaker (λ (q : Piece). HasGoal high q.node) (λ (q : Piece). HasGoal low q.node) (λ q. weaker_goal high low le q.node) pieces goals
 
-proved : (i : Instance) (budget : ℕ) (why : Why) (best : Option (Plan × ℕ)) (worked closed : List Piece) (low : ℕ) (cert : Cert) → IsInstance i → IsSearched i budget why best worked closed low → IsGathered low (worked ++ closed) cert → Proves i cert
-proved i budget why best worked closed low cert w is gathered =
-    gathered_proves i (worked ++ closed) low cert is.right
-    (omega (arith, low_small i (limit_of i best) low closed is.least, limit_small i best w is.found)) gathered
+leaf_path : (i : Instance) (aim low limit bound : ℕ) → IsPathBound i bound → min bound limit ≤ aim → (p : Piece) → IsClosedLeaf i aim low p
+    → HasGoal (min bound limit) p.node
+leaf_path i aim low limit bound is high p leaf = subst (HasGoal (min bound limit)) (sym leaf.is) (omega (arith, leaf.path bound is, high))
 
-told_proves : (i : Instance) (cert : Cert) → Proves i cert → Proves i (in_answer i cert)
-told_proves i cert proves = record { low = proves.low; tree = proves.tree }
+module _ (i : Instance) (options : Options) (aims : Aims) (why : Why) (best : Option (Plan × ℕ)) (worked closed : List Piece) (low : ℕ) (cert : Cert)
+    (w : IsInstance i) (right : AreAims i options.gap aims) (is : IsSearched i options aims why best worked closed low)
+    (gathered : IsGathered low (worked ++ closed) cert) where
+  abbrev aim : ℕ
+  aim = aim_of i aims best
 
-best_above : (i : Instance) (low : ℕ) (best : Option (Plan × ℕ)) → IsFound i best → low < limit_of i best → IsBestAbove i low best
-best_above i low None found less = tt
-best_above i low (Some best) found less = (found, less)
+  abbrev limit : ℕ
+  limit = limit_of i best
 
-cause_is : (i : Instance) (budget : ℕ) (why : Why) (best : Option (Plan × ℕ)) (worked closed : List Piece) (low : ℕ) (cert : Cert) → IsTreeOf (worked ++ closed) cert.tree → All (IsClosedLeaf i (limit_of i best) low) closed → HaveGoals (limit_of i best) worked → IsWorkedOut budget worked why → IsCause i budget best cert why
-cause_is i budget Budget best worked closed low cert is leaves goals all = omega (arith, all_worked (limit_of i best) worked closed cert.tree is goals, all)
-cause_is i budget Memory best worked closed low cert is leaves goals all = omega (arith, within_budget i (limit_of i best) low worked closed cert.tree is leaves, all)
-cause_is i budget CalledOff best worked closed low cert is leaves goals all =
-    omega (arith, within_budget i (limit_of i best) low worked closed cert.tree is leaves, all)
+  low_small : cert.low ≤ i.cluster.horizon + 1
+  low_small = omega (arith, gathered.bound, is.most, aim_below i aims best, limit_small i best w is.found)
 
-reached_below : (low limit : ℕ) (closed : List Piece) → (low ≡ limit) ⊎ ((low < limit) × ReachesGoal low closed) → low < limit → ReachesGoal low closed
-reached_below low limit closed (inl same) less = absurd (omega arith)
-reached_below low limit closed (inr lower) less = lower.1
+  proved : Proves i cert
+  proved = gathered_proves i (worked ++ closed) low cert is.right (omega (arith, low_small, gathered.bound)) gathered
 
-abbrev goal_in : Node → ℕ
-goal_in (node.Leaf leaf) = leaf.goal
-goal_in _ = 0
+  few : branches cert.tree ≤ options.budget
+  few = omega (arith, within_budget i aim low worked closed cert.tree gathered.tree is.leaves, is.within)
 
-path_below : (i : Instance) (limit low : ℕ) (closed : List Piece) → All (IsClosedLeaf i limit low) closed → ReachesGoal low closed → (bound : ℕ) → IsPathBound i bound → min bound limit ≤ low
-path_below i limit low closed leaves reaches bound is =
-    let leaf = All-contains (IsClosedLeaf i limit low) closed reaches.piece leaves reaches.there in
-    let same : leaf.leaf.goal ≡ reaches.leaf.goal = ap goal_in (sym leaf.is ∙ reaches.is) in
-    omega (arith, leaf.path bound is, same, reaches.goal)
+  goals_from : (bound : ℕ) → IsPathBound i bound → HaveGoals (min bound limit) (worked ++ closed)
+  goals_from bound path =
+      let high = right.path bound limit path (limit_small i best w is.found) in
+      All-append (λ (q : Piece). HasGoal (min bound limit) q.node) worked closed (lower_goals aim (min bound limit) high worked is.goals)
+      (All-weaker (IsClosedLeaf i aim low) (λ (q : Piece). HasGoal (min bound limit) q.node) (leaf_path i aim low limit bound path high) closed is.leaves)
 
-same_stopped : (i : Instance) (options : Options) (cause why : Why) (bound low : ℕ) (found best : Option (Plan × ℕ)) (own cert : Cert) → cause ≡ why → bound ≡ low → found ≡ best → own ≡ cert → IsOutcome i options (Stopped why low best cert) → IsOutcome i options (Stopped cause bound found own)
-same_stopped i options cause why bound low found best own cert e f g h is =
-    let same : Stopped why low best cert ≡ Stopped cause bound found own = cc in
-    subst (IsOutcome i options) same is
+  near_goals : HaveGoals (limit - options.gap) worked
+  near_goals = lower_goals aim (limit - options.gap) (omega (arith, goal_near i aims limit, right.gap_is)) worked is.goals
 
-pub search_answers : (i : Instance) (options : Options) (why : Why) (best : Option (Plan × ℕ)) (worked closed : List Piece) (low : ℕ) (cert : Cert) (outcome : Outcome) → IsInstance i → IsSearched i options.budget why best worked closed low → IsGathered low (worked ++ closed) cert → IsAnswerOf i why best low (in_answer i cert) outcome
-    → IsOutcome i options outcome
-search_answers i options why best worked closed low cert (Optimal plan ticks own) w is gathered answer =
-    let found : IsFound i (Some (plan, ticks)) = subst (IsFound i) answer.0 is.found in
-    subst (λ (c : Cert). IsOutcome i options (Optimal plan ticks c)) (sym answer.2) (record {
-      proves = told_proves i cert (proved i options.budget why best worked closed low cert w is gathered);
-      version = refl;
-      within = omega (arith, within_budget i (limit_of i best) low worked closed cert.tree gathered.tree is.leaves, is.within);
-      says = (found, gathered.bound ∙ answer.1);
-    })
-search_answers i options why best worked closed low cert (Infeasible own) w is gathered answer =
-    subst (λ (c : Cert). IsOutcome i options (Infeasible c)) (sym answer.2) (record {
-      proves = told_proves i cert (proved i options.budget why best worked closed low cert w is gathered);
-      version = refl;
-      within = omega (arith, within_budget i (limit_of i best) low worked closed cert.tree gathered.tree is.leaves, is.within);
-      says = gathered.bound ∙ answer.1 ∙ ap (limit_of i) answer.0;
-    })
-search_answers i options why best worked closed low cert (Stopped cause bound found own) w is gathered answer =
-    let limit = limit_of i best in
-    let reaches = reached_below low limit closed is.least answer.0 in
-    let stopped : IsOutcome i options (Stopped why low best (in_answer i cert)) = record {
-      proves = told_proves i cert (proved i options.budget why best worked closed low cert w is gathered);
-      version = refl;
-      within = omega (arith, within_budget i limit low worked closed cert.tree gathered.tree is.leaves, is.within);
-      says = record {
-        bound = gathered.bound;
-        least = least_goal low worked closed cert gathered reaches;
-        most = omega (arith, answer.0, limit_small i best w is.found);
-        path = path_below i limit low closed is.leaves reaches;
-        above = best_above i low best is.found answer.0;
-        cause = cause_is i options.budget why best worked closed low (in_answer i cert) gathered.tree is.leaves is.goals is.cause;
-      };
-    } in
-    same_stopped i options cause why bound low found best own (in_answer i cert) answer.1 answer.2 answer.3 answer.4 stopped
+  reason_is : (cause : Why) → IsWorkedOut options.budget worked cause → IsReason i options best (in_answer i cert) cause
+  reason_is Budget all = omega (arith, all_worked (limit - options.gap) worked closed cert.tree gathered.tree near_goals, all)
+  reason_is Memory all = omega (arith, within_budget i aim low worked closed cert.tree gathered.tree is.leaves, all)
+  reason_is CalledOff all = omega (arith, within_budget i aim low worked closed cert.tree gathered.tree is.leaves, all)
+  reason_is Gap all = absurd all
+
+  pub search_ends : IsEndTree i options why best (in_answer i cert)
+  search_ends = record {
+    proves = record { low = proved.low; tree = proved.tree };
+    version = refl;
+    within = few;
+    most = omega (arith, gathered.bound, is.most, aim_below i aims best);
+    path = λ bound path. tree_goals (min bound limit) (worked ++ closed) cert.tree gathered.tree (goals_from bound path);
+    reason = reason_is why is.cause;
+  }

@@ -1,5 +1,5 @@
 -- What an answer to an instance says: a least plan, no plan, or bounds, each with a tree that proves it.
-use Rattle.std.specs.Prelude.{◌≡◌, ℕ, ◌+◌, ◌≤◌, ◌<◌, ◌==◌, if◌then◌else◌, min, count_by, Bool, false, Option, None, Some, nat_le, Contains, All}
+use Rattle.std.specs.Prelude.{◌≡◌, ℕ, ◌+◌, ◌-◌, ◌≤◌, ◌<◌, ◌==◌, if◌then◌else◌, min, count_by, Bool, false, Option, None, Some, nat_le, Contains, All}
 use Rattle.ttp_model.specs.declared.plan.Plan.{Plan}
 use Rattle.ttp_model.specs.Instance.{Instance}
 use Rattle.ttp_model.specs.Delays.{delay, IsLowerBound, IsLeastDelay, HasNoPlan}
@@ -19,8 +19,9 @@ use Rattle.search_turns.specs.declared.outcome.Options.{Options}
 use Rattle.search_turns.specs.declared.outcome.Outcome.{Outcome}
 use Rattle.search_turns.specs.declared.outcome.Outcome.TheVariants.{Optimal, Infeasible, Stopped}
 use Rattle.search_turns.specs.declared.outcome.Why.{Why}
-use Rattle.search_turns.specs.declared.outcome.Why.TheVariants.{Budget, Memory, CalledOff}
+use Rattle.search_turns.specs.declared.outcome.Why.TheVariants.{Budget, Memory, CalledOff, Gap}
 use Rattle.search_turns.specs.Searching.{limit_of}
+use Rattle.search_turns.specs.Ends.{IsFar, IsNear}
 use Rattle.tree_gathering.specs.Gathering.{HasGoal}
 
 -- a leaf at the limit or past it
@@ -44,26 +45,27 @@ pub record IsLeastGoal (tree : Trees) (low : ℕ) : Type 0 where
   pub reached : leaf.goal ≡ low
   pub bound : All (HasGoal low) (preorder tree)
 
--- the cause of a stop, by what was worked
-abbrev pub IsCause : Instance → ℕ → Option (Plan × ℕ) → Cert → Why → Type 0
-IsCause i budget best cert Budget = budget ≤ worked_at (limit_of i best) cert.tree
-IsCause i budget best cert Memory = branches cert.tree < budget
-IsCause i budget best cert CalledOff = branches cert.tree < budget
+-- the cause of a stop: by the gap, where the best plan is within it; else by what was worked
+abbrev pub IsCause : Instance → Options → ℕ → Option (Plan × ℕ) → Cert → Why → Type 0
+IsCause i options low best cert Budget = IsFar options.gap low best × (options.budget ≤ worked_at (limit_of i best - options.gap) cert.tree)
+IsCause i options low best cert Memory = IsFar options.gap low best × (branches cert.tree < options.budget)
+IsCause i options low best cert CalledOff = IsFar options.gap low best × (branches cert.tree < options.budget)
+IsCause i options low best cert Gap = IsNear options.gap low best
 
 -- the search was stopped with a bound and the best plan found
-pub record IsStopped (i : Instance) (budget : ℕ) (why : Why) (low : ℕ) (best : Option (Plan × ℕ)) (cert : Cert) : Type 0 where
+pub record IsStopped (i : Instance) (options : Options) (why : Why) (low : ℕ) (best : Option (Plan × ℕ)) (cert : Cert) : Type 0 where
   pub bound : cert.low ≡ low
   pub least : IsLeastGoal cert.tree low
   pub most : low ≤ i.cluster.horizon
   pub path : (bound : ℕ) → IsPathBound i bound → min bound (limit_of i best) ≤ low
   pub above : IsBestAbove i low best
-  pub cause : IsCause i budget best cert why
+  pub cause : IsCause i options low best cert why
 
 -- the plan is least, there is none, or the search was stopped
-abbrev pub Says : Instance → ℕ → Outcome → Type 0
-Says i budget (Optimal plan ticks cert) = IsPlanFound i plan ticks × (cert.low ≡ ticks)
-Says i budget (Infeasible cert) = cert.low ≡ i.cluster.horizon + 1
-Says i budget (Stopped why low best cert) = IsStopped i budget why low best cert
+abbrev pub Says : Instance → Options → Outcome → Type 0
+Says i options (Optimal plan ticks cert) = IsPlanFound i plan ticks × (cert.low ≡ ticks)
+Says i options (Infeasible cert) = cert.low ≡ i.cluster.horizon + 1
+Says i options (Stopped why low best cert) = IsStopped i options why low best cert
 
 -- the certificate of an answer
 abbrev pub cert_of : Outcome → Cert
@@ -91,13 +93,17 @@ answer_version i = if i.cluster.channels == 1 then One else Two
 abbrev pub in_answer : Instance → Cert → Cert
 in_answer i cert = record cert { version = answer_version i }
 
+-- a certificate with this bound
+abbrev pub from_low : ℕ → Cert → Cert
+from_low low cert = record cert { low = low }
+
 -- An answer: its certificate, in the version of the instance's answers, proves its bound by a tree of at most as many branches
 -- as the budget, and the answer says what that bound shows.
 pub record IsOutcome (i : Instance) (options : Options) (outcome : Outcome) : Type 0 where
   pub proves : Proves i (cert_of outcome)
   pub version : (cert_of outcome).version ≡ answer_version i
   pub within : branches (cert_of outcome).tree ≤ options.budget
-  pub says : Says i options.budget outcome
+  pub says : Says i options outcome
 
 -- a plan that was found before the search was stopped is valid, and has the delay that stands beside it
 abbrev pub IsBestPlan : Instance → Option (Plan × ℕ) → Type 0

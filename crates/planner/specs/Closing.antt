@@ -30,7 +30,8 @@ pub record AreClosedBehind (i : Instance) (worked : List Piece) (tasks : List Ta
   pub joined : all ≡ worked ++ closed
 
 -- the certificate of a tree that was worked, and whose open tasks are closed
-pub record IsClosedTree (i : Instance) (worked : List Piece) (tasks : List Task) (top : ℕ) (cert : Cert) (low : ℕ) : Type 0 where
+pub record IsClosedTree (i : Instance) (worked : List Piece) (tasks : List Task) (top : ℕ) (cert : Cert) : Type 0 where
+  pub low : ℕ
   pub closed : List Piece
   pub are : AreClosed i tasks top closed low
   pub gathered : IsGathered low (worked ++ closed) cert

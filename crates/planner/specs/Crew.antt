@@ -8,6 +8,7 @@ use Rattle.incumbent.specs.declared.word.Watch.{Watch}
 use Rattle.incumbent.specs.Watch.{first_value, offers, out_count, IsOpening, IsOther, IsSameWatch}
 use Rattle.steal_pool.specs.declared.hand.Hand.{Hand}
 use Rattle.steal_pool.specs.Hand.{IsPool, IsSameHand, all_pushed, all_taken}
+use Rattle.pool_worker.specs.declared.goals.Aims.{Aims}
 use Rattle.pool_worker.specs.declared.report.Report.{Report}
 use Rattle.pool_worker.specs.Tasks.{Turn, IsTurn, tasks_of, pieces_of, all_born}
 use Rattle.pool_worker.specs.Goals.{goals_of, AreGoals, IsReached}
@@ -18,12 +19,12 @@ use Rattle.planner.specs.declared.crew.Job.{Job}
 use Rattle.planner.specs.declared.crew.Crew.{Crew}
 use Rattle.search_turns.specs.Searching.{limit_of, IsFound}
 
--- the report of a run that began with this job
-pub record IsReportOfJob {J : Type 0} (i : Instance) (job : Job J) (report : Report J) : Type 0 where
+-- the report of a run with these aims that began with this job
+pub record IsReportOfJob {J : Type 0} (i : Instance) (aims : Aims) (job : Job J) (report : Report J) : Type 0 where
   pub hand : IsSameHand job.hand report.hand
   pub watch : IsSameWatch job.watch report.watch
   pub account : HasAccount i job.hand report.hand report.pieces.items report.spared.items report.rest
-  pub goals : AreGoals job.watch report.watch (goals_of report.pieces.items)
+  pub goals : AreGoals i aims job.watch report.watch (goals_of report.pieces.items)
   pub best : OffersBest i job.watch report.watch report.best
   pub within : length report.pieces.items ≤ job.budget
 
@@ -33,11 +34,11 @@ pub record IsJob {J : Type 0} (word : Incumbent) (job : Job J) : Type 0 where
   pub silent : offers job.watch ≡ []
 
 -- reports of jobs, one of each, in order
-abbrev pub AreReportsOf : {J : Type 0} → Instance → List (Job J) → List (Report J) → Type 0
-AreReportsOf i [] [] = Unit {0}
-AreReportsOf i [] (r ∷ rs) = ⊥
-AreReportsOf i (job ∷ jobs) [] = ⊥
-AreReportsOf i (job ∷ jobs) (r ∷ rs) = IsReportOfJob i job r × AreReportsOf i jobs rs
+abbrev pub AreReportsOf : {J : Type 0} → Instance → Aims → List (Job J) → List (Report J) → Type 0
+AreReportsOf i aims [] [] = Unit {0}
+AreReportsOf i aims [] (r ∷ rs) = ⊥
+AreReportsOf i aims (job ∷ jobs) [] = ⊥
+AreReportsOf i aims (job ∷ jobs) (r ∷ rs) = IsReportOfJob i aims job r × AreReportsOf i aims jobs rs
 
 abbrev pub hands_of : {J : Type 0} → List (Job J) → List (Hand J)
 hands_of {J} jobs = map (λ (job : Job J). job.hand) jobs
@@ -74,8 +75,8 @@ pub record IsNoLater (i : Instance) (old new : Option (Plan × ℕ)) : Type 0 wh
 
 -- What workers that began with these hands came to: each piece is right for a task that one of them took. They took
 -- these tasks and those that they hold; they pushed what their branches gave, but for what they hold of it. The best plan
--- is at most each offer, and each leaf's goal at least something that one of them has seen or offered.
-pub record Gathers {J : Type 0} (i : Instance) (word : Incumbent) (count : ℕ) (begun : List (Hand J)) (crew : Crew J) : Type 0 where
+-- is at most each offer, and each leaf's goal at least that of something that one of them has seen or offered.
+pub record Gathers {J : Type 0} (i : Instance) (aims : Aims) (word : Incumbent) (count : ℕ) (begun : List (Hand J)) (crew : Crew J) : Type 0 where
   pub same : AreSameHands begun crew.hands.items
   pub turns : List Turn
   pub each : All (IsTurn i) turns
@@ -90,7 +91,7 @@ pub record Gathers {J : Type 0} (i : Instance) (word : Incumbent) (count : ℕ) 
   pub joined : out_count crew.watch ≡ count - length begun
   pub found : IsFound i crew.best
   pub best : All (λ value. limit_of i crew.best ≤ value) (offers crew.watch)
-  pub reached : All (IsReached crew.watch) (goals_of crew.pieces.items)
+  pub reached : All (IsReached i aims crew.watch) (goals_of crew.pieces.items)
 
 -- the offers, with the delay of the plan that is known, where there is one
 abbrev pub told : List ℕ → Option (Plan × ℕ) → List ℕ
@@ -104,9 +105,9 @@ pub record HasLeft {J : Type 0} (hands : List (Hand J)) (tasks all : List Task) 
   pub balance : IsPermutation (all_pushed hands) (drained ++ all_taken hands)
 
 -- all workers of a pool have ended, whose first hand was given the whole tree; their word began one past the horizon
-pub record HaveEnded {J : Type 0} (i : Instance) (word : Incumbent) (crew : Crew J) : Type 0 where
+pub record HaveEnded {J : Type 0} (i : Instance) (aims : Aims) (word : Incumbent) (crew : Crew J) : Type 0 where
   pub begun : List (Hand J)
-  pub gathers : Gathers i word (length begun) begun crew
+  pub gathers : Gathers i aims word (length begun) begun crew
   pub pool : IsPool begun
   pub pushes : IsPermutation (all_pushed begun) (root_task ∷ [])
   pub takes : all_taken begun ≡ []

@@ -1,23 +1,42 @@
 -- What a search leaves at its end: pieces that were worked, and pieces that closed what was left.
-use Rattle.std.specs.Prelude.{◌≡◌, ℕ, ◌<◌, ◌≤◌, ◌++◌, ◌⊎◌, min, List, [], length, All, Contains, Option}
+use Rattle.std.specs.Prelude.{◌≡◌, ℕ, ◌+◌, ◌-◌, ◌<◌, ◌≤◌, ◌++◌, ◌⊎◌, min, List, [], length, All, Contains, Option, None, Some}
 use Rattle.ttp_model.specs.declared.plan.Plan.{Plan}
 use Rattle.ttp_model.specs.declared.step.Leaf.{Leaf}
 use Rattle.ttp_model.specs.Instance.{Instance}
 use Rattle.ttp_model.specs.Chains.{IsPathBound}
+use Rattle.certificate.specs.declared.node.Node.{Node}
 use Rattle.certificate.specs.declared.node.Node.TheVariants as node
+use Rattle.certificate.specs.Trees.{preorder}
+use Rattle.certificate.specs.Cert.{Cert}
+use Rattle.tree_check.specs.Proofs.{Proves}
+use Rattle.dropped_decisions.specs.Branches.{branches}
 use Rattle.subtree_tasks.specs.declared.piece.Piece.{Piece}
 use Rattle.subtree_tasks.specs.Pieces.{AreRight}
 use Rattle.subtree_tasks.specs.Account.{IsWholeTree}
+use Rattle.search_turns.specs.declared.outcome.Options.{Options}
 use Rattle.search_turns.specs.declared.outcome.Why.{Why}
-use Rattle.search_turns.specs.Searching.{limit_of, IsFound, IsWorkedOut}
-use Rattle.tree_gathering.specs.Gathering.{HaveGoals}
+use Rattle.search_turns.specs.declared.outcome.Why.TheVariants.{Budget, Memory, CalledOff, Gap}
+use Rattle.pool_worker.specs.declared.goals.Aims.{Aims}
+use Rattle.pool_worker.specs.Goals.{goal_of}
+use Rattle.search_turns.specs.Searching.{aim_of, limit_of, IsFound, IsWorkedOut}
+use Rattle.tree_gathering.specs.Gathering.{HasGoal, HaveGoals}
+use Rattle.planner.specs.Answers.{answer_version, worked_at}
 
--- a leaf that closes what was left: no lower than the bound, and than the lesser of the path bound and the limit
-pub record IsClosedLeaf (i : Instance) (limit low : ℕ) (piece : Piece) : Type 0 where
+-- a goal at which propagation closes the whole tree: at least the path bound, within one tick past the horizon
+abbrev pub IsFloor : Instance → ℕ → Type 0
+IsFloor i floor = (bound : ℕ) → IsPathBound i bound → min bound (i.cluster.horizon + 1) ≤ floor
+
+-- aims with this gap, by which no goal is below the lesser of the path bound and the delay that was seen
+pub record AreAims (i : Instance) (gap : ℕ) (aims : Aims) : Type 0 where
+  pub gap_is : aims.gap ≡ gap
+  pub path : (bound seen : ℕ) → IsPathBound i bound → seen ≤ i.cluster.horizon + 1 → min bound seen ≤ goal_of i aims seen
+
+-- a leaf that closes what was left: no lower than the bound, and than the lesser of the path bound and the goal of the search
+pub record IsClosedLeaf (i : Instance) (aim low : ℕ) (piece : Piece) : Type 0 where
   pub leaf : Leaf
   pub is : piece.node ≡ node.Leaf leaf
   pub above : low ≤ leaf.goal
-  pub path : (bound : ℕ) → IsPathBound i bound → min bound limit ≤ leaf.goal
+  pub path : (bound : ℕ) → IsPathBound i bound → min bound aim ≤ leaf.goal
 
 -- a leaf that has this goal
 pub record ReachesGoal (low : ℕ) (pieces : List Piece) : Type 0 where
@@ -27,13 +46,46 @@ pub record ReachesGoal (low : ℕ) (pieces : List Piece) : Type 0 where
   pub is : piece.node ≡ node.Leaf leaf
   pub goal : leaf.goal ≡ low
 
--- A search at its end. The bound is the limit, or the goal of a leaf that closed what was left.
-pub record IsSearched (i : Instance) (budget : ℕ) (why : Why) (best : Option (Plan × ℕ)) (worked closed : List Piece) (low : ℕ) : Type 0 where
+-- A search at its end, whose tree has a bound of at most the goal at which it worked.
+pub record IsSearched (i : Instance) (options : Options) (aims : Aims) (why : Why) (best : Option (Plan × ℕ)) (worked closed : List Piece) (low : ℕ) : Type 0 where
   pub whole : IsWholeTree (worked ++ closed) []
   pub right : AreRight i (worked ++ closed)
   pub found : IsFound i best
-  pub goals : HaveGoals (limit_of i best) worked
-  pub leaves : All (IsClosedLeaf i (limit_of i best) low) closed
-  pub least : (low ≡ limit_of i best) ⊎ ((low < limit_of i best) × ReachesGoal low closed)
-  pub within : length worked ≤ budget
-  pub cause : IsWorkedOut budget worked why
+  pub goals : HaveGoals (aim_of i aims best) worked
+  pub leaves : All (IsClosedLeaf i (aim_of i aims best) low) closed
+  pub most : low ≤ aim_of i aims best
+  pub within : length worked ≤ options.budget
+  pub cause : IsWorkedOut options.budget worked why
+
+-- a node of a tree with this goal
+pub record HasLeafAt (nodes : List Node) (low : ℕ) : Type 0 where
+  pub leaf : Leaf
+  pub there : Contains nodes (node.Leaf leaf)
+  pub reached : leaf.goal ≡ low
+
+-- the lesser of a limit and the least goal of the leaves among nodes
+pub record IsLowest (limit : ℕ) (nodes : List Node) (low : ℕ) : Type 0 where
+  pub bound : All (HasGoal low) nodes
+  pub reached : (low ≡ limit) ⊎ ((low < limit) × HasLeafAt nodes low)
+
+-- nothing of a tree with this bound is left at a goal of the search: there is no plan, or the best one is within the gap
+abbrev pub IsExhausted : Instance → ℕ → Option (Plan × ℕ) → ℕ → Type 0
+IsExhausted i gap None low = i.cluster.horizon + 1 ≤ low
+IsExhausted i gap (Some best) low = best.1 ≤ low + gap
+
+-- how much a tree shows was worked where a search ended for a reason
+abbrev pub IsReason : Instance → Options → Option (Plan × ℕ) → Cert → Why → Type 0
+IsReason i options best cert Budget = options.budget ≤ worked_at (limit_of i best - options.gap) cert.tree
+IsReason i options best cert Memory = branches cert.tree < options.budget
+IsReason i options best cert CalledOff = branches cert.tree < options.budget
+IsReason i options best cert Gap = IsExhausted i options.gap best cert.low
+
+-- The tree of a search at its end, in the version of the instance's answers: it proves a bound of at most the delay that had to be beaten, and no leaf's
+-- goal is below the lesser of that and the path bound.
+pub record IsEndTree (i : Instance) (options : Options) (why : Why) (best : Option (Plan × ℕ)) (cert : Cert) : Type 0 where
+  pub proves : Proves i cert
+  pub version : cert.version ≡ answer_version i
+  pub within : branches cert.tree ≤ options.budget
+  pub most : cert.low ≤ limit_of i best
+  pub path : (bound : ℕ) → IsPathBound i bound → All (HasGoal (min bound (limit_of i best))) (preorder cert.tree)
+  pub reason : IsReason i options best cert why

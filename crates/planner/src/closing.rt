@@ -13,7 +13,7 @@ use std::alloc::Global;
 use ttp_model::{Instance, MemoryFault, Step};
 
 /// The lesser of a leaf's goal and a tick.
-fn lowered(piece: &Piece, low: u32) -> u32
+pub fn lowered(piece: &Piece, low: u32) -> u32
     ensures { (leaf : Leaf) → piece.now.node ≡ node.Leaf leaf → result ≡ min low leaf.goal }
 {
     match &piece.node {
@@ -34,7 +34,7 @@ fn last_steps(closed: &[Piece]) -> &[Step] {
 }
 
 /// Closes one task at a goal of at most `top` ticks, where they do by these steps.
-fn close(
+pub fn close(
     alloc: Global,
     instance: &Instance,
     task: Task,

@@ -6,13 +6,14 @@ ghost use Rattle.subtree_tasks.specs.Task.{root_task, IsTask};
 ghost use Rattle.incumbent.specs.Watch.{first_value, offers, out_count, IsOpening, IsWatchOf};
 ghost use Rattle.steal_pool.specs.Hand.{all_pushed, all_taken, IsPool};
 ghost use Rattle.search_turns.specs.Searching.{limit_of, IsFound, IsSearching};
+ghost use Rattle.pool_worker.specs.declared.goals.Aims.{Aims};
 ghost use Rattle.planner.specs.Crew.{budget_of, hands_of, told, AreDealt, AreReportsOf, HasLeft, HaveEnded, IsJob, IsNobody};
 
 use crate::crew::{Crew, Job, run_all};
 use crate::reserve::Reserve;
 use branch_tree::Task;
 use incumbent::{Incumbent, Watch};
-use pool_worker::{Gate, Report};
+use pool_worker::{Aims, Gate, Report};
 use search_turns::{Options, Search, SolveFault};
 use std::alloc::Global;
 use std::marker::{Send, Sync};
@@ -156,9 +157,9 @@ fn drain_into<J: Searched>(hands: Vec<Hand<J>>, tasks: &mut Vec<Task>) -> Result
 
 /// What is left of the tree once all workers have ended: the tasks that they hold, and those in their deques.
 fn collected<J: Searched>(word: Incumbent, crew: Crew<J>) -> Result<Search, MemoryFault>
-    requires ended { HaveEnded J.instance word crew }
+    requires ended { (aims : Aims) × HaveEnded J.instance aims word crew }
     requires instance { IsInstance J.instance }
-    ensures searching { IfOk result (λ s. IsSearching J.instance s.pieces.items s.tasks.items s.best) }
+    ensures searching { IfOk result (λ s. (aims : Aims) → HaveEnded J.instance aims word crew → IsSearching J.instance aims s.pieces.items s.tasks.items s.best) }
     ensures same { IfOk result (λ s. s.pieces ≡ crew.pieces) }
     ensures best { IfOk result (λ s. s.best ≡ crew.best) }
 {
@@ -191,14 +192,15 @@ fn reported<J: Searched + Send + Sync, G: Gate + Sync, R: Threads + Wait>(
     word: &Incumbent,
     gate: &G,
     manner: Manner,
+    aims: Aims,
     jobs: Vec<Job<J>>,
 ) -> Result<Vec<Report<J>>, SolveFault>
     requires of { instance.now ≡ J.instance }
     requires jobs { All (IsJob word.now) jobs.items }
-    ensures reports { IfOk result (λ all. AreReportsOf J.instance jobs.items all.items) }
+    ensures reports { IfOk result (λ all. AreReportsOf J.instance aims jobs.items all.items) }
 {
     let reserve = Reserve::begin(alloc, instance)?;
-    let reports = run_all(rt, alloc, instance, word, gate, manner, jobs);
+    let reports = run_all(rt, alloc, instance, word, gate, manner, aims, jobs);
     reserve.give_back();
     reports
 }
@@ -210,6 +212,7 @@ fn crewed<J: Searched + Send + Sync, G: Gate + Sync, R: Threads + Wait>(
     instance: &Instance,
     options: Options,
     manner: Manner,
+    aims: Aims,
     word: &Incumbent,
     gate: &G,
     crew: &mut Crew<J>,
@@ -217,13 +220,13 @@ fn crewed<J: Searched + Send + Sync, G: Gate + Sync, R: Threads + Wait>(
     requires of { instance.now ≡ J.instance }
     requires instance { IsInstance J.instance }
     requires nobody { IsNobody J.instance word.now crew.old }
-    ensures ended { OnOk result (HaveEnded J.instance word.now crew.new) }
+    ensures ended { OnOk result (HaveEnded J.instance aims word.now crew.new) }
     ensures within { OnOk result (length crew.new.pieces.items ≤ options.budget) }
     ensures no_later { OnOk result (limit_of J.instance crew.new.best ≤ limit_of J.instance crew.old.best) }
 {
     let hands = planted::<J>(alloc, instance, options.workers.max(1) as usize)?;
     let jobs = deal(alloc, word, &mut crew.watch, hands, options.budget)?;
-    let reports = reported(rt, alloc, instance, word, gate, manner, jobs)?;
+    let reports = reported(rt, alloc, instance, word, gate, manner, aims, jobs)?;
     crew.add_all(word, reports)?;
     Ok(())
 }
@@ -253,19 +256,22 @@ pub fn searched<J: Searched + Send + Sync, G: Gate + Sync, R: Threads + Wait>(
     instance: &Instance,
     options: Options,
     manner: Manner,
+    aims: Aims,
     first: Option<(Plan, u64)>,
     gate: &G,
 ) -> Result<Search, SolveFault>
     requires of { instance.now ≡ J.instance }
     requires found { IsFound instance.now first }
-    ensures searching { IfOk result (λ s. IsSearching instance.now s.pieces.items s.tasks.items s.best) }
+    ensures searching { IfOk result (λ s. IsSearching instance.now aims s.pieces.items s.tasks.items s.best) }
     ensures within { IfOk result (λ s. length s.pieces.items ≤ options.budget) }
     ensures no_later { IfOk result (λ s. limit_of instance.now s.best ≤ limit_of instance.now first) }
 {
     let _nodes = instance.nodes();
     let (word, crew) = begun::<J>(alloc, instance, options.workers.max(1) as usize, first)?;
     let mut crew = crew;
-    crewed(rt, alloc, instance, options, manner, &word, gate, &mut crew)?;
+    crewed(
+        rt, alloc, instance, options, manner, aims, &word, gate, &mut crew,
+    )?;
     let search = collected(word, crew)?;
     Ok(search)
 }

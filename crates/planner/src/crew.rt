@@ -5,6 +5,7 @@ ghost use Rattle.ttp_model.specs.Instance.{Instance};
 ghost use Rattle.ttp_model.specs.Rules.{IsInstance};
 ghost use Rattle.incumbent.specs.Watch.{IsOpening, IsWatchOf};
 ghost use Rattle.steal_pool.specs.declared.hand.Hand.{Hand};
+ghost use Rattle.pool_worker.specs.declared.goals.Aims.{Aims};
 ghost use Rattle.planner.specs.declared.crew.Job.{Job};
 ghost use Rattle.search_turns.specs.declared.outcome.SolveFault.TheVariants as fault;
 ghost use Rattle.search_turns.specs.Searching.{IsFound};
@@ -14,7 +15,7 @@ use crate::joining::{keep_roomier, take_in};
 use branch_tree::{Piece, Task};
 use certificate::Node;
 use incumbent::{Incumbent, Watch};
-use pool_worker::{Gate, Report, Rest, run_worker_in};
+use pool_worker::{Aims, Gate, Report, Rest, run_worker_in};
 use search_turns::SolveFault;
 use std::alloc::Global;
 use std::marker::{Send, Sync};
@@ -36,12 +37,15 @@ pub struct Job<J: Searched> {
     pub workers: usize,
 }
 
-/// The promise that the report is one of this job.
+/// The promise that the report is one of this job with these aims.
 #[derive(Drop)]
-struct ReportOf<J: Searched>(Snapshot<Job<J>>);
+struct ReportOf<J: Searched> {
+    job: Snapshot<Job<J>>,
+    aims: Aims,
+}
 
 impl<J: Searched> Promise<Report<J>> for ReportOf<J> {
-    ghost kept_by = { λ p r. IsReportOfJob J.instance p.0.value r };
+    ghost kept_by = { λ p r. IsReportOfJob J.instance p.aims p.job.value r };
 }
 
 /// Works a job.
@@ -51,11 +55,12 @@ fn done<J: Searched, G: Gate>(
     word: &Incumbent,
     gate: &G,
     manner: Manner,
+    aims: Aims,
     job: Job<J>,
 ) -> Report<J>
     requires of { instance.now ≡ J.instance }
     requires job { IsJob word.now job }
-    ensures { IsReportOfJob J.instance job result }
+    ensures { IsReportOfJob J.instance aims job result }
 {
     let Job {
         hand,
@@ -64,7 +69,7 @@ fn done<J: Searched, G: Gate>(
         workers,
     } = job;
     run_worker_in(
-        alloc, instance, hand, word, watch, budget, workers, manner, gate,
+        alloc, instance, hand, word, watch, budget, workers, manner, aims, gate,
     )
 }
 
@@ -158,12 +163,12 @@ impl<J: Searched> Crew<J> {
     fn add(&mut self, word: &Incumbent, report: Report<J>) -> Result<(), MemoryFault>
         requires opening { IsOpening word.now self.old.watch }
         requires watch { IsWatchOf word.now report.watch }
-        ensures gathers { OnOk result ((count : ℕ) (begun : List (Hand J)) (job : Job J) → IsInstance J.instance
-            → Gathers J.instance word.now count begun self.old → IsJob word.now job → IsReportOfJob J.instance job report
-            → Gathers J.instance word.now count (begun ++ job.hand ∷ []) self.new) }
+        ensures gathers { OnOk result ((aims : Aims) (count : ℕ) (begun : List (Hand J)) (job : Job J) → IsInstance J.instance
+            → Gathers J.instance aims word.now count begun self.old → IsJob word.now job → IsReportOfJob J.instance aims job report
+            → Gathers J.instance aims word.now count (begun ++ job.hand ∷ []) self.new) }
         ensures opening { OnOk result (IsOpening word.now self.new.watch) }
         ensures more { OnOk result (length self.new.pieces.items ≡ length self.old.pieces.items + length report.pieces.items) }
-        ensures no_later { OnOk result ((job : Job J) → IsInstance J.instance → IsFound J.instance self.old.best → IsReportOfJob J.instance job report
+        ensures no_later { OnOk result ((aims : Aims) (job : Job J) → IsInstance J.instance → IsFound J.instance self.old.best → IsReportOfJob J.instance aims job report
             → IsNoLater J.instance self.old.best self.new.best) }
     {
         let Report {
@@ -193,13 +198,13 @@ impl<J: Searched> Crew<J> {
     pub fn add_all(&mut self, word: &Incumbent, reports: Vec<Report<J>>) -> Result<(), MemoryFault>
         requires opening { IsOpening word.now self.old.watch }
         requires watches { All (λ report. IsWatchOf word.now report.watch) reports.items }
-        ensures gathers { OnOk result ((count : ℕ) (jobs : List (Job J)) → IsInstance J.instance
-            → All (IsJob word.now) jobs → AreReportsOf J.instance jobs reports.items
-            → Gathers J.instance word.now count [] self.old → Gathers J.instance word.now count (hands_of jobs) self.new) }
-        ensures within { OnOk result ((jobs : List (Job J)) → AreReportsOf J.instance jobs reports.items
+        ensures gathers { OnOk result ((aims : Aims) (count : ℕ) (jobs : List (Job J)) → IsInstance J.instance
+            → All (IsJob word.now) jobs → AreReportsOf J.instance aims jobs reports.items
+            → Gathers J.instance aims word.now count [] self.old → Gathers J.instance aims word.now count (hands_of jobs) self.new) }
+        ensures within { OnOk result ((aims : Aims) (jobs : List (Job J)) → AreReportsOf J.instance aims jobs reports.items
             → length self.new.pieces.items ≤ length self.old.pieces.items + budget_of jobs) }
-        ensures no_later { OnOk result ((jobs : List (Job J)) → IsInstance J.instance → IsFound J.instance self.old.best
-            → AreReportsOf J.instance jobs reports.items → IsNoLater J.instance self.old.best self.new.best) }
+        ensures no_later { OnOk result ((aims : Aims) (jobs : List (Job J)) → IsInstance J.instance → IsFound J.instance self.old.best
+            → AreReportsOf J.instance aims jobs reports.items → IsNoLater J.instance self.old.best self.new.best) }
     {
         for report in reports {
             self.add(word, report)?;
@@ -218,6 +223,7 @@ fn start_all<'s, E, J: Searched + Send + Sync + 's, G: Gate + Sync, R: Threads>(
     word: &'s Incumbent,
     gate: &'s G,
     manner: Manner,
+    aims: Aims,
     jobs: &mut Vec<Job<J>>,
     reports: &mut Vec<Report<J>>,
 ) -> Result<(), SolveFault>
@@ -225,7 +231,7 @@ fn start_all<'s, E, J: Searched + Send + Sync + 's, G: Gate + Sync, R: Threads>(
     requires jobs { All (IsJob word.now) jobs.old.items }
     requires none { reports.old.items ≡ [] }
     requires room { vec_len jobs.old ≤ vec_capacity reports.old }
-    ensures reports { OnOk result (AreReportsOf J.instance jobs.old.items reports.new.items) }
+    ensures reports { OnOk result (AreReportsOf J.instance aims jobs.old.items reports.new.items) }
     ensures many { vec_len reports.new ≤ vec_len jobs.old }
     ensures room { vec_capacity reports.new ≡ vec_capacity reports.old }
     ensures err { IfErr result (λ e. e ≡ fault.Thread) }
@@ -233,18 +239,21 @@ fn start_all<'s, E, J: Searched + Send + Sync + 's, G: Gate + Sync, R: Threads>(
     let Some(job) = jobs.pop() else {
         return Ok(());
     };
-    let promise = ReportOf(Snapshot::of(&job));
+    let promise = ReportOf {
+        job: Snapshot::of(&job),
+        aims,
+    };
     let Ok(child) = scope.spawn_with(
         promise,
         move || -> Report<J>
             requires { (instance.now ≡ J.instance) × IsJob word.now job }
-            ensures { IsReportOfJob J.instance job result }
-        { done(alloc, instance, word, gate, manner, job) },
+            ensures { IsReportOfJob J.instance aims job result }
+        { done(alloc, instance, word, gate, manner, aims, job) },
     ) else {
         return Err(SolveFault::Thread);
     };
     let others = start_all(
-        rt, scope, alloc, instance, word, gate, manner, jobs, reports,
+        rt, scope, alloc, instance, word, gate, manner, aims, jobs, reports,
     );
     let report = child.join(rt);
     reports.push_reserved(report);
@@ -260,6 +269,7 @@ fn run_in<'s, E, J: Searched + Send + Sync + 's, G: Gate + Sync, R: Threads>(
     word: &'s Incumbent,
     gate: &'s G,
     manner: Manner,
+    aims: Aims,
     mut jobs: Vec<Job<J>>,
     mut reports: Vec<Report<J>>,
 ) -> Result<Vec<Report<J>>, SolveFault>
@@ -267,7 +277,7 @@ fn run_in<'s, E, J: Searched + Send + Sync + 's, G: Gate + Sync, R: Threads>(
     requires jobs { All (IsJob word.now) jobs.items }
     requires none { reports.items ≡ [] }
     requires room { vec_len jobs ≤ vec_capacity reports }
-    ensures reports { IfOk result (λ all. AreReportsOf J.instance jobs.items all.items) }
+    ensures reports { IfOk result (λ all. AreReportsOf J.instance aims jobs.items all.items) }
 {
     let ended = start_all(
         rt,
@@ -277,6 +287,7 @@ fn run_in<'s, E, J: Searched + Send + Sync + 's, G: Gate + Sync, R: Threads>(
         word,
         gate,
         manner,
+        aims,
         &mut jobs,
         &mut reports,
     );
@@ -294,11 +305,12 @@ pub fn run_all<J: Searched + Send + Sync, G: Gate + Sync, R: Threads + Wait>(
     word: &Incumbent,
     gate: &G,
     manner: Manner,
+    aims: Aims,
     jobs: Vec<Job<J>>,
 ) -> Result<Vec<Report<J>>, SolveFault>
     requires of { instance.now ≡ J.instance }
     requires jobs { All (IsJob word.now) jobs.items }
-    ensures reports { IfOk result (λ all. AreReportsOf J.instance jobs.items all.items) }
+    ensures reports { IfOk result (λ all. AreReportsOf J.instance aims jobs.items all.items) }
 {
     let Ok(reports) = Vec::with_capacity(alloc, jobs.len()) else {
         return Err(SolveFault::Memory);
@@ -308,10 +320,10 @@ pub fn run_all<J: Searched + Send + Sync, G: Gate + Sync, R: Threads + Wait>(
         rt,
         move |scope| -> Result<Vec<Report<J>>, SolveFault>
             requires { (instance.now ≡ J.instance) × All (IsJob word.now) jobs.items × (reports.items ≡ []) × (vec_len jobs ≤ vec_capacity reports) }
-            ensures reports { IfOk result (λ all. AreReportsOf J.instance jobs.items all.items) }
+            ensures reports { IfOk result (λ all. AreReportsOf J.instance aims jobs.items all.items) }
         {
             run_in(
-                rt, scope, alloc, instance, word, gate, manner, jobs, reports,
+                rt, scope, alloc, instance, word, gate, manner, aims, jobs, reports,
             )
         },
     )

@@ -11,18 +11,24 @@ ghost use Rattle.tree_gathering.specs.Gathering.{IsGathered};
 ghost use Rattle.search_turns.specs.declared.outcome.Options.{Options};
 ghost use Rattle.search_turns.specs.declared.outcome.Outcome.{Outcome};
 ghost use Rattle.search_turns.specs.declared.outcome.Why.{Why};
-ghost use Rattle.planner.specs.Answers.{cert_of, in_answer, IsOutcome, Shows};
-ghost use Rattle.planner.specs.Searched.{IsSearched};
-ghost use Rattle.search_turns.specs.Ends.{IsAnswerOf};
+ghost use Rattle.pool_worker.specs.declared.goals.Aims.{Aims};
+ghost use Rattle.certificate.specs.Trees.{preorder};
+ghost use Rattle.planner.specs.Answers.{cert_of, from_low, in_answer, IsOutcome, Shows};
+ghost use Rattle.planner.specs.Searched.{AreAims, IsEndTree, IsLowest, IsSearched};
+ghost use Rattle.search_turns.specs.Ends.{IsAnswerOf, IsCauseTold};
+ghost use Rattle.search_turns.specs.Searching.{limit_of, IsFound};
 
-/// What a search leaves at its end, gathered, and in the version of the instance's answers, makes its answer: the best plan where
-/// the bound is its delay, no plan where the bound is past the horizon, and else that it was stopped.
+/// What a search leaves at its end, gathered, and in the version of the instance's answers, is a tree that makes its answer: the best plan where the least
+/// goal of its leaves is its delay, no plan where that is past the horizon, and else that it was stopped, by the gap where the plan is within it.
 pub fn searches_answer()
-    ensures { (i : Instance) (options : Options) (why : Why) (best : Option (Plan × ℕ))
-        (worked closed : List Piece) (low : ℕ) (cert : Cert) (outcome : Outcome) → IsInstance i
-        → IsSearched i options.budget why best worked closed low
-        → IsGathered low (worked ++ closed) cert → IsAnswerOf i why best low (in_answer i cert) outcome
-        → IsOutcome i options outcome }
+    ensures tree { (i : Instance) (options : Options) (why : Why) (best : Option (Plan × ℕ))
+        (aims : Aims) (worked closed : List Piece) (low : ℕ) (cert : Cert) → IsInstance i → AreAims i options.gap aims
+        → IsSearched i options aims why best worked closed low → IsGathered low (worked ++ closed) cert
+        → IsEndTree i options why best (in_answer i cert) }
+    ensures answer { (i : Instance) (options : Options) (why cause : Why) (best : Option (Plan × ℕ))
+        (low : ℕ) (cert : Cert) (outcome : Outcome) → IsInstance i → IsFound i best → IsEndTree i options why best cert
+        → IsLowest (limit_of i best) (preorder cert.tree) low → IsCauseTold why options.gap low best cause
+        → IsAnswerOf i cause best low (from_low low cert) outcome → IsOutcome i options outcome }
 {}
 
 /// A plan that is answered is valid and has the least delay; where no plan is answered none is valid;

@@ -2,16 +2,17 @@
 
 ghost use Rattle.std.specs.Prelude.{◌≡◌, ◌≤◌, IfOk, IfSome, length};
 ghost use Rattle.certificate.specs.Cert.{Cert};
-ghost use Rattle.tree_check.specs.Proofs.{Proves};
-ghost use Rattle.dropped_decisions.specs.Branches.{branches};
 ghost use Rattle.search_turns.specs.declared.outcome.Options.{Options};
-ghost use Rattle.planner.specs.Answers.{answer_version, certified_by, IsOutcome};
-ghost use Rattle.search_turns.specs.Searching.{limit_of, IsFound};
+ghost use Rattle.search_turns.specs.declared.outcome.Why.TheVariants.{Gap};
+ghost use Rattle.planner.specs.Answers.{certified_by, IsOutcome};
+ghost use Rattle.planner.specs.Searched.{AreAims, IsEndTree};
+ghost use Rattle.search_turns.specs.Searching.{IsFound};
 
 use crate::versions::answer_version;
 use certificate::Cert;
 use dropped_decisions::{Standing, proof_of, without_unused};
-use search_turns::{Outcome, Search, limit};
+use pool_worker::Aims;
+use search_turns::{Options, Outcome, Search, aim};
 use std::alloc::Global;
 use ttp_model::{Instance, MemoryFault};
 use used_decisions::Manner;
@@ -35,24 +36,25 @@ fn standing(alloc: Global, search: &Search) -> Result<Vec<Standing>, MemoryFault
     Ok(standing)
 }
 
-/// A certificate of the delay that had to be beaten, of the pieces of a search that left nothing but tasks that needn't be worked:
-/// none where one of them is needed, memory is refused, or the search is plain.
+/// A certificate of the goal at which a search worked in the end, of its pieces, where it left nothing but tasks that needn't be worked: none where one
+/// of them is needed, memory is refused, or the search is plain.
 pub fn lean_proof(
     alloc: Global,
     instance: &Instance,
+    options: Options,
     manner: Manner,
+    aims: Aims,
     search: &Search,
 ) -> Option<Cert>
-    requires { IsFound instance.now search.now.best }
-    ensures proves { IfSome result (Proves instance.now) }
-    ensures version { IfSome result (λ cert. cert.version ≡ answer_version instance.now) }
-    ensures low { IfSome result (λ cert. cert.low ≡ limit_of instance.now search.now.best) }
-    ensures few { IfSome result (λ cert. branches cert.tree ≤ length search.now.pieces.items) }
+    requires found { IsFound instance.now search.now.best }
+    requires aims { AreAims instance.now options.gap aims }
+    requires within { length search.now.pieces.items ≤ options.budget }
+    ensures { IfSome result (IsEndTree instance.now options Gap search.now.best) }
 {
     if manner == Manner::Plain || search.tasks.len() > search.spared {
         return None;
     }
-    let low = limit(instance, &search.best);
+    let low = aim(instance, aims, &search.best);
     let standing = standing(alloc, search).ok()?;
     let version = answer_version(instance);
     let most = search.pieces.len();

@@ -1,9 +1,11 @@
 //! The search for the shortest plan, and its tree as a certificate.
 #![tactic(auto)]
 
+mod aiming;
 mod closing;
 mod collecting;
 mod crew;
+mod ending;
 mod joining;
 mod laws;
 mod leaner;

@@ -6,17 +6,18 @@ ghost use Rattle.ttp_model.specs.Instance.{Instance};
 ghost use Rattle.ttp_model.specs.Plans.{IsValid};
 ghost use Rattle.subtree_tasks.specs.Account.{IsWholeTree};
 ghost use Rattle.subtree_tasks.specs.Task.{IsTask};
-ghost use Rattle.tree_check.specs.Proofs.{Proves};
-ghost use Rattle.dropped_decisions.specs.Branches.{branches};
 ghost use Rattle.tree_gathering.specs.Gathering.{AreShallow, HaveGoals, IsGathered};
 ghost use Rattle.search_turns.specs.declared.outcome.SolveFault.TheVariants as fault;
-ghost use Rattle.planner.specs.Answers.{answer_version, best_of, IsOutcome, Shows};
+ghost use Rattle.planner.specs.Answers.{best_of, IsOutcome, Shows};
 ghost use Rattle.planner.specs.Closing.{AreClosedBehind, IsClosedTree};
-ghost use Rattle.search_turns.specs.Searching.{limit_of, IsFound, IsWorkedOut, IsSearching};
+ghost use Rattle.planner.specs.Searched.{AreAims};
+ghost use Rattle.search_turns.specs.Searching.{aim_of, limit_of, IsFound, IsWorkedOut, IsSearching};
 
+use crate::aiming::aims_of;
 use crate::closing::close_all;
 use crate::collecting::searched;
 use crate::crew::better;
+use crate::ending::ended;
 use crate::joining::join;
 use crate::leaner::{lean_proof, leaner};
 use crate::reserve::Reserve;
@@ -24,8 +25,8 @@ use crate::versions::answer_version;
 use branch_tree::{Piece, Task};
 use certificate::{Cert, Node};
 use good_plan::good_plan;
-use pool_worker::{FreeGate, Gate};
-use search_turns::{Options, Order, Outcome, Search, SolveFault, Why, answer, limit};
+use pool_worker::{Aims, FreeGate, Gate};
+use search_turns::{Options, Order, Outcome, Search, SolveFault, Why, aim};
 use std::alloc::Global;
 use std::marker::{Brand, Sync};
 use std::sync::Wait;
@@ -133,25 +134,24 @@ fn certified(room: Vec<Node>, pieces: Vec<Piece>, low: u32) -> Result<Cert, Solv
     }
 }
 
-/// Closes what a search left at goals of at most `top` ticks: the certificate of its tree, and the bound.
+/// Closes what a search left, at goals of at most the one at which it worked: the certificate of its tree.
 fn closed_tree(
     alloc: Global,
     instance: &Instance,
+    aims: Aims,
     room: Vec<Node>,
     pieces: Vec<Piece>,
     tasks: Vec<Task>,
     best: &Option<(Plan, u64)>,
-    top: u32,
-) -> Result<(Cert, u32), SolveFault>
-    requires searching { IsSearching instance.now pieces.items tasks.items best.now }
-    requires top { top ≡ limit_of instance.now best.now }
-    ensures ok { IfOk result (λ r. IsClosedTree instance.now pieces.items tasks.items top r.0 r.1) }
+) -> Result<Cert, SolveFault>
+    requires { IsSearching instance.now aims pieces.items tasks.items best.now }
+    ensures ok { IfOk result (IsClosedTree instance.now pieces.items tasks.items (aim_of instance.now aims best.now)) }
     ensures err { IfErr result (λ e. e ≡ fault.Memory) }
 {
     let mut pieces = pieces;
+    let top = aim(instance, aims, best);
     let low = close_behind(alloc, instance, &mut pieces, tasks, top)?;
-    let cert = certified(room, pieces, low)?;
-    Ok((cert, low))
+    certified(room, pieces, low)
 }
 
 /// Closes what a search left, and tells what its tree shows.
@@ -159,10 +159,12 @@ fn concluded(
     alloc: Global,
     instance: &Instance,
     options: Options,
+    aims: Aims,
     search: Search,
     why: Why,
 ) -> Result<Outcome, SolveFault>
-    requires searching { IsSearching instance.now search.pieces.items search.tasks.items search.best }
+    requires searching { IsSearching instance.now aims search.pieces.items search.tasks.items search.best }
+    requires aims { AreAims instance.now options.gap aims }
     requires within { length search.pieces.items ≤ options.budget }
     requires cause { IsWorkedOut options.budget search.pieces.items why }
     ensures answer { IfOk result (IsOutcome instance.now options) }
@@ -177,11 +179,9 @@ fn concluded(
         best,
         ..
     } = search;
-    let limit = limit(instance, &best);
-    let (cert, low) = closed_tree(alloc, instance, room, pieces, tasks, &best, limit)?;
+    let cert = closed_tree(alloc, instance, aims, room, pieces, tasks, &best)?;
     let version = answer_version(instance);
-    let told = cert.with_version(version);
-    Ok(answer(why, best, limit, low, told))
+    Ok(ended(instance, options, why, best, cert.with_version(version)))
 }
 
 /// What of a budget the workers have: in a search that isn't plain the last quarter is for the bound. Another share
@@ -199,22 +199,25 @@ fn workers_part(budget: u64, manner: Manner) -> u64
 fn go_on<G: Gate>(
     alloc: Global,
     instance: &Instance,
-    options: Options,
+    aims: Aims,
+    budget: u64,
     search: &mut Search,
     part: u64,
     gate: &G,
 ) -> Why
-    requires searching { IsSearching instance.now search.old.pieces.items search.old.tasks.items search.old.best }
+    requires searching { IsSearching instance.now aims search.old.pieces.items search.old.tasks.items search.old.best }
     requires within { length search.old.pieces.items ≤ part }
-    requires part { part ≤ options.budget }
-    ensures searching { IsSearching instance.now search.new.pieces.items search.new.tasks.items search.new.best }
-    ensures within { length search.new.pieces.items ≤ options.budget }
-    ensures cause { IsWorkedOut options.budget search.new.pieces.items result }
+    requires part { part ≤ budget }
+    ensures searching { IsSearching instance.now aims search.new.pieces.items search.new.tasks.items search.new.best }
+    ensures within { length search.new.pieces.items ≤ budget }
+    ensures cause { IsWorkedOut budget search.new.pieces.items result }
     ensures no_later { limit_of instance.now search.new.best ≤ limit_of instance.now search.old.best }
 {
-    match search.go(alloc, instance, part, Order::Newest, gate) {
-        Why::Budget => search.go(alloc, instance, options.budget, Order::Rising, gate),
-        why => why,
+    match search.go(alloc, instance, part, Order::Newest, aims, gate) {
+        Why::Budget => search.go(alloc, instance, budget, Order::Rising, aims, gate),
+        Why::Memory => Why::Memory,
+        Why::CalledOff => Why::CalledOff,
+        Why::Gap => Why::Gap,
     }
 }
 
@@ -223,13 +226,15 @@ fn worked_out<G: Gate>(
     alloc: Global,
     instance: &Instance,
     options: Options,
+    aims: Aims,
     search: Search,
     part: u64,
     reserve: Reserve,
     manner: Manner,
     gate: &G,
 ) -> Result<Outcome, SolveFault>
-    requires searching { IsSearching instance.now search.pieces.items search.tasks.items search.best }
+    requires searching { IsSearching instance.now aims search.pieces.items search.tasks.items search.best }
+    requires aims { AreAims instance.now options.gap aims }
     requires within { length search.pieces.items ≤ part }
     requires part { part ≤ options.budget }
     ensures answer { IfOk result (IsOutcome instance.now options) }
@@ -239,29 +244,13 @@ fn worked_out<G: Gate>(
 {
     let _nodes = instance.nodes();
     let mut search = search;
-    let why = go_on(alloc, instance, options, &mut search, part, gate);
+    let budget = options.budget;
+    let why = go_on(alloc, instance, aims, budget, &mut search, part, gate);
     reserve.give_back();
-    let outcome = concluded(alloc, instance, options, search, why)?;
+    let outcome = concluded(alloc, instance, options, aims, search, why)?;
     match manner {
         Manner::Plain => Ok(outcome),
         Manner::Sparing => Ok(leaner(alloc, instance, outcome)),
-    }
-}
-
-/// What a tree shows whose bound is the delay that had to be beaten.
-fn settled(instance: &Instance, options: Options, best: Option<(Plan, u64)>, cert: Cert) -> Outcome
-    requires found { IsFound instance.now best }
-    requires proves { Proves instance.now cert }
-    requires version { cert.version ≡ answer_version instance.now }
-    requires low { cert.low ≡ limit_of instance.now best }
-    requires within { branches cert.tree ≤ options.budget }
-    ensures answer { IsOutcome instance.now options result }
-    ensures best { best_of result ≡ best }
-{
-    let _nodes = instance.nodes();
-    match best {
-        Some((plan, delay)) => Outcome::Optimal { plan, delay, cert },
-        None => Outcome::Infeasible { cert },
     }
 }
 
@@ -296,6 +285,7 @@ fn solve_from<R: Threads + Wait + Sync, G: Gate + Sync>(
     ensures start { IfOk result (λ outcome. IfSome start (λ plan. limit_of instance.now (best_of outcome) ≤ delay instance.now plan)) }
 {
     let _nodes = instance.nodes();
+    let aims = aims_of(alloc, instance, options.gap)?;
     let reserve = Reserve::begin(alloc, instance)?;
     let first = begun_with(rt, alloc, instance, options, manner, start)?;
     tell_first(instance, &first, gate);
@@ -304,11 +294,11 @@ fn solve_from<R: Threads + Wait + Sync, G: Gate + Sync>(
         budget: part,
         ..options
     };
-    let search = searched::<Brand, G, R>(rt, alloc, instance, theirs, manner, first, gate)?;
-    match lean_proof(alloc, instance, manner, &search) {
-        Some(cert) => Ok(settled(instance, options, search.best, cert)),
+    let search = searched::<Brand, G, R>(rt, alloc, instance, theirs, manner, aims, first, gate)?;
+    match lean_proof(alloc, instance, options, manner, aims, &search) {
+        Some(cert) => Ok(ended(instance, options, Why::Gap, search.best, cert)),
         None => worked_out(
-            alloc, instance, options, search, part, reserve, manner, gate,
+            alloc, instance, options, aims, search, part, reserve, manner, gate,
         ),
     }
 }

@@ -1,5 +1,5 @@
 -- A run at its beginning.
-use Rattle.std.proofs.Common.{◌≡◌, List, [], None, refl, sym, subst}
+use Rattle.std.proofs.Common.{◌≡◌, ℕ, List, [], None, refl, sym, subst}
 use Rattle.std.proofs.lemmas.List.Sorted.{IsPermutation-refl}
 use Rattle.std.proofs.lemmas.List.{append-nil}
 use Rattle.std.proofs.lemmas.List.Elements.{All-nil}
@@ -7,20 +7,21 @@ use Rattle.ttp_model.specs.Instance.{Instance}
 use Rattle.subtree_tasks.specs.declared.piece.Piece.{Piece}
 use Rattle.subtree_tasks.specs.Task.{IsTask}
 use Rattle.incumbent.specs.declared.word.Watch.{Watch}
-use Rattle.incumbent.specs.Watch.{offers, IsBelowView}
+use Rattle.incumbent.specs.Watch.{offers}
 use Rattle.steal_pool.specs.declared.hand.Hand.{Hand}
 use Rattle.steal_pool.specs.Hand.{pushed, taken}
 use Rattle.steal_pool.proofs.Orders.{then_same}
+use Rattle.pool_worker.specs.declared.goals.Aims.{Aims}
 use Rattle.pool_worker.specs.declared.report.Rest.TheVariants.{Nothing}
 use Rattle.pool_worker.specs.declared.run.Run.{Run}
 use Rattle.pool_worker.specs.Tasks.{IsTurn}
-use Rattle.pool_worker.specs.Goals.{AreGoals, goals_of, IsReached}
+use Rattle.pool_worker.specs.Goals.{AreGoals, goals_of, IsBelowGoals, IsReached}
 use Rattle.pool_worker.specs.Best.{IsFoundDelay}
 use Rattle.pool_worker.specs.Report.{HasAccount}
 use Rattle.pool_worker.specs.Run.{IsRun}
 
-goals_begin : (watch : Watch) → AreGoals watch watch []
-goals_begin watch = record { falls = tt; below = All-nil (IsBelowView watch); reached = All-nil (IsReached watch) }
+goals_begin : (i : Instance) (aims : Aims) (watch : Watch) → AreGoals i aims watch watch []
+goals_begin i aims watch = record { falls = tt; below = All-nil (IsBelowGoals i aims watch); reached = All-nil (IsReached i aims watch) }
 
 module _ {J : Type 0} (i : Instance) where
   account_begins : (hand : Hand J) → HasAccount i hand hand [] [] Nothing
@@ -37,12 +38,12 @@ module _ {J : Type 0} (i : Instance) where
     others_of = All-nil (IsTask i);
   }
 
-  pub begins : (run : Run J) → run.pieces.items ≡ [] → run.spared.items ≡ [] → run.best ≡ None → IsRun i run.hand run.watch run Nothing
-  begins run none all_needed no_best = record {
+  pub begins : (aims : Aims) (run : Run J) → run.pieces.items ≡ [] → run.spared.items ≡ [] → run.best ≡ None → IsRun i aims run.hand run.watch run Nothing
+  begins aims run none all_needed no_best = record {
     same = record { number = refl; own = refl; deques = refl; out = refl };
     follows = record { same = record { table = refl; place = refl; opening = refl; out = refl }; sees = λ x h. h; offered = λ x h. h };
     account = rw none (rw all_needed (account_begins run.hand));
-    goals = subst (λ (l : List Piece). AreGoals run.watch run.watch (goals_of l)) (sym none) (goals_begin run.watch);
+    goals = subst (λ (l : List Piece). AreGoals i aims run.watch run.watch (goals_of l)) (sym none) (goals_begin i aims run.watch);
     best = record {
       made = [];
       offered = sym (append-nil (offers run.watch));

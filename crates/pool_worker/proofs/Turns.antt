@@ -11,15 +11,16 @@ use Rattle.certificate.specs.declared.node.Node.TheVariants as node
 use Rattle.subtree_tasks.specs.declared.piece.Piece.{Piece}
 use Rattle.subtree_tasks.specs.Task.{Task, IsTask}
 use Rattle.incumbent.specs.declared.word.Watch.{Watch}
-use Rattle.incumbent.specs.Watch.{seen, offers, IsBelowView}
+use Rattle.incumbent.specs.Watch.{seen, offers}
 use Rattle.steal_pool.specs.declared.hand.Hand.{Hand}
 use Rattle.steal_pool.specs.Hand.{pushed, taken, IsSameHand}
 use Rattle.steal_pool.proofs.Orders.{then_same, first_same}
+use Rattle.pool_worker.specs.declared.goals.Aims.{Aims}
 use Rattle.pool_worker.specs.declared.report.Rest.{Rest}
 use Rattle.pool_worker.specs.declared.report.Rest.TheVariants.{Nothing}
 use Rattle.pool_worker.specs.declared.run.Run.{Run}
 use Rattle.pool_worker.specs.Tasks.{Turn, IsTurn, tasks_of, all_born, born}
-use Rattle.pool_worker.specs.Goals.{goals_at, goals_of, AreGoals, Follows, IsReached, NeverRise}
+use Rattle.pool_worker.specs.Goals.{goal_of, goals_at, goals_of, AreGoals, Follows, IsBelowGoals, IsReached, NeverRise}
 use Rattle.pool_worker.specs.Best.{IsFoundDelay, IsBestOf, OffersBest}
 use Rattle.pool_worker.specs.Report.{HasAccount, held, unpushed}
 use Rattle.pool_worker.specs.Run.{KeepsBest, FindsBest, Pushes}
@@ -96,17 +97,17 @@ falls_more [] goal h k = (All-nil (λ later. later ≤ goal), tt)
 falls_more (x ∷ xs) goal h k =
     (All-push (λ later. later ≤ x) xs goal h.0 (All-head (λ y. goal ≤ y) x xs k), falls_more xs goal h.1 (All-tail (λ y. goal ≤ y) x xs k))
 
-under : (w : Watch) (goal x : ℕ) → IsBelowView w goal → IsReached w x → goal ≤ x
-under w goal x h r = elim r.known [
-  | inl e ↦ let le = All-contains (λ y. goal ≤ y) (seen w) r.value h.0 e in omega (arith, le, r.at_most)
-  | inr e ↦ let le = All-contains (λ y. goal ≤ y) (offers w) r.value h.1 e in omega (arith, le, r.at_most)
+under : (i : Instance) (aims : Aims) (w : Watch) (goal x : ℕ) → IsBelowGoals i aims w goal → IsReached i aims w x → goal ≤ x
+under i aims w goal x h r = elim r.known [
+  | inl e ↦ let le = All-contains (λ y. goal ≤ goal_of i aims y) (seen w) r.value h.0 e in omega (arith, le, r.at_most)
+  | inr e ↦ let le = All-contains (λ y. goal ≤ goal_of i aims y) (offers w) r.value h.1 e in omega (arith, le, r.at_most)
 ]
 
 contains_below : (n : ℕ) (xs ys : List ℕ) → ((x : ℕ) → Contains xs x → Contains ys x) → All (λ y. n ≤ y) ys → All (λ y. n ≤ y) xs
 contains_below n xs ys more h = λ k d lt. All-contains (λ y. n ≤ y) ys (get_or xs k d) h (more (get_or xs k d) (All-contains_itself xs k d lt))
 
-module _ (begun old new : Watch) (before : Follows begun old) (after : Follows old new) where
-  pub reached_still : (x : ℕ) → IsReached old x → IsReached new x
+module _ (i : Instance) (aims : Aims) (begun old new : Watch) (before : Follows begun old) (after : Follows old new) where
+  pub reached_still : (x : ℕ) → IsReached i aims old x → IsReached i aims new x
   reached_still x r = record {
     value = r.value;
     known =
@@ -114,32 +115,35 @@ module _ (begun old new : Watch) (before : Follows begun old) (after : Follows o
     at_most = r.at_most;
   }
 
-  below_begun : (x : ℕ) → IsBelowView old x → IsBelowView begun x
-  below_begun x h = (contains_below x (seen begun) (seen old) before.sees h.0, contains_below x (offers begun) (offers old) before.offered h.1)
+  goals_of_more : (x : ℕ) (xs ys : List ℕ) → ((y : ℕ) → Contains xs y → Contains ys y) → All (λ y. x ≤ goal_of i aims y) ys → All (λ y. x ≤ goal_of i aims y) xs
+  goals_of_more x xs ys more h = λ k d lt. All-contains (λ y. x ≤ goal_of i aims y) ys (get_or xs k d) h (more (get_or xs k d) (All-contains_itself xs k d lt))
+
+  below_begun : (x : ℕ) → IsBelowGoals i aims old x → IsBelowGoals i aims begun x
+  below_begun x h = (goals_of_more x (seen begun) (seen old) before.sees h.0, goals_of_more x (offers begun) (offers old) before.offered h.1)
 
   -- the goals of one more node
-  goals_grow : (goals : List ℕ) (made : Node) → AreGoals begun old goals → All (IsBelowView old) (goals_at made)
-      → All (IsReached new) (goals_at made) → AreGoals begun new (goals ++ goals_at made)
+  goals_grow : (goals : List ℕ) (made : Node) → AreGoals i aims begun old goals → All (IsBelowGoals i aims old) (goals_at made)
+      → All (IsReached i aims new) (goals_at made) → AreGoals i aims begun new (goals ++ goals_at made)
   goals_grow goals (node.Branch b) h below reached =
-      subst (AreGoals begun new) (sym (append-nil goals))
-      (record { falls = h.falls; below = h.below; reached = All-weaker (IsReached old) (IsReached new) reached_still goals h.reached })
+      subst (AreGoals i aims begun new) (sym (append-nil goals))
+      (record { falls = h.falls; below = h.below; reached = All-weaker (IsReached i aims old) (IsReached i aims new) reached_still goals h.reached })
   goals_grow goals (node.Leaf leaf) h below reached =
-      let low = All-head (IsBelowView old) leaf.goal [] below in
+      let low = All-head (IsBelowGoals i aims old) leaf.goal [] below in
       record {
-        falls = falls_more goals leaf.goal h.falls (All-weaker (IsReached old) (λ x. leaf.goal ≤ x) (λ x r. under old leaf.goal x low r) goals h.reached);
-        below = All-push (IsBelowView begun) goals leaf.goal h.below (below_begun leaf.goal low);
-        reached = All-append (IsReached new) goals (leaf.goal ∷ []) (All-weaker (IsReached old) (IsReached new) reached_still goals h.reached) reached;
+        falls = falls_more goals leaf.goal h.falls (All-weaker (IsReached i aims old) (λ x. leaf.goal ≤ x) (λ x r. under i aims old leaf.goal x low r) goals h.reached);
+        below = All-push (IsBelowGoals i aims begun) goals leaf.goal h.below (below_begun leaf.goal low);
+        reached = All-append (IsReached i aims new) goals (leaf.goal ∷ []) (All-weaker (IsReached i aims old) (IsReached i aims new) reached_still goals h.reached) reached;
       }
 
-  pub goals_still : (goals : List ℕ) → AreGoals begun old goals → AreGoals begun new goals
-  goals_still goals h = record { falls = h.falls; below = h.below; reached = All-weaker (IsReached old) (IsReached new) reached_still goals h.reached }
+  pub goals_still : (goals : List ℕ) → AreGoals i aims begun old goals → AreGoals i aims begun new goals
+  goals_still goals h = record { falls = h.falls; below = h.below; reached = All-weaker (IsReached i aims old) (IsReached i aims new) reached_still goals h.reached }
 
-  pub goals_more : (pieces all : List Piece) (piece : Piece) → all ≡ pieces ++ piece ∷ [] → AreGoals begun old (goals_of pieces)
-      → All (IsBelowView old) (goals_at piece.node) → All (IsReached new) (goals_at piece.node) → AreGoals begun new (goals_of all)
+  pub goals_more : (pieces all : List Piece) (piece : Piece) → all ≡ pieces ++ piece ∷ [] → AreGoals i aims begun old (goals_of pieces)
+      → All (IsBelowGoals i aims old) (goals_at piece.node) → All (IsReached i aims new) (goals_at piece.node) → AreGoals i aims begun new (goals_of all)
   goals_more pieces all piece e h below reached =
       let grown = ap goals_of e ∙ (flat_map-append (λ (p : Piece). goals_at p.node) pieces (piece ∷ [])
       ∙ ap (λ (l : List ℕ). goals_of pieces ++ l) (append-nil (goals_at piece.node))) in
-      subst (AreGoals begun new) (sym grown) (goals_grow (goals_of pieces) piece.node h below reached)
+      subst (AreGoals i aims begun new) (sym grown) (goals_grow (goals_of pieces) piece.node h below reached)
 
 -- ---- the best plan
 

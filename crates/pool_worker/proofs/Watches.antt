@@ -2,7 +2,7 @@
 use Rattle.std.proofs.Common.{◌≡◌, ℕ, ◌≤◌, List, [], ◌∷◌, ◌++◌, All, Contains, refl, sym, ◌∙◌, subst, arith}
 use Rattle.std.proofs.lemmas.List.Elements.{Contains-append_left, Contains-append_right, All-nil, All-cons}
 use Rattle.incumbent.specs.declared.word.Watch.{Watch}
-use Rattle.incumbent.specs.Watch.{seen, offers, IsBelowView, IsSameWatch}
+use Rattle.incumbent.specs.Watch.{seen, offers, IsSameWatch}
 use Rattle.pool_worker.specs.Goals.{Follows}
 
 there : (n : ℕ) → Contains (n ∷ []) n
@@ -28,9 +28,6 @@ offered old new n v same e f = record { same = same; sees = more (seen old) (see
 
 pub lower : (n m : ℕ) (xs : List ℕ) → m ≤ n → All (λ x. n ≤ x) xs → All (λ x. m ≤ x) xs
 lower n m xs le h k d small = let p = h k d small in omega arith
-
-pub still_below : (w : Watch) (n m : ℕ) → m ≤ n → IsBelowView w n → IsBelowView w m
-still_below w n m le h = (lower n m (seen w) le h.0, lower n m (offers w) le h.1)
 
 pub one : (P : ℕ → Type 0) (x : ℕ) → P x → All P (x ∷ [])
 one P x p = All-cons P x [] p (All-nil P)

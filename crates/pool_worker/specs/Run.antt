@@ -4,25 +4,26 @@ use Rattle.ttp_model.specs.declared.plan.Plan.{Plan}
 use Rattle.ttp_model.specs.Instance.{Instance}
 use Rattle.subtree_tasks.specs.Task.{Task, IsTask}
 use Rattle.incumbent.specs.declared.word.Watch.{Watch}
-use Rattle.incumbent.specs.Watch.{offers, IsBelowView}
+use Rattle.incumbent.specs.Watch.{offers}
 use Rattle.steal_pool.specs.declared.hand.Hand.{Hand}
 use Rattle.steal_pool.specs.Hand.{pushed, taken, IsSameHand}
+use Rattle.pool_worker.specs.declared.goals.Aims.{Aims}
 use Rattle.pool_worker.specs.declared.report.Rest.{Rest}
 use Rattle.pool_worker.specs.declared.report.Rest.TheVariants as hold
 use Rattle.pool_worker.specs.declared.run.Run.{Run}
 use Rattle.pool_worker.specs.declared.run.Sweep.{Sweep}
 use Rattle.pool_worker.specs.declared.run.Sweep.TheVariants.{Idle, Worked, Spared, Ended}
 use Rattle.pool_worker.specs.Tasks.{Turn, IsTurn, born}
-use Rattle.pool_worker.specs.Goals.{goals_at, goals_of, AreGoals, Follows, IsReached}
+use Rattle.pool_worker.specs.Goals.{goals_at, goals_of, AreGoals, Follows, IsBelowGoals, IsReached}
 use Rattle.pool_worker.specs.Best.{IsPlanFound, OffersBest}
 use Rattle.pool_worker.specs.Report.{HasAccount, held, unpushed}
 
--- a run that began with this hand and this watch, and has this in hand
-pub record IsRun {J : Type 0} (i : Instance) (hand : Hand J) (watch : Watch) (run : Run J) (rest : Rest) : Type 0 where
+-- a run with these aims that began with this hand and this watch, and has this in hand
+pub record IsRun {J : Type 0} (i : Instance) (aims : Aims) (hand : Hand J) (watch : Watch) (run : Run J) (rest : Rest) : Type 0 where
   pub same : IsSameHand hand run.hand
   pub follows : Follows watch run.watch
   pub account : HasAccount i hand run.hand run.pieces.items run.spared.items rest
-  pub goals : AreGoals watch run.watch (goals_of run.pieces.items)
+  pub goals : AreGoals i aims watch run.watch (goals_of run.pieces.items)
   pub best : OffersBest i watch run.watch run.best
 
 -- no plan was found
@@ -46,7 +47,7 @@ pub record Pushes (before after tasks left : List Task) : Type 0 where
   pub all : IsPermutation tasks (gave ++ left)
 
 -- a turn worked a task, which became this piece; these children are still to be pushed
-pub record Works {J : Type 0} (i : Instance) (old new : Run J) (turn : Turn) (rest : List Task) : Type 0 where
+pub record Works {J : Type 0} (i : Instance) (aims : Aims) (old new : Run J) (turn : Turn) (rest : List Task) : Type 0 where
   pub same : IsSameHand old.hand new.hand
   pub takes : taken new.hand ≡ taken old.hand
   pub pushes : Pushes (pushed old.hand) (pushed new.hand) (born i turn) rest
@@ -55,8 +56,8 @@ pub record Works {J : Type 0} (i : Instance) (old new : Run J) (turn : Turn) (re
   pub right : IsTurn i turn
   pub left : All (IsTask i) rest
   pub follows : Follows old.watch new.watch
-  pub below : All (IsBelowView old.watch) (goals_at turn.piece.node)
-  pub reached : All (IsReached new.watch) (goals_at turn.piece.node)
+  pub below : All (IsBelowGoals i aims old.watch) (goals_at turn.piece.node)
+  pub reached : All (IsReached i aims new.watch) (goals_at turn.piece.node)
   pub best : KeepsBest old new ⊎ FindsBest i old new
 
 -- a turn worked nothing
@@ -87,5 +88,5 @@ pub record Spares {J : Type 0} (task : Task) (old new : Run J) (sweep : Sweep) :
   pub unworked : sweep ≢ Worked
 
 -- however the run began, it goes on
-abbrev pub GoesOn : {J : Type 0} → Instance → Run J → Run J → Rest → Type 0
-GoesOn {J} i old new rest = (hand : Hand J) (watch : Watch) → IsRun i hand watch old hold.Nothing → IsRun i hand watch new rest
+abbrev pub GoesOn : {J : Type 0} → Instance → Aims → Run J → Run J → Rest → Type 0
+GoesOn {J} i aims old new rest = (hand : Hand J) (watch : Watch) → IsRun i aims hand watch old hold.Nothing → IsRun i aims hand watch new rest

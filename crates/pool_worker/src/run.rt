@@ -10,6 +10,7 @@ ghost use Rattle.used_decisions.specs.declared.manner.Manner.TheVariants.{Plain}
 ghost use Rattle.pool_worker.specs.Run.{GoesOn, Pushes, Refuses, Spares, Works, rest_after};
 
 use crate::gate::Gate;
+use crate::goals::{Aims, goal_of};
 use crate::report::Rest;
 use branch_tree::{Name, Piece, Task, Workbench, Worked, work_on};
 use certificate::{Branch, Node};
@@ -145,7 +146,7 @@ fn begin<'a>(alloc: Global, instance: &'a Instance, needs: &mut Needs<'a>, task:
 }
 
 impl<J: Searched> Run<J> {
-    /// Works a task at the best delay so far, on from the last one, and pushes its children, or offers the delay of the plan
+    /// Works a task at the goal of the best delay so far, on from the last one, and pushes its children, or offers the delay of the plan
     /// that was found and tells the gate of it: what became of the task, and the children that couldn't be pushed. All memory is asked for before the
     /// task is worked, that for the end too; where it is refused, the task comes back.
     fn make<'a, G: Gate>(
@@ -155,6 +156,7 @@ impl<J: Searched> Run<J> {
         bench: &mut Workbench<'a>,
         needs: &mut Needs<'a>,
         word: &Incumbent,
+        aims: Aims,
         gate: &G,
         task: Task,
     ) -> Result<(Piece, Vec<Task>), Task>
@@ -162,13 +164,14 @@ impl<J: Searched> Run<J> {
         requires task { IsTask instance.now task }
         requires watch { IsOther word.now self.old.watch }
         requires bench { IsWorkbenchOf instance.now bench.old }
-        ensures made { IfOk result (λ made. Works instance.now self.old self.new (record { task = task; piece = made.0 }) made.1.items) }
+        ensures made { IfOk result (λ made. Works instance.now aims self.old self.new (record { task = task; piece = made.0 }) made.1.items) }
         ensures room { OnOk result (vec_len self.new.pieces < vec_capacity self.new.pieces) }
         ensures back { IfErr result (λ back. (back ≡ task) × Refuses self.old self.new) }
         ensures bench { IsWorkbenchOf instance.now bench.new }
     {
         let _nodes = instance.nodes();
-        let goal = word.look(&mut self.watch);
+        let seen = word.look(&mut self.watch);
+        let goal = goal_of(instance, aims, seen);
         let left = self.spared.len();
         if make_room(&mut self.pieces, &mut self.room, left, self.workers).is_err() {
             return Err(task);
@@ -223,12 +226,13 @@ impl<J: Searched> Run<J> {
         needs: &mut Needs<'a>,
         word: &Incumbent,
         manner: Manner,
+        aims: Aims,
         gate: &G,
     ) -> Sweep
         requires of { instance.now ≡ J.instance }
         requires watch { IsOther word.now self.old.watch }
         requires bench { IsWorkbenchOf instance.now bench.old }
-        ensures goes_on { GoesOn instance.now self.old self.new (rest_after result) }
+        ensures goes_on { GoesOn instance.now aims self.old self.new (rest_after result) }
         ensures watch { IsOther word.now self.new.watch }
         ensures idle { result ≡ sweep.Idle → vec_len self.new.pieces ≡ vec_len self.old.pieces }
         ensures spared { result ≡ sweep.Spared → vec_len self.new.pieces ≡ vec_len self.old.pieces }
@@ -245,7 +249,7 @@ impl<J: Searched> Run<J> {
         }
         let worker = self.hand.number();
         gate.enter(worker, task.name());
-        match self.make(alloc, instance, bench, needs, word, gate, task) {
+        match self.make(alloc, instance, bench, needs, word, aims, gate, task) {
             Ok((piece, left)) => {
                 gate.leave(worker, &piece.name);
                 self.pieces.push_reserved(piece);

@@ -13,6 +13,7 @@ ghost use Rattle.used_decisions.specs.Manners.{usual_manner};
 ghost use Rattle.used_decisions.specs.declared.manner.Manner.TheVariants.{Plain};
 
 use crate::gate::Gate;
+use crate::goals::Aims;
 use crate::report::{Ending, Report, Rest};
 use crate::run::{Run, Sweep};
 use branch_tree::Workbench;
@@ -77,13 +78,14 @@ impl<J: Searched> Run<J> {
         word: &Incumbent,
         budget: u64,
         manner: Manner,
+        aims: Aims,
         gate: &G,
     ) -> (Rest, Ending)
         requires of { instance.now ≡ J.instance }
         requires watch { IsOther word.now self.old.watch }
         requires bench { IsWorkbenchOf instance.now bench.old }
         requires within { vec_len self.old.pieces ≤ budget }
-        ensures goes_on { GoesOn instance.now self.old self.new result.0 }
+        ensures goes_on { GoesOn instance.now aims self.old self.new result.0 }
         ensures plain { manner ≡ Plain → self.new.spared.items ≡ self.old.spared.items }
         ensures within { vec_len self.new.pieces ≤ budget }
         ensures ending { result.1 ≡ ending.Budget → vec_len self.new.pieces ≡ budget }
@@ -94,7 +96,7 @@ impl<J: Searched> Run<J> {
             if !gate.goes_on(self.hand.number()) {
                 return (Rest::Nothing, Ending::CalledOff);
             }
-            match self.turn(alloc, instance, bench, needs, word, manner, gate) {
+            match self.turn(alloc, instance, bench, needs, word, manner, aims, gate) {
                 Sweep::Idle => {
                     idle += 1;
                     wait(&backoff);
@@ -120,7 +122,8 @@ impl<J: Searched> Run<J> {
     }
 }
 
-/// Takes tasks of a pool and works them as `run_worker` does, in this manner.
+/// Takes tasks of a pool and works them as `run_worker` does, in this manner and with these aims: each at the goal of the best delay that is known by
+/// then.
 pub fn run_worker_in<J: Searched, G: Gate>(
     alloc: Global,
     instance: &Instance,
@@ -130,6 +133,7 @@ pub fn run_worker_in<J: Searched, G: Gate>(
     budget: u64,
     workers: usize,
     manner: Manner,
+    aims: Aims,
     gate: &G,
 ) -> Report<J>
     requires of { instance.now ≡ J.instance }
@@ -138,7 +142,7 @@ pub fn run_worker_in<J: Searched, G: Gate>(
     ensures watch { IsSameWatch watch result.watch }
     ensures account { HasAccount instance.now hand result.hand result.pieces.items result.spared.items result.rest }
     ensures plain { manner ≡ Plain → result.spared.items ≡ [] }
-    ensures goals { AreGoals watch result.watch (goals_of result.pieces.items) }
+    ensures goals { AreGoals instance.now aims watch result.watch (goals_of result.pieces.items) }
     ensures best { OffersBest instance.now watch result.watch result.best }
     ensures worked { result.worked ≡ vec_len result.pieces }
     ensures within { result.worked ≤ budget }
@@ -157,7 +161,7 @@ pub fn run_worker_in<J: Searched, G: Gate>(
     let mut bench = Workbench::new();
     let mut needs = Needs::new();
     let (rest, ending) = run.turns(
-        alloc, instance, &mut bench, &mut needs, word, budget, manner, gate,
+        alloc, instance, &mut bench, &mut needs, word, budget, manner, aims, gate,
     );
     let worked = run.pieces.len() as u64;
     run.report(rest, worked, ending)
@@ -184,14 +188,15 @@ pub fn run_worker<J: Searched, G: Gate>(
     ensures watch { IsSameWatch watch result.watch }
     ensures account { HasAccount instance.now hand result.hand result.pieces.items result.spared.items result.rest }
     ensures plain { usual_manner instance.now ≡ Plain → result.spared.items ≡ [] }
-    ensures goals { AreGoals watch result.watch (goals_of result.pieces.items) }
+    ensures goals { AreGoals instance.now (record { gap = 0; floor = 0 }) watch result.watch (goals_of result.pieces.items) }
     ensures best { OffersBest instance.now watch result.watch result.best }
     ensures worked { result.worked ≡ vec_len result.pieces }
     ensures within { result.worked ≤ budget }
     ensures ending { result.ending ≡ ending.Budget → result.worked ≡ budget }
 {
     let manner = usual_manner(alloc, instance).unwrap_or(Manner::Plain);
+    let aims = Aims::all();
     run_worker_in(
-        alloc, instance, hand, word, watch, budget, workers, manner, gate,
+        alloc, instance, hand, word, watch, budget, workers, manner, aims, gate,
     )
 }

@@ -195,7 +195,11 @@ impl Command {
                     rt,
                     alloc,
                     instance,
-                    Options { workers, budget },
+                    Options {
+                        workers,
+                        budget,
+                        gap: 0,
+                    },
                     certificate,
                     out,
                 )
@@ -206,7 +210,11 @@ impl Command {
                     rt,
                     alloc,
                     instance,
-                    Options { workers, budget },
+                    Options {
+                        workers,
+                        budget,
+                        gap: 0,
+                    },
                     certificate,
                     out,
                 )
@@ -218,7 +226,11 @@ impl Command {
                     alloc,
                     instance,
                     second,
-                    Options { workers, budget },
+                    Options {
+                        workers,
+                        budget,
+                        gap: 0,
+                    },
                     None,
                     &FreeGate,
                     certificate,

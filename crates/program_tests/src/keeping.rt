@@ -94,6 +94,7 @@ fn is_kept(
     let options = Options {
         workers: 1,
         budget: *budget,
+        gap: 0,
     };
     let keeper = Keeper::beside(&FreeGate, rt, alloc, Board::new(*failing));
     let mut out = Vec::new(alloc);

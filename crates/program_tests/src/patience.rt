@@ -56,6 +56,7 @@ fn is_told(
     let options = Options {
         workers: 1,
         budget: 1000,
+        gap: 0,
     };
     let clock = Steps {
         time: AtomicU64::new(0),

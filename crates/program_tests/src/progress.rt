@@ -82,6 +82,7 @@ fn counts(
     let options = Options {
         workers,
         budget: 1000,
+        gap: 0,
     };
     let screen = Screen::new(alloc, step, front);
     let follower = Progress::on(alloc, &screen, workers)?;

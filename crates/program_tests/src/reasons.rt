@@ -88,7 +88,11 @@ fn written_of(
         rt,
         alloc,
         &mut instance.as_bytes(),
-        Options { workers: 1, budget },
+        Options {
+            workers: 1,
+            budget,
+            gap: 0,
+        },
         Wanted {
             certificate: true,
             reduced: true,
@@ -198,6 +202,7 @@ fn is_right(
         Options {
             workers: 1,
             budget: 1_000,
+            gap: 0,
         },
         Wanted {
             certificate: true,
@@ -276,6 +281,7 @@ fn tells(rt: &(impl Alloc<A = Global> + Threads + Wait + Sync)) -> Result<bool, 
         Options {
             workers: 1,
             budget: 1_000,
+            gap: 0,
         },
         Wanted {
             certificate: true,

@@ -197,6 +197,7 @@ fn search_finds<R: Threads + Wait + Sync>(
     let options = Options {
         workers,
         budget: 1_000,
+        gap: 0,
     };
     let texts = (instance.as_str(), search.start);
     let end = end_of(rt, alloc, texts, options, &mut certificate, &mut out);

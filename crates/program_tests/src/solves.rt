@@ -11,6 +11,7 @@ use std::thread::Threads;
 const AMPLE: Options = Options {
     workers: 4,
     budget: 1_000_000,
+    gap: 0,
 };
 
 /// The cluster up to its horizon.
@@ -232,7 +233,15 @@ fn standing_at(
     budget: u64,
 ) -> Result<Standing, AllocError> {
     let instance = [TWO_WITH_LARGER_A, ONE_TO_TWO, TWO_MESSAGES, CLUSTER];
-    let answer = solved(rt, &instance, Options { workers: 1, budget })?;
+    let answer = solved(
+        rt,
+        &instance,
+        Options {
+            workers: 1,
+            budget,
+            gap: 0,
+        },
+    )?;
     if answer.is_shortest(rt, 1, 8, "order B A\ncap A 4\n")? {
         return Ok(Standing::Known);
     }
@@ -281,7 +290,15 @@ fn is_stopped(
     (instance, budget, lines, least): &Stopped,
 ) -> Result<bool, AllocError> {
     let (workers, budget) = (1, *budget);
-    let answer = solved(rt, instance, Options { workers, budget })?;
+    let answer = solved(
+        rt,
+        instance,
+        Options {
+            workers,
+            budget,
+            gap: 0,
+        },
+    )?;
     let mut is_told = false;
     for line in *lines {
         is_told = is_told || answer.told.is(line, 11);

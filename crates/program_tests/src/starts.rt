@@ -40,6 +40,7 @@ fn is_told(
     let options = Options {
         workers: 1,
         budget: *budget,
+        gap: 0,
     };
     let mut out = Vec::new(alloc);
     let end = solve_run_from(

@@ -69,6 +69,7 @@ fn is_found(
     let options = Options {
         workers,
         budget: 1_000_000,
+        gap: 0,
     };
     let answer = solved(rt, instance, options)?;
     Ok(

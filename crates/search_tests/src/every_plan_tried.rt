@@ -285,7 +285,17 @@ fn compared<R: Threads + Wait + Sync>(
     for workers in row.workers {
         let (workers, budget) = (*workers, BUDGET);
         for manner in MANNERS {
-            let answer = solved(rt, alloc, &instance, Options { workers, budget }, *manner)??;
+            let answer = solved(
+                rt,
+                alloc,
+                &instance,
+                Options {
+                    workers,
+                    budget,
+                    gap: 0,
+                },
+                *manner,
+            )??;
             is_same = is_same && answer.is_least(least) && answer.low == low;
             is_on_both = is_on_both || workers == 1 && answer.channels == 2;
         }

@@ -22,7 +22,17 @@ fn find_least<R: Abort + Threads + Wait + Sync>(
 ) -> Result<(), Fail> {
     let budget = 1_000;
     for (sample, least) in LEAST_DELAYS {
-        let answer = solved_sample(rt, alloc, sample, Options { workers, budget }, manner)?;
+        let answer = solved_sample(
+            rt,
+            alloc,
+            sample,
+            Options {
+                workers,
+                budget,
+                gap: 0,
+            },
+            manner,
+        )?;
         assert!(rt;
             answer.is_least(*least),
             "{} by {workers}, {manner:?}",
@@ -59,7 +69,11 @@ fn leave_path_bound<R: Threads + Wait + Sync>(
     alloc: Global,
     workers: u32,
 ) -> Result<bool, Fail> {
-    let options = Options { workers, budget: 0 };
+    let options = Options {
+        workers,
+        budget: 0,
+        gap: 0,
+    };
     let answer = solved_sample(rt, alloc, &ONE_MESSAGE, options, Manner::Plain)?;
     Ok(answer.stopped == Some(Why::Budget) && matches!(answer.low, 8 | 9) && answer.delay.is_none())
 }
@@ -72,7 +86,11 @@ fn each_budget_gives_bounds(rt: HostRuntime) -> Result<(), Fail> {
     }
     let workers = 3;
     for budget in 0..60 {
-        let options = Options { workers, budget };
+        let options = Options {
+            workers,
+            budget,
+            gap: 0,
+        };
         let answer = solved_sample(&rt, rt.alloc(), &TWO_RECEIVERS, options, Manner::Sparing)?;
         assert!(rt; answer.is_right(8, Why::Budget), "budget {budget}");
     }
@@ -104,7 +122,17 @@ fn meet<R: Threads + Wait + Sync>(
 ) -> Result<bool, Fail> {
     let budget = 100_000;
     let gate = Assembly::new(alloc, workers as usize)?;
-    let answer = held(rt, alloc, sample, Options { workers, budget }, &gate)?;
+    let answer = held(
+        rt,
+        alloc,
+        sample,
+        Options {
+            workers,
+            budget,
+            gap: 0,
+        },
+        &gate,
+    )?;
     Ok(gate.is_met() && answer.is_least(Some(5)))
 }
 
@@ -133,7 +161,17 @@ fn work_shares<R: Threads + Wait + Sync>(
     let workers = u32::try_from(shares.len())?;
     let budget = 10_000;
     let gate = Assembly::new(alloc, shares.len())?;
-    let answer = held(rt, alloc, &SIX_FRAMES, Options { workers, budget }, &gate)?;
+    let answer = held(
+        rt,
+        alloc,
+        &SIX_FRAMES,
+        Options {
+            workers,
+            budget,
+            gap: 0,
+        },
+        &gate,
+    )?;
     let is_stopped = answer.stopped == Some(Why::Budget) && budget < answer.nodes;
     Ok(is_stopped && gate.is_met() && gate.shares(alloc)?.as_slice() == shares)
 }
@@ -154,7 +192,17 @@ fn is_of_all_worked<R: Threads + Wait + Sync>(
 ) -> Result<bool, Fail> {
     let (workers, budget) = (1, 1_000);
     let gate = Assembly::new(alloc, 1)?;
-    let answer = held(rt, alloc, sample, Options { workers, budget }, &gate)?;
+    let answer = held(
+        rt,
+        alloc,
+        sample,
+        Options {
+            workers,
+            budget,
+            gap: 0,
+        },
+        &gate,
+    )?;
     Ok(answer.stopped.is_none() && gate.shares(alloc)?.as_slice() == [answer.nodes].as_slice())
 }
 

@@ -165,7 +165,7 @@ pub fn lone_report<J: Searched>(
     let report = match manner {
         Manner::Plain => run_worker(alloc, instance, hand, &word, second, budget, 1, &books),
         Manner::Sparing => run_worker_in(
-            alloc, instance, hand, &word, second, budget, 1, manner, &books,
+            alloc, instance, hand, &word, second, budget, 1, manner, 0, &books,
         ),
     };
     if !books.are_right() || !tells_of_work(books.left(), &report) {

@@ -74,7 +74,17 @@ fn told_by_workers<R: Threads + Wait + Sync>(
 ) -> Result<Told, Fail> {
     let budget = 1_000;
     Ok(
-        match solved(rt, alloc, instance, Options { workers, budget }, manner)? {
+        match solved(
+            rt,
+            alloc,
+            instance,
+            Options {
+                workers,
+                budget,
+                gap: 0,
+            },
+            manner,
+        )? {
             Ok(answer) if answer.is_least(Some(least)) => Told::Least,
             Ok(answer) if answer.is_right(least, Why::Memory) => Told::Refused,
             Ok(_) => Told::Wrong,

@@ -17,7 +17,11 @@ fn budget_for_eight<R: Threads + Wait + Sync>(
     manner: Manner,
 ) -> Result<Option<u64>, Fail> {
     for budget in 0..1_000 {
-        let options = Options { workers, budget };
+        let options = Options {
+            workers,
+            budget,
+            gap: 0,
+        };
         let answer = solved_sample(rt, alloc, &TWO_RECEIVERS, options, manner)?;
         if !answer.is_right(8, Why::Budget) {
             return Ok(None);

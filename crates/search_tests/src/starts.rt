@@ -54,6 +54,7 @@ fn is_answered<R: Threads + Wait + Sync>(
     let options = Options {
         workers,
         budget: *budget,
+        gap: 0,
     };
     let answer = answer_from(rt, alloc, &instance, plan, options)?;
     let is_best = answer.delay == Some(*delay) && answer.stopped.is_some() == *is_stopped;
@@ -84,6 +85,7 @@ fn is_answered_alone<R: Threads + Wait + Sync>(
     let options = Options {
         workers: 1,
         budget: 1_000,
+        gap: 0,
     };
     let outcome = solve_towards(rt, alloc, &instance, options, None, &FreeGate)?;
     Ok(read(alloc, &instance, &outcome)?.is_least(least))

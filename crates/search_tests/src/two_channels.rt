@@ -39,7 +39,17 @@ fn is_found<R: Threads + Wait + Sync>(
     manner: Manner,
 ) -> Result<bool, Fail> {
     let budget = 1_000;
-    let answer = solved_sample(rt, alloc, sample, Options { workers, budget }, manner)?;
+    let answer = solved_sample(
+        rt,
+        alloc,
+        sample,
+        Options {
+            workers,
+            budget,
+            gap: 0,
+        },
+        manner,
+    )?;
     Ok(answer.is_least(Some(*least)) && answer.channels == *channels)
 }
 

@@ -14,8 +14,10 @@ use Rattle.certificate.specs.declared.node.Node.TheVariants as node
 use Rattle.subtree_tasks.specs.declared.piece.Piece.{Piece}
 use Rattle.subtree_tasks.specs.Task.{Task, IsTask, root_task}
 use Rattle.pool_worker.specs.Best.{IsPlanFound}
+use Rattle.pool_worker.specs.declared.goals.Aims.{Aims}
 use Rattle.pool_worker.specs.Tasks.{Turn, IsTurn, tasks_of, born, all_born}
-use Rattle.search_turns.specs.Searching.{limit_of, IsFound, IsSearching}
+use Rattle.search_turns.specs.Searching.{aim_of, limit_of, IsFound, IsSearching}
+use Rattle.pool_worker.proofs.Goals.{goal_below, goal_rises}
 use Rattle.tree_gathering.specs.Gathering.{HasGoal}
 
 -- ---- lists
@@ -49,11 +51,11 @@ pub weaker_goal : (limit lower : ℕ) → lower ≤ limit → (n : Node) → Has
 weaker_goal limit lower le (node.Branch branch) h = tt
 weaker_goal limit lower le (node.Leaf leaf) h = omega (arith, h, le)
 
-pub works : (i : Instance) (made : List Piece) (front : List Task) (turn : Turn) (old new : Option (Plan × ℕ)) (kids : List Task)
-    → IsSearching i made (front ++ turn.task ∷ []) old → IsTurn i turn → kids ≡ born i turn → All (IsTask i) kids
-    → limit_of i new ≤ limit_of i old → HasGoal (limit_of i new) turn.piece.node → IsFound i new
-    → IsSearching i (made ++ turn.piece ∷ []) (front ++ kids) new
-works i made front turn old new kids s is same each lower goal found =
+pub works : (i : Instance) (aims : Aims) (made : List Piece) (front : List Task) (turn : Turn) (old new : Option (Plan × ℕ)) (kids : List Task)
+    → IsSearching i aims made (front ++ turn.task ∷ []) old → IsTurn i turn → kids ≡ born i turn → All (IsTask i) kids
+    → limit_of i new ≤ limit_of i old → HasGoal (aim_of i aims new) turn.piece.node → IsFound i new
+    → IsSearching i aims (made ++ turn.piece ∷ []) (front ++ kids) new
+works i aims made front turn old new kids s is same each lower goal found =
     let grown = flat_map-append (born i) s.turns (turn ∷ []) ∙ ap (λ (l : List Task). all_born i s.turns ++ l) (append-nil (born i turn) ∙ sym same) in
     let tasks = map-append (λ (x : Turn). x.task) s.turns (turn ∷ []) in
     let account = IsPermutation-trans _ _ _ (moves_over (tasks_of s.turns) front kids turn.task) (IsPermutation-append_left kids (tasks_of s.turns ++ (front ++ turn.task ∷ [])) (root_task ∷ all_born i s.turns) s.account) in
@@ -63,17 +65,22 @@ works i made front turn old new kids s is same each lower goal found =
       pieces = map-append (λ (x : Turn). x.piece) s.turns (turn ∷ []) ∙ ap (λ (l : List Piece). l ++ turn.piece ∷ []) s.pieces;
       account = first_is _ _ _ (ap (λ (l : List Task). l ++ (front ++ kids)) tasks) (then_is _ _ _ account (ap (λ (l : List Task). root_task ∷ l) (sym grown)));
       open_tasks = All-append (IsTask i) front kids (front_of (IsTask i) front turn.task s.open_tasks) each;
-      goals = All-push (λ (q : Piece). HasGoal (limit_of i new) q.node) made turn.piece
-          (All-weaker (λ (q : Piece). HasGoal (limit_of i old) q.node) (λ (q : Piece). HasGoal (limit_of i new) q.node) (λ q. weaker_goal (limit_of i old) (limit_of i new) lower q.node) made s.goals) goal;
+      goals = All-push (λ (q : Piece). HasGoal (aim_of i aims new) q.node) made turn.piece
+          (All-weaker (λ (q : Piece). HasGoal (aim_of i aims old) q.node) (λ (q : Piece). HasGoal (aim_of i aims new) q.node)
+          (λ q. weaker_goal (aim_of i aims old) (aim_of i aims new) (goal_rises i aims (limit_of i new) (limit_of i old) lower) q.node) made s.goals) goal;
       found = found;
     }
+
+-- a search works at most at the delay that it has to beat
+pub aim_below : (i : Instance) (aims : Aims) (best : Option (Plan × ℕ)) → aim_of i aims best ≤ limit_of i best
+aim_below i aims best = goal_below i aims (limit_of i best)
 
 pub found_small : (i : Instance) (plan : Plan) (ticks : ℕ) → IsInstance i → IsPlanFound i plan ticks → ticks ≤ i.cluster.horizon
 found_small i plan ticks w is = omega (arith, is.delay_is, delay_small i plan w is.settled.valid)
 
 -- the open tasks may stand in any order
-pub in_any_order : (i : Instance) (made : List Piece) (tasks others : List Task) (best : Option (Plan × ℕ)) → IsPermutation tasks others → IsSearching i made tasks best → IsSearching i made others best
-in_any_order i made tasks others best moved s = record {
+pub in_any_order : (i : Instance) (aims : Aims) (made : List Piece) (tasks others : List Task) (best : Option (Plan × ℕ)) → IsPermutation tasks others → IsSearching i aims made tasks best → IsSearching i aims made others best
+in_any_order i aims made tasks others best moved s = record {
   turns = s.turns;
   each = s.each;
   pieces = s.pieces;

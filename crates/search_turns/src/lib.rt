@@ -6,7 +6,7 @@ mod outcome;
 mod rising;
 mod search;
 
-pub use ends::answer;
+pub use ends::{answer, cause};
 pub use outcome::{Options, Outcome, SolveFault, Why};
 pub use rising::Order;
-pub use search::{Search, limit};
+pub use search::{Search, aim, limit};

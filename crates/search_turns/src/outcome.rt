@@ -14,6 +14,8 @@ pub struct Options {
     pub workers: u32,
     /// How many subtrees are worked at most.
     pub budget: u64,
+    /// A subtree is left as soon as no plan in it is better than the best one by more ticks. With 0 all are sought.
+    pub gap: u32,
 }
 
 /// Why a search stopped before it knew the least delay.
@@ -25,6 +27,8 @@ pub enum Why {
     Memory,
     /// The gate said that it doesn't go on.
     CalledOff,
+    /// The best plan takes at most so many ticks more than the bound as the gap allows.
+    Gap,
 }
 
 /// What a search found. Delays and bounds are in ticks; each answer has a certificate that shows it.

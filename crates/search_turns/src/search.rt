@@ -1,15 +1,17 @@
 //! The caller's part of a search: it works what is left of the tree.
 
-ghost use Rattle.std.specs.Prelude.{◌≡◌, ◌≤◌, ◌<◌, ◌+◌, ◌++◌, OnOk, cond, length, vec_len, vec_capacity};
+ghost use Rattle.std.specs.Prelude.{◌≡◌, ◌≤◌, ◌<◌, ◌+◌, ◌++◌, All, OnOk, cond, length, vec_len, vec_capacity};
 ghost use Rattle.ttp_model.specs.declared.limits.TheConstants.{MOST_NODES};
+ghost use Rattle.subtree_tasks.specs.Task.{IsTask};
 ghost use Rattle.branch_tree.specs.Workbench.{IsWorkbenchOf};
-ghost use Rattle.search_turns.specs.Searching.{limit_of, IsFound, IsWorkedOut, IsSearching};
+ghost use Rattle.pool_worker.specs.declared.goals.Aims.{Aims};
+ghost use Rattle.search_turns.specs.Searching.{aim_of, limit_of, IsFound, IsWorkedOut, IsSearching};
 
 use crate::outcome::Why;
 use crate::rising::{Order, Rising};
 use branch_tree::{Piece, Task, Workbench, Worked, work_on};
 use certificate::{Branch, Node};
-use pool_worker::Gate;
+use pool_worker::{Aims, Gate, goal_of};
 use std::alloc::Global;
 use ttp_model::{Instance, MOST_NODES, MemoryFault, Plan};
 
@@ -34,6 +36,14 @@ pub fn limit(instance: &Instance, best: &Option<(Plan, u64)>) -> u32
         Some((_, delay)) => *delay as u32,
         None => instance.past_horizon(),
     }
+}
+
+/// The goal at which it works then, in ticks.
+pub fn aim(instance: &Instance, aims: Aims, best: &Option<(Plan, u64)>) -> u32
+    requires { IsFound instance.now best.now }
+    ensures { result ≡ aim_of instance.now aims best.now }
+{
+    goal_of(instance, aims, limit(instance, best))
 }
 
 /// Puts tasks behind those that are open, in the room that there is.
@@ -73,11 +83,12 @@ impl Search {
         alloc: Global,
         instance: &'a Instance,
         bench: &mut Workbench<'a>,
+        aims: Aims,
         gate: &G,
     ) -> bool
-        requires searching { IsSearching instance.now self.old.pieces.items self.old.tasks.items self.old.best }
+        requires searching { IsSearching instance.now aims self.old.pieces.items self.old.tasks.items self.old.best }
         requires bench { IsWorkbenchOf instance.now bench.old }
-        ensures searching { IsSearching instance.now self.new.pieces.items self.new.tasks.items self.new.best }
+        ensures searching { IsSearching instance.now aims self.new.pieces.items self.new.tasks.items self.new.best }
         ensures one { length self.new.pieces.items ≡ length self.old.pieces.items + cond result 1 0 }
         ensures no_later { limit_of instance.now self.new.best ≤ limit_of instance.now self.old.best }
         ensures bench { IsWorkbenchOf instance.now bench.new }
@@ -89,7 +100,7 @@ impl Search {
         let Some(task) = self.tasks.pop() else {
             return false;
         };
-        let goal = limit(instance, &self.best);
+        let goal = aim(instance, aims, &self.best);
         let Ok(name) = task.name().copy(alloc) else {
             self.tasks.push_reserved(task);
             return false;
@@ -122,9 +133,10 @@ impl Search {
 
     /// Makes the task that is to be worked next the newest.
     fn bring<'a>(&mut self, alloc: Global, instance: &'a Instance, rising: &mut Rising<'a>)
-        requires searching { IsSearching instance.now self.old.pieces.items self.old.tasks.items self.old.best }
+        requires tasks { All (IsTask instance.now) self.old.tasks.items }
         requires bench { IsWorkbenchOf instance.now rising.old.bench }
-        ensures searching { IsSearching instance.now self.new.pieces.items self.new.tasks.items self.new.best }
+        ensures searching { (aims : Aims) → IsSearching instance.now aims self.old.pieces.items self.old.tasks.items self.old.best
+            → IsSearching instance.now aims self.new.pieces.items self.new.tasks.items self.new.best }
         ensures pieces { self.new.pieces.items ≡ self.old.pieces.items }
         ensures best { self.new.best ≡ self.old.best }
         ensures bench { IsWorkbenchOf instance.now rising.new.bench }
@@ -145,12 +157,13 @@ impl Search {
         bench: &mut Workbench<'a>,
         rising: &mut Rising<'a>,
         turns: u64,
+        aims: Aims,
         gate: &G,
     ) -> Why
-        requires searching { IsSearching instance.now self.old.pieces.items self.old.tasks.items self.old.best }
+        requires searching { IsSearching instance.now aims self.old.pieces.items self.old.tasks.items self.old.best }
         requires bench { IsWorkbenchOf instance.now bench.old }
         requires rising { IsWorkbenchOf instance.now rising.old.bench }
-        ensures searching { IsSearching instance.now self.new.pieces.items self.new.tasks.items self.new.best }
+        ensures searching { IsSearching instance.now aims self.new.pieces.items self.new.tasks.items self.new.best }
         ensures within { length self.new.pieces.items ≤ length self.old.pieces.items + turns }
         ensures cause { IsWorkedOut (length self.old.pieces.items + turns) self.new.pieces.items result }
         ensures no_later { limit_of instance.now self.new.best ≤ limit_of instance.now self.old.best }
@@ -160,7 +173,7 @@ impl Search {
                 return Why::CalledOff;
             }
             self.bring(alloc, instance, rising);
-            if !self.turn(alloc, instance, bench, gate) {
+            if !self.turn(alloc, instance, bench, aims, gate) {
                 return Why::Memory;
             }
         }
@@ -175,19 +188,20 @@ impl Search {
         instance: &Instance,
         budget: u64,
         order: Order,
+        aims: Aims,
         gate: &G,
     ) -> Why
-        requires searching { IsSearching instance.now self.old.pieces.items self.old.tasks.items self.old.best }
+        requires searching { IsSearching instance.now aims self.old.pieces.items self.old.tasks.items self.old.best }
         requires within { length self.old.pieces.items ≤ budget }
-        ensures searching { IsSearching instance.now self.new.pieces.items self.new.tasks.items self.new.best }
+        ensures searching { IsSearching instance.now aims self.new.pieces.items self.new.tasks.items self.new.best }
         ensures within { length self.new.pieces.items ≤ budget }
         ensures cause { IsWorkedOut budget self.new.pieces.items result }
         ensures no_later { limit_of instance.now self.new.best ≤ limit_of instance.now self.old.best }
     {
         let mut bench = Workbench::new();
         let turns = budget - self.pieces.len() as u64;
-        let most = limit(instance, &self.best);
+        let most = aim(instance, aims, &self.best);
         let mut rising = Rising::new(alloc, instance, order, most, turns);
-        self.take_turns(alloc, instance, &mut bench, &mut rising, turns, gate)
+        self.take_turns(alloc, instance, &mut bench, &mut rising, turns, aims, gate)
     }
 }

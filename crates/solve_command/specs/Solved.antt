@@ -50,6 +50,7 @@ why_word why.Budget enough = codes "budget"
 why_word why.Memory enough = codes "memory"
 why_word why.CalledOff true = codes "until"
 why_word why.CalledOff false = codes "time"
+why_word why.Gap enough = codes "gap"
 
 -- the delay of the best plan found, or that none was
 abbrev pub best_word : Option ℕ → List ℕ

@@ -1,11 +1,24 @@
 //! What holds of what is told? These functions do nothing: their contracts are laws.
 
-ghost use Rattle.std.specs.Prelude.{◌≡◌, ℕ, Option, codes};
+ghost use Rattle.std.specs.Prelude.{◌≡◌, ℕ, Bool, Option, codes};
+ghost use Rattle.ttp_model.specs.declared.plan.Plan.{Plan};
+ghost use Rattle.ttp_model.specs.Instance.{Instance};
+ghost use Rattle.certificate.specs.Cert.{Cert};
+ghost use Rattle.planner.specs.outcome.Options.{Options};
+ghost use Rattle.planner.specs.outcome.Outcome.TheVariants.{Stopped};
 ghost use Rattle.planner.specs.outcome.Why.{Why};
+ghost use Rattle.planner.specs.Answers.{IsOutcome};
+ghost use Rattle.search_turns.specs.Ends.{IsNear};
 ghost use Rattle.solve_command.specs.Solved.{is_enough, why_word, IsEnough};
 
 /// Where a search stopped by the word `until`, its best plan takes at most as long as was asked for.
 pub fn untils_are_met()
     ensures { (until best : Option ℕ) (why : Why) → why_word why (is_enough until best) ≡ codes "until"
         → IsEnough until best }
+{}
+
+/// Where a search stopped by the word `gap`, it has a plan that takes at most as many ticks more than the bound as the gap is.
+pub fn gaps_are_met()
+    ensures { (i : Instance) (options : Options) (enough : Bool) (why : Why) (low : ℕ) (best : Option (Plan × ℕ)) (cert : Cert)
+        → IsOutcome i options (Stopped why low best cert) → why_word why enough ≡ codes "gap" → IsNear options.gap low best }
 {}

@@ -8,7 +8,7 @@ mod progress;
 mod solve;
 
 pub use keeping::{Keeper, Shelf, kept_end};
-pub use laws::untils_are_met;
+pub use laws::{gaps_are_met, untils_are_met};
 pub use patience::{Patience, Patient};
 pub use planner::{FreeGate, Options};
 pub use progress::{Follower, Progress, Reading, Summary};

@@ -52,6 +52,7 @@ impl fmt::Display for WhyWord {
             (Why::Memory, _) => write!(f, "memory"),
             (Why::CalledOff, true) => write!(f, "until"),
             (Why::CalledOff, false) => write!(f, "time"),
+            (Why::Gap, _) => write!(f, "gap"),
         }
     }
 }

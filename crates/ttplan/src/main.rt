@@ -277,6 +277,7 @@ fn search_files(
     let options = Options {
         workers: search.workers,
         budget: search.budget,
+        gap: 0,
     };
     let patience = Patience {
         until: search.until,
@@ -330,6 +331,7 @@ fn why_to(
     let options = Options {
         workers: why.workers,
         budget: why.budget,
+        gap: 0,
     };
     let wanted = Wanted {
         certificate: why.certificate.is_some(),

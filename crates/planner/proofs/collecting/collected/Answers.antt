@@ -3,8 +3,8 @@ use Rattle.planner.proofs.Collected.{ends_searching}
 use Rattle.planner.proofs.collecting.collected.Goals as goal
 
 pub drain_into-requires-clause-pool : goal.drain_into-requires-clause-pool
-drain_into-requires-clause-pool g c = pool_same c.requires.ended.begun c.args.crew.hands.items c.requires.ended.gathers.same c.requires.ended.pool
+drain_into-requires-clause-pool g c = pool_same c.requires.ended.1.begun c.args.crew.hands.items c.requires.ended.1.gathers.same c.requires.ended.1.pool
 
 pub returns-clause-searching : goal.returns-clause-searching
-returns-clause-searching g c =
-    ends_searching g.J.Searched.instance c.args.word c.args.crew c.requires.instance c.requires.ended c.close.result c.close.ensures.least c.close.ensures.seen c.drain_into.new.tasks.items c.in_ok-drain_into.ensures.tasks c.in_ok-drain_into.ensures.left
+returns-clause-searching g c = λ aims ended.
+    ends_searching g.J.Searched.instance aims c.args.word c.args.crew c.requires.instance ended c.close.result c.close.ensures.least c.close.ensures.seen c.drain_into.new.tasks.items c.in_ok-drain_into.ensures.tasks c.in_ok-drain_into.ensures.left

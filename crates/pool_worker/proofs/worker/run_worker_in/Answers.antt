@@ -19,7 +19,7 @@ returns-clause-hand g c =
       workers = c.args.workers;
       best = None;
     } in
-    let run = c.turns-rest.ensures.goes_on c.args.hand c.args.watch (begins c.args.instance.now first c.new.ensures.items c.new-2.ensures.items refl) in
+    let run = c.turns-rest.ensures.goes_on c.args.hand c.args.watch (begins c.args.instance.now c.args.aims first c.new.ensures.items c.new-2.ensures.items refl) in
     subst (λ (h : Hand g.row.J.Denot). IsSameHand c.args.hand h) (sym c.report.ensures.hand) run.same
 
 pub returns-clause-watch : goal.returns-clause-watch
@@ -34,7 +34,7 @@ returns-clause-watch g c =
       workers = c.args.workers;
       best = None;
     } in
-    let run = c.turns-rest.ensures.goes_on c.args.hand c.args.watch (begins c.args.instance.now first c.new.ensures.items c.new-2.ensures.items refl) in
+    let run = c.turns-rest.ensures.goes_on c.args.hand c.args.watch (begins c.args.instance.now c.args.aims first c.new.ensures.items c.new-2.ensures.items refl) in
     subst (λ (w : Watch). IsSameWatch c.args.watch w) (sym c.report.ensures.watch) run.follows.same
 
 pub returns-clause-account : goal.returns-clause-account
@@ -49,7 +49,7 @@ returns-clause-account g c =
       workers = c.args.workers;
       best = None;
     } in
-    let run = c.turns-rest.ensures.goes_on c.args.hand c.args.watch (begins c.args.instance.now first c.new.ensures.items c.new-2.ensures.items refl) in
+    let run = c.turns-rest.ensures.goes_on c.args.hand c.args.watch (begins c.args.instance.now c.args.aims first c.new.ensures.items c.new-2.ensures.items refl) in
     rw c.report.ensures.hand (rw c.report.ensures.pieces (rw c.report.ensures.spared (rw c.report.ensures.rest run.account)))
 
 pub returns-clause-goals : goal.returns-clause-goals
@@ -64,7 +64,7 @@ returns-clause-goals g c =
       workers = c.args.workers;
       best = None;
     } in
-    let run = c.turns-rest.ensures.goes_on c.args.hand c.args.watch (begins c.args.instance.now first c.new.ensures.items c.new-2.ensures.items refl) in
+    let run = c.turns-rest.ensures.goes_on c.args.hand c.args.watch (begins c.args.instance.now c.args.aims first c.new.ensures.items c.new-2.ensures.items refl) in
     rw c.report.ensures.watch (rw c.report.ensures.pieces run.goals)
 
 pub returns-clause-best : goal.returns-clause-best
@@ -79,5 +79,5 @@ returns-clause-best g c =
       workers = c.args.workers;
       best = None;
     } in
-    let run = c.turns-rest.ensures.goes_on c.args.hand c.args.watch (begins c.args.instance.now first c.new.ensures.items c.new-2.ensures.items refl) in
+    let run = c.turns-rest.ensures.goes_on c.args.hand c.args.watch (begins c.args.instance.now c.args.aims first c.new.ensures.items c.new-2.ensures.items refl) in
     rw c.report.ensures.watch (rw c.report.ensures.best run.best)

@@ -5,21 +5,22 @@ use Rattle.branch_tree.specs.Work.{IsWorked, IsSplit, IsFind, ClosesAt}
 use Rattle.subtree_tasks.proofs.ChildTasks.{few_children}
 use Rattle.subtree_tasks.proofs.Chosen.{task_choice}
 use Rattle.certificate.specs.Branch.{branch_of}
-use Rattle.incumbent.specs.Watch.{offers, IsBelowView}
+use Rattle.incumbent.specs.Watch.{offers}
 use Rattle.steal_pool.specs.Hand.{pushed}
 use Rattle.ttp_model.specs.Instance.{Instance}
-use Rattle.pool_worker.specs.Goals.{IsReached}
+use Rattle.pool_worker.specs.Goals.{IsBelowGoals, IsReached}
+use Rattle.pool_worker.proofs.Goals.{below_goals, goal_below}
 use Rattle.pool_worker.specs.Run.{Pushes}
 use Rattle.pool_worker.proofs.Children.{kids_born, branch_right}
 use Rattle.pool_worker.proofs.Pushes.{none_pushed}
-use Rattle.pool_worker.proofs.Watches.{last, looked, offered, lower, still_below, one, follows_still}
+use Rattle.pool_worker.proofs.Watches.{last, looked, offered, lower, one, follows_still}
 use Rattle.pool_worker.proofs.run.Run.make.Goals as goal
 
 pub overflow_cast-len : goal.overflow_cast-len
 overflow_cast-len g c =
     let i = c.args.instance.now in
     let t = c.args.task in
-    let split : IsSplit i t c.look-goal.result c.in-Ok-Split.kind c.in-Ok-Split.tasks.items = subst (IsWorked i t c.look-goal.result)
+    let split : IsSplit i t c.goal_of-goal.result c.in-Ok-Split.kind c.in-Ok-Split.tasks.items = subst (IsWorked i t c.goal_of-goal.result)
     c.in-Ok-Split.field-0-is c.in-Ok-Split.ensures.worked in
     omega (
       arith,
@@ -35,7 +36,7 @@ push_all-left-requires g c =
     let i = c.args.instance.now in
     let t = c.args.task in
     let kids = c.in-Ok-Split.tasks.items in
-    let split : IsSplit i t c.look-goal.result c.in-Ok-Split.kind kids = subst (IsWorked i t c.look-goal.result)
+    let split : IsSplit i t c.goal_of-goal.result c.in-Ok-Split.kind kids = subst (IsWorked i t c.goal_of-goal.result)
     c.in-Ok-Split.field-0-is c.in-Ok-Split.ensures.worked in
     subst (λ (j : Instance). All (IsTask j) kids) c.requires.of split.each
 
@@ -49,8 +50,8 @@ returns-then-is_err-clause-back g c = (
     pieces = c.make_room.ensures.same;
     spared = refl;
     follows =
-        looked c.args.self.now.watch c.look-goal.new.watch c.look-goal.result c.look-goal.ensures.same c.look-goal.ensures.seen c.look-goal.ensures.offers;
-    best = record { offered = c.look-goal.ensures.offers; best = refl };
+        looked c.args.self.now.watch c.look-seen.new.watch c.look-seen.result c.look-seen.ensures.same c.look-seen.ensures.seen c.look-seen.ensures.offers;
+    best = record { offered = c.look-seen.ensures.offers; best = refl };
   },
 )
 
@@ -64,8 +65,8 @@ returns-in_default-clause-back g c = (
     pieces = c.make_room.ensures.same;
     spared = refl;
     follows =
-        looked c.args.self.now.watch c.look-goal.new.watch c.look-goal.result c.look-goal.ensures.same c.look-goal.ensures.seen c.look-goal.ensures.offers;
-    best = record { offered = c.look-goal.ensures.offers; best = refl };
+        looked c.args.self.now.watch c.look-seen.new.watch c.look-seen.result c.look-seen.ensures.same c.look-seen.ensures.seen c.look-seen.ensures.offers;
+    best = record { offered = c.look-seen.ensures.offers; best = refl };
   },
 )
 
@@ -74,11 +75,11 @@ returns-in-Ok-Split-clause-made g c =
     let i = c.args.instance.now in
     let t = c.args.task in
     let kids = c.in-Ok-Split.tasks.items in
-    let split : IsSplit i t c.look-goal.result c.in-Ok-Split.kind kids = subst (IsWorked i t c.look-goal.result)
+    let split : IsSplit i t c.goal_of-goal.result c.in-Ok-Split.kind kids = subst (IsWorked i t c.goal_of-goal.result)
     c.in-Ok-Split.field-0-is c.in-Ok-Split.ensures.worked in
     let many : c.len.result ≡ length kids = omega (arith, c.len.ensures, c.in-Ok-Split.tasks.ok.0) in
     let made : c.new.result ≡ branch_of c.in-Ok-Split.kind (length kids) = c.new.ensures ∙ ap (branch_of c.in-Ok-Split.kind) many in
-    let all = kids_born i t c.look-goal.result c.in-Ok-Split.kind kids split c.in-Ok.name c.new.result made in
+    let all = kids_born i t c.goal_of-goal.result c.in-Ok-Split.kind kids split c.in-Ok.name c.new.result made in
     record {
       same = c.push_all-left.ensures.same;
       takes = c.push_all-left.ensures.taken;
@@ -91,15 +92,15 @@ returns-in-Ok-Split-clause-made g c =
           record {
             of = c.requires.task;
             name = search rules;
-            right = branch_right i t c.look-goal.result c.in-Ok-Split.kind kids split c.in-Ok.name
+            right = branch_right i t c.goal_of-goal.result c.in-Ok-Split.kind kids split c.in-Ok.name
                 c.new.result made;
           };
       left = subst (λ (j : Instance). All (IsTask j) c.push_all-left.result.items) (sym c.requires.of) c.push_all-left.ensures.left;
       follows =
-          looked c.args.self.now.watch c.look-goal.new.watch c.look-goal.result c.look-goal.ensures.same c.look-goal.ensures.seen c.look-goal.ensures.offers;
-      below = All-nil (IsBelowView c.args.self.now.watch);
-      reached = All-nil (IsReached c.look-goal.new.watch);
-      best = inl (record { offered = c.look-goal.ensures.offers; best = refl });
+          looked c.args.self.now.watch c.look-seen.new.watch c.look-seen.result c.look-seen.ensures.same c.look-seen.ensures.seen c.look-seen.ensures.offers;
+      below = All-nil (IsBelowGoals i c.args.aims c.args.self.now.watch);
+      reached = All-nil (IsReached i c.args.aims c.look-seen.new.watch);
+      best = inl (record { offered = c.look-seen.ensures.offers; best = refl });
     }
 
 pub returns-in-Ok-Closed-clause-made : goal.returns-in-Ok-Closed-clause-made
@@ -107,10 +108,10 @@ returns-in-Ok-Closed-clause-made g c =
     let i = c.args.instance.now in
     let t = c.args.task in
     let leaf = c.in-Ok-Closed.leaf in
-    let closed : ClosesAt i (choice_of i t) c.look-goal.result leaf = subst (IsWorked i t c.look-goal.result)
+    let closed : ClosesAt i (choice_of i t) c.goal_of-goal.result leaf = subst (IsWorked i t c.goal_of-goal.result)
     c.in-Ok-Closed.field-0-is c.in-Ok-Closed.ensures.worked in
     let old = c.args.self.now.watch in
-    let new = c.look-goal.new.watch in
+    let new = c.look-seen.new.watch in
     record {
       same = record { number = refl; own = refl; deques = refl; out = refl };
       takes = refl;
@@ -121,16 +122,18 @@ returns-in-Ok-Closed-clause-made g c =
       spared = refl;
       right = record { of = c.requires.task; name = search rules; right = closed.closes };
       left = subst (All (IsTask i)) (sym c.new-in-Ok-Closed.ensures.items) (All-nil (IsTask i));
-      follows = looked old new c.look-goal.result c.look-goal.ensures.same c.look-goal.ensures.seen c.look-goal.ensures.offers;
-      below = one (IsBelowView old) leaf.goal (subst (IsBelowView old) (sym closed.at) c.look-goal.ensures.below);
+      follows = looked old new c.look-seen.result c.look-seen.ensures.same c.look-seen.ensures.seen c.look-seen.ensures.offers;
+      below =
+          one (IsBelowGoals i c.args.aims old) leaf.goal
+          (below_goals i c.args.aims old c.look-seen.result leaf.goal c.look-seen.ensures.below (omega (arith, closed.at, c.goal_of-goal.ensures)));
       reached =
-          one (IsReached new) leaf.goal (record {
-            value = c.look-goal.result;
+          one (IsReached i c.args.aims new) leaf.goal (record {
+            value = c.look-seen.result;
             known = inl
-                (last _ _ c.look-goal.result c.look-goal.ensures.seen);
-            at_most = omega (arith, closed.at);
+                (last _ _ c.look-seen.result c.look-seen.ensures.seen);
+            at_most = omega (arith, closed.at, c.goal_of-goal.ensures);
           });
-      best = inl (record { offered = c.look-goal.ensures.offers; best = refl });
+      best = inl (record { offered = c.look-seen.ensures.offers; best = refl });
     }
 
 pub returns-in-Ok-Found-clause-made : goal.returns-in-Ok-Found-clause-made
@@ -138,15 +141,15 @@ returns-in-Ok-Found-clause-made g c =
     let i = c.args.instance.now in
     let t = c.args.task in
     let leaf = c.in-Ok-Found.leaf in
-    let find : IsFind i (choice_of i t) c.look-goal.result c.in-Ok-Found.plan c.in-Ok-Found.delay leaf = subst (IsWorked i t c.look-goal.result)
+    let find : IsFind i (choice_of i t) c.goal_of-goal.result c.in-Ok-Found.plan c.in-Ok-Found.delay leaf = subst (IsWorked i t c.goal_of-goal.result)
     c.in-Ok-Found.field-0-is c.in-Ok-Found.ensures.worked in
     let old = c.args.self.now.watch in
-    let mid = c.look-goal.new.watch in
+    let mid = c.look-seen.new.watch in
     let new = c.offer.new.watch in
-    let looks = looked old mid c.look-goal.result c.look-goal.ensures.same c.look-goal.ensures.seen c.look-goal.ensures.offers in
+    let looks = looked old mid c.look-seen.result c.look-seen.ensures.same c.look-seen.ensures.seen c.look-seen.ensures.offers in
     let offers_one = offered mid new c.offer.result c.in-Ok-Found.delay c.offer.ensures.same c.offer.ensures.seen c.offer.ensures.offers in
-    let under : leaf.goal ≤ c.look-goal.result = omega (arith, find.below) in
-    let later : c.in-Ok-Found.delay ≤ c.look-goal.result = omega (arith, find.below, find.no_later) in
+    let lower_goal = goal_below i c.args.aims c.look-seen.result in
+    let later : c.in-Ok-Found.delay ≤ c.look-seen.result = omega (arith, find.below, find.no_later, c.goal_of-goal.ensures, lower_goal) in
     record {
       same = record { number = refl; own = refl; deques = refl; out = refl };
       takes = refl;
@@ -158,21 +161,23 @@ returns-in-Ok-Found-clause-made g c =
       right = record { of = c.requires.task; name = search rules; right = find.closes };
       left = subst (All (IsTask i)) (sym c.new-in-Ok-Found.ensures.items) (All-nil (IsTask i));
       follows = follows_still old mid new looks offers_one;
-      below = one (IsBelowView old) leaf.goal (still_below old c.look-goal.result leaf.goal under c.look-goal.ensures.below);
+      below =
+          one (IsBelowGoals i c.args.aims old) leaf.goal
+          (below_goals i c.args.aims old c.look-seen.result leaf.goal c.look-seen.ensures.below (omega (arith, find.below, c.goal_of-goal.ensures)));
       reached =
-          one (IsReached new) leaf.goal (record {
+          one (IsReached i c.args.aims new) leaf.goal (record {
             value = c.in-Ok-Found.delay;
             known = inr
                 (last _ _ c.in-Ok-Found.delay c.offer.ensures.offers);
-            at_most = find.no_later;
+            at_most = omega (arith, find.no_later, goal_below i c.args.aims c.in-Ok-Found.delay);
           });
       best = inr (record {
         plan = c.in-Ok-Found.plan;
         ticks = c.in-Ok-Found.delay;
         found = record { settled = find.settled; delay_is = find.delay_is };
         best = refl;
-        offered = c.offer.ensures.offers ∙ ap (λ (l : List ℕ). l ++ c.in-Ok-Found.delay ∷ []) c.look-goal.ensures.offers;
-        least = lower c.look-goal.result c.in-Ok-Found.delay (offers old) later c.look-goal.ensures.below.1;
+        offered = c.offer.ensures.offers ∙ ap (λ (l : List ℕ). l ++ c.in-Ok-Found.delay ∷ []) c.look-seen.ensures.offers;
+        least = lower c.look-seen.result c.in-Ok-Found.delay (offers old) later c.look-seen.ensures.below.1;
       });
     }
 
@@ -180,6 +185,6 @@ pub found-requires : goal.found-requires
 found-requires g c =
     let i = c.args.instance.now in
     let t = c.args.task in
-    let find : IsFind i (choice_of i t) c.look-goal.result c.in-Ok-Found.plan c.in-Ok-Found.delay c.in-Ok-Found.leaf =
-    subst (IsWorked i t c.look-goal.result) c.in-Ok-Found.field-0-is c.in-Ok-Found.ensures.worked in
+    let find : IsFind i (choice_of i t) c.goal_of-goal.result c.in-Ok-Found.plan c.in-Ok-Found.delay c.in-Ok-Found.leaf =
+    subst (IsWorked i t c.goal_of-goal.result) c.in-Ok-Found.field-0-is c.in-Ok-Found.ensures.worked in
     record { settled = find.settled; delay_is = find.delay_is }

@@ -41,7 +41,7 @@ returns-else-is_empty-clause-goes_on g c = λ hand watch run.
       follows = follows_still watch old.watch c.make.new.self.watch run.follows made.follows;
       account = rw pieces (rw made.spared account);
       goals =
-          goals_more watch old.watch c.make.new.self.watch run.follows made.follows old.pieces.items c.push_reserved.new.self.items c.in-Ok.piece
+          goals_more i c.args.aims watch old.watch c.make.new.self.watch run.follows made.follows old.pieces.items c.push_reserved.new.self.items c.in-Ok.piece
           pieces run.goals made.below made.reached;
       best =
           ⊎_elim (λ (k : KeepsBest mid c.make.new.self). best_still i watch mid c.make.new.self k run.best)
@@ -73,7 +73,7 @@ returns-then-is_empty-clause-goes_on g c = λ hand watch run.
       follows = follows_still watch old.watch c.make.new.self.watch run.follows made.follows;
       account = rw pieces (rw made.spared account);
       goals =
-          goals_more watch old.watch c.make.new.self.watch run.follows made.follows old.pieces.items c.push_reserved.new.self.items c.in-Ok.piece
+          goals_more i c.args.aims watch old.watch c.make.new.self.watch run.follows made.follows old.pieces.items c.push_reserved.new.self.items c.in-Ok.piece
           pieces run.goals made.below made.reached;
       best =
           ⊎_elim (λ (k : KeepsBest mid c.make.new.self). best_still i watch mid c.make.new.self k run.best)
@@ -104,8 +104,8 @@ returns-in-Err-clause-goes_on g c = λ hand watch run.
       follows = follows_still watch old.watch c.make.new.self.watch run.follows back.1.follows;
       account = rw back.1.pieces (rw back.1.spared same);
       goals =
-          subst (λ (l : List Piece). AreGoals watch c.make.new.self.watch (goals_of l)) (sym back.1.pieces)
-          (goals_still watch old.watch c.make.new.self.watch run.follows back.1.follows (goals_of old.pieces.items) run.goals);
+          subst (λ (l : List Piece). AreGoals i c.args.aims watch c.make.new.self.watch (goals_of l)) (sym back.1.pieces)
+          (goals_still i c.args.aims watch old.watch c.make.new.self.watch run.follows back.1.follows (goals_of old.pieces.items) run.goals);
       best = best_still i watch mid c.make.new.self back.1.best run.best;
     }
 

@@ -11,7 +11,7 @@ decreases-loop-alloc g l = (l.fn.budget - vec_len l.self.pieces) * 1001002000 + 
 
 abbrev pub invariant-loop-alloc : goal.invariant-loop-alloc
 invariant-loop-alloc g l = record {
-  goes_on : GoesOn l.instance l.initial.self l.self Nothing;
+  goes_on : GoesOn l.instance l.fn.aims l.initial.self l.self Nothing;
   watch : IsOther l.word l.self.watch;
   bench : IsWorkbenchOf l.instance l.bench;
   within : vec_len l.self.pieces ≤ l.fn.budget;

@@ -5,7 +5,7 @@ use Rattle.search_turns.proofs.search.Search.take_turns.Given as goal
 
 abbrev pub invariant-loop-turn : goal.invariant-loop-turn
 invariant-loop-turn g l = record {
-  searching : IsSearching l.instance l.self.pieces.items l.self.tasks.items l.self.best;
+  searching : IsSearching l.instance l.fn.aims l.self.pieces.items l.self.tasks.items l.self.best;
   bench : IsWorkbenchOf l.instance l.bench;
   rising : IsWorkbenchOf l.instance l.rising.bench;
   no_later : limit_of l.instance l.self.best ≤ limit_of l.instance l.initial.self.best;

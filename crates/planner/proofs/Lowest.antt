@@ -1,0 +1,48 @@
+-- The least goal of one node more.
+use Rattle.std.proofs.Common.{◌≡◌, ℕ, ◌<◌, ◌≤◌, ◌⊎◌, min, List, [], ◌∷◌, ◌++◌, inl, inr, refl, sym, subst, arith, All, Contains}
+use Rattle.std.proofs.lemmas.Bool.{cases_lt}
+use Rattle.std.proofs.lemmas.List.Elements.{All-nil, All-push, All-weaker, Contains-append_left, Contains-append_right}
+use Rattle.ttp_model.specs.declared.step.Leaf.{Leaf}
+use Rattle.certificate.specs.declared.node.Node.{Node}
+use Rattle.certificate.specs.declared.node.Node.TheVariants as node
+use Rattle.tree_gathering.specs.Gathering.{HasGoal}
+use Rattle.search_turns.proofs.Searching.{last_there, weaker_goal}
+use Rattle.planner.specs.Searched.{HasLeafAt, IsLowest}
+
+pub none_lowest : (limit : ℕ) → IsLowest limit [] limit
+none_lowest limit = record { bound = All-nil (HasGoal limit); reached = inl refl }
+
+-- one leaf more, at a goal
+at_end : (nodes : List Node) (leaf : Leaf) (low : ℕ) → leaf.goal ≡ low → HasLeafAt (nodes ++ node.Leaf leaf ∷ []) low
+at_end nodes leaf low same = record { leaf = leaf; there = last_there nodes (node.Leaf leaf); reached = same }
+
+still_there : (nodes : List Node) (n : Node) (low : ℕ) → HasLeafAt nodes low → HasLeafAt (nodes ++ n ∷ []) low
+still_there nodes n low is = record { leaf = is.leaf; there = Contains-append_left nodes (n ∷ []) (node.Leaf is.leaf) is.there; reached = is.reached }
+
+still_reached : (limit : ℕ) (nodes : List Node) (n : Node) (low : ℕ) → (low ≡ limit) ⊎ ((low < limit) × HasLeafAt nodes low)
+    → (low ≡ limit) ⊎ ((low < limit) × HasLeafAt (nodes ++ n ∷ []) low)
+still_reached limit nodes n low is = elim is [ inl same ↦ inl same | inr less ↦ inr (less.0, still_there nodes n low less.1) ]
+
+pub branch_lowest : (limit : ℕ) (nodes : List Node) (n : Node) (low : ℕ) → HasGoal low n → IsLowest limit nodes low → IsLowest limit (nodes ++ n ∷ []) low
+branch_lowest limit nodes n low goal is = record {
+  bound = All-push (HasGoal low) nodes n is.bound goal;
+  reached = still_reached limit nodes n low is.reached;
+}
+
+pub below_limit : (limit : ℕ) (nodes : List Node) (low : ℕ) → IsLowest limit nodes low → low ≤ limit
+below_limit limit nodes low is = elim is.reached [ inl same ↦ omega (arith, same) | inr less ↦ omega (arith, less.0) ]
+
+pub leaf_lowest : (limit : ℕ) (nodes : List Node) (leaf : Leaf) (low : ℕ) → IsLowest limit nodes low
+    → IsLowest limit (nodes ++ node.Leaf leaf ∷ []) (min low leaf.goal)
+leaf_lowest limit nodes leaf low is = elim (cases_lt leaf.goal low) [
+  | inl less ↦
+      let same : leaf.goal ≡ min low leaf.goal = omega (arith, less) in
+      subst (IsLowest limit (nodes ++ node.Leaf leaf ∷ [])) same (record {
+        bound = All-push (HasGoal leaf.goal) nodes (node.Leaf leaf)
+            (All-weaker (HasGoal low) (HasGoal leaf.goal) (λ n. weaker_goal low leaf.goal (omega (arith, less)) n) nodes is.bound) (omega arith);
+        reached = inr (omega (arith, less, below_limit limit nodes low is), at_end nodes leaf leaf.goal refl);
+      })
+  | inr more ↦
+      let same : low ≡ min low leaf.goal = omega (arith, more) in
+      subst (IsLowest limit (nodes ++ node.Leaf leaf ∷ [])) same (branch_lowest limit nodes (node.Leaf leaf) low more is)
+]

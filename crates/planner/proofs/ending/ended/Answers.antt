@@ -1,0 +1,33 @@
+use Rattle.std.proofs.Common.{◌≡◌, ◌≤◌, sym, subst}
+use Rattle.certificate.specs.Cert.{Cert}
+use Rattle.certificate.specs.Trees.{preorder}
+use Rattle.search_turns.specs.Searching.{limit_of}
+use Rattle.search_turns.specs.Ends.{IsAnswerOf}
+use Rattle.planner.specs.Answers.{from_low}
+use Rattle.planner.specs.Searched.{IsLowest}
+use Rattle.planner.proofs.Ended.{end_answers}
+use Rattle.planner.proofs.Lowest.{below_limit}
+use Rattle.planner.proofs.Starts.{answer_best}
+use Rattle.planner.proofs.ending.ended.Goals as goal
+
+pub returns-clause-answer : goal.returns-clause-answer
+returns-clause-answer c =
+    let i = c.args.instance.now in
+    let cert = c.args.cert in
+    let low = c.lowest-low.result in
+    let lowest : IsLowest (limit_of i c.args.best) (preorder cert.tree) low = rw (← c.limit-limit.ensures, ← c.nodes.ensures.nodes) c.lowest-low.ensures in
+    let least = below_limit (limit_of i c.args.best) (preorder cert.tree) low lowest in
+    let answer : IsAnswerOf i c.cause-cause.result c.args.best low c.with_low.result c.answer.result =
+    c.answer.ensures i c.limit-limit.ensures (subst (λ n. low ≤ n) (sym c.limit-limit.ensures) least) in
+    end_answers i c.args.options c.args.why c.cause-cause.result c.args.best low cert c.nodes-nodes.ensures.instance c.requires.found c.requires.tree lowest
+    c.cause-cause.ensures c.answer.result
+    (subst (λ (x : Cert). IsAnswerOf i c.cause-cause.result c.args.best low x c.answer.result) c.with_low.ensures answer)
+
+pub returns-clause-best : goal.returns-clause-best
+returns-clause-best c =
+    let i = c.args.instance.now in
+    let low = c.lowest-low.result in
+    let lowest : IsLowest (limit_of i c.args.best) (preorder c.args.cert.tree) low = rw (← c.limit-limit.ensures, ← c.nodes.ensures.nodes) c.lowest-low.ensures in
+    let least = below_limit (limit_of i c.args.best) (preorder c.args.cert.tree) low lowest in
+    answer_best i c.cause-cause.result c.args.best low c.with_low.result c.answer.result
+    (c.answer.ensures i c.limit-limit.ensures (subst (λ n. low ≤ n) (sym c.limit-limit.ensures) least))

@@ -1,0 +1,32 @@
+//! At which goals does a search work that may end before it knows a shortest plan?
+
+ghost use Rattle.std.specs.Prelude.{IfOk};
+ghost use Rattle.planner.specs.Searched.{AreAims, IsFloor};
+
+use crate::closing::{close, lowered};
+use branch_tree::Task;
+use pool_worker::Aims;
+use std::alloc::Global;
+use ttp_model::{Instance, MemoryFault};
+
+/// The greatest goal at which propagation closes the whole tree, in ticks, at most one past the horizon.
+fn floor(alloc: Global, instance: &Instance) -> Result<u32, MemoryFault>
+    ensures { IfOk result (IsFloor instance.now) }
+{
+    let _nodes = instance.nodes();
+    let top = instance.past_horizon();
+    let root = Task::root(alloc, instance)?;
+    let piece = close(alloc, instance, root, top, &[])?;
+    Ok(lowered(&piece, top))
+}
+
+/// The aims of a search with this gap. Its floor is what propagation knows of the whole tree; without a gap nothing is asked for it.
+pub fn aims_of(alloc: Global, instance: &Instance, gap: u32) -> Result<Aims, MemoryFault>
+    ensures { IfOk result (AreAims instance.now gap) }
+{
+    if gap == 0 {
+        return Ok(Aims::all());
+    }
+    let floor = floor(alloc, instance)?;
+    Ok(Aims { gap, floor })
+}

@@ -1,0 +1,45 @@
+//! What does the tree of a search at its end say?
+
+ghost use Rattle.std.specs.Prelude.{◌≡◌};
+ghost use Rattle.search_turns.specs.Searching.{IsFound};
+ghost use Rattle.planner.specs.Answers.{best_of, IsOutcome};
+ghost use Rattle.planner.specs.Searched.{IsEndTree, IsLowest};
+
+use certificate::{Cert, Node};
+use search_turns::{Options, Outcome, Why, answer, cause, limit};
+use ttp_model::{Instance, Plan};
+
+/// The lesser of a limit and the least goal of the leaves among nodes, in ticks.
+fn lowest(nodes: &[Node], limit: u32) -> u32
+    ensures { IsLowest limit nodes.now result }
+{
+    let mut low = limit;
+    for node in nodes {
+        low = match node {
+            Node::Leaf(leaf) => low.min(leaf.goal),
+            Node::Branch(_) => low,
+        };
+    }
+    low
+}
+
+/// What the tree of a search at its end says of the best plan: its bound is the least goal of its leaves, or the delay that had to be beaten where that is
+/// less.
+pub fn ended(
+    instance: &Instance,
+    options: Options,
+    why: Why,
+    best: Option<(Plan, u64)>,
+    cert: Cert,
+) -> Outcome
+    requires found { IsFound instance.now best }
+    requires tree { IsEndTree instance.now options why best cert }
+    ensures answer { IsOutcome instance.now options result }
+    ensures best { best_of result ≡ best }
+{
+    let _nodes = instance.nodes();
+    let limit = limit(instance, &best);
+    let low = lowest(cert.nodes(), limit);
+    let cause = cause(why, &best, low, options.gap);
+    answer(cause, best, limit, low, cert.with_low(low))
+}
