@@ -1,6 +1,6 @@
-//! Each budget of a search, until one is enough.
+//! Each budget of a search, until one is enough; and gaps within which one ends.
 
-use crate::answers::{MANNERS, solved_sample};
+use crate::answers::{Answer, MANNERS, solved_sample};
 use crate::instances::TWO_RECEIVERS;
 use planner::{Manner, Options, Why};
 use std::alloc::Global;
@@ -39,6 +39,39 @@ fn every_budget(rt: HostRuntime) -> Result<(), Fail> {
         for manner in MANNERS {
             let budget = budget_for_eight(&rt, rt.alloc(), *workers, *manner)?;
             assert!(rt; budget.is_some(), "by {workers}, {manner:?}");
+        }
+    }
+    Ok(())
+}
+
+/// Gaps, and what one worker tells within each in a plain search: the bound, and the delay of its plan.
+const GAPS: &[(u32, u64, u64)] = &[(0, 8, 8), (1, 8, 9), (2, 7, 9), (3, 6, 9)];
+
+/// Whether it is told that 8 ticks are least, or of bounds round them that are no further apart than a gap.
+fn is_within(answer: Answer, gap: u32) -> bool {
+    let is_near = match answer.delay {
+        Some(delay) => delay <= answer.low + u64::from(gap),
+        None => false,
+    };
+    is_near && answer.is_right(8, Why::Gap)
+}
+
+#[test]
+fn every_gap(rt: HostRuntime) -> Result<(), Fail> {
+    for (gap, low, delay) in GAPS.iter().copied() {
+        for workers in &[1, 3] {
+            for manner in MANNERS {
+                let options = Options {
+                    workers: *workers,
+                    budget: 1_000,
+                    gap,
+                };
+                let answer = solved_sample(&rt, rt.alloc(), &TWO_RECEIVERS, options, *manner)?;
+                assert!(rt; is_within(answer, gap), "{gap} by {workers}, {manner:?}");
+                if *workers == 1 && *manner == Manner::Plain {
+                    assert!(rt; (answer.low, answer.delay) == (low, Some(delay)), "{gap}");
+                }
+            }
         }
     }
     Ok(())
