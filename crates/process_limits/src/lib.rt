@@ -1,0 +1,15 @@
+//! How early can the last of some processes end, and which plan does it? Searches of an instance in which they have to end by then.
+#![tactic(auto)]
+
+mod chains;
+mod first_plan;
+mod halving;
+mod laws;
+mod least;
+mod limit;
+mod sought;
+
+pub use laws::limits_have_certificate_texts;
+pub use least::least_end;
+pub use limit::{EndLimit, cert_of};
+pub use planner::{Options, SolveFault};
