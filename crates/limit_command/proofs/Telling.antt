@@ -14,7 +14,7 @@ use Rattle.command_streams.specs.declared.ending.End.TheVariants.{Refused}
 use Rattle.command_streams.specs.Outcomes.{IsCommandAnswer}
 use Rattle.command_streams.specs.Instances.{HasInstance}
 use Rattle.command_streams.proofs.Outcomes.{keeps}
-use Rattle.solve_command.specs.Solved.{IsCertified, IsCertifying, IsWritingTo}
+use Rattle.solve_command.specs.Telling.{IsCertified, IsCertifying, IsWritingTo}
 use Rattle.limit_command.specs.declared.limits.Limited.{Limited}
 use Rattle.limit_command.specs.Names.{IsNameFault}
 use Rattle.limit_command.specs.Limited.{end_told, plan_of, HasValidPlan, IsLimitAnswer, IsLimitOf, IsLimited, IsLimitedOf, IsNoLimitOf, IsToldLimit, IsUnlimited, IsUntold}

@@ -19,7 +19,7 @@ use Rattle.command_streams.specs.declared.ending.End.TheVariants.{Done, Absent, 
 use Rattle.command_streams.specs.Limits.{instance_limit}
 use Rattle.command_streams.specs.Outcomes.{IsCommandAnswer}
 use Rattle.command_streams.specs.Instances.{HasInstance, IsInstanceFault}
-use Rattle.solve_command.specs.Solved.{IsCertificatePart, IsCertified}
+use Rattle.solve_command.specs.Telling.{IsCertificatePart, IsCertified}
 use Rattle.limit_command.specs.declared.limits.Limited.{Limited}
 use Rattle.limit_command.specs.Names.{AreNamed, IsNameFault}
 

@@ -5,7 +5,7 @@ ghost use Rattle.certificate.specs.Versions.{Allows};
 ghost use Rattle.command_streams.specs.Limits.{instance_limit};
 ghost use Rattle.command_streams.specs.Streams.{TakesAtMost};
 ghost use Rattle.process_limits.specs.Answers.{cert_of};
-ghost use Rattle.solve_command.specs.Solved.{held, left, IsWritingTo};
+ghost use Rattle.solve_command.specs.Telling.{held, left, IsWritingTo};
 ghost use Rattle.limit_command.specs.Names.{texts_of};
 ghost use Rattle.limit_command.specs.Limited.{end_told, IsLimitAnswer, IsLimitOf, IsLimited, IsLimitedOf, IsNoLimitOf, IsUnlimited};
 
