@@ -37,6 +37,6 @@ module _ (i : Instance) (ps : List ℕ) (options : Options) (w : IsInstance i) (
       cut_allows end (outcome.Stopped is.why is.low is.best cert) (room_of_plan plan end is.plan_ends) is.answer
   limit_allows (Between low high plan cert) is =
       let can = room i ps are low (middle low high) is.chains (omega arith) in
-      cut_allows (middle low high) (outcome.Stopped is.answer.why is.answer.low None cert) can is.answer.answer
-  limit_allows (Unknown low cert) is = answer_allows i options (outcome.Stopped is.answer.why is.answer.low None cert) w is.answer.answer
-  limit_allows (Infeasible cert) is = answer_allows i options (outcome.Infeasible cert) w is.1
+      cut_allows (middle low high) (outcome.Stopped is.answer.why is.answer.low None cert) can is.answer.answered
+  limit_allows (Unknown low cert) is = answer_allows i options (outcome.Stopped is.answer.why is.answer.low None cert) w is.answer.answered
+  limit_allows (Infeasible cert) is = answer_allows i options (outcome.Infeasible cert) w is.answered

@@ -3,13 +3,14 @@ use Rattle.std.specs.Prelude.{◌≡◌, ℕ, ◌+◌, ◌-◌, ◌/◌, ◌<◌
 use Rattle.ttp_model.specs.declared.plan.Plan.{Plan}
 use Rattle.ttp_model.specs.Instance.{Instance}
 use Rattle.ttp_model.specs.Plans.{IsValid}
-use Rattle.ttp_model.specs.Delays.{delay, HasNoPlan}
+use Rattle.ttp_model.specs.Delays.{delay}
 use Rattle.ttp_model.specs.Chains.{ChainEnds}
 use Rattle.certificate.specs.Cert.{Cert}
 use Rattle.planner.specs.outcome.Options.{Options}
 use Rattle.planner.specs.outcome.Outcome.TheVariants as outcome
 use Rattle.planner.specs.outcome.Why.{Why}
 use Rattle.planner.specs.Answers.{IsOutcome}
+use Rattle.any_plan.specs.Searches.{IsLeftOpen, IsShown}
 use Rattle.cut_deadlines.specs.Cut.{cut}
 use Rattle.cut_deadlines.specs.Ends.{last_end, IsLeastDelayBy, IsLeastEnd, IsLowerEnd}
 use Rattle.process_limits.specs.declared.limit.EndLimit.{EndLimit}
@@ -41,12 +42,6 @@ abbrev pub IsNoLonger : ℕ → Option (Plan × ℕ) → Type 0
 IsNoLonger ticks None = Unit {0}
 IsNoLonger ticks (Some best) = ticks ≤ best.1
 
--- a search was stopped before it found a plan
-pub record IsOpen (i : Instance) (options : Options) (cert : Cert) : Type 0 where
-  pub why : Why
-  pub low : ℕ
-  pub answer : IsOutcome i options (outcome.Stopped why low None cert)
-
 -- The least end, and a plan that does it, of the least delay among those: so said a search with these deadlines cut to that end.
 pub record IsLeast (i : Instance) (ps : List ℕ) (options : Options) (end : ℕ) (plan : Plan) (cert : Cert) : Type 0 where
   pub least : IsLeastEnd i ps end
@@ -70,13 +65,13 @@ pub record IsBetween (i : Instance) (ps : List ℕ) (options : Options) (low hig
   pub chains : IsBehindChains i ps low
   pub apart : low < high
   pub plan_ends : EndsAt i ps plan high
-  pub answer : IsOpen (cut i ps (middle low high)) options cert
+  pub answer : IsLeftOpen (cut i ps (middle low high)) options cert
 
 -- No valid plan ends them before low; the search for any plan was stopped before it found one.
 pub record IsUnknown (i : Instance) (ps : List ℕ) (options : Options) (low : ℕ) (cert : Cert) : Type 0 where
   pub lower : IsLowerEnd i ps low
   pub chains : IsBehindChains i ps low
-  pub answer : IsOpen i options cert
+  pub answer : IsLeftOpen i options cert
 
 -- what is answered; that there is no plan is what the search for any says
 abbrev pub IsEndLimit : Instance → List ℕ → Options → EndLimit → Type 0
@@ -84,4 +79,4 @@ IsEndLimit i ps options (Least end plan cert) = IsLeast i ps options end plan ce
 IsEndLimit i ps options (Reached end plan cert) = IsReached i ps options end plan cert
 IsEndLimit i ps options (Between low high plan cert) = IsBetween i ps options low high plan cert
 IsEndLimit i ps options (Unknown low cert) = IsUnknown i ps options low cert
-IsEndLimit i ps options (Infeasible cert) = HasNoPlan i × IsOutcome i options (outcome.Infeasible cert)
+IsEndLimit i ps options (Infeasible cert) = IsShown i options cert

@@ -1,24 +1,13 @@
 -- What the searches find on the way to an answer. Private contracts alone cite this.
 use Rattle.std.specs.Prelude.{ℕ, ◌<◌, List}
 use Rattle.ttp_model.specs.Instance.{Instance}
-use Rattle.ttp_model.specs.Plans.{IsValid}
-use Rattle.ttp_model.specs.Delays.{HasNoPlan}
 use Rattle.certificate.specs.Cert.{Cert}
 use Rattle.planner.specs.outcome.Options.{Options}
-use Rattle.planner.specs.outcome.Outcome.TheVariants as outcome
-use Rattle.planner.specs.Answers.{IsOutcome}
+use Rattle.any_plan.specs.Searches.{IsLeftOpen}
 use Rattle.cut_deadlines.specs.Cut.{cut}
 use Rattle.cut_deadlines.specs.Ends.{IsLowerEnd}
-use Rattle.process_limits.specs.declared.sought.Sought.{Sought}
-use Rattle.process_limits.specs.declared.sought.Sought.TheVariants.{Found, Absent, Open}
 use Rattle.process_limits.specs.declared.halving.Known.{Known}
-use Rattle.process_limits.specs.Answers.{EndsAt, IsBehindChains, IsOpen, middle}
-
--- what a search for any plan says
-abbrev pub IsSought : Instance → Options → Sought → Type 0
-IsSought i options (Found plan) = IsValid i plan
-IsSought i options (Absent cert) = HasNoPlan i × IsOutcome i options (outcome.Infeasible cert)
-IsSought i options (Open cert) = IsOpen i options cert
+use Rattle.process_limits.specs.Answers.{EndsAt, IsBehindChains, middle}
 
 -- no valid plan ends these processes before low, and this one does at high
 pub record IsKnown (i : Instance) (ps : List ℕ) (known : Known) : Type 0 where
@@ -29,4 +18,4 @@ pub record IsKnown (i : Instance) (ps : List ℕ) (known : Known) : Type 0 where
 -- a search half way between was stopped before it found a plan
 pub record IsOpenAt (i : Instance) (ps : List ℕ) (options : Options) (known : Known) (cert : Cert) : Type 0 where
   pub apart : known.low < known.high
-  pub answer : IsOpen (cut i ps (middle known.low known.high)) options cert
+  pub answer : IsLeftOpen (cut i ps (middle known.low known.high)) options cert

@@ -2,14 +2,15 @@
 
 ghost use Rattle.std.specs.Prelude.{◌≡◌, ◌<◌, ◌-◌, IfOk, MatchOption};
 ghost use Rattle.ttp_model.specs.Plans.{IsValid};
+ghost use Rattle.any_plan.specs.Searches.{Tells};
+ghost use Rattle.cut_deadlines.specs.Cut.{CanEndBy, cut};
 ghost use Rattle.cut_deadlines.specs.Ends.{AreThere, IsLowerEnd, last_end};
 ghost use Rattle.process_limits.specs.Answers.{IsBehindChains, middle};
 ghost use Rattle.process_limits.specs.Searches.{IsKnown, IsOpenAt};
 
-use crate::sought::{Sought, any_plan_by};
+use any_plan::{Options, SolveFault, Sought, any_plan};
 use certificate::Cert;
-use cut_deadlines::last_end;
-use planner::{Options, SolveFault};
+use cut_deadlines::{last_end, with_deadlines};
 use std::alloc::Global;
 use std::marker::Sync;
 use std::sync::Wait;
@@ -62,6 +63,22 @@ impl Known {
     }
 }
 
+/// Looks for any plan that ends these processes by `d`.
+fn any_plan_by<R: Threads + Wait + Sync>(
+    rt: &R,
+    alloc: Global,
+    instance: &Instance,
+    processes: &[u32],
+    d: u32,
+    options: Options,
+) -> Result<Sought, SolveFault>
+    requires { CanEndBy instance.now processes.now d }
+    ensures { IfOk result (Tells (cut instance.now processes.now d) options) }
+{
+    let earlier = with_deadlines(alloc, instance, processes, d)?;
+    any_plan(rt, alloc, &earlier, options)
+}
+
 /// Searches for a plan that ends these processes half way, and learns from what is found; where the search was stopped without a plan,
 /// its certificate.
 fn narrow<R: Threads + Wait + Sync>(
@@ -83,15 +100,15 @@ fn narrow<R: Threads + Wait + Sync>(
     let _nodes = instance.nodes();
     let d = middle(known.low, known.high);
     match any_plan_by(rt, alloc, instance, processes, d, options)? {
-        Sought::Found(plan) => {
+        Sought::Found { plan, .. } => {
             known.note(instance, processes, plan);
             Ok(None)
         }
-        Sought::Absent(_) => {
+        Sought::Absent { .. } => {
             known.low = d + 1;
             Ok(None)
         }
-        Sought::Open(cert) => Ok(Some(cert)),
+        Sought::Open { cert } => Ok(Some(cert)),
     }
 }
 

@@ -12,7 +12,7 @@ ghost use Rattle.process_limits.specs.Searches.{IsKnown};
 use crate::chains::longest_to;
 use crate::halving::{Known, halve};
 use crate::limit::EndLimit;
-use crate::sought::{Sought, any_plan};
+use any_plan::{Sought, any_plan};
 use cut_deadlines::with_deadlines;
 use planner::{Options, Outcome, SolveFault, solve};
 use std::alloc::Global;
@@ -129,11 +129,11 @@ pub fn least_end<R: Threads + Wait + Sync>(
 {
     let low = longest_to(alloc, instance, processes)?;
     match any_plan(rt, alloc, instance, options)? {
-        Sought::Found(plan) => {
+        Sought::Found { plan, .. } => {
             let known = Known::new(instance, processes, low, plan);
             least_below(rt, alloc, instance, processes, options, known)
         }
-        Sought::Absent(cert) => Ok(EndLimit::Infeasible { cert }),
-        Sought::Open(cert) => Ok(EndLimit::Unknown { low, cert }),
+        Sought::Absent { cert } => Ok(EndLimit::Infeasible { cert }),
+        Sought::Open { cert } => Ok(EndLimit::Unknown { low, cert }),
     }
 }

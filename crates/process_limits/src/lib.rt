@@ -2,12 +2,10 @@
 #![tactic(auto)]
 
 mod chains;
-mod first_plan;
 mod halving;
 mod laws;
 mod least;
 mod limit;
-mod sought;
 
 pub use laws::limits_have_certificate_texts;
 pub use least::least_end;
