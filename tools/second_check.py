@@ -10,6 +10,9 @@
                                                    writes the picture
     tools/second_check.py compare OLD_INSTANCE OLD_PLAN NEW_INSTANCE NEW_PLAN
                                                    writes what is different
+    tools/second_check.py limit INSTANCE ANSWER CERT PROCESS..
+                                                   writes the first line of ANSWER, which `ttplan limit INSTANCE PROCESS..` printed
+                                                   with CERT as its certificate, where the two show what they have to
 
 Anything else is told in one line on standard error, with the words and the statuses of `ttplan verify`, `check`, `judge`,
 `schedule`, `draw` and `compare`.
@@ -23,6 +26,7 @@ a second 60 and the year 0."""
 
 import codecs
 import contextlib
+import copy
 import functools
 import itertools
 import math
@@ -1251,7 +1255,7 @@ def check(instance, certificate_text):
 
 USAGE = ("usage: second_check.py verify INSTANCE PLAN | check INSTANCE CERT | judge INSTANCE PLAN CERT"
          " | schedule INSTANCE PLAN [--table TABLE] | draw INSTANCE PLAN [--width PX] [--used]"
-         " | compare OLD_INSTANCE OLD_PLAN NEW_INSTANCE NEW_PLAN")
+         " | compare OLD_INSTANCE OLD_PLAN NEW_INSTANCE NEW_PLAN | limit INSTANCE ANSWER CERT PROCESS..")
 COMMANDS = {"verify": (verify, "plan", PLAN_BYTES), "check": (check, "certificate", CERTIFICATE_BYTES)}
 
 
@@ -1284,6 +1288,55 @@ def judge(paths):
         judged = Instance(taken(instance, "instance", INSTANCE_BYTES))
         delay = given_delay(judged, taken(plan, "plan", STOPPED_BYTES + PLAN_BYTES))
         return judgement(judged, delay, proved_bound(judged, taken(certificate, "certificate", CERTIFICATE_BYTES)))
+
+
+def chosen_by(instance, names):
+    """The processes of these names, each once; raises Refused."""
+    known = {process.name: p for p, process in enumerate(instance.processes)}
+    for k, name in enumerate(names):
+        if name not in known or name in names[:k]:
+            raise Refused(5, f"limit name {k}")
+    return [known[name] for name in names]
+
+
+def with_deadlines(instance, chosen, tick):
+    """The instance in which these processes have to end by a tick."""
+    cut = copy.copy(instance)
+    cut.processes = [replace(process, deadline=min(process.deadline, tick)) if p in chosen else process
+                     for p, process in enumerate(instance.processes)]
+    return cut
+
+
+def limited(instance, answer, certificate_text, chosen):
+    """What an answer and its certificate show of the ends of these processes, and the status; raises Refused. That the end can't be
+    earlier is shown by no certificate."""
+    line, _, rest = answer.partition(b"\n")
+    form = re.fullmatch(rb"none|limit (\d+)|between (\d+) (none|\d+)", line)
+    if not form or bool(rest) != (line != b"none" and form[3] != b"none"):
+        raise Refused(5, "limit form")
+    if not rest:
+        low = proved_bound(instance, certificate_text)
+        if line == b"none" and low != instance.horizon + 1:
+            raise Refused(5, "limit bound", low)
+        return line.decode(), 10 if line == b"none" else 11
+    plan = verified(instance, rest, lines_before=1)
+    last = max(plan.starts[p] + instance.processes[p].wcet for p in chosen)
+    if last != int(form[1] or form[3]):
+        raise Refused(5, "limit end", last)
+    # a search that was stopped was for an end half way
+    tick = last if form[1] else int(form[2]) + (last - int(form[2])) // 2
+    low = proved_bound(with_deadlines(instance, chosen, tick), certificate_text)
+    return line.decode(), 0 if form[1] and low == plan.delay else 11
+
+
+def limit(paths, names):
+    """The same of files; raises Refused."""
+    with (opened(paths[0], "instance") as instance, opened(paths[1], "plan") as answer,
+          opened(paths[2], "certificate") as certificate):
+        judged = Instance(taken(instance, "instance", INSTANCE_BYTES))
+        chosen = chosen_by(judged, names)
+        return limited(judged, taken(answer, "plan", STOPPED_BYTES + PLAN_BYTES),
+                       taken(certificate, "certificate", CERTIFICATE_BYTES), chosen)
 
 
 def compare(paths):
@@ -1332,10 +1385,12 @@ def run(words):
         return judge(words[1:])
     if len(words) == 5 and words[0] == "compare":
         return compare(words[1:])
-    command, what, limit = command_of(words)
+    if len(words) >= 5 and words[0] == "limit":
+        return limit(words[1:4], words[4:])
+    command, what, most = command_of(words)
     with opened(words[1], "instance") as instance, opened(words[2], what) as text:
         judged = Instance(taken(instance, "instance", INSTANCE_BYTES))
-        return command(judged, taken(text, what, limit)), 0
+        return command(judged, taken(text, what, most)), 0
 
 
 def write_out(line):

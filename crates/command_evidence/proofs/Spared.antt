@@ -1,9 +1,10 @@
 -- A request that is sound spares the instance's file.
 use Rattle.std.proofs.Common.{◌≡◌, ◌++◌, ◌∙◌, ℕ, List, Option, None, Some, IfSome, Bor, codes, false, refl, ap, sym}
 use Rattle.command_words.specs.declared.words.Request.{Request}
-use Rattle.command_words.specs.declared.words.Request.TheVariants.{OnFiles, Solve, Why, Check, Judge, Compare, Explain, VerifyBundle, Version}
-use Rattle.command_words.specs.Names.{NameOneFile, is_rooted, parts}
+use Rattle.command_words.specs.declared.words.Request.TheVariants.{OnFiles, Solve, Why, Limit as Limiting, Check, Judge, Compare, Explain, VerifyBundle, Version}
+use Rattle.command_words.specs.Names.{IsOtherFile, NameOneFile, is_rooted, parts}
 use Rattle.command_words.specs.declared.words.Search.{Search}
+use Rattle.command_words.specs.declared.words.Limit.{Limit}
 use Rattle.command_words.specs.Requests.{IsApart, IsSound}
 use Rattle.command_evidence.specs.Words.{SparesInstance}
 
@@ -18,10 +19,16 @@ another : (search : Search) (certificate : Option (Bor (List ℕ))) → IfSome c
 another search None apart = tt
 another search (Some file) apart = λ local is. apart.0 (spelled_again search.instance.now file.now local is)
 
+limited : (limit : Limit) (certificate : Option (Bor (List ℕ))) → IfSome certificate (λ file. IsOtherFile file.now limit.instance.now)
+    → IfSome certificate (λ file. is_rooted limit.instance.now ≡ false → file.now ≡ codes "./" ++ limit.instance.now → ⊥)
+limited limit None apart = tt
+limited limit (Some file) apart = λ local is. apart (spelled_again limit.instance.now file.now local is)
+
 pub spares : (request : Request) → IsSound request → SparesInstance request
 spares (OnFiles instance plan task) sound = tt
 spares (Solve search) sound = another search search.certificate sound.certificate
 spares (Why why) sound = tt
+spares (Limiting limit) sound = limited limit limit.certificate sound.certificate
 spares (Check instance certificate) sound = tt
 spares (Judge instance plan certificate) sound = tt
 spares (Compare old_instance old_plan new_instance new_plan) sound = tt

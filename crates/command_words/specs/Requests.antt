@@ -1,9 +1,10 @@
 -- What holds of a request.
-use Rattle.std.specs.Prelude.{◌≤◌, ℕ, List, IfSome}
+use Rattle.std.specs.Prelude.{◌≤◌, ℕ, List, length, IfSome}
 use Rattle.command_words.specs.declared.words.Request.{Request}
-use Rattle.command_words.specs.declared.words.Request.TheVariants.{OnFiles, Solve, Why as Asking}
+use Rattle.command_words.specs.declared.words.Request.TheVariants.{OnFiles, Solve, Why as Asking, Limit as Limiting}
 use Rattle.command_words.specs.declared.words.Search.{Search}
 use Rattle.command_words.specs.declared.words.Why.{Why}
+use Rattle.command_words.specs.declared.words.Limit.{Limit}
 use Rattle.command_words.specs.declared.words.Task.{Task}
 use Rattle.command_words.specs.declared.words.Task.TheVariants.{Draw}
 use Rattle.command_words.specs.Names.{IsOtherFile}
@@ -34,8 +35,16 @@ pub record IsSoundWhy (why : Why) : Type 0 where
   pub reduced : IfSome why.reduced (λ file. IsOtherFile file.now why.instance.now)
   pub both : IfSome why.reduced (λ file. IfSome why.certificate (λ other. IsOtherFile file.now other.now))
 
+-- the same of a search for early ends, which names a process at least
+pub record IsSoundLimit (limit : Limit) : Type 0 where
+  pub some : 1 ≤ limit.workers
+  pub few : limit.workers ≤ 16
+  pub named : 1 ≤ length limit.processes.items
+  pub certificate : IfSome limit.certificate (λ file. IsOtherFile file.now limit.instance.now)
+
 abbrev pub IsSound : Request → Type 0
 IsSound (OnFiles instance plan task) = IsSoundTask task
 IsSound (Solve search) = IsSoundSearch search
 IsSound (Asking why) = IsSoundWhy why
+IsSound (Limiting limit) = IsSoundLimit limit
 IsSound _ = Unit {0}

@@ -1,6 +1,7 @@
 //! What the command line asks for, and how words are refused that ask for nothing.
 #![tactic(auto)]
 
+mod commands;
 mod misuse;
 mod names;
 mod numbers;
@@ -8,5 +9,6 @@ mod refusal;
 mod words;
 
 pub use misuse::{emptying_over, keeping_over};
+pub use numbers::NumberedCommand;
 pub use refusal::refuse;
-pub use words::{Explained, Request, Search, Task, VERSION, Why, all, request_in};
+pub use words::{Explained, Limit, Request, Search, Task, VERSION, Why, all, request_in};

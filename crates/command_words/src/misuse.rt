@@ -3,10 +3,10 @@
 ghost use Rattle.std.specs.Prelude.{◌≡◌};
 ghost use Rattle.command_words.specs.declared.misuse.Misuse.TheVariants.{Memory};
 
+use crate::commands::{draw_command, limit_command, solve_command, why_command};
 use crate::numbers::{NumberOption, NumberedCommand};
-use crate::words::{draw_command, solve_command, why_command};
-use clap::Error;
 use clap::error::ErrorKind;
+use clap::{Command, Error};
 use std::alloc::{AllocError, Global};
 
 /// Why the values of a subcommand ask for nothing.
@@ -16,14 +16,14 @@ pub enum Misuse<'a> {
     Missing,
     /// When the option's value is no number within its bounds.
     Number(NumberOption, &'a str),
-    /// When the certificate would be written over the instance.
-    Overwriting(&'a str),
+    /// When the certificate of this command would be written over the instance.
+    Overwriting(NumberedCommand, &'a str),
     /// When it would be written over the plan to begin with.
     OverwritingPlan(&'a str),
     /// When the best plan so far would be kept in a file that is read or written besides.
     Keeping(&'a str),
-    /// When what tells why there is no plan would be written by this option over another file of its command.
-    Emptying(&'static str, &'a str),
+    /// When something would be written by this option over another file of its command.
+    Emptying(NumberedCommand, &'static str, &'a str),
     /// When memory was wanted, and refused.
     Memory,
 }
@@ -56,7 +56,7 @@ impl Misuse<'_> {
                     "invalid value '{word}' for '--{name} <{value}>': a whole number from {least} to {most} is expected"
                 )
             }
-            Misuse::Overwriting(word) => format!(in alloc;
+            Misuse::Overwriting(_, word) => format!(in alloc;
                 "invalid value '{word}' for '--cert <FILE>': that is the instance's file, which would be emptied"
             ),
             Misuse::OverwritingPlan(word) => format!(in alloc;
@@ -65,35 +65,41 @@ impl Misuse<'_> {
             Misuse::Keeping(word) => format!(in alloc;
                 "invalid value '{word}' for '--keep <FILE>': a plan kept there would take the place of another file of the search"
             ),
-            Misuse::Emptying(option, word) => format!(in alloc;
+            Misuse::Emptying(_, option, word) => format!(in alloc;
                 "invalid value '{word}' for '--{option} <FILE>': another file of the command would be emptied"
             ),
             Misuse::Memory => Err(AllocError),
         }
     }
 
+    /// The subcommand whose values they are; those of `solve` where it isn't told.
+    fn of(&self) -> NumberedCommand {
+        match self {
+            Misuse::Number(option, _) => option.command,
+            Misuse::Overwriting(command, _) => *command,
+            Misuse::Emptying(command, _, _) => *command,
+            Misuse::Missing => NumberedCommand::Solve,
+            Misuse::OverwritingPlan(_) => NumberedCommand::Solve,
+            Misuse::Keeping(_) => NumberedCommand::Solve,
+            Misuse::Memory => NumberedCommand::Solve,
+        }
+    }
+
     /// It as an error of `clap`.
     pub fn error(&self, alloc: Global) -> Result<Error, AllocError> {
         let text = self.text(alloc)?;
-        let mut command = match self {
-            Misuse::Number(
-                NumberOption {
-                    command: NumberedCommand::Draw,
-                    ..
-                },
-                _,
-            ) => draw_command(alloc)?.bin_name("ttplan draw")?,
-            Misuse::Number(
-                NumberOption {
-                    command: NumberedCommand::Why,
-                    ..
-                },
-                _,
-            )
-            | Misuse::Emptying(..) => why_command(alloc)?.bin_name("ttplan why")?,
-            _ => solve_command(alloc)?.bin_name("ttplan solve")?,
-        };
+        let mut command = named(alloc, self.of())?;
         command.error(ErrorKind::ValueValidation, text.as_str())
+    }
+}
+
+/// A subcommand by its whole name.
+fn named<'a>(alloc: Global, command: NumberedCommand) -> Result<Command<'a>, AllocError> {
+    match command {
+        NumberedCommand::Solve => solve_command(alloc)?.bin_name("ttplan solve"),
+        NumberedCommand::Draw => draw_command(alloc)?.bin_name("ttplan draw"),
+        NumberedCommand::Why => why_command(alloc)?.bin_name("ttplan why"),
+        NumberedCommand::Limit => limit_command(alloc)?.bin_name("ttplan limit"),
     }
 }
 
@@ -106,10 +112,15 @@ pub fn keeping_over(alloc: Global, file: &str) -> Error {
     }
 }
 
-/// Why what tells that there is no plan is refused, whose option would write over another file that its words name, by a link, or by a way
-/// through other folders.
-pub fn emptying_over(alloc: Global, option: &'static str, file: &str) -> Error {
-    match Misuse::Emptying(option, file).error(alloc) {
+/// Why a command is refused whose option would write over another file that its words name, by a link, or by a way through other
+/// folders.
+pub fn emptying_over(
+    alloc: Global,
+    command: NumberedCommand,
+    option: &'static str,
+    file: &str,
+) -> Error {
+    match Misuse::Emptying(command, option, file).error(alloc) {
         Ok(error) => error,
         Err(error) => Error::from(error),
     }

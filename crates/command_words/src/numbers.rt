@@ -10,6 +10,7 @@ pub enum NumberedCommand {
     Solve,
     Draw,
     Why,
+    Limit,
 }
 
 /// An option that takes a whole number within bounds.
@@ -63,6 +64,36 @@ pub const WHY_BUDGET: NumberOption = NumberOption {
     least: 0,
     most: u64::MAX,
     default: Some("1000000"),
+};
+
+/// How many workers search for early ends.
+pub const LIMIT_WORKERS: NumberOption = NumberOption {
+    command: NumberedCommand::Limit,
+    name: "workers",
+    value: "N",
+    least: 1,
+    most: 16,
+    default: Some("4"),
+};
+
+/// How many subtrees each of these searches has at most.
+pub const LIMIT_BUDGET: NumberOption = NumberOption {
+    command: NumberedCommand::Limit,
+    name: "budget",
+    value: "N",
+    least: 0,
+    most: u64::MAX,
+    default: Some("1000000"),
+};
+
+/// By how many ticks a plan may be longer than the least is known to be.
+pub const GAP: NumberOption = NumberOption {
+    command: NumberedCommand::Solve,
+    name: "gap",
+    value: "N",
+    least: 0,
+    most: u32::MAX as u64,
+    default: Some("0"),
 };
 
 /// How many ticks a plan takes at most that is good enough.

@@ -1,16 +1,18 @@
 //! What the words of the command line ask for.
 
-ghost use Rattle.std.specs.Prelude.{◌≡◌, ◌<◌, ◌≤◌, ◌^◌, false, IfOk, IfSome};
+ghost use Rattle.std.specs.Prelude.{◌≡◌, ◌<◌, ◌≤◌, ◌^◌, length, false, IfOk, IfSome};
 ghost use Rattle.command_words.specs.Names.{IsOtherFile};
 ghost use Rattle.command_words.specs.Requests.{IsSound, IsSoundTask};
 
+use crate::commands::command;
 use crate::misuse::Misuse;
 use crate::names::name_one_file;
 use crate::numbers::{
-    BUDGET, NumberOption, SECONDS, UNTIL, WHY_BUDGET, WHY_WORKERS, WIDTH, WORKERS,
+    BUDGET, GAP, LIMIT_BUDGET, LIMIT_WORKERS, NumberOption, NumberedCommand, SECONDS, UNTIL,
+    WHY_BUDGET, WHY_WORKERS, WIDTH, WORKERS,
 };
 use clap::error::ErrorKind;
-use clap::{Arg, ArgAction, ArgMatches, Command, Error};
+use clap::{ArgMatches, Error};
 use plan_picture::Shown;
 use plan_sheets::Table;
 use std::alloc::{AllocError, Global};
@@ -61,6 +63,8 @@ pub struct Search<'a> {
     pub progress: bool,
     /// It ends once a plan of at most so many ticks is known.
     pub until: Option<u32>,
+    /// By how many ticks a plan may be longer than the least is known to be, so that it is good enough.
+    pub gap: u32,
     /// It ends so many seconds after the start.
     pub seconds: Option<u64>,
 }
@@ -73,6 +77,22 @@ pub struct Why<'a> {
     pub certificate: Option<&'a str>,
     /// Where the instance by the constraints that leave no plan is written.
     pub reduced: Option<&'a str>,
+    /// How many workers search, 1 to 16.
+    pub workers: u32,
+    /// How many subtrees each search has at most.
+    pub budget: u64,
+    /// Whether it is to be told how late all would have to be.
+    pub late: bool,
+}
+
+/// How early processes of an instance are to end.
+#[derive(Debug, Drop)]
+pub struct Limit<'a> {
+    pub instance: &'a str,
+    /// The names of these processes, in the order of the words.
+    pub processes: Vec<&'a str>,
+    /// Where the certificate is written.
+    pub certificate: Option<&'a str>,
     /// How many workers search, 1 to 16.
     pub workers: u32,
     /// How many subtrees each search has at most.
@@ -92,6 +112,8 @@ pub enum Request<'a> {
     Solve(Search<'a>),
     /// Tell why the instance of a file has no plan.
     Why(Why<'a>),
+    /// Tell how early processes of the instance of a file can end.
+    Limit(Limit<'a>),
     /// Check the certificate of one file for the instance of another.
     Check {
         instance: &'a str,
@@ -129,293 +151,6 @@ pub const VERSION: &str =
 pub fn all(rt: &(impl Env + AllocGlobal)) -> io::Result<Vec<String>> {
     let words = std::env::args(rt)?.collect(rt.alloc())?;
     Ok(words)
-}
-
-/// What an instance's file holds.
-const INSTANCE_HELP: &str = "The cluster and its processes, in TOML";
-
-/// What a search prints, and how to go on where it is stopped.
-const SOLVE_HELP: &str =
-    "It prints one of these, and ends with the status beside it:\n   0  the text of a plan: it is valid, and no valid plan has a smaller delay\n  10  `none`: no plan is valid\n  11  `stopped WHY LOW BEST`, and behind it the text of the best plan found\n\nWHY is `budget`, where the budget is spent, `memory`, where memory ran out, `until`, where the best plan found is as short as was asked for, or `time`, where the seconds have passed. No valid plan has a delay below LOW ticks. BEST is the delay of the best plan found, or `none`, and then no text follows.\n\nA search that is interrupted prints no plan, and its certificate's file is empty; with --keep its best plan so far is left. To go in steps, begin with a small budget, and take ten times as much after each `stopped budget`. Each run begins anew; those before the last work at most a ninth of its budget.\n\nBefore the search a good plan is looked for, where more than 32 are left to choose: nodes to place, capacities, pairs of processes, and binary digits of rounds.";
-
-/// What a judgement prints.
-const JUDGE_HELP: &str =
-    "It prints one of these, and ends with the status beside it:\n   0  `least D`: the plan is valid and takes D ticks, and no valid plan has a smaller delay\n  10  `none`: no plan is valid\n  11  `between LOW D`, or `between LOW none` where PLAN has no plan: no valid plan has a delay below LOW ticks, which is less than D or than all that the horizon allows\n\nPLAN is a plan's text, or `none`, or what a search printed that was stopped: its line `stopped`, and behind it the plan.";
-
-/// What an explanation prints.
-const EXPLAIN_HELP: &str =
-    "The first line is the one that `ttplan verify` or `ttplan check` gives, of an instance alone how many nodes, processes, links and messages it has. Sentences follow: of what is refused which two things a rule compares, both numbers, and by how much they fail it; of a valid plan what held its last process back, and what that, down to a release; of a certificate of one leaf each step.\n\nIt ends with status 0 wherever it explained something, a refusal too.";
-
-/// What a comparison prints.
-const COMPARE_HELP: &str =
-    "It prints a line for each node of either instance, by its name: `same`, where its table and its guardian's windows are the same bytes in both, `changed`, where they aren't, `new` or `gone`. Behind these lines is told what is different of the plan: `order changed`, and `cap`, `start`, `round` and `chan`, each with a name, the old value and the new one, or `-` where there is none.\n\nIt ends with status 0 where each node is the same and nothing is different, and else with 1. Both plans have to be valid: else it says so as `ttplan verify` does, behind the word `old` or `new`.";
-
-/// What is printed of an instance without a plan.
-const WHY_HELP: &str =
-    "It prints a line `ttwhy 1`, and behind it one of these, and ends with the status beside it:\n   0  `plan D`: there is a plan, of D ticks; it need not be a shortest\n  10  `none`, and a line for each constraint of a set that leaves no plan by itself: the horizon, deadlines, releases, messages, that one is on both channels, and links\n  11  `unknown`: a search was stopped before that was known\n\nA line begins with `need`, where there is a plan by the others of the set, and with `maybe`, where a search for one was stopped.\n\nFirst times are left out, then messages, and then links, as long as there is still no plan. Each search is for any plan, and has N subtrees.";
-
-/// A file that has to be named.
-fn file<'a>(alloc: Global, name: &'a str, help: &'a str) -> Arg<'a> {
-    Arg::new(alloc, name).required(true).help(help)
-}
-
-/// A command of this name, which names an instance's file and a plan's.
-fn command_on_files<'a>(
-    alloc: Global,
-    name: &'a str,
-    about: &'a str,
-) -> Result<Command<'a>, AllocError> {
-    Command::new(alloc, name)
-        .about(about)
-        .arg(file(alloc, "INSTANCE", INSTANCE_HELP))?
-        .arg(file(alloc, "PLAN", "The plan's text"))
-}
-
-fn verify_command<'a>(alloc: Global) -> Result<Command<'a>, AllocError> {
-    command_on_files(
-        alloc,
-        "verify",
-        "Checks a plan, and prints `valid` with its delay in ticks",
-    )
-}
-
-fn tables_command<'a>(alloc: Global) -> Result<Command<'a>, AllocError> {
-    command_on_files(
-        alloc,
-        "tables",
-        "Prints the node tables of a valid plan, and its guardian windows",
-    )
-}
-
-fn replay_command<'a>(alloc: Global) -> Result<Command<'a>, AllocError> {
-    let losses = Arg::new(alloc, "LOSS").num_args(0..).help(
-        "A lost frame, ROUND/SLOT/NODE from 0, or ROUND/SLOT/* for all receivers",
-    );
-    command_on_files(
-        alloc,
-        "replay",
-        "Prints what membership does in one cycle of a valid plan",
-    )?
-    .arg(losses)
-}
-
-/// The names of the tables of `schedule`.
-const TABLES: &[&str] = &["processes", "slots", "messages"];
-
-fn schedule_command<'a>(alloc: Global) -> Result<Command<'a>, AllocError> {
-    let table = Arg::new(alloc, "table")
-        .long("table")
-        .value_name("TABLE")
-        .value_parser(TABLES)
-        .default_value("processes")
-        .help(
-            "Which table: each process in the order of starts, with the ticks by which it may run longer; each slot of the cycle; or each message and receiver",
-        );
-    command_on_files(
-        alloc,
-        "schedule",
-        "Prints a table of a valid plan, as comma-separated values with a head",
-    )?
-    .arg(table)
-}
-
-/// The subcommand that draws.
-pub(crate) fn draw_command<'a>(alloc: Global) -> Result<Command<'a>, AllocError> {
-    let width = number(alloc, WIDTH, "How many pixels it is wide, 200 to 10000");
-    let used = Arg::new(alloc, "used")
-        .long("used")
-        .action(ArgAction::SetTrue)
-        .help(
-            "Leaves out the slots that carry nothing; a picture that shows each slot of the cycle has 100,000 at most",
-        );
-    command_on_files(
-        alloc,
-        "draw",
-        "Prints a picture of a valid plan's cycle, as SVG",
-    )?
-    .arg(width)?
-    .arg(used)
-}
-
-/// An option `--name` that takes a number.
-fn number<'a>(alloc: Global, option: NumberOption, help: &'a str) -> Arg<'a> {
-    let number = Arg::new(alloc, option.name)
-        .long(option.name)
-        .value_name(option.value)
-        .allow_negative_numbers(true)
-        .help(help);
-    match option.default {
-        Some(default) => number.default_value(default),
-        None => number,
-    }
-}
-
-/// The file of a certificate.
-fn certificate<'a>(alloc: Global) -> Arg<'a> {
-    Arg::new(alloc, "cert").long("cert").value_name("FILE").help(
-        "Also writes the certificate that proves the answer, whichever it is, to this file, before the answer is printed; `ttplan check INSTANCE FILE` accepts it. A file that is there is emptied first; INSTANCE itself is refused, and PLAN",
-    )
-}
-
-/// The plan with which a search begins.
-fn start<'a>(alloc: Global) -> Arg<'a> {
-    Arg::new(alloc, "start")
-        .long("start")
-        .value_name("PLAN")
-        .help(
-            "Begins with this plan: what is printed takes no longer. It is refused as by `ttplan verify` where it isn't valid",
-        )
-}
-
-/// The file of the best plan so far.
-fn kept<'a>(alloc: Global) -> Arg<'a> {
-    Arg::new(alloc, "keep").long("keep").value_name("FILE").help(
-        "Keeps the best plan so far in this file, at every time as a whole, so that an interrupt leaves it there: a better one is written to FILE.new, which is then renamed. INSTANCE, PLAN and the certificate's file are refused",
-    )
-}
-
-/// Whether a search says how far it is.
-fn progress<'a>(alloc: Global) -> Arg<'a> {
-    Arg::new(alloc, "progress")
-        .long("progress")
-        .action(ArgAction::SetTrue)
-        .help(
-            "Says once a second on standard error how far the search is: seconds, subtrees worked, how many a second, how many are in work, the bound that is known before the search, and the best plan's delay with its gap from that",
-        )
-}
-
-/// The subcommand that searches.
-pub(crate) fn solve_command<'a>(alloc: Global) -> Result<Command<'a>, AllocError> {
-    let workers = number(alloc, WORKERS, "How many workers search, 1 to 16");
-    let budget = number(
-        alloc,
-        BUDGET,
-        "How many subtrees are searched at most: each that is split, closed or gives a plan counts once; with 0 no plan is looked for",
-    );
-    let until = number(
-        alloc,
-        UNTIL,
-        "Ends once a plan of at most so many ticks is known; with the horizon any plan is",
-    );
-    let seconds = number(
-        alloc,
-        SECONDS,
-        "No worker takes a further subtree so many seconds after the start; what is left is closed as with a budget",
-    );
-    Command::new(alloc, "solve")
-        .about(
-            "Prints a valid plan with the least delay, or `none`, or bounds where the search is stopped",
-        )
-        .after_help(SOLVE_HELP)
-        .arg(file(alloc, "INSTANCE", INSTANCE_HELP))?
-        .arg(workers)?
-        .arg(budget)?
-        .arg(until)?
-        .arg(seconds)?
-        .arg(start(alloc))?
-        .arg(certificate(alloc))?
-        .arg(kept(alloc))?
-        .arg(progress(alloc))
-}
-
-/// The subcommand that tells why there is no plan.
-pub(crate) fn why_command<'a>(alloc: Global) -> Result<Command<'a>, AllocError> {
-    let workers = number(alloc, WHY_WORKERS, "How many workers search, 1 to 16");
-    let budget = number(
-        alloc,
-        WHY_BUDGET,
-        "How many subtrees each search has at most",
-    );
-    let reduced = Arg::new(alloc, "reduced")
-        .long("reduced")
-        .value_name("FILE")
-        .help(
-            "Also writes the instance by these constraints alone to this file, in TOML; a file that is there is emptied first, and INSTANCE itself is refused",
-        );
-    let certificate = Arg::new(alloc, "cert").long("cert").value_name("FILE").help(
-        "Also writes the certificate that this instance has no plan to this file: `ttplan check` accepts it for the file of `--reduced`. A file that is there is emptied first; INSTANCE itself is refused, and that file",
-    );
-    Command::new(alloc, "why")
-        .about("Tells which constraints of an instance leave no plan")
-        .after_help(WHY_HELP)
-        .arg(file(alloc, "INSTANCE", INSTANCE_HELP))?
-        .arg(workers)?
-        .arg(budget)?
-        .arg(reduced)?
-        .arg(certificate)
-}
-
-fn check_command<'a>(alloc: Global) -> Result<Command<'a>, AllocError> {
-    Command::new(alloc, "check")
-        .about("Checks a certificate, and prints `bound` with the delay that no plan is below")
-        .arg(file(alloc, "INSTANCE", INSTANCE_HELP))?
-        .arg(file(alloc, "CERT", "The certificate's text"))
-}
-
-fn judge_command<'a>(alloc: Global) -> Result<Command<'a>, AllocError> {
-    Command::new(alloc, "judge")
-        .about("Checks a plan and a certificate, and prints whether no plan is shorter")
-        .after_help(JUDGE_HELP)
-        .arg(file(alloc, "INSTANCE", INSTANCE_HELP))?
-        .arg(file(
-            alloc,
-            "PLAN",
-            "The plan's text, or whatever `ttplan solve` printed in its place",
-        ))?
-        .arg(file(alloc, "CERT", "The certificate's text"))
-}
-
-fn explain_command<'a>(alloc: Global) -> Result<Command<'a>, AllocError> {
-    let certificate = Arg::new(alloc, "cert")
-        .long("cert")
-        .value_name("CERT")
-        .help("Explains this certificate, in place of a plan")
-        .conflicts_with("PLAN")?;
-    Command::new(alloc, "explain")
-        .about(
-            "Tells in sentences why an instance, a plan or a certificate is refused, and why a valid plan ends when it does",
-        )
-        .after_help(EXPLAIN_HELP)
-        .arg(file(alloc, "INSTANCE", INSTANCE_HELP))?
-        .arg(Arg::new(alloc, "PLAN").help("The plan's text"))?
-        .arg(certificate)
-}
-
-fn compare_command<'a>(alloc: Global) -> Result<Command<'a>, AllocError> {
-    Command::new(alloc, "compare")
-        .about(
-            "Tells which nodes a change of an instance and its plan touches, and what is different of the plan",
-        )
-        .after_help(COMPARE_HELP)
-        .arg(file(alloc, "OLD_INSTANCE", INSTANCE_HELP))?
-        .arg(file(alloc, "OLD_PLAN", "The text of a plan of it"))?
-        .arg(file(
-            alloc,
-            "NEW_INSTANCE",
-            "The cluster and its processes as they are to be, in TOML",
-        ))?
-        .arg(file(alloc, "NEW_PLAN", "The text of a plan of that"))
-}
-
-/// The command line that is understood.
-fn command<'a>(alloc: Global) -> Result<Command<'a>, AllocError> {
-    Command::new(alloc, "ttplan")
-        .about("Plans time-triggered clusters, and checks their plans")
-        .version(VERSION)
-        .after_help(
-            "Without words it reads an instance, a line `%%` and a plan from standard input, and verifies the plan.",
-        )
-        .subcommand(solve_command(alloc)?)?
-        .subcommand(why_command(alloc)?)?
-        .subcommand(verify_command(alloc)?)?
-        .subcommand(check_command(alloc)?)?
-        .subcommand(judge_command(alloc)?)?
-        .subcommand(explain_command(alloc)?)?
-        .subcommand(tables_command(alloc)?)?
-        .subcommand(replay_command(alloc)?)?
-        .subcommand(schedule_command(alloc)?)?
-        .subcommand(draw_command(alloc)?)?
-        .subcommand(compare_command(alloc)?)
 }
 
 /// The number of an option.
@@ -467,9 +202,10 @@ fn is_named_by(alloc: Global, file: &str, other: Option<&str>) -> Result<bool, A
     }
 }
 
-/// The certificate's file, which by its name is none that is read.
+/// The file of a command's certificate, which by its name is none that is read.
 fn certificate_of<'a>(
     alloc: Global,
+    command: NumberedCommand,
     matches: &ArgMatches<'a>,
     instance: &str,
     start: Option<&str>,
@@ -481,7 +217,7 @@ fn certificate_of<'a>(
         return Ok(None);
     };
     if name_one_file(alloc, file, instance)? {
-        return Err(Misuse::Overwriting(file));
+        return Err(Misuse::Overwriting(command, file));
     }
     if is_named_by(alloc, file, start)? {
         return Err(Misuse::OverwritingPlan(file));
@@ -521,7 +257,7 @@ fn solve_request<'a>(alloc: Global, matches: &ArgMatches<'a>) -> Result<Request<
         return Err(Misuse::Missing);
     };
     let start = matches.get_str("start");
-    let certificate = certificate_of(alloc, matches, instance, start)?;
+    let certificate = certificate_of(alloc, NumberedCommand::Solve, matches, instance, start)?;
     Ok(Request::Solve(Search {
         instance,
         start,
@@ -531,6 +267,7 @@ fn solve_request<'a>(alloc: Global, matches: &ArgMatches<'a>) -> Result<Request<
         budget: number_of(BUDGET, matches)?,
         progress: matches.get_flag("progress"),
         until: some_u32_of(UNTIL, matches)?,
+        gap: number_of(GAP, matches)? as u32,
         seconds: some_number_of(SECONDS, matches)?,
     }))
 }
@@ -550,7 +287,7 @@ fn emptied_of<'a>(
         return Ok(None);
     };
     if name_one_file(alloc, file, instance)? || is_named_by(alloc, file, other)? {
-        return Err(Misuse::Emptying(option, file));
+        return Err(Misuse::Emptying(NumberedCommand::Why, option, file));
     }
     Ok(Some(file))
 }
@@ -569,6 +306,36 @@ fn why_request<'a>(alloc: Global, matches: &ArgMatches<'a>) -> Result<Request<'a
         reduced: emptied_of(alloc, matches, "reduced", instance, certificate)?,
         workers: number_of(WHY_WORKERS, matches)? as u32,
         budget: number_of(WHY_BUDGET, matches)?,
+        late: matches.get_flag("late"),
+    }))
+}
+
+/// The names of processes, of which there is one at least.
+fn processes_of<'a>(alloc: Global, matches: &ArgMatches<'a>) -> Result<Vec<&'a str>, Misuse<'a>>
+    ensures { IfOk result (λ names. 1 ≤ length names.items) }
+{
+    match matches.get_strs("PROCESS") {
+        Some(names) if !names.is_empty() => Ok(Vec::from_slice(alloc, names)?),
+        _ => Err(Misuse::Missing),
+    }
+}
+
+/// A search for early ends, with its numbers, each in its range, and a certificate's file that isn't the one which it reads.
+fn limit_request<'a>(alloc: Global, matches: &ArgMatches<'a>) -> Result<Request<'a>, Misuse<'a>>
+    ensures { IfOk result IsSound }
+{
+    let Some(instance) = matches.get_str("INSTANCE") else {
+        return Err(Misuse::Missing);
+    };
+    let certificate = certificate_of(alloc, NumberedCommand::Limit, matches, instance, None)?;
+    let workers = number_of(LIMIT_WORKERS, matches)? as u32;
+    let budget = number_of(LIMIT_BUDGET, matches)?;
+    Ok(Request::Limit(Limit {
+        instance,
+        processes: processes_of(alloc, matches)?,
+        certificate,
+        workers,
+        budget,
     }))
 }
 
@@ -676,6 +443,7 @@ fn request_of<'a>(
     let request = match name {
         "solve" => return solve_request(alloc, matches),
         "why" => return why_request(alloc, matches),
+        "limit" => return limit_request(alloc, matches),
         "check" => check_request(matches),
         "judge" => judge_request(matches),
         "explain" => explain_request(matches),

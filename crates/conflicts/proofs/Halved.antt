@@ -6,6 +6,7 @@ use Rattle.std.proofs.lemmas.List.Elements.{All-append, All-cons, All-nil, All-p
 use Rattle.ttp_model.specs.Instance.{Instance}
 use Rattle.ttp_model.specs.Rules.{IsInstance}
 use Rattle.planner.specs.outcome.Options.{Options}
+use Rattle.any_plan.specs.Searches.{IsShown, WasStopped}
 use Rattle.kept_constraints.specs.declared.constraints.Constraint.{Constraint}
 use Rattle.kept_constraints.specs.declared.constraints.Constraints.{Constraints}
 use Rattle.kept_constraints.specs.Constraints.{all_of, keeps, without, without_all}
@@ -17,7 +18,7 @@ use Rattle.kept_constraints.proofs.Keeps.{kept_among, all_gone}
 use Rattle.conflicts.specs.declared.halving.Halving.{Halving}
 use Rattle.conflicts.specs.declared.halving.Without.{Without}
 use Rattle.conflicts.specs.declared.halving.Without.TheVariants.{SomePlan, Unknown}
-use Rattle.conflicts.specs.Conflicts.{IsShown, IsNeeded, IsOpen, WasStopped}
+use Rattle.conflicts.specs.Conflicts.{IsNeeded, IsOpen}
 use Rattle.conflicts.specs.Halving.{IsHalving, IsWithout, LeavesOut, IsDecided, Decides, needed_of}
 
 needed_by_fewer : (i : Instance) (fewer more : Constraints) (cs : List Constraint) → IsInstance i → AreAmong fewer more → All (IsNeeded i more) cs → All (IsNeeded i fewer) cs

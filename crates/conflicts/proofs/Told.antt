@@ -8,6 +8,8 @@ use Rattle.ttp_model.specs.Rules.{IsInstance}
 use Rattle.ttp_model.specs.Delays.{HasNoPlan}
 use Rattle.certificate.specs.Cert.{Cert}
 use Rattle.planner.specs.outcome.Options.{Options}
+use Rattle.any_plan.specs.declared.sought.Sought.{Sought}
+use Rattle.any_plan.specs.Searches.{Tells}
 use Rattle.kept_constraints.specs.declared.constraints.Constraint.{Constraint}
 use Rattle.kept_constraints.specs.declared.constraints.Constraints.{Constraints}
 use Rattle.kept_constraints.specs.Constraints.{all_of, keeps, listed}
@@ -17,8 +19,7 @@ use Rattle.kept_constraints.proofs.Keeps.{kept_among, kept_listed, listed_kept}
 use Rattle.kept_constraints.proofs.Whole.{all_is_whole}
 use Rattle.conflicts.specs.declared.conflict.Need.{Need}
 use Rattle.conflicts.specs.declared.halving.Halving.{Halving}
-use Rattle.conflicts.specs.declared.searched.Tried.{Tried}
-use Rattle.conflicts.specs.Conflicts.{IsConflict, IsNeeded, IsTold, Tells}
+use Rattle.conflicts.specs.Conflicts.{IsConflict, IsNeeded, IsTold}
 use Rattle.conflicts.specs.Halving.{IsMarked, IsDecided, Decides}
 
 all_before_map : {X Y : Type 0} (P : Y → Type 0) (f : X → Y) (xs : List X) → All P (map f xs) → All (λ x. P (f x)) xs
@@ -51,8 +52,9 @@ conflict_told i options old new needs done all marked = record {
 }
 
 -- an instance by all its constraints is the instance
-pub whole_told : (i : Instance) (options : Options) (K : Constraints) (tried : Tried) → IsInstance i → K ≡ all_of i → Tells (only i K) options tried → Tells i options tried
-whole_told i options K tried good is tells = subst (λ j. Tells j options tried) (rw is (all_is_whole i good)) tells
+pub whole_told : (i : Instance) (options : Options) (K : Constraints) (sought : Sought) → IsInstance i → K ≡ all_of i →
+    Tells (only i K) options sought → Tells i options sought
+whole_told i options K sought good is tells = subst (λ j. Tells j options sought) (rw is (all_is_whole i good)) tells
 
 pub conflict_shows : (i : Instance) (options : Options) (needs : List Need) (K : Constraints) (cert : Cert) → IsInstance i → IsConflict i options needs K cert → HasNoPlan i
 conflict_shows i options needs K cert good c = no_plan_left i K good c.shown.none

@@ -2,6 +2,7 @@
 use Rattle.std.specs.Prelude.{◌≡◌, ◌⊎◌, ◌↔◌, IsTrue, List, [], All, Contains, Option, None, Some}
 use Rattle.ttp_model.specs.Instance.{Instance}
 use Rattle.planner.specs.outcome.Options.{Options}
+use Rattle.any_plan.specs.Searches.{IsShown, WasStopped}
 use Rattle.kept_constraints.specs.declared.constraints.Constraint.{Constraint}
 use Rattle.kept_constraints.specs.declared.constraints.Constraints.{Constraints}
 use Rattle.kept_constraints.specs.Constraints.{all_of, keeps, without_all}
@@ -11,7 +12,7 @@ use Rattle.conflicts.specs.declared.halving.Halving.{Halving}
 use Rattle.conflicts.specs.declared.halving.Without.{Without}
 use Rattle.conflicts.specs.declared.halving.Without.TheVariants.{SomePlan, Unknown}
 use Rattle.conflicts.specs.declared.conflict.Need.{Need}
-use Rattle.conflicts.specs.Conflicts.{IsShown, IsNeeded, IsOpen, WasStopped}
+use Rattle.conflicts.specs.Conflicts.{IsNeeded, IsOpen}
 
 -- constraints of an instance leave no plan by themselves, as the certificate shows, and these of them are needed
 pub record IsHalving (i : Instance) (options : Options) (h : Halving) : Type 0 where

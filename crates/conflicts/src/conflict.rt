@@ -9,10 +9,10 @@ ghost use Rattle.conflicts.specs.Conflicts.{Answers};
 ghost use Rattle.conflicts.specs.Halving.{Decides, IsHalving, IsMarked};
 
 use crate::halving::{Halving, narrow};
-use crate::searched::{Tried, searched};
+use crate::searched::searched;
+use any_plan::{Options, SolveFault, Sought};
 use certificate::Cert;
 use kept_constraints::{Constraint, Constraints};
-use planner::{Options, SolveFault};
 use std::alloc::Global;
 use std::marker::Sync;
 use std::sync::Wait;
@@ -116,9 +116,9 @@ pub fn find_conflict<R: Threads + Wait + Sync>(
     let _nodes = instance.nodes();
     let kept = Constraints::of(alloc, instance)?;
     match searched(rt, alloc, instance, &kept, options)? {
-        Tried::Plan { delay, plan } => Ok(Conflict::Plan { delay, plan }),
-        Tried::Unknown => Ok(Conflict::Unknown),
-        Tried::None { cert } => {
+        Sought::Found { delay, plan } => Ok(Conflict::Plan { delay, plan }),
+        Sought::Open { .. } => Ok(Conflict::Unknown),
+        Sought::Absent { cert } => {
             let needed = Vec::new(alloc);
             let halving = Halving { kept, cert, needed };
             narrowed(rt, alloc, instance, options, halving)

@@ -3,10 +3,10 @@
 ghost use Rattle.std.specs.Prelude.{◌≡◌, ◌<◌, ◌++◌, IfOk, OnOk, length};
 ghost use Rattle.conflicts.specs.Halving.{needed_of, Decides, IsHalving, IsWithout, LeavesOut};
 
-use crate::searched::{Tried, searched};
+use crate::searched::searched;
+use any_plan::{Options, SolveFault, Sought};
 use certificate::Cert;
 use kept_constraints::{Constraint, Constraints};
-use planner::{Options, SolveFault};
 use std::alloc::Global;
 use std::marker::Sync;
 use std::sync::Wait;
@@ -47,13 +47,13 @@ fn leave_out<R: Threads + Wait + Sync>(
     let mut fewer = halving.kept.copy(alloc)?;
     fewer.leave_all_out(part);
     match searched(rt, alloc, instance, &fewer, options)? {
-        Tried::None { cert } => {
+        Sought::Absent { cert } => {
             halving.kept = fewer;
             halving.cert = cert;
             Ok(None)
         }
-        Tried::Plan { .. } => Ok(Some(Without::SomePlan)),
-        Tried::Unknown => Ok(Some(Without::Unknown)),
+        Sought::Found { .. } => Ok(Some(Without::SomePlan)),
+        Sought::Open { .. } => Ok(Some(Without::Unknown)),
     }
 }
 

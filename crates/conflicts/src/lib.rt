@@ -1,7 +1,6 @@
 //! Which constraints of an instance leave no plan by themselves, and which of them can't be left out.
 #![tactic(auto)]
 
-mod any_plan;
 mod conflict;
 mod halving;
 mod laws;

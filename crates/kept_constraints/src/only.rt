@@ -4,10 +4,9 @@ ghost use Rattle.std.specs.Prelude.{◌≡◌, IfOk};
 ghost use Rattle.kept_constraints.specs.Only.{cluster_with, kept_links, message_with, only, only_links, only_messages, only_processes, process_with};
 
 use crate::constraints::Constraints;
+use instance_copies::{built, copies_of_nodes};
 use std::alloc::Global;
-use ttp_model::{
-    Cluster, Instance, Link, MOST_TICKS, MemoryFault, Message, ModelError, Node, Process,
-};
+use ttp_model::{Cluster, Instance, Link, MOST_TICKS, MemoryFault, Message, Process};
 
 /// A cluster with its horizon, if it is kept, and else the latest that can be said.
 fn cluster_with(horizon: bool, cluster: &Cluster) -> Cluster
@@ -18,24 +17,6 @@ fn cluster_with(horizon: bool, cluster: &Cluster) -> Cluster
         horizon: latest,
         ..*cluster
     }
-}
-
-fn node(alloc: Global, node: &Node) -> Result<Node, MemoryFault>
-    ensures { IfOk result (λ same. same ≡ node.now) }
-{
-    let name = node.name.copy(alloc)?;
-    let capacities = node.capacities.copy(alloc)?;
-    Ok(Node { name, capacities })
-}
-
-fn nodes(alloc: Global, instance: &Instance) -> Result<Vec<Node>, MemoryFault>
-    ensures { IfOk result (λ nodes. nodes.items ≡ instance.now.nodes) }
-{
-    let mut all = Vec::new(alloc);
-    for one in instance.nodes() {
-        all.push(node(alloc, one)?)?;
-    }
-    Ok(all)
 }
 
 /// A process with its deadline and its release, if they are kept.
@@ -139,13 +120,9 @@ pub fn with_only(
     ensures { IfOk result (λ i. i ≡ only instance.now constraints.now) }
 {
     let cluster = cluster_with(constraints.horizon, instance.cluster());
-    let nodes = nodes(alloc, instance)?;
+    let nodes = copies_of_nodes(alloc, instance.nodes())?;
     let processes = processes(alloc, instance, constraints)?;
     let links = links(alloc, instance, constraints)?;
     let messages = messages(alloc, instance, constraints)?;
-    match Instance::build(alloc, cluster, nodes, processes, links, messages) {
-        Ok(only) => Ok(only),
-        Err(ModelError::OutOfMemory) => Err(MemoryFault),
-        Err(_) => unreachable!(),
-    }
+    built(alloc, cluster, nodes, processes, links, messages)
 }

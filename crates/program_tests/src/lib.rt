@@ -4,6 +4,8 @@
 #[cfg(test)]
 mod comparisons;
 #[cfg(test)]
+mod early_ends;
+#[cfg(test)]
 mod failing_streams;
 #[cfg(test)]
 mod hostile_texts;

@@ -39,7 +39,7 @@ pub fn has(page: &Page, text: &str) -> bool {
 }
 
 /// Whether a page begins with this text.
-fn begins(page: &Page, text: &str) -> bool {
+pub fn begins(page: &Page, text: &str) -> bool {
     page.get_ref().starts_with(text.as_bytes())
 }
 

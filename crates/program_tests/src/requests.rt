@@ -28,6 +28,8 @@ const NO_BUDGET: &str =
 
 const NO_UNTIL: &str = "for '--until <D>': a whole number from 0 to 4294967295 is expected";
 
+const NO_GAP: &str = "for '--gap <N>': a whole number from 0 to 4294967295 is expected";
+
 const NO_SECONDS: &str =
     "for '--seconds <N>': a whole number from 1 to 18446744073709551615 is expected";
 
@@ -83,15 +85,39 @@ static ROWS: &[Row] = &[
     (&["ttplan", "judge", "a", "b", "c"], Ok("Judge { instance: \"a\", plan: \"b\", certificate: \"c\" }")),
     (
         &["ttplan", "why", "a"],
-        Ok("Why(Why { instance: \"a\", certificate: None, reduced: None, workers: 4, budget: 1000000 })"),
+        Ok("Why(Why { instance: \"a\", certificate: None, reduced: None, workers: 4, budget: 1000000, late: false })"),
     ),
     (
         &["ttplan", "why", "--workers", "2", "a", "--reduced", "b", "--cert=c", "--budget", "7"],
-        Ok("Why(Why { instance: \"a\", certificate: Some(\"c\"), reduced: Some(\"b\"), workers: 2, budget: 7 })"),
+        Ok("Why(Why { instance: \"a\", certificate: Some(\"c\"), reduced: Some(\"b\"), workers: 2, budget: 7, late: false })"),
+    ),
+    (
+        &["ttplan", "why", "--late", "a"],
+        Ok("Why(Why { instance: \"a\", certificate: None, reduced: None, workers: 4, budget: 1000000, late: true })"),
     ),
     (&["ttplan", "why", "a", "--workers", "0"], Err(NO_WORKERS)),
     (&["ttplan", "why", "a", "--cert", "./a"], Err(EMPTYING_CERTIFICATE)),
     (&["ttplan", "why", "a", "--reduced", "b", "--cert", "b"], Err(EMPTYING_REDUCED)),
+    (
+        &["ttplan", "limit", "a", "q"],
+        Ok("Limit(Limit { instance: \"a\", processes: [\"q\"], certificate: None, workers: 4, budget: 1000000 })"),
+    ),
+    (
+        &["ttplan", "limit", "--workers", "2", "a", "--cert=c", "q", "a", "q", "--budget", "7"],
+        Ok("Limit(Limit { instance: \"a\", processes: [\"q\", \"a\", \"q\"], certificate: Some(\"c\"), workers: 2, budget: 7 })"),
+    ),
+    (
+        &["ttplan", "limit", "a", "q", "--cert", "q"],
+        Ok("Limit(Limit { instance: \"a\", processes: [\"q\"], certificate: Some(\"q\"), workers: 4, budget: 1000000 })"),
+    ),
+    (&["ttplan", "limit", "a"], Err("<PROCESS>")),
+    (&["ttplan", "limit"], Err("<INSTANCE>")),
+    (&["ttplan", "limit", "a", "q", "--late"], Err("unexpected argument '--late'")),
+    (&["ttplan", "limit", "a", "q", "--workers", "17"], Err(NO_WORKERS)),
+    (&["ttplan", "limit", "a", "q", "--budget", "-1"], Err(NO_BUDGET)),
+    (&["ttplan", "limit", "a", "q", "--budget", "-1"], Err("Usage: ttplan limit")),
+    (&["ttplan", "limit", "a", "q", "--cert", ".//a"], Err(OVERWRITING)),
+    (&["ttplan", "limit", "a", "q", "--cert", "a"], Err("Usage: ttplan limit")),
     (
         &["ttplan", "compare", "a", "b", "c", "d"],
         Ok("Compare { old_instance: \"a\", old_plan: \"b\", new_instance: \"c\", new_plan: \"d\" }"),
@@ -102,39 +128,43 @@ static ROWS: &[Row] = &[
     (&["ttplan", "explain", "--cert=a", "a"], Ok("Explain { instance: \"a\", explained: Certificate(\"a\") }")),
     (
         &["ttplan", "solve", "a"],
-        Ok("Solve(Search { instance: \"a\", start: None, certificate: None, kept: None, workers: 4, budget: 1000000, progress: false, until: None, seconds: None })"),
+        Ok("Solve(Search { instance: \"a\", start: None, certificate: None, kept: None, workers: 4, budget: 1000000, progress: false, until: None, gap: 0, seconds: None })"),
     ),
     (
         &["ttplan", "solve", "a", "--cert", "c", "--workers", "1", "--budget", "0"],
-        Ok("Solve(Search { instance: \"a\", start: None, certificate: Some(\"c\"), kept: None, workers: 1, budget: 0, progress: false, until: None, seconds: None })"),
+        Ok("Solve(Search { instance: \"a\", start: None, certificate: Some(\"c\"), kept: None, workers: 1, budget: 0, progress: false, until: None, gap: 0, seconds: None })"),
     ),
     (
         &["ttplan", "solve", "a", "--workers", "16", "--budget", "18446744073709551615"],
-        Ok("Solve(Search { instance: \"a\", start: None, certificate: None, kept: None, workers: 16, budget: 18446744073709551615, progress: false, until: None, seconds: None })"),
+        Ok("Solve(Search { instance: \"a\", start: None, certificate: None, kept: None, workers: 16, budget: 18446744073709551615, progress: false, until: None, gap: 0, seconds: None })"),
     ),
     (
         &["ttplan", "solve", "a", "--progress", "--cert", "b/a"],
-        Ok("Solve(Search { instance: \"a\", start: None, certificate: Some(\"b/a\"), kept: None, workers: 4, budget: 1000000, progress: true, until: None, seconds: None })"),
+        Ok("Solve(Search { instance: \"a\", start: None, certificate: Some(\"b/a\"), kept: None, workers: 4, budget: 1000000, progress: true, until: None, gap: 0, seconds: None })"),
     ),
     (
         &["ttplan", "solve", "/a", "--cert", "a"],
-        Ok("Solve(Search { instance: \"/a\", start: None, certificate: Some(\"a\"), kept: None, workers: 4, budget: 1000000, progress: false, until: None, seconds: None })"),
+        Ok("Solve(Search { instance: \"/a\", start: None, certificate: Some(\"a\"), kept: None, workers: 4, budget: 1000000, progress: false, until: None, gap: 0, seconds: None })"),
     ),
     (
         &["ttplan", "solve", "a", "--until", "4294967295"],
-        Ok("Solve(Search { instance: \"a\", start: None, certificate: None, kept: None, workers: 4, budget: 1000000, progress: false, until: Some(4294967295), seconds: None })"),
+        Ok("Solve(Search { instance: \"a\", start: None, certificate: None, kept: None, workers: 4, budget: 1000000, progress: false, until: Some(4294967295), gap: 0, seconds: None })"),
+    ),
+    (
+        &["ttplan", "solve", "--gap", "4294967295", "a"],
+        Ok("Solve(Search { instance: \"a\", start: None, certificate: None, kept: None, workers: 4, budget: 1000000, progress: false, until: None, gap: 4294967295, seconds: None })"),
     ),
     (
         &["ttplan", "solve", "a", "--seconds", "1"],
-        Ok("Solve(Search { instance: \"a\", start: None, certificate: None, kept: None, workers: 4, budget: 1000000, progress: false, until: None, seconds: Some(1) })"),
+        Ok("Solve(Search { instance: \"a\", start: None, certificate: None, kept: None, workers: 4, budget: 1000000, progress: false, until: None, gap: 0, seconds: Some(1) })"),
     ),
     (
         &["ttplan", "solve", "a", "--keep", "b", "--cert", "a.new"],
-        Ok("Solve(Search { instance: \"a\", start: None, certificate: Some(\"a.new\"), kept: Some(\"b\"), workers: 4, budget: 1000000, progress: false, until: None, seconds: None })"),
+        Ok("Solve(Search { instance: \"a\", start: None, certificate: Some(\"a.new\"), kept: Some(\"b\"), workers: 4, budget: 1000000, progress: false, until: None, gap: 0, seconds: None })"),
     ),
     (
         &["ttplan", "solve", "a", "--start", "b"],
-        Ok("Solve(Search { instance: \"a\", start: Some(\"b\"), certificate: None, kept: None, workers: 4, budget: 1000000, progress: false, until: None, seconds: None })"),
+        Ok("Solve(Search { instance: \"a\", start: Some(\"b\"), certificate: None, kept: None, workers: 4, budget: 1000000, progress: false, until: None, gap: 0, seconds: None })"),
     ),
     (&["ttplan", "--version"], Ok("Version")),
     (&["ttplan", "-V"], Ok("Version")),
@@ -173,6 +203,10 @@ static REFUSED: &[Row] = &[
     (&["ttplan", "solve", "a", "--budget", ""], Err(NO_BUDGET)),
     (&["ttplan", "solve", "a", "--until", "4294967296"], Err(NO_UNTIL)),
     (&["ttplan", "solve", "a", "--until", "x"], Err(NO_UNTIL)),
+    (&["ttplan", "solve", "a", "--gap", "4294967296"], Err(NO_GAP)),
+    (&["ttplan", "solve", "a", "--gap", "-1"], Err(NO_GAP)),
+    (&["ttplan", "solve", "a", "--gap"], Err("<N>")),
+    (&["ttplan", "solve", "a", "--late"], Err("unexpected argument '--late'")),
     (&["ttplan", "solve", "a", "--seconds", "0"], Err(NO_SECONDS)),
     (&["ttplan", "solve", "a", "--cert", "a"], Err(OVERWRITING)),
     (&["ttplan", "solve", "a", "--cert=./a"], Err(OVERWRITING)),

@@ -12,4 +12,4 @@ pub use laws::{gaps_are_met, untils_are_met};
 pub use patience::{Patience, Patient};
 pub use planner::{FreeGate, Options};
 pub use progress::{Follower, Progress, Reading, Summary};
-pub use solve::{solve_run, solve_run_from, solve_run_with};
+pub use solve::{fault_of, solve_run, solve_run_from, solve_run_with, write_certificate};

@@ -158,7 +158,7 @@ fn cert_of(outcome: &Outcome) -> &Cert
 }
 
 /// The fault that the search's own is told as.
-fn fault_of(fault: SolveFault) -> SearchFault
+pub fn fault_of(fault: SolveFault) -> SearchFault
     ensures { result ≡ fault_of fault }
 {
     match fault {
@@ -260,7 +260,7 @@ fn solved_of_readers<R: Threads + Wait + Sync, G: Follower + Sync, I: Read, P: R
 }
 
 /// Writes a certificate whose version allows all its lines.
-fn write_certificate<C: Write>(alloc: Global, cert: &Cert, out: &mut C) -> Result<(), Fault>
+pub fn write_certificate<C: Write>(alloc: Global, cert: &Cert, out: &mut C) -> Result<(), Fault>
     requires { Allows cert.now.version cert.now.tree }
     ensures { IsCertifying cert.now (C.contents out.old) (C.contents out.new) result }
 {

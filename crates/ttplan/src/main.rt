@@ -9,10 +9,12 @@ use crate::plan_file::{PlanFile, name_beside, name_one_file};
 use command_streams::end_with;
 pub use command_streams::{End, Fault, SearchFault, Sink, Source, report, status};
 use command_words::{
-    Explained, Request, Search, Task, VERSION, Why, emptying_over, keeping_over, refuse, request_in,
+    Explained, Limit, NumberedCommand, Request, Search, Task, VERSION, Why, emptying_over,
+    keeping_over, refuse, request_in,
 };
 pub use compare_command::{Compared, Release, compare_run};
 pub use explain_command::{explain_certificate, explain_instance, explain_plan};
+pub use limit_command::limit_run;
 pub use plan_commands::{
     check_run, draw_run, judge_run, replay_run, schedule_run, tables, verify, verify_bundle,
 };
@@ -393,6 +395,30 @@ fn run_why(rt: &HostRuntime, threads: &(impl Threads + Wait + Sync), why: &Why) 
     }
 }
 
+/// Tells how early processes of the instance of a file can end. Both files are open before the instance is read.
+fn run_limit(rt: &HostRuntime, threads: &(impl Threads + Wait + Sync), limit: &Limit) -> End {
+    let Ok(mut instance) = File::open(rt, limit.instance) else {
+        return End::Refused(Fault::Unread(Source::Instance));
+    };
+    let mut certificate = match create_certificate(rt, limit.certificate) {
+        Ok(certificate) => certificate,
+        Err(fault) => return End::Refused(fault),
+    };
+    let options = Options {
+        workers: limit.workers,
+        budget: limit.budget,
+    };
+    limit_run(
+        threads,
+        rt.alloc(),
+        &mut instance,
+        limit.processes.as_slice(),
+        options,
+        certificate.as_mut(),
+        &mut rt.stdout(),
+    )
+}
+
 /// Does what is asked for, says on standard error why it was refused, and gives the status. A search starts threads and waits for
 /// them, and so does the check of a certificate.
 fn run(rt: &HostRuntime, threads: &(impl Threads + Wait + Sync), request: Request) -> u8
@@ -410,6 +436,7 @@ fn run(rt: &HostRuntime, threads: &(impl Threads + Wait + Sync), request: Reques
             let _ = why_command::report(&end, &mut rt.stderr());
             return why_command::status(&end);
         }
+        Request::Limit(limit) => run_limit(rt, threads, &limit),
         Request::Check {
             instance,
             certificate,
@@ -473,14 +500,27 @@ fn is_either(rt: &HostRuntime, file: &str, first: &str, second: Option<&str>) ->
     }
 }
 
-/// The option by which a request would empty a file that it names besides, and that file.
-fn emptied<'a>(rt: &HostRuntime, request: &Request<'a>) -> Option<(&'static str, &'a str)> {
-    let Request::Why(why) = request else {
-        return None;
-    };
-    match (why.certificate, why.reduced) {
-        (Some(file), _) if is_either(rt, file, why.instance, None) => Some(("cert", file)),
-        (other, Some(file)) if is_either(rt, file, why.instance, other) => Some(("reduced", file)),
+/// The command and the option by which a request would empty a file that it names besides, and that file.
+fn emptied<'a>(
+    rt: &HostRuntime,
+    request: &Request<'a>,
+) -> Option<(NumberedCommand, &'static str, &'a str)> {
+    match request {
+        Request::Why(why) => match (why.certificate, why.reduced) {
+            (Some(file), _) if is_either(rt, file, why.instance, None) => {
+                Some((NumberedCommand::Why, "cert", file))
+            }
+            (other, Some(file)) if is_either(rt, file, why.instance, other) => {
+                Some((NumberedCommand::Why, "reduced", file))
+            }
+            _ => None,
+        },
+        Request::Limit(limit) => match limit.certificate {
+            Some(file) if is_either(rt, file, limit.instance, None) => {
+                Some((NumberedCommand::Limit, "cert", file))
+            }
+            _ => None,
+        },
         _ => None,
     }
 }
@@ -495,8 +535,9 @@ fn status_of_words(
         Ok(request) => request,
         Err(error) => return refuse(&error, &mut rt.stderr()),
     };
-    if let Some((option, file)) = emptied(rt, &request) {
-        return refuse(&emptying_over(rt.alloc(), option, file), &mut rt.stderr());
+    if let Some((command, option, file)) = emptied(rt, &request) {
+        let error = emptying_over(rt.alloc(), command, option, file);
+        return refuse(&error, &mut rt.stderr());
     }
     match overwritten(rt, &request) {
         Ok(Some(file)) => refuse(&keeping_over(rt.alloc(), file), &mut rt.stderr()),

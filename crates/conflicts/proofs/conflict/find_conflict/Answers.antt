@@ -1,17 +1,17 @@
 use Rattle.std.proofs.Common.{subst}
-use Rattle.conflicts.specs.declared.searched.Tried.{Tried}
-use Rattle.conflicts.specs.Conflicts.{Tells}
+use Rattle.any_plan.specs.declared.sought.Sought.{Sought}
+use Rattle.any_plan.specs.Searches.{Tells}
 use Rattle.conflicts.proofs.Told.{whole_told}
 use Rattle.conflicts.proofs.conflict.find_conflict.Goals as goal
 
-pub returns-in-Plan : goal.returns-in-Plan
-returns-in-Plan g c =
+pub returns-in-Found : goal.returns-in-Found
+returns-in-Found g c =
     let i = c.args.instance.now in
     let whole = whole_told i c.args.options c.in_ok-kept.kept c.in_ok-delay.field-0 c.nodes-nodes.ensures.instance c.in_ok-kept.ensures c.in_ok-delay.ensures in
-    subst (λ (tried : Tried). Tells i c.args.options tried) c.in-Plan.is whole
+    subst (λ (sought : Sought). Tells i c.args.options sought) c.in-Found.is whole
 
-pub returns-in-Unknown : goal.returns-in-Unknown
-returns-in-Unknown g c =
+pub returns-in-Open : goal.returns-in-Open
+returns-in-Open g c =
     let i = c.args.instance.now in
     let whole = whole_told i c.args.options c.in_ok-kept.kept c.in_ok-delay.field-0 c.nodes-nodes.ensures.instance c.in_ok-kept.ensures c.in_ok-delay.ensures in
-    subst (λ (tried : Tried). Tells i c.args.options tried) c.in-Unknown.is whole
+    record { left = subst (λ (sought : Sought). Tells i c.args.options sought) c.in-Open.is whole }

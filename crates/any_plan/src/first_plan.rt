@@ -1,26 +1,26 @@
-//! When does a search end that looks for any plan?
+//! When does a search end that is for any plan?
 
 use branch_tree::Name;
 use planner::Gate;
 use std::sync::atomic::{AtomicBool, Ordering};
 use ttp_model::{Instance, Plan};
 
-/// Calls a search off once it was told of a plan.
+/// Ends a search once a plan is found.
 #[derive(Drop)]
-pub struct AnyPlan {
+pub struct FirstPlan {
     is_found: AtomicBool,
 }
 
-impl AnyPlan {
+impl FirstPlan {
     /// None is found yet.
     pub fn new() -> Self {
-        AnyPlan {
+        FirstPlan {
             is_found: AtomicBool::new(false),
         }
     }
 }
 
-impl Gate for AnyPlan {
+impl Gate for FirstPlan {
     fn start(&self, _worker: usize) {}
 
     fn enter(&self, _worker: usize, _name: &Name) {}

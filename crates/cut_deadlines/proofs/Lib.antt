@@ -1,0 +1,6 @@
+mod OneOf
+mod Deadlines
+mod CutProcesses
+pub mod CutPlans
+pub mod CutEnds
+pub mod CutRules

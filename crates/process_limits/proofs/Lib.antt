@@ -1,0 +1,4 @@
+mod Bounds
+mod Halves
+mod Shortest
+pub mod Texts

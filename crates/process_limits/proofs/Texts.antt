@@ -1,0 +1,42 @@
+-- The certificate of an answer has a text: the instance that was searched last keeps all rules.
+use Rattle.std.proofs.Common.{ℕ, List, None, slice_index_or, arith}
+use Rattle.ttp_model.specs.declared.plan.Plan.{Plan}
+use Rattle.ttp_model.specs.Instance.{Instance}
+use Rattle.ttp_model.specs.Rules.{IsInstance}
+use Rattle.ttp_model.specs.Delays.{delay}
+use Rattle.certificate.specs.Versions.{Allows}
+use Rattle.planner.specs.outcome.Options.{Options}
+use Rattle.planner.specs.outcome.Outcome.{Outcome}
+use Rattle.planner.specs.outcome.Outcome.TheVariants as outcome
+use Rattle.planner.specs.Answers as answers
+use Rattle.planner.proofs.AnswerVersions.{answer_allows}
+use Rattle.cut_deadlines.specs.Cut.{CanEndBy, cut}
+use Rattle.cut_deadlines.specs.Ends.{AreThere}
+use Rattle.cut_deadlines.proofs.CutEnds.{each_by_last}
+use Rattle.cut_deadlines.proofs.CutRules.{keeps_rules}
+use Rattle.process_limits.specs.declared.limit.EndLimit.{EndLimit}
+use Rattle.process_limits.specs.declared.limit.EndLimit.TheVariants.{Least, Reached, Between, Unknown, Infeasible}
+use Rattle.process_limits.specs.Answers.{cert_of, EndsAt, IsEndLimit, middle}
+use Rattle.process_limits.proofs.Bounds.{room}
+
+module _ (i : Instance) (ps : List ℕ) (options : Options) (w : IsInstance i) (are : AreThere i ps) where
+  -- what a valid plan does leaves room for each of them
+  room_of_plan : (plan : Plan) (end : ℕ) → EndsAt i ps plan end → CanEndBy i ps end
+  room_of_plan plan end ends k e h =
+      omega (arith, ends.valid.released (slice_index_or ps k e) (are k e h), each_by_last i ps plan end (omega (arith, ends.at)) k e h)
+
+  -- so the certificate of a search of the cut instance
+  cut_allows : (d : ℕ) (outcome : Outcome) → CanEndBy i ps d → answers.IsOutcome (cut i ps d) options outcome
+      → Allows (answers.cert_of outcome).version (answers.cert_of outcome).tree
+  cut_allows d outcome can is = answer_allows (cut i ps d) options outcome (keeps_rules i ps d w can) is
+
+  pub limit_allows : (limit : EndLimit) → IsEndLimit i ps options limit → Allows (cert_of limit).version (cert_of limit).tree
+  limit_allows (Least end plan cert) is =
+      cut_allows end (outcome.Optimal plan (delay i plan) cert) (room_of_plan plan end is.plan_ends) is.answer
+  limit_allows (Reached end plan cert) is =
+      cut_allows end (outcome.Stopped is.why is.low is.best cert) (room_of_plan plan end is.plan_ends) is.answer
+  limit_allows (Between low high plan cert) is =
+      let can = room i ps are low (middle low high) is.chains (omega arith) in
+      cut_allows (middle low high) (outcome.Stopped is.answer.why is.answer.low None cert) can is.answer.answered
+  limit_allows (Unknown low cert) is = answer_allows i options (outcome.Stopped is.answer.why is.answer.low None cert) w is.answer.answered
+  limit_allows (Infeasible cert) is = answer_allows i options (outcome.Infeasible cert) w is.answered

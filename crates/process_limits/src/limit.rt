@@ -1,0 +1,53 @@
+//! What is answered of some processes that are to end early?
+
+ghost use Rattle.std.specs.Prelude.{◌≡◌};
+ghost use Rattle.process_limits.specs.Answers.{cert_of};
+
+use certificate::Cert;
+use ttp_model::Plan;
+
+/// How early the last of some processes can end, in ticks, with the certificate of the last search.
+#[derive(Debug, Drop)]
+pub enum EndLimit {
+    /// At `end` and not before; the plan does it, and none that does has a smaller delay.
+    Least {
+        end: u32,
+        plan: Plan,
+        cert: Cert,
+    },
+    /// At `end` and not before; the plan does it, and whether another that does has a smaller delay isn't known.
+    Reached {
+        end: u32,
+        plan: Plan,
+        cert: Cert,
+    },
+    /// Not before `low`, and at `high`, as the plan does it.
+    Between {
+        low: u32,
+        high: u32,
+        plan: Plan,
+        cert: Cert,
+    },
+    /// Not before `low`; no plan is known.
+    Unknown {
+        low: u32,
+        cert: Cert,
+    },
+    /// No plan is valid.
+    Infeasible {
+        cert: Cert,
+    },
+}
+
+/// The certificate of the last search.
+pub fn cert_of(limit: &EndLimit) -> &Cert
+    ensures { result.now ≡ cert_of limit.now }
+{
+    match limit {
+        EndLimit::Least { cert, .. } => cert,
+        EndLimit::Reached { cert, .. } => cert,
+        EndLimit::Between { cert, .. } => cert,
+        EndLimit::Unknown { cert, .. } => cert,
+        EndLimit::Infeasible { cert } => cert,
+    }
+}
