@@ -3,7 +3,8 @@ use Rattle.std.proofs.Common.{◌≡◌, ℕ, Bool, true, false, Option, None, S
 use Rattle.std.proofs.lemmas.Bool.{leb-true}
 use Rattle.planner.specs.outcome.Why.{Why}
 use Rattle.planner.specs.outcome.Why.TheVariants as why
-use Rattle.solve_command.specs.Solved.{is_enough, why_word, IsEnough}
+use Rattle.search_watching.specs.Patience.{is_enough, IsEnough}
+use Rattle.solve_command.specs.Solved.{why_word}
 
 enough_is : (until best : Option ℕ) → is_enough until best ≡ true → IsEnough until best
 enough_is None best is = absurd cc

@@ -16,10 +16,8 @@ pub use explain_command::{explain_certificate, explain_instance, explain_plan};
 pub use plan_commands::{
     check_run, draw_run, judge_run, replay_run, schedule_run, tables, verify, verify_bundle,
 };
-use solve_command::{
-    Follower, FreeGate, Keeper, Patience, Patient, Progress, kept_end, solve_run_from,
-    solve_run_with,
-};
+use search_watching::{Follower, Keeper, Patience, Patient, Progress, kept_end};
+use solve_command::{FreeGate, solve_run_from, solve_run_with};
 pub use solve_command::{Options, solve_run};
 use std::alloc::AllocError;
 use std::fs::File;
