@@ -1,12 +1,14 @@
 //! Which plans does a search keep, and what does it say where one can't be kept?
 
 use crate::told::{FIRST, FIRST_PLAN, Told, joined};
-use solve_command::{FreeGate, Keeper, Options, Shelf, kept_end, solve_run_with};
+use search_watching::{Keeper, Shelf, kept_end};
+use solve_command::{FreeGate, Options, solve_run_with};
 use std::alloc::{Alloc, AllocError, Global};
 use std::io::{Cursor, Write};
 use std::sync::Wait;
 use std::test::Fail;
 use std::thread::Threads;
+use ttp_model::Instance;
 
 /// A page that takes no memory.
 type Page = Cursor<[u8; 4096]>;
@@ -49,7 +51,7 @@ impl Shelf for Board {
         self.kept
     }
 
-    fn put(&mut self, text: &[u8], ticks: u64) -> bool {
+    fn put(&mut self, _instance: &Instance, text: &[u8], ticks: u64) -> bool {
         self.calls = self.calls.saturating_add(1);
         if self.calls == self.failing {
             return false;

@@ -1,7 +1,8 @@
 //! When does a search end whose user has waited long enough, and what does it say then?
 
 use crate::told::{FIRST, FIRST_PLAN, Told, joined};
-use solve_command::{FreeGate, Options, Patience, Patient, solve_run_with};
+use search_watching::{Patience, Patient};
+use solve_command::{FreeGate, Options, solve_run_with};
 use std::alloc::{Alloc, AllocError, Global};
 use std::io;
 use std::rt::Clock;

@@ -1,7 +1,8 @@
 //! How a search says how far it is, and that its answer is the same.
 
 use crate::told::{FIRST, FIRST_PLAN, Told, joined};
-use solve_command::{Options, Progress, Reading, Summary, solve_run_with};
+use search_watching::{Progress, Reading, Summary};
+use solve_command::{Options, solve_run_with};
 use std::alloc::{Alloc, AllocError, Global};
 use std::fmt::Display;
 use std::io;

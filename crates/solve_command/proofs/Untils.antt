@@ -10,7 +10,8 @@ use Rattle.planner.specs.outcome.Why.{Why}
 use Rattle.planner.specs.outcome.Why.TheVariants as why
 use Rattle.planner.specs.Answers.{IsCause, IsOutcome}
 use Rattle.search_turns.specs.Ends.{IsNear}
-use Rattle.solve_command.specs.Solved.{is_enough, why_word, IsEnough}
+use Rattle.search_watching.specs.Patience.{is_enough, IsEnough}
+use Rattle.solve_command.specs.Solved.{why_word}
 
 enough_is : (until best : Option ℕ) → is_enough until best ≡ true → IsEnough until best
 enough_is None best is = absurd cc

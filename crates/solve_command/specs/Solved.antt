@@ -1,5 +1,5 @@
 -- What the bytes of an instance, and of a plan to begin with, are answered by a search, and what `solve` writes of the answer.
-use Rattle.std.specs.Prelude.{◌≡◌, ℕ, ◌<◌, ◌≤◌, List, [], ◌∷◌, ◌++◌, length, codes, decimal, nat_le}
+use Rattle.std.specs.Prelude.{◌≡◌, ℕ, ◌<◌, ◌≤◌, List, [], ◌∷◌, ◌++◌, length, codes, decimal}
 use Rattle.std.specs.Prelude.{Bool, true, false, Option, None, Some, IfSome}
 use Rattle.ttp_model.specs.declared.plan.Plan.{Plan as Table}
 use Rattle.ttp_model.specs.Instance.{Instance}
@@ -15,6 +15,7 @@ use Rattle.planner.specs.outcome.SolveFault.TheVariants as solving
 use Rattle.planner.specs.Answers as answers
 use Rattle.solve_command.specs.declared.solve.Solved.{Solved}
 use Rattle.search_turns.specs.Searching.{limit_of}
+use Rattle.search_watching.specs.Patience.{is_enough}
 use Rattle.plan_commands.specs.declared.verdict.Verified.{Verified}
 use Rattle.plan_commands.specs.Verdicts.{HasValidPlan, IsRefused, IsVerified}
 use Rattle.command_streams.specs.declared.ending.Source.TheVariants as source
@@ -31,18 +32,6 @@ use Rattle.solve_command.specs.Telling.{IsToldOf}
 abbrev pub fault_of : SolveFault → SearchFault
 fault_of solving.Memory = search.Memory
 fault_of solving.Thread = search.Thread
-
--- the best plan found takes at most as long as was asked for
-abbrev pub IsEnough : Option ℕ → Option ℕ → Type 0
-IsEnough None best = ⊥
-IsEnough (Some most) None = ⊥
-IsEnough (Some most) (Some ticks) = ticks ≤ most
-
--- whether it does
-abbrev pub is_enough : Option ℕ → Option ℕ → Bool
-is_enough None best = false
-is_enough (Some most) None = false
-is_enough (Some most) (Some ticks) = nat_le ticks most
 
 -- the word for why a search stopped; one that was called off ended for its plan, where that is short enough, and else for its time
 abbrev pub why_word : Why → Bool → List ℕ

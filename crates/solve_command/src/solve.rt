@@ -1,22 +1,24 @@
 //! What `solve` says of an instance, and the certificate that shows it.
 
-ghost use Rattle.std.specs.Prelude.{◌≡◌, ◌≤◌, ◌+◌, None, true, false, is_some, string_bytes, IfOk, IfSome, MatchResult};
+ghost use Rattle.std.specs.Prelude.{◌≡◌, ◌≤◌, ◌+◌, None, true, false, is_some, string_bytes, IfErr, IfOk, IfSome, MatchResult};
+ghost use Rattle.std.specs.Io.KnownBytes.{Keeps};
 ghost use Rattle.ttp_model.specs.Delays.{delay};
 ghost use Rattle.ttp_model.specs.Plans.{IsValid};
 ghost use Rattle.certificate.specs.Versions.{Allows};
+ghost use Rattle.command_streams.specs.Instances.{IsOfInstance};
 ghost use Rattle.command_streams.specs.Limits.{instance_limit, plan_limit};
+ghost use Rattle.command_streams.specs.Outcomes.{IfRefused};
 ghost use Rattle.command_streams.specs.Streams.{TakesAtMost};
 ghost use Rattle.search_turns.specs.Searching.{limit_of};
 ghost use Rattle.planner.specs.Answers.{best_of, cert_of, IsBestPlan, IsOutcome, Shows};
 ghost use Rattle.solve_command.specs.Solved.{best_word, fault_of, stopped_line, why_word, IsAnswerText, IsNoSearch, IsSearchOf, IsSolveAnswer, IsSolved, IsSolvedFrom, IsStartedAnswer, IsStoppedText, IsUnsolved, IsUnsolvedFrom};
 ghost use Rattle.solve_command.specs.Telling.{end_told, held, left, IsCertifying, IsTellingOf, IsWritingTo};
 
-use crate::patience::is_enough;
-use crate::progress::Follower;
 use certificate::Cert;
 use command_streams::{End, Fault, SearchFault, Sink, read_instance, write_text};
 use plan_commands::{Verified, verified_of_readers};
 use planner::{FreeGate, Options, Outcome, SolveFault, Why, solve_towards};
+use search_watching::{Follower, is_enough};
 use std::alloc::{AllocError, Global};
 use std::fmt;
 use std::io::{Read, Write};
@@ -254,6 +256,7 @@ fn solved_of_readers<R: Threads + Wait + Sync, G: Follower + Sync, I: Read, P: R
         Allows (cert_of solved.outcome).version (cert_of solved.outcome).tree) }
     ensures instance { TakesAtMost (instance_limit + 1) (I.remaining instance.old) (I.remaining instance.new) }
     ensures plan { TakesAtMost (plan_limit + 1) (P.remaining start.old) (P.remaining start.new) }
+    ensures unread { IfErr result (λ fault. IsOfInstance fault → Keeps (P.remaining start.old) (P.remaining start.new)) }
 {
     let Verified { instance, plan, .. } = verified_of_readers(alloc, instance, start)?;
     solved_instance(rt, alloc, instance, Some(plan), options, until, follower)
@@ -366,6 +369,8 @@ pub fn solve_run_from<
         (W.contents out.old) (W.contents out.new) result)) }
     ensures instance { TakesAtMost (instance_limit + 1) (I.remaining instance.old) (I.remaining instance.new) }
     ensures plan { TakesAtMost (plan_limit + 1) (P.remaining start.old) (P.remaining start.new) }
+    // Where the instance is refused, the plan is left unread.
+    ensures unread { IfRefused result (λ fault. IsOfInstance fault → Keeps (P.remaining start.old) (P.remaining start.new)) }
 {
     let found = solved_of_readers(rt, alloc, instance, start, options, until, follower);
     match certificate {

@@ -18,10 +18,8 @@ pub use limit_command::limit_run;
 pub use plan_commands::{
     check_run, draw_run, judge_run, replay_run, schedule_run, tables, verify, verify_bundle,
 };
-use solve_command::{
-    Follower, FreeGate, Keeper, Patience, Patient, Progress, kept_end, solve_run_from,
-    solve_run_with,
-};
+use search_watching::{Follower, Keeper, Patience, Patient, Progress, kept_end};
+use solve_command::{FreeGate, solve_run_from, solve_run_with};
 pub use solve_command::{Options, solve_run};
 use std::alloc::AllocError;
 use std::fs::File;
@@ -279,7 +277,7 @@ fn search_files(
     let options = Options {
         workers: search.workers,
         budget: search.budget,
-        gap: 0,
+        gap: search.gap,
     };
     let patience = Patience {
         until: search.until,
@@ -407,6 +405,7 @@ fn run_limit(rt: &HostRuntime, threads: &(impl Threads + Wait + Sync), limit: &L
     let options = Options {
         workers: limit.workers,
         budget: limit.budget,
+        gap: 0,
     };
     limit_run(
         threads,

@@ -1,10 +1,11 @@
 //! Where is the best plan so far kept, and which names are those of one file?
 
-use solve_command::Shelf;
+use search_watching::Shelf;
 use std::alloc::AllocError;
 use std::fs::{self, File};
 use std::io::{self, Write};
 use std::os::unix::fs::MetadataExt;
+use ttp_model::Instance;
 
 /// The file of the best plan so far. The next one is written to a file beside it, which then takes its name.
 #[derive(Drop)]
@@ -65,7 +66,7 @@ impl<'a> Shelf for PlanFile<'a> {
         self.kept
     }
 
-    fn put(&mut self, text: &[u8], ticks: u64) -> bool {
+    fn put(&mut self, _instance: &Instance, text: &[u8], ticks: u64) -> bool {
         let stands = self.write(text).is_ok() && fs::rename(self.rt, self.next, self.name).is_ok();
         if stands {
             self.kept = ticks;

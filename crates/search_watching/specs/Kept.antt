@@ -10,13 +10,12 @@ use Rattle.command_streams.specs.declared.ending.Fault.TheVariants.{Unwritten}
 use Rattle.command_streams.specs.declared.ending.End.{End}
 use Rattle.command_streams.specs.declared.ending.End.TheVariants.{Done, Absent, Stopped, Refused}
 
--- the text of a valid plan that takes so many ticks, and says so
-pub record IsPlanText (text : List ℕ) (ticks : ℕ) : Type 0 where
-  pub problem : Instance
+-- the text of a valid plan of the instance that takes so many ticks, and says so
+pub record IsPlanText (i : Instance) (text : List ℕ) (ticks : ℕ) : Type 0 where
   pub plan : Table
-  pub valid : IsValid problem plan
-  pub takes : ticks ≡ delay problem plan
-  pub spelled : SpellsPlan problem text plan ticks
+  pub valid : IsValid i plan
+  pub takes : ticks ≡ delay i plan
+  pub spelled : SpellsPlan i text plan ticks
 
 -- the end of a search whose best plan was to be kept: that it couldn't be is told where nothing else is
 abbrev pub kept_end : Bool → End → End

@@ -3,7 +3,7 @@
 ghost use Rattle.std.specs.Prelude.{◌≡◌, ◌<◌, ℕ, cond, min};
 ghost use Rattle.ttp_model.specs.Delays.{delay};
 ghost use Rattle.ttp_model.specs.Plans.{IsValid};
-ghost use Rattle.solve_command.specs.Kept.{kept_end, IsPlanText};
+ghost use Rattle.search_watching.specs.Kept.{kept_end, IsPlanText};
 
 use crate::progress::Follower;
 use branch_tree::Name;
@@ -23,9 +23,10 @@ pub trait Shelf: Drop {
     fn kept(&self) -> u64
         ensures { result ≡ kept self.now };
 
-    /// Whether the text of a better plan, which takes so many ticks, stands there now as a whole. Else the one before it still does.
-    fn put(&mut self, text: &[u8], ticks: u64) -> bool
-        requires text { IsPlanText text.now ticks }
+    /// Whether the text of a better plan of the instance that is searched, which takes so many ticks, stands there now as a whole. Else the one
+    /// before it still does.
+    fn put(&mut self, instance: &Instance, text: &[u8], ticks: u64) -> bool
+        requires text { IsPlanText instance.now text.now ticks }
         requires better { ticks < kept self.old }
         ensures { kept self.new ≡ cond result ticks (kept self.old) };
 }
@@ -47,7 +48,7 @@ fn put_better<S: Shelf>(
         return true;
     }
     match plan_format::print(alloc, instance, plan) {
-        Ok(text) => shelf.put(text.as_slice(), ticks),
+        Ok(text) => shelf.put(instance, text.as_slice(), ticks),
         Err(_) => false,
     }
 }

@@ -1,7 +1,7 @@
 //! When does a search end whose user has waited long enough?
 
 ghost use Rattle.std.specs.Prelude.{◌≡◌};
-ghost use Rattle.solve_command.specs.Solved.{is_enough};
+ghost use Rattle.search_watching.specs.Patience.{is_enough};
 
 use crate::progress::Follower;
 use branch_tree::Name;
