@@ -66,7 +66,11 @@ struct Written {
 
 /// How many subtrees each search has.
 fn options(budget: u64) -> Options {
-    Options { workers: 1, budget, gap: 0 }
+    Options {
+        workers: 1,
+        budget,
+        gap: 0,
+    }
 }
 
 /// What `limit` writes of an instance in parts.
