@@ -12,7 +12,7 @@ use Rattle.subtree_tasks.specs.Task.{Task, IsTask}
 use Rattle.incumbent.specs.declared.word.Incumbent.{Incumbent}
 use Rattle.incumbent.specs.Watch.{first_value, seen, offers, IsLeast}
 use Rattle.steal_pool.specs.Hand.{all_pushed, all_taken}
-use Rattle.pool_worker.specs.declared.goals.Aims.{Aims}
+use Rattle.pool_worker.specs.declared.aims.Aims.{Aims}
 use Rattle.pool_worker.specs.Goals.{goals_of, goals_at, IsReached}
 use Rattle.pool_worker.specs.Tasks.{tasks_of, all_born}
 use Rattle.planner.specs.declared.crew.Crew.{Crew}

@@ -15,7 +15,7 @@ use Rattle.incumbent.specs.declared.word.Incumbent.{Incumbent}
 use Rattle.incumbent.specs.Watch.{seen, offers, out_count, IsOpening}
 use Rattle.steal_pool.specs.declared.hand.Hand.{Hand}
 use Rattle.steal_pool.specs.Hand.{pushed, taken, IsSameHand, all_pushed, all_taken}
-use Rattle.pool_worker.specs.declared.goals.Aims.{Aims}
+use Rattle.pool_worker.specs.declared.aims.Aims.{Aims}
 use Rattle.pool_worker.specs.declared.report.Report.{Report}
 use Rattle.pool_worker.specs.Tasks.{Turn, IsTurn, tasks_of, pieces_of, all_born, born}
 use Rattle.pool_worker.specs.Goals.{goals_of, goals_at, IsReached}

@@ -13,7 +13,7 @@ use Rattle.certificate.specs.Trees.{Trees, none, grow, preorder}
 use Rattle.certificate.specs.Cert.{Cert}
 use Rattle.tree_check.specs.Proofs.{choices_below, Suits, AreProofs, Proves}
 use Rattle.tree_gathering.specs.Gathering.{HasGoal}
-use Rattle.pool_worker.specs.declared.goals.Aims.{Aims}
+use Rattle.pool_worker.specs.declared.aims.Aims.{Aims}
 use Rattle.pool_worker.proofs.Goals.{goal_near, goal_past}
 use Rattle.search_turns.specs.declared.outcome.Options.{Options}
 use Rattle.search_turns.specs.declared.outcome.Outcome.{Outcome}

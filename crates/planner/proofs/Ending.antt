@@ -16,7 +16,7 @@ use Rattle.subtree_tasks.specs.Pieces.{IsRight, StandsAt, AreRight}
 use Rattle.subtree_tasks.specs.Account.{IsWholeTree}
 use Rattle.branch_tree.specs.Work.{IsLeftClosed}
 use Rattle.subtree_tasks.proofs.OneChoice.{stands_alone}
-use Rattle.pool_worker.specs.declared.goals.Aims.{Aims}
+use Rattle.pool_worker.specs.declared.aims.Aims.{Aims}
 use Rattle.pool_worker.specs.Tasks.{tasks_of}
 use Rattle.search_turns.specs.declared.outcome.Options.{Options}
 use Rattle.search_turns.specs.Searching.{aim_of, IsWorkedOut, task_names, IsSearching}

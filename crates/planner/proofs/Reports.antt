@@ -4,7 +4,7 @@ use Rattle.std.proofs.lemmas.List.Elements.{All-head, All-tail, All-cons, All-ni
 use Rattle.ttp_model.specs.Instance.{Instance}
 use Rattle.incumbent.specs.declared.word.Incumbent.{Incumbent}
 use Rattle.incumbent.specs.Watch.{IsWatchOf}
-use Rattle.pool_worker.specs.declared.goals.Aims.{Aims}
+use Rattle.pool_worker.specs.declared.aims.Aims.{Aims}
 use Rattle.pool_worker.specs.declared.report.Report.{Report}
 use Rattle.planner.specs.declared.crew.Job.{Job}
 use Rattle.planner.specs.Crew.{AreReportsOf, IsJob, IsReportOfJob}

@@ -27,7 +27,7 @@ use Rattle.dropped_decisions.specs.Branches.{is_branch, branches}
 use Rattle.planner.specs.Answers.{is_closed_at, worked_at, in_answer}
 use Rattle.search_turns.specs.Searching.{aim_of, limit_of, IsFound, IsWorkedOut}
 use Rattle.planner.specs.Searched.{AreAims, IsClosedLeaf, IsEndTree, IsReason, IsSearched}
-use Rattle.pool_worker.specs.declared.goals.Aims.{Aims}
+use Rattle.pool_worker.specs.declared.aims.Aims.{Aims}
 use Rattle.pool_worker.proofs.Goals.{goal_near}
 use Rattle.search_turns.proofs.Searching.{aim_below, weaker_goal}
 use Rattle.tree_gathering.proofs.Has.{has_map, has_from_contains, contains_from_has}

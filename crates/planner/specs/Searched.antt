@@ -16,7 +16,7 @@ use Rattle.subtree_tasks.specs.Account.{IsWholeTree}
 use Rattle.search_turns.specs.declared.outcome.Options.{Options}
 use Rattle.search_turns.specs.declared.outcome.Why.{Why}
 use Rattle.search_turns.specs.declared.outcome.Why.TheVariants.{Budget, Memory, CalledOff, Gap}
-use Rattle.pool_worker.specs.declared.goals.Aims.{Aims}
+use Rattle.pool_worker.specs.declared.aims.Aims.{Aims}
 use Rattle.pool_worker.specs.Goals.{goal_of}
 use Rattle.search_turns.specs.Searching.{aim_of, limit_of, IsFound, IsWorkedOut}
 use Rattle.tree_gathering.specs.Gathering.{HasGoal, HaveGoals}

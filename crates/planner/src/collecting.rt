@@ -6,7 +6,7 @@ ghost use Rattle.subtree_tasks.specs.Task.{root_task, IsTask};
 ghost use Rattle.incumbent.specs.Watch.{first_value, offers, out_count, IsOpening, IsWatchOf};
 ghost use Rattle.steal_pool.specs.Hand.{all_pushed, all_taken, IsPool};
 ghost use Rattle.search_turns.specs.Searching.{limit_of, IsFound, IsSearching};
-ghost use Rattle.pool_worker.specs.declared.goals.Aims.{Aims};
+ghost use Rattle.pool_worker.specs.declared.aims.Aims.{Aims};
 ghost use Rattle.planner.specs.Crew.{budget_of, hands_of, told, AreDealt, AreReportsOf, HasLeft, HaveEnded, IsJob, IsNobody};
 
 use crate::crew::{Crew, Job, run_all};

@@ -11,7 +11,7 @@ use Rattle.incumbent.specs.Watch.{offers}
 use Rattle.steal_pool.specs.declared.hand.Hand.{Hand}
 use Rattle.steal_pool.specs.Hand.{pushed, taken}
 use Rattle.steal_pool.proofs.Orders.{then_same}
-use Rattle.pool_worker.specs.declared.goals.Aims.{Aims}
+use Rattle.pool_worker.specs.declared.aims.Aims.{Aims}
 use Rattle.pool_worker.specs.declared.report.Rest.TheVariants.{Nothing}
 use Rattle.pool_worker.specs.declared.run.Run.{Run}
 use Rattle.pool_worker.specs.Tasks.{IsTurn}

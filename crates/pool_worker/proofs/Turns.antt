@@ -15,7 +15,7 @@ use Rattle.incumbent.specs.Watch.{seen, offers}
 use Rattle.steal_pool.specs.declared.hand.Hand.{Hand}
 use Rattle.steal_pool.specs.Hand.{pushed, taken, IsSameHand}
 use Rattle.steal_pool.proofs.Orders.{then_same, first_same}
-use Rattle.pool_worker.specs.declared.goals.Aims.{Aims}
+use Rattle.pool_worker.specs.declared.aims.Aims.{Aims}
 use Rattle.pool_worker.specs.declared.report.Rest.{Rest}
 use Rattle.pool_worker.specs.declared.report.Rest.TheVariants.{Nothing}
 use Rattle.pool_worker.specs.declared.run.Run.{Run}

@@ -7,7 +7,7 @@ use Rattle.incumbent.specs.declared.word.Watch.{Watch}
 use Rattle.incumbent.specs.Watch.{offers}
 use Rattle.steal_pool.specs.declared.hand.Hand.{Hand}
 use Rattle.steal_pool.specs.Hand.{pushed, taken, IsSameHand}
-use Rattle.pool_worker.specs.declared.goals.Aims.{Aims}
+use Rattle.pool_worker.specs.declared.aims.Aims.{Aims}
 use Rattle.pool_worker.specs.declared.report.Rest.{Rest}
 use Rattle.pool_worker.specs.declared.report.Rest.TheVariants as hold
 use Rattle.pool_worker.specs.declared.run.Run.{Run}

@@ -9,8 +9,8 @@ ghost use Rattle.pool_worker.specs.declared.run.Sweep.TheVariants as sweep;
 ghost use Rattle.used_decisions.specs.declared.manner.Manner.TheVariants.{Plain};
 ghost use Rattle.pool_worker.specs.Run.{GoesOn, Pushes, Refuses, Spares, Works, rest_after};
 
+use crate::aims::{Aims, goal_of};
 use crate::gate::Gate;
-use crate::goals::{Aims, goal_of};
 use crate::report::Rest;
 use branch_tree::{Name, Piece, Task, Workbench, Worked, work_on};
 use certificate::{Branch, Node};

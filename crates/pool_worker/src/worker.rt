@@ -12,8 +12,8 @@ ghost use Rattle.pool_worker.specs.Run.{GoesOn};
 ghost use Rattle.used_decisions.specs.Manners.{usual_manner};
 ghost use Rattle.used_decisions.specs.declared.manner.Manner.TheVariants.{Plain};
 
+use crate::aims::Aims;
 use crate::gate::Gate;
-use crate::goals::Aims;
 use crate::report::{Ending, Report, Rest};
 use crate::run::{Run, Sweep};
 use branch_tree::Workbench;

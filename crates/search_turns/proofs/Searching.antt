@@ -14,7 +14,7 @@ use Rattle.certificate.specs.declared.node.Node.TheVariants as node
 use Rattle.subtree_tasks.specs.declared.piece.Piece.{Piece}
 use Rattle.subtree_tasks.specs.Task.{Task, IsTask, root_task}
 use Rattle.pool_worker.specs.Best.{IsPlanFound}
-use Rattle.pool_worker.specs.declared.goals.Aims.{Aims}
+use Rattle.pool_worker.specs.declared.aims.Aims.{Aims}
 use Rattle.pool_worker.specs.Tasks.{Turn, IsTurn, tasks_of, born, all_born}
 use Rattle.search_turns.specs.Searching.{aim_of, limit_of, IsFound, IsSearching}
 use Rattle.pool_worker.proofs.Goals.{goal_below, goal_rises}

@@ -6,7 +6,7 @@ use Rattle.subtree_tasks.specs.declared.piece.Piece.{Piece}
 use Rattle.subtree_tasks.specs.Name.{Name}
 use Rattle.subtree_tasks.specs.Task.{Task, IsTask, root_task}
 use Rattle.pool_worker.specs.Best.{IsPlanFound}
-use Rattle.pool_worker.specs.declared.goals.Aims.{Aims}
+use Rattle.pool_worker.specs.declared.aims.Aims.{Aims}
 use Rattle.pool_worker.specs.Goals.{goal_of}
 use Rattle.pool_worker.specs.Tasks.{Turn, IsTurn, tasks_of, pieces_of, all_born}
 use Rattle.tree_gathering.specs.Gathering.{HaveGoals}

@@ -4,7 +4,7 @@ ghost use Rattle.std.specs.Prelude.{◌≡◌, ◌≤◌, ◌<◌, ◌+◌, ◌+
 ghost use Rattle.ttp_model.specs.declared.limits.TheConstants.{MOST_NODES};
 ghost use Rattle.subtree_tasks.specs.Task.{IsTask};
 ghost use Rattle.branch_tree.specs.Workbench.{IsWorkbenchOf};
-ghost use Rattle.pool_worker.specs.declared.goals.Aims.{Aims};
+ghost use Rattle.pool_worker.specs.declared.aims.Aims.{Aims};
 ghost use Rattle.search_turns.specs.Searching.{aim_of, limit_of, IsFound, IsWorkedOut, IsSearching};
 
 use crate::outcome::Why;
