@@ -797,7 +797,7 @@ def is_number(word):
 
 def is_stopped_line(line):
     words = line.split(b" ")
-    return (len(words) == 4 and words[0] == b"stopped" and words[1] in (b"budget", b"memory", b"until", b"time")
+    return (len(words) == 4 and words[0] == b"stopped" and words[1] in (b"budget", b"memory", b"until", b"time", b"gap")
             and is_number(words[2]) and (words[3] == b"none" or is_number(words[3])))
 
 
