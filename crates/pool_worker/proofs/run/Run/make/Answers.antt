@@ -188,3 +188,18 @@ found-requires g c =
     let find : IsFind i (choice_of i t) c.goal_of-goal.result c.in-Ok-Found.plan c.in-Ok-Found.delay c.in-Ok-Found.leaf =
     subst (IsWorked i t c.goal_of-goal.result) c.in-Ok-Found.field-0-is c.in-Ok-Found.ensures.worked in
     record { settled = find.settled; delay_is = find.delay_is }
+
+pub returns-in-Err-clause-back : goal.returns-in-Err-clause-back
+returns-in-Err-clause-back g c = (
+  c.in-Err.ensures.back,
+  record {
+    same = record { number = refl; own = refl; deques = refl; out = refl };
+    takes = refl;
+    pushes = refl;
+    pieces = c.make_room.ensures.same;
+    spared = refl;
+    follows =
+        looked c.args.self.now.watch c.look-seen.new.watch c.look-seen.result c.look-seen.ensures.same c.look-seen.ensures.seen c.look-seen.ensures.offers;
+    best = record { offered = c.look-seen.ensures.offers; best = refl };
+  },
+)
