@@ -5,7 +5,7 @@ mod aiming;
 mod closing;
 mod collecting;
 mod crew;
-mod ending;
+mod end_tree;
 mod joining;
 mod laws;
 mod leaner;

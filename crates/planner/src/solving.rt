@@ -17,7 +17,7 @@ use crate::aiming::aims_of;
 use crate::closing::close_all;
 use crate::collecting::searched;
 use crate::crew::better;
-use crate::ending::ended;
+use crate::end_tree::ended;
 use crate::joining::join;
 use crate::leaner::{lean_proof, leaner};
 use crate::reserve::Reserve;

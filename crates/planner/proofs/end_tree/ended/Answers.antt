@@ -8,7 +8,7 @@ use Rattle.planner.specs.Searched.{IsLowest}
 use Rattle.planner.proofs.Ended.{end_answers}
 use Rattle.planner.proofs.Lowest.{below_limit}
 use Rattle.planner.proofs.Starts.{answer_best}
-use Rattle.planner.proofs.ending.ended.Goals as goal
+use Rattle.planner.proofs.end_tree.ended.Goals as goal
 
 pub returns-clause-answer : goal.returns-clause-answer
 returns-clause-answer c =
