@@ -110,6 +110,7 @@ module _ (i : Instance) (ps : List ℕ) (d : ℕ) (w : IsInstance i) (can : CanE
     closes = leads _ _ closed.closes;
   })
 
+  -- all rules, one by one
   pub keeps_rules : IsInstance j
   keeps_rules = record {
     limits = limits;

@@ -17,7 +17,8 @@ use Rattle.command_streams.proofs.Outcomes.{keeps}
 use Rattle.solve_command.specs.Telling.{IsCertified, IsCertifying, IsWritingTo}
 use Rattle.limit_command.specs.declared.limits.Limited.{Limited}
 use Rattle.limit_command.specs.Names.{IsNameFault}
-use Rattle.limit_command.specs.Limited.{end_told, plan_of, HasValidPlan, IsLimitAnswer, IsLimitOf, IsLimited, IsLimitedOf, IsNoLimitOf, IsToldLimit, IsUnlimited, IsUntold}
+use Rattle.limit_command.specs.Limited.{end_told, plan_of, HasValidPlan, IsLimitAnswer, IsLimitOf, IsLimited, IsLimitedOf}
+use Rattle.limit_command.specs.Limited.{IsNoLimitOf, IsToldLimit, IsUnlimited, IsUntold}
 
 -- the plan of an answer is valid
 pub plan_valid : (i : Instance) (words : List (List ℕ)) (options : Options) (limit : EndLimit)

@@ -19,6 +19,12 @@ const FIRST_LIMITED: &str =
 const SENDER_LIMITED: &str =
     "limit 3\nttplan 1\ndelay 9\norder A B\ncap A 2\ncap B 0\nstart p 0\nstart q 7\nround m 1\n";
 
+const FIRST_BETWEEN: &str =
+    "between 8 10\nttplan 1\ndelay 10\norder B A\ncap A 2\ncap B 0\nstart p 0\nstart q 8\nround m 1\n";
+
+const SENDER_STOPPED: &str =
+    "limit 3\nttplan 1\ndelay 10\norder B A\ncap A 2\ncap B 0\nstart p 0\nstart q 8\nround m 1\n";
+
 /// A process that would rather run behind another one, which has to wait, than before it.
 const TURNED: &[&str] = &[
     "node = [{name = 'A', capacities = [0]}]\n",
@@ -50,6 +56,8 @@ static ROWS: &[Row] = &[
     (TURNED, &["q", "p"], 1_000, "limit 7\nttplan 1\ndelay 7\norder A\ncap A 0\nstart p 0\nstart q 5\n", 0),
     (EARLY, &["q"], 1_000, "none\n", 10),
     (FIRST, &["q"], 0, "between 8 none\n", 11),
+    (FIRST, &["q"], 13, FIRST_BETWEEN, 11),
+    (FIRST, &["p"], 13, SENDER_STOPPED, 11),
     (FIRST, &["p", "r"], 1_000, "limit name 1\n", 5),
     (FIRST, &["A"], 1_000, "limit name 0\n", 5),
     (FIRST, &["p", "q", "p"], 1_000, "limit name 2\n", 5),

@@ -1,5 +1,5 @@
 use Rattle.std.proofs.Common.{Err, true, subst}
-use Rattle.solve_command.specs.Solved.{IsCertifying}
+use Rattle.solve_command.specs.Telling.{IsCertifying}
 use Rattle.limit_command.proofs.Telling.{told_of_reader, uncertified_of_reader}
 use Rattle.limit_command.proofs.limits.limit_certified.Goals as goal
 
