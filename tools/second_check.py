@@ -13,12 +13,17 @@
     tools/second_check.py limit INSTANCE ANSWER CERT PROCESS..
                                                    writes the first line of ANSWER, which `ttplan limit INSTANCE PROCESS..` printed
                                                    with CERT as its certificate, where the two show what they have to
+    tools/second_check.py why INSTANCE [OPTION]..  asks `ttplan why` with these words, and writes what that says once it is judged
 
 Anything else is told in one line on standard error, with the words and the statuses of `ttplan verify`, `check`, `judge`,
 `schedule`, `draw` and `compare`.
 It was written from docs/FORMATS.md and docs/CERTIFICATES.md alone, but for the elements and colours of a picture, which stand in
 crates/plan_picture/specs, and is proved in no way: where it and ttplan differ, a
 document is wrong, or one of the two programs is.
+
+It looks for nothing by itself. So why there is no plan is asked of ttplan: the instance by the constraints that are told has to be the
+one that was written, its certificate has to prove that it has no plan, and for each `need`, left out too, ttplan has to find a plan,
+which is judged here. An answer that isn't so is told as `why wrong`, with what is, and status 1.
 
 Two things may differ: which circle of processes is told (M13), where there are several, and what Python's reader of TOML
 1.0 takes for no TOML (T1): new lines and a last comma in inline tables, `\\e` and `\\x41` in strings, times without seconds,
@@ -29,10 +34,14 @@ import contextlib
 import copy
 import functools
 import itertools
+import json
 import math
 import os
+import pathlib
 import re
+import subprocess
 import sys
+import tempfile
 import tomllib
 from dataclasses import dataclass, replace
 
@@ -1250,12 +1259,173 @@ def check(instance, certificate_text):
     return f"bound {proved_bound(instance, certificate_text)}"
 
 
+# Why there is no plan
+
+
+PROGRAM = pathlib.Path(__file__).resolve().parent.parent / "ttplan"
+
+
+def wrong(*words):
+    return Refused(1, "why wrong", *words)
+
+
+def constraints(instance):
+    """Each constraint of an instance, by its kind and its index there, and the words that tell it, in the order in which they are told."""
+    names = [process.name for process in instance.processes]
+    if instance.horizon < TICKS_MOST:
+        yield ("horizon", 0), f"horizon {instance.horizon}"
+    for p, process in enumerate(instance.processes):
+        if process.deadline < TICKS_MOST:
+            yield ("deadline", p), f"deadline {process.name} {process.deadline}"
+    for p, process in enumerate(instance.processes):
+        if process.release > 0:
+            yield ("release", p), f"release {process.name} {process.release}"
+    for m, message in enumerate(instance.messages):
+        yield ("message", m), f"message {message.name}"
+    for m, message in enumerate(instance.messages):
+        if message.both:
+            yield ("both", m), f"both {message.name}"
+    for k, link in enumerate(instance.links):
+        yield ("link", k), f"link {names[link.before]} {names[link.after]}"
+
+
+def told_constraints(instance, lines):
+    """The constraints that lines tell, each with its word; raises Refused."""
+    places, told = constraints(instance), []
+    for line in lines:
+        word, _, words = line.partition(" ")
+        constraint = next((constraint for constraint, there in places if there == words), None)
+        if word not in ("need", "maybe") or constraint is None:
+            raise wrong(f"line '{line}'")
+        told.append((word, constraint, words))
+    return told
+
+
+def instance_text(cluster, nodes, processes, links, messages):
+    """A text that states an instance of these."""
+    names = [process.name for process in processes]
+    tables = [("[cluster]", cluster)]
+    tables += [("[[node]]", {"name": node.name, "capacities": node.capacities}) for node in nodes]
+    tables += [("[[process]]", vars(process) | {"node": nodes[process.node].name}) for process in processes]
+    tables += [("[[link]]", {"from": names[link.before], "to": names[link.after]}) for link in links]
+    tables += [("[[message]]", {
+        "name": message.name, "from": names[message.sender], "to": [names[q] for q in message.to], "bytes": message.bytes,
+        "both": message.both}) for message in messages]
+    # Names are letters, digits and underscores, so that TOML writes these values as JSON does.
+    return "".join(f"{head}\n" + "".join(f"{key} = {json.dumps(value)}\n" for key, value in table.items()) for head, table in tables).encode()
+
+
+def only(instance, kept):
+    """The instance by these of its constraints alone."""
+    processes = [replace(process, deadline=process.deadline if ("deadline", p) in kept else TICKS_MOST,
+                         release=process.release if ("release", p) in kept else 0)
+                 for p, process in enumerate(instance.processes)]
+    links = [link for k, link in enumerate(instance.links) if ("link", k) in kept]
+    messages = [replace(message, both=("both", m) in kept)
+                for m, message in enumerate(instance.messages) if ("message", m) in kept]
+    horizon = instance.horizon if ("horizon", 0) in kept else TICKS_MOST
+    return Instance(instance_text(instance.cluster | {"horizon": horizon}, instance.nodes, processes, links, messages))
+
+
+def later(instance, ticks):
+    """The instance with its horizon and its deadlines so many ticks later."""
+    processes = [replace(process, deadline=min(process.deadline + ticks, TICKS_MOST)) for process in instance.processes]
+    cluster = instance.cluster | {"horizon": min(instance.horizon + ticks, TICKS_MOST)}
+    return Instance(instance_text(cluster, instance.nodes, processes, instance.links, instance.messages))
+
+
+def are_same(one, other):
+    return all(getattr(one, part) == getattr(other, part) for part in ("cluster", "nodes", "processes", "links", "messages"))
+
+
+def text_of(instance):
+    return instance_text(instance.cluster, instance.nodes, instance.processes, instance.links, instance.messages)
+
+
+def asked(*words):
+    """What ttplan writes, and its status."""
+    done = subprocess.run([PROGRAM, *words], capture_output=True)
+    return done.stdout, done.stderr.decode(errors="replace").rstrip("\n"), done.returncode
+
+
+def has_plan(instance, folder):
+    """Whether ttplan finds a plan, which is judged here; raises Refused."""
+    path = folder / "instance.toml"
+    path.write_bytes(text_of(instance))
+    return given_delay(instance, asked("solve", path, "--until", str(TICKS_MOST))[0]) is not None
+
+
+def is_shown_without(instance, folder):
+    """Whether ttplan finds that there is no plan, by a certificate that is judged here; raises Refused."""
+    path, certificate = folder / "instance.toml", folder / "instance.cert"
+    path.write_bytes(text_of(instance))
+    status = asked("solve", path, "--cert", certificate)[2]
+    return status == 10 and proved_bound(instance, certificate.read_bytes()) == instance.horizon + 1
+
+
+def judge_conflict(instance, lines, reduced_text, certificate_text, folder):
+    """Judges the constraints that are told to leave no plan; raises Refused."""
+    told = told_constraints(instance, lines)
+    kept = {constraint for _, constraint, _ in told}
+    reduced = only(instance, kept)
+    if not are_same(reduced, Instance(reduced_text)):
+        raise wrong("reduced")
+    if proved_bound(reduced, certificate_text) != reduced.horizon + 1:
+        raise wrong("certificate")
+    for word, constraint, words in told:
+        if word == "need" and not has_plan(only(instance, kept - {constraint}), folder):
+            raise wrong(word, words)
+
+
+def judge_answer(instance, answer, reduced, certificate, folder):
+    """Judges what is told behind the first line; raises Refused."""
+    what, *lines = answer.split("\n")
+    late = lines.pop() if lines and lines[-1].startswith("late ") else None
+    if what == "none":
+        judge_conflict(instance, lines, reduced.read_bytes(), certificate.read_bytes(), folder)
+    elif lines or not (what == "unknown" or what.startswith("plan ") and has_plan(instance, folder)):
+        raise wrong(what)
+    if late:
+        ticks = int(late.removeprefix("late "))
+        if not has_plan(later(instance, ticks), folder) or not is_shown_without(later(instance, ticks - 1), folder):
+            raise wrong(late)
+
+
+def file_named(words, option, folder):
+    """The file that an option names, or else one in the folder, and the words that name it."""
+    for k, word in enumerate(words):
+        if word == option and k + 1 < len(words):
+            return pathlib.Path(words[k + 1]), []
+        if word.startswith(f"{option}="):
+            return pathlib.Path(word.removeprefix(f"{option}=")), []
+    path = folder / option.strip("-")
+    return path, [option, path]
+
+
+def why(words):
+    """What `ttplan why` says with these words, once it is judged, and its status; raises Refused, also as that refuses."""
+    with tempfile.TemporaryDirectory(prefix="ttplan-") as name:
+        folder = pathlib.Path(name)
+        reduced, more = file_named(words, "--reduced", folder)
+        certificate, most = file_named(words, "--cert", folder)
+        out, error, status = asked("why", *words, *more, *most)
+        if status not in (0, 3, 10, 11):
+            raise Refused(status, error)
+        with opened(words[0], "instance") as file:
+            instance = Instance(taken(file, "instance", INSTANCE_BYTES))
+        head, _, answer = out.decode().rstrip("\n").partition("\n")
+        if head != "ttwhy 1" or status != {"plan": 0, "none": 10, "unknown": 11}.get(answer.split()[0]):
+            raise wrong(head, status)
+        judge_answer(instance, answer, reduced, certificate, folder)
+        return f"{head}\n{answer}", status
+
+
 # The program
 
 
 USAGE = ("usage: second_check.py verify INSTANCE PLAN | check INSTANCE CERT | judge INSTANCE PLAN CERT"
          " | schedule INSTANCE PLAN [--table TABLE] | draw INSTANCE PLAN [--width PX] [--used]"
-         " | compare OLD_INSTANCE OLD_PLAN NEW_INSTANCE NEW_PLAN | limit INSTANCE ANSWER CERT PROCESS..")
+         " | compare OLD_INSTANCE OLD_PLAN NEW_INSTANCE NEW_PLAN | limit INSTANCE ANSWER CERT PROCESS.. | why INSTANCE [OPTION]..")
 COMMANDS = {"verify": (verify, "plan", PLAN_BYTES), "check": (check, "certificate", CERTIFICATE_BYTES)}
 
 
@@ -1387,6 +1557,8 @@ def run(words):
         return compare(words[1:])
     if len(words) >= 5 and words[0] == "limit":
         return limit(words[1:4], words[4:])
+    if len(words) >= 2 and words[0] == "why":
+        return why(words[1:])
     command, what, most = command_of(words)
     with opened(words[1], "instance") as instance, opened(words[2], what) as text:
         judged = Instance(taken(instance, "instance", INSTANCE_BYTES))

@@ -1,9 +1,10 @@
 //! What `why` writes of worked examples, wherever a read or a write fails, and where an allocation is refused.
 
 use crate::failing_streams::{Calls, Keeper, Source};
-use crate::refusals::{Page, has, page};
+use crate::refusals::{Page, has, is_told, page};
 use crate::solves::CLUSTER_BEFORE_HORIZON;
 use crate::told::{CLUSTER, FIRST, FIRST_PARTS, joined};
+use plan_commands::check_run;
 use std::alloc::{Alloc, AllocError, Global};
 use std::process::Abort;
 use std::sync::Wait;
@@ -269,11 +270,99 @@ fn failing_streams_of_reasons(rt: HostRuntime) -> Result<(), Fail> {
     Ok(())
 }
 
-/// Whether it is told why there is no plan. A run that has written nothing and says that there is no memory ends the test.
-fn tells(rt: &(impl Alloc<A = Global> + Threads + Wait + Sync)) -> Result<bool, Fail> {
+/// The constraints of the message that fits in no frame, as they are told, and whether there is a plan without each.
+const NO_FRAME_CONSTRAINTS: &[(&str, bool)] = &[
+    ("horizon 100\n", false),
+    ("deadline r 50\n", false),
+    ("release p 1\n", false),
+    ("message m\n", true),
+    ("link q r\n", false),
+];
+
+/// The bytes of a page.
+fn bytes_of(page: &Page) -> &[u8] {
+    let end = page.position() as usize;
+    page.get_ref().get(..end).unwrap_or(&[])
+}
+
+/// What stands behind the line of a constraint, where that is in front, with the word `need` only where there is a plan without it.
+fn behind<'a>(text: &'a [u8], constraint: &str, is_needed: bool) -> Option<&'a [u8]> {
+    let behind_word = match text.strip_prefix(b"maybe ") {
+        Some(told) => told,
+        None if is_needed => text.strip_prefix(b"need ")?,
+        None => return None,
+    };
+    behind_word.strip_prefix(constraint.as_bytes())
+}
+
+/// Whether lines tell a conflict of that instance, be it more than is needed: some of its constraints, each in its place, with the one that is needed.
+fn are_conflict(lines: &[u8]) -> bool {
+    let mut rest = lines;
+    for (constraint, is_needed) in NO_FRAME_CONSTRAINTS {
+        match behind(rest, constraint, *is_needed) {
+            Some(more) => rest = more,
+            None if *is_needed => return false,
+            None => {}
+        }
+    }
+    rest.is_empty()
+}
+
+/// What a run has written.
+#[derive(Drop)]
+struct Pages {
+    status: u8,
+    out: Page,
+    error: Page,
+    certificate: Page,
+    reduced: Page,
+}
+
+impl Pages {
+    /// Whether neither the certificate nor the instance is written.
+    fn have_no_files(&self) -> bool {
+        has(&self.certificate, "") && has(&self.reduced, "")
+    }
+
+    /// Whether it has nothing else, and says that there is no memory, or no thread; or that a search was stopped before it knew anything.
+    fn are_refused(&self) -> bool {
+        let is_told = match self.status {
+            4 => has(&self.out, "") && has(&self.error, "memory\n"),
+            7 => has(&self.out, "") && has(&self.error, "solve thread\n"),
+            11 => has(&self.out, "ttwhy 1\nunknown\n") && has(&self.error, ""),
+            _ => false,
+        };
+        is_told && self.have_no_files()
+    }
+
+    /// Whether it tells a conflict.
+    fn tell_conflict(&self) -> bool {
+        match bytes_of(&self.out).strip_prefix(b"ttwhy 1\nnone\n") {
+            Some(lines) => self.status == 10 && are_conflict(lines) && has(&self.error, ""),
+            None => false,
+        }
+    }
+
+    /// Whether the certificate shows that the instance written has no plan, which ends a tick later where the horizon isn't told.
+    fn are_certified(&self, rt: &(impl Alloc<A = Global> + Threads + Sync)) -> Result<bool, Fail> {
+        let mut out = page();
+        let (mut reduced, mut certificate) = (bytes_of(&self.reduced), bytes_of(&self.certificate));
+        let end = check_run(rt, rt.alloc(), &mut reduced, &mut certificate, &mut out);
+        let is_late = bytes_of(&self.out).starts_with(b"ttwhy 1\nnone\nmaybe horizon");
+        let bound = if is_late {
+            "bound 101\n"
+        } else {
+            "bound 1000001\n"
+        };
+        is_told(&end, &out, bound)
+    }
+}
+
+/// What is written of the message that fits in no frame.
+fn pages_of(rt: &(impl Alloc<A = Global> + Threads + Wait + Sync)) -> Result<Pages, Fail> {
     let instance = joined(rt.alloc(), NO_FRAME)?;
     let (mut out, mut error) = (page(), page());
-    let (mut certificate, mut reduced): (Page, Page) = (page(), page());
+    let (mut certificate, mut reduced) = (page(), page());
     let end = why_run(
         rt,
         rt.alloc(),
@@ -292,13 +381,30 @@ fn tells(rt: &(impl Alloc<A = Global> + Threads + Wait + Sync)) -> Result<bool, 
         &mut out,
     );
     report(&end, &mut error)?;
-    let is_silent = has(&out, "") && has(&certificate, "") && has(&reduced, "");
-    if status(&end) == 4 && is_silent && has(&error, "memory\n") {
-        return Err(MemoryFault.into());
-    }
-    Ok(status(&end) == 10 && has(&out, "ttwhy 1\nnone\nneed message m\n") && has(&error, ""))
+    Ok(Pages {
+        status: status(&end),
+        out,
+        error,
+        certificate,
+        reduced,
+    })
 }
 
+/// Whether it is told why there is no plan. A run that tells of a refusal, or less than all for the sake of one, ends the test.
+fn tells(rt: &(impl Alloc<A = Global> + Threads + Wait + Sync)) -> Result<bool, Fail> {
+    let pages = pages_of(rt)?;
+    if pages.are_refused() {
+        return Err(MemoryFault.into());
+    }
+    let is_right = pages.tell_conflict() && pages.are_certified(rt)?;
+    if is_right && !has(&pages.out, "ttwhy 1\nnone\nneed message m\n") {
+        return Err(MemoryFault.into());
+    }
+    Ok(is_right)
+}
+
+/// Run with each allocation refused in turn: the answer is the same, or has lines that hold, with a certificate that shows it, or the refusal is
+/// told.
 #[test]
 fn reasons_refused_in_turn(rt: HostRuntime) -> Result<(), Fail> {
     assert!(rt; tells(&rt)?);

@@ -45,7 +45,7 @@ pub fn begins(page: &Page, text: &str) -> bool {
 }
 
 /// Whether a command that ended so has written this. One that has written nothing and says that there is no memory ends the test.
-fn is_told(end: &End, out: &Page, text: &str) -> Result<bool, Fail> {
+pub fn is_told(end: &End, out: &Page, text: &str) -> Result<bool, Fail> {
     let mut error = page();
     report(end, &mut error)?;
     if status(end) == 4 && has(out, "") && has(&error, "memory\n") {

@@ -26,7 +26,7 @@ pub struct Sample {
 type Window = (u32, u32);
 
 /// At once, and by the horizon.
-const ANY: Window = (0, MOST_TICKS);
+pub const ANY: Window = (0, MOST_TICKS);
 
 /// A process of 3 ticks on node 0 sends 2 bytes to one of 2 ticks on node 1.
 pub const ONE_MESSAGE: Sample = Sample {

@@ -28,6 +28,8 @@ mod many_workers;
 #[cfg(test)]
 mod one_thread;
 #[cfg(test)]
+mod reasons;
+#[cfg(test)]
 mod refusals;
 #[cfg(test)]
 mod searches;

@@ -10,7 +10,9 @@ use Rattle.planner.specs.outcome.Outcome.TheVariants as answer
 use Rattle.planner.specs.Answers as answers
 use Rattle.command_streams.specs.declared.ending.Source.TheVariants as source
 use Rattle.command_streams.specs.declared.ending.Fault.{Fault}
-use Rattle.command_streams.specs.declared.ending.Fault.TheVariants.{NoMark, LossForm, InstanceText, Memory, PlanText, Plan, StatedDelay, CertificateText, Certificate, TooFewNodes, WrongLoss, NoSuchProcess, TooManySlots, Search, TooLong, Unread, Unwritten}
+use Rattle.command_streams.specs.declared.ending.Fault.TheVariants.{NoMark, LossForm, InstanceText, Memory, PlanText, Plan, StatedDelay, CertificateText}
+use Rattle.command_streams.specs.declared.ending.Fault.TheVariants.{Certificate, TooFewNodes, WrongLoss, NoSuchProcess, TooManySlots}
+use Rattle.command_streams.specs.declared.ending.Fault.TheVariants.{Search, TooLong, Unread, Unwritten}
 use Rattle.command_streams.specs.declared.ending.End.{End}
 use Rattle.command_streams.specs.Instances.{IsOfInstance}
 use Rattle.command_streams.specs.Outcomes.{IfRefused}

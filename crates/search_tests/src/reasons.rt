@@ -1,0 +1,167 @@
+//! Which constraints leave small instances no plan, and which of them can't be left out: told by searches, and by trying every plan.
+
+use crate::instances::{ANY, NO_FRAME, ONE_MESSAGE, Sample, THREE_ALIKE};
+use certificate::Cert;
+use conflicts::{Conflict, Need, find_conflict};
+use exhaustive::least_delay;
+use kept_constraints::Constraint::{Both, Deadline, Horizon, Link, Message, Release};
+use kept_constraints::{Constraint, Constraints, with_only};
+use plan_check::check;
+use planner::Options;
+use std::alloc::Global;
+use std::sync::Wait;
+use std::test::Fail;
+use std::thread::Threads;
+use ttp_model::Instance;
+
+/// Where a horizon is left out, plans within so many ticks are tried.
+const LATE: u32 = 10;
+
+/// Two processes of one node that can't both be in time, beside a third one that one of them has to wait for.
+const CROWDED: Sample = Sample {
+    name: "two deadlines",
+    processes: &[(0, 3, (0, 4)), (0, 2, (0, 4)), (0, 1, ANY)],
+    links: &[(0, 2)],
+    ..THREE_ALIKE
+};
+
+/// A process that is released late, and one that has to follow it too early.
+const RELEASED: Sample = Sample {
+    name: "a release, a deadline and a link",
+    processes: &[(0, 3, (2, 1_000_000)), (0, 2, (0, 6))],
+    links: &[(0, 1)],
+    ..THREE_ALIKE
+};
+
+/// Two messages that fill a frame each, one of which is to be on both channels: they take two rounds.
+const DOUBLED: Sample = Sample {
+    name: "two channels, a message on both",
+    horizon: 6,
+    channels: 2,
+    nodes: &[&[1], &[0]],
+    processes: &[(0, 1, ANY), (1, 1, ANY)],
+    messages: &[(0, 1, 1), (0, 1, 1)],
+    doubled: &[1],
+    ..ONE_MESSAGE
+};
+
+/// An instance, how many subtrees each search has, and the constraints that are told; none where a plan is.
+type Row = (Sample, u64, Option<&'static [Constraint]>);
+
+const BUDGET: u64 = 1_000;
+
+const ROWS: &[Row] = &[
+    (THREE_ALIKE, BUDGET, None),
+    (
+        Sample {
+            name: "one message within 8 ticks",
+            horizon: 8,
+            ..ONE_MESSAGE
+        },
+        BUDGET,
+        Some(&[Horizon, Message(0)]),
+    ),
+    (NO_FRAME, BUDGET, Some(&[Message(0)])),
+    (CROWDED, BUDGET, Some(&[Deadline(0), Deadline(1)])),
+    (RELEASED, BUDGET, Some(&[Deadline(1), Release(0), Link(0)])),
+    (
+        DOUBLED,
+        BUDGET,
+        Some(&[Horizon, Message(0), Message(1), Both(1)]),
+    ),
+    // The root's bound shows that there is no plan, and no search finds one.
+    (
+        Sample {
+            name: "one message within 8 ticks, without a search",
+            horizon: 8,
+            ..ONE_MESSAGE
+        },
+        0,
+        Some(&[Horizon, Message(0)]),
+    ),
+];
+
+/// Whether there is a plan by these constraints alone, by trying every one.
+fn has_plan(alloc: Global, sample: &Sample, constraints: &Constraints) -> Result<bool, Fail> {
+    let horizon = if constraints.horizon {
+        sample.horizon
+    } else {
+        LATE
+    };
+    let instance = Sample { horizon, ..*sample }.build(alloc)?;
+    let mut others = constraints.copy(alloc)?;
+    others.horizon = true;
+    let looser = with_only(alloc, &instance, &others)?;
+    Ok(least_delay(alloc, &looser)?.is_some())
+}
+
+/// Whether a need is the constraint expected, and is shown just where searches have a budget; and whether there is a plan without it then.
+fn is_needed(
+    alloc: Global,
+    row: &Row,
+    kept: &Constraints,
+    need: Need,
+    constraint: Constraint,
+) -> Result<bool, Fail> {
+    let (sample, budget, _) = row;
+    let mut fewer = kept.copy(alloc)?;
+    fewer.leave_out(need.constraint);
+    let is_right = need.constraint == constraint && need.is_shown == (*budget > 0);
+    Ok(is_right && has_plan(alloc, sample, &fewer)?)
+}
+
+/// Whether the needs are those that are expected.
+fn are_needed(
+    alloc: Global,
+    row: &Row,
+    kept: &Constraints,
+    needs: &[Need],
+    constraints: &[Constraint],
+) -> Result<bool, Fail> {
+    for (need, constraint) in needs.iter().zip(constraints) {
+        if !is_needed(alloc, row, kept, *need, *constraint)? {
+            return Ok(false);
+        }
+    }
+    Ok(needs.len() == constraints.len())
+}
+
+/// Whether constraints leave no plan, by their certificate and by trying every one.
+fn leave_none(
+    alloc: Global,
+    instance: &Instance,
+    sample: &Sample,
+    kept: &Constraints,
+    cert: &Cert,
+) -> Result<bool, Fail> {
+    let looser = with_only(alloc, instance, kept)?;
+    let bound = tree_check::check(alloc, &looser, cert)?;
+    Ok(bound == looser.past_horizon() && !has_plan(alloc, sample, kept)?)
+}
+
+/// Whether what is told of an instance is right.
+fn is_right<R: Threads + Wait + Sync>(rt: &R, alloc: Global, row: &Row) -> Result<bool, Fail> {
+    let (sample, budget, told) = row;
+    let instance = sample.build(alloc)?;
+    let options = Options {
+        workers: 1,
+        budget: *budget,
+    };
+    match (find_conflict(rt, alloc, &instance, options)?, told) {
+        (Conflict::Plan { delay, plan }, None) => Ok(check(&instance, &plan) == Ok(delay)),
+        (Conflict::None { needs, kept, cert }, Some(constraints)) => {
+            let are_right = are_needed(alloc, row, &kept, needs.as_slice(), constraints)?;
+            Ok(are_right && leave_none(alloc, &instance, sample, &kept, &cert)?)
+        }
+        (Conflict::Plan { .. }, Some(_)) | (Conflict::None { .. }, None) | (Conflict::Unknown, _) =>
+            { Ok(false) }
+    }
+}
+
+#[test]
+fn no_constraint_that_leaves_no_plan_can_be_left_out(rt: HostRuntime) -> Result<(), Fail> {
+    for row in ROWS {
+        assert!(rt; is_right(&rt, rt.alloc(), row)?, "{}", row.0.name);
+    }
+    Ok(())
+}
