@@ -1,5 +1,5 @@
 -- What the tree of a search at its end makes of the best plan.
-use Rattle.std.proofs.Common.{◌≡◌, ℕ, ◌+◌, ◌-◌, ◌<◌, ◌≤◌, List, [], ◌∷◌, ◌++◌, ◌⊎◌, inl, inr, Option, None, Some, refl, sym, ap, subst, ◌∙◌, arith, All, Contains, min}
+use Rattle.std.proofs.Common.{◌≡◌, ℕ, ◌+◌, ◌<◌, ◌≤◌, List, [], ◌∷◌, ◌++◌, inl, inr, Option, None, Some, refl, sym, ap, subst, ◌∙◌, arith, All, IfSome, min}
 use Rattle.std.proofs.lemmas.List.Elements.{All-head, All-tail, All-cons, All-nil, All-append, All-contains, All-weaker}
 use Rattle.ttp_model.specs.declared.plan.Plan.{Plan}
 use Rattle.ttp_model.specs.Instance.{Instance}
@@ -187,3 +187,12 @@ lean_ends i options aims best cert w right found proves version same few = recor
       (preorder cert.tree) (proofs_goals i cert.low (root_choice i ∷ []) cert.tree proves.tree);
   reason = exhausted i aims options.gap cert.low best right.gap_is same;
 }
+
+-- and so is one that may have been found, of a tree with so many pieces
+pub lean_found : (i : Instance) (options : Options) (aims : Aims) (best : Option (Plan × ℕ)) (low most : ℕ) (found : Option Cert) → IsInstance i
+    → AreAims i options.gap aims → IsFound i best → low ≡ aim_of i aims best → most ≤ options.budget → IfSome found (Proves i)
+    → IfSome found (λ cert. cert.version ≡ answer_version i) → IfSome found (λ cert. cert.low ≡ low) → IfSome found (λ cert. branches cert.tree ≤ most)
+    → IfSome found (IsEndTree i options Gap best)
+lean_found i options aims best low most None w right is same within proves version bound few = tt
+lean_found i options aims best low most (Some cert) w right is same within proves version bound few =
+    lean_ends i options aims best cert w right is proves version (bound ∙ same) (omega (arith, few, within))

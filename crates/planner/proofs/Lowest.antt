@@ -1,8 +1,10 @@
 -- The least goal of one node more.
-use Rattle.std.proofs.Common.{◌≡◌, ℕ, ◌<◌, ◌≤◌, ◌⊎◌, min, List, [], ◌∷◌, ◌++◌, inl, inr, refl, sym, subst, arith, All, Contains}
+use Rattle.std.proofs.Common.{◌≡◌, ℕ, ◌+◌, ◌<◌, ◌≤◌, length, get_or, take, ◌⊎◌, min, List, [], ◌∷◌, ◌++◌, inl, inr, refl, sym, subst, arith}
 use Rattle.std.proofs.lemmas.Bool.{cases_lt}
-use Rattle.std.proofs.lemmas.List.Elements.{All-nil, All-push, All-weaker, Contains-append_left, Contains-append_right}
+use Rattle.std.proofs.lemmas.List.{take_more}
+use Rattle.std.proofs.lemmas.List.Elements.{All-nil, All-push, All-weaker, Contains-append_left}
 use Rattle.ttp_model.specs.declared.step.Leaf.{Leaf}
+use Rattle.certificate.specs.declared.branch.Branch.{Branch}
 use Rattle.certificate.specs.declared.node.Node.{Node}
 use Rattle.certificate.specs.declared.node.Node.TheVariants as node
 use Rattle.tree_gathering.specs.Gathering.{HasGoal}
@@ -46,3 +48,14 @@ leaf_lowest limit nodes leaf low is = elim (cases_lt leaf.goal low) [
       let same : low ≡ min low leaf.goal = omega (arith, more) in
       subst (IsLowest limit (nodes ++ node.Leaf leaf ∷ [])) same (branch_lowest limit nodes (node.Leaf leaf) low more is)
 ]
+
+-- ---- one node more of a list
+
+pub leaf_more : (limit : ℕ) (nodes : List Node) (k : ℕ) (n : Node) (leaf : Leaf) (low lower : ℕ) → k < length nodes → n ≡ get_or nodes k n
+    → n ≡ node.Leaf leaf → lower ≡ min low leaf.goal → IsLowest limit (take k nodes) low → IsLowest limit (take (k + 1) nodes) lower
+leaf_more limit nodes k n leaf low lower inside here same lowered is = rw (take_more nodes k n inside, ← here, same, lowered) (leaf_lowest limit (take k nodes) leaf low is)
+
+pub branch_more : (limit : ℕ) (nodes : List Node) (k : ℕ) (n : Node) (branch : Branch) (low : ℕ) → k < length nodes → n ≡ get_or nodes k n
+    → n ≡ node.Branch branch → IsLowest limit (take k nodes) low → IsLowest limit (take (k + 1) nodes) low
+branch_more limit nodes k n branch low inside here same is =
+    rw (take_more nodes k n inside, ← here) (branch_lowest limit (take k nodes) n low (subst (HasGoal low) (sym same) tt) is)

@@ -1,12 +1,12 @@
 -- What a search leaves at its end makes a tree from which it is told.
-use Rattle.std.proofs.Common.{◌≡◌, ℕ, ◌+◌, ◌-◌, ◌<◌, ◌≤◌, Bool, true, false, List, [], ◌∷◌, ◌++◌, ◌⊎◌, inl, inr, Option, None, Some, refl, sym, ap, subst, ◌∙◌, arith, map, length, All, Contains, cond, min}
+use Rattle.std.proofs.Common.{◌≡◌, ℕ, ◌+◌, ◌-◌, ◌≤◌, Bool, true, false, List, [], ◌∷◌, ◌++◌, Option, None, Some, refl, sym, ap, subst, ◌∙◌, arith, map, length, All, cond, min}
 use Rattle.std.specs.Prelude.{count_by, nat_le}
 use Rattle.std.specs.List.Sorted.{IsPermutation}
 use Rattle.std.proofs.lemmas.Bool.{le-leb}
 use Rattle.std.proofs.lemmas.List.{map-append}
 use Rattle.std.proofs.lemmas.List.Elements.{All-head, All-tail, All-map, All-append, All-weaker}
 use Rattle.std.proofs.lemmas.List.Sums.{sum_by-cons, sum_by-append}
-use Rattle.std.proofs.lemmas.List.Sorted.{IsPermutation-map, Contains-permutation, All-permutation, sum_by-IsPermutation}
+use Rattle.std.proofs.lemmas.List.Sorted.{IsPermutation-map, All-permutation, sum_by-IsPermutation}
 use Rattle.ttp_model.specs.declared.plan.Plan.{Plan}
 use Rattle.ttp_model.specs.Instance.{Instance}
 use Rattle.ttp_model.specs.Chains.{IsPathBound}
@@ -30,7 +30,6 @@ use Rattle.planner.specs.Searched.{AreAims, IsClosedLeaf, IsEndTree, IsReason, I
 use Rattle.pool_worker.specs.declared.aims.Aims.{Aims}
 use Rattle.pool_worker.proofs.Goals.{goal_near}
 use Rattle.search_turns.proofs.Searching.{aim_below, weaker_goal}
-use Rattle.tree_gathering.proofs.Has.{has_map, has_from_contains, contains_from_has}
 use Rattle.tree_gathering.proofs.Existence.{tree_nodes}
 use Rattle.tree_gathering.proofs.Proving.{gathered_proves}
 

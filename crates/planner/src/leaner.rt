@@ -51,6 +51,7 @@ pub fn lean_proof(
     requires within { length search.now.pieces.items ≤ options.budget }
     ensures { IfSome result (IsEndTree instance.now options Gap search.now.best) }
 {
+    let _nodes = instance.nodes();
     if manner == Manner::Plain || search.tasks.len() > search.spared {
         return None;
     }
@@ -58,7 +59,10 @@ pub fn lean_proof(
     let standing = standing(alloc, search).ok()?;
     let version = answer_version(instance);
     let most = search.pieces.len();
-    proof_of(alloc, instance, version, low, standing, most).ok()?
+    match proof_of(alloc, instance, version, low, standing, most) {
+        Ok(found) => found,
+        Err(_) => None,
+    }
 }
 
 /// The same answer, with a certificate without the branches that nothing below one of their children uses. What is said of a

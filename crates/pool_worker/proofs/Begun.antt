@@ -1,5 +1,5 @@
 -- A run at its beginning.
-use Rattle.std.proofs.Common.{◌≡◌, ℕ, List, [], None, refl, sym, subst}
+use Rattle.std.proofs.Common.{◌≡◌, List, [], None, refl, sym, subst}
 use Rattle.std.proofs.lemmas.List.Sorted.{IsPermutation-refl}
 use Rattle.std.proofs.lemmas.List.{append-nil}
 use Rattle.std.proofs.lemmas.List.Elements.{All-nil}

@@ -1,7 +1,8 @@
-use Rattle.std.proofs.Common.{rules, ◌≡◌, ◌++◌, ◌∷◌, [], List, sym, subst}
+use Rattle.std.proofs.Common.{rules, ◌≡◌, ◌++◌, ◌∷◌, [], List, All, sym, subst}
 use Rattle.std.proofs.lemmas.Result.{on_ok_weaker}
 use Rattle.planner.specs.declared.crew.Job.{Job}
-use Rattle.planner.specs.Crew.{AreReportsOf, IsReportOfJob}
+use Rattle.search_turns.proofs.Searching.{front_of}
+use Rattle.planner.specs.Crew.{AreReportsOf, IsJob, IsReportOfJob}
 use Rattle.planner.proofs.Reports.{one_more_report}
 use Rattle.planner.proofs.crew.+start_all.Goals as goal
 
@@ -17,3 +18,9 @@ returns-clause-reports g t c =
     subst (λ (js : List (Job g.row.J.Denot)). AreReportsOf i c.args.aims js c.push_reserved.new.self.items) (sym popped)
     (subst (AreReportsOf i c.args.aims (front ++ job ∷ [])) (sym c.push_reserved.ensures.items) (one_more_report i c.args.aims front others job c.join-report.result each kept)) in
     on_ok_weaker c.start_all-others.result more c.start_all-others.ensures.reports
+
+pub start_all-others-requires-clause-jobs : goal.start_all-others-requires-clause-jobs
+start_all-others-requires-clause-jobs g t c κs within =
+    let P : Job g.row.J.Denot → Type 0 = IsJob c.args.word.now in
+    let popped : c.args.jobs.now.items ≡ c.pop.new.self.items ++ c.in-Some.job ∷ [] = search rules in
+    front_of P c.pop.new.self.items c.in-Some.job (subst (All P) popped c.requires.jobs)

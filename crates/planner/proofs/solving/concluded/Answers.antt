@@ -1,5 +1,4 @@
 use Rattle.std.proofs.Common.{◌≡◌, refl, sym, subst}
-use Rattle.certificate.specs.Cert.{Cert}
 use Rattle.planner.specs.Answers.{in_answer}
 use Rattle.planner.specs.Searched.{IsEndTree}
 use Rattle.planner.proofs.Ending.{ends}

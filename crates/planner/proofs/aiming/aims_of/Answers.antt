@@ -1,0 +1,15 @@
+use Rattle.std.proofs.Common.{refl, arith}
+use Rattle.pool_worker.proofs.Goals.{goal_above}
+use Rattle.planner.proofs.aiming.aims_of.Goals as goal
+
+pub returns : goal.returns
+returns c = record {
+  gap_is = refl;
+  path = λ bound seen path small.
+      omega (
+        arith,
+        c.in_ok-floor.ensures bound path,
+        goal_above c.args.instance.now (record { gap = c.args.gap; floor = c.in_ok-floor.floor }) seen,
+        small,
+      );
+}
