@@ -74,6 +74,7 @@ module _ (i : Instance) (horizon : ℕ) (new : List Process) (differ : DifferInD
         deadline = can.deadline_most p is;
       }
 
+  -- the numbers of the cluster are those of the other but for the horizon
   cluster_range : IsClusterInRange j.cluster
   cluster_range =
       let old = w.ranges AtCluster in

@@ -38,7 +38,8 @@ module _ (i : Instance) (plan : Plan) where
   own_late p inside = greatest_each (late_by i plan) (length i.processes) p inside
 
   module _ (x : ℕ) (v : IsValid (later i x) plan) where
-    ends : (p : ℕ) → p < length i.processes → (end_of i plan p ≤ (process_at i p).deadline + x) × (end_of i plan p ≤ i.cluster.horizon + x) × (end_of i plan p ≤ most_ticks)
+    ends : (p : ℕ) → p < length i.processes
+        → (end_of i plan p ≤ (process_at i p).deadline + x) × (end_of i plan p ≤ i.cluster.horizon + x) × (end_of i plan p ≤ most_ticks)
     ends p inside =
         let within = v.in_time p (omega (arith, inside, count i x)) in
         let same = end_kept x p in

@@ -50,7 +50,8 @@ same_instance i w =
     (same_processes i.processes (λ k below. (w.ranges (AtProcess k) below).deadline))
 
 -- tables that are its own keep all rules
-pub tables_keep_rules : (i : Instance) (x : ℕ) → (cluster : Cluster) (nodes : List Node) (processes : List Process) (links : List Link) (messages : List Message)
+pub tables_keep_rules : (i : Instance) (x : ℕ)
+    → (cluster : Cluster) (nodes : List Node) (processes : List Process) (links : List Link) (messages : List Message)
     → IsInstance i → cluster ≡ (later i x).cluster → nodes ≡ i.nodes → processes ≡ (later i x).processes → links ≡ i.links → messages ≡ i.messages
     → IsInstance (instance_with cluster nodes processes links messages)
 tables_keep_rules i x cluster nodes processes links messages w a b c e f = rw (a, b, c, e, f) (rules_later i w x)
