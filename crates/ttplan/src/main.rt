@@ -334,6 +334,7 @@ fn why_to(
     let wanted = Wanted {
         certificate: why.certificate.is_some(),
         reduced: why.reduced.is_some(),
+        late: false,
     };
     why_run(
         threads,
