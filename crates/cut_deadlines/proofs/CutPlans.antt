@@ -3,18 +3,18 @@ use Rattle.std.proofs.Common.{◌≡◌, ◌≤◌, ℕ, ◌<◌, List, length, 
 use Rattle.ttp_model.specs.declared.plan.Plan.{Plan}
 use Rattle.ttp_model.specs.Instance.{Instance, process_at}
 use Rattle.ttp_model.specs.Plans.{IsValid, end_of}
+use Rattle.instance_copies.proofs.OtherEnds.{end_same, turned, valid_across}
 use Rattle.cut_deadlines.specs.Cut.{cut, is_one_of}
 use Rattle.cut_deadlines.specs.Ends.{AreThere, EndBy}
 use Rattle.cut_deadlines.proofs.OneOf.{of_each, one_of_place}
-use Rattle.cut_deadlines.proofs.Deadlines.{end_same, turned, valid_across}
 use Rattle.cut_deadlines.proofs.CutProcesses.{cut-le, cut-true, deadline_is, differ, le-cut}
 
 module _ (i : Instance) (ps : List ℕ) (d : ℕ) (plan : Plan) where
   pub end_kept : (p : ℕ) → end_of (cut i ps d) plan p ≡ end_of i plan p
-  end_kept = end_same i.cluster i.nodes i.links i.messages i.processes (cut i ps d).processes (differ i ps d) plan
+  end_kept = end_same i i.cluster.horizon (cut i ps d).processes (differ i ps d) plan
 
   pub valid_of_cut : IsValid (cut i ps d) plan → IsValid i plan
-  valid_of_cut v = valid_across i.cluster i.nodes i.links i.messages (cut i ps d).processes i.processes (turned _ _ (differ i ps d)) plan v (λ p inside.
+  valid_of_cut v = valid_across (cut i ps d) i.cluster.horizon i.processes (turned _ _ (differ i ps d)) plan v (λ p inside.
       let there : p < length (cut i ps d).processes = omega (arith, inside, (differ i ps d).all) in
       let ends = v.in_time p there in
       (omega (arith, ends.0, end_kept p, deadline_is i ps d p inside, cut-le (is_one_of ps p) (process_at i p).deadline d), omega (arith, ends.1, end_kept p)))
@@ -28,7 +28,7 @@ module _ (i : Instance) (ps : List ℕ) (d : ℕ) (plan : Plan) where
       omega (arith, ends.0, end_kept p, deadline_is i ps d p inside, cut_off)
 
   pub valid_cut : IsValid i plan → EndBy i ps plan d → IsValid (cut i ps d) plan
-  valid_cut v by = valid_across i.cluster i.nodes i.links i.messages i.processes (cut i ps d).processes (differ i ps d) plan v (λ p there.
+  valid_cut v by = valid_across i i.cluster.horizon (cut i ps d).processes (differ i ps d) plan v (λ p there.
       let inside : p < length i.processes = omega (arith, there, (differ i ps d).all) in
       let ends = v.in_time p inside in
       let cut_off = le-cut (is_one_of ps p) (end_of i plan p) (process_at i p).deadline d ends.0 (of_each (λ q. end_of i plan q ≤ d) ps p by) in

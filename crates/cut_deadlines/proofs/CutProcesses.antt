@@ -5,8 +5,8 @@ use Rattle.std.proofs.lemmas.List.FromFn.{get_or-map-range_with_len, length-map-
 use Rattle.std.proofs.lemmas.Bool.{cases_lt}
 use Rattle.ttp_model.specs.declared.parts.Process.{Process}
 use Rattle.ttp_model.specs.Instance.{Instance, no_process, process_at}
+use Rattle.instance_copies.proofs.OtherEnds.{DifferInDeadlines}
 use Rattle.cut_deadlines.specs.Cut.{cut, cut_deadline, cut_process}
-use Rattle.cut_deadlines.proofs.Deadlines.{DifferInDeadlines}
 
 -- a number that is cut where a test holds
 pub cut-le : (b : Bool) (x d : ℕ) → (if b then min x d else x) ≤ x

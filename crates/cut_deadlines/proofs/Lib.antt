@@ -1,5 +1,4 @@
 mod OneOf
-mod Deadlines
 mod CutProcesses
 pub mod CutPlans
 pub mod CutEnds

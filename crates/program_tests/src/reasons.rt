@@ -53,17 +53,31 @@ const ALONE: &[&str] = &[
     CLUSTER,
 ];
 
-/// An instance, how many subtrees each search has, what is told, and the status.
-type Row = (&'static [&'static str], u64, &'static str, u8);
+/// Two processes of one node, joined by a link, in too little time: so it is known without a search.
+const LINKED: &[&str] = &[
+    "node = [{name = 'A', capacities = [0]}]\n",
+    "process = [{name = 'p', node = 'A', wcet = 3}, {name = 'q', node = 'A', wcet = 3}]\n",
+    "link = [{from = 'p', to = 'q'}]\n",
+    CLUSTER_BEFORE_HORIZON,
+    "horizon = 5\n",
+];
+
+/// An instance, how many subtrees each search has, whether it is asked how much later all would have to end, what is told, and the
+/// status.
+type Row = (&'static [&'static str], u64, bool, &'static str, u8);
 
 #[rattlefmt::skip]
 static ROWS: &[Row] = &[
-    (EARLY, 1_000, EARLY_TOLD, 10),
-    (NO_FRAME, 1_000, "ttwhy 1\nnone\nneed message m\n", 10),
-    (CROWDED, 1_000, "ttwhy 1\nnone\nneed deadline q 6\nneed release p 2\nneed link p q\n", 10),
-    (BOTH, 1_000, "ttwhy 1\nnone\nneed horizon 7\nneed message m\nneed message k\nneed both m\n", 10),
-    (ALONE, 1_000, "ttwhy 1\nplan 3\n", 0),
-    (FIRST, 0, "ttwhy 1\nunknown\n", 11),
+    (EARLY, 1_000, false, EARLY_TOLD, 10),
+    (EARLY, 1_000, true, "ttwhy 1\nnone\nneed horizon 8\nneed message m\nlate 1\n", 10),
+    (NO_FRAME, 1_000, false, "ttwhy 1\nnone\nneed message m\n", 10),
+    (NO_FRAME, 1_000, true, "ttwhy 1\nnone\nneed message m\nlate -\n", 10),
+    (CROWDED, 1_000, true, "ttwhy 1\nnone\nneed deadline q 6\nneed release p 2\nneed link p q\nlate 1\n", 10),
+    (BOTH, 1_000, true, "ttwhy 1\nnone\nneed horizon 7\nneed message m\nneed message k\nneed both m\nlate 2\n", 10),
+    (LINKED, 1_000, true, "ttwhy 1\nnone\nneed horizon 5\nneed link p q\nlate 1\n", 10),
+    (LINKED, 0, true, "ttwhy 1\nnone\nmaybe horizon 5\nmaybe link p q\nlate 1 -\n", 10),
+    (ALONE, 1_000, true, "ttwhy 1\nplan 3\n", 0),
+    (FIRST, 0, true, "ttwhy 1\nunknown\n", 11),
 ];
 
 /// What is written of an instance.
@@ -80,6 +94,7 @@ fn written_of(
     rt: &(impl Alloc<A = Global> + Threads + Wait + Sync),
     instance: &[&str],
     budget: u64,
+    late: bool,
 ) -> Result<Written, AllocError> {
     let alloc = rt.alloc();
     let instance = joined(alloc, instance)?;
@@ -97,6 +112,7 @@ fn written_of(
         Wanted {
             certificate: true,
             reduced: true,
+            late,
         },
         &mut certificate,
         &mut reduced,
@@ -112,8 +128,8 @@ fn written_of(
 
 #[test]
 fn constraints_that_leave_no_plan(rt: HostRuntime) -> Result<(), Fail> {
-    for (k, (instance, budget, told, status)) in ROWS.iter().enumerate() {
-        let written = written_of(&rt, instance, *budget)?;
+    for (k, (instance, budget, late, told, status)) in ROWS.iter().enumerate() {
+        let written = written_of(&rt, instance, *budget, *late)?;
         assert!(rt;
             written.out.as_slice() == told.as_bytes(),
             "row {k}: {:?}",
@@ -208,6 +224,7 @@ fn is_right(
         Wanted {
             certificate: true,
             reduced: true,
+            late: true,
         },
         &mut certificate,
         &mut reduced,
@@ -260,7 +277,7 @@ fn expect_stops(
 #[test]
 fn failing_streams_of_reasons(rt: HostRuntime) -> Result<(), Fail> {
     let instance = joined(rt.alloc(), EARLY)?;
-    let whole = written_of(&rt, EARLY, 1_000)?;
+    let whole = written_of(&rt, EARLY, 1_000, true)?;
     assert!(rt; whole.reduced.as_slice() == EARLY_REDUCED.as_bytes());
     for most in [16, usize::MAX] {
         for stream in STREAMS {
@@ -295,7 +312,8 @@ fn behind<'a>(text: &'a [u8], constraint: &str, is_needed: bool) -> Option<&'a [
     behind_word.strip_prefix(constraint.as_bytes())
 }
 
-/// Whether lines tell a conflict of that instance, be it more than is needed: some of its constraints, each in its place, with the one that is needed.
+/// Whether lines tell a conflict of that instance, be it more than is needed: some of its constraints, each in its place, with the one that is needed;
+/// and that no plan is known however late.
 fn are_conflict(lines: &[u8]) -> bool {
     let mut rest = lines;
     for (constraint, is_needed) in NO_FRAME_CONSTRAINTS {
@@ -305,7 +323,7 @@ fn are_conflict(lines: &[u8]) -> bool {
             None => {}
         }
     }
-    rest.is_empty()
+    rest == b"late -\n".as_slice() || rest == b"late 1 -\n".as_slice()
 }
 
 /// What a run has written.
@@ -375,6 +393,7 @@ fn pages_of(rt: &(impl Alloc<A = Global> + Threads + Wait + Sync)) -> Result<Pag
         Wanted {
             certificate: true,
             reduced: true,
+            late: true,
         },
         &mut certificate,
         &mut reduced,
@@ -397,7 +416,7 @@ fn tells(rt: &(impl Alloc<A = Global> + Threads + Wait + Sync)) -> Result<bool, 
         return Err(MemoryFault.into());
     }
     let is_right = pages.tell_conflict() && pages.are_certified(rt)?;
-    if is_right && !has(&pages.out, "ttwhy 1\nnone\nneed message m\n") {
+    if is_right && !has(&pages.out, "ttwhy 1\nnone\nneed message m\nlate -\n") {
         return Err(MemoryFault.into());
     }
     Ok(is_right)

@@ -63,7 +63,7 @@ printable i options told.Unknown good is = tt
 pub found_of_bytes : (bytes : List ℕ) (i : Instance) (options : Options) (wanted : Wanted) (found : Found) → HasInstance bytes i
     → IsSearched i options wanted found → IsFound bytes options wanted found
 found_of_bytes bytes i options wanted found has is =
-    record { has_instance = subst (HasInstance bytes) (sym is.of) has; answers = is.answers; texts = is.texts }
+    record { has_instance = subst (HasInstance bytes) (sym is.of) has; answers = is.answers; late = is.late; texts = is.texts }
 
 -- what was found of a reader's bytes is the answer, once it is written
 pub told_found : (known : Option (List ℕ)) (options : Options) (wanted : Wanted) (found : Found) (from to before after old new : Option (List ℕ)) (end : WhyEnd)

@@ -1,5 +1,5 @@
 -- What `why` answers of the bytes of an instance, and what it writes.
-use Rattle.std.specs.Prelude.{◌≡◌, ◌⊎◌, ℕ, ◌<◌, List, [], length, Bool, true, false, Option, Ok}
+use Rattle.std.specs.Prelude.{◌≡◌, ◌⊎◌, ℕ, ◌<◌, List, [], length, Bool, true, false, Option, None, Some, Ok}
 use Rattle.std.specs.Io.KnownBytes.{Appends, Keeps}
 use Rattle.ttp_model.specs.Instance.{Instance}
 use Rattle.instance_text.specs.Faults.{States}
@@ -12,6 +12,8 @@ use Rattle.kept_constraints.specs.Only.{only}
 use Rattle.conflicts.specs.Conflicts.{Answers}
 use Rattle.conflicts.specs.declared.conflict.Conflict.{Conflict}
 use Rattle.conflicts.specs.declared.conflict.Conflict.TheVariants as told
+use Rattle.lateness.specs.Answers.{IsLateness}
+use Rattle.lateness.specs.declared.answer.Lateness.{Lateness}
 use Rattle.command_streams.specs.declared.ending.Source.TheVariants as source
 use Rattle.command_streams.specs.declared.ending.Sink.TheVariants as sink
 use Rattle.command_streams.specs.declared.ending.SearchFault.{SearchFault}
@@ -61,17 +63,34 @@ IsReducedText true i (told.Plan ticks plan) text = text ≡ []
 IsReducedText true i told.Unknown text = text ≡ []
 IsReducedText false i conflict text = text ≡ []
 
+-- how late all has to end is told
+abbrev pub IsLateTold : Instance → Options → Option Lateness → Type 0
+IsLateTold i options None = ⊥
+IsLateTold i options (Some lateness) = IsLateness i options lateness
+
+-- that is told where it is asked for of an instance without a plan, and nowhere else
+abbrev pub IsLate : Bool → Instance → Options → Conflict → Option Lateness → Type 0
+IsLate true i options (told.None needs K cert) late = IsLateTold i options late
+IsLate true i options (told.Plan ticks plan) late = late ≡ None
+IsLate true i options told.Unknown late = late ≡ None
+IsLate false i options conflict late = late ≡ None
+
+-- which constraints leave no plan, and how late all has to end
+abbrev pub IsExplained : Bool → Instance → Options → Conflict × Option Lateness → Type 0
+IsExplained wanted i options both = Answers i options both.0 × IsLate wanted i options both.0 both.1
+
 -- the texts that tell what was found
-pub record AreTextsOf (wanted : Wanted) (i : Instance) (conflict : Conflict) (texts : Texts) : Type 0 where
+pub record AreTextsOf (wanted : Wanted) (i : Instance) (conflict : Conflict) (late : Option Lateness) (texts : Texts) : Type 0 where
   pub certificate : IsCertificateText wanted.certificate conflict texts.certificate.items
   pub reduced : IsReducedText wanted.reduced i conflict texts.reduced.items
-  pub answer : texts.answer.items ≡ why_text i conflict
+  pub answer : texts.answer.items ≡ why_text i conflict late
 
 -- what was found of this instance, with its texts
 pub record IsSearched (i : Instance) (options : Options) (wanted : Wanted) (found : Found) : Type 0 where
   pub of : found.instance ≡ i
   pub answers : Answers found.instance options found.conflict
-  pub texts : AreTextsOf wanted found.instance found.conflict found.texts
+  pub late : IsLate wanted.late found.instance options found.conflict found.late
+  pub texts : AreTextsOf wanted found.instance found.conflict found.late found.texts
 
 -- why nothing was: there was no memory, or no thread
 abbrev pub IsUnsearched : Fault → Type 0
@@ -83,7 +102,8 @@ IsUnsearched _ = ⊥
 pub record IsFound (bytes : List ℕ) (options : Options) (wanted : Wanted) (found : Found) : Type 0 where
   pub has_instance : HasInstance bytes found.instance
   pub answers : Answers found.instance options found.conflict
-  pub texts : AreTextsOf wanted found.instance found.conflict found.texts
+  pub late : IsLate wanted.late found.instance options found.conflict found.late
+  pub texts : AreTextsOf wanted found.instance found.conflict found.late found.texts
 
 -- why nothing is told of bytes: they state no instance, or there was no memory or no thread for a search
 abbrev pub IsUnexplained : List ℕ → Fault → Type 0

@@ -1,5 +1,5 @@
 -- What `why` writes of what was found. Own profile.
-use Rattle.std.specs.Prelude.{ℕ, ◌<◌, ◌++◌, List, [], ◌∷◌, All, Bool, true, false, codes, decimal, length}
+use Rattle.std.specs.Prelude.{ℕ, ◌<◌, ◌++◌, List, [], ◌∷◌, All, Bool, true, false, Option, None, Some, codes, decimal, length}
 use Rattle.std.specs.List.{flat_map}
 use Rattle.ttp_model.specs.Instance.{Instance, link_at, process_at}
 use Rattle.process_words.specs.Names.{message_name, process_name}
@@ -8,6 +8,8 @@ use Rattle.kept_constraints.specs.declared.constraints.Constraint.TheVariants as
 use Rattle.conflicts.specs.declared.conflict.Need.{Need}
 use Rattle.conflicts.specs.declared.conflict.Conflict.{Conflict}
 use Rattle.conflicts.specs.declared.conflict.Conflict.TheVariants as told
+use Rattle.lateness.specs.declared.answer.Lateness.{Lateness}
+use Rattle.lateness.specs.declared.answer.Lateness.TheVariants.{Least, Between, Unknown, Never}
 
 -- what a constraint is on is there
 abbrev pub IsOf : Instance → Constraint → Type 0
@@ -58,15 +60,27 @@ need_line i need = need_word need.is_shown ++ (constraint_words i need.constrain
 abbrev pub plan_text : ℕ → List ℕ
 plan_text ticks = codes "ttwhy 1\nplan " ++ (decimal ticks ++ 10 ∷ [])
 
+-- how many ticks later all has to end: the least number, two numbers between which it is, one below which it isn't, or none
+abbrev pub late_words : Lateness → List ℕ
+late_words (Least late plan) = decimal late
+late_words (Between low high plan) = decimal low ++ (codes " " ++ decimal high)
+late_words (Unknown low) = decimal low ++ codes " -"
+late_words Never = codes "-"
+
+-- the line that tells it, where it was asked for
+abbrev pub late_text : Option Lateness → List ℕ
+late_text None = []
+late_text (Some lateness) = codes "late " ++ (late_words lateness ++ 10 ∷ [])
+
 -- the text where these constraints leave none
-abbrev pub none_text : Instance → List Need → List ℕ
-none_text i needs = codes "ttwhy 1\nnone\n" ++ flat_map (need_line i) needs
+abbrev pub none_text : Instance → List Need → Option Lateness → List ℕ
+none_text i needs late = codes "ttwhy 1\nnone\n" ++ (flat_map (need_line i) needs ++ late_text late)
 
 -- what is written of what was found
-abbrev pub why_text : Instance → Conflict → List ℕ
-why_text i (told.Plan ticks plan) = plan_text ticks
-why_text i (told.None needs K cert) = none_text i needs.items
-why_text i told.Unknown = codes "ttwhy 1\nunknown\n"
+abbrev pub why_text : Instance → Conflict → Option Lateness → List ℕ
+why_text i (told.Plan ticks plan) late = plan_text ticks
+why_text i (told.None needs K cert) late = none_text i needs.items late
+why_text i told.Unknown late = codes "ttwhy 1\nunknown\n"
 
 -- the constraints that are told are those of this instance
 abbrev pub AreToldOf : Instance → Conflict → Type 0

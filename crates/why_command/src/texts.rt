@@ -7,15 +7,18 @@ ghost use Rattle.why_command.specs.Words.{AreToldOf};
 use crate::words::why_text;
 use conflicts::Conflict;
 use kept_constraints::with_only;
+use lateness::Lateness;
 use std::alloc::Global;
 use ttp_model::{Instance, MemoryFault};
 
-/// What is to be written beside the answer.
+/// What is to be told beside the constraints.
 #[derive(Clone, Copy, Debug, PartialEq, Eq)]
 pub struct Wanted {
     pub certificate: bool,
     /// The instance by the constraints that leave no plan.
     pub reduced: bool,
+    /// How many ticks later all would have to end.
+    pub late: bool,
 }
 
 /// What is written; of the certificate and the instance nothing where they aren't wanted, or where no constraints leave no plan.
@@ -64,15 +67,16 @@ pub fn texts_of(
     alloc: Global,
     instance: &Instance,
     conflict: &Conflict,
+    late: &Option<Lateness>,
     wanted: Wanted,
 ) -> Result<Texts, MemoryFault>
     requires printable { IsPrintable conflict.now }
     requires told { AreToldOf instance.now conflict.now }
-    ensures { IfOk result (AreTextsOf wanted instance.now conflict.now) }
+    ensures { IfOk result (AreTextsOf wanted instance.now conflict.now late.now) }
 {
     let certificate = certificate_text(alloc, conflict, wanted.certificate)?;
     let reduced = reduced_text(alloc, instance, conflict, wanted.reduced)?;
-    let answer = why_text(alloc, instance, conflict)?;
+    let answer = why_text(alloc, instance, conflict, late)?;
     Ok(Texts {
         certificate,
         reduced,

@@ -1,14 +1,16 @@
 //! What does `why` say of an instance, and what does it write?
 
-ghost use Rattle.std.specs.Prelude.{◌≡◌, ◌+◌, IfSome, MatchResult};
+ghost use Rattle.std.specs.Prelude.{◌≡◌, ◌+◌, IfOk, IfSome, MatchResult};
+ghost use Rattle.conflicts.specs.Conflicts.{Answers};
 ghost use Rattle.command_streams.specs.Limits.{instance_limit};
 ghost use Rattle.command_streams.specs.Streams.{TakesAtMost};
-ghost use Rattle.why_command.specs.Answers.{IsFound, IsSearched, IsUnexplained, IsUnsearched, IsWhyAnswer, IsWritingOf, end_told, fault_of};
+ghost use Rattle.why_command.specs.Answers.{IsExplained, IsFound, IsLate, IsSearched, IsUnexplained, IsUnsearched, IsWhyAnswer, IsWritingOf, end_told, fault_of};
 
 use crate::ending::WhyEnd;
 use crate::texts::{Texts, Wanted, texts_of};
 use command_streams::{End, Fault, SearchFault, Sink, read_instance, write_text};
 use conflicts::{Conflict, find_conflict};
+use lateness::{Lateness, least_lateness};
 use planner::{Options, SolveFault};
 use std::alloc::Global;
 use std::io::{Read, Write};
@@ -17,11 +19,13 @@ use std::sync::Wait;
 use std::thread::Threads;
 use ttp_model::Instance;
 
-/// An instance, and which of its constraints leave no plan, with the texts that tell it.
+/// An instance, which of its constraints leave no plan, and how many ticks later all has to end where that is asked for, with the texts
+/// that tell it.
 #[derive(Debug, Drop)]
 pub struct Found {
     pub instance: Instance,
     pub conflict: Conflict,
+    pub late: Option<Lateness>,
     pub texts: Texts,
 }
 
@@ -46,6 +50,42 @@ fn fault_of(fault: SolveFault) -> SearchFault
     }
 }
 
+/// How many ticks later all has to end, where it is asked for of an instance without a plan.
+fn late_of<R: Threads + Wait + Sync>(
+    rt: &R,
+    alloc: Global,
+    instance: &Instance,
+    options: Options,
+    conflict: &Conflict,
+    wanted: bool,
+) -> Result<Option<Lateness>, SolveFault>
+    requires { Answers instance.now options conflict.now }
+    ensures { IfOk result (IsLate wanted instance.now options conflict.now) }
+{
+    let _nodes = instance.nodes();
+    match conflict {
+        Conflict::None { .. } if wanted => {
+            Ok(Some(least_lateness(rt, alloc, instance, options)?))
+        }
+        Conflict::Plan { .. } | Conflict::None { .. } | Conflict::Unknown => Ok(None),
+    }
+}
+
+/// Which constraints of an instance leave no plan, and how many ticks later all has to end where that is asked for.
+fn explained<R: Threads + Wait + Sync>(
+    rt: &R,
+    alloc: Global,
+    instance: &Instance,
+    options: Options,
+    wanted: bool,
+) -> Result<(Conflict, Option<Lateness>), SolveFault>
+    ensures { IfOk result (IsExplained wanted instance.now options) }
+{
+    let conflict = find_conflict(rt, alloc, instance, options)?;
+    let late = late_of(rt, alloc, instance, options, &conflict, wanted)?;
+    Ok((conflict, late))
+}
+
 /// Looks for constraints of an instance that leave no plan, and makes the texts that tell them.
 #[tactic(auto, using(crate::proofs::Told::are_told, crate::proofs::Told::printable))]
 fn found_of<R: Threads + Wait + Sync>(
@@ -58,14 +98,15 @@ fn found_of<R: Threads + Wait + Sync>(
     ensures { MatchResult result (IsSearched instance options wanted) IsUnsearched }
 {
     let _nodes = instance.nodes();
-    let conflict = match find_conflict(rt, alloc, &instance, options) {
-        Ok(conflict) => conflict,
+    let (conflict, late) = match explained(rt, alloc, &instance, options, wanted.late) {
+        Ok(told) => told,
         Err(fault) => return Err(Fault::Search(fault_of(fault))),
     };
-    match texts_of(alloc, &instance, &conflict, wanted) {
+    match texts_of(alloc, &instance, &conflict, &late, wanted) {
         Ok(texts) => Ok(Found {
             instance,
             conflict,
+            late,
             texts,
         }),
         Err(_) => Err(Fault::Memory),
@@ -115,7 +156,8 @@ fn tell<C: Write, S: Write, W: Write>(
 
 /// Reads an instance, and writes why it has no plan: the constraints that leave none by themselves, with the word `need` where
 /// there is a plan without one of them, and else with `maybe`, and then the end is `Absent`; the delay of a plan, where there is
-/// one; or that neither is known, and then the end is `Stopped`. Each search has the budget. Where they are wanted the certificate of
+/// one; or that neither is known, and then the end is `Stopped`. Behind the constraints stands how many ticks later all would have to end,
+/// where that is wanted. Each search has the budget. Where they are wanted the certificate of
 /// the instance by these constraints alone is written first, and then the text of that instance; to a writer of what isn't wanted
 /// nothing is. All texts are made before one is written: where memory is refused nothing is written, and where a writer fails nothing
 /// is written to those behind it.

@@ -2,10 +2,11 @@
 
 ghost use Rattle.std.specs.Prelude.{◌≡◌, ◌<◌, ◌++◌, All, IfOk, OnOk, codes, decimal, length};
 ghost use Rattle.std.specs.List.{flat_map};
-ghost use Rattle.why_command.specs.Words.{AreToldOf, IsOf, both_words, constraint_words, deadline_words, horizon_words, link_words, message_words, need_line, need_word, none_text, plan_text, release_words, why_text};
+ghost use Rattle.why_command.specs.Words.{AreToldOf, IsOf, both_words, constraint_words, deadline_words, horizon_words, late_text, late_words, link_words, message_words, need_line, need_word, none_text, plan_text, release_words, why_text};
 
 use conflicts::{Conflict, Need};
 use kept_constraints::Constraint;
+use lateness::Lateness;
 use line_text::push_number;
 use process_words::{message_name, process_name};
 use std::alloc::{AllocError, Global};
@@ -128,12 +129,59 @@ fn plan_text(alloc: Global, delay: u64) -> Result<Vec<u8>, AllocError>
     Ok(text)
 }
 
-fn none_text(alloc: Global, instance: &Instance, needs: &[Need]) -> Result<Vec<u8>, AllocError>
+/// Adds the numbers of ticks between which the least lateness is, with a space between them.
+fn push_between(text: &mut Vec<u8>, low: u32, high: u32) -> Result<(), AllocError>
+    ensures { OnOk result (text.new.items ≡ text.old.items ++ (decimal low ++ (codes " " ++ decimal high))) }
+{
+    push_number(text, u64::from(low))?;
+    text.extend_from_slice(b" ")?;
+    push_number(text, u64::from(high))
+}
+
+/// Adds the number below which it isn't, and that none is known.
+fn push_above(text: &mut Vec<u8>, low: u32) -> Result<(), AllocError>
+    ensures { OnOk result (text.new.items ≡ text.old.items ++ (decimal low ++ codes " -")) }
+{
+    push_number(text, u64::from(low))?;
+    text.extend_from_slice(b" -")
+}
+
+/// Adds how many ticks later all has to end.
+fn push_lateness(text: &mut Vec<u8>, lateness: &Lateness) -> Result<(), AllocError>
+    ensures { OnOk result (text.new.items ≡ text.old.items ++ late_words lateness.now) }
+{
+    match lateness {
+        Lateness::Least { late, .. } => push_number(text, u64::from(*late)),
+        Lateness::Between { low, high, .. } => push_between(text, *low, *high),
+        Lateness::Unknown { low } => push_above(text, *low),
+        Lateness::Never => text.extend_from_slice(b"-"),
+    }
+}
+
+/// Adds the line that tells it, where it was asked for.
+fn push_late(text: &mut Vec<u8>, late: &Option<Lateness>) -> Result<(), AllocError>
+    ensures { OnOk result (text.new.items ≡ text.old.items ++ late_text late.now) }
+{
+    if let Some(lateness) = late {
+        text.extend_from_slice(b"late ")?;
+        push_lateness(text, lateness)?;
+        text.push(b'\n')?;
+    }
+    Ok(())
+}
+
+fn none_text(
+    alloc: Global,
+    instance: &Instance,
+    needs: &[Need],
+    late: &Option<Lateness>,
+) -> Result<Vec<u8>, AllocError>
     requires { All (λ need. IsOf instance.now need.constraint) needs.now }
-    ensures { IfOk result (λ text. text.items ≡ none_text instance.now needs.now) }
+    ensures { IfOk result (λ text. text.items ≡ none_text instance.now needs.now late.now) }
 {
     let mut text = Vec::from_slice(alloc, b"ttwhy 1\nnone\n")?;
     push_needs(&mut text, instance, needs)?;
+    push_late(&mut text, late)?;
     Ok(text)
 }
 
@@ -142,13 +190,14 @@ pub fn why_text(
     alloc: Global,
     instance: &Instance,
     conflict: &Conflict,
+    late: &Option<Lateness>,
 ) -> Result<Vec<u8>, AllocError>
     requires { AreToldOf instance.now conflict.now }
-    ensures { IfOk result (λ text. text.items ≡ why_text instance.now conflict.now) }
+    ensures { IfOk result (λ text. text.items ≡ why_text instance.now conflict.now late.now) }
 {
     match conflict {
         Conflict::Plan { delay, .. } => plan_text(alloc, *delay),
-        Conflict::None { needs, .. } => none_text(alloc, instance, needs.as_slice()),
+        Conflict::None { needs, .. } => none_text(alloc, instance, needs.as_slice(), late),
         Conflict::Unknown => Vec::from_slice(alloc, b"ttwhy 1\nunknown\n"),
     }
 }

@@ -14,4 +14,4 @@ pub returns-in-Open : goal.returns-in-Open
 returns-in-Open g c =
     let i = c.args.instance.now in
     let whole = whole_told i c.args.options c.in_ok-kept.kept c.in_ok-delay.field-0 c.nodes-nodes.ensures.instance c.in_ok-kept.ensures c.in_ok-delay.ensures in
-    record { left = subst (λ (sought : Sought). Tells i c.args.options sought) c.in-Open.is whole }
+    record { cert = c.in-Open.cert; left = subst (λ (sought : Sought). Tells i c.args.options sought) c.in-Open.is whole }

@@ -1,13 +1,9 @@
--- Instances whose processes differ in their deadlines alone: their plans are the same but for when these end.
+-- Instances that differ in their horizon and their deadlines alone: their plans are the same but for when they have to end.
 use Rattle.std.proofs.Common.{◌≡◌, ℕ, ◌+◌, ◌⊎◌, ◌==◌, ◌&&◌, if◌then◌else◌, List, length, slice_index, slice_index_or, arith, inl, inr, sym, ap, ◌∙◌}
-use Rattle.ttp_model.specs.declared.parts.Cluster.{Cluster}
-use Rattle.ttp_model.specs.declared.parts.Node.{Node}
 use Rattle.ttp_model.specs.declared.parts.Process.{Process}
-use Rattle.ttp_model.specs.declared.parts.Link.{Link}
-use Rattle.ttp_model.specs.declared.parts.Message.{Message}
 use Rattle.ttp_model.specs.declared.plan.Plan.{Plan}
 use Rattle.ttp_model.specs.Lists.{EachBelow}
-use Rattle.ttp_model.specs.Instance.{Instance, instance_with, no_process, source_of, message_at, link_at}
+use Rattle.ttp_model.specs.Instance.{Instance, no_process, source_of, message_at, link_at}
 use Rattle.ttp_model.specs.Slots.{slot_start, slot_end}
 use Rattle.ttp_model.specs.Plans.{IsValid, EndsBefore, EndsInTime, end_of, start_of, round_of, channel_of, is_on, load_on, bytes_on, sent_from, sent_until}
 use Rattle.ttp_model.proofs.Totals.{total_same}
@@ -29,14 +25,13 @@ turned old new differ = record {
   release = λ p. sym (differ.release p);
 }
 
-module _ (cluster : Cluster) (nodes : List Node) (links : List Link) (messages : List Message)
-    (old new : List Process) (differ : DifferInDeadlines old new) where
-  -- the instance of these, and that of those
-  abbrev i : Instance
-  i = instance_with cluster nodes old links messages
+-- the same instance with another horizon and other processes
+abbrev pub ending : Instance → ℕ → List Process → Instance
+ending i horizon processes = record i { cluster = record i.cluster { horizon = horizon }; processes = processes }
 
+module _ (i : Instance) (horizon : ℕ) (new : List Process) (differ : DifferInDeadlines i.processes new) where
   abbrev j : Instance
-  j = instance_with cluster nodes new links messages
+  j = ending i horizon new
 
   module _ (plan : Plan) where
     pub end_same : (p : ℕ) → end_of j plan p ≡ end_of i plan p
@@ -46,17 +41,17 @@ module _ (cluster : Cluster) (nodes : List Node) (links : List Link) (messages :
     source_same m = differ.node (message_at i m).sender
 
     from_same : (m : ℕ) → sent_from j plan m ≡ sent_from i plan m
-    from_same m = ap (λ (n : ℕ). slot_start cluster plan.order plan.caps n (round_of plan m)) (source_same m)
+    from_same m = ap (λ (n : ℕ). slot_start i.cluster plan.order plan.caps n (round_of plan m)) (source_same m)
 
     until_same : (m : ℕ) → sent_until j plan m ≡ sent_until i plan m
-    until_same m = ap (λ (n : ℕ). slot_end cluster plan.order plan.caps n (round_of plan m)) (source_same m)
+    until_same m = ap (λ (n : ℕ). slot_end i.cluster plan.order plan.caps n (round_of plan m)) (source_same m)
 
     bytes_same : (n r c m : ℕ) → bytes_on j plan n r c m ≡ bytes_on i plan n r c m
     bytes_same n r c m =
         ap (λ (s : ℕ). if is_on c (channel_of plan m) then (if s == n && round_of plan m == r then (message_at i m).bytes else 0) else 0) (source_same m)
 
     load_same : (n r c : ℕ) → load_on j plan n r c ≡ load_on i plan n r c
-    load_same n r c = total_same (bytes_on j plan n r c) (bytes_on i plan n r c) (length messages) (λ m below. bytes_same n r c m)
+    load_same n r c = total_same (bytes_on j plan n r c) (bytes_on i plan n r c) (length i.messages) (λ m below. bytes_same n r c m)
 
     -- the load of a message's frame
     frame_same : (m c : ℕ) → load_on j plan (source_of j m) (round_of plan m) c ≡ load_on i plan (source_of i m) (round_of plan m) c

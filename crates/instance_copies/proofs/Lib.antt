@@ -1,0 +1,2 @@
+pub mod OtherEnds
+pub mod OtherEndsRules

@@ -1,0 +1,3 @@
+mod LaterProcesses
+pub mod LaterPlans
+pub mod LaterRules
