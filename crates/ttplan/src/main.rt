@@ -336,7 +336,7 @@ fn why_to(
     let wanted = Wanted {
         certificate: why.certificate.is_some(),
         reduced: why.reduced.is_some(),
-        late: false,
+        late: why.late,
     };
     why_run(
         threads,
