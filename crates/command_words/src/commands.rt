@@ -205,6 +205,33 @@ pub(crate) fn solve_command<'a>(alloc: Global) -> Result<Command<'a>, AllocError
         .arg(progress(alloc))
 }
 
+/// Whether it is told how late all would have to be.
+fn late<'a>(alloc: Global) -> Arg<'a> {
+    Arg::new(alloc, "late")
+        .long("late")
+        .action(ArgAction::SetTrue)
+        .help(
+            "Also tells by how many ticks the horizon and all deadlines have to be later for a plan",
+        )
+}
+
+/// The file of the instance by the constraints that leave no plan.
+fn reduced<'a>(alloc: Global) -> Arg<'a> {
+    Arg::new(alloc, "reduced")
+        .long("reduced")
+        .value_name("FILE")
+        .help(
+            "Also writes the instance by these constraints alone to this file, in TOML; a file that is there is emptied first, and INSTANCE itself is refused",
+        )
+}
+
+/// The file of the certificate that there is no plan.
+fn certificate_of_none<'a>(alloc: Global) -> Arg<'a> {
+    Arg::new(alloc, "cert").long("cert").value_name("FILE").help(
+        "Also writes the certificate that this instance has no plan to this file: `ttplan check` accepts it for the file of `--reduced`. A file that is there is emptied first; INSTANCE itself is refused, and that file",
+    )
+}
+
 /// The subcommand that tells why there is no plan.
 pub(crate) fn why_command<'a>(alloc: Global) -> Result<Command<'a>, AllocError> {
     let workers = number(alloc, WHY_WORKERS, "How many workers search, 1 to 16");
@@ -213,46 +240,39 @@ pub(crate) fn why_command<'a>(alloc: Global) -> Result<Command<'a>, AllocError> 
         WHY_BUDGET,
         "How many subtrees each search has at most",
     );
-    let reduced = Arg::new(alloc, "reduced")
-        .long("reduced")
-        .value_name("FILE")
-        .help(
-            "Also writes the instance by these constraints alone to this file, in TOML; a file that is there is emptied first, and INSTANCE itself is refused",
-        );
-    let certificate = Arg::new(alloc, "cert").long("cert").value_name("FILE").help(
-        "Also writes the certificate that this instance has no plan to this file: `ttplan check` accepts it for the file of `--reduced`. A file that is there is emptied first; INSTANCE itself is refused, and that file",
-    );
-    let late = Arg::new(alloc, "late")
-        .long("late")
-        .action(ArgAction::SetTrue)
-        .help(
-            "Also tells by how many ticks the horizon and all deadlines have to be later for a plan",
-        );
     Command::new(alloc, "why")
         .about("Tells which constraints of an instance leave no plan")
         .after_help(WHY_HELP)
         .arg(file(alloc, "INSTANCE", INSTANCE_HELP))?
         .arg(workers)?
         .arg(budget)?
-        .arg(late)?
-        .arg(reduced)?
-        .arg(certificate)
+        .arg(late(alloc))?
+        .arg(reduced(alloc))?
+        .arg(certificate_of_none(alloc))
+}
+
+/// The processes that are to end early.
+fn processes<'a>(alloc: Global) -> Arg<'a> {
+    Arg::new(alloc, "PROCESS")
+        .required(true)
+        .num_args(1..)
+        .help("The name of a process, of which each is named once")
+}
+
+/// The file of the last search's certificate.
+fn certificate_of_last<'a>(alloc: Global) -> Arg<'a> {
+    Arg::new(alloc, "cert").long("cert").value_name("FILE").help(
+        "Also writes the certificate of the last search to this file, before the answer is printed: `ttplan check` accepts it, of `limit D` for the instance in which the deadlines of these processes are D, or earlier. A file that is there is emptied first; INSTANCE itself is refused",
+    )
 }
 
 /// The subcommand that tells how early processes can end.
 pub(crate) fn limit_command<'a>(alloc: Global) -> Result<Command<'a>, AllocError> {
-    let processes = Arg::new(alloc, "PROCESS")
-        .required(true)
-        .num_args(1..)
-        .help("The name of a process, of which each is named once");
     let workers = number(alloc, LIMIT_WORKERS, "How many workers search, 1 to 16");
     let budget = number(
         alloc,
         LIMIT_BUDGET,
         "How many subtrees each search has at most",
-    );
-    let certificate = Arg::new(alloc, "cert").long("cert").value_name("FILE").help(
-        "Also writes the certificate of the last search to this file, before the answer is printed; with `limit D` and with `none` `ttplan check` accepts it, with `limit D` for the instance in which these deadlines are D, or earlier. A file that is there is emptied first; INSTANCE itself is refused",
     );
     Command::new(alloc, "limit")
         .about(
@@ -260,10 +280,10 @@ pub(crate) fn limit_command<'a>(alloc: Global) -> Result<Command<'a>, AllocError
         )
         .after_help(LIMIT_HELP)
         .arg(file(alloc, "INSTANCE", INSTANCE_HELP))?
-        .arg(processes)?
+        .arg(processes(alloc))?
         .arg(workers)?
         .arg(budget)?
-        .arg(certificate)
+        .arg(certificate_of_last(alloc))
 }
 
 fn check_command<'a>(alloc: Global) -> Result<Command<'a>, AllocError> {
