@@ -1,7 +1,7 @@
 use Rattle.conflicts.proofs.Told.{conflict_shows}
 use Rattle.why_command.proofs.why.late_of.Goals as goal
 
-pub least_lateness-requires : goal.least_lateness-requires
-least_lateness-requires g c =
-    conflict_shows c.args.instance.now c.args.options c.in-None.needs.items c.in-None.kept c.in-None.cert c.nodes-nodes.ensures.instance
+pub least_lateness-requires-after_bounds : goal.least_lateness-requires-after_bounds
+least_lateness-requires-after_bounds g c =
+    λ κs alive. conflict_shows c.args.instance.now c.args.options c.in-None.needs.items c.in-None.kept c.in-None.cert c.nodes-nodes.ensures.instance
     (rw c.in-None.is at c.requires)
