@@ -146,6 +146,7 @@ fn is_right<R: Threads + Wait + Sync>(rt: &R, alloc: Global, row: &Row) -> Resul
     let options = Options {
         workers: 1,
         budget: *budget,
+        gap: 0,
     };
     match (find_conflict(rt, alloc, &instance, options)?, told) {
         (Conflict::Plan { delay, plan }, None) => Ok(check(&instance, &plan) == Ok(delay)),
