@@ -1,5 +1,5 @@
 -- How what is known of the least lateness comes together. Private contracts alone cite this.
-use Rattle.std.specs.Prelude.{ℕ, ◌-◌, ◌<◌}
+use Rattle.std.specs.Prelude.{◌-◌, ◌<◌}
 use Rattle.ttp_model.specs.Instance.{Instance}
 use Rattle.ttp_model.specs.Plans.{IsValid}
 use Rattle.planner.specs.outcome.Options.{Options}

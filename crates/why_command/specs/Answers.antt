@@ -76,8 +76,9 @@ IsLate true i options told.Unknown late = late ≡ None
 IsLate false i options conflict late = late ≡ None
 
 -- which constraints leave no plan, and how late all has to end
-abbrev pub IsExplained : Bool → Instance → Options → Conflict × Option Lateness → Type 0
-IsExplained wanted i options both = Answers i options both.0 × IsLate wanted i options both.0 both.1
+pub record IsExplained (wanted : Bool) (i : Instance) (options : Options) (both : Conflict × Option Lateness) : Type 0 where
+  pub answers : Answers i options both.0
+  pub late : IsLate wanted i options both.0 both.1
 
 -- the texts that tell what was found
 pub record AreTextsOf (wanted : Wanted) (i : Instance) (conflict : Conflict) (late : Option Lateness) (texts : Texts) : Type 0 where
