@@ -14,9 +14,6 @@ use std::test::Fail;
 use std::thread::Threads;
 use ttp_model::Instance;
 
-/// Where a horizon is left out, plans within so many ticks are tried.
-const LATE: u32 = 10;
-
 /// Two processes of one node that can't both be in time, beside a third one that one of them has to wait for.
 const CROWDED: Sample = Sample {
     name: "two deadlines",
@@ -36,7 +33,7 @@ const RELEASED: Sample = Sample {
 /// Two messages that fill a frame each, one of which is to be on both channels: they take two rounds.
 const DOUBLED: Sample = Sample {
     name: "two channels, a message on both",
-    horizon: 6,
+    horizon: 5,
     channels: 2,
     nodes: &[&[1], &[0]],
     processes: &[(0, 1, ANY), (1, 1, ANY)],
@@ -45,50 +42,78 @@ const DOUBLED: Sample = Sample {
     ..ONE_MESSAGE
 };
 
-/// An instance, how many subtrees each search has, and the constraints that are told; none where a plan is.
-type Row = (Sample, u64, Option<&'static [Constraint]>);
-
-const BUDGET: u64 = 1_000;
+/// What is told of an instance.
+#[derive(Clone, Copy)]
+struct Row {
+    sample: Sample,
+    /// Within how many ticks plans are tried where the horizon is left out.
+    late: u32,
+    /// How many subtrees each search has.
+    budget: u64,
+    /// The constraints that are told; none where a plan is.
+    told: Option<&'static [Constraint]>,
+}
 
 const ROWS: &[Row] = &[
-    (THREE_ALIKE, BUDGET, None),
-    (
-        Sample {
-            name: "one message within 8 ticks",
-            horizon: 8,
-            ..ONE_MESSAGE
-        },
-        BUDGET,
-        Some(&[Horizon, Message(0)]),
-    ),
-    (NO_FRAME, BUDGET, Some(&[Message(0)])),
-    (CROWDED, BUDGET, Some(&[Deadline(0), Deadline(1)])),
-    (RELEASED, BUDGET, Some(&[Deadline(1), Release(0), Link(0)])),
-    (
-        DOUBLED,
-        BUDGET,
-        Some(&[Horizon, Message(0), Message(1), Both(1)]),
-    ),
+    Row {
+        sample: THREE_ALIKE,
+        late: 6,
+        budget: 1_000,
+        told: None,
+    },
+    SHORT,
+    Row {
+        sample: NO_FRAME,
+        late: 5,
+        budget: 1_000,
+        told: Some(&[Message(0)]),
+    },
+    Row {
+        sample: CROWDED,
+        late: 6,
+        budget: 1_000,
+        told: Some(&[Deadline(0), Deadline(1)]),
+    },
+    Row {
+        sample: RELEASED,
+        late: 9,
+        budget: 1_000,
+        told: Some(&[Deadline(1), Release(0), Link(0)]),
+    },
+    Row {
+        sample: DOUBLED,
+        late: 7,
+        budget: 1_000,
+        told: Some(&[Horizon, Message(0), Message(1), Both(1)]),
+    },
     // The root's bound shows that there is no plan, and no search finds one.
-    (
-        Sample {
-            name: "one message within 8 ticks, without a search",
-            horizon: 8,
-            ..ONE_MESSAGE
-        },
-        0,
-        Some(&[Horizon, Message(0)]),
-    ),
+    Row { budget: 0, ..SHORT },
 ];
 
+/// A message that takes a tick more than there is.
+const SHORT: Row = Row {
+    sample: Sample {
+        name: "one message within 8 ticks",
+        horizon: 8,
+        ..ONE_MESSAGE
+    },
+    late: 9,
+    budget: 1_000,
+    told: Some(&[Horizon, Message(0)]),
+};
+
 /// Whether there is a plan by these constraints alone, by trying every one.
-fn has_plan(alloc: Global, sample: &Sample, constraints: &Constraints) -> Result<bool, Fail> {
+fn has_plan(alloc: Global, row: &Row, constraints: &Constraints) -> Result<bool, Fail> {
     let horizon = if constraints.horizon {
-        sample.horizon
+        row.sample.horizon
     } else {
-        LATE
+        row.late
     };
-    let instance = Sample { horizon, ..*sample }.build(alloc)?;
+    let instance = Sample {
+        horizon,
+        ..row.sample
+    }
+    .build(alloc)?;
     let mut others = constraints.copy(alloc)?;
     others.horizon = true;
     let looser = with_only(alloc, &instance, &others)?;
@@ -103,11 +128,10 @@ fn is_needed(
     need: Need,
     constraint: Constraint,
 ) -> Result<bool, Fail> {
-    let (sample, budget, _) = row;
     let mut fewer = kept.copy(alloc)?;
     fewer.leave_out(need.constraint);
-    let is_right = need.constraint == constraint && need.is_shown == (*budget > 0);
-    Ok(is_right && has_plan(alloc, sample, &fewer)?)
+    let is_right = need.constraint == constraint && need.is_shown == (row.budget > 0);
+    Ok(is_right && has_plan(alloc, row, &fewer)?)
 }
 
 /// Whether the needs are those that are expected.
@@ -130,29 +154,28 @@ fn are_needed(
 fn leave_none(
     alloc: Global,
     instance: &Instance,
-    sample: &Sample,
+    row: &Row,
     kept: &Constraints,
     cert: &Cert,
 ) -> Result<bool, Fail> {
     let looser = with_only(alloc, instance, kept)?;
     let bound = tree_check::check(alloc, &looser, cert)?;
-    Ok(bound == looser.past_horizon() && !has_plan(alloc, sample, kept)?)
+    Ok(bound == looser.past_horizon() && !has_plan(alloc, row, kept)?)
 }
 
 /// Whether what is told of an instance is right.
 fn is_right<R: Threads + Wait + Sync>(rt: &R, alloc: Global, row: &Row) -> Result<bool, Fail> {
-    let (sample, budget, told) = row;
-    let instance = sample.build(alloc)?;
+    let instance = row.sample.build(alloc)?;
     let options = Options {
         workers: 1,
-        budget: *budget,
+        budget: row.budget,
         gap: 0,
     };
-    match (find_conflict(rt, alloc, &instance, options)?, told) {
+    match (find_conflict(rt, alloc, &instance, options)?, row.told) {
         (Conflict::Plan { delay, plan }, None) => Ok(check(&instance, &plan) == Ok(delay)),
         (Conflict::None { needs, kept, cert }, Some(constraints)) => {
             let are_right = are_needed(alloc, row, &kept, needs.as_slice(), constraints)?;
-            Ok(are_right && leave_none(alloc, &instance, sample, &kept, &cert)?)
+            Ok(are_right && leave_none(alloc, &instance, row, &kept, &cert)?)
         }
         (Conflict::Plan { .. }, Some(_)) | (Conflict::None { .. }, None) | (Conflict::Unknown, _) =>
             { Ok(false) }
@@ -162,7 +185,12 @@ fn is_right<R: Threads + Wait + Sync>(rt: &R, alloc: Global, row: &Row) -> Resul
 #[test]
 fn no_constraint_that_leaves_no_plan_can_be_left_out(rt: HostRuntime) -> Result<(), Fail> {
     for row in ROWS {
-        assert!(rt; is_right(&rt, rt.alloc(), row)?, "{}", row.0.name);
+        assert!(rt;
+            is_right(&rt, rt.alloc(), row)?,
+            "{}, {}",
+            row.sample.name,
+            row.budget
+        );
     }
     Ok(())
 }

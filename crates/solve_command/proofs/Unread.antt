@@ -1,5 +1,5 @@
 -- Where the instance is refused, the plan to begin with is left unread: no fault of the instance comes of a search or of a writer.
-use Rattle.std.proofs.Common.{◌≡◌, ℕ, Bool, List, Option, Result, Ok, Err, IfErr, MatchResult, inl, inr}
+use Rattle.std.proofs.Common.{ℕ, Bool, List, Option, Result, Ok, Err, IfErr, MatchResult, inl, inr}
 use Rattle.ttp_model.specs.declared.plan.Plan.{Plan as Table}
 use Rattle.ttp_model.specs.Instance.{Instance}
 use Rattle.certificate.specs.Cert.{Cert}
