@@ -9,7 +9,7 @@ use branch_tree::{Piece, Task, Worked, work};
 use certificate::Node;
 use incumbent::Incumbent;
 use planner::Manner;
-use pool_worker::{Ending, Report, run_worker, run_worker_in};
+use pool_worker::{Aims, Ending, Report, run_worker, run_worker_in};
 use std::alloc::Global;
 use std::marker::Brand;
 use std::test::Fail;
@@ -165,7 +165,16 @@ pub fn lone_report<J: Searched>(
     let report = match manner {
         Manner::Plain => run_worker(alloc, instance, hand, &word, second, budget, 1, &books),
         Manner::Sparing => run_worker_in(
-            alloc, instance, hand, &word, second, budget, 1, manner, 0, &books,
+            alloc,
+            instance,
+            hand,
+            &word,
+            second,
+            budget,
+            1,
+            manner,
+            Aims::all(),
+            &books,
         ),
     };
     if !books.are_right() || !tells_of_work(books.left(), &report) {
