@@ -1377,6 +1377,17 @@ def judge_conflict(instance, lines, reduced_text, certificate_text, folder):
             raise wrong(word, words)
 
 
+def judge_late(instance, late, folder):
+    """Judges how many ticks later all has to end: there is a plan then, and none a tick before; or none however late. Raises Refused."""
+    low, *high = late.split()[1:]
+    reached = high[0] if high else low
+    before = TICKS_MOST if low == "-" else int(low) - 1
+    if reached != "-" and not has_plan(later(instance, int(reached)), folder):
+        raise wrong(late)
+    if not is_shown_without(later(instance, before), folder):
+        raise wrong(late)
+
+
 def judge_answer(instance, answer, reduced, certificate, folder):
     """Judges what is told behind the first line; raises Refused."""
     what, *lines = answer.split("\n")
@@ -1386,9 +1397,7 @@ def judge_answer(instance, answer, reduced, certificate, folder):
     elif lines or not (what == "unknown" or what.startswith("plan ") and has_plan(instance, folder)):
         raise wrong(what)
     if late:
-        ticks = int(late.removeprefix("late "))
-        if not has_plan(later(instance, ticks), folder) or not is_shown_without(later(instance, ticks - 1), folder):
-            raise wrong(late)
+        judge_late(instance, late, folder)
 
 
 def file_named(words, option, folder):
