@@ -53,7 +53,7 @@ const ALONE: &[&str] = &[
     CLUSTER,
 ];
 
-/// Two processes of one node, joined by a link, in too little time: so it is known without a search.
+/// Two processes of one node in too little time, which is known without a search; they are joined by a link, which isn't needed for it.
 const LINKED: &[&str] = &[
     "node = [{name = 'A', capacities = [0]}]\n",
     "process = [{name = 'p', node = 'A', wcet = 3}, {name = 'q', node = 'A', wcet = 3}]\n",
@@ -74,8 +74,8 @@ static ROWS: &[Row] = &[
     (NO_FRAME, 1_000, true, "ttwhy 1\nnone\nneed message m\nlate -\n", 10),
     (CROWDED, 1_000, true, "ttwhy 1\nnone\nneed deadline q 6\nneed release p 2\nneed link p q\nlate 1\n", 10),
     (BOTH, 1_000, true, "ttwhy 1\nnone\nneed horizon 7\nneed message m\nneed message k\nneed both m\nlate 2\n", 10),
-    (LINKED, 1_000, true, "ttwhy 1\nnone\nneed horizon 5\nneed link p q\nlate 1\n", 10),
-    (LINKED, 0, true, "ttwhy 1\nnone\nmaybe horizon 5\nmaybe link p q\nlate 1 -\n", 10),
+    (LINKED, 1_000, true, "ttwhy 1\nnone\nneed horizon 5\nlate 1\n", 10),
+    (LINKED, 0, true, "ttwhy 1\nnone\nmaybe horizon 5\nlate 1 -\n", 10),
     (ALONE, 1_000, true, "ttwhy 1\nplan 3\n", 0),
     (FIRST, 0, true, "ttwhy 1\nunknown\n", 11),
 ];
