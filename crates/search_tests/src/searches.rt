@@ -50,7 +50,7 @@ const GAPS: &[(u32, u64, u64)] = &[(0, 8, 8), (1, 8, 9), (2, 7, 9), (3, 6, 9)];
 /// Whether it is told that 8 ticks are least, or of bounds round them that are no further apart than a gap.
 fn is_within(answer: Answer, gap: u32) -> bool {
     let is_near = match answer.delay {
-        Some(delay) => delay <= answer.low + u64::from(gap),
+        Some(delay) => delay.saturating_sub(answer.low) <= u64::from(gap),
         None => false,
     };
     is_near && answer.is_right(8, Why::Gap)
