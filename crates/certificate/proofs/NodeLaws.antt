@@ -14,8 +14,8 @@ use Rattle.certificate.specs.declared.head.Head.TheVariants.{OfBranch, OfLeaf}
 use Rattle.certificate.specs.declared.limits.TheConstants.{MOST_BRANCHES_ABOVE}
 use Rattle.certificate.specs.declared.node.Node.{Node}
 use Rattle.certificate.specs.declared.node.Node.TheVariants.{Branch, Leaf}
-use Rattle.certificate.specs.Words.{step_words, steps_with, head_words, heads_with, head_of, steps_of, count_of, node_of_head}
-use Rattle.certificate.specs.Spelling.{IsLong, line_with, step_text, node_text, StepHasText, NodeHasText}
+use Rattle.certificate.specs.Words.{IsLong, step_words, steps_with, head_words, heads_with, head_of, steps_of, count_of, node_of_head}
+use Rattle.certificate.specs.Spelling.{line_with, step_text, node_text, StepHasText, NodeHasText}
 use Rattle.certificate.specs.Reading.{line_at, said_in, text_step, steps_at, text_node}
 use Rattle.certificate.proofs.Heads.{line_takes, line_again}
 use Rattle.certificate.proofs.Said.{said_takes, said_again, line_lacks}

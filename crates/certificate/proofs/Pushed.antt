@@ -6,7 +6,7 @@ use Rattle.std.proofs.lemmas.List.{take_more, take_all, append-nil}
 use Rattle.std.proofs.lemmas.List.Elements.{All-more, All-from_get_or}
 use Rattle.std.proofs.lemmas.Grind.{flat_map-append}
 use Rattle.ttp_model.specs.declared.step.Step.{Step}
-use Rattle.certificate.specs.Spelling.{Fit, IsLong, StepHasText, line_with, step_text}
+use Rattle.certificate.specs.Spelling.{Fit, spaced, step_text}
 use Rattle.certificate.specs.Words.{step_words}
 
 -- the text of one element more, at its place
@@ -48,9 +48,7 @@ pub fit_from_type : (xs : List ℕ) → ((k : ℕ) → get_or xs k 0 < 2 ^ 32) �
 fit_from_type xs fits = All-from_get_or (λ n. n < 2 ^ 32) xs 0 (λ k lt. fits k)
 
 -- a line that says a step
-pub step_pushed : {A E : Type 0} (result : Result A E) (old new : List ℕ) {step said : Step} → step ≡ said → OnOk result (new ≡ old ++ (line_with (step_words said) ++ 10 ∷ [])) → OnOk result (new ≡ old ++ step_text step)
+pub step_said : {A E : Type 0} (result : Result A E) (old new keyword numbers : List ℕ) (step : Step) → keyword ≡ (step_words step).0
+    → numbers ≡ (step_words step).1 → OnOk result (new ≡ old ++ ((keyword ++ flat_map spaced numbers) ++ 10 ∷ [])) → OnOk result (new ≡ old ++ step_text step)
 unfolding step_text
-step_pushed result old new is pushed = rw is pushed
-
-pub step_fits : {step said : Step} → step ≡ said → Fit (step_words said).1 → IsLong said → StepHasText step
-step_fits is fit long = rw is (record { numbers = fit; long = long })
+step_said result old new keyword numbers step is said pushed = rw (is, said) at pushed

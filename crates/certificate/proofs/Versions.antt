@@ -6,15 +6,19 @@ use Rattle.std.proofs.lemmas.List.Sums.{AllPass-from_list_all, list_all-from_All
 use Rattle.ttp_model.specs.declared.step.Kind.{Kind}
 use Rattle.ttp_model.specs.declared.step.Kind.TheVariants.{Place, Cap, Pair, Round, Chan}
 use Rattle.ttp_model.specs.declared.step.Step.{Step}
-use Rattle.ttp_model.specs.declared.step.Step.TheVariants.{EsRelease, EsLink, EsBefore, EsArrive, EsMessage, LoSend, LeOwn, LeLink, LeBefore, LeMessage, LeSend, HiArrive, OrdWindow, OrdTwin, UsSettled, XWindow, XRound, XCycle, XLoad, XFrame, XFrames, XChannel, XLate, XSilent, XMirror}
 use Rattle.certificate.specs.declared.node.Node.{Node}
 use Rattle.certificate.specs.declared.node.Node.TheVariants.{Branch, Leaf}
 use Rattle.certificate.specs.declared.version.Version.{Version}
 use Rattle.certificate.specs.declared.version.Version.TheVariants.{One, Two}
 use Rattle.certificate.specs.Trees.{Trees, preorder}
+use Rattle.certificate.specs.Words.{speaks_of_channels}
 use Rattle.certificate.specs.Versions.{allows_kind, allows_step, allows_node, AllowsStep, AllowsNode, Allows, version_of_tree}
 
 -- ---- the second version
+
+by_either : (speaks : Bool) → cond speaks true true ≡ true
+by_either true = refl
+by_either false = refl
 
 kind_allowed : (kind : Kind) → allows_kind Two kind ≡ true
 kind_allowed Place = refl
@@ -24,31 +28,7 @@ kind_allowed (Round m r) = refl
 kind_allowed (Chan m) = refl
 
 step_allowed : (step : Step) → allows_step Two step ≡ true
-step_allowed (EsRelease p) = refl
-step_allowed (EsLink l) = refl
-step_allowed (EsBefore p q) = refl
-step_allowed (EsArrive m q) = refl
-step_allowed (EsMessage m q) = refl
-step_allowed (LoSend m) = refl
-step_allowed (LeOwn p) = refl
-step_allowed (LeLink l) = refl
-step_allowed (LeBefore p q) = refl
-step_allowed (LeMessage m q) = refl
-step_allowed (LeSend m) = refl
-step_allowed (HiArrive m q) = refl
-step_allowed (OrdWindow p q) = refl
-step_allowed (OrdTwin p q) = refl
-step_allowed (UsSettled p) = refl
-step_allowed (XWindow p) = refl
-step_allowed (XRound m) = refl
-step_allowed (XCycle ps) = refl
-step_allowed (XLoad n a b) = refl
-step_allowed (XFrame m) = refl
-step_allowed (XFrames n a b) = refl
-step_allowed (XChannel k n a b) = refl
-step_allowed (XLate m r) = refl
-step_allowed (XSilent u v) = refl
-step_allowed (XMirror m) = refl
+step_allowed step = by_either (speaks_of_channels step)
 
 steps_allowed : (steps : List Step) → All (AllowsStep Two) steps
 steps_allowed [] = All-nil (AllowsStep Two)

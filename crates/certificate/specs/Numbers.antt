@@ -6,6 +6,8 @@ use Rattle.certificate.specs.declared.numbers.FewWords.{FewWords}
 use Rattle.certificate.specs.declared.numbers.FewWords.TheVariants as words
 use Rattle.certificate.specs.declared.numbers.FewNumbers.{FewNumbers}
 use Rattle.certificate.specs.declared.numbers.FewNumbers.TheVariants as few
+use Rattle.certificate.specs.declared.steps.LineNumbers.{LineNumbers}
+use Rattle.certificate.specs.declared.steps.LineNumbers.TheVariants as line
 use Rattle.line_text.specs.Results.{◌>>=◌, check}
 use Rattle.certificate.specs.declared.fault.LineFault.TheVariants.{Form, Number}
 use Rattle.certificate.specs.declared.fault.CertTextError.TheVariants.{At}
@@ -22,6 +24,11 @@ numbers_in (few.One a) = a ∷ []
 numbers_in (few.Two a b) = a ∷ b ∷ []
 numbers_in (few.Three a b c) = a ∷ b ∷ c ∷ []
 numbers_in (few.Four a b c d) = a ∷ b ∷ c ∷ d ∷ []
+
+-- the numbers behind a step's keyword
+abbrev pub numbers_said : LineNumbers → List ℕ
+numbers_said (line.Few numbers) = numbers_in numbers
+numbers_said (line.Ring processes) = processes.now
 
 -- a word in front, and the words of the text behind it, if there is one
 abbrev pub words_with : NumberWord → Option (List ℕ) → List NumberWord

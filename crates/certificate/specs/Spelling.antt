@@ -1,13 +1,12 @@
 -- Which values have a certificate text, and the one spelling of each. Own profile.
-use Rattle.std.specs.Prelude.{◌≡◌, ℕ, ◌<◌, ◌≤◌, ◌^◌, List, ◌∷◌, ◌++◌, [], length, All, decimal}
+use Rattle.std.specs.Prelude.{◌≡◌, ℕ, ◌<◌, ◌^◌, List, ◌∷◌, ◌++◌, [], All, decimal}
 use Rattle.std.specs.List.{flat_map}
 use Rattle.ttp_model.specs.declared.step.Step.{Step}
-use Rattle.ttp_model.specs.declared.step.Step.TheVariants.{EsRelease, EsLink, EsBefore, EsArrive, EsMessage, LoSend, LeOwn, LeLink, LeBefore, LeMessage, LeSend, HiArrive, OrdWindow, OrdTwin, UsSettled, XWindow, XRound, XCycle, XLoad, XFrame, XFrames, XChannel, XLate, XSilent, XMirror}
 use Rattle.certificate.specs.declared.node.Node.{Node}
 use Rattle.certificate.specs.Trees.{IsTree, preorder}
 use Rattle.certificate.specs.Cert.{Cert}
 use Rattle.certificate.specs.Versions.{version_line, Allows}
-use Rattle.certificate.specs.Words.{Words, low_words, head_words, head_of, step_words, steps_of}
+use Rattle.certificate.specs.Words.{Words, low_words, head_words, head_of, step_words, IsLong, steps_of}
 
 -- a number with the space before it
 unfoldable pub spaced : ℕ → List ℕ
@@ -34,34 +33,6 @@ cert_text c =
 -- each number is one that can be written
 abbrev pub Fit : List ℕ → Type 0
 Fit numbers = All (λ n. n < 2 ^ 32) numbers
-
--- a cycle goes through two or more processes
-abbrev pub IsLong : Step → Type 0
-IsLong (EsRelease p) = Unit {0}
-IsLong (EsLink l) = Unit {0}
-IsLong (EsBefore p q) = Unit {0}
-IsLong (EsArrive m q) = Unit {0}
-IsLong (EsMessage m q) = Unit {0}
-IsLong (LoSend m) = Unit {0}
-IsLong (LeOwn p) = Unit {0}
-IsLong (LeLink l) = Unit {0}
-IsLong (LeBefore p q) = Unit {0}
-IsLong (LeMessage m q) = Unit {0}
-IsLong (LeSend m) = Unit {0}
-IsLong (HiArrive m q) = Unit {0}
-IsLong (OrdWindow p q) = Unit {0}
-IsLong (OrdTwin p q) = Unit {0}
-IsLong (UsSettled p) = Unit {0}
-IsLong (XWindow p) = Unit {0}
-IsLong (XRound m) = Unit {0}
-IsLong (XCycle ps) = 2 ≤ length ps
-IsLong (XLoad n a b) = Unit {0}
-IsLong (XFrame m) = Unit {0}
-IsLong (XFrames n a b) = Unit {0}
-IsLong (XChannel k n a b) = Unit {0}
-IsLong (XLate m r) = Unit {0}
-IsLong (XSilent u v) = Unit {0}
-IsLong (XMirror m) = Unit {0}
 
 pub record StepHasText (step : Step) : Type 0 where
   pub numbers : Fit (step_words step).1

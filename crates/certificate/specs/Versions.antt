@@ -4,7 +4,6 @@ use Rattle.std.specs.List.{list_all}
 use Rattle.ttp_model.specs.declared.step.Kind.{Kind}
 use Rattle.ttp_model.specs.declared.step.Kind.TheVariants.{Place, Cap, Pair, Round, Chan}
 use Rattle.ttp_model.specs.declared.step.Step.{Step}
-use Rattle.ttp_model.specs.declared.step.Step.TheVariants.{EsRelease, EsLink, EsBefore, EsArrive, EsMessage, LoSend, LeOwn, LeLink, LeBefore, LeMessage, LeSend, HiArrive, OrdWindow, OrdTwin, UsSettled, XWindow, XRound, XCycle, XLoad, XFrame, XFrames, XChannel, XLate, XSilent, XMirror}
 use Rattle.certificate.specs.declared.head.Head.{Head}
 use Rattle.certificate.specs.declared.head.Head.TheVariants.{OfBranch, OfLeaf}
 use Rattle.certificate.specs.declared.node.Node.{Node}
@@ -12,7 +11,7 @@ use Rattle.certificate.specs.declared.node.Node.TheVariants.{Branch, Leaf}
 use Rattle.certificate.specs.declared.version.Version.{Version}
 use Rattle.certificate.specs.declared.version.Version.TheVariants.{One, Two}
 use Rattle.certificate.specs.Trees.{Trees, preorder}
-use Rattle.certificate.specs.Words.{head_of, steps_of}
+use Rattle.certificate.specs.Words.{speaks_of_channels, head_of, steps_of}
 
 -- the first line of a text of this version
 abbrev pub version_line : Version → List ℕ
@@ -46,31 +45,7 @@ allows_head version (OfBranch branch) = allows_kind version branch.kind
 allows_head version (OfLeaf goal count) = true
 
 abbrev pub allows_step : Version → Step → Bool
-allows_step version (EsRelease p) = true
-allows_step version (EsLink l) = true
-allows_step version (EsBefore p q) = true
-allows_step version (EsArrive m q) = true
-allows_step version (EsMessage m q) = true
-allows_step version (LoSend m) = true
-allows_step version (LeOwn p) = true
-allows_step version (LeLink l) = true
-allows_step version (LeBefore p q) = true
-allows_step version (LeMessage m q) = true
-allows_step version (LeSend m) = true
-allows_step version (HiArrive m q) = true
-allows_step version (OrdWindow p q) = true
-allows_step version (OrdTwin p q) = true
-allows_step version (UsSettled p) = true
-allows_step version (XWindow p) = true
-allows_step version (XRound m) = true
-allows_step version (XCycle ps) = true
-allows_step version (XLoad n a b) = true
-allows_step version (XFrame m) = true
-allows_step version (XFrames n a b) = true
-allows_step version (XChannel k n a b) = allows_channels version
-allows_step version (XLate m r) = true
-allows_step version (XSilent u v) = true
-allows_step version (XMirror m) = allows_channels version
+allows_step version step = if speaks_of_channels step then allows_channels version else true
 
 abbrev pub AllowsStep : Version → Step → Type 0
 AllowsStep version step = allows_step version step ≡ true

@@ -1,5 +1,5 @@
 -- What the lines of a certificate say: a keyword and numbers, each after a space. Own profile.
-use Rattle.std.specs.Prelude.{ℕ, List, [], ◌∷◌, length, codes, if◌then◌else◌, ◌==◌}
+use Rattle.std.specs.Prelude.{ℕ, ◌≤◌, List, [], ◌∷◌, length, codes, Bool, true, false, if◌then◌else◌, ◌==◌}
 use Rattle.ttp_model.specs.declared.step.Kind.{Kind}
 use Rattle.ttp_model.specs.declared.step.Kind.TheVariants.{Place, Cap, Pair, Round, Chan}
 use Rattle.ttp_model.specs.declared.step.Step.{Step}
@@ -59,6 +59,62 @@ step_words (XChannel k n a b) = (codes "x-channel", k ∷ n ∷ a ∷ b ∷ [])
 step_words (XLate m r) = (codes "x-late", m ∷ r ∷ [])
 step_words (XSilent u v) = (codes "x-silent", u ∷ v ∷ [])
 step_words (XMirror m) = (codes "x-mirror", m ∷ [])
+
+-- a cycle goes through two or more processes
+abbrev pub IsLong : Step → Type 0
+IsLong (EsRelease p) = Unit {0}
+IsLong (EsLink l) = Unit {0}
+IsLong (EsBefore p q) = Unit {0}
+IsLong (EsArrive m q) = Unit {0}
+IsLong (EsMessage m q) = Unit {0}
+IsLong (LoSend m) = Unit {0}
+IsLong (LeOwn p) = Unit {0}
+IsLong (LeLink l) = Unit {0}
+IsLong (LeBefore p q) = Unit {0}
+IsLong (LeMessage m q) = Unit {0}
+IsLong (LeSend m) = Unit {0}
+IsLong (HiArrive m q) = Unit {0}
+IsLong (OrdWindow p q) = Unit {0}
+IsLong (OrdTwin p q) = Unit {0}
+IsLong (UsSettled p) = Unit {0}
+IsLong (XWindow p) = Unit {0}
+IsLong (XRound m) = Unit {0}
+IsLong (XCycle ps) = 2 ≤ length ps
+IsLong (XLoad n a b) = Unit {0}
+IsLong (XFrame m) = Unit {0}
+IsLong (XFrames n a b) = Unit {0}
+IsLong (XChannel k n a b) = Unit {0}
+IsLong (XLate m r) = Unit {0}
+IsLong (XSilent u v) = Unit {0}
+IsLong (XMirror m) = Unit {0}
+
+-- and which steps speak of channels: the first version of a text has none of them
+abbrev pub speaks_of_channels : Step → Bool
+speaks_of_channels (EsRelease p) = false
+speaks_of_channels (EsLink l) = false
+speaks_of_channels (EsBefore p q) = false
+speaks_of_channels (EsArrive m q) = false
+speaks_of_channels (EsMessage m q) = false
+speaks_of_channels (LoSend m) = false
+speaks_of_channels (LeOwn p) = false
+speaks_of_channels (LeLink l) = false
+speaks_of_channels (LeBefore p q) = false
+speaks_of_channels (LeMessage m q) = false
+speaks_of_channels (LeSend m) = false
+speaks_of_channels (HiArrive m q) = false
+speaks_of_channels (OrdWindow p q) = false
+speaks_of_channels (OrdTwin p q) = false
+speaks_of_channels (UsSettled p) = false
+speaks_of_channels (XWindow p) = false
+speaks_of_channels (XRound m) = false
+speaks_of_channels (XCycle ps) = false
+speaks_of_channels (XLoad n a b) = false
+speaks_of_channels (XFrame m) = false
+speaks_of_channels (XFrames n a b) = false
+speaks_of_channels (XChannel k n a b) = true
+speaks_of_channels (XLate m r) = false
+speaks_of_channels (XSilent u v) = false
+speaks_of_channels (XMirror m) = true
 
 -- ---- what can be said with so many numbers
 

@@ -3,12 +3,15 @@
 ghost use Rattle.std.specs.Prelude.{◌≡◌, ◌++◌, ◌∷◌, [], All, IfOk, OnOk};
 ghost use Rattle.std.specs.List.{flat_map};
 ghost use Rattle.certificate.specs.Words.{step_words, branch_words, head_words, head_of};
+ghost use Rattle.certificate.specs.Numbers.{numbers_in};
 ghost use Rattle.certificate.specs.Versions.{Allows};
 ghost use Rattle.certificate.specs.Spelling.{Fit, spaced, line_with, step_text, node_text, StepHasText, NodeHasText, SpellsCert};
 
 use crate::branch::Branch;
 use crate::cert::Cert;
 use crate::node::Node;
+use crate::numbers::FewNumbers;
+use crate::steps::{LineNumbers, line_of};
 use line_text::push_number;
 use std::alloc::{AllocError, Global};
 use ttp_model::{Kind, MemoryFault, Step};
@@ -34,37 +37,27 @@ fn push_line(text: &mut Vec<u8>, keyword: &[u8], numbers: &[u32]) -> Result<(), 
     Ok(())
 }
 
-#[tactic(auto, unfolding(crate::specs::Spelling::step_text))]
+fn push_few(text: &mut Vec<u8>, keyword: &[u8], numbers: FewNumbers) -> Result<(), AllocError>
+    ensures line { OnOk result (text.new.items ≡
+        text.old.items ++ ((keyword.now ++ flat_map spaced (numbers_in numbers)) ++ 10 ∷ [])) }
+    ensures fit { Fit (numbers_in numbers) }
+{
+    match numbers {
+        FewNumbers::One(a) => push_line(text, keyword, &[a]),
+        FewNumbers::Two(a, b) => push_line(text, keyword, &[a, b]),
+        FewNumbers::Three(a, b, c) => push_line(text, keyword, &[a, b, c]),
+        FewNumbers::Four(a, b, c, d) => push_line(text, keyword, &[a, b, c, d]),
+    }
+}
+
 fn push_step(text: &mut Vec<u8>, step: &Step) -> Result<(), AllocError>
     ensures text { OnOk result (text.new.items ≡ text.old.items ++ step_text step.now) }
     ensures fits { StepHasText step.now }
 {
-    match step {
-        Step::EsRelease(p) => push_line(text, b"es-release", &[*p]),
-        Step::EsLink(l) => push_line(text, b"es-link", &[*l]),
-        Step::EsBefore(p, q) => push_line(text, b"es-before", &[*p, *q]),
-        Step::EsArrive(m, q) => push_line(text, b"es-arrive", &[*m, *q]),
-        Step::EsMessage(m, q) => push_line(text, b"es-message", &[*m, *q]),
-        Step::LoSend(m) => push_line(text, b"lo-send", &[*m]),
-        Step::LeOwn(p) => push_line(text, b"le-own", &[*p]),
-        Step::LeLink(l) => push_line(text, b"le-link", &[*l]),
-        Step::LeBefore(p, q) => push_line(text, b"le-before", &[*p, *q]),
-        Step::LeMessage(m, q) => push_line(text, b"le-message", &[*m, *q]),
-        Step::LeSend(m) => push_line(text, b"le-send", &[*m]),
-        Step::HiArrive(m, q) => push_line(text, b"hi-arrive", &[*m, *q]),
-        Step::OrdWindow(p, q) => push_line(text, b"ord-window", &[*p, *q]),
-        Step::OrdTwin(p, q) => push_line(text, b"ord-twin", &[*p, *q]),
-        Step::UsSettled(p) => push_line(text, b"us-settled", &[*p]),
-        Step::XWindow(p) => push_line(text, b"x-window", &[*p]),
-        Step::XRound(m) => push_line(text, b"x-round", &[*m]),
-        Step::XCycle(ring) => push_line(text, b"x-cycle", ring.as_slice()),
-        Step::XLoad(n, a, b) => push_line(text, b"x-load", &[*n, *a, *b]),
-        Step::XFrame(m) => push_line(text, b"x-frame", &[*m]),
-        Step::XFrames(n, a, b) => push_line(text, b"x-frames", &[*n, *a, *b]),
-        Step::XChannel(k, n, a, b) => push_line(text, b"x-channel", &[*k, *n, *a, *b]),
-        Step::XLate(m, r) => push_line(text, b"x-late", &[*m, *r]),
-        Step::XSilent(u, v) => push_line(text, b"x-silent", &[*u, *v]),
-        Step::XMirror(m) => push_line(text, b"x-mirror", &[*m]),
+    let line = line_of(step);
+    match line.numbers {
+        LineNumbers::Few(numbers) => push_few(text, line.keyword, numbers),
+        LineNumbers::Ring(processes) => push_line(text, line.keyword, processes),
     }
 }
 

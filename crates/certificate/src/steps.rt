@@ -1,10 +1,10 @@
 //! Which step does a line say?
 
-ghost use Rattle.std.specs.Prelude.{◌≡◌, ◌≢◌, ◌∷◌, [], codes};
-ghost use Rattle.certificate.specs.Words.{step_words, steps_with};
+ghost use Rattle.std.specs.Prelude.{◌≡◌, ◌≢◌, ◌≤◌, ◌∷◌, [], codes, length};
+ghost use Rattle.certificate.specs.Words.{step_words, IsLong, speaks_of_channels, steps_with};
 ghost use Rattle.certificate.specs.Versions.{allows_step};
 ghost use Rattle.certificate.specs.Reading.{IsAnswer, said_in, with_keyword};
-ghost use Rattle.certificate.specs.Numbers.{numbers_in};
+ghost use Rattle.certificate.specs.Numbers.{numbers_in, numbers_said};
 
 use crate::fault::{CertTextError, LineFault};
 use crate::numbers::{FewNumbers, words_of};
@@ -12,7 +12,112 @@ use crate::ring::ring_of;
 use crate::version::Version;
 use line_text::cut;
 use std::alloc::Global;
-use ttp_model::Step;
+use ttp_model::{Ring, Step};
+
+/// The numbers behind a step's keyword.
+#[derive(Clone, Copy)]
+pub enum LineNumbers<'a> {
+    Few(FewNumbers),
+    /// The processes of a cycle, two or more.
+    Ring(&'a [u32]),
+}
+
+/// A step's line: its keyword, and the numbers behind it.
+#[derive(Clone, Copy)]
+pub struct StepLine<'a> {
+    pub keyword: &'static [u8],
+    pub numbers: LineNumbers<'a>,
+}
+
+/// The line of a keyword with few numbers.
+fn few(keyword: &'static [u8], numbers: FewNumbers) -> StepLine<'static>
+    ensures keyword { result.keyword.now ≡ keyword.now }
+    ensures numbers { numbers_said result.numbers ≡ numbers_in numbers }
+{
+    StepLine {
+        keyword,
+        numbers: LineNumbers::Few(numbers),
+    }
+}
+
+/// The line of a keyword with the processes of a cycle.
+fn processes_of<'a>(keyword: &'static [u8], ring: &'a Ring) -> StepLine<'a>
+    ensures keyword { result.keyword.now ≡ keyword.now }
+    ensures numbers { numbers_said result.numbers ≡ ring.now }
+    ensures long { 2 ≤ length ring.now }
+{
+    StepLine {
+        keyword,
+        numbers: LineNumbers::Ring(ring.as_slice()),
+    }
+}
+
+/// The line of a step.
+pub fn line_of(step: &Step) -> StepLine<'_>
+    ensures keyword { result.keyword.now ≡ (step_words step.now).0 }
+    ensures numbers { numbers_said result.numbers ≡ (step_words step.now).1 }
+    ensures long { IsLong step.now }
+{
+    match step {
+        Step::EsRelease(p) => few(b"es-release", FewNumbers::One(*p)),
+        Step::EsLink(l) => few(b"es-link", FewNumbers::One(*l)),
+        Step::EsBefore(p, q) => few(b"es-before", FewNumbers::Two(*p, *q)),
+        Step::EsArrive(m, q) => few(b"es-arrive", FewNumbers::Two(*m, *q)),
+        Step::EsMessage(m, q) => few(b"es-message", FewNumbers::Two(*m, *q)),
+        Step::LoSend(m) => few(b"lo-send", FewNumbers::One(*m)),
+        Step::LeOwn(p) => few(b"le-own", FewNumbers::One(*p)),
+        Step::LeLink(l) => few(b"le-link", FewNumbers::One(*l)),
+        Step::LeBefore(p, q) => few(b"le-before", FewNumbers::Two(*p, *q)),
+        Step::LeMessage(m, q) => few(b"le-message", FewNumbers::Two(*m, *q)),
+        Step::LeSend(m) => few(b"le-send", FewNumbers::One(*m)),
+        Step::HiArrive(m, q) => few(b"hi-arrive", FewNumbers::Two(*m, *q)),
+        Step::OrdWindow(p, q) => few(b"ord-window", FewNumbers::Two(*p, *q)),
+        Step::OrdTwin(p, q) => few(b"ord-twin", FewNumbers::Two(*p, *q)),
+        Step::UsSettled(p) => few(b"us-settled", FewNumbers::One(*p)),
+        Step::XWindow(p) => few(b"x-window", FewNumbers::One(*p)),
+        Step::XRound(m) => few(b"x-round", FewNumbers::One(*m)),
+        Step::XCycle(ring) => processes_of(b"x-cycle", ring),
+        Step::XLoad(n, a, b) => few(b"x-load", FewNumbers::Three(*n, *a, *b)),
+        Step::XFrame(m) => few(b"x-frame", FewNumbers::One(*m)),
+        Step::XFrames(n, a, b) => few(b"x-frames", FewNumbers::Three(*n, *a, *b)),
+        Step::XChannel(k, n, a, b) => few(b"x-channel", FewNumbers::Four(*k, *n, *a, *b)),
+        Step::XLate(m, r) => few(b"x-late", FewNumbers::Two(*m, *r)),
+        Step::XSilent(u, v) => few(b"x-silent", FewNumbers::Two(*u, *v)),
+        Step::XMirror(m) => few(b"x-mirror", FewNumbers::One(*m)),
+    }
+}
+
+/// Whether a step speaks of channels.
+pub fn speaks_of_channels(step: &Step) -> bool
+    ensures { result ≡ speaks_of_channels step.now }
+{
+    match step {
+        Step::EsRelease(..)
+        | Step::EsLink(..)
+        | Step::EsBefore(..)
+        | Step::EsArrive(..)
+        | Step::EsMessage(..)
+        | Step::LoSend(..)
+        | Step::LeOwn(..)
+        | Step::LeLink(..)
+        | Step::LeBefore(..)
+        | Step::LeMessage(..)
+        | Step::LeSend(..)
+        | Step::HiArrive(..)
+        | Step::OrdWindow(..)
+        | Step::OrdTwin(..)
+        | Step::UsSettled(..)
+        | Step::XWindow(..)
+        | Step::XRound(..)
+        | Step::XCycle(..)
+        | Step::XLoad(..)
+        | Step::XFrame(..)
+        | Step::XFrames(..)
+        | Step::XLate(..)
+        | Step::XSilent(..) => false,
+        Step::XChannel(..) | Step::XMirror(_) => true,
+    }
+}
 
 fn with_one(keyword: &[u8], a: u32) -> Option<Step>
     ensures { result ≡ with_keyword step_words keyword.now (steps_with (a ∷ [])) }

@@ -6,6 +6,7 @@ ghost use Rattle.certificate.specs.Versions.{version_line, version_of, allows_ch
 
 use crate::head::Head;
 use crate::node::Node;
+use crate::steps::speaks_of_channels;
 use ttp_model::{Kind, Step};
 
 /// The version of a certificate's text, which its first line names. The second has all lines of the first, and those
@@ -69,32 +70,7 @@ impl Version {
     pub(crate) fn allows_step(self, step: &Step) -> bool
         ensures { result ≡ allows_step self step.now }
     {
-        match step {
-            Step::EsRelease(_)
-            | Step::EsLink(_)
-            | Step::EsBefore(_, _)
-            | Step::EsArrive(_, _)
-            | Step::EsMessage(_, _)
-            | Step::LoSend(_)
-            | Step::LeOwn(_)
-            | Step::LeLink(_)
-            | Step::LeBefore(_, _)
-            | Step::LeMessage(_, _)
-            | Step::LeSend(_)
-            | Step::HiArrive(_, _)
-            | Step::OrdWindow(_, _)
-            | Step::OrdTwin(_, _)
-            | Step::UsSettled(_)
-            | Step::XWindow(_)
-            | Step::XRound(_)
-            | Step::XCycle(_)
-            | Step::XLoad(_, _, _)
-            | Step::XFrame(_)
-            | Step::XFrames(_, _, _)
-            | Step::XLate(_, _)
-            | Step::XSilent(_, _) => true,
-            Step::XChannel(_, _, _, _) | Step::XMirror(_) => self.allows_channels(),
-        }
+        !speaks_of_channels(step) || self.allows_channels()
     }
 
     /// Whether the lines of these steps may stand in its texts.
