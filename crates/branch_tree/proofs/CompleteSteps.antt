@@ -10,12 +10,12 @@ use Rattle.ttp_model.specs.Rules.{IsInstance, IsProcess}
 use Rattle.tt_choice.specs.Choice.{Choice, IsChoice, IsComplete, least_round}
 use Rattle.sought_plans.specs.Known.{Known, first_facts}
 use Rattle.sought_plans.specs.Conclusions.{StartsFrom, EndsUntil, NothingLeft, sharpened, capped}
-use Rattle.tt_infer.specs.Table.{rule, IsLawful}
+use Rattle.tt_infer.specs.Table.{IsDominance, rule, IsLawful}
 use Rattle.tt_infer.specs.Leaves.{Lead}
 use Rattle.tt_infer.proofs.Leaves.{Lead-append}
 use Rattle.path_bounds.proofs.Complete.{end_exact}
 use Rattle.earliest_starts.specs.Clashes.{WaitsUntil, released, arrived, after}
-use Rattle.branch_tree.specs.Closers.{IsDominance, IsClosedBy}
+use Rattle.branch_tree.specs.Closers.{IsClosedBy}
 
 -- steps that hold of all valid plans lead from the first facts to what is known here, where plans may be left
 pub record IsWay (i : Instance) (c : Choice) (goal : ℕ) (f : Known) : Type 0 where

@@ -1,40 +1,13 @@
 -- The step that closes a complete choice without a plan, or at a goal within its plan's delay. Own profile.
 use Rattle.std.specs.Prelude.{ℕ, ◌+◌, ◌==◌, if◌then◌else◌, List, [], ◌∷◌, ◌++◌, All}
 use Rattle.ttp_model.specs.declared.step.Step.{Step}
-use Rattle.ttp_model.specs.declared.step.Step.TheVariants.{EsRelease, EsLink, EsBefore, EsArrive, EsMessage, LoSend, LeOwn, LeLink, LeBefore, LeMessage, LeSend, HiArrive, OrdWindow, OrdTwin, UsSettled, XWindow, XRound, XCycle, XLoad, XFrame, XFrames, XChannel, XLate, XSilent, XMirror}
+use Rattle.ttp_model.specs.declared.step.Step.TheVariants.{XWindow, XRound, XCycle, XFrames, XChannel}
 use Rattle.ttp_model.specs.Instance.{Instance}
 use Rattle.tt_choice.specs.Choice.{Choice}
+use Rattle.tt_infer.specs.Table.{IsDominance}
 use Rattle.tt_infer.specs.Leaves.{ClosesLeaf}
 use Rattle.earliest_starts.specs.declared.clash.Clash.{Clash}
 use Rattle.earliest_starts.specs.declared.clash.Clash.TheVariants.{Cycle, Round, Window, Frame}
-
--- the five steps that are true of settled plans alone
-abbrev pub IsDominance : Step → Type 0
-IsDominance (EsRelease p) = ⊥
-IsDominance (EsLink l) = ⊥
-IsDominance (EsBefore p q) = ⊥
-IsDominance (EsArrive m q) = ⊥
-IsDominance (EsMessage m q) = ⊥
-IsDominance (LoSend m) = ⊥
-IsDominance (LeOwn p) = ⊥
-IsDominance (LeLink l) = ⊥
-IsDominance (LeBefore p q) = ⊥
-IsDominance (LeMessage m q) = ⊥
-IsDominance (LeSend m) = ⊥
-IsDominance (HiArrive m q) = ⊥
-IsDominance (OrdWindow p q) = ⊥
-IsDominance (OrdTwin p q) = Unit {0}
-IsDominance (UsSettled p) = Unit {0}
-IsDominance (XWindow p) = ⊥
-IsDominance (XRound m) = ⊥
-IsDominance (XCycle ps) = ⊥
-IsDominance (XLoad n a b) = ⊥
-IsDominance (XFrame m) = ⊥
-IsDominance (XFrames n a b) = ⊥
-IsDominance (XChannel k n a b) = ⊥
-IsDominance (XLate m r) = Unit {0}
-IsDominance (XSilent u v) = Unit {0}
-IsDominance (XMirror m) = Unit {0}
 
 -- the step that closes the choice for a clash: for an overfull frame that of its one channel, where there are two
 abbrev pub closer_of : Instance → Clash → Step

@@ -4,7 +4,7 @@ use Rattle.std.proofs.Common.{◌≡◌, ℕ, zero, suc, ◌+◌, ◌<◌, ◌�
 use Rattle.std.proofs.lemmas.Bool.{cases_Bool, cases_order, leb-true, leb-false, le-leb, both_ways}
 use Rattle.std.proofs.Math.Nat.{mul-le-mul_left}
 use Rattle.ttp_model.specs.declared.step.Step.{Step}
-use Rattle.ttp_model.specs.declared.step.Step.TheVariants.{EsRelease, EsLink, EsBefore, EsArrive, EsMessage, LoSend, LeOwn, LeLink, LeBefore, LeMessage, LeSend, HiArrive, OrdWindow, OrdTwin, UsSettled, XWindow, XRound, XCycle, XLoad, XFrame, XFrames, XChannel, XLate, XSilent, XMirror}
+use Rattle.ttp_model.specs.declared.step.Step.TheVariants.{LoSend, HiArrive, UsSettled}
 use Rattle.ttp_model.specs.declared.error.Place.TheVariants.{AtCluster}
 use Rattle.ttp_model.specs.Instance.{Instance, source_of}
 use Rattle.ttp_model.specs.Rules.{IsInstance}
@@ -99,28 +99,7 @@ chances i c f m q w =
     )
 
 pub concludes_some : (i : Instance) (c : Choice) (goal : ℕ) (f : Known) (step : Step) → IsInstance i → (rule i c goal f step).premise → (k : Conclusion) × (rule i c goal f step).concludes k
-concludes_some i c goal f (EsRelease p) w premise = (_, refl)
-concludes_some i c goal f (EsLink l) w premise = (_, refl)
-concludes_some i c goal f (EsBefore p q) w premise = (_, refl)
-concludes_some i c goal f (EsArrive m q) w premise = (_, refl)
-concludes_some i c goal f (EsMessage m q) w premise = (_, refl)
 concludes_some i c goal f (LoSend m) w premise = (let is = first_chance i c f m w in (_, (is.0, is.1, refl)))
-concludes_some i c goal f (LeOwn p) w premise = (_, refl)
-concludes_some i c goal f (LeLink l) w premise = (_, refl)
-concludes_some i c goal f (LeBefore p q) w premise = (_, refl)
-concludes_some i c goal f (LeMessage m q) w premise = (_, refl)
-concludes_some i c goal f (LeSend m) w premise = (_, refl)
 concludes_some i c goal f (HiArrive m q) w premise = (let is = chances i c f m q w in (_, (is.0, is.1, refl)))
-concludes_some i c goal f (OrdWindow p q) w premise = (_, refl)
-concludes_some i c goal f (OrdTwin p q) w premise = (_, refl)
 concludes_some i c goal f (UsSettled p) w premise = (let is = greatest_wait i c f p in (_, (is.0, is.1, refl)))
-concludes_some i c goal f (XWindow p) w premise = (_, refl)
-concludes_some i c goal f (XRound m) w premise = (_, refl)
-concludes_some i c goal f (XCycle ps) w premise = (_, refl)
-concludes_some i c goal f (XLoad n a b) w premise = (_, refl)
-concludes_some i c goal f (XFrame m) w premise = (_, refl)
-concludes_some i c goal f (XFrames n a b) w premise = (_, refl)
-concludes_some i c goal f (XChannel k n a b) w premise = (_, refl)
-concludes_some i c goal f (XLate m r) w premise = (_, refl)
-concludes_some i c goal f (XSilent a b) w premise = (_, refl)
-concludes_some i c goal f (XMirror m) w premise = (_, refl)
+concludes_some i c goal f step w premise = (_, refl)

@@ -3,7 +3,7 @@ use Rattle.std.proofs.Common.{IsFalse, Result, Ok, Err, refl, ◌≡◌, ℕ, �
 use Rattle.std.proofs.lemmas.Bool.{cases_order, both_ways}
 use Rattle.std.proofs.Math.Nat.{le_antisymm}
 use Rattle.ttp_model.specs.declared.step.Step.{Step}
-use Rattle.ttp_model.specs.declared.step.Step.TheVariants.{EsRelease, EsLink, EsBefore, EsArrive, EsMessage, LoSend, LeOwn, LeLink, LeBefore, LeMessage, LeSend, HiArrive, OrdWindow, OrdTwin, UsSettled, XWindow, XRound, XCycle, XLoad, XFrame, XFrames, XChannel, XLate, XSilent, XMirror}
+use Rattle.ttp_model.specs.declared.step.Step.TheVariants.{LoSend, HiArrive, UsSettled}
 use Rattle.ttp_model.specs.Instance.{Instance}
 use Rattle.tt_choice.specs.Choice.{Choice}
 use Rattle.sought_plans.specs.Known.{Known}
@@ -32,31 +32,10 @@ pub greatest_wait_is_one : (i : Instance) (c : Choice) (f : Known) (p time other
 greatest_wait_is_one i c f p time other one also = le_antisymm (one.least other also.wait) (also.least time one.wait)
 
 pub concludes_one : (i : Instance) (c : Choice) (goal : ℕ) (f : Known) (step : Step) (j k : Conclusion) → (rule i c goal f step).concludes j → (rule i c goal f step).concludes k → j ≡ k
-concludes_one i c goal f (EsRelease p) j k one other = one ∙ sym other
-concludes_one i c goal f (EsLink l) j k one other = one ∙ sym other
-concludes_one i c goal f (EsBefore p q) j k one other = one ∙ sym other
-concludes_one i c goal f (EsArrive m q) j k one other = one ∙ sym other
-concludes_one i c goal f (EsMessage m q) j k one other = one ∙ sym other
 concludes_one i c goal f (LoSend m) j k one other = one.2 ∙ ap (SentFrom m) (first_chance_is_one i c f m one.0 other.0 one.1 other.1) ∙ sym other.2
-concludes_one i c goal f (LeOwn p) j k one other = one ∙ sym other
-concludes_one i c goal f (LeLink l) j k one other = one ∙ sym other
-concludes_one i c goal f (LeBefore p q) j k one other = one ∙ sym other
-concludes_one i c goal f (LeMessage m q) j k one other = one ∙ sym other
-concludes_one i c goal f (LeSend m) j k one other = one ∙ sym other
 concludes_one i c goal f (HiArrive m q) j k one other = one.2 ∙ ap (SentBefore m) (chances_are_one i c f m q one.0 other.0 one.1 other.1) ∙ sym other.2
-concludes_one i c goal f (OrdWindow p q) j k one other = one ∙ sym other
-concludes_one i c goal f (OrdTwin p q) j k one other = one ∙ sym other
 concludes_one i c goal f (UsSettled p) j k one other = one.2 ∙ ap (λ time. EndsUntil p (wcet_of i p + time)) (greatest_wait_is_one i c f p one.0 other.0 one.1 other.1) ∙ sym other.2
-concludes_one i c goal f (XWindow p) j k one other = one ∙ sym other
-concludes_one i c goal f (XRound m) j k one other = one ∙ sym other
-concludes_one i c goal f (XCycle ps) j k one other = one ∙ sym other
-concludes_one i c goal f (XLoad n a b) j k one other = one ∙ sym other
-concludes_one i c goal f (XFrame m) j k one other = one ∙ sym other
-concludes_one i c goal f (XFrames n a b) j k one other = one ∙ sym other
-concludes_one i c goal f (XChannel channel n a b) j k one other = one ∙ sym other
-concludes_one i c goal f (XLate m r) j k one other = one ∙ sym other
-concludes_one i c goal f (XSilent a b) j k one other = one ∙ sym other
-concludes_one i c goal f (XMirror m) j k one other = one ∙ sym other
+concludes_one i c goal f step j k one other = one ∙ sym other
 
 pub IsLawful-determined : (i : Instance) (c : Choice) (goal : ℕ) (f : Known) (step : Step) (g h : Known) → IsLawful i c goal f step g → IsLawful i c goal f step h → g ≡ h
 IsLawful-determined i c goal f step g h one other =

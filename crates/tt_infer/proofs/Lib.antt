@@ -13,6 +13,8 @@ pub mod LateMessages
 pub mod Mirrors
 pub mod SilentTwins
 pub mod Keeps
+pub mod Rows
+pub mod SameStep
 pub mod Sound
 pub mod Sharper
 pub mod Kept

@@ -1,5 +1,5 @@
 -- Two messages of two channels: which choices of their channels no settled plan is in.
-use Rattle.std.proofs.Common.{◌≡◌, ℕ, zero, suc, ◌<◌, [], ◌∷◌, true, false, Option, is_some, unwrap_or, arith, inl, inr, refl, ap}
+use Rattle.std.proofs.Common.{◌≡◌, ℕ, zero, suc, ◌<◌, [], ◌∷◌, false, Option, is_some, unwrap_or, arith, inl, inr, refl, ap}
 use Rattle.std.proofs.lemmas.Bool.{false≢true}
 use Rattle.ttp_model.specs.declared.step.Step.TheVariants.{XMirror}
 use Rattle.ttp_model.specs.Instance.{source_of}

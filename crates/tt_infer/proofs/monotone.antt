@@ -9,6 +9,7 @@ pub mod Waits
 pub mod Closers
 pub mod Loads
 pub mod Dominance
+pub mod Served
 pub mod Steps
 pub mod FirstFacts
 pub mod Inside

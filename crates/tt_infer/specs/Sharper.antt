@@ -1,12 +1,12 @@
 -- When at least as much is known, and when steps lead on in the same way there. Own profile.
 use Rattle.std.specs.Prelude.{◌≡◌, ℕ, ◌≤◌, List, [], ◌∷◌, ◌++◌, IsTrue}
 use Rattle.ttp_model.specs.declared.step.Step.{Step}
-use Rattle.ttp_model.specs.declared.step.Step.TheVariants.{EsRelease, EsLink, EsBefore, EsArrive, EsMessage, LoSend, LeOwn, LeLink, LeBefore, LeMessage, LeSend, HiArrive, OrdWindow, OrdTwin, UsSettled, XWindow, XRound, XCycle, XLoad, XFrame, XFrames, XChannel, XLate, XSilent, XMirror}
+use Rattle.ttp_model.specs.declared.step.Step.TheVariants.{XRound}
 use Rattle.ttp_model.specs.Instance.{Instance}
 use Rattle.tt_choice.specs.Choice.{Choice}
 use Rattle.sought_plans.specs.Known.{Known, es_of, le_of, lo_of, top_of, bef_of}
 use Rattle.sought_plans.specs.Conclusions.{NothingLeft, sharpened}
-use Rattle.tt_infer.specs.Table.{IsLawful}
+use Rattle.tt_infer.specs.Table.{AsksForRounds, IsLawful}
 use Rattle.tt_infer.specs.Leaves.{Lead}
 
 -- g says at least as much as f: times and rounds are bounded as closely, each known order is known,
@@ -18,34 +18,6 @@ pub record IsSharper (f g : Known) : Type 0 where
   pub top : (m : ℕ) → top_of g m ≤ top_of f m
   pub bef : (p q : ℕ) → IsTrue (bef_of f p q) → IsTrue (bef_of g p q)
   pub closed : IsTrue f.closed → IsTrue g.closed
-
--- the steps that ask for a round in which a message can be sent
-abbrev pub AsksForRounds : Step → Type 0
-AsksForRounds (EsRelease p) = ⊥
-AsksForRounds (EsLink l) = ⊥
-AsksForRounds (EsBefore p q) = ⊥
-AsksForRounds (EsArrive m q) = ⊥
-AsksForRounds (EsMessage m q) = ⊥
-AsksForRounds (LoSend m) = ⊥
-AsksForRounds (LeOwn p) = ⊥
-AsksForRounds (LeLink l) = ⊥
-AsksForRounds (LeBefore p q) = ⊥
-AsksForRounds (LeMessage m q) = ⊥
-AsksForRounds (LeSend m) = Unit {0}
-AsksForRounds (HiArrive m q) = ⊥
-AsksForRounds (OrdWindow p q) = ⊥
-AsksForRounds (OrdTwin p q) = ⊥
-AsksForRounds (UsSettled p) = Unit {0}
-AsksForRounds (XWindow p) = ⊥
-AsksForRounds (XRound m) = ⊥
-AsksForRounds (XCycle ps) = ⊥
-AsksForRounds (XLoad n a b) = ⊥
-AsksForRounds (XFrame m) = ⊥
-AsksForRounds (XFrames n a b) = ⊥
-AsksForRounds (XChannel k n a b) = ⊥
-AsksForRounds (XLate m r) = ⊥
-AsksForRounds (XSilent u v) = ⊥
-AsksForRounds (XMirror m) = ⊥
 
 -- a step leads on to where at least as much is known as g tells
 pub record LeadsAsFar (i : Instance) (c : Choice) (goal : ℕ) (f : Known) (step : Step) (g : Known) : Type 0 where

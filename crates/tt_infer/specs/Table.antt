@@ -77,6 +77,62 @@ rule i c goal f (XLate m r) = row (IsMessage i m) (CouldBeEarlier i c f m r) (Ju
 rule i c goal f (XSilent u v) = row (IsNode i u × IsNode i v) (StandTurned i c u v) (Just NothingLeft)
 rule i c goal f (XMirror m) = row (IsMessage i m) (IsMirrored i c f m) (Just NothingLeft)
 
+-- the steps that ask for a round in which a message can be sent
+abbrev pub AsksForRounds : Step → Type 0
+AsksForRounds (EsRelease p) = ⊥
+AsksForRounds (EsLink l) = ⊥
+AsksForRounds (EsBefore p q) = ⊥
+AsksForRounds (EsArrive m q) = ⊥
+AsksForRounds (EsMessage m q) = ⊥
+AsksForRounds (LoSend m) = ⊥
+AsksForRounds (LeOwn p) = ⊥
+AsksForRounds (LeLink l) = ⊥
+AsksForRounds (LeBefore p q) = ⊥
+AsksForRounds (LeMessage m q) = ⊥
+AsksForRounds (LeSend m) = Unit {0}
+AsksForRounds (HiArrive m q) = ⊥
+AsksForRounds (OrdWindow p q) = ⊥
+AsksForRounds (OrdTwin p q) = ⊥
+AsksForRounds (UsSettled p) = Unit {0}
+AsksForRounds (XWindow p) = ⊥
+AsksForRounds (XRound m) = ⊥
+AsksForRounds (XCycle ps) = ⊥
+AsksForRounds (XLoad n a b) = ⊥
+AsksForRounds (XFrame m) = ⊥
+AsksForRounds (XFrames n a b) = ⊥
+AsksForRounds (XChannel k n a b) = ⊥
+AsksForRounds (XLate m r) = ⊥
+AsksForRounds (XSilent u v) = ⊥
+AsksForRounds (XMirror m) = ⊥
+
+-- the five steps that are true of settled plans alone
+abbrev pub IsDominance : Step → Type 0
+IsDominance (EsRelease p) = ⊥
+IsDominance (EsLink l) = ⊥
+IsDominance (EsBefore p q) = ⊥
+IsDominance (EsArrive m q) = ⊥
+IsDominance (EsMessage m q) = ⊥
+IsDominance (LoSend m) = ⊥
+IsDominance (LeOwn p) = ⊥
+IsDominance (LeLink l) = ⊥
+IsDominance (LeBefore p q) = ⊥
+IsDominance (LeMessage m q) = ⊥
+IsDominance (LeSend m) = ⊥
+IsDominance (HiArrive m q) = ⊥
+IsDominance (OrdWindow p q) = ⊥
+IsDominance (OrdTwin p q) = Unit {0}
+IsDominance (UsSettled p) = Unit {0}
+IsDominance (XWindow p) = ⊥
+IsDominance (XRound m) = ⊥
+IsDominance (XCycle ps) = ⊥
+IsDominance (XLoad n a b) = ⊥
+IsDominance (XFrame m) = ⊥
+IsDominance (XFrames n a b) = ⊥
+IsDominance (XChannel k n a b) = ⊥
+IsDominance (XLate m r) = Unit {0}
+IsDominance (XSilent u v) = Unit {0}
+IsDominance (XMirror m) = Unit {0}
+
 -- a step of the table: what it names is there, its premise holds, and what is known after it is what
 -- was known before, sharpened by its conclusion
 pub record IsLawful (i : Instance) (c : Choice) (goal : ℕ) (f : Known) (step : Step) (g : Known) : Type 0 where

@@ -16,6 +16,7 @@ use sought_plans::{Known, Setting};
 use ttp_model::Step;
 
 /// Takes a step of the table, or refuses it.
+#[tactic(auto, using(crate::proofs::SameStep::takes_same))]
 pub fn take(known: &mut Known, setting: &Setting, step: &Step) -> Result<(), StepFault>
     requires { Fits setting.now.instance known.old }
     ensures { TakesOf setting.now known.old step.now known.new result }
