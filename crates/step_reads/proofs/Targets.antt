@@ -2,7 +2,7 @@
 use Rattle.std.proofs.Common.{◌≡◌, ℕ, ◌<◌, List, length, slice_index, slice_set, Bool, true, false, if◌then◌else◌, arith, refl, ap, sym, ◌∙◌, get_or-set_same}
 use Rattle.std.proofs.lemmas.List.{set-get_or}
 use Rattle.ttp_model.specs.declared.step.Step.{Step}
-use Rattle.ttp_model.specs.declared.step.Step.TheVariants.{EsRelease, EsLink, EsBefore, EsArrive, EsMessage, LoSend, LeOwn, LeLink, LeBefore, LeMessage, LeSend, HiArrive, OrdWindow, OrdTwin, UsSettled, XWindow, XRound, XCycle, XLoad, XFrame, XFrames, XChannel, XLate, XSilent, XMirror}
+use Rattle.ttp_model.specs.declared.step.Step.TheVariants.{LoSend, HiArrive, UsSettled}
 use Rattle.ttp_model.specs.Instance.{Instance}
 use Rattle.tt_choice.specs.Choice.{Choice}
 use Rattle.tt_choice.specs.Precedence.{place_in, put_before}
@@ -14,31 +14,10 @@ use Rattle.step_reads.specs.Targets.{fact_of, target, known_value}
 
 -- what a step concludes is about its target
 pub target_is : (i : Instance) (c : Choice) (goal : ℕ) (f : Known) (step : Step) (k : Conclusion) → (rule i c goal f step).concludes k → fact_of k ≡ target i step
-target_is i c goal f (EsRelease p) k is = ap fact_of is
-target_is i c goal f (EsLink l) k is = ap fact_of is
-target_is i c goal f (EsBefore p q) k is = ap fact_of is
-target_is i c goal f (EsArrive m q) k is = ap fact_of is
-target_is i c goal f (EsMessage m q) k is = ap fact_of is
 target_is i c goal f (LoSend m) k is = ap fact_of is.2
-target_is i c goal f (LeOwn p) k is = ap fact_of is
-target_is i c goal f (LeLink l) k is = ap fact_of is
-target_is i c goal f (LeBefore p q) k is = ap fact_of is
-target_is i c goal f (LeMessage m q) k is = ap fact_of is
-target_is i c goal f (LeSend m) k is = ap fact_of is
 target_is i c goal f (HiArrive m q) k is = ap fact_of is.2
-target_is i c goal f (OrdWindow p q) k is = ap fact_of is
-target_is i c goal f (OrdTwin p q) k is = ap fact_of is
 target_is i c goal f (UsSettled p) k is = ap fact_of is.2
-target_is i c goal f (XWindow p) k is = ap fact_of is
-target_is i c goal f (XRound m) k is = ap fact_of is
-target_is i c goal f (XCycle ps) k is = ap fact_of is
-target_is i c goal f (XLoad n a b) k is = ap fact_of is
-target_is i c goal f (XFrame m) k is = ap fact_of is
-target_is i c goal f (XFrames n a b) k is = ap fact_of is
-target_is i c goal f (XChannel channel n a b) k is = ap fact_of is
-target_is i c goal f (XLate m r) k is = ap fact_of is
-target_is i c goal f (XSilent u v) k is = ap fact_of is
-target_is i c goal f (XMirror m) k is = ap fact_of is
+target_is i c goal f step k is = ap fact_of is
 
 -- a test that counts as 1 holds
 counts : (b : Bool) → ◌≡◌ {A = ℕ} 1 (if b then 1 else 0) → b ≡ true

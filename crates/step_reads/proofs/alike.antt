@@ -3,4 +3,5 @@ pub mod Waits
 pub mod Loads
 pub mod Late
 pub mod Mirrors
+pub mod Orders
 pub mod Steps

@@ -1,4 +1,4 @@
--- What each step reads: of what is known, and of the choice and its goal beside it. Own profile.
+-- What each step writes and reads: of what is known, and of the choice and its goal beside it. Own profile.
 use Rattle.std.specs.Prelude.{◌≡◌, ◌≢◌, ℕ, ◌+◌, ◌-◌, ◌<◌, ◌≤◌, ◌⊎◌, ◌&&◌, List, length, slice_index, Bool, IsTrue, IsFalse}
 use Rattle.ttp_model.specs.declared.step.Step.{Step}
 use Rattle.ttp_model.specs.declared.step.Step.TheVariants.{EsRelease, EsLink, EsBefore, EsArrive, EsMessage, LoSend, LeOwn, LeLink, LeBefore, LeMessage, LeSend, HiArrive, OrdWindow, OrdTwin, UsSettled, XWindow, XRound, XCycle, XLoad, XFrame, XFrames, XChannel, XLate, XSilent, XMirror}
@@ -100,6 +100,34 @@ TellsApart f m k fact =
 -- and where they don't tell it: both may be in one round
 abbrev pub MayMeet : Known → ℕ → ℕ → Type 0
 MayMeet f m k = (lo_of f m < top_of f k) × (lo_of f k < top_of f m)
+
+-- The fact that a step sharpens.
+abbrev pub target : Instance → Step → Fact
+target i (EsRelease p) = Start p
+target i (EsLink l) = Start (link_at i l).after
+target i (EsBefore p q) = Start q
+target i (EsArrive m q) = Start q
+target i (EsMessage m q) = Start q
+target i (LoSend m) = FirstRound m
+target i (LeOwn p) = End p
+target i (LeLink l) = End (link_at i l).before
+target i (LeBefore p q) = End p
+target i (LeMessage m q) = End (sender_of i m)
+target i (LeSend m) = End (sender_of i m)
+target i (HiArrive m q) = LateRound m
+target i (OrdWindow p q) = Order p q
+target i (OrdTwin p q) = Order p q
+target i (UsSettled p) = End p
+target i (XWindow p) = Closed
+target i (XRound m) = Closed
+target i (XCycle ps) = Closed
+target i (XLoad n a b) = Closed
+target i (XFrame m) = Closed
+target i (XFrames n a b) = Closed
+target i (XChannel k n a b) = Closed
+target i (XLate m r) = Closed
+target i (XSilent u v) = Closed
+target i (XMirror m) = Closed
 
 -- The facts that a step reads at a choice, where this is known before it.
 abbrev pub ReadsFact : Instance → Choice → Known → Step → Fact → Type 0

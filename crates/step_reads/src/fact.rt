@@ -1,13 +1,13 @@
-//! Which fact is a step about, and how far is it known?
+//! Which facts are there, and how far is one known?
 
 ghost use Rattle.std.specs.Prelude.{◌≡◌};
 ghost use Rattle.ttp_model.specs.Instance.{link_at};
 ghost use Rattle.sought_plans.specs.Known.{es_of, le_of, lo_of, top_of};
 ghost use Rattle.sought_plans.specs.Premises.{sender_of};
-ghost use Rattle.step_reads.specs.Targets.{target, known_value};
+ghost use Rattle.step_reads.specs.Targets.{known_value};
 
 use tt_infer::Facts;
-use ttp_model::{Instance, Step};
+use ttp_model::Instance;
 
 /// Something that is known of the plans that are sought.
 #[derive(Clone, Copy)]
@@ -56,33 +56,6 @@ pub fn sender(instance: &Instance, m: u32) -> u32
         instance.message_at(m as usize).sender
     } else {
         0
-    }
-}
-
-/// The fact that a step sharpens.
-pub fn target(instance: &Instance, step: &Step) -> Fact
-    ensures { result ≡ target instance.now step.now }
-{
-    match step {
-        Step::EsRelease(p) => Fact::Start(*p),
-        Step::EsLink(l) => Fact::Start(link_after(instance, *l)),
-        Step::EsBefore(_, q) | Step::EsArrive(_, q) | Step::EsMessage(_, q) => Fact::Start(*q),
-        Step::LoSend(m) => Fact::FirstRound(*m),
-        Step::LeOwn(p) | Step::LeBefore(p, _) | Step::UsSettled(p) => Fact::End(*p),
-        Step::LeLink(l) => Fact::End(link_before(instance, *l)),
-        Step::LeMessage(m, _) | Step::LeSend(m) => Fact::End(sender(instance, *m)),
-        Step::HiArrive(m, _) => Fact::LateRound(*m),
-        Step::OrdWindow(p, q) | Step::OrdTwin(p, q) => Fact::Order(*p, *q),
-        Step::XWindow(_)
-        | Step::XRound(_)
-        | Step::XCycle(_)
-        | Step::XLoad(..)
-        | Step::XFrame(_)
-        | Step::XFrames(..)
-        | Step::XChannel(..)
-        | Step::XLate(..)
-        | Step::XSilent(..)
-        | Step::XMirror(_) => Fact::Closed,
     }
 }
 

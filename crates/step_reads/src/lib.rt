@@ -7,8 +7,8 @@ mod laws;
 mod limit;
 mod reads;
 
-pub use fact::{Fact, link_after, link_before, sender, target, value};
+pub use fact::{Fact, link_after, link_before, sender, value};
 pub use fact_set::FactSet;
 pub use laws::{needed_decisions_rule_out, steps_rest_on_what_they_read};
 pub use limit::Limit;
-pub use reads::add_reads;
+pub use reads::{add_reads, target};

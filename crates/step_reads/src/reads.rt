@@ -1,8 +1,8 @@
-//! Which facts does a step read?
+//! Which fact does a step sharpen, and which does it read?
 
-ghost use Rattle.std.specs.Prelude.{OnOk};
+ghost use Rattle.std.specs.Prelude.{◌≡◌, OnOk};
 ghost use Rattle.tt_infer.specs.Table.{rule};
-ghost use Rattle.step_reads.specs.Reads.{ReadsFact};
+ghost use Rattle.step_reads.specs.Reads.{ReadsFact, target};
 ghost use Rattle.step_reads.specs.Added.{AddsFacts};
 
 mod added;
@@ -19,8 +19,35 @@ use kept_out::add_late;
 use rings::add_ring;
 use spans::{add_channel, add_frames, add_load};
 use tt_infer::Facts;
-use ttp_model::{MemoryFault, Step};
+use ttp_model::{Instance, MemoryFault, Step};
 use waits::add_settled;
+
+/// The fact that a step sharpens.
+pub fn target(instance: &Instance, step: &Step) -> Fact
+    ensures { result ≡ target instance.now step.now }
+{
+    match step {
+        Step::EsRelease(p) => Fact::Start(*p),
+        Step::EsLink(l) => Fact::Start(link_after(instance, *l)),
+        Step::EsBefore(_, q) | Step::EsArrive(_, q) | Step::EsMessage(_, q) => Fact::Start(*q),
+        Step::LoSend(m) => Fact::FirstRound(*m),
+        Step::LeOwn(p) | Step::LeBefore(p, _) | Step::UsSettled(p) => Fact::End(*p),
+        Step::LeLink(l) => Fact::End(link_before(instance, *l)),
+        Step::LeMessage(m, _) | Step::LeSend(m) => Fact::End(sender(instance, *m)),
+        Step::HiArrive(m, _) => Fact::LateRound(*m),
+        Step::OrdWindow(p, q) | Step::OrdTwin(p, q) => Fact::Order(*p, *q),
+        Step::XWindow(_)
+        | Step::XRound(_)
+        | Step::XCycle(_)
+        | Step::XLoad(..)
+        | Step::XFrame(_)
+        | Step::XFrames(..)
+        | Step::XChannel(..)
+        | Step::XLate(..)
+        | Step::XSilent(..)
+        | Step::XMirror(_) => Fact::Closed,
+    }
+}
 
 /// Adds the facts that a step reads, where this is known before it and what it names is there.
 pub fn add_reads(facts: &Facts, step: &Step, reads: &mut Vec<Fact>) -> Result<(), MemoryFault>

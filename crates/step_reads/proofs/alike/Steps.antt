@@ -1,53 +1,35 @@
--- A step gives the same where what it reads is the same, row by row of the table.
-use Rattle.std.proofs.Common.{◌≡◌, ℕ, ◌+◌, ◌-◌, ◌*◌, min, arith, inl, inr, refl, ap, sym, ◌∙◌}
+-- What is proved of each step's reads by itself: it gives the same where what it reads is the same, and of an order that isn't known one step
+-- alone reads it.
+use Rattle.std.proofs.Common.{◌≡◌, ℕ, ◌+◌, ◌-◌, ◌*◌, min, IsFalse, arith, inl, inr, refl, ap, sym, ◌∙◌}
 use Rattle.ttp_model.specs.Instance.{Instance, process_at, link_at, source_of}
 use Rattle.ttp_model.specs.Slots.{slot_duration}
 use Rattle.ttp_model.specs.declared.step.Step.{Step}
-use Rattle.ttp_model.specs.declared.step.Step.TheVariants.{EsRelease, EsLink, EsBefore, EsArrive, EsMessage, LoSend, LeOwn, LeLink, LeBefore, LeMessage, LeSend, HiArrive, OrdWindow, OrdTwin, UsSettled, XWindow, XRound, XCycle, XLoad, XFrame, XFrames, XChannel, XLate, XSilent, XMirror}
+use Rattle.ttp_model.specs.declared.step.Step.TheVariants.{EsLink, EsBefore, EsArrive, EsMessage, LoSend, LeOwn, LeLink, LeBefore, LeMessage, LeSend}
+use Rattle.ttp_model.specs.declared.step.Step.TheVariants.{HiArrive, OrdWindow, UsSettled, XWindow, XRound, XCycle, XLoad, XFrame, XFrames, XChannel, XLate}
+use Rattle.ttp_model.specs.declared.step.Step.TheVariants.{XSilent, XMirror}
 use Rattle.tt_choice.specs.Choice.{Choice}
 use Rattle.tt_choice.specs.Extremes.{start_most, end_least, cap_most, dur_least}
 use Rattle.step_reads.specs.declared.fact.Fact.TheVariants.{Start, End, FirstRound, LateRound, Order}
 use Rattle.step_reads.specs.declared.limit.Limit.TheVariants.{Goal, LeastSlot, GreatestSlot, LeastFrame, GreatestFrame, Place}
-use Rattle.sought_plans.specs.Known.{Known, es_of, le_of, lo_of, top_of}
+use Rattle.sought_plans.specs.Known.{Known, es_of, le_of, lo_of, top_of, bef_of}
 use Rattle.sought_plans.specs.Conclusions.{Conclusion, StartsFrom, EndsUntil, sharpened}
 use Rattle.sought_plans.specs.Premises.{wcet_of, sender_of, IsFirstChance, AreChances, IsOverloaded, AreOverfull, AreOverfullOn}
 use Rattle.sought_plans.specs.Dominance.{StandTurned}
 use Rattle.tt_infer.specs.Table.{rule, IsLawful}
-use Rattle.step_reads.specs.Reads.{AgreeOnReads, Gives}
+use Rattle.step_reads.specs.Reads.{AgreeOnReads, Gives, ReadsFact}
 use Rattle.step_reads.proofs.alike.Rings.{ring_alike}
 use Rattle.step_reads.proofs.alike.Waits.{rounds_alike, greatest_wait_alike}
 use Rattle.step_reads.proofs.alike.Loads.{load_alike, copied_alike, counted_alike}
 use Rattle.step_reads.proofs.alike.Late.{earlier_alike}
 use Rattle.step_reads.proofs.alike.Mirrors.{mirrored_alike}
+use Rattle.step_reads.proofs.alike.Orders.{no_start, no_end, no_first, no_late, not_known, not_in_ring, not_run, not_sending, not_kept_out, not_apart}
+use Rattle.step_reads.proofs.alike.Orders.{of_its_first}
 
 module _ (i : Instance) (c : Choice) (goal : ℕ) (f : Known) (d : Choice) (aim : ℕ) (g : Known) where
   -- what a step names doesn't rest on what is known
   there_alike : (step : Step) → (rule i c goal f step).there → (rule i d aim g step).there
-  there_alike (EsRelease p) is = is
-  there_alike (EsLink l) is = is
-  there_alike (EsBefore p q) is = is
-  there_alike (EsArrive m q) is = is
-  there_alike (EsMessage m q) is = is
-  there_alike (LoSend m) is = is
-  there_alike (LeOwn p) is = is
-  there_alike (LeLink l) is = is
-  there_alike (LeBefore p q) is = is
-  there_alike (LeMessage m q) is = is
-  there_alike (LeSend m) is = is
-  there_alike (HiArrive m q) is = is
-  there_alike (OrdWindow p q) is = is
-  there_alike (OrdTwin p q) is = is
-  there_alike (UsSettled p) is = is
-  there_alike (XWindow p) is = is
-  there_alike (XRound m) is = is
-  there_alike (XCycle ps) is = is
-  there_alike (XLoad n a b) is = is
-  there_alike (XFrame m) is = is
-  there_alike (XFrames n a b) is = is
-  there_alike (XChannel k n a b) is = is
-  there_alike (XLate m r) is = is
-  there_alike (XSilent u v) is = is
   there_alike (XMirror m) is = is
+  there_alike step is = is
 
   overloaded_alike : (n a b : ℕ) → AgreeOnReads i c goal f d aim g (XLoad n a b) → IsOverloaded i f n a b → IsOverloaded i g n a b
   overloaded_alike n a b agree is = record { span = is.span; load = omega (arith, is.load, load_alike i c f g n a b agree.facts) }
@@ -67,26 +49,17 @@ module _ (i : Instance) (c : Choice) (goal : ℕ) (f : Known) (d : Choice) (aim 
   turned_alike : (u v : ℕ) → AgreeOnReads i c goal f d aim g (XSilent u v) → StandTurned i c u v → StandTurned i d u v
   turned_alike u v agree is = record { in_order = is.in_order; twins = is.twins; first = agree.limits (Place v) refl u is.first }
 
+  -- where what it reads is the same its premise is so there, row by row
   premise_alike : (step : Step) → AgreeOnReads i c goal f d aim g step → (rule i c goal f step).premise → (rule i d aim g step).premise
-  premise_alike (EsRelease p) agree is = is
-  premise_alike (EsLink l) agree is = is
   premise_alike (EsBefore p q) agree is = sym (agree.facts (Order p q) (inr refl)) ∙ is
-  premise_alike (EsArrive m q) agree is = is
-  premise_alike (EsMessage m q) agree is = is
-  premise_alike (LoSend m) agree is = is
-  premise_alike (LeOwn p) agree is = is
-  premise_alike (LeLink l) agree is = is
   premise_alike (LeBefore p q) agree is = sym (agree.facts (Order p q) (inr refl)) ∙ is
-  premise_alike (LeMessage m q) agree is = is
   premise_alike (LeSend m) agree is =
       let late : top_of f m ≡ top_of g m = agree.facts (LateRound m) refl in
       omega (arith, is, late)
-  premise_alike (HiArrive m q) agree is = is
   premise_alike (OrdWindow p q) agree is =
       let end : le_of f p ≡ le_of g p = agree.facts (End p) (inl refl) in
       let start : es_of f q ≡ es_of g q = agree.facts (Start q) (inr refl) in
       omega (arith, is, end, start)
-  premise_alike (OrdTwin p q) agree is = is
   premise_alike (UsSettled p) agree is = rounds_alike i c goal f d aim g p agree is
   premise_alike (XWindow p) agree is =
       let start : es_of f p ≡ es_of g p = agree.facts (Start p) (inl refl) in
@@ -106,6 +79,7 @@ module _ (i : Instance) (c : Choice) (goal : ℕ) (f : Known) (d : Choice) (aim 
   premise_alike (XLate m r) agree is = earlier_alike i c goal f d aim g m r agree is
   premise_alike (XSilent u v) agree is = turned_alike u v agree is
   premise_alike (XMirror m) agree is = mirrored_alike i c goal f d aim g m agree is
+  premise_alike step agree is = is
 
   chance_alike : (m r : ℕ) → AgreeOnReads i c goal f d aim g (LoSend m) → IsFirstChance i c f m r → IsFirstChance i d g m r
   chance_alike m r agree is =
@@ -124,8 +98,8 @@ module _ (i : Instance) (c : Choice) (goal : ℕ) (f : Known) (d : Choice) (aim 
       let chance = is s in
       (λ below. omega (arith, chance.0 below, end, slot), λ soon. chance.1 (omega (arith, soon, end, slot)))
 
+  -- and it concludes the same
   conclusion_alike : (step : Step) (k : Conclusion) → AgreeOnReads i c goal f d aim g step → (rule i c goal f step).concludes k → (rule i d aim g step).concludes k
-  conclusion_alike (EsRelease p) k agree is = is
   conclusion_alike (EsLink l) k agree is =
       is ∙ ap (λ start. StartsFrom (link_at i l).after (start + wcet_of i (link_at i l).before)) (agree.facts (Start (link_at i l).before) refl)
   conclusion_alike (EsBefore p q) k agree is = is ∙ ap (λ start. StartsFrom q (start + wcet_of i p)) (agree.facts (Start p) (inl refl))
@@ -149,19 +123,8 @@ module _ (i : Instance) (c : Choice) (goal : ℕ) (f : Known) (d : Choice) (aim 
       let slot : start_most i c (source_of i m) (top_of f m - 1) ≡ start_most i d (source_of i m) (top_of f m - 1) = (agree.limits (GreatestSlot (source_of i m)) refl (top_of f m - 1)).0 in
       is ∙ ap (λ start. EndsUntil (sender_of i m) (start - i.cluster.copy_out)) (slot ∙ ap (λ late. start_most i d (source_of i m) (late - 1)) (agree.facts (LateRound m) refl))
   conclusion_alike (HiArrive m q) k agree is = (is.0, chances_alike m q is.0 agree is.1, is.2)
-  conclusion_alike (OrdWindow p q) k agree is = is
-  conclusion_alike (OrdTwin p q) k agree is = is
   conclusion_alike (UsSettled p) k agree is = (is.0, greatest_wait_alike i c goal f d aim g p agree is.0 is.1, is.2)
-  conclusion_alike (XWindow p) k agree is = is
-  conclusion_alike (XRound m) k agree is = is
-  conclusion_alike (XCycle ps) k agree is = is
-  conclusion_alike (XLoad n a b) k agree is = is
-  conclusion_alike (XFrame m) k agree is = is
-  conclusion_alike (XFrames n a b) k agree is = is
-  conclusion_alike (XChannel channel n a b) k agree is = is
-  conclusion_alike (XLate m r) k agree is = is
-  conclusion_alike (XSilent u v) k agree is = is
-  conclusion_alike (XMirror m) k agree is = is
+  conclusion_alike step k agree is = is
 
   pub gives_alike : (step : Step) (k : Conclusion) → AgreeOnReads i c goal f d aim g step → Gives i c goal f step k → Gives i d aim g step k
   gives_alike step k agree gives = record {
@@ -175,3 +138,40 @@ pub lawful_alike : (i : Instance) (c : Choice) (goal : ℕ) (f : Known) (d : Cho
 lawful_alike i c goal f d aim g step next agree lawful =
     let given = gives_alike i c goal f d aim g step lawful.conclusion agree (record { there = lawful.there; premise = lawful.premise; concludes = lawful.concludes }) in
     record { there = given.there; premise = given.premise; conclusion = lawful.conclusion; concludes = given.concludes; known = refl }
+
+-- of an order that isn't known only the step reads it that asks how long its first process may have to wait
+module _ (i : Instance) (c : Choice) (goal : ℕ) (f : Known) (p q : ℕ) (unknown : IsFalse (bef_of f p q)) where
+  pub reads_unknown : (step : Step) → (rule i c goal f step).premise → ReadsFact i c f step (Order p q) → step ≡ UsSettled p
+  reads_unknown (EsLink l) premise reads = absurd (no_start f p q _ reads)
+  reads_unknown (EsBefore x y) premise reads = elim reads [
+    | inl start ↦ absurd (no_start f p q x start)
+    | inr order ↦ absurd (not_known i f p q unknown x y order premise)
+  ]
+  reads_unknown (EsArrive m y) premise reads = absurd (no_first f p q m reads)
+  reads_unknown (EsMessage m y) premise reads = absurd (no_start f p q _ reads)
+  reads_unknown (LoSend m) premise reads = absurd (no_start f p q _ reads)
+  reads_unknown (LeLink l) premise reads = absurd (no_end f p q _ reads)
+  reads_unknown (LeBefore x y) premise reads = elim reads [
+    | inl end ↦ absurd (no_end f p q y end)
+    | inr order ↦ absurd (not_known i f p q unknown x y order premise)
+  ]
+  reads_unknown (LeMessage m y) premise reads = absurd (no_end f p q y reads)
+  reads_unknown (LeSend m) premise reads = absurd (no_late f p q m reads)
+  reads_unknown (HiArrive m y) premise reads = absurd (no_end f p q y reads)
+  reads_unknown (OrdWindow x y) premise reads = elim reads [ inl end ↦ absurd (no_end f p q x end) | inr start ↦ absurd (no_start f p q y start) ]
+  reads_unknown (UsSettled x) premise reads = elim reads [
+    | inl rival ↦ of_its_first i f p q unknown x rival.0 rival.2.1
+    | inr message ↦ absurd (no_late f p q message.0 message.2.1)
+  ]
+  reads_unknown (XWindow x) premise reads = elim reads [ inl start ↦ absurd (no_start f p q x start) | inr end ↦ absurd (no_end f p q x end) ]
+  reads_unknown (XRound m) premise reads = elim reads [ inl first ↦ absurd (no_first f p q m first) | inr late ↦ absurd (no_late f p q m late) ]
+  reads_unknown (XCycle ps) premise reads = absurd (not_in_ring i f p q unknown ps premise reads)
+  reads_unknown (XLoad n a b) premise reads = absurd (not_run i f p q unknown a reads.0 reads.2.1)
+  reads_unknown (XFrames n a b) premise reads = absurd (not_sending i f p q unknown a reads.0 reads.2.1)
+  reads_unknown (XChannel k n a b) premise reads = absurd (not_sending i f p q unknown a reads.0 reads.2.1)
+  reads_unknown (XLate m r) premise reads = elim reads [
+    | inl own ↦ elim own [ inl first ↦ absurd (no_first f p q m first) | inr end ↦ absurd (no_end f p q _ end) ]
+    | inr other ↦ absurd (not_kept_out i f p q unknown r other.0 other.2.1)
+  ]
+  reads_unknown (XMirror m) premise reads = absurd (not_apart i f p q unknown m reads.0 reads.2.1)
+  reads_unknown step premise reads = absurd reads
