@@ -4,7 +4,7 @@ use Rattle.std.proofs.lemmas.List.Elements.{All-nil, All-cons, All-append}
 use Rattle.ttp_model.specs.declared.step.Kind.{Kind}
 use Rattle.ttp_model.specs.declared.step.Kind.TheVariants.{Place, Cap, Pair, Round, Chan}
 use Rattle.ttp_model.specs.declared.step.Step.{Step}
-use Rattle.ttp_model.specs.declared.step.Step.TheVariants.{EsRelease, EsLink, EsBefore, EsArrive, EsMessage, LoSend, LeOwn, LeLink, LeBefore, LeMessage, LeSend, HiArrive, OrdWindow, OrdTwin, UsSettled, XWindow, XRound, XCycle, XLoad, XFrame, XFrames, XChannel, XLate, XSilent, XMirror}
+use Rattle.ttp_model.specs.declared.step.Step.TheVariants.{XChannel, XMirror}
 use Rattle.ttp_model.specs.Instance.{Instance}
 use Rattle.ttp_model.specs.Rules.{IsInstance}
 use Rattle.tt_choice.specs.Choice.{Choice, IsChoice, fixed_channel}
@@ -36,36 +36,14 @@ module _ (i : Instance) (alone : i.cluster.channels ≡ 1) where
 
   lawful_step : (c : Choice) (goal : ℕ) (f : Known) (step : Step) → IsChoice i c → (rule i c goal f step).there → (rule i c goal f step).premise
       → allows_step One step ≡ true
-  lawful_step c goal f (EsRelease p) ok there premise = refl
-  lawful_step c goal f (EsLink l) ok there premise = refl
-  lawful_step c goal f (EsBefore p q) ok there premise = refl
-  lawful_step c goal f (EsArrive m q) ok there premise = refl
-  lawful_step c goal f (EsMessage m q) ok there premise = refl
-  lawful_step c goal f (LoSend m) ok there premise = refl
-  lawful_step c goal f (LeOwn p) ok there premise = refl
-  lawful_step c goal f (LeLink l) ok there premise = refl
-  lawful_step c goal f (LeBefore p q) ok there premise = refl
-  lawful_step c goal f (LeMessage m q) ok there premise = refl
-  lawful_step c goal f (LeSend m) ok there premise = refl
-  lawful_step c goal f (HiArrive m q) ok there premise = refl
-  lawful_step c goal f (OrdWindow p q) ok there premise = refl
-  lawful_step c goal f (OrdTwin p q) ok there premise = refl
-  lawful_step c goal f (UsSettled p) ok there premise = refl
-  lawful_step c goal f (XWindow p) ok there premise = refl
-  lawful_step c goal f (XRound m) ok there premise = refl
-  lawful_step c goal f (XCycle ps) ok there premise = refl
-  lawful_step c goal f (XLoad n a b) ok there premise = refl
-  lawful_step c goal f (XFrame m) ok there premise = refl
-  lawful_step c goal f (XFrames n a b) ok there premise = refl
   lawful_step c goal f (XChannel k n a b) ok there premise =
       let two : 2 ≤ i.cluster.channels = there.1.0 in
       absurd (omega (arith, alone, two))
-  lawful_step c goal f (XLate m r) ok there premise = refl
-  lawful_step c goal f (XSilent u v) ok there premise = refl
   lawful_step c goal f (XMirror m) ok there premise =
       let second : fixed_channel c m ≡ Some 1 = premise.second in
       let same : 0 ≡ 1 = ap (λ (o : Option ℕ). unwrap_or o 0) (sym (only_channel i c m alone ok there) ∙ second) in
       absurd (omega (arith, same))
+  lawful_step c goal f step ok there premise = refl
 
   lawful_steps : (c : Choice) (goal : ℕ) (f : Known) (steps : List Step) (g : Known) → IsChoice i c → Lead i c goal f steps g → All (AllowsStep One) steps
   lawful_steps c goal f [] g ok lead = All-nil (AllowsStep One)
