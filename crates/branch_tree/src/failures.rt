@@ -1,6 +1,7 @@
 //! On which nodes were subtrees closed lately?
 
-use ttp_model::{Instance, Leaf, MOST_NODES, Step};
+use needed_steps::node_of;
+use ttp_model::{Instance, Leaf, MOST_NODES};
 
 /// How much a closed subtree counts at first.
 const ONE: u64 = 1_000_000;
@@ -15,41 +16,6 @@ const FADES: u64 = 100;
 #[derive(Clone, Copy)]
 pub struct Failures {
     counts: [u64; MOST_NODES],
-}
-
-/// The node of a process, if it is there.
-fn home(instance: &Instance, p: u32) -> Option<u32> {
-    if (p as usize) < instance.processes().len() {
-        Some(instance.node_of(p as usize))
-    } else {
-        None
-    }
-}
-
-/// The node that sends a message, if it is there.
-fn source(instance: &Instance, m: u32) -> Option<u32> {
-    if (m as usize) < instance.messages().len() {
-        Some(instance.source_of(m as usize))
-    } else {
-        None
-    }
-}
-
-/// The node of which a closer says that something can't be.
-fn node_of(instance: &Instance, closer: &Step) -> Option<u32> {
-    match closer {
-        Step::XWindow(p) => home(instance, *p),
-        Step::XRound(m) | Step::XFrame(m) | Step::XLate(m, _) => source(instance, *m),
-        Step::XMirror(m) => source(instance, *m),
-        Step::XLoad(n, _, _) | Step::XFrames(n, _, _) | Step::XChannel(_, n, _, _) => Some(*n),
-        Step::XCycle(_) | Step::XSilent(_, _) => None,
-        // They don't close.
-        Step::EsRelease(_) | Step::EsLink(_) | Step::EsBefore(_, _) => None,
-        Step::EsArrive(_, _) | Step::EsMessage(_, _) | Step::LoSend(_) => None,
-        Step::LeOwn(_) | Step::LeLink(_) | Step::LeBefore(_, _) => None,
-        Step::LeMessage(_, _) | Step::LeSend(_) | Step::HiArrive(_, _) => None,
-        Step::OrdWindow(_, _) | Step::OrdTwin(_, _) | Step::UsSettled(_) => None,
-    }
 }
 
 impl Failures {

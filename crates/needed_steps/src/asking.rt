@@ -1,16 +1,19 @@
-//! How sharp has what a step reads to be?
+//! How sharp has what a step reads to be, which facts count as what it rests on, and on which node can't something be?
 
 use crate::closers::{
     ask_earlier, ask_frames, ask_load, ask_mirror, ask_no_round, ask_ring, ask_window,
 };
+use crate::counted::{add_frames, add_late, add_orders, add_settled};
 use crate::ends::{
     ask_missed, ask_receiver_start, ask_second_start, ask_sending, ask_settled, ask_start,
 };
+use crate::homes::{home, source};
 use crate::moment::Moment;
 use crate::needs::Needs;
 use crate::starts::{ask_arrival, ask_end, ask_first_end, ask_passage, ask_ready};
-use step_reads::{link_after, link_before};
-use ttp_model::Step;
+use step_reads::{Fact, add_reads, link_after, link_before};
+use tt_infer::Facts;
+use ttp_model::{Instance, MemoryFault, Step};
 
 /// Asks for what a step reads: so sharp that it can be taken, and that it says of its own fact what is needed.
 pub fn ask(needs: &mut Needs, moment: &Moment, step: &Step, need: u32) {
@@ -41,5 +44,54 @@ pub fn ask(needs: &mut Needs, moment: &Moment, step: &Step, need: u32) {
         Step::XChannel(k, n, a, b) => ask_frames(needs, moment, Some(*k), *n, *a, *b),
         Step::XLate(m, r) => ask_earlier(needs, moment, *m, *r),
         Step::XMirror(m) => ask_mirror(needs, moment, *m),
+    }
+}
+
+/// Adds the facts that a step rests on, where these facts are known when the last step is taken: those that it reads, and of rings,
+/// frames, messages that could go out earlier and settled plans more, by which closers are weighed.
+pub fn add_counted(facts: &Facts, step: &Step, counted: &mut Vec<Fact>) -> Result<(), MemoryFault> {
+    match step {
+        Step::XCycle(ring) => add_orders(ring.as_slice(), counted),
+        Step::XFrames(n, a, b) => add_frames(facts, None, *n, *a, *b, counted),
+        Step::XChannel(k, n, a, b) => add_frames(facts, Some(*k), *n, *a, *b, counted),
+        Step::XLate(m, _) => add_late(facts.instance(), *m, counted),
+        Step::UsSettled(p) => add_settled(facts, *p, counted),
+        Step::EsRelease(_)
+        | Step::EsLink(_)
+        | Step::EsBefore(_, _)
+        | Step::EsArrive(_, _)
+        | Step::EsMessage(_, _)
+        | Step::LoSend(_)
+        | Step::LeOwn(_)
+        | Step::LeLink(_)
+        | Step::LeBefore(_, _)
+        | Step::LeMessage(_, _)
+        | Step::LeSend(_)
+        | Step::HiArrive(_, _)
+        | Step::OrdWindow(_, _)
+        | Step::OrdTwin(_, _)
+        | Step::XWindow(_)
+        | Step::XRound(_)
+        | Step::XLoad(_, _, _)
+        | Step::XFrame(_)
+        | Step::XSilent(_, _)
+        | Step::XMirror(_) => add_reads(facts, step, counted),
+    }
+}
+
+/// The node of which a closer says that something can't be.
+pub fn node_of(instance: &Instance, closer: &Step) -> Option<u32> {
+    match closer {
+        Step::XWindow(p) => home(instance, *p),
+        Step::XRound(m) | Step::XFrame(m) | Step::XLate(m, _) => source(instance, *m),
+        Step::XMirror(m) => source(instance, *m),
+        Step::XLoad(n, _, _) | Step::XFrames(n, _, _) | Step::XChannel(_, n, _, _) => Some(*n),
+        Step::XCycle(_) | Step::XSilent(_, _) => None,
+        // They don't close.
+        Step::EsRelease(_) | Step::EsLink(_) | Step::EsBefore(_, _) => None,
+        Step::EsArrive(_, _) | Step::EsMessage(_, _) | Step::LoSend(_) => None,
+        Step::LeOwn(_) | Step::LeLink(_) | Step::LeBefore(_, _) => None,
+        Step::LeMessage(_, _) | Step::LeSend(_) | Step::HiArrive(_, _) => None,
+        Step::OrdWindow(_, _) | Step::OrdTwin(_, _) | Step::UsSettled(_) => None,
     }
 }

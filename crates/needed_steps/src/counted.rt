@@ -1,41 +1,9 @@
-//! Which facts count as what a step rests on?
+//! Which facts count, beside those that a step reads, as what it rests on?
 
 use crate::closers::bytes_counted;
-use step_reads::{Fact, add_reads, sender};
+use step_reads::{Fact, sender};
 use tt_infer::Facts;
-use ttp_model::{Instance, MemoryFault, Step};
-
-/// Adds the facts that a step rests on, where these facts are known when the last step is taken: those that it reads, and of rings,
-/// frames, messages that could go out earlier and settled plans more, by which closers are weighed.
-pub fn add_counted(facts: &Facts, step: &Step, counted: &mut Vec<Fact>) -> Result<(), MemoryFault> {
-    match step {
-        Step::XCycle(ring) => add_orders(ring.as_slice(), counted),
-        Step::XFrames(n, a, b) => add_frames(facts, None, *n, *a, *b, counted),
-        Step::XChannel(k, n, a, b) => add_frames(facts, Some(*k), *n, *a, *b, counted),
-        Step::XLate(m, _) => add_late(facts.instance(), *m, counted),
-        Step::UsSettled(p) => add_settled(facts, *p, counted),
-        Step::EsRelease(_)
-        | Step::EsLink(_)
-        | Step::EsBefore(_, _)
-        | Step::EsArrive(_, _)
-        | Step::EsMessage(_, _)
-        | Step::LoSend(_)
-        | Step::LeOwn(_)
-        | Step::LeLink(_)
-        | Step::LeBefore(_, _)
-        | Step::LeMessage(_, _)
-        | Step::LeSend(_)
-        | Step::HiArrive(_, _)
-        | Step::OrdWindow(_, _)
-        | Step::OrdTwin(_, _)
-        | Step::XWindow(_)
-        | Step::XRound(_)
-        | Step::XLoad(_, _, _)
-        | Step::XFrame(_)
-        | Step::XSilent(_, _)
-        | Step::XMirror(_) => add_reads(facts, step, counted),
-    }
-}
+use ttp_model::{Instance, MemoryFault};
 
 /// Adds both rounds of message `m`.
 fn add_rounds(m: u32, counted: &mut Vec<Fact>) -> Result<(), MemoryFault> {
@@ -45,7 +13,7 @@ fn add_rounds(m: u32, counted: &mut Vec<Fact>) -> Result<(), MemoryFault> {
 }
 
 /// Adds the orders of a ring: of each process before the next, and of the last before the first.
-fn add_orders(ring: &[u32], counted: &mut Vec<Fact>) -> Result<(), MemoryFault> {
+pub fn add_orders(ring: &[u32], counted: &mut Vec<Fact>) -> Result<(), MemoryFault> {
     let Some(last) = ring.last() else {
         return Ok(());
     };
@@ -58,7 +26,7 @@ fn add_orders(ring: &[u32], counted: &mut Vec<Fact>) -> Result<(), MemoryFault> 
 }
 
 /// Adds the rounds of the messages of node `n` that are sent from round `a` on and before `b` and count on a channel, or on all together.
-fn add_frames(
+pub fn add_frames(
     facts: &Facts,
     channel: Option<u32>,
     n: u32,
@@ -76,7 +44,7 @@ fn add_frames(
 }
 
 /// Adds when the sender of message `m` ends at most, and the rounds of all messages of its node.
-fn add_late(instance: &Instance, m: u32, counted: &mut Vec<Fact>) -> Result<(), MemoryFault> {
+pub fn add_late(instance: &Instance, m: u32, counted: &mut Vec<Fact>) -> Result<(), MemoryFault> {
     counted.push(Fact::End(sender(instance, m)))?;
     if m as usize >= instance.messages().len() {
         return Ok(());
@@ -89,7 +57,7 @@ fn add_late(instance: &Instance, m: u32, counted: &mut Vec<Fact>) -> Result<(), 
 
 /// Adds what keeps process `p` from running later: the ends of the other processes of its node, or
 /// that it goes before them, and the rounds of its messages.
-fn add_settled(facts: &Facts, p: u32, counted: &mut Vec<Fact>) -> Result<(), MemoryFault> {
+pub fn add_settled(facts: &Facts, p: u32, counted: &mut Vec<Fact>) -> Result<(), MemoryFault> {
     let instance = facts.instance();
     if p as usize >= instance.processes().len() {
         return Ok(());

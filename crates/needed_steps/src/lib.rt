@@ -7,6 +7,7 @@ mod closings;
 mod counted;
 mod ends;
 mod fewest;
+mod homes;
 mod marks;
 mod moment;
 mod needs;
@@ -17,5 +18,6 @@ mod starts;
 mod values;
 mod weights;
 
+pub use asking::node_of;
 pub use fewest::{Fewest, Found, Log};
 pub use marks::{Marked, Marks};

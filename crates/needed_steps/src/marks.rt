@@ -1,6 +1,6 @@
 //! Which steps does a closer need?
 
-use crate::counted::add_counted;
+use crate::asking::add_counted;
 use std::alloc::Global;
 use step_reads::{Fact, FactSet, target};
 use tt_infer::Facts;

@@ -1,6 +1,6 @@
 //! How many steps does each fact rest on?
 
-use crate::counted::add_counted;
+use crate::asking::add_counted;
 use crate::values::Values;
 use std::alloc::Global;
 use step_reads::{Fact, target};
