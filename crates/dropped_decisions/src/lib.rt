@@ -10,6 +10,6 @@ mod pass;
 mod standing;
 
 pub use branches::branches_among;
-pub use copies::{copy_of_leaf, copy_of_step};
+pub use copies::copy_of_leaf;
 pub use dropping::{accepted, proof_of, without_unused};
 pub use standing::Standing;
