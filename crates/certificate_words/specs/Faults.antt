@@ -15,7 +15,7 @@ use Rattle.tree_check.specs.declared.fault.CertFault.TheVariants.{LowTooGreat, A
 use Rattle.tree_check.specs.declared.fault.NodeFault.{NodeFault}
 use Rattle.tree_check.specs.declared.fault.NodeFault.TheVariants.{ChildCount, NotOpen, LowGoal, RefusedStep, NotClosed}
 use Rattle.certificate_words.specs.Branches.{child_count_words, not_open_words}
-use Rattle.certificate_words.specs.Lawful.{may_say}
+use Rattle.step_words.specs.Steps.{may_say}
 use Rattle.told_bytes.specs.TextLines.{line_words}
 
 -- ---- a leaf

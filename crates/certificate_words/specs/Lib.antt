@@ -3,7 +3,6 @@ pub mod Counts
 pub mod Proofs
 pub mod Places
 pub mod Forms
-pub mod Lawful
 pub mod Branches
 pub mod Faults
 pub mod ToldNodes

@@ -6,10 +6,10 @@ ghost use Rattle.certificate.specs.Spelling.{SpellsCert};
 ghost use Rattle.certificate_words.specs.Faults.{TellsFault, branch_fault_words, fault_words, first_refused, great_low_words, leaf_fault_words, low_goal_words, node_fault_words, nodes_fault_words, not_closed_words, refused_words, unlawful_words};
 
 use crate::branches::{put_child_count, put_not_open};
-use crate::lawful::may_say;
 use crate::whole::read_whole;
 use certificate::{Branch, Cert, Node};
 use std::alloc::{AllocError, Global};
+use step_words::may_say;
 use told_bytes::put_line;
 use tree_check::{CertFault, NodeFault};
 use ttp_model::{Instance, Leaf, MemoryFault, Step};

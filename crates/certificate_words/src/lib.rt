@@ -6,7 +6,6 @@ mod counts;
 mod depth;
 mod faults;
 mod forms;
-mod lawful;
 mod laws;
 mod places;
 mod proof;

@@ -16,4 +16,4 @@ mod steps;
 mod times;
 
 pub use leaves::{MOST_STEPS, put_leaf};
-pub use steps::put_step;
+pub use steps::{may_say, put_step};
