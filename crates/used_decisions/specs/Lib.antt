@@ -1,1 +1,5 @@
 pub mod Manners
+pub mod Children
+pub mod Proved
+pub mod Ways
+pub mod Needs

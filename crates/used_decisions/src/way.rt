@@ -1,29 +1,29 @@
 //! What do subtrees that were closed use of the decisions that lead to the one at hand?
 
+ghost use Rattle.std.specs.Prelude.{◌≡◌, ◌≤◌, ◌<◌, ◌+◌, ◌-◌, ◌^◌, ◌++◌, ◌∷◌, [], ℕ, min, length, take, map, IfOk, OnOk, OnErr, IfSome, IsTrue};
+ghost use Rattle.tt_choice.specs.Branches.{IsBranch, root_choice};
+ghost use Rattle.tt_choice.specs.Decisions.{AreOpenDecisions, chosen, decision_of};
+ghost use Rattle.tt_infer.specs.Leaves.{ClosesSharply};
+ghost use Rattle.step_reads.specs.RuledOut.{IsRuledOut};
+ghost use Rattle.decision_paths.specs.Levels.{has_level};
+ghost use Rattle.used_decisions.specs.Proved.{all_kept, IsProvedBy};
+ghost use Rattle.used_decisions.specs.Ways.{decisions_of, IsOpenBranch};
+
+use crate::branch::OpenBranch;
+use crate::children::{child_of, used_with};
 use decision_paths::{Levels, Path};
 use leaf_decisions::Reader;
 use std::alloc::Global;
+use std::marker::Model;
 use tt_choice::Decision;
 use ttp_model::{Instance, Kind, Leaf, MemoryFault};
 
-/// A branch of which some children aren't closed.
-#[derive(Drop)]
-struct OpenBranch {
-    kind: Kind,
-    /// How many aren't.
-    left: u32,
-    /// The branches above it that those use which are.
-    used: Levels,
-}
-
 /// A decision on the way to the subtree at hand.
 #[derive(Drop)]
-struct Taken {
-    /// Which child of its branch it leads to.
-    child: u32,
-    decision: Decision,
+pub struct Taken {
+    pub decision: Decision,
     /// Its branch, where it is known of each other child whether it is closed.
-    branch: Option<OpenBranch>,
+    pub branch: Option<OpenBranch>,
 }
 
 /// The way from the root to the subtree at hand.
@@ -33,106 +33,209 @@ pub struct Way<'a> {
     reader: Reader<'a>,
     taken: Vec<Taken>,
     /// The branch that the way leads to, once it was split there.
-    end: Option<OpenBranch>,
-    /// The name of a branch that one of its children proves, where others of them are left.
-    proved: Option<Vec<u32>>,
+    ending: Option<OpenBranch>,
+    /// What leads to a branch that one of its children proves, where others of them are left.
+    proved: Option<Vec<Decision>>,
+    /// The least goal of the leaves that closed subtrees, in ticks; one past the horizon where there are none.
+    goal: u32,
+}
+
+impl<'a> Model for Way<'a> {
+    ghost use Rattle.used_decisions.specs.Ways.{Way, IsWay, decisions_of};
+
+    ghost Value = { Way };
+
+    ghost view = { λ s. record { instance = s.path.instance; decisions = decisions_of s.taken.items; goal = s.goal } };
+
+    ghost invariant = { λ s. IsWay s.path s.reader s.taken.items s.ending s.proved s.goal };
+}
+
+/// How many decisions at the beginning are the same.
+fn shared(taken: &[Taken], decisions: &[Decision]) -> usize
+    ensures same { take result (decisions_of taken.now) ≡ take result decisions.now }
+    ensures first { result ≤ length taken.now }
+    ensures second { result ≤ length decisions.now }
+{
+    let count = taken.len().min(decisions.len());
+    for k in 0..count {
+        if taken[k].decision != decisions[k] {
+            return k;
+        }
+    }
+    count
+}
+
+/// The decisions that were taken, in memory of their own.
+fn copied(alloc: Global, taken: &[Taken]) -> Result<Vec<Decision>, MemoryFault>
+    ensures { IfOk result (λ decisions. decisions.items ≡ decisions_of taken.now) }
+{
+    let mut decisions = Vec::with_capacity(alloc, taken.len())?;
+    for one in taken {
+        decisions.push(one.decision)?;
+    }
+    Ok(decisions)
 }
 
 impl<'a> Way<'a> {
     /// At the root.
-    pub fn new(alloc: Global, instance: &'a Instance) -> Result<Way<'a>, MemoryFault> {
+    pub fn new(alloc: Global, instance: &'a Instance) -> Result<Way<'a>, MemoryFault>
+        ensures { IfOk result (λ way. way ≡ record { instance = instance.now; decisions = []; goal = instance.now.cluster.horizon + 1 }) }
+    {
+        let _nodes = instance.nodes();
         Ok(Way {
             path: Path::new(alloc, instance)?,
             reader: Reader::new(alloc, instance)?,
             taken: Vec::new(alloc),
-            end: None,
+            ending: None,
             proved: None,
+            goal: instance.past_horizon(),
         })
     }
 
-    /// The name of a branch that one of its children proves, where others of them are left.
-    pub fn proved(&self) -> Option<&[u32]> {
+    /// What leads to a branch that one of its children proves, where others of them are left.
+    pub fn proved(&self) -> Option<&[Decision]>
+        ensures { IfSome result (λ front. (low : ℕ) → low ≤ self.now.goal → IsRuledOut self.now.instance low (all_kept front.now)) }
+    {
         match &self.proved {
-            Some(name) => Some(name.as_slice()),
+            Some(front) => Some(front.as_slice()),
             None => None,
         }
     }
 
     /// How many decisions the way has.
-    fn depth(&self) -> u32 {
-        self.taken.len().min(u32::MAX as usize) as u32
-    }
-
-    /// How many decisions of the way lead to a subtree too.
-    fn shared(&self, name: &[u32], decisions: &[Decision]) -> usize {
-        let count = self.taken.len().min(name.len()).min(decisions.len());
-        for k in 0..count {
-            if self.taken[k].child != name[k] || self.taken[k].decision != decisions[k] {
-                return k;
-            }
-        }
-        count
+    fn depth(&self) -> u32
+        ensures { result ≡ length self.now.decisions }
+    {
+        self.taken.len() as u32
     }
 
     /// Takes the last decision of the way back.
-    fn go_up(&mut self) -> Option<Taken> {
+    fn go_up(&mut self) -> Option<Taken>
+        ensures instance { self.new.instance ≡ self.old.instance }
+        ensures goal { self.new.goal ≡ self.old.goal }
+        ensures decisions { self.new.decisions ≡ take (length self.old.decisions - 1) self.old.decisions }
+        ensures last { IfSome result (λ last. self.old.decisions ≡ self.new.decisions ++ last.decision ∷ []) }
+        ensures branch { IfSome result (λ last. IfSome last.branch (λ branch. (low : ℕ) → low ≤ self.new.goal
+            → IsOpenBranch self.new.instance low self.new.decisions branch)) }
+    {
         let last = self.taken.pop()?;
         self.path.go_up();
+        self.ending = None;
         Some(last)
     }
 
-    /// Goes back until so many decisions are left.
-    fn go_back(&mut self, count: usize) {
-        let more = self.taken.len().saturating_sub(count);
-        for _ in 0..more {
-            if let Some(last) = self.go_up() {
-                self.end = last.branch;
-            }
+    /// Goes back to the branch of the last decision.
+    fn go_back_one(&mut self)
+        ensures instance { self.new.instance ≡ self.old.instance }
+        ensures goal { self.new.goal ≡ self.old.goal }
+        ensures decisions { self.new.decisions ≡ take (length self.old.decisions - 1) self.old.decisions }
+    {
+        if let Some(last) = self.go_up() {
+            self.ending = last.branch;
         }
     }
 
-    /// Goes on to a child of the branch that the way leads to.
-    fn go_down(&mut self, child: u32, decision: Decision) -> Result<(), MemoryFault> {
-        let branch = self.end.take();
+    /// Goes back until so many decisions are left.
+    fn go_back(&mut self, count: usize)
+        requires { count ≤ length self.old.decisions }
+        ensures instance { self.new.instance ≡ self.old.instance }
+        ensures goal { self.new.goal ≡ self.old.goal }
+        ensures decisions { self.new.decisions ≡ take count self.old.decisions }
+    {
+        while self.depth() as usize > count {
+            self.go_back_one();
+        }
+    }
+
+    /// Goes on to a child of the branch that the way leads to. Unchanged where memory is refused.
+    fn go_down(&mut self, decision: Decision) -> Result<(), MemoryFault>
+        requires { length self.old.decisions + 1 < 2 ^ 32 }
+        ensures ok { OnOk result (self.new ≡ record self.old { decisions = self.old.decisions ++ decision ∷ [] }) }
+        ensures err { OnErr result (self.new ≡ self.old) }
+    {
+        self.taken.reserve(1)?;
         let level = self.depth();
         self.path.go_down(decision, level)?;
-        self.taken.push(Taken {
-            child,
-            decision,
-            branch,
-        })?;
+        let branch = self.ending.take();
+        self.taken.push_reserved(Taken { decision, branch });
+        Ok(())
+    }
+
+    /// Goes on by these decisions, from the one of this number on.
+    fn go_on(&mut self, decisions: &[Decision], count: usize) -> Result<(), MemoryFault>
+        requires first { self.old.decisions ≡ take count decisions.now }
+        requires within { count ≤ length decisions.now }
+        requires few { length decisions.now < 2 ^ 32 }
+        ensures { OnOk result (self.new ≡ record self.old { decisions = decisions.now }) }
+    {
+        for k in count..decisions.len() {
+            self.go_down(decisions[k])?;
+        }
         Ok(())
     }
 
     /// Goes to a subtree.
-    pub fn begin(&mut self, name: &[u32], decisions: &[Decision]) -> Result<(), MemoryFault> {
-        let count = self.shared(name, decisions);
+    pub fn begin(&mut self, decisions: &[Decision]) -> Result<(), MemoryFault>
+        requires { length decisions.now < 2 ^ 32 }
+        ensures { OnOk result (self.new ≡ record self.old { decisions = decisions.now }) }
+    {
+        let count = shared(self.taken.as_slice(), decisions);
         self.go_back(count);
         self.proved = None;
-        let depth = name.len().min(decisions.len());
-        for k in count..depth {
-            self.go_down(name[k], decisions[k])?;
-        }
-        Ok(())
+        self.go_on(decisions, count)
     }
 
     /// Splits the subtree at hand.
-    pub fn split(&mut self, alloc: Global, kind: Kind, children: u32) -> Result<(), MemoryFault> {
-        let used = Levels::none_of(alloc, self.depth())?;
-        self.end = Some(OpenBranch {
-            kind,
-            left: children,
-            used,
-        });
+    pub fn split(&mut self, alloc: Global, kind: Kind, children: u32) -> Result<(), MemoryFault>
+        requires { IsBranch self.old.instance (chosen self.old.instance self.old.decisions) kind children }
+        ensures { OnOk result (self.new ≡ self.old) }
+    {
+        let branch = OpenBranch::of(alloc, kind, children, self.depth())?;
+        self.ending = Some(branch);
         Ok(())
     }
 
     /// Closes the subtree at hand, and each above it whose children are closed with it, or which one of them proves.
-    pub fn close(&mut self, alloc: Global, leaf: &Leaf) -> Result<(), MemoryFault> {
+    pub fn close(&mut self, alloc: Global, leaf: &Leaf) -> Result<(), MemoryFault>
+        requires decisions { AreOpenDecisions self.old.instance (root_choice self.old.instance) self.old.decisions }
+        requires closes { ClosesSharply self.old.instance (chosen self.old.instance self.old.decisions) leaf.now }
+        ensures instance { OnOk result (self.new.instance ≡ self.old.instance) }
+        ensures goal { OnOk result (self.new.goal ≡ min self.old.goal leaf.now.goal) }
+    {
+        let used = self.uses_of(alloc, leaf)?;
+        self.end_at(leaf.goal);
+        self.close_above(alloc, used)
+    }
+
+    /// The branches above the subtree at hand that a leaf uses which closes it.
+    fn uses_of(&mut self, alloc: Global, leaf: &Leaf) -> Result<Levels, MemoryFault>
+        requires decisions { AreOpenDecisions self.old.instance (root_choice self.old.instance) self.old.decisions }
+        requires closes { ClosesSharply self.old.instance (chosen self.old.instance self.old.decisions) leaf.now }
+        ensures same { self.new ≡ self.old }
+        ensures proved { IfOk result (λ used. (low : ℕ) → low ≤ leaf.now.goal → IsProvedBy self.old.instance low used self.old.decisions) }
+    {
+        let _nodes = self.path.instance().nodes();
         let depth = self.depth();
-        let mut used = self.reader.used_by(alloc, &self.path, leaf, depth)?;
-        self.end = None;
-        for _ in 0..depth {
+        let used = self.reader.used_by(alloc, &self.path, leaf, depth)?;
+        Ok(used)
+    }
+
+    /// The subtree at hand isn't split, and is closed at this goal.
+    fn end_at(&mut self, goal: u32)
+        ensures { self.new ≡ record self.old { goal = min self.old.goal goal } }
+    {
+        self.goal = self.goal.min(goal);
+        self.ending = None;
+    }
+
+    /// Closes the subtree at hand, which uses these branches above it, and those above it that are closed with it.
+    fn close_above(&mut self, alloc: Global, used: Levels) -> Result<(), MemoryFault>
+        requires { (low : ℕ) → low ≤ self.old.goal → IsProvedBy self.old.instance low used self.old.decisions }
+        ensures instance { self.new.instance ≡ self.old.instance }
+        ensures goal { self.new.goal ≡ self.old.goal }
+    {
+        let mut used = used;
+        for _ in 0..self.depth() {
             match self.close_child(alloc, used)? {
                 Some(all) => used = all,
                 None => return Ok(()),
@@ -143,34 +246,82 @@ impl<'a> Way<'a> {
 
     /// Closes the subtree at hand, which uses these branches above it, and goes up: what is used of the branches above the one
     /// there, where that is closed too.
-    fn close_child(&mut self, alloc: Global, used: Levels) -> Result<Option<Levels>, MemoryFault> {
+    fn close_child(&mut self, alloc: Global, used: Levels) -> Result<Option<Levels>, MemoryFault>
+        requires { (low : ℕ) → low ≤ self.old.goal → IsProvedBy self.old.instance low used self.old.decisions }
+        ensures instance { self.new.instance ≡ self.old.instance }
+        ensures goal { self.new.goal ≡ self.old.goal }
+        ensures above { IfOk result (λ found. IfSome found (λ all. (low : ℕ) → low ≤ self.new.goal
+            → IsProvedBy self.new.instance low all self.new.decisions)) }
+    {
         let Some(last) = self.go_up() else {
             return Ok(None);
         };
-        let Some(mut branch) = last.branch else {
+        let Taken { decision, branch } = last;
+        let Some(branch) = branch else {
             return Ok(None);
         };
-        branch.left = branch.left.saturating_sub(1);
-        if !used.contains(self.depth()) {
-            if branch.left > 0 {
-                self.proved = Some(self.name(alloc)?);
-            }
-            return Ok(Some(used));
-        }
-        branch.used.join(&used);
-        if branch.left > 0 {
-            self.end = Some(branch);
+        let Some(child) = child_of(&self.path, branch.kind, decision) else {
             return Ok(None);
+        };
+        if child < branch.children {
+            self.close_of(alloc, branch, child, used)
+        } else {
+            Ok(None)
         }
-        Ok(Some(self.path.used_with(branch.kind, branch.used)))
     }
 
-    /// The name of the subtree at hand.
-    fn name(&self, alloc: Global) -> Result<Vec<u32>, MemoryFault> {
-        let mut name = Vec::with_capacity(alloc, self.taken.len())?;
-        for taken in self.taken.as_slice() {
-            name.push(taken.child)?;
+    /// The branch at hand is proved: where children of it are left, they needn't be worked.
+    fn prove(&mut self, alloc: Global, is_closed: bool) -> Result<(), MemoryFault>
+        requires { (low : ℕ) → low ≤ self.old.goal → IsRuledOut self.old.instance low (all_kept self.old.decisions) }
+        ensures { self.new ≡ self.old }
+    {
+        if !is_closed {
+            self.proved = Some(copied(alloc, self.taken.as_slice())?);
         }
-        Ok(name)
+        Ok(())
+    }
+
+    /// Takes in what a child of the branch at hand needs: what all need, where no child is left.
+    fn take_in(&mut self, branch: OpenBranch, is_closed: bool) -> Option<Levels>
+        requires branch { (low : ℕ) → low ≤ self.old.goal → IsOpenBranch self.old.instance low self.old.decisions branch }
+        requires closed { IsTrue is_closed → (k : ℕ) → k < branch.children → IsTrue (has_level branch.closed k) }
+        ensures same { self.new ≡ self.old }
+        ensures above { IfSome result (λ all. (low : ℕ) → low ≤ self.new.goal → IsProvedBy self.new.instance low all self.new.decisions) }
+    {
+        if is_closed {
+            return Some(used_with(&self.path, branch.kind, branch.used));
+        }
+        self.ending = Some(branch);
+        None
+    }
+
+    /// Closes a child of the branch at hand, which uses these branches above it.
+    fn close_of(
+        &mut self,
+        alloc: Global,
+        branch: OpenBranch,
+        child: u32,
+        used: Levels,
+    ) -> Result<Option<Levels>, MemoryFault>
+        requires child { child < branch.children }
+        requires branch { (low : ℕ) → low ≤ self.old.goal → IsOpenBranch self.old.instance low self.old.decisions branch }
+        requires proved { (low : ℕ) → low ≤ self.old.goal → IsProvedBy self.old.instance low used (self.old.decisions
+            ++ decision_of self.old.instance (chosen self.old.instance self.old.decisions) branch.kind child ∷ []) }
+        ensures instance { self.new.instance ≡ self.old.instance }
+        ensures goal { self.new.goal ≡ self.old.goal }
+        ensures above { IfOk result (λ found. IfSome found (λ all. (low : ℕ) → low ≤ self.new.goal
+            → IsProvedBy self.new.instance low all self.new.decisions)) }
+    {
+        let mut branch = branch;
+        branch.closed.insert(child);
+        let is_closed = branch.is_closed();
+        let is_used = used.contains(self.depth());
+        if is_used {
+            branch.used.join(&used);
+            Ok(self.take_in(branch, is_closed))
+        } else {
+            self.prove(alloc, is_closed)?;
+            Ok(Some(used))
+        }
     }
 }
