@@ -1,1 +1,2 @@
 pub mod TreeHeights
+pub mod RuledOut
