@@ -1,6 +1,11 @@
 -- What a worker reports, and when it accounts for all tasks that it took.
-use Rattle.std.specs.Prelude.{◌≡◌, List, [], ◌∷◌, ◌++◌, All, IsPermutation}
+use Rattle.std.specs.Prelude.{◌≡◌, ℕ, ◌+◌, ◌≤◌, List, [], ◌∷◌, ◌++◌, All, IsPermutation}
 use Rattle.ttp_model.specs.Instance.{Instance}
+use Rattle.tt_choice.specs.declared.decision.Decision.{Decision}
+use Rattle.step_reads.specs.RuledOut.{IsRuledOut}
+use Rattle.used_decisions.specs.Proved.{all_kept}
+use Rattle.used_decisions.specs.Needs.{HoldUpTo}
+use Rattle.used_decisions.specs.declared.needs.Needs.{Needs}
 use Rattle.subtree_tasks.specs.declared.piece.Piece.{Piece}
 use Rattle.subtree_tasks.specs.Task.{Task, IsTask}
 use Rattle.subtree_tasks.specs.Account.{IsReportOf}
@@ -8,6 +13,7 @@ use Rattle.steal_pool.specs.declared.hand.Hand.{Hand}
 use Rattle.steal_pool.specs.Hand.{pushed, taken}
 use Rattle.pool_worker.specs.declared.report.Rest.{Rest}
 use Rattle.pool_worker.specs.declared.report.Rest.TheVariants.{Nothing, One, Children}
+use Rattle.pool_worker.specs.Goals.{goals_of}
 use Rattle.pool_worker.specs.Tasks.{Turn, IsTurn, tasks_of, pieces_of, all_born}
 
 -- the tasks that were taken and not worked: those that needn't be, and the one in hand
@@ -21,6 +27,22 @@ abbrev pub unpushed : Rest → List Task
 unpushed Nothing = []
 unpushed (One task) = []
 unpushed (Children tasks) = tasks.items
+
+-- a bound that neither the tick past the horizon nor a leaf of these pieces is below
+abbrev pub IsReachedBy : Instance → ℕ → List Piece → Type 0
+IsReachedBy i low made = (low ≤ i.cluster.horizon + 1) × All (λ goal. low ≤ goal) (goals_of made)
+
+-- A task that needn't be worked: it stands in a subtree in which, at each such bound, no plan below it is left by leaves of a search.
+pub record IsSpared (i : Instance) (made : List Piece) (task : Task) : Type 0 where
+  pub front : List Decision
+  pub more : List Decision
+  pub decisions : task.decisions ≡ front ++ more
+  pub ruled_out : (low : ℕ) → IsReachedBy i low made → IsRuledOut i low (all_kept front)
+
+-- what is known of such subtrees holds at each such bound, and the tasks that were left needn't be worked
+pub record AreSpared (i : Instance) (made : List Piece) (spared : List Task) (needs : Needs) : Type 0 where
+  pub each : All (IsSpared i made) spared
+  pub holds : (low : ℕ) → IsReachedBy i low made → HoldUpTo i low needs
 
 -- The account of a run: each piece is right for a task. What the hand took since are these tasks, those that were spared and
 -- the one that it still holds; what their branches gave it pushed, or holds as well.

@@ -3,11 +3,13 @@
 
 mod aims;
 mod gate;
+mod laws;
 mod report;
 mod run;
 mod worker;
 
 pub use aims::{Aims, goal_of};
 pub use gate::{FreeGate, Gate};
+pub use laws::spared_tasks_have_no_plan;
 pub use report::{Ending, Report, Rest};
 pub use worker::{run_worker, run_worker_in};

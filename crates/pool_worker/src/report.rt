@@ -41,7 +41,7 @@ pub struct Report<J: Searched> {
     /// The best plan that it found, with its delay in ticks.
     pub best: Option<(Plan, u64)>,
     pub rest: Rest,
-    /// Tasks that it took and didn't work, since the branch above them is proved without them, as far as it saw; none in a plain search.
+    /// Tasks that it took and didn't work, since a branch above them is proved without them; none in a plain search.
     pub spared: Vec<Task>,
     /// How many tasks it worked.
     pub worked: u64,

@@ -1,22 +1,29 @@
 //! What does a worker do in one turn?
 
-ghost use Rattle.std.specs.Prelude.{◌≡◌, ◌≢◌, false, ◌<◌, ◌≤◌, ◌+◌, ◌++◌, All, IfOk, OnOk, IfErr, IsPermutation, length, vec_len, vec_capacity};
+ghost use Rattle.std.specs.Prelude.{◌≡◌, ◌≢◌, false, ◌<◌, ◌≤◌, ◌+◌, ◌++◌, ℕ, List, All, IsTrue, IfOk, OnOk, OnErr, IfErr, IsPermutation, length, vec_len, vec_capacity};
 ghost use Rattle.subtree_tasks.specs.Task.{IsTask};
 ghost use Rattle.branch_tree.specs.Workbench.{IsWorkbenchOf};
 ghost use Rattle.incumbent.specs.Watch.{IsOther};
 ghost use Rattle.steal_pool.specs.Hand.{pushed, taken, IsSameHand};
 ghost use Rattle.pool_worker.specs.declared.run.Sweep.TheVariants as sweep;
 ghost use Rattle.used_decisions.specs.declared.manner.Manner.TheVariants.{Plain};
+ghost use Rattle.used_decisions.specs.Needs.{HoldUpTo, AreAt};
+ghost use Rattle.subtree_tasks.specs.declared.piece.Piece.{Piece};
+ghost use Rattle.tt_choice.specs.declared.decision.Decision.{Decision};
+ghost use Rattle.ttp_model.specs.Instance.{Instance};
+ghost use Rattle.pool_worker.specs.Goals.{goals_at};
+ghost use Rattle.pool_worker.specs.Report.{IsReachedBy, IsSpared, AreSpared};
 ghost use Rattle.pool_worker.specs.Run.{GoesOn, Pushes, Refuses, Spares, Works, rest_after};
 
 use crate::aims::{Aims, goal_of};
 use crate::gate::Gate;
 use crate::report::Rest;
-use branch_tree::{Name, Piece, Task, Workbench, Worked, work_on};
+use branch_tree::{Piece, Task, Workbench, Worked, work_on};
 use certificate::{Branch, Node};
 use incumbent::{Incumbent, Watch};
 use std::alloc::Global;
 use steal_pool::{Hand, Searched};
+use tt_choice::Decision;
 use ttp_model::{Instance, Kind, MemoryFault, Plan};
 use used_decisions::{Manner, Needs};
 
@@ -112,36 +119,56 @@ fn make_room(
     Ok(())
 }
 
-/// Whether a name is another one, or below it.
-fn begins_with(name: &Name, front: &[u32]) -> bool {
+/// Whether decisions begin with others.
+fn begins_with(decisions: &[Decision], front: &[Decision]) -> bool
+    ensures { IsTrue result → (more : List Decision) × (decisions.now ≡ front.now ++ more) }
+{
+    if decisions.len() < front.len() {
+        return false;
+    }
     for k in 0..front.len() {
-        if name.get(k) != Some(front[k]) {
+        if decisions[k] != front[k] {
             return false;
         }
     }
     true
 }
 
-/// Whether a task is left in this manner, since it needn't be worked as far as was seen.
-fn is_left(manner: Manner, needs: &Needs, task: &Task) -> bool
-    ensures { manner ≡ Plain → result ≡ false }
+/// Whether a task stands in the subtree to which these decisions lead; no where memory is refused.
+fn stands_in(alloc: Global, task: &Task, front: &[Decision]) -> bool
+    ensures { IsTrue result → (more : List Decision) × (task.now.decisions ≡ front.now ++ more) }
+{
+    match task.decisions(alloc) {
+        Ok(decisions) => begins_with(decisions.as_slice(), front),
+        Err(_) => false,
+    }
+}
+
+/// Whether a task is left in this manner, since it needn't be worked.
+fn is_left(alloc: Global, manner: Manner, needs: &Needs, task: &Task) -> bool
+    ensures plain { manner ≡ Plain → result ≡ false }
+    ensures spared { IsTrue result → (i : Instance) (made : List Piece)
+        → ((low : ℕ) → IsReachedBy i low made → HoldUpTo i low needs.now) → IsSpared i made task.now }
 {
     match manner {
         Manner::Plain => false,
         Manner::Sparing => match needs.proved() {
-            Some(front) => begins_with(task.name(), front),
+            Some(front) => stands_in(alloc, task, front),
             None => false,
         },
     }
 }
 
 /// Tells what is known of needs that a task is worked next; where memory is refused, nothing is known any more.
-fn begin<'a>(alloc: Global, instance: &'a Instance, needs: &mut Needs<'a>, task: &Task) {
-    match (task.name().to_vec(alloc), task.decisions(alloc)) {
-        (Ok(name), Ok(decisions)) => {
-            needs.begin(alloc, instance, name.as_slice(), decisions.as_slice())
-        }
-        _ => *needs = Needs::new(),
+fn begin<'a>(alloc: Global, instance: &'a Instance, needs: &mut Needs<'a>, task: &Task)
+    requires { HoldUpTo instance.now 0 needs.old }
+    ensures at { AreAt instance.now task.now.decisions needs.new }
+    ensures holds { (low : ℕ) → low ≤ instance.now.cluster.horizon + 1 → HoldUpTo instance.now low needs.old
+        → HoldUpTo instance.now low needs.new }
+{
+    match task.decisions(alloc) {
+        Ok(decisions) => needs.begin(alloc, instance, decisions.as_slice()),
+        Err(_) => *needs = Needs::new(),
     }
 }
 
@@ -164,6 +191,11 @@ impl<J: Searched> Run<J> {
         requires task { IsTask instance.now task }
         requires watch { IsOther word.now self.old.watch }
         requires bench { IsWorkbenchOf instance.now bench.old }
+        requires needs { HoldUpTo instance.now 0 needs.old }
+        ensures holds { IfOk result (λ made. (low : ℕ) → low ≤ instance.now.cluster.horizon + 1 → All (λ goal. low ≤ goal) (goals_at made.0.node)
+            → HoldUpTo instance.now low needs.old → HoldUpTo instance.now low needs.new) }
+        ensures holds_still { OnErr result ((low : ℕ) → low ≤ instance.now.cluster.horizon + 1
+            → HoldUpTo instance.now low needs.old → HoldUpTo instance.now low needs.new) }
         ensures made { IfOk result (λ made. Works instance.now aims self.old self.new (record { task = task; piece = made.0 }) made.1.items) }
         ensures room { OnOk result (vec_len self.new.pieces < vec_capacity self.new.pieces) }
         ensures back { IfErr result (λ back. (back ≡ task) × Refuses self.old self.new) }
@@ -182,8 +214,9 @@ impl<J: Searched> Run<J> {
         begin(alloc, instance, needs, &task);
         match work_on(alloc, instance, bench, task, goal) {
             Ok(Worked::Split(kind, tasks)) => {
-                let node = Node::Branch(Branch::new(kind, tasks.len() as u32));
-                needs.split(alloc, kind, node.children());
+                let count = tasks.len() as u32;
+                let node = Node::Branch(Branch::new(kind, count));
+                needs.split(alloc, kind, count);
                 let left = push_all(&mut self.hand, kind, tasks);
                 Ok((Piece { name, node }, left))
             }
@@ -207,7 +240,9 @@ impl<J: Searched> Run<J> {
     /// Leaves a task that needn't be worked; where memory is refused, it is in hand.
     fn spare(&mut self, task: Task) -> Sweep
         requires { IsTask J.instance task }
-        ensures { Spares task self.old self.new result }
+        ensures spares { Spares task self.old self.new result }
+        ensures spared { (made : List Piece) → All (IsSpared J.instance made) self.old.spared.items → IsSpared J.instance made task
+            → All (IsSpared J.instance made) self.new.spared.items }
     {
         if self.spared.reserve(1).is_err() {
             let rest = Rest::One(task);
@@ -232,10 +267,12 @@ impl<J: Searched> Run<J> {
         requires of { instance.now ≡ J.instance }
         requires watch { IsOther word.now self.old.watch }
         requires bench { IsWorkbenchOf instance.now bench.old }
+        requires spared { AreSpared instance.now self.old.pieces.items self.old.spared.items needs.old }
+        ensures spared { AreSpared instance.now self.new.pieces.items self.new.spared.items needs.new }
         ensures goes_on { GoesOn instance.now aims self.old self.new (rest_after result) }
         ensures watch { IsOther word.now self.new.watch }
         ensures idle { result ≡ sweep.Idle → vec_len self.new.pieces ≡ vec_len self.old.pieces }
-        ensures spared { result ≡ sweep.Spared → vec_len self.new.pieces ≡ vec_len self.old.pieces }
+        ensures left { result ≡ sweep.Spared → vec_len self.new.pieces ≡ vec_len self.old.pieces }
         ensures worked { result ≡ sweep.Worked → vec_len self.new.pieces ≡ vec_len self.old.pieces + 1 }
         ensures plain { manner ≡ Plain → self.new.spared.items ≡ self.old.spared.items }
         ensures most { vec_len self.new.pieces ≤ vec_len self.old.pieces + 1 }
@@ -244,7 +281,7 @@ impl<J: Searched> Run<J> {
         let Some(task) = self.hand.take() else {
             return Sweep::Idle;
         };
-        if is_left(manner, needs, &task) {
+        if is_left(alloc, manner, needs, &task) {
             return self.spare(task);
         }
         let worker = self.hand.number();

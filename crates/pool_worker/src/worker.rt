@@ -1,13 +1,13 @@
 //! What does a worker do until it ends?
 
-ghost use Rattle.std.specs.Prelude.{◌≡◌, ◌≤◌, [], vec_len};
+ghost use Rattle.std.specs.Prelude.{◌≡◌, ◌≤◌, [], All, vec_len};
 ghost use Rattle.incumbent.specs.Watch.{IsOther, IsSameWatch};
 ghost use Rattle.steal_pool.specs.Hand.{IsSameHand};
 ghost use Rattle.pool_worker.specs.declared.report.Ending.TheVariants as ending;
 ghost use Rattle.pool_worker.specs.Goals.{goals_of, AreGoals};
 ghost use Rattle.pool_worker.specs.Best.{OffersBest};
 ghost use Rattle.branch_tree.specs.Workbench.{IsWorkbenchOf};
-ghost use Rattle.pool_worker.specs.Report.{HasAccount};
+ghost use Rattle.pool_worker.specs.Report.{HasAccount, IsSpared, AreSpared};
 ghost use Rattle.pool_worker.specs.Run.{GoesOn};
 ghost use Rattle.used_decisions.specs.Manners.{usual_manner};
 ghost use Rattle.used_decisions.specs.declared.manner.Manner.TheVariants.{Plain};
@@ -85,6 +85,8 @@ impl<J: Searched> Run<J> {
         requires watch { IsOther word.now self.old.watch }
         requires bench { IsWorkbenchOf instance.now bench.old }
         requires within { vec_len self.old.pieces ≤ budget }
+        requires spared { AreSpared instance.now self.old.pieces.items self.old.spared.items needs.old }
+        ensures spared { AreSpared instance.now self.new.pieces.items self.new.spared.items needs.new }
         ensures goes_on { GoesOn instance.now aims self.old self.new result.0 }
         ensures plain { manner ≡ Plain → self.new.spared.items ≡ self.old.spared.items }
         ensures within { vec_len self.new.pieces ≤ budget }
@@ -141,6 +143,7 @@ pub fn run_worker_in<J: Searched, G: Gate>(
     ensures hand { IsSameHand hand result.hand }
     ensures watch { IsSameWatch watch result.watch }
     ensures account { HasAccount instance.now hand result.hand result.pieces.items result.spared.items result.rest }
+    ensures spared { All (IsSpared instance.now result.pieces.items) result.spared.items }
     ensures plain { manner ≡ Plain → result.spared.items ≡ [] }
     ensures goals { AreGoals instance.now aims watch result.watch (goals_of result.pieces.items) }
     ensures best { OffersBest instance.now watch result.watch result.best }
@@ -187,6 +190,7 @@ pub fn run_worker<J: Searched, G: Gate>(
     ensures hand { IsSameHand hand result.hand }
     ensures watch { IsSameWatch watch result.watch }
     ensures account { HasAccount instance.now hand result.hand result.pieces.items result.spared.items result.rest }
+    ensures spared { All (IsSpared instance.now result.pieces.items) result.spared.items }
     ensures plain { usual_manner instance.now ≡ Plain → result.spared.items ≡ [] }
     ensures goals { AreGoals instance.now (record { gap = 0; floor = 0 }) watch result.watch (goals_of result.pieces.items) }
     ensures best { OffersBest instance.now watch result.watch result.best }

@@ -1,5 +1,5 @@
 use Rattle.std.proofs.Common.{rules, arith, ℕ, ◌≡◌, ◌≤◌, ◌++◌, All, List, [], ◌∷◌, length, inl, inr, refl, sym, ap, ◌∙◌, subst}
-use Rattle.std.proofs.lemmas.List.Elements.{All-nil}
+use Rattle.std.proofs.lemmas.List.Elements.{All-nil, All-head}
 use Rattle.subtree_tasks.specs.Task.{Task, choice_of, IsTask}
 use Rattle.branch_tree.specs.Work.{IsWorked, IsSplit, IsFind, ClosesAt}
 use Rattle.subtree_tasks.proofs.ChildTasks.{few_children}
@@ -16,15 +16,15 @@ use Rattle.pool_worker.proofs.Pushes.{none_pushed}
 use Rattle.pool_worker.proofs.Watches.{last, looked, offered, lower, one, follows_still}
 use Rattle.pool_worker.proofs.run.Run.make.Goals as goal
 
-pub overflow_cast-len : goal.overflow_cast-len
-overflow_cast-len g c =
+pub overflow_cast-count : goal.overflow_cast-count
+overflow_cast-count g c =
     let i = c.args.instance.now in
     let t = c.args.task in
     let split : IsSplit i t c.goal_of-goal.result c.in-Ok-Split.kind c.in-Ok-Split.tasks.items = subst (IsWorked i t c.goal_of-goal.result)
     c.in-Ok-Split.field-0-is c.in-Ok-Split.ensures.worked in
     omega (
       arith,
-      c.len.ensures,
+      c.len-count.ensures,
       c.in-Ok-Split.tasks.ok.0,
       split.branch.just,
       few_children i (choice_of i t)
@@ -70,6 +70,7 @@ returns-in_default-clause-back g c = (
   },
 )
 
+-- The children are those of a branch that is open at the task, and each of them is pushed, or left.
 pub returns-in-Ok-Split-clause-made : goal.returns-in-Ok-Split-clause-made
 returns-in-Ok-Split-clause-made g c =
     let i = c.args.instance.now in
@@ -77,7 +78,7 @@ returns-in-Ok-Split-clause-made g c =
     let kids = c.in-Ok-Split.tasks.items in
     let split : IsSplit i t c.goal_of-goal.result c.in-Ok-Split.kind kids = subst (IsWorked i t c.goal_of-goal.result)
     c.in-Ok-Split.field-0-is c.in-Ok-Split.ensures.worked in
-    let many : c.len.result ≡ length kids = omega (arith, c.len.ensures, c.in-Ok-Split.tasks.ok.0) in
+    let many : c.len-count.result ≡ length kids = omega (arith, c.len-count.ensures, c.in-Ok-Split.tasks.ok.0) in
     let made : c.new.result ≡ branch_of c.in-Ok-Split.kind (length kids) = c.new.ensures ∙ ap (branch_of c.in-Ok-Split.kind) many in
     let all = kids_born i t c.goal_of-goal.result c.in-Ok-Split.kind kids split c.in-Ok.name c.new.result made in
     record {
@@ -203,3 +204,11 @@ returns-in-Err-clause-back g c = (
     best = record { offered = c.look-seen.ensures.offers; best = refl };
   },
 )
+
+pub returns-in-Ok-Closed-clause-holds : goal.returns-in-Ok-Closed-clause-holds
+returns-in-Ok-Closed-clause-holds g c = λ low top all before.
+    c.close.ensures c.args.instance.now low (All-head (λ goal. low ≤ goal) c.in-Ok-Closed.leaf.goal [] all) (c.begin.ensures.holds low top before)
+
+pub returns-in-Ok-Found-clause-holds : goal.returns-in-Ok-Found-clause-holds
+returns-in-Ok-Found-clause-holds g c = λ low top all before.
+    c.close-in-Ok-Found.ensures c.args.instance.now low (All-head (λ goal. low ≤ goal) c.in-Ok-Found.leaf.goal [] all) (c.begin.ensures.holds low top before)

@@ -12,6 +12,7 @@ use Rattle.pool_worker.specs.Tasks.{Turn, born}
 use Rattle.pool_worker.specs.Goals.{AreGoals, goals_of}
 use Rattle.pool_worker.specs.Run.{KeepsBest, FindsBest, Pushes, rest_after}
 use Rattle.pool_worker.proofs.Turns.{same_hand_still, account_leaves, account_works, goals_more, goals_still, best_still, best_found}
+use Rattle.pool_worker.proofs.Spared.{spared_more}
 use Rattle.pool_worker.proofs.Watches.{follows_still}
 use Rattle.pool_worker.proofs.run.Run.turn.Goals as goal
 
@@ -113,7 +114,7 @@ pub returns-then-is_left-clause-goes_on : goal.returns-then-is_left-clause-goes_
 returns-then-is_left-clause-goes_on g c = λ hand watch run.
     let i = c.args.instance.now in
     let old = c.args.self.now in
-    let spares = c.spare.ensures in
+    let spares = c.spare.ensures.spares in
     let is : IsTask i c.in-Some.task = subst (λ (j : Instance). IsTask j c.in-Some.task) (sym c.requires.of) c.in-Some.ensures.task in
     let account = account_leaves i hand old.hand c.take.new.self old.pieces.items c.in-Some.task old.spared.items c.spare.new.self.spared.items
     (rest_after c.spare.result) c.in-Some.ensures.some c.in-Some.ensures.pushed is spares.left spares.others run.account in
@@ -126,4 +127,20 @@ returns-then-is_left-clause-goes_on g c = λ hand watch run.
     }
 
 pub returns-then-is_left-clause-worked : goal.returns-then-is_left-clause-worked
-returns-then-is_left-clause-worked g c = λ worked. absurd (c.spare.ensures.unworked worked)
+returns-then-is_left-clause-worked g c = λ worked. absurd (c.spare.ensures.spares.unworked worked)
+
+pub returns-then-is_empty-clause-spared : goal.returns-then-is_empty-clause-spared
+returns-then-is_empty-clause-spared g c =
+    let old = c.args.self.now in
+    let made = c.in-Ok.ensures.made in
+    let pieces = c.push_reserved.ensures.items ∙ ap (λ (l : List Piece). l ++ c.in-Ok.piece ∷ []) made.pieces in
+    rw pieces (rw made.spared (spared_more c.args.instance.now old.pieces.items c.in-Ok.piece old.spared.items c.args.needs.now c.make.new.needs
+    c.requires.spared c.in-Ok.ensures.holds))
+
+pub returns-else-is_empty-clause-spared : goal.returns-else-is_empty-clause-spared
+returns-else-is_empty-clause-spared g c =
+    let old = c.args.self.now in
+    let made = c.in-Ok.ensures.made in
+    let pieces = c.push_reserved.ensures.items ∙ ap (λ (l : List Piece). l ++ c.in-Ok.piece ∷ []) made.pieces in
+    rw pieces (rw made.spared (spared_more c.args.instance.now old.pieces.items c.in-Ok.piece old.spared.items c.args.needs.now c.make.new.needs
+    c.requires.spared c.in-Ok.ensures.holds))

@@ -6,6 +6,7 @@ loop-alloc-preserved-in-Idle g c = record {
   goes_on = λ hand watch run. c.in-Idle.ensures.goes_on hand watch (c.loop-alloc.invariant.goes_on hand watch run);
   watch = c.in-Idle.ensures.watch;
   bench = c.in-Idle.ensures.bench;
+  spared = c.in-Idle.ensures.spared;
   within = omega (arith, c.in-Idle.ensures.idle refl, c.loop-alloc.invariant.within);
   plain = λ plain. c.in-Idle.ensures.plain plain ∙ c.loop-alloc.invariant.plain plain;
 }
@@ -15,6 +16,7 @@ loop-alloc-preserved-in-Worked g c = record {
   goes_on = λ hand watch run. c.in-Worked.ensures.goes_on hand watch (c.loop-alloc.invariant.goes_on hand watch run);
   watch = c.in-Worked.ensures.watch;
   bench = c.in-Worked.ensures.bench;
+  spared = c.in-Worked.ensures.spared;
   within = omega (arith, c.in-Worked.ensures.worked refl, c.loop-alloc.invariant.within, c.len.ensures);
   plain = λ plain. c.in-Worked.ensures.plain plain ∙ c.loop-alloc.invariant.plain plain;
 }
@@ -24,7 +26,8 @@ loop-alloc-preserved g c = record {
   goes_on = λ hand watch run. c.in-Spared.ensures.goes_on hand watch (c.loop-alloc.invariant.goes_on hand watch run);
   watch = c.in-Spared.ensures.watch;
   bench = c.in-Spared.ensures.bench;
-  within = omega (arith, c.in-Spared.ensures.spared refl, c.loop-alloc.invariant.within);
+  spared = c.in-Spared.ensures.spared;
+  within = omega (arith, c.in-Spared.ensures.left refl, c.loop-alloc.invariant.within);
   plain = λ plain. c.in-Spared.ensures.plain plain ∙ c.loop-alloc.invariant.plain plain;
 }
 

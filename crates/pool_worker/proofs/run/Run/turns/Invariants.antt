@@ -3,6 +3,7 @@ use Rattle.branch_tree.specs.Workbench.{IsWorkbenchOf}
 use Rattle.incumbent.specs.Watch.{IsOther}
 use Rattle.pool_worker.specs.declared.report.Rest.TheVariants.{Nothing}
 use Rattle.used_decisions.specs.declared.manner.Manner.TheVariants.{Plain}
+use Rattle.pool_worker.specs.Report.{AreSpared}
 use Rattle.pool_worker.specs.Run.{GoesOn}
 use Rattle.pool_worker.proofs.run.Run.turns.Given as goal
 
@@ -14,6 +15,7 @@ invariant-loop-alloc g l = record {
   goes_on : GoesOn l.instance l.fn.aims l.initial.self l.self Nothing;
   watch : IsOther l.word l.self.watch;
   bench : IsWorkbenchOf l.instance l.bench;
+  spared : AreSpared l.instance l.self.pieces.items l.self.spared.items l.needs;
   within : vec_len l.self.pieces ≤ l.fn.budget;
   plain : l.fn.manner ≡ Plain → l.self.spared.items ≡ l.initial.self.spared.items;
 }
