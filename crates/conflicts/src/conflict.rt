@@ -1,6 +1,6 @@
 //! Which constraints leave no plan, and which of them can't be left out?
 
-ghost use Rattle.std.specs.Prelude.{◌≡◌, All, IfOk, map};
+ghost use Rattle.std.specs.Prelude.{◌≡◌, All, IfOk, IsPermutation, map};
 ghost use Rattle.ttp_model.specs.Instance.{Instance};
 ghost use Rattle.planner.specs.outcome.Options.{Options};
 ghost use Rattle.kept_constraints.specs.Constraints.{listed};
@@ -86,6 +86,15 @@ fn told(alloc: Global, halving: Halving) -> Result<Conflict, MemoryFault>
     Ok(Conflict::None { needs, kept, cert })
 }
 
+/// Constraints with the last one first, so that later ones are left out rather than earlier ones.
+fn last_first(list: Vec<Constraint>) -> Vec<Constraint>
+    ensures { IsPermutation list.items result.items }
+{
+    let mut list = list;
+    list.reverse();
+    list
+}
+
 /// Which of an instance's constraints leave no plan by themselves, where it has none.
 fn narrowed<R: Threads + Wait + Sync>(
     rt: &R,
@@ -97,14 +106,15 @@ fn narrowed<R: Threads + Wait + Sync>(
     requires { IsHalving instance.now options halving }
     ensures { IfOk result (Answers instance.now options) }
 {
-    let list = halving.kept.list(alloc)?;
+    let list = last_first(halving.kept.list(alloc)?);
     let mut halving = halving;
     narrow(rt, alloc, instance, options, &mut halving, list.as_slice())?;
     Ok(told(alloc, halving)?)
 }
 
-/// Looks for constraints of an instance that leave no plan by themselves, and leaves out what it can of them: the times first, then
-/// messages, then links, half by half. Each search has the budget, and ends once it has found a plan.
+/// Looks for constraints of an instance that leave no plan by themselves, and leaves out what it can of them, half by half: of times,
+/// messages and links in this order the later ones rather than the earlier ones, so that what is kept is the first such set (QuickXplain;
+/// Junker, AAAI 2004). Each search has the budget, and ends once it has found a plan.
 pub fn find_conflict<R: Threads + Wait + Sync>(
     rt: &R,
     alloc: Global,

@@ -1,12 +1,21 @@
-use Rattle.std.proofs.Common.{◌∙◌, List, subst}
+use Rattle.std.proofs.Common.{◌≡◌, ◌∙◌, List, IsPermutation, subst}
+use Rattle.std.proofs.lemmas.List.Sorted.{All-permutation, IsPermutation-sym}
+use Rattle.kept_constraints.specs.Constraints.{listed}
 use Rattle.kept_constraints.specs.declared.constraints.Constraint.{Constraint}
-use Rattle.conflicts.specs.Halving.{Decides}
+use Rattle.conflicts.specs.Halving.{Decides, IsDecided}
 use Rattle.conflicts.proofs.conflict.narrowed.Goals as goal
 
 pub returns : goal.returns
 returns g c =
     let i = c.args.instance.now in
+    let old = c.args.halving in
     let new = c.narrow.new.halving in
-    let listed = c.as_slice.ensures.value ∙ c.in_ok-list.ensures in
-    let done = subst (λ (part : List Constraint). Decides i c.args.options c.args.halving part new) listed c.in_ok-narrow.ensures in
-    c.in_ok-told.ensures i c.args.options c.args.halving done
+    let turned : IsPermutation (listed old.kept) c.last_first.result.items =
+    subst (λ (list : List Constraint). IsPermutation list c.last_first.result.items) c.in_ok-list.ensures c.last_first.ensures in
+    let done = subst (λ (part : List Constraint). Decides i c.args.options old part new) c.as_slice.ensures.value c.in_ok-narrow.ensures in
+    c.in_ok-told.ensures i c.args.options old (record {
+      halving = done.halving;
+      fewer = done.fewer;
+      needed = done.needed;
+      decided = All-permutation (IsDecided i c.args.options new.kept new.needed.items) _ _ (IsPermutation-sym _ _ turned) done.decided;
+    })
