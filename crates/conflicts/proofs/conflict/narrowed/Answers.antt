@@ -1,4 +1,4 @@
-use Rattle.std.proofs.Common.{◌≡◌, ◌∙◌, List, IsPermutation, subst}
+use Rattle.std.proofs.Common.{List, IsPermutation, subst}
 use Rattle.std.proofs.lemmas.List.Sorted.{All-permutation, IsPermutation-sym}
 use Rattle.kept_constraints.specs.Constraints.{listed}
 use Rattle.kept_constraints.specs.declared.constraints.Constraint.{Constraint}
@@ -10,8 +10,8 @@ returns g c =
     let i = c.args.instance.now in
     let old = c.args.halving in
     let new = c.narrow.new.halving in
-    let turned : IsPermutation (listed old.kept) c.last_first.result.items =
-    subst (λ (list : List Constraint). IsPermutation list c.last_first.result.items) c.in_ok-list.ensures c.last_first.ensures in
+    let turned : IsPermutation (listed old.kept) c.last_first-list.result.items =
+    subst (λ (list : List Constraint). IsPermutation list c.last_first-list.result.items) c.in_ok-list.ensures c.last_first-list.ensures in
     let done = subst (λ (part : List Constraint). Decides i c.args.options old part new) c.as_slice.ensures.value c.in_ok-narrow.ensures in
     c.in_ok-told.ensures i c.args.options old (record {
       halving = done.halving;
