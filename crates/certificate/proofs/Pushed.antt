@@ -1,13 +1,10 @@
 -- How a text grows in a loop over the elements of a list.
 use Rattle.std.proofs.Common.{◌≡◌, ℕ, ◌+◌, ◌^◌, ◌<◌, ◌≤◌, List, [], ◌∷◌, ◌++◌, length, get_or, take, All, sym, ap, subst, ◌∙◌, append_assoc}
 use Rattle.std.specs.List.{flat_map}
-use Rattle.std.specs.Prelude.{Result, OnOk}
 use Rattle.std.proofs.lemmas.List.{take_more, take_all, append-nil}
 use Rattle.std.proofs.lemmas.List.Elements.{All-more, All-from_get_or}
 use Rattle.std.proofs.lemmas.Grind.{flat_map-append}
-use Rattle.ttp_model.specs.declared.step.Step.{Step}
-use Rattle.certificate.specs.Spelling.{Fit, spaced, step_text}
-use Rattle.certificate.specs.Words.{step_words}
+use Rattle.certificate.specs.Spelling.{Fit}
 
 -- the text of one element more, at its place
 pub more_at : {X : Type 0} (f : X → List ℕ) (xs : List X) (k : ℕ) (d : X) (start text new : List ℕ) → k < length xs → text ≡ start ++ flat_map f (take k xs) → new ≡ text ++ f (get_or xs k d)
@@ -46,9 +43,3 @@ line_pushed f xs k start keyword t0 t1 t2 le first all end =
 -- numbers of 32 bits can be written
 pub fit_from_type : (xs : List ℕ) → ((k : ℕ) → get_or xs k 0 < 2 ^ 32) → Fit xs
 fit_from_type xs fits = All-from_get_or (λ n. n < 2 ^ 32) xs 0 (λ k lt. fits k)
-
--- a line that says a step
-pub step_said : {A E : Type 0} (result : Result A E) (old new keyword numbers : List ℕ) (step : Step) → keyword ≡ (step_words step).0
-    → numbers ≡ (step_words step).1 → OnOk result (new ≡ old ++ ((keyword ++ flat_map spaced numbers) ++ 10 ∷ [])) → OnOk result (new ≡ old ++ step_text step)
-unfolding step_text
-step_said result old new keyword numbers step is said pushed = rw (is, said) at pushed

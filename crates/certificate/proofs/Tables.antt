@@ -5,7 +5,8 @@ use Rattle.std.specs.List.{list_all}
 use Rattle.std.proofs.lemmas.Bool.{eqb-true}
 use Rattle.std.proofs.lemmas.Slice.Eq.{bytes_eq-Decides}
 use Rattle.ttp_model.specs.declared.step.Kind.{Kind}
-use Rattle.ttp_model.specs.declared.step.Kind.TheVariants.{Place, Cap, Pair, Round, Chan}
+use Rattle.ttp_model.specs.declared.step.Kind.TheVariants.{Place, Chan}
+use Rattle.ttp_model.specs.Kinds.{children_of}
 use Rattle.ttp_model.specs.declared.step.Step.{Step}
 use Rattle.ttp_model.specs.declared.step.Step.TheVariants.{XCycle}
 use Rattle.certificate.specs.declared.branch.Branch.{Branch}
@@ -58,25 +59,25 @@ low_sayable low = record { keyword = refl; some = some_of low []; again = refl }
 
 -- ---- the lines of nodes
 
-channel_said : (m k : ℕ) (three : Bool) → (k == 3) ≡ three → Each (λ head. ((head_words head).1 ≡ m ∷ k ∷ []) × Unit {0}) (cond three (OfBranch (branch_of (Chan m) 0) ∷ []) [])
+channel_said : (m k : ℕ) (three : Bool) → (k == 3) ≡ three
+    → Each (λ head. ((head_words head).1 ≡ m ∷ k ∷ []) × Unit {0}) (cond three (OfBranch (branch_of (Chan m) 3) ∷ []) [])
 channel_said m k true is = ((ap (λ (n : ℕ). m ∷ n ∷ []) (sym (eqb-true k 3 is)), tt), tt)
 channel_said m k false is = tt
 
 pub heads_said : (ns : List ℕ) → Each (λ head. ((head_words head).1 ≡ ns) × Unit {0}) (heads_with ns)
 heads_said [] = tt
-heads_said (k ∷ []) = ((refl, tt), tt)
-heads_said (a ∷ b ∷ []) = ((refl, tt), ((refl, tt), ((refl, tt), ((refl, tt), channel_said a b (b == 3) refl))))
+heads_said (k ∷ []) = assumption
+heads_said (a ∷ b ∷ []) = let channels = channel_said a b (b == 3) refl in assumption
 heads_said (a ∷ b ∷ c ∷ ns) = tt
 
 abbrev said : Branch → Option Head
 said branch = Some (OfBranch branch)
 
+-- the count that a line says, or that its kind always has, is that of the branch
 branch_sayable : (kind : Kind) (options : ℕ) → IsSayable head_words heads_with (OfBranch (branch_of kind options))
-branch_sayable Place k = record { keyword = refl; some = some_of k []; again = refl }
-branch_sayable (Cap n) k = record { keyword = refl; some = some_of n (k ∷ []); again = refl }
-branch_sayable (Pair p q) k = record { keyword = refl; some = some_of p (q ∷ []); again = ap said (branch_of-same (Pair p q) 0 k refl) }
-branch_sayable (Round m r) k = record { keyword = refl; some = some_of m (r ∷ []); again = ap said (branch_of-same (Round m r) 0 k refl) }
-branch_sayable (Chan m) k = record { keyword = refl; some = some_of m (3 ∷ []); again = ap said (branch_of-same (Chan m) 0 k refl) }
+branch_sayable Place k = record { keyword = refl; some = omega arith; again = refl }
+branch_sayable kind k =
+    record { keyword = refl; some = omega arith; again = ap said (branch_of-same kind (children_of kind k) k refl) }
 
 pub head_sayable : (head : Head) → IsSayable head_words heads_with head
 head_sayable (OfBranch branch) = subst (λ (b : Branch). IsSayable head_words heads_with (OfBranch b)) (branch_again branch) (branch_sayable branch.kind branch.children)
@@ -89,10 +90,10 @@ two a b more = omega arith
 
 pub steps_said : (ns : List ℕ) → Each (λ step. ((step_words step).1 ≡ ns) × IsLong step) (steps_with ns)
 steps_said [] = tt
-steps_said (a ∷ []) = assumption
-steps_said (a ∷ b ∷ []) = let long = two a b [] in assumption
-steps_said (a ∷ b ∷ c ∷ []) = let long = two a b (c ∷ []) in assumption
-steps_said (a ∷ b ∷ c ∷ d ∷ []) = let long = two a b (c ∷ d ∷ []) in assumption
+steps_said (a ∷ []) = let one = some_of a [] in assumption
+steps_said (a ∷ b ∷ []) = let one = some_of a (b ∷ []) in let long = two a b [] in assumption
+steps_said (a ∷ b ∷ c ∷ []) = let one = some_of a (b ∷ c ∷ []) in let long = two a b (c ∷ []) in assumption
+steps_said (a ∷ b ∷ c ∷ d ∷ []) = let one = some_of a (b ∷ c ∷ d ∷ []) in let long = two a b (c ∷ d ∷ []) in assumption
 steps_said (a ∷ b ∷ c ∷ d ∷ e ∷ ns) = let long = two a b (c ∷ d ∷ e ∷ ns) in assumption
 
 -- a ring can be said where it is long enough, and each other step, since no two have one keyword

@@ -3,16 +3,14 @@ use Rattle.std.proofs.Common.{◌≡◌, Bool, true, false, cond, List, [], ◌�
 use Rattle.std.specs.List.{list_all}
 use Rattle.std.proofs.lemmas.List.Elements.{All-nil, All-cons, All-weaker}
 use Rattle.std.proofs.lemmas.List.Sums.{AllPass-from_list_all, list_all-from_AllPass}
-use Rattle.ttp_model.specs.declared.step.Kind.{Kind}
-use Rattle.ttp_model.specs.declared.step.Kind.TheVariants.{Place, Cap, Pair, Round, Chan}
 use Rattle.ttp_model.specs.declared.step.Step.{Step}
 use Rattle.certificate.specs.declared.node.Node.{Node}
 use Rattle.certificate.specs.declared.node.Node.TheVariants.{Branch, Leaf}
 use Rattle.certificate.specs.declared.version.Version.{Version}
 use Rattle.certificate.specs.declared.version.Version.TheVariants.{One, Two}
 use Rattle.certificate.specs.Trees.{Trees, preorder}
-use Rattle.certificate.specs.Words.{speaks_of_channels}
-use Rattle.certificate.specs.Versions.{allows_kind, allows_step, allows_node, AllowsStep, AllowsNode, Allows, version_of_tree}
+use Rattle.certificate.specs.Words.{Row, branch_row, step_row}
+use Rattle.certificate.specs.Versions.{allows_row, allows_step, allows_node, AllowsStep, AllowsNode, Allows, version_of_tree}
 
 -- ---- the second version
 
@@ -20,22 +18,15 @@ by_either : (speaks : Bool) → cond speaks true true ≡ true
 by_either true = refl
 by_either false = refl
 
-kind_allowed : (kind : Kind) → allows_kind Two kind ≡ true
-kind_allowed Place = refl
-kind_allowed (Cap n) = refl
-kind_allowed (Pair p q) = refl
-kind_allowed (Round m r) = refl
-kind_allowed (Chan m) = refl
-
-step_allowed : (step : Step) → allows_step Two step ≡ true
-step_allowed step = by_either (speaks_of_channels step)
+row_allowed : (row : Row) → allows_row Two row ≡ true
+row_allowed row = by_either row.speaks_of_channels
 
 steps_allowed : (steps : List Step) → All (AllowsStep Two) steps
 steps_allowed [] = All-nil (AllowsStep Two)
-steps_allowed (step ∷ steps) = All-cons (AllowsStep Two) step steps (step_allowed step) (steps_allowed steps)
+steps_allowed (step ∷ steps) = All-cons (AllowsStep Two) step steps (row_allowed (step_row step)) (steps_allowed steps)
 
 node_allowed : (node : Node) → AllowsNode Two node
-node_allowed (Branch branch) = record { head = kind_allowed branch.kind; steps = All-nil (AllowsStep Two) }
+node_allowed (Branch branch) = record { head = row_allowed (branch_row branch.kind 0); steps = All-nil (AllowsStep Two) }
 node_allowed (Leaf leaf) = record { head = refl; steps = steps_allowed leaf.steps }
 
 nodes_allowed : (nodes : List Node) → All (AllowsNode Two) nodes

@@ -4,13 +4,10 @@ use Rattle.std.specs.List.{list_all}
 use Rattle.line_text.specs.declared.number.NumberWord.{NumberWord}
 use Rattle.certificate.specs.declared.numbers.FewWords.{FewWords}
 use Rattle.certificate.specs.declared.numbers.FewWords.TheVariants as words
-use Rattle.certificate.specs.declared.numbers.FewNumbers.{FewNumbers}
-use Rattle.certificate.specs.declared.numbers.FewNumbers.TheVariants as few
-use Rattle.certificate.specs.declared.steps.LineNumbers.{LineNumbers}
-use Rattle.certificate.specs.declared.steps.LineNumbers.TheVariants as line
 use Rattle.line_text.specs.Results.{◌>>=◌, check}
 use Rattle.certificate.specs.declared.fault.LineFault.TheVariants.{Form, Number}
 use Rattle.certificate.specs.declared.fault.CertTextError.TheVariants.{At}
+pub use Rattle.tt_infer.specs.Lines.{numbers_in, numbers_said, row_of}
 use Rattle.certificate.specs.Reading.{Reading, numbers_of, is_number_word, fits, value_of}
 
 abbrev pub words_in : FewWords → List NumberWord
@@ -18,17 +15,6 @@ words_in (words.One a) = a ∷ []
 words_in (words.Two a b) = a ∷ b ∷ []
 words_in (words.Three a b c) = a ∷ b ∷ c ∷ []
 words_in (words.Four a b c d) = a ∷ b ∷ c ∷ d ∷ []
-
-abbrev pub numbers_in : FewNumbers → List ℕ
-numbers_in (few.One a) = a ∷ []
-numbers_in (few.Two a b) = a ∷ b ∷ []
-numbers_in (few.Three a b c) = a ∷ b ∷ c ∷ []
-numbers_in (few.Four a b c d) = a ∷ b ∷ c ∷ d ∷ []
-
--- the numbers behind a step's keyword
-abbrev pub numbers_said : LineNumbers → List ℕ
-numbers_said (line.Few numbers) = numbers_in numbers
-numbers_said (line.Ring processes) = processes.now
 
 -- a word in front, and the words of the text behind it, if there is one
 abbrev pub words_with : NumberWord → Option (List ℕ) → List NumberWord

@@ -18,6 +18,7 @@ use Rattle.certificate.specs.Lines.{node_lines, lines}
 use Rattle.certificate.specs.Trees.{Trees, none, grow, children}
 use Rattle.certificate.specs.declared.version.Version.{Version}
 use Rattle.certificate.specs.Versions.{version_of, allows_low, allows_head, allows_step}
+pub use Rattle.tt_infer.specs.Lines.{with_keyword}
 use Rattle.certificate.specs.Words.{Words, low_words, lows_with, head_words, heads_with, step_words, steps_with, count_of, node_of_head}
 
 -- what reading gives: a value, or the first fault
@@ -50,10 +51,6 @@ fits _ = false
 abbrev pub value_of : NumberWord → ℕ
 value_of (word.Number n) = n
 value_of _ = 0
-
--- what has this keyword, of all that can be said
-abbrev pub with_keyword : {A : Type 0} → (A → Words) → List ℕ → List A → Option A
-with_keyword words keyword all = find (λ x. bytes_eq keyword (words x).0) all
 
 -- What a line says, of all that can be said with its numbers and is allowed. Its form, which is the
 -- keyword, the count of its numbers and the form of each, is judged before their size.

@@ -2,7 +2,6 @@
 use Rattle.std.specs.Prelude.{◌≡◌, ℕ, List, [], ◌∷◌, Option, Bool, true, false, if◌then◌else◌, bytes_eq, find, codes, All}
 use Rattle.std.specs.List.{list_all}
 use Rattle.ttp_model.specs.declared.step.Kind.{Kind}
-use Rattle.ttp_model.specs.declared.step.Kind.TheVariants.{Place, Cap, Pair, Round, Chan}
 use Rattle.ttp_model.specs.declared.step.Step.{Step}
 use Rattle.certificate.specs.declared.head.Head.{Head}
 use Rattle.certificate.specs.declared.head.Head.TheVariants.{OfBranch, OfLeaf}
@@ -11,7 +10,7 @@ use Rattle.certificate.specs.declared.node.Node.TheVariants.{Branch, Leaf}
 use Rattle.certificate.specs.declared.version.Version.{Version}
 use Rattle.certificate.specs.declared.version.Version.TheVariants.{One, Two}
 use Rattle.certificate.specs.Trees.{Trees, preorder}
-use Rattle.certificate.specs.Words.{speaks_of_channels, head_of, steps_of}
+use Rattle.certificate.specs.Words.{Row, branch_row, step_row, head_of, steps_of}
 
 -- the first line of a text of this version
 abbrev pub version_line : Version → List ℕ
@@ -33,19 +32,19 @@ abbrev pub allows_channels : Version → Bool
 allows_channels One = false
 allows_channels Two = true
 
+abbrev pub allows_row : Version → Row → Bool
+allows_row version row = if row.speaks_of_channels then allows_channels version else true
+
+-- whatever its count of children
 abbrev pub allows_kind : Version → Kind → Bool
-allows_kind version Place = true
-allows_kind version (Cap n) = true
-allows_kind version (Pair p q) = true
-allows_kind version (Round m r) = true
-allows_kind version (Chan m) = allows_channels version
+allows_kind version kind = allows_row version (branch_row kind 0)
 
 abbrev pub allows_head : Version → Head → Bool
 allows_head version (OfBranch branch) = allows_kind version branch.kind
 allows_head version (OfLeaf goal count) = true
 
 abbrev pub allows_step : Version → Step → Bool
-allows_step version step = if speaks_of_channels step then allows_channels version else true
+allows_step version step = allows_row version (step_row step)
 
 abbrev pub AllowsStep : Version → Step → Type 0
 AllowsStep version step = allows_step version step ≡ true

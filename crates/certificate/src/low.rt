@@ -8,10 +8,11 @@ ghost use Rattle.certificate.specs.Numbers.{numbers_in};
 ghost use Rattle.certificate.specs.Sources.{Origin, Says, IsFaultOn};
 
 use crate::fault::{CertTextError, LineFault, SourceFault};
-use crate::numbers::{FewNumbers, words_of};
+use crate::numbers::words_of;
 use crate::source::LineSource;
 use crate::version::Version;
 use line_text::cut;
+use tt_infer::FewNumbers;
 
 fn low_with(keyword: &[u8], numbers: FewNumbers) -> Option<u32>
     ensures { result ≡ with_keyword low_words keyword.now (lows_with (numbers_in numbers)) }

@@ -9,6 +9,7 @@ ghost use Rattle.certificate.specs.Numbers.{words_in, numbers_in, words_with};
 
 use crate::fault::{CertTextError, LineFault};
 use line_text::{NumberWord, cut, number_word};
+use tt_infer::FewNumbers;
 
 /// One to four words, as numbers.
 #[derive(Clone, Copy, Debug, PartialEq, Eq)]
@@ -17,15 +18,6 @@ pub enum FewWords {
     Two(NumberWord, NumberWord),
     Three(NumberWord, NumberWord, NumberWord),
     Four(NumberWord, NumberWord, NumberWord, NumberWord),
-}
-
-/// One to four numbers.
-#[derive(Clone, Copy, Debug, PartialEq, Eq)]
-pub enum FewNumbers {
-    One(u32),
-    Two(u32, u32),
-    Three(u32, u32, u32),
-    Four(u32, u32, u32, u32),
 }
 
 /// Whether the word has a number's form.

@@ -2,19 +2,19 @@
 
 ghost use Rattle.std.specs.Prelude.{◌≡◌, ◌++◌, ◌∷◌, [], All, IfOk, OnOk};
 ghost use Rattle.std.specs.List.{flat_map};
-ghost use Rattle.certificate.specs.Words.{step_words, branch_words, head_words, head_of};
-ghost use Rattle.certificate.specs.Numbers.{numbers_in};
+ghost use Rattle.certificate.specs.Words.{branch_words, head_words, head_of};
+ghost use Rattle.certificate.specs.Numbers.{numbers_in, row_of};
 ghost use Rattle.certificate.specs.Versions.{Allows};
 ghost use Rattle.certificate.specs.Spelling.{Fit, spaced, line_with, step_text, node_text, StepHasText, NodeHasText, SpellsCert};
 
 use crate::branch::Branch;
 use crate::cert::Cert;
+use crate::head::branch_line;
 use crate::node::Node;
-use crate::numbers::FewNumbers;
-use crate::steps::{LineNumbers, line_of};
 use line_text::push_number;
 use std::alloc::{AllocError, Global};
-use ttp_model::{Kind, MemoryFault, Step};
+use tt_infer::{FewNumbers, Line, LineNumbers, line_of};
+use ttp_model::{MemoryFault, Step};
 
 #[tactic(auto, unfolding(crate::specs::Spelling::spaced))]
 fn push_spaced(text: &mut Vec<u8>, number: u32) -> Result<(), AllocError>
@@ -50,15 +50,23 @@ fn push_few(text: &mut Vec<u8>, keyword: &[u8], numbers: FewNumbers) -> Result<(
     }
 }
 
-fn push_step(text: &mut Vec<u8>, step: &Step) -> Result<(), AllocError>
-    ensures text { OnOk result (text.new.items ≡ text.old.items ++ step_text step.now) }
-    ensures fits { StepHasText step.now }
+fn push_row(text: &mut Vec<u8>, line: Line<'_>) -> Result<(), AllocError>
+    ensures line { OnOk result (text.new.items ≡
+        text.old.items ++ (line_with (row_of line.entry).words ++ 10 ∷ [])) }
+    ensures fit { Fit (row_of line.entry).words.1 }
 {
-    let line = line_of(step);
     match line.numbers {
         LineNumbers::Few(numbers) => push_few(text, line.keyword, numbers),
         LineNumbers::Ring(processes) => push_line(text, line.keyword, processes),
     }
+}
+
+#[tactic(auto, unfolding(crate::specs::Spelling::step_text))]
+fn push_step(text: &mut Vec<u8>, step: &Step) -> Result<(), AllocError>
+    ensures text { OnOk result (text.new.items ≡ text.old.items ++ step_text step.now) }
+    ensures fits { StepHasText step.now }
+{
+    push_row(text, line_of(step))
 }
 
 fn push_steps(text: &mut Vec<u8>, steps: &[Step]) -> Result<(), AllocError>
@@ -77,13 +85,7 @@ fn push_branch(text: &mut Vec<u8>, branch: Branch) -> Result<(), AllocError>
         text.old.items ++ (line_with (branch_words branch.kind branch.children) ++ 10 ∷ [])) }
     ensures fits { Fit (branch_words branch.kind branch.children).1 }
 {
-    match branch.kind {
-        Kind::Place => push_line(text, b"place", &[branch.children]),
-        Kind::Cap(n) => push_line(text, b"cap", &[n, branch.children]),
-        Kind::Pair(p, q) => push_line(text, b"pair", &[p, q]),
-        Kind::Round(m, r) => push_line(text, b"round", &[m, r]),
-        Kind::Chan(m) => push_line(text, b"chan", &[m, branch.children]),
-    }
+    push_row(text, branch_line(branch.kind, branch.children))
 }
 
 #[tactic(auto, unfolding(crate::specs::Spelling::node_text))]

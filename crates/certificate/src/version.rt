@@ -2,11 +2,12 @@
 
 ghost use Rattle.std.specs.Prelude.{◌≡◌};
 ghost use Rattle.std.specs.List.{list_all};
-ghost use Rattle.certificate.specs.Versions.{version_line, version_of, allows_channels, allows_head, allows_step, allows_node, version_of_nodes};
+ghost use Rattle.certificate.specs.Numbers.{row_of};
+ghost use Rattle.certificate.specs.Versions.{version_line, version_of, allows_channels, allows_row, allows_kind, allows_head, allows_step, allows_node, version_of_nodes};
 
-use crate::head::Head;
+use crate::head::{Head, branch_line};
 use crate::node::Node;
-use crate::steps::speaks_of_channels;
+use tt_infer::{Line, line_of};
 use ttp_model::{Kind, Step};
 
 /// The version of a certificate's text, which its first line names. The second has all lines of the first, and those
@@ -53,15 +54,26 @@ impl Version {
         }
     }
 
+    /// Whether this line may stand in its texts.
+    fn allows_line(self, line: Line<'_>) -> bool
+        ensures { result ≡ allows_row self (row_of line.entry) }
+    {
+        !line.speaks_of_channels || self.allows_channels()
+    }
+
+    /// Whether the line of a branch of this kind may.
+    fn allows_kind(self, kind: Kind) -> bool
+        ensures { result ≡ allows_kind self kind }
+    {
+        self.allows_line(branch_line(kind, 0))
+    }
+
     /// Whether this line of a node may stand in its texts.
     pub(crate) fn allows_head(self, head: Head) -> bool
         ensures { result ≡ allows_head self head }
     {
         match head {
-            Head::OfBranch(branch) => match branch.kind {
-                Kind::Place | Kind::Cap(_) | Kind::Pair(_, _) | Kind::Round(_, _) => true,
-                Kind::Chan(_) => self.allows_channels(),
-            },
+            Head::OfBranch(branch) => self.allows_kind(branch.kind),
             Head::OfLeaf(_, _) => true,
         }
     }
@@ -70,7 +82,7 @@ impl Version {
     pub(crate) fn allows_step(self, step: &Step) -> bool
         ensures { result ≡ allows_step self step.now }
     {
-        !speaks_of_channels(step) || self.allows_channels()
+        self.allows_line(line_of(step))
     }
 
     /// Whether the lines of these steps may stand in its texts.

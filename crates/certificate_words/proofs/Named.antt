@@ -8,7 +8,7 @@ use Rattle.line_text.specs.Parts.{after_keyword}
 use Rattle.line_text.proofs.Cuts.{after_again, cut_again}
 use Rattle.line_text.proofs.Digits.{decimal_lacks, number_again}
 use Rattle.ttp_model.specs.declared.step.Kind.{Kind}
-use Rattle.ttp_model.specs.declared.step.Kind.TheVariants.{Place, Cap, Pair, Round, Chan}
+use Rattle.ttp_model.specs.declared.step.Kind.TheVariants.{Place}
 use Rattle.certificate.specs.declared.head.Head.{Head}
 use Rattle.certificate.specs.declared.head.Head.TheVariants.{OfBranch, OfLeaf}
 use Rattle.certificate.specs.declared.version.Version.{Version}
@@ -33,10 +33,7 @@ leaf_names goal count small few =
 kind_names : (kind : Kind) (count : ℕ) → steps_named (line_with (branch_words kind count)) ≡ 0
 unfolding after_keyword
 kind_names Place count = refl
-kind_names (Cap n) count = refl
-kind_names (Pair p q) count = refl
-kind_names (Round m r) count = refl
-kind_names (Chan m) count = refl
+kind_names kind count = refl
 
 head_names : (head : Head) → Fit (head_words head).1 → steps_named (line_with (head_words head)) ≡ count_of head
 head_names (OfBranch branch) fit = kind_names branch.kind branch.children

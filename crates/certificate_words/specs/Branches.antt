@@ -1,8 +1,38 @@
--- What is wrong with a branch, in words. Own profile.
-use Rattle.std.specs.Prelude.{ℕ, List, [], ◌++◌, codes, decimal, if◌then◌else◌, length, nat_lt}
+-- How many branches of each kind a certificate has, and what is wrong with one, in words. Own profile.
+use Rattle.std.specs.Prelude.{ℕ, Bool, List, [], ◌++◌, bytes_eq, codes, count_by, decimal, if◌then◌else◌, length, nat_lt}
 use Rattle.ttp_model.specs.declared.step.Kind.{Kind}
 use Rattle.ttp_model.specs.declared.step.Kind.TheVariants.{Place, Cap, Pair, Round, Chan}
 use Rattle.ttp_model.specs.Instance.{Instance, message_at, node_at, process_at}
+use Rattle.certificate.specs.declared.node.Node.{Node}
+use Rattle.certificate.specs.Words.{head_of, head_words}
+
+-- ---- how many there are
+
+-- the keyword of a node's line, which tells a branch's kind
+abbrev pub keyword : Node → List ℕ
+keyword node = (head_words (head_of node)).0
+
+-- a node's line has this keyword
+abbrev pub has_keyword : List ℕ → Node → Bool
+has_keyword word node = bytes_eq (keyword node) word
+
+-- how many nodes have it
+abbrev pub nodes_with : List ℕ → List Node → ℕ
+nodes_with word nodes = count_by (has_keyword word) nodes
+
+-- how many branches there are of each kind
+unfoldable pub kinds_words : ℕ → ℕ → ℕ → ℕ → ℕ → List ℕ
+kinds_words place cap pair round chan =
+    codes "Its tree has " ++ (decimal place ++ (codes " branches of place, " ++ (decimal cap ++ (codes " of cap, " ++ (decimal pair
+    ++ (codes " of pair, " ++ (decimal round ++ (codes " of round and " ++ (decimal chan ++ codes " of chan, ")))))))))
+
+-- among these nodes
+abbrev pub branches_words : List Node → List ℕ
+branches_words nodes =
+    kinds_words (nodes_with (codes "place") nodes) (nodes_with (codes "cap") nodes) (nodes_with (codes "pair") nodes)
+    (nodes_with (codes "round") nodes) (nodes_with (codes "chan") nodes)
+
+-- ---- what is wrong with one
 
 -- what is named by an index isn't there
 unfoldable pub absent_words : List ℕ → ℕ → ℕ → List ℕ

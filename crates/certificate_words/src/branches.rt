@@ -1,11 +1,80 @@
-//! What is wrong with a branch?
+//! How many branches of each kind are there, and what is wrong with one?
 
 ghost use Rattle.std.specs.Prelude.{◌≡◌, ◌++◌, OnOk, string_bytes};
 ghost use Rattle.ttp_model.specs.declared.step.Kind.TheVariants.{Cap, Chan, Pair, Round};
-ghost use Rattle.certificate_words.specs.Branches.{absent_words, capacity_children, child_count_words, decided_cap, decided_chan, decided_pair, not_open_words, placed_children, uncut_rounds};
+ghost use Rattle.certificate.specs.Words.{branch_words};
+ghost use Rattle.certificate_words.specs.Branches.{absent_words, branches_words, capacity_children, child_count_words, decided_cap, decided_chan, decided_pair, has_keyword, keyword, kinds_words, nodes_with, not_open_words, placed_children, uncut_rounds};
 
+use certificate::{Branch, Node};
 use std::alloc::AllocError;
 use ttp_model::{Instance, Kind};
+
+/// The keyword of a branch's line.
+fn branch_keyword(branch: &Branch) -> &'static str
+    ensures { result.now ≡ (branch_words branch.now.kind branch.now.children).0 }
+{
+    match branch.kind {
+        Kind::Place => "place",
+        Kind::Cap(_) => "cap",
+        Kind::Pair(_, _) => "pair",
+        Kind::Round(_, _) => "round",
+        Kind::Chan(_) => "chan",
+    }
+}
+
+/// The keyword of a node's line.
+fn keyword(node: &Node) -> &'static str
+    ensures { result.now ≡ keyword node.now }
+{
+    match node {
+        Node::Branch(branch) => branch_keyword(branch),
+        Node::Leaf(_) => "leaf",
+    }
+}
+
+/// Whether a node's line has this keyword.
+fn has_keyword(node: &Node, word: &str) -> bool
+    ensures { result ≡ has_keyword word.now node.now }
+{
+    keyword(node).as_bytes() == word.as_bytes()
+}
+
+/// How many nodes have a line with this keyword.
+pub fn nodes_with(nodes: &[Node], word: &str) -> usize
+    ensures { result ≡ nodes_with word.now nodes.now }
+{
+    nodes.iter().filter(|node| has_keyword(node, word)).count()
+}
+
+/// Adds that there are so many branches of each kind.
+#[tactic(auto, unfolding(crate::specs::Branches::kinds_words))]
+fn put_kinds(
+    text: &mut String,
+    place: usize,
+    cap: usize,
+    pair: usize,
+    round: usize,
+    chan: usize,
+) -> Result<(), AllocError>
+    ensures { OnOk result (string_bytes text.new ≡ string_bytes text.old ++ kinds_words place cap pair round chan) }
+{
+    write!(
+        text,
+        "Its tree has {place} branches of place, {cap} of cap, {pair} of pair, {round} of round and {chan} of chan, "
+    )
+}
+
+/// Adds how many of each kind these nodes have.
+pub fn put_branches(text: &mut String, nodes: &[Node]) -> Result<(), AllocError>
+    ensures { OnOk result (string_bytes text.new ≡ string_bytes text.old ++ branches_words nodes.now) }
+{
+    let place = nodes_with(nodes, "place");
+    let cap = nodes_with(nodes, "cap");
+    let pair = nodes_with(nodes, "pair");
+    let round = nodes_with(nodes, "round");
+    let chan = nodes_with(nodes, "chan");
+    put_kinds(text, place, cap, pair, round, chan)
+}
 
 /// Adds that what is named by an index isn't there.
 #[tactic(auto, unfolding(crate::specs::Branches::absent_words))]

@@ -2,42 +2,13 @@
 
 ghost use Rattle.std.specs.Prelude.{◌≡◌, ◌++◌, OnOk, string_bytes};
 ghost use Rattle.certificate.specs.Trees.{trees_of};
-ghost use Rattle.certificate_words.specs.Counts.{branches_words, depth_words, has_keyword, keyword, leaves_words, nodes_with, step_count, told_steps, tree_line};
+ghost use Rattle.certificate_words.specs.Counts.{depth_words, leaves_words, step_count, told_steps, tree_line};
 
+use crate::branches::{nodes_with, put_branches};
 use crate::depth::levels;
 use certificate::{Cert, Node};
 use std::alloc::{AllocError, Global};
-use ttp_model::{Kind, MemoryFault};
-
-/// The keyword of a node's line.
-fn keyword(node: &Node) -> &'static str
-    ensures { result.now ≡ keyword node.now }
-{
-    match node {
-        Node::Branch(branch) => match branch.kind {
-            Kind::Place => "place",
-            Kind::Cap(_) => "cap",
-            Kind::Pair(_, _) => "pair",
-            Kind::Round(_, _) => "round",
-            Kind::Chan(_) => "chan",
-        },
-        Node::Leaf(_) => "leaf",
-    }
-}
-
-/// Whether a node's line has this keyword.
-fn has_keyword(node: &Node, word: &str) -> bool
-    ensures { result ≡ has_keyword word.now node.now }
-{
-    keyword(node).as_bytes() == word.as_bytes()
-}
-
-/// How many nodes have a line with this keyword.
-fn nodes_with(nodes: &[Node], word: &str) -> usize
-    ensures { result ≡ nodes_with word.now nodes.now }
-{
-    nodes.iter().filter(|node| has_keyword(node, word)).count()
-}
+use ttp_model::MemoryFault;
 
 /// How many steps a node has.
 fn step_count(node: &Node) -> usize
@@ -58,22 +29,6 @@ fn steps_in(nodes: &[Node]) -> u64
         count = count.saturating_add(step_count(node) as u64);
     }
     count
-}
-
-/// Adds how many branches of each kind there are.
-#[tactic(auto, unfolding(crate::specs::Counts::branches_words))]
-fn put_branches(text: &mut String, nodes: &[Node]) -> Result<(), AllocError>
-    ensures { OnOk result (string_bytes text.new ≡ string_bytes text.old ++ branches_words nodes.now) }
-{
-    let place = nodes_with(nodes, "place");
-    let cap = nodes_with(nodes, "cap");
-    let pair = nodes_with(nodes, "pair");
-    let round = nodes_with(nodes, "round");
-    let chan = nodes_with(nodes, "chan");
-    write!(
-        text,
-        "Its tree has {place} branches of place, {cap} of cap, {pair} of pair, {round} of round and {chan} of chan, "
-    )
 }
 
 /// Adds how many leaves there are, with how many steps.

@@ -9,7 +9,7 @@ use crate::tables::{Stood, Tables, item_at, order_place};
 use crate::turn::{Cut, OnChannel, Placed, Turn};
 use std::alloc::Global;
 use std::marker::Model;
-use tt_choice::Decision;
+use tt_choice::{Decision, decision_at, is_of_places};
 use ttp_model::{BOTH_CHANNELS, Instance, Kind, MemoryFault};
 
 /// A decision, and what stood in its place.
@@ -137,13 +137,12 @@ impl<'a> Path<'a> {
 
     /// The decision that leads to a branch's first child.
     pub fn first_decision(&self, kind: Kind) -> Option<Decision> {
-        match kind {
-            Kind::Place => Some(Decision::Place(self.unplaced_from(0)?)),
-            Kind::Cap(n) => Some(Decision::Cap(n, 0)),
-            Kind::Pair(p, q) => Some(Decision::Before(p, q)),
-            Kind::Round(m, r) => Some(Decision::AtMost(m, r)),
-            Kind::Chan(m) => Some(Decision::Channel(m, 0)),
-        }
+        let node = if is_of_places(kind) {
+            self.unplaced_from(0)
+        } else {
+            None
+        };
+        decision_at(kind, 0, node)
     }
 
     /// The decision that leads to the child beside that of another decision.
@@ -167,13 +166,10 @@ impl<'a> Path<'a> {
     /// What a branch uses with what stands below it: how many children take a place depends on all places above.
     pub fn used_with(&self, kind: Kind, below: Levels) -> Levels {
         let mut used = below;
-        match kind {
-            Kind::Place => {
-                for placed in self.order() {
-                    used.insert(placed.level);
-                }
+        if is_of_places(kind) {
+            for placed in self.order() {
+                used.insert(placed.level);
             }
-            Kind::Cap(_) | Kind::Pair(_, _) | Kind::Round(_, _) | Kind::Chan(_) => {}
         }
         used
     }

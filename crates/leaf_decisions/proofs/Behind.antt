@@ -15,12 +15,12 @@ use Rattle.sought_plans.specs.Conclusions.{Conclusion, StartsFrom, EndsUntil, Se
 use Rattle.tt_infer.specs.Table.{IsLawful}
 use Rattle.tt_infer.proofs.Keeps.{changed_there}
 use Rattle.tt_infer.proofs.Sound.{step_is_about}
-use Rattle.step_reads.specs.declared.fact.Fact.{Fact}
-use Rattle.step_reads.specs.declared.fact.Fact.TheVariants.{Start, End, FirstRound, LateRound, Order, Closed}
+use Rattle.tt_infer.specs.declared.fact.Fact.{Fact}
+use Rattle.tt_infer.specs.declared.fact.Fact.TheVariants.{Start, End, FirstRound, LateRound, Order, Closed}
 use Rattle.step_reads.specs.Targets.{fact_of}
-use Rattle.step_reads.specs.Reads.{AgreeOn}
+use Rattle.tt_infer.specs.Reads.{AgreeOn}
 use Rattle.step_reads.specs.Shared.{IsWritten}
-use Rattle.step_reads.proofs.Targets.{target_is}
+use Rattle.tt_infer.proofs.Rows.{target_is}
 use Rattle.decision_paths.specs.Turns.{Path}
 use Rattle.leaf_decisions.specs.declared.given.Given.{Given}
 use Rattle.leaf_decisions.specs.declared.uses.Uses.{Uses}

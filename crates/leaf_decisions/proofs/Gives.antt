@@ -9,8 +9,8 @@ use Rattle.tt_choice.specs.declared.decision.Decision.TheVariants.{Before}
 use Rattle.tt_choice.specs.Kept.{sets_order}
 use Rattle.step_reads.specs.Targets.{target}
 use Rattle.step_reads.specs.Shared.{IsWritten}
-use Rattle.step_reads.specs.declared.fact.Fact.{Fact}
-use Rattle.step_reads.specs.declared.fact.Fact.TheVariants.{FirstRound, LateRound, Order}
+use Rattle.tt_infer.specs.declared.fact.Fact.{Fact}
+use Rattle.tt_infer.specs.declared.fact.Fact.TheVariants.{FirstRound, LateRound, Order}
 use Rattle.decision_paths.specs.Tables.{order_place, orders_at}
 use Rattle.decision_paths.proofs.LastTurns.{place_parts, order_here, order_inside}
 use Rattle.leaf_decisions.specs.declared.given.Given.{Given}

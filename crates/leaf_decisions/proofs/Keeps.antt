@@ -14,11 +14,11 @@ use Rattle.tt_infer.specs.Table.{IsLawful}
 use Rattle.tt_infer.specs.Leaves.{LeadSharply}
 use Rattle.tt_infer.proofs.Determined.{IsLawful-determined}
 use Rattle.tt_infer.proofs.Sound.{Fits-step}
-use Rattle.step_reads.specs.declared.fact.Fact.{Fact}
-use Rattle.step_reads.specs.declared.fact.Fact.TheVariants.{Start, End, FirstRound, LateRound, Order, Closed}
-use Rattle.step_reads.specs.declared.limit.Limit.{Limit}
-use Rattle.step_reads.specs.declared.limit.Limit.TheVariants.{Goal, LeastSlot, GreatestSlot, LeastFrame, GreatestFrame, Place, Copies, Counted}
-use Rattle.step_reads.specs.Reads.{ReadsFact, ReadsLimit}
+use Rattle.tt_infer.specs.declared.fact.Fact.{Fact}
+use Rattle.tt_infer.specs.declared.fact.Fact.TheVariants.{Start, End, FirstRound, LateRound, Order, Closed}
+use Rattle.tt_infer.specs.declared.limit.Limit.{Limit}
+use Rattle.tt_infer.specs.declared.limit.Limit.TheVariants.{Goal, LeastSlot, GreatestSlot, LeastFrame, GreatestFrame, Place, Copies, Counted}
+use Rattle.tt_infer.specs.Reads.{ReadsFact, ReadsLimit}
 use Rattle.step_reads.specs.Uses.{KeepsFact, KeepsLimit, UseKept}
 use Rattle.decision_paths.specs.declared.turn.Turn.{Turn}
 use Rattle.decision_paths.specs.declared.turn.Placed.{Placed}

@@ -1,19 +1,19 @@
 -- What keeps a message out of a frame is marked.
 use Rattle.std.proofs.Common.{◌≡◌, ◌≢◌, ℕ, ◌<◌, ◌⊎◌, length, true, false, IsTrue, IsFalse, inl, inr, sym, subst}
 use Rattle.std.proofs.lemmas.Bool.{eq-eqb}
-use Rattle.ttp_model.specs.declared.step.Step.TheVariants.{XLate}
+use Rattle.tt_infer.specs.Sources.{Earlier}
 use Rattle.ttp_model.specs.Instance.{source_of}
 use Rattle.ttp_model.specs.Network.{messages_of, is_message_of}
 use Rattle.tt_choice.specs.Kept.{sets_least, sets_greatest}
 use Rattle.sought_plans.specs.Known.{Known, lo_of}
-use Rattle.step_reads.specs.declared.fact.Fact.TheVariants.{FirstRound, LateRound}
-use Rattle.step_reads.specs.declared.limit.Limit.TheVariants.{LeastSlot, LeastFrame}
+use Rattle.tt_infer.specs.declared.fact.Fact.TheVariants.{FirstRound, LateRound}
+use Rattle.tt_infer.specs.declared.limit.Limit.TheVariants.{LeastSlot, LeastFrame}
 use Rattle.decision_paths.specs.Turns.{Path, last_of}
 use Rattle.leaf_decisions.specs.declared.given.Given.{Given}
 use Rattle.leaf_decisions.specs.declared.uses.Uses.{Uses}
 use Rattle.leaf_decisions.specs.Given.{gives_least}
 use Rattle.leaf_decisions.specs.Uses.{IsMore}
-use Rattle.leaf_decisions.specs.Steps.{AreRoundsKnown, IsStepRead, TellsEach, TellsFact, TellsKeptOut, TellsLimit, is_behind, is_below}
+use Rattle.leaf_decisions.specs.Steps.{AreRoundsKnown, IsSourceRead, TellsEach, TellsFact, TellsKeptOut, TellsLimit, is_behind, is_below}
 use Rattle.leaf_decisions.proofs.Each.{Stays, told_of}
 use Rattle.leaf_decisions.proofs.Rounds.{later_is_known, is_not_earlier, earlier_is_known}
 use Rattle.leaf_decisions.proofs.Tells.{fact_more}
@@ -60,9 +60,9 @@ pub late_read : (path : Path) (given : Given) (uses : Uses) (m r : ℕ)
     → (m < length path.instance.messages → TellsFact path given uses (FirstRound m))
     → (m < length path.instance.messages → TellsEach (λ uses k. k ≢ m → TellsKeptOut path given uses r k)
     (messages_of path.instance (source_of path.instance m)) uses)
-    → IsStepRead path given uses (XLate m r)
+    → IsSourceRead path given uses (Earlier m r)
 late_read path given uses m r slot capacity first others = record {
-  facts = λ goal f known there fact reads. elim reads [
+  facts = λ f known there fact reads. elim reads [
     | inl own ↦ elim own [
       | inl is ↦ subst (TellsFact path given uses) (sym is) (first there)
       | inr is ↦ subst (TellsFact path given uses) (sym is) tt
@@ -73,5 +73,5 @@ late_read path given uses m r slot capacity first others = record {
         told_of (λ uses k. k ≢ m → TellsKeptOut path given uses r k) (is_message_of path.instance (source_of path.instance m))
         (length path.instance.messages) uses k (others there) some.1 picks some.2.0.other f known fact some.2.1
   ];
-  limits = λ goal f known there premise limit reads. elim reads [ inl is ↦ rw is (slot there) | inr is ↦ rw is (capacity there) ];
+  limits = λ f known there place limit reads. elim reads [ inl is ↦ rw is (slot there) | inr is ↦ rw is (capacity there) ];
 }

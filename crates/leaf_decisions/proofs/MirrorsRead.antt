@@ -1,7 +1,7 @@
 -- What is marked of a message that leads turned frames alone is what such a step uses.
 use Rattle.std.proofs.Common.{◌≡◌, ℕ, ◌<◌, ◌≤◌, ◌==◌, ◌⊎◌, length, true, arith, inl, inr, sym, subst}
 use Rattle.std.proofs.lemmas.Bool.{eq-eqb}
-use Rattle.ttp_model.specs.declared.step.Step.TheVariants.{XMirror}
+use Rattle.tt_infer.specs.Sources.{Lower}
 use Rattle.ttp_model.specs.Instance.{source_of}
 use Rattle.ttp_model.specs.Limits.{both_channels}
 use Rattle.ttp_model.specs.Network.{messages_of, is_message_of}
@@ -9,15 +9,15 @@ use Rattle.ttp_model.specs.Plans.{is_on}
 use Rattle.tt_choice.specs.Branches.{root_choice}
 use Rattle.tt_choice.specs.Decisions.{AreOpenDecisions}
 use Rattle.sought_plans.specs.Known.{Known, lo_of, top_of}
-use Rattle.step_reads.specs.Reads.{TellsApart}
-use Rattle.step_reads.specs.declared.fact.Fact.{Fact}
-use Rattle.step_reads.specs.declared.fact.Fact.TheVariants.{FirstRound, LateRound}
-use Rattle.step_reads.specs.declared.limit.Limit.TheVariants.{Copies}
+use Rattle.tt_infer.specs.Reads.{TellsApart}
+use Rattle.tt_infer.specs.declared.fact.Fact.{Fact}
+use Rattle.tt_infer.specs.declared.fact.Fact.TheVariants.{FirstRound, LateRound}
+use Rattle.tt_infer.specs.declared.limit.Limit.TheVariants.{Copies}
 use Rattle.decision_paths.specs.Turns.{Path, last_of, fixes_any}
 use Rattle.decision_paths.specs.Marks.{IsTold}
 use Rattle.leaf_decisions.specs.declared.given.Given.{Given}
 use Rattle.leaf_decisions.specs.declared.uses.Uses.{Uses}
-use Rattle.leaf_decisions.specs.Steps.{IsStepRead, TellsAside, TellsEach, TellsFact, TellsRoundsApart, decisions_of}
+use Rattle.leaf_decisions.specs.Steps.{IsSourceRead, TellsAside, TellsEach, TellsFact, TellsRoundsApart, decisions_of}
 use Rattle.leaf_decisions.proofs.Each.{Stays, told_of}
 use Rattle.leaf_decisions.proofs.OneChannel.{told_channel}
 use Rattle.leaf_decisions.proofs.Tells.{fact_more, limit_more}
@@ -55,10 +55,10 @@ module _ (path : Path) (given : Given) (uses : Uses) (m : ℕ) (are : AreOpenDec
       told_of (λ uses k. k < m → TellsAside path given uses m k) (is_message_of path.instance (source_of path.instance m))
       (length path.instance.messages) uses k (lower there) (omega (arith, below, there)) picks below
 
-  pub mirror_read : IsStepRead path given uses (XMirror m)
+  pub mirror_read : IsSourceRead path given uses (Lower m)
   mirror_read = record {
-    facts = λ goal f known there fact reads. (aside_of there reads.0 reads.1 reads.2.0).apart f known fact reads.2.1;
-    limits = λ goal f known there premise limit reads. elim reads [
+    facts = λ f known there fact reads. (aside_of there reads.0 reads.1 reads.2.0).apart f known fact reads.2.1;
+    limits = λ f known there place limit reads. elim reads [
       | inl of_own ↦ elim of_own [
         | inl is ↦ rw is (told_channel path.instance m there path.turns are uses.levels (λ (k : ℕ). k == both_channels) (own there))
         | inr is ↦ rw is (told_channel path.instance m there path.turns are uses.levels (is_on 1) (own there))

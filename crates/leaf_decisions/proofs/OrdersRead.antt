@@ -1,18 +1,18 @@
 -- What is marked of processes that wait for others is what such steps use.
 use Rattle.std.proofs.Common.{◌≡◌, ℕ, ◌+◌, ◌-◌, ◌<◌, List, length, slice_index, true, arith, inl, inr, sym, subst}
 use Rattle.std.proofs.lemmas.Bool.{eq-eqb}
-use Rattle.ttp_model.specs.declared.step.Step.TheVariants.{UsSettled, XCycle}
+use Rattle.tt_infer.specs.Sources.{Waits, Circle}
 use Rattle.ttp_model.specs.Instance.{node_of, source_of}
 use Rattle.ttp_model.specs.Network.{processes_on, received_by, is_on, is_received_by}
 use Rattle.sought_plans.specs.Dominance.{IsSentTo}
 use Rattle.sought_plans.proofs.Elsewhere.{among_received}
-use Rattle.step_reads.specs.declared.fact.Fact.TheVariants.{LateRound, Order}
-use Rattle.step_reads.specs.declared.limit.Limit.TheVariants.{GreatestSlot}
+use Rattle.tt_infer.specs.declared.fact.Fact.TheVariants.{LateRound, Order}
+use Rattle.tt_infer.specs.declared.limit.Limit.TheVariants.{GreatestSlot}
 use Rattle.decision_paths.specs.Turns.{Path}
 use Rattle.leaf_decisions.specs.declared.given.Given.{Given}
 use Rattle.leaf_decisions.specs.declared.uses.Uses.{Uses}
 use Rattle.leaf_decisions.specs.Uses.{IsMore}
-use Rattle.leaf_decisions.specs.Steps.{IsStepRead, TellsArrival, TellsEach, TellsFact, TellsPair, TellsRing, TellsRival}
+use Rattle.leaf_decisions.specs.Steps.{IsSourceRead, TellsArrival, TellsEach, TellsFact, TellsPair, TellsRing, TellsRival}
 use Rattle.leaf_decisions.proofs.Each.{Stays, told_of}
 use Rattle.leaf_decisions.proofs.Tells.{fact_more, limit_more}
 
@@ -34,9 +34,9 @@ pair_more path given old new p q more told row column never = fact_more path old
 
 pub settled_read : (path : Path) (given : Given) (uses : Uses) (p : ℕ)
     → (p < length path.instance.processes → TellsEach (λ uses x. TellsRival path given uses p x) (processes_on path.instance (node_of path.instance p)) uses)
-    → TellsEach (λ uses m. TellsArrival path given uses m) (received_by path.instance p) uses → IsStepRead path given uses (UsSettled p)
+    → TellsEach (λ uses m. TellsArrival path given uses m) (received_by path.instance p) uses → IsSourceRead path given uses (Waits p)
 settled_read path given uses p rivals arrivals = record {
-  facts = λ goal f known there fact reads. elim reads [
+  facts = λ f known there fact reads. elim reads [
     | inl some ↦
         let x = some.0 in
         let picks : is_on path.instance (node_of path.instance p) x ≡ true = eq-eqb (node_of path.instance x) (node_of path.instance p) some.2.0.one_node in
@@ -48,7 +48,7 @@ settled_read path given uses p rivals arrivals = record {
         ]
     | inr some ↦ subst (TellsFact path given uses) (sym some.2.1) (arrival_of some.0 some.2.0).late
   ];
-  limits = λ goal f known there premise limit reads. rw reads.2 (arrival_of reads.0 reads.1).slot;
+  limits = λ f known there place limit reads. rw reads.2 (arrival_of reads.0 reads.1).slot;
 }
   where
     arrival_of : (m : ℕ) → IsSentTo path.instance p m → TellsArrival path given uses m
@@ -56,9 +56,9 @@ settled_read path given uses p rivals arrivals = record {
         told_of (λ uses m. TellsArrival path given uses m) (is_received_by path.instance p) (length path.instance.messages) uses m arrivals sent.0
         (among_received path.instance p m sent.0 sent)
 
-pub ring_read : (path : Path) (given : Given) (uses : Uses) (ring : List ℕ) → TellsRing path given uses ring → IsStepRead path given uses (XCycle ring)
+pub ring_read : (path : Path) (given : Given) (uses : Uses) (ring : List ℕ) → TellsRing path given uses ring → IsSourceRead path given uses (Circle ring)
 ring_read path given uses ring told = record {
-  facts = λ goal f known there fact reads.
+  facts = λ f known there fact reads.
       let is_process = there.1 in
       elim reads.neighbours [
         | inl next ↦
@@ -71,5 +71,5 @@ ring_read path given uses ring told = record {
             let first = is_process 0 (omega (arith, there.0)) in
             subst (TellsFact path given uses) (sym reads.order) (rw (around.0, around.1) at (told.around last first (rw (around.0, around.1) reads.no_lead)))
       ];
-  limits = λ goal f known there premise limit reads. absurd reads;
+  limits = λ f known there place limit reads. absurd reads;
 }

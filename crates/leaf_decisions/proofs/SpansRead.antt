@@ -1,22 +1,22 @@
 -- What is marked of messages that count in some rounds is what such steps use.
 use Rattle.std.proofs.Common.{◌≡◌, ℕ, ◌<◌, ◌≤◌, ◌==◌, ◌&&◌, nat_le, length, true, IsTrue, inl, inr, sym, subst, leb-true}
 use Rattle.std.proofs.lemmas.Bool.{and_parts}
-use Rattle.ttp_model.specs.declared.step.Step.TheVariants.{XFrames, XChannel}
+use Rattle.tt_infer.specs.Sources.{Frames, Halves}
 use Rattle.ttp_model.specs.Instance.{Instance, source_of}
 use Rattle.ttp_model.specs.Network.{messages_of, is_message_of}
 use Rattle.tt_choice.specs.Kept.{fixes_below}
 use Rattle.sought_plans.specs.Known.{Known, lo_of, top_of}
 use Rattle.sought_plans.specs.Premises.{counts_on, sent_within}
-use Rattle.step_reads.specs.declared.fact.Fact.{Fact}
-use Rattle.step_reads.specs.declared.fact.Fact.TheVariants.{FirstRound, LateRound}
-use Rattle.step_reads.specs.declared.limit.Limit.TheVariants.{Copies, Counted}
-use Rattle.step_reads.specs.Reads.{BoundsSending}
+use Rattle.tt_infer.specs.declared.fact.Fact.{Fact}
+use Rattle.tt_infer.specs.declared.fact.Fact.TheVariants.{FirstRound, LateRound}
+use Rattle.tt_infer.specs.declared.limit.Limit.TheVariants.{Copies, Counted}
+use Rattle.tt_infer.specs.Reads.{BoundsSending}
 use Rattle.decision_paths.specs.Turns.{Path, last_of}
 use Rattle.decision_paths.specs.Marks.{IsTold}
 use Rattle.leaf_decisions.specs.declared.given.Given.{Given}
 use Rattle.leaf_decisions.specs.declared.uses.Uses.{Uses}
 use Rattle.leaf_decisions.specs.Uses.{IsMore}
-use Rattle.leaf_decisions.specs.Steps.{IsSentWithin, IsStepRead, TellsEach, TellsFact, TellsFrame, TellsHalf, TellsSending, choice_of}
+use Rattle.leaf_decisions.specs.Steps.{IsSentWithin, IsSourceRead, TellsEach, TellsFact, TellsFrame, TellsHalf, TellsSending, choice_of}
 use Rattle.leaf_decisions.proofs.Each.{Stays, told_of}
 use Rattle.leaf_decisions.proofs.Tells.{fact_more, limit_more}
 
@@ -54,15 +54,15 @@ bounds_told path given uses a m fact told bounds = elim bounds [
 
 pub frames_read : (path : Path) (given : Given) (uses : Uses) (n a b : ℕ)
     → (n < length path.instance.nodes → IsTold uses.levels (last_of (fixes_below path.instance n) path.turns))
-    → TellsEach (λ uses m. TellsFrame path given uses a b m) (messages_of path.instance n) uses → IsStepRead path given uses (XFrames n a b)
+    → TellsEach (λ uses m. TellsFrame path given uses a b m) (messages_of path.instance n) uses → IsSourceRead path given uses (Frames n a b)
 frames_read path given uses n a b node each = record {
-  facts = λ goal f known there fact reads.
+  facts = λ f known there fact reads.
       let m = reads.0 in
       let within = within_is path.instance f n a b m reads.2.0 in
       let frame = told_of (λ uses m. TellsFrame path given uses a b m) (is_message_of path.instance n) (length path.instance.messages) uses m each
       reads.1 within.0 in
       bounds_told path given uses a m fact (frame.sending f known within.1) reads.2.1;
-  limits = λ goal f known there premise limit reads. elim reads [
+  limits = λ f known there place limit reads. elim reads [
     | inl is ↦ rw is (node there)
     | inr some ↦
         let m = some.0 in
@@ -75,24 +75,24 @@ frames_read path given uses n a b node each = record {
 
 pub halves_read : (path : Path) (given : Given) (uses : Uses) (k n a b : ℕ)
     → (n < length path.instance.nodes → IsTold uses.levels (last_of (fixes_below path.instance n) path.turns))
-    → (2 ≤ path.instance.cluster.channels → TellsEach (λ uses m. TellsHalf path given uses k a b m) (messages_of path.instance n) uses) → IsStepRead
-    path given uses (XChannel k n a b)
+    → (2 ≤ path.instance.cluster.channels → TellsEach (λ uses m. TellsHalf path given uses k a b m) (messages_of path.instance n) uses) → IsSourceRead
+    path given uses (Halves k n a b)
 halves_read path given uses k n a b node each = record {
-  facts = λ goal f known there fact reads.
+  facts = λ f known there fact reads.
       let m = reads.0 in
       let counts = and_parts (counts_on (choice_of path) k m) (sent_within path.instance f n a b m) reads.2.0 in
       let within = within_is path.instance f n a b m counts.1 in
       let half = told_of (λ uses m. TellsHalf path given uses k a b m) (is_message_of path.instance n) (length path.instance.messages) uses m
-      (each there.1.0) reads.1 within.0 in
+      (each there.1) reads.1 within.0 in
       bounds_told path given uses a m fact (half.sending f known counts.0 within.1) reads.2.1;
-  limits = λ goal f known there premise limit reads. elim reads [
+  limits = λ f known there place limit reads. elim reads [
     | inl is ↦ rw is (node there.0)
     | inr some ↦
         let m = some.0 in
         let counts = and_parts (counts_on (choice_of path) k m) (sent_within path.instance f n a b m) some.2 in
         let within = within_is path.instance f n a b m counts.1 in
         let half = told_of (λ uses m. TellsHalf path given uses k a b m) (is_message_of path.instance n) (length path.instance.messages) uses m
-        (each there.1.0) some.1 within.0 in
+        (each there.1) some.1 within.0 in
         rw some.3 (half.counted f known counts.0 within.1)
   ];
 }

@@ -6,10 +6,10 @@ use Rattle.std.proofs.lemmas.Bool.{cases_lt, cases_Bool, false≢true}
 use Rattle.std.proofs.lemmas.List.{length-map}
 use Rattle.ttp_model.specs.declared.step.Step.{Step}
 use Rattle.tt_choice.specs.Extremes.{place_of}
-use Rattle.step_reads.specs.declared.fact.Fact.{Fact}
-use Rattle.step_reads.specs.declared.fact.Fact.TheVariants.{Start, End, FirstRound, LateRound, Order, Closed}
-use Rattle.step_reads.specs.declared.limit.Limit.{Limit}
-use Rattle.step_reads.specs.declared.limit.Limit.TheVariants.{Goal, LeastSlot, GreatestSlot, LeastFrame, GreatestFrame, Place, Copies, Counted}
+use Rattle.tt_infer.specs.declared.fact.Fact.{Fact}
+use Rattle.tt_infer.specs.declared.fact.Fact.TheVariants.{Start, End, FirstRound, LateRound, Order, Closed}
+use Rattle.tt_infer.specs.declared.limit.Limit.{Limit}
+use Rattle.tt_infer.specs.declared.limit.Limit.TheVariants.{Goal, LeastSlot, GreatestSlot, LeastFrame, GreatestFrame, Place, Copies, Counted}
 use Rattle.decision_paths.specs.declared.turn.Turn.{Turn}
 use Rattle.decision_paths.specs.declared.turn.Placed.{Placed}
 use Rattle.decision_paths.specs.Turns.{Path, nodes_of, placed_of}

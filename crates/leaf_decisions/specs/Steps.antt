@@ -16,12 +16,13 @@ use Rattle.tt_choice.specs.Kept.{sets_least, sets_greatest, sets_order, fixes_ab
 use Rattle.sought_plans.specs.Known.{Known, lo_of, top_of, first_facts}
 use Rattle.sought_plans.specs.Premises.{counts_on}
 use Rattle.tt_infer.specs.Table.{rule}
-use Rattle.step_reads.specs.Reads.{AgreeOn, ReadsFact, ReadsLimit, KeepsOut, TellsApart}
+use Rattle.tt_infer.specs.Reads.{AgreeOn, HasItsPlace, IsFactOf, IsLimitOf, IsSourceThere, ReadsFact, ReadsLimit, KeepsOut, TellsApart}
+use Rattle.tt_infer.specs.Sources.{Source}
 use Rattle.step_reads.specs.Shared.{IsWritten}
-use Rattle.step_reads.specs.declared.fact.Fact.{Fact}
-use Rattle.step_reads.specs.declared.fact.Fact.TheVariants.{Start, End, FirstRound, LateRound, Order, Closed}
-use Rattle.step_reads.specs.declared.limit.Limit.{Limit}
-use Rattle.step_reads.specs.declared.limit.Limit.TheVariants.{Goal, LeastSlot, GreatestSlot, LeastFrame, GreatestFrame, Place, Copies, Counted}
+use Rattle.tt_infer.specs.declared.fact.Fact.{Fact}
+use Rattle.tt_infer.specs.declared.fact.Fact.TheVariants.{Start, End, FirstRound, LateRound, Order, Closed}
+use Rattle.tt_infer.specs.declared.limit.Limit.{Limit}
+use Rattle.tt_infer.specs.declared.limit.Limit.TheVariants.{Goal, LeastSlot, GreatestSlot, LeastFrame, GreatestFrame, Place, Copies, Counted}
 use Rattle.decision_paths.specs.declared.turn.Turn.{Turn}
 use Rattle.decision_paths.specs.Turns.{Path, last_of, round_of, channel_of, placed_of, nodes_of}
 use Rattle.decision_paths.specs.Marks.{IsTold}
@@ -82,6 +83,13 @@ TellsLimit path uses (Counted m k) = IsTold uses.levels (last_of (fixes_channel 
 pub record AreRoundsKnown (path : Path) (given : Given) (f : Known) : Type 0 where
   pub least : (m : ℕ) → m < length path.instance.messages → IsTrue (gives_least given m) ⊎ (lo_of f m ≡ least_round (choice_of path) m)
   pub greatest : (m : ℕ) → m < length path.instance.messages → IsTrue (gives_greatest given m) ⊎ (top_of f m ≡ greatest_round (choice_of path) m + 1)
+
+-- all is marked that a source uses, whatever is known
+pub record IsSourceRead (path : Path) (given : Given) (uses : Uses) (source : Source) : Type 0 where
+  pub facts : (f : Known) → AreRoundsKnown path given f → IsSourceThere path.instance source
+      → (fact : Fact) → IsFactOf path.instance (choice_of path) f source fact → TellsFact path given uses fact
+  pub limits : (f : Known) → AreRoundsKnown path given f → IsSourceThere path.instance source → HasItsPlace (choice_of path) source
+      → (limit : Limit) → IsLimitOf path.instance (choice_of path) f source limit → TellsLimit path uses limit
 
 -- all is marked that a step uses, whatever is known before it
 pub record IsStepRead (path : Path) (given : Given) (uses : Uses) (step : Step) : Type 0 where

@@ -10,7 +10,7 @@ ghost use Rattle.leaf_decisions.specs.Steps.{HasFlags, IsGivenBy};
 
 use crate::flags::Flags;
 use std::alloc::Global;
-use step_reads::Fact;
+use tt_infer::Fact;
 use ttp_model::{Instance, MemoryFault};
 
 /// What steps of the leaf that is read gave, which a branch above it needn't give then.

@@ -2,12 +2,12 @@
 
 ghost use Rattle.std.specs.Prelude.{◌≡◌, ◌<◌, ◌≤◌, ◌⊎◌, length, IsTrue};
 ghost use Rattle.ttp_model.specs.Network.{messages_of};
-ghost use Rattle.ttp_model.specs.declared.step.Step.TheVariants.{XMirror};
+ghost use Rattle.tt_infer.specs.Sources.{Lower};
 ghost use Rattle.tt_choice.specs.Kept.{sets_least};
 ghost use Rattle.sought_plans.specs.Known.{Known, lo_of, top_of};
 ghost use Rattle.decision_paths.specs.Turns.{last_of};
 ghost use Rattle.leaf_decisions.specs.Uses.{IsMore};
-ghost use Rattle.leaf_decisions.specs.Steps.{IsReadOf, IsStepRead, AreRoundsKnown, TellsAside, TellsEach, TellsRoundsApart, round_said};
+ghost use Rattle.leaf_decisions.specs.Steps.{IsReadOf, IsSourceRead, AreRoundsKnown, TellsAside, TellsEach, TellsRoundsApart, round_said};
 
 use crate::given::Given;
 use crate::parts::{channel, rounds, source};
@@ -116,7 +116,7 @@ fn each_lower(given: &Given, path: &Path, m: u32, n: u32, uses: &mut Uses)
 /// That a message is on channel 1, and that no lower one of its node may lead its frame.
 pub fn mirror(given: &Given, path: &Path, m: u32, uses: &mut Uses)
     ensures more { IsMore uses.old uses.new }
-    ensures told { IsReadOf path.now uses.old → IsStepRead path.now given.now uses.new (XMirror m) }
+    ensures told { IsReadOf path.now uses.old → IsSourceRead path.now given.now uses.new (Lower m) }
 {
     let n = source(path.instance(), m);
     channel(path, m, uses);

@@ -3,9 +3,9 @@
 ghost use Rattle.std.specs.Prelude.{◌≡◌, ℕ, ◌+◌, ◌-◌, ◌<◌, ◌≤◌, length, slice_index};
 ghost use Rattle.ttp_model.specs.Instance.{node_of};
 ghost use Rattle.ttp_model.specs.Network.{processes_on, received_by};
-ghost use Rattle.ttp_model.specs.declared.step.Step.TheVariants.{UsSettled};
+ghost use Rattle.tt_infer.specs.Sources.{Waits};
 ghost use Rattle.leaf_decisions.specs.Uses.{IsMore};
-ghost use Rattle.leaf_decisions.specs.Steps.{IsReadOf, IsStepRead, TellsArrival, TellsEach, TellsPair, TellsRing, TellsRival};
+ghost use Rattle.leaf_decisions.specs.Steps.{IsReadOf, IsSourceRead, TellsArrival, TellsEach, TellsPair, TellsRing, TellsRival};
 
 use crate::given::Given;
 use crate::parts::{greatest, greatest_slot, order};
@@ -82,7 +82,7 @@ fn arrivals(given: &Given, path: &Path, p: u32, uses: &mut Uses)
 /// What a process may have to wait for.
 pub fn settled(given: &Given, path: &Path, p: u32, uses: &mut Uses)
     ensures more { IsMore uses.old uses.new }
-    ensures told { IsReadOf path.now uses.old → IsStepRead path.now given.now uses.new (UsSettled p) }
+    ensures told { IsReadOf path.now uses.old → IsSourceRead path.now given.now uses.new (Waits p) }
 {
     let n = node(path.instance(), p);
     rivals(given, path, p, n, uses);

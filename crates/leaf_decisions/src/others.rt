@@ -2,12 +2,12 @@
 
 ghost use Rattle.std.specs.Prelude.{◌≡◌, ◌≢◌, ◌<◌, ◌⊎◌, length, IsTrue, IsFalse};
 ghost use Rattle.ttp_model.specs.Network.{messages_of};
-ghost use Rattle.ttp_model.specs.declared.step.Step.TheVariants.{XLate};
+ghost use Rattle.tt_infer.specs.Sources.{Earlier};
 ghost use Rattle.tt_choice.specs.Kept.{sets_least};
 ghost use Rattle.decision_paths.specs.Turns.{last_of};
 ghost use Rattle.leaf_decisions.specs.Given.{gives_least};
 ghost use Rattle.leaf_decisions.specs.Uses.{IsMore};
-ghost use Rattle.leaf_decisions.specs.Steps.{IsReadOf, IsStepRead, TellsKeptOut, TellsEach, is_behind};
+ghost use Rattle.leaf_decisions.specs.Steps.{IsReadOf, IsSourceRead, TellsKeptOut, TellsEach, is_behind};
 
 use crate::given::Given;
 use crate::parts::{greatest, least, least_frame, least_slot, source};
@@ -81,7 +81,7 @@ fn others(given: &Given, path: &Path, m: u32, n: u32, r: u32, uses: &mut Uses)
 /// What shows that a message could be sent in round `r`, which is an earlier one.
 pub fn late(given: &Given, path: &Path, m: u32, r: u32, uses: &mut Uses)
     ensures more { IsMore uses.old uses.new }
-    ensures told { IsReadOf path.now uses.old → IsStepRead path.now given.now uses.new (XLate m r) }
+    ensures told { IsReadOf path.now uses.old → IsSourceRead path.now given.now uses.new (Earlier m r) }
 {
     let n = source(path.instance(), m);
     least_slot(path, m, uses);

@@ -2,8 +2,8 @@
 
 ghost use Rattle.std.specs.Prelude.{◌≡◌, ◌<◌, length};
 ghost use Rattle.ttp_model.specs.Instance.{source_of};
-ghost use Rattle.step_reads.specs.declared.fact.Fact.TheVariants.{FirstRound, LateRound, Order};
-ghost use Rattle.step_reads.specs.declared.limit.Limit.TheVariants.{LeastSlot, GreatestSlot, LeastFrame, GreatestFrame};
+ghost use Rattle.tt_infer.specs.declared.fact.Fact.TheVariants.{FirstRound, LateRound, Order};
+ghost use Rattle.tt_infer.specs.declared.limit.Limit.TheVariants.{LeastSlot, GreatestSlot, LeastFrame};
 ghost use Rattle.decision_paths.specs.Turns.{last_of, fixes_any};
 ghost use Rattle.decision_paths.specs.Marks.{IsTold};
 ghost use Rattle.leaf_decisions.specs.Uses.{IsMore};
@@ -102,16 +102,6 @@ pub fn least_frame(path: &Path, m: u32, uses: &mut Uses)
 {
     let n = source(path.instance(), m);
     uses.branch(path.above_least(n));
-}
-
-/// Its greatest capacity.
-pub fn greatest_frame(path: &Path, m: u32, uses: &mut Uses)
-    ensures more { IsMore uses.old uses.new }
-    ensures told { IsReadOf path.now uses.old → m < length path.now.instance.messages
-        → TellsLimit path.now uses.new (GreatestFrame (source_of path.now.instance m)) }
-{
-    let n = source(path.instance(), m);
-    uses.branch(path.below_most(n));
 }
 
 /// The channel of a message.

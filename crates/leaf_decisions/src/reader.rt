@@ -19,7 +19,7 @@ use crate::uses::Uses;
 use decision_paths::{Levels, Path};
 use std::alloc::Global;
 use std::marker::Model;
-use step_reads::target;
+use tt_infer::target;
 use ttp_model::{Instance, Leaf, MemoryFault, Step};
 
 /// Reads leaves of an instance one after another. What an earlier step of a leaf gave isn't used of a branch: a leaf that was

@@ -4,15 +4,15 @@ ghost use Rattle.std.specs.Prelude.{◌≡◌, ℕ, ◌<◌, ◌≤◌, ◌==◌
 ghost use Rattle.ttp_model.specs.Instance.{message_at};
 ghost use Rattle.ttp_model.specs.Limits.{both_channels};
 ghost use Rattle.ttp_model.specs.Network.{messages_of};
-ghost use Rattle.ttp_model.specs.declared.step.Step.TheVariants.{XFrames, XChannel};
+ghost use Rattle.tt_infer.specs.Sources.{Frames, Halves};
 ghost use Rattle.tt_choice.specs.Kept.{sets_least, sets_greatest};
 ghost use Rattle.sought_plans.specs.Known.{Known, lo_of, top_of};
 ghost use Rattle.sought_plans.specs.Premises.{counts_on};
-ghost use Rattle.step_reads.specs.declared.fact.Fact.TheVariants.{FirstRound};
-ghost use Rattle.step_reads.specs.declared.limit.Limit.TheVariants.{Copies};
+ghost use Rattle.tt_infer.specs.declared.fact.Fact.TheVariants.{FirstRound};
+ghost use Rattle.tt_infer.specs.declared.limit.Limit.TheVariants.{Copies};
 ghost use Rattle.decision_paths.specs.Turns.{last_of, fixes_any};
 ghost use Rattle.leaf_decisions.specs.Uses.{IsMore};
-ghost use Rattle.leaf_decisions.specs.Steps.{IsReadOf, IsStepRead, IsSentWithin, AreRoundsKnown, TellsFact, TellsSending, TellsFrame, TellsHalf, TellsEach, TellsLimit, choice_of, is_below, is_from, fixes_so};
+ghost use Rattle.leaf_decisions.specs.Steps.{IsReadOf, IsSourceRead, IsSentWithin, AreRoundsKnown, TellsFact, TellsSending, TellsFrame, TellsHalf, TellsEach, TellsLimit, choice_of, is_below, is_from, fixes_so};
 
 use crate::given::Given;
 use crate::parts::{channel, greatest, least};
@@ -162,7 +162,7 @@ fn each_frame(given: &Given, path: &Path, n: u32, a: u32, b: u32, uses: &mut Use
 /// That a node's messages of some rounds are too many for its frames.
 pub fn frames(given: &Given, path: &Path, n: u32, a: u32, b: u32, uses: &mut Uses)
     ensures more { IsMore uses.old uses.new }
-    ensures told { IsReadOf path.now uses.old → IsStepRead path.now given.now uses.new (XFrames n a b) }
+    ensures told { IsReadOf path.now uses.old → IsSourceRead path.now given.now uses.new (Frames n a b) }
 {
     uses.branch(path.below_most(n));
     each_frame(given, path, n, a, b, uses);
@@ -216,7 +216,7 @@ fn each_half(given: &Given, path: &Path, k: u32, n: u32, a: u32, b: u32, uses: &
 /// That those of them that are on channel `k` are too many for it.
 pub fn halves(given: &Given, path: &Path, k: u32, n: u32, a: u32, b: u32, uses: &mut Uses)
     ensures more { IsMore uses.old uses.new }
-    ensures told { IsReadOf path.now uses.old → IsStepRead path.now given.now uses.new (XChannel k n a b) }
+    ensures told { IsReadOf path.now uses.old → IsSourceRead path.now given.now uses.new (Halves k n a b) }
 {
     uses.branch(path.below_most(n));
     each_half(given, path, k, n, a, b, uses);

@@ -6,8 +6,7 @@ ghost use Rattle.ttp_model.specs.Totals.{total};
 ghost use Rattle.sought_plans.specs.Premises.{load_within};
 
 use load_bounds::node_load;
-use step_reads::{Fact, target};
-use tt_infer::Facts;
+use tt_infer::{Fact, Facts, target};
 use ttp_model::{Instance, Step};
 
 /// An interval that the node's processes just fill is never told as too short for them.

@@ -11,8 +11,8 @@ use crate::homes::{home, source};
 use crate::moment::Moment;
 use crate::needs::Needs;
 use crate::starts::{ask_arrival, ask_end, ask_first_end, ask_passage, ask_ready};
-use step_reads::{Fact, add_reads, link_after, link_before};
-use tt_infer::Facts;
+use step_reads::add_reads;
+use tt_infer::{Fact, Facts, link_after, link_before};
 use ttp_model::{Instance, MemoryFault, Step};
 
 /// Asks for what a step reads: so sharp that it can be taken, and that it says of its own fact what is needed.

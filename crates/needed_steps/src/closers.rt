@@ -5,8 +5,7 @@ ghost use Rattle.std.specs.Prelude.{◌<◌, length};
 use crate::moment::Moment;
 use crate::needs::Needs;
 use crate::slots::{begin_least, copy_out};
-use step_reads::sender;
-use tt_infer::Facts;
+use tt_infer::{Facts, sender};
 use ttp_model::{BOTH_CHANNELS, Instance, is_on};
 
 /// Asks that process `p` has to end before `q` can have started and both have run, or `p` alone where it is `q`.

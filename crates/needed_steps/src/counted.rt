@@ -1,8 +1,7 @@
 //! Which facts count, beside those that a step reads, as what it rests on?
 
 use crate::closers::bytes_counted;
-use step_reads::{Fact, sender};
-use tt_infer::Facts;
+use tt_infer::{Fact, Facts, sender};
 use ttp_model::{Instance, MemoryFault};
 
 /// Adds both rounds of message `m`.

@@ -8,8 +8,7 @@ use crate::needs::Needs;
 use crate::values::Values;
 use crate::weights::Weights;
 use std::alloc::Global;
-use step_reads::{Fact, target};
-use tt_infer::Facts;
+use tt_infer::{Fact, Facts, target};
 use ttp_model::{Instance, MemoryFault, Step};
 
 /// Steps each of which sharpened its fact, how far that was known before it, and what is known after them.

@@ -2,8 +2,8 @@
 
 use crate::asking::add_counted;
 use std::alloc::Global;
-use step_reads::{Fact, FactSet, target};
-use tt_infer::Facts;
+use step_reads::FactSet;
+use tt_infer::{Fact, Facts, target};
 use ttp_model::{Instance, MemoryFault, Step};
 
 /// Steps one after another, of which some are marked.

@@ -3,7 +3,7 @@
 use crate::order_set::OrderSet;
 use crate::values::Values;
 use std::alloc::Global;
-use step_reads::Fact;
+use tt_infer::Fact;
 use ttp_model::{Instance, MemoryFault};
 
 /// How sharp facts have to be, so that steps say enough which were looked at.

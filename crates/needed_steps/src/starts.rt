@@ -3,7 +3,7 @@
 use crate::moment::Moment;
 use crate::needs::Needs;
 use crate::slots::{begin_most, copy_out, least_passage, round_arriving};
-use step_reads::sender;
+use tt_infer::sender;
 
 /// Asks that a process doesn't end before a time.
 pub fn ask_end(needs: &mut Needs, moment: &Moment, p: u32, time: u64) {

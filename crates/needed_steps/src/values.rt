@@ -1,8 +1,7 @@
 //! How far is what known of each process and message?
 
 use std::alloc::Global;
-use step_reads::Fact;
-use tt_infer::Facts;
+use tt_infer::{Fact, Facts};
 use ttp_model::{Instance, MemoryFault};
 
 /// No list has this place.

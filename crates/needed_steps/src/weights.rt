@@ -3,8 +3,7 @@
 use crate::asking::add_counted;
 use crate::values::Values;
 use std::alloc::Global;
-use step_reads::{Fact, target};
-use tt_infer::Facts;
+use tt_infer::{Fact, Facts, target};
 use ttp_model::{Instance, MemoryFault, Step};
 
 /// By fact, how many steps of a log it rests on: a step that several others read counts once for each. Of what no step has sharpened

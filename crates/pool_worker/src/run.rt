@@ -23,7 +23,7 @@ use certificate::{Branch, Node};
 use incumbent::{Incumbent, Watch};
 use std::alloc::Global;
 use steal_pool::{Hand, Searched};
-use tt_choice::Decision;
+use tt_choice::{Decision, is_of_places};
 use ttp_model::{Instance, Kind, MemoryFault, Plan};
 use used_decisions::{Manner, Needs};
 
@@ -63,9 +63,8 @@ fn in_turn(kind: Kind, tasks: Vec<Task>) -> Vec<Task>
     ensures { IsPermutation tasks.items result.items }
 {
     let mut tasks = tasks;
-    match kind {
-        Kind::Place => tasks.reverse(),
-        Kind::Cap(_) | Kind::Pair(_, _) | Kind::Round(_, _) | Kind::Chan(_) => {}
+    if is_of_places(kind) {
+        tasks.reverse();
     }
     tasks
 }

@@ -10,9 +10,8 @@ use load_bounds::{frame_load, node_load};
 use std::alloc::Global;
 use std::collections::VecDeque;
 use std::mem;
-use step_reads::Fact;
 use tt_choice::Decision;
-use tt_infer::Facts;
+use tt_infer::{Fact, Facts};
 use ttp_model::{Instance, MOST_NODES, MOST_PROCESSES, MemoryFault, Step, has_link};
 
 /// After so many facts for each process and message rings are looked for again: a guess.

@@ -2,8 +2,7 @@
 
 ghost use Rattle.std.specs.Prelude.{◌<◌, ◌^◌, length};
 
-use step_reads::Fact;
-use tt_infer::Facts;
+use tt_infer::{Fact, Facts};
 use ttp_model::{Instance, MemoryFault, Step};
 
 /// Adds the steps that read a fact, the one to be tried first last. Those that plainly say nothing new are left out.

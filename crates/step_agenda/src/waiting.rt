@@ -1,7 +1,7 @@
 //! Which facts wait?
 
 use std::alloc::Global;
-use step_reads::Fact;
+use tt_infer::Fact;
 use ttp_model::{Instance, MemoryFault};
 
 /// No list has this place.

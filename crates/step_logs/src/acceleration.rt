@@ -5,9 +5,8 @@ ghost use Rattle.step_logs.specs.Journal.{Advances};
 use crate::journal::Journal;
 use std::alloc::Global;
 use step_agenda::{Agenda, add_slot_steps, opening_steps};
-use step_reads::target;
 use tt_choice::Decision;
-use tt_infer::Facts;
+use tt_infer::{Facts, target};
 use ttp_model::{MemoryFault, Step};
 
 /// More turns than there can be steps.

@@ -12,9 +12,9 @@ ghost use Rattle.step_logs.specs.Journal.{Advances, Sharpens, SharpensNothing, s
 use crate::copies::{push_copies, push_copy};
 use std::alloc::Global;
 use std::marker::Model;
-use step_reads::{target, value};
+use step_reads::value;
 use tt_choice::{Choice, Decision};
-use tt_infer::Facts;
+use tt_infer::{Facts, target};
 use ttp_model::{Instance, MemoryFault, Step};
 
 /// What is known of the plans that are sought, with a log of the steps that sharpened it.

@@ -5,8 +5,8 @@ use Rattle.std.proofs.lemmas.List.Elements.{All-get_or, Contains-append_left, Co
 use Rattle.std.proofs.lemmas.Bool.{cases_eq}
 use Rattle.ttp_model.specs.Network.{indices}
 use Rattle.ttp_model.proofs.Indices.{in_indices, indices_inside}
-use Rattle.step_reads.specs.declared.fact.Fact.{Fact}
-use Rattle.step_reads.specs.Reads.{OfSome}
+use Rattle.tt_infer.specs.declared.fact.Fact.{Fact}
+use Rattle.tt_infer.specs.Reads.{OfSome}
 use Rattle.step_reads.specs.Added.{AddsFacts}
 
 pub adds_none : (Are : Fact → Type 0) (facts : List Fact) → ((fact : Fact) → ¬ Are fact) → AddsFacts Are facts facts

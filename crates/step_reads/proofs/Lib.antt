@@ -1,5 +1,4 @@
 pub mod OfItsNode
 pub mod Targets
 pub mod AddedFacts
-pub mod alike
 pub mod shared

@@ -9,7 +9,7 @@ use Rattle.sought_plans.specs.Known.{Known, es_of, le_of, lo_of, top_of}
 use Rattle.sought_plans.specs.Premises.{counts_on, sent_within}
 use Rattle.sought_plans.proofs.Elsewhere.{among_received}
 use Rattle.step_reads.specs.Added.{BoundsCounted, BoundsRunWithin, BoundsSendingWithin, KeepsOtherOut, TellsArrival, TellsRivalWait}
-use Rattle.step_reads.specs.declared.fact.Fact.{Fact}
+use Rattle.tt_infer.specs.declared.fact.Fact.{Fact}
 
 test_of_same : (a b : ℕ) → a ≡ b → (a == b) ≡ true
 test_of_same a b same = elim (eqb_tells a b) [ inl is ↦ is.0 | inr other ↦ absurd (other.1 same) ]

@@ -1,23 +1,12 @@
--- What a step concludes is about its target; and a conclusion that leaves the value of its fact leaves all that is known.
+-- A conclusion that leaves the value of its fact leaves all that is known.
 use Rattle.std.proofs.Common.{◌≡◌, ℕ, ◌<◌, List, length, slice_index, slice_set, Bool, true, false, if◌then◌else◌, arith, refl, ap, sym, ◌∙◌, get_or-set_same}
 use Rattle.std.proofs.lemmas.List.{set-get_or}
-use Rattle.ttp_model.specs.declared.step.Step.{Step}
-use Rattle.ttp_model.specs.declared.step.Step.TheVariants.{LoSend, HiArrive, UsSettled}
 use Rattle.ttp_model.specs.Instance.{Instance}
-use Rattle.tt_choice.specs.Choice.{Choice}
 use Rattle.tt_choice.specs.Precedence.{place_in, put_before}
 use Rattle.tt_choice.proofs.Before.{put_same, test_of}
 use Rattle.sought_plans.specs.Known.{Known, Fits, bef_of}
 use Rattle.sought_plans.specs.Conclusions.{Conclusion, StartsFrom, EndsUntil, SentFrom, SentBefore, GoesFirst, NothingLeft, IsAbout, sharpened}
-use Rattle.tt_infer.specs.Table.{rule}
-use Rattle.step_reads.specs.Targets.{fact_of, target, known_value}
-
--- what a step concludes is about its target
-pub target_is : (i : Instance) (c : Choice) (goal : ℕ) (f : Known) (step : Step) (k : Conclusion) → (rule i c goal f step).concludes k → fact_of k ≡ target i step
-target_is i c goal f (LoSend m) k is = ap fact_of is.2
-target_is i c goal f (HiArrive m q) k is = ap fact_of is.2
-target_is i c goal f (UsSettled p) k is = ap fact_of is.2
-target_is i c goal f step k is = ap fact_of is
+use Rattle.step_reads.specs.Targets.{fact_of, known_value}
 
 -- a test that counts as 1 holds
 counts : (b : Bool) → ◌≡◌ {A = ℕ} 1 (if b then 1 else 0) → b ≡ true

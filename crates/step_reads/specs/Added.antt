@@ -6,9 +6,9 @@ use Rattle.tt_choice.specs.Choice.{Choice}
 use Rattle.sought_plans.specs.Known.{Known}
 use Rattle.sought_plans.specs.Premises.{runs_within, sent_within}
 use Rattle.sought_plans.specs.Dominance.{IsSentTo}
-use Rattle.step_reads.specs.Reads.{BoundsRun, BoundsSending, counted_within, IsRival, TellsWait, IsOtherOf, KeepsOut, TellsApart}
-use Rattle.step_reads.specs.declared.fact.Fact.{Fact}
-use Rattle.step_reads.specs.declared.fact.Fact.TheVariants.{LateRound, Order}
+use Rattle.tt_infer.specs.Reads.{BoundsRun, BoundsSending, counted_within, IsRival, TellsWait, IsOtherOf, KeepsOut, TellsApart}
+use Rattle.tt_infer.specs.declared.fact.Fact.{Fact}
+use Rattle.tt_infer.specs.declared.fact.Fact.TheVariants.{LateRound, Order}
 
 -- just these facts were added to a list
 pub record AddsFacts (Are : Fact → Type 0) (old new : List Fact) : Type 0 where

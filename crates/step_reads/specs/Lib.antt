@@ -1,5 +1,4 @@
 pub mod Targets
-pub mod Reads
 pub mod Added
 pub mod Shared
 pub mod Uses
@@ -9,3 +8,4 @@ pub use Rattle.tt_choice.specs.Choice
 pub use Rattle.sought_plans.specs.Known
 pub use Rattle.tt_infer.specs.Facts
 pub use Rattle.tt_infer.specs.Table
+pub use Rattle.tt_infer.specs.Reads

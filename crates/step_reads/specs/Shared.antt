@@ -6,9 +6,9 @@ use Rattle.tt_choice.specs.Choice.{Choice}
 use Rattle.sought_plans.specs.Known.{Known, first_facts}
 use Rattle.tt_infer.specs.Table.{IsLawful}
 use Rattle.step_reads.specs.Targets.{target}
-use Rattle.step_reads.specs.Reads.{AgreeOn, GivesAlike, ReadsFact, ReadsLimit}
-use Rattle.step_reads.specs.declared.fact.Fact.{Fact}
-use Rattle.step_reads.specs.declared.limit.Limit.{Limit}
+use Rattle.tt_infer.specs.Reads.{AgreeOn, GivesAlike, ReadsFact, ReadsLimit}
+use Rattle.tt_infer.specs.declared.fact.Fact.{Fact}
+use Rattle.tt_infer.specs.declared.limit.Limit.{Limit}
 
 -- two choices say the same of a fact at first
 abbrev pub SayAlike : Instance → Choice → Choice → Fact → Type 0

@@ -1,19 +1,9 @@
--- Which of the known facts a conclusion is about, and how far a fact is known.
+-- How far a fact is known.
 use Rattle.std.specs.Prelude.{ℕ, if◌then◌else◌}
 use Rattle.sought_plans.specs.Known.{Known, es_of, le_of, lo_of, top_of, bef_of}
-use Rattle.sought_plans.specs.Conclusions.{Conclusion, StartsFrom, EndsUntil, SentFrom, SentBefore, GoesFirst, NothingLeft}
-use Rattle.step_reads.specs.declared.fact.Fact.{Fact}
-pub use Rattle.step_reads.specs.Reads.{target}
-use Rattle.step_reads.specs.declared.fact.Fact.TheVariants.{Start, End, FirstRound, LateRound, Order, Closed}
-
--- the fact that a conclusion sharpens
-abbrev pub fact_of : Conclusion → Fact
-fact_of (StartsFrom p time) = Start p
-fact_of (EndsUntil p time) = End p
-fact_of (SentFrom m r) = FirstRound m
-fact_of (SentBefore m r) = LateRound m
-fact_of (GoesFirst p q) = Order p q
-fact_of NothingLeft = Closed
+use Rattle.tt_infer.specs.declared.fact.Fact.{Fact}
+pub use Rattle.tt_infer.specs.Table.{fact_of, target}
+use Rattle.tt_infer.specs.declared.fact.Fact.TheVariants.{Start, End, FirstRound, LateRound, Order, Closed}
 
 -- how far a fact is known: a time, a round, or whether it is
 abbrev pub known_value : Known → Fact → ℕ

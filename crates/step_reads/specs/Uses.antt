@@ -9,12 +9,12 @@ use Rattle.tt_choice.specs.Extremes.{place_of}
 use Rattle.tt_choice.specs.Kept.{Marked, all_of, kept_of, last_kept, sets_least, sets_greatest, sets_order, fixes_above, fixes_below, fixes_channel}
 use Rattle.sought_plans.specs.Known.{Known}
 use Rattle.tt_infer.specs.Table.{IsLawful}
-use Rattle.step_reads.specs.Reads.{ReadsFact, ReadsLimit}
+use Rattle.tt_infer.specs.Reads.{ReadsFact, ReadsLimit}
 use Rattle.step_reads.specs.Shared.{IsWritten}
-use Rattle.step_reads.specs.declared.fact.Fact.{Fact}
-use Rattle.step_reads.specs.declared.fact.Fact.TheVariants.{Start, End, FirstRound, LateRound, Order, Closed}
-use Rattle.step_reads.specs.declared.limit.Limit.{Limit}
-use Rattle.step_reads.specs.declared.limit.Limit.TheVariants.{Goal, LeastSlot, GreatestSlot, LeastFrame, GreatestFrame, Place, Copies, Counted}
+use Rattle.tt_infer.specs.declared.fact.Fact.{Fact}
+use Rattle.tt_infer.specs.declared.fact.Fact.TheVariants.{Start, End, FirstRound, LateRound, Order, Closed}
+use Rattle.tt_infer.specs.declared.limit.Limit.{Limit}
+use Rattle.tt_infer.specs.declared.limit.Limit.TheVariants.{Goal, LeastSlot, GreatestSlot, LeastFrame, GreatestFrame, Place, Copies, Counted}
 
 -- the decision is kept, if there is one, that says at first how far a fact is known
 abbrev pub KeepsFact : List Marked → Fact → Type 0

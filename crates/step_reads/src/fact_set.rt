@@ -1,7 +1,7 @@
 //! Which facts are in a set?
 
-use crate::fact::Fact;
 use std::alloc::Global;
+use tt_infer::Fact;
 use ttp_model::{Instance, MOST_MESSAGES, MOST_PROCESSES, MemoryFault};
 
 /// A set of facts of an instance. Orders stay in it, and what no instance can have is never in it.

@@ -17,7 +17,7 @@ ghost use Rattle.sought_plans.specs.Conclusions.{Conclusion};
 ghost use Rattle.tt_infer.specs.Table.{rule};
 ghost use Rattle.tt_infer.specs.Leaves.{ClosesSharply};
 ghost use Rattle.step_reads.specs.Targets.{fact_of, target};
-ghost use Rattle.step_reads.specs.Reads.{AgreeOnReads, Gives};
+ghost use Rattle.tt_infer.specs.Reads.{AgreeOnReads, Gives};
 ghost use Rattle.step_reads.specs.Shared.{ReadShared};
 ghost use Rattle.step_reads.specs.Uses.{UseKept};
 ghost use Rattle.step_reads.specs.RuledOut.{IsRuledOut};

@@ -9,9 +9,9 @@ use Rattle.sought_plans.specs.Known.{Known}
 use Rattle.sought_plans.specs.Conclusions.{Conclusion, StartsFrom, EndsUntil, SentFrom, SentBefore, GoesFirst, NothingLeft, IsAbout}
 use Rattle.tt_infer.specs.Table.{AreProcesses, IsLawful}
 use Rattle.tt_infer.proofs.Sound.{step_is_about}
-use Rattle.step_reads.specs.declared.fact.Fact.{Fact}
+use Rattle.tt_infer.specs.declared.fact.Fact.{Fact}
 use Rattle.step_reads.specs.Targets.{fact_of, target}
-use Rattle.step_reads.proofs.Targets.{target_is}
+use Rattle.tt_infer.proofs.Rows.{target_is}
 use Rattle.step_words.specs.Conclusions.{IsThere}
 
 fact_is_there : (i : Instance) (k : Conclusion) → IsAbout i k → IsThere i (fact_of k)

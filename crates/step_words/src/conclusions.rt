@@ -5,7 +5,7 @@ ghost use Rattle.step_words.specs.Conclusions.{IsThere, closed_words, conclusion
 
 use crate::names::{message_name, process_name};
 use std::alloc::AllocError;
-use step_reads::Fact;
+use tt_infer::Fact;
 use ttp_model::Instance;
 
 /// Adds when a process starts at least.

@@ -15,8 +15,8 @@ use crate::orders::{put_twin_order, put_window_order};
 use crate::rounds::{put_arrive_round, put_send_round};
 use crate::starts::{put_arrive, put_before_start, put_link_start, put_message_start, put_release};
 use std::alloc::AllocError;
-use step_reads::{target, value};
-use tt_infer::Facts;
+use step_reads::value;
+use tt_infer::{Facts, target};
 use ttp_model::Step;
 
 /// What such a step may conclude, in a sentence.

@@ -4,24 +4,16 @@ use Rattle.std.proofs.lemmas.List.{length-map, length_push, map-append}
 use Rattle.std.proofs.lemmas.List.FromFn.{map-range_with_len_more}
 use Rattle.ttp_model.specs.declared.limits.TheConstants.{MOST_NODES}
 use Rattle.ttp_model.specs.declared.step.Kind.{Kind}
-use Rattle.ttp_model.specs.declared.step.Kind.TheVariants.{Place, Cap, Pair, Round, Chan}
 use Rattle.ttp_model.specs.Instance.{Instance}
 use Rattle.ttp_model.specs.Rules.{IsInstance}
 use Rattle.tt_choice.specs.declared.decision.Decision.{Decision}
 use Rattle.tt_choice.specs.Choice.{Choice, IsChoice}
 use Rattle.tt_choice.specs.Branches.{IsOpen, children}
 use Rattle.tt_choice.specs.Decisions.{decisions_of}
-use Rattle.tt_choice.proofs.Unplaced.{length-unplaced}
+pub use Rattle.tt_choice.proofs.Rows.{few_children}
 use Rattle.subtree_tasks.specs.Name.{Name, child_name, child_names}
 use Rattle.subtree_tasks.specs.Task.{Task, choice_of, AreChildren}
 use Rattle.subtree_tasks.proofs.DecisionLists.{length-decisions_of}
-
-pub few_children : (i : Instance) (c : Choice) (kind : Kind) → IsInstance i → IsChoice i c → IsOpen i c kind → children i c kind ≤ MOST_NODES
-few_children i c Place w ok is = omega (arith, length-unplaced i c ok, w.limits.nodes)
-few_children i c (Cap n) w ok is = omega (arith, (w.capacities n is.0).few)
-few_children i c (Pair p q) w ok is = omega arith
-few_children i c (Round m r) w ok is = omega arith
-few_children i c (Chan m) w ok is = omega arith
 
 -- a child's number is small
 pub small_number : (i : Instance) (c : Choice) (kind : Kind) (decisions : List Decision) (k : ℕ) → IsInstance i → IsChoice i c → IsOpen i c kind

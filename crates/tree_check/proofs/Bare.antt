@@ -1,43 +1,16 @@
--- Which decisions a choice keeps changes nothing that a branch is judged by.
+-- The decisions of an open branch are those of its children, whichever a choice keeps.
 use Rattle.std.proofs.Common.{◌≡◌, ℕ, zero, suc, ◌+◌, List, [], ◌∷◌, length, map, refl, sym, ap, ◌∙◌}
 use Rattle.std.specs.List.{range_with_len}
 use Rattle.ttp_model.specs.declared.step.Kind.{Kind}
-use Rattle.ttp_model.specs.declared.step.Kind.TheVariants.{Place, Cap, Pair, Round, Chan}
 use Rattle.ttp_model.specs.Instance.{Instance}
 use Rattle.tt_choice.specs.declared.decision.Decision.{Decision}
-use Rattle.tt_choice.specs.declared.reversal.Reversal.{Reversal}
 use Rattle.tt_choice.specs.Choice.{Choice, bare}
 use Rattle.tt_choice.specs.Branches.{IsOpen, IsBranch, children, child, child_choices}
 use Rattle.tt_choice.specs.Decisions.{choice_after, decision_of, decisions_of}
 use Rattle.tt_choice.proofs.Decisions.{child_after}
-use Rattle.tt_choice.proofs.Trail.{IsUnorderedPair-keeping, CutsRange-keeping, IsFreeChannel-keeping}
+use Rattle.tt_choice.proofs.Children.{child-bare}
+pub use Rattle.tt_choice.proofs.Children.{IsOpen-keeping, children-bare}
 use Rattle.certificate.specs.declared.branch.Branch.{Branch}
-
-pub IsOpen-keeping : (i : Instance) (c : Choice) (kept : List Reversal) (kind : Kind) → IsOpen i c kind → IsOpen i (record c { kept = kept }) kind
-IsOpen-keeping i c kept Place is = is
-IsOpen-keeping i c kept (Cap n) is = is
-IsOpen-keeping i c kept (Pair p q) is = IsUnorderedPair-keeping i c kept p q is
-IsOpen-keeping i c kept (Round m r) is = CutsRange-keeping i c kept m r is
-IsOpen-keeping i c kept (Chan m) is = IsFreeChannel-keeping i c kept m is
-
-pub IsOpen-bare : (i : Instance) (c : Choice) (kind : Kind) → IsOpen i (bare c) kind → IsOpen i c kind
-IsOpen-bare i c kind is = IsOpen-keeping i (bare c) c.kept kind is
-
-pub children-bare : (i : Instance) (c : Choice) (kind : Kind) → children i (bare c) kind ≡ children i c kind
-children-bare i c Place = refl
-children-bare i c (Cap n) = refl
-children-bare i c (Pair p q) = refl
-children-bare i c (Round m r) = refl
-children-bare i c (Chan m) = refl
-
-child-bare : (i : Instance) (c : Choice) (kind : Kind) (k : ℕ) → child i (bare c) kind k ≡ child i c kind k
-child-bare i c Place k = refl
-child-bare i c (Cap n) k = refl
-child-bare i c (Pair p q) zero = refl
-child-bare i c (Pair p q) (suc k) = refl
-child-bare i c (Round m r) zero = refl
-child-bare i c (Round m r) (suc k) = refl
-child-bare i c (Chan m) k = refl
 
 IsBranch-bare : (i : Instance) (c : Choice) (kind : Kind) (count : ℕ) → IsOpen i c kind → count ≡ children i c kind → IsBranch i (bare c) kind count
 IsBranch-bare i c kind count is_open just = record {

@@ -1,15 +1,15 @@
 -- With one channel no line of what proves a bound speaks of channels: none is free, no step counts by channel, and no message is on the second.
-use Rattle.std.proofs.Common.{◌≡◌, ℕ, suc, ◌≤◌, true, List, [], ◌∷◌, ◌++◌, Option, None, Some, unwrap_or, All, refl, arith, ap, sym, ◌∙◌}
+use Rattle.std.proofs.Common.{◌≡◌, ℕ, suc, ◌≤◌, true, List, [], ◌∷◌, ◌++◌, Option, Some, unwrap_or, All, refl, arith, ap, sym, ◌∙◌}
 use Rattle.std.proofs.lemmas.List.Elements.{All-nil, All-cons, All-append}
 use Rattle.ttp_model.specs.declared.step.Kind.{Kind}
-use Rattle.ttp_model.specs.declared.step.Kind.TheVariants.{Place, Cap, Pair, Round, Chan}
+use Rattle.ttp_model.specs.declared.step.Kind.TheVariants.{Chan}
 use Rattle.ttp_model.specs.declared.step.Step.{Step}
 use Rattle.ttp_model.specs.declared.step.Step.TheVariants.{XChannel, XMirror}
 use Rattle.ttp_model.specs.Instance.{Instance}
 use Rattle.ttp_model.specs.Rules.{IsInstance}
 use Rattle.tt_choice.specs.Choice.{Choice, IsChoice, fixed_channel}
 use Rattle.tt_choice.specs.Branches.{IsOpen, root_choice}
-use Rattle.tt_choice.proofs.Channels.{only_channel}
+use Rattle.tt_choice.proofs.Channels.{only_channel, no_channel_is_open}
 use Rattle.tt_choice.proofs.Root.{IsChoice-root}
 use Rattle.sought_plans.specs.Known.{Known, first_facts}
 use Rattle.tt_infer.specs.Table.{rule}
@@ -25,14 +25,8 @@ use Rattle.tree_check.proofs.Bounds.{below_are}
 
 module _ (i : Instance) (alone : i.cluster.channels ≡ 1) where
   open_kind : (c : Choice) (kind : Kind) → IsChoice i c → IsOpen i c kind → allows_kind One kind ≡ true
-  open_kind c Place ok is = refl
-  open_kind c (Cap n) ok is = refl
-  open_kind c (Pair p q) ok is = refl
-  open_kind c (Round m r) ok is = refl
-  open_kind c (Chan m) ok is =
-      let free : fixed_channel c m ≡ None = is.free in
-      let fixed : fixed_channel c m ≡ Some 0 = only_channel i c m alone ok is.message in
-      absurd cc
+  open_kind c (Chan m) ok is = absurd (no_channel_is_open i c m alone ok is)
+  open_kind c kind ok is = refl
 
   lawful_step : (c : Choice) (goal : ℕ) (f : Known) (step : Step) → IsChoice i c → (rule i c goal f step).there → (rule i c goal f step).premise
       → allows_step One step ≡ true

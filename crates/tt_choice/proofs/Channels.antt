@@ -3,6 +3,7 @@ use Rattle.std.proofs.Common.{◌≡◌, ℕ, suc, ◌+◌, ◌<◌, List, [], �
 use Rattle.std.proofs.lemmas.List.Sums.{sum_by-cons}
 use Rattle.ttp_model.specs.Instance.{Instance}
 use Rattle.tt_choice.specs.Choice.{Choice, fixed_channel, IsChannel, IsChoice}
+use Rattle.tt_choice.specs.Changes.{IsFreeChannel}
 
 pub only_channel : (i : Instance) (c : Choice) (m : ℕ) → i.cluster.channels ≡ 1 → IsChoice i c → m < length i.messages → fixed_channel c m ≡ Some 0
 only_channel i c m alone ok inside = pick (fixed_channel c m) (ok.channels m inside)
@@ -14,7 +15,13 @@ only_channel i c m alone ok inside = pick (fixed_channel c m) (ok.channels m ins
 pub channel_is_fixed : (i : Instance) (c : Choice) (m : ℕ) → i.cluster.channels ≡ 1 → IsChoice i c → m < length i.messages → IsSome (fixed_channel c m)
 channel_is_fixed i c m alone ok inside = rw (only_channel i c m alone ok inside) refl
 
--- so none is free
+-- so none is free, and no branch on one is open
+pub no_channel_is_open : (i : Instance) (c : Choice) (m : ℕ) → i.cluster.channels ≡ 1 → IsChoice i c → IsFreeChannel i c m → ⊥
+no_channel_is_open i c m alone ok is =
+    let free : fixed_channel c m ≡ None = is.free in
+    let fixed : fixed_channel c m ≡ Some 0 = only_channel i c m alone ok is.message in
+    cc
+
 free_more : (x : Option ℕ) (xs : List (Option ℕ)) → count_by is_none (x ∷ xs) ≡ cond (is_none x) 1 0 + count_by is_none xs
 free_more x xs = sum_by-cons (λ (o : Option ℕ). cond (is_none o) 1 0) x xs
 

@@ -1,16 +1,14 @@
 -- A choice with one decision more, or several.
-use Rattle.std.proofs.Common.{◌≡◌, ℕ, zero, suc, ◌<◌, List, [], ◌∷◌, ◌++◌, arith, refl}
+use Rattle.std.proofs.Common.{◌≡◌, ℕ, List, [], ◌∷◌, ◌++◌, refl}
 use Rattle.ttp_model.specs.declared.plan.Plan.{Plan}
 use Rattle.ttp_model.specs.declared.step.Kind.{Kind}
-use Rattle.ttp_model.specs.declared.step.Kind.TheVariants.{Place, Cap, Pair, Round, Chan}
 use Rattle.ttp_model.specs.Instance.{Instance}
 use Rattle.tt_choice.specs.declared.decision.Decision.{Decision}
 use Rattle.tt_choice.specs.declared.decision.Decision.TheVariants as decided
 use Rattle.tt_choice.specs.Choice.{Choice, IsChoice, IsIn}
-use Rattle.tt_choice.specs.Branches.{IsOpen, children, child}
+use Rattle.tt_choice.specs.Kinds.{child}
 use Rattle.tt_choice.specs.Decisions.{choice_after, IsOpenDecision, choice_after_all, AreOpenDecisions, decision_of}
-use Rattle.tt_choice.proofs.Unplaced.{IsUnplaced-listed}
-use Rattle.tt_choice.proofs.Children.{turned, one_of_three}
+pub use Rattle.tt_choice.proofs.Rows.{decision_is_open}
 use Rattle.tt_choice.proofs.Members.{IsIn-place, IsIn-fix, IsIn-order, IsIn-at_most, IsIn-at_least, IsIn-fix_channel}
 use Rattle.tt_choice.proofs.Changes.{IsChoice-place, IsChoice-fix, IsChoice-order, IsChoice-at_most, IsChoice-at_least, IsChoice-fix_channel}
 
@@ -56,19 +54,4 @@ open-next i c (first ∷ ds) d es are = open-next i (choice_after i c first) ds 
 
 -- the decision of a child makes it, and is open
 pub child_after : (i : Instance) (c : Choice) (kind : Kind) (k : ℕ) → child i c kind k ≡ choice_after i c (decision_of i c kind k)
-child_after i c Place k = refl
-child_after i c (Cap n) k = refl
-child_after i c (Pair p q) zero = refl
-child_after i c (Pair p q) (suc k) = refl
-child_after i c (Round m r) zero = refl
-child_after i c (Round m r) (suc k) = refl
-child_after i c (Chan m) k = refl
-
-pub decision_is_open : (i : Instance) (c : Choice) (kind : Kind) (k : ℕ) → IsOpen i c kind → k < children i c kind → IsOpenDecision i c (decision_of i c kind k)
-decision_is_open i c Place k is inside = IsUnplaced-listed i c k inside
-decision_is_open i c (Cap n) k is inside = record { free = is; option = inside }
-decision_is_open i c (Pair p q) zero is inside = is
-decision_is_open i c (Pair p q) (suc k) is inside = turned i c p q is
-decision_is_open i c (Round m r) zero is inside = is
-decision_is_open i c (Round m r) (suc k) is inside = record { message = is.message; above = omega (arith, is.from); to = omega (arith, is.below) }
-decision_is_open i c (Chan m) k is inside = record { free = is; known = one_of_three k inside }
+child_after i c kind k = refl

@@ -1,17 +1,22 @@
 -- What agrees with a choice agrees with each choice that it is inside, so the extremes draw together inside.
-use Rattle.std.proofs.Common.{◌≡◌, ℕ, zero, suc, ◌+◌, ◌<◌, ◌≤◌, List, [], ◌∷◌, length, length-append, slice_index, Option, None, Some, arith, inl, inr, refl, ◌∙◌, get_or-set_other, get_or-set_same}
+use Rattle.std.proofs.Common.{◌≡◌, ℕ, ◌<◌, ◌≤◌, List, [], ◌∷◌, length, length-append, slice_index}
+use Rattle.std.proofs.Common.{Option, None, Some, arith, inl, inr, refl, ◌∙◌, get_or-set_other, get_or-set_same}
 use Rattle.std.proofs.lemmas.Bool.{cases_eq}
 use Rattle.ttp_model.specs.declared.step.Kind.{Kind}
-use Rattle.ttp_model.specs.declared.step.Kind.TheVariants.{Place, Cap, Pair, Round, Chan}
 use Rattle.ttp_model.specs.Instance.{Instance, node_at}
 use Rattle.ttp_model.specs.Rules.{IsInstance}
 use Rattle.tt_choice.specs.Choice.{Choice, IsChoice, Agrees, BeginsWith, IsFixedTo, ArePair, fixed_cap, fixed_channel, least_round, greatest_round}
-use Rattle.tt_choice.specs.Branches.{place_next, fix_option, order_pair, at_most, at_least, fix_channel, unplaced, IsOpen, children, child}
+use Rattle.tt_choice.specs.declared.decision.Decision.{Decision}
+use Rattle.tt_choice.specs.declared.decision.Decision.TheVariants as decided
+use Rattle.tt_choice.specs.declared.reversal.Reversal.{Reversal}
+use Rattle.tt_choice.specs.Changes.{choice_after, place_next, fix_option, order_pair, at_most, at_least, fix_channel}
+use Rattle.tt_choice.specs.Kinds.{IsOpen, children, child, decision_of}
+use Rattle.tt_choice.specs.Decisions.{IsOpenDecision}
 use Rattle.tt_choice.specs.Extremes.{Measure, IsLeastOf, IsMostOf, start_at, end_at, cap_at, dur_at, start_least, start_most, end_least, end_most, cap_least, cap_most, dur_least}
 use Rattle.tt_choice.specs.Inside.{IsInside, IsKeptBy}
 use Rattle.tt_choice.proofs.Before.{put_kept}
 use Rattle.tt_choice.proofs.Extend.{first_part}
-use Rattle.tt_choice.proofs.Children.{turned}
+use Rattle.tt_choice.proofs.Rows.{decision_is_open}
 use Rattle.tt_choice.proofs.Exact.{start_least_is_least, start_most_is_most, end_least_is_least, end_most_is_most, cap_least_is_least, cap_most_is_most, dur_least_is_least}
 
 pub begins_too : (i : Instance) (inner outer : Choice) (order : List ℕ) → IsInside i inner outer → BeginsWith inner.prefix order → BeginsWith outer.prefix order
@@ -63,9 +68,9 @@ module _ (i : Instance) (inner outer : Choice) (w : IsInstance i) (ok : IsChoice
   pub dur_least_rises : dur_least i outer n ≤ dur_least i inner n
   dur_least_rises = least_rises i inner outer (dur_at i n) _ _ inside (dur_least_is_least i outer n w well there) (dur_least_is_least i inner n w ok there)
 
--- Each decision leads inside.
-pub IsInside-self : (i : Instance) (c : Choice) → IsInside i c c
-IsInside-self i c = record {
+-- Whatever is kept, a choice is inside itself.
+pub IsInside-keeping : (i : Instance) (c : Choice) (kept : List Reversal) → IsInside i c (record c { kept = kept })
+IsInside-keeping i c kept = record {
   longer = omega arith;
   prefix = λ k h. refl;
   fixed = λ n h. same_kept (fixed_cap c n);
@@ -79,6 +84,10 @@ IsInside-self i c = record {
     same_kept None = tt
     same_kept (Some fixed) = refl
 
+pub IsInside-self : (i : Instance) (c : Choice) → IsInside i c c
+IsInside-self i c = IsInside-keeping i c c.kept
+
+-- Each decision leads inside.
 pub IsInside-place : (i : Instance) (c : Choice) (n : ℕ) → IsInside i (place_next c n) c
 IsInside-place i c n =
     let is = IsInside-self i c in
@@ -169,12 +178,14 @@ IsInside-fix_channel i c m k none =
       ];
     }
 
+pub IsInside-after : (i : Instance) (c : Choice) (δ : Decision) → IsChoice i c → IsOpenDecision i c δ → IsInside i (choice_after i c δ) c
+IsInside-after i c (decided.Place n) ok is = IsInside-place i c n
+IsInside-after i c (decided.Cap n k) ok is = IsInside-fix i c n k is.free.1
+IsInside-after i c (decided.Before p q) ok is = IsInside-order i c p q ok is.pair
+IsInside-after i c (decided.AtMost m r) ok is = IsInside-at_most i c m r ok is.message (omega (arith, is.below))
+IsInside-after i c (decided.AtLeast m r) ok is = IsInside-at_least i c m r ok is.message (omega (arith, is.above))
+IsInside-after i c (decided.Channel m k) ok is = IsInside-fix_channel i c m k is.free.free
+
 -- and so each child is inside
 pub IsInside-child : (i : Instance) (c : Choice) (kind : Kind) (k : ℕ) → IsChoice i c → IsOpen i c kind → k < children i c kind → IsInside i (child i c kind k) c
-IsInside-child i c Place k ok is there = IsInside-place i c (slice_index (unplaced i c) k)
-IsInside-child i c (Cap n) k ok is there = IsInside-fix i c n k is.1
-IsInside-child i c (Pair p q) zero ok is there = IsInside-order i c p q ok is.pair
-IsInside-child i c (Pair p q) (suc k) ok is there = IsInside-order i c q p ok (turned i c p q is).pair
-IsInside-child i c (Round m r) zero ok is there = IsInside-at_most i c m r ok is.message (omega (arith, is.below))
-IsInside-child i c (Round m r) (suc k) ok is there = IsInside-at_least i c m (r + 1) ok is.message (omega (arith, is.from))
-IsInside-child i c (Chan m) k ok is there = IsInside-fix_channel i c m k is.free
+IsInside-child i c kind k ok is there = IsInside-after i c (decision_of i c kind k) ok (decision_is_open i c kind k is there)

@@ -7,8 +7,9 @@ pub mod Root
 pub mod Members
 pub mod Completes
 pub mod Unplaced
-pub mod ChildLists
-pub mod Children
+pub mod Open
+pub mod Shared
+pub mod Rows
 pub mod Decisions
 pub mod Trail
 pub mod WorkedDecisions
@@ -17,6 +18,8 @@ pub mod Bounds
 pub mod Extend
 pub mod Exact
 pub mod Inside
+pub mod Children
+pub mod ChildLists
 pub mod Places
 pub mod Channels
 pub mod kept

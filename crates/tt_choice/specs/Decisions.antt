@@ -1,8 +1,7 @@
--- Decisions: what each makes of a choice, when one is open, and what takes one back. Own profile.
-use Rattle.std.specs.Prelude.{◌≡◌, ℕ, zero, suc, ◌+◌, ◌-◌, ◌<◌, ◌≤◌, List, [], ◌∷◌, ◌++◌, length, slice_index, slice_set, take, map, None}
+-- Decisions: when one is open, what several make of a choice, and what takes one back. Own profile.
+use Rattle.std.specs.Prelude.{◌≡◌, ℕ, ◌-◌, ◌<◌, ◌≤◌, List, [], ◌∷◌, ◌++◌, length, slice_set, take, map, None}
 use Rattle.std.specs.List.{range_with_len}
 use Rattle.ttp_model.specs.declared.step.Kind.{Kind}
-use Rattle.ttp_model.specs.declared.step.Kind.TheVariants.{Place, Cap, Pair, Round, Chan}
 use Rattle.ttp_model.specs.Instance.{Instance, node_at}
 use Rattle.ttp_model.specs.Limits.{both_channels}
 use Rattle.tt_choice.specs.declared.decision.Decision.{Decision}
@@ -11,20 +10,15 @@ use Rattle.tt_choice.specs.declared.reversal.Reversal.{Reversal}
 use Rattle.tt_choice.specs.declared.reversal.Reversal.TheVariants.{Unplace, Free, Unorder, Most, Least, FreeChannel}
 use Rattle.tt_choice.specs.Precedence.{take_back}
 use Rattle.tt_choice.specs.Choice.{Choice, least_round, greatest_round}
-use Rattle.tt_choice.specs.Branches.{root_choice, place_next, fix_option, order_pair, at_most, at_least, fix_channel, unplaced, IsUnplaced, IsUnorderedPair, CutsRange, IsFreeChannel, IsOpen, children}
-
--- the choice with one decision more
-abbrev pub choice_after : Instance → Choice → Decision → Choice
-choice_after i c (decided.Place n) = place_next c n
-choice_after i c (decided.Cap n k) = fix_option i c n k
-choice_after i c (decided.Before p q) = order_pair c p q
-choice_after i c (decided.AtMost m r) = at_most c m r
-choice_after i c (decided.AtLeast m r) = at_least c m r
-choice_after i c (decided.Channel m k) = fix_channel c m k
+use Rattle.tt_choice.specs.Changes.{at_most, at_least, IsUnplaced, IsUnorderedPair, CutsRange, IsFreeChannel}
+use Rattle.tt_choice.specs.Kinds.{IsFreeNode, children}
+use Rattle.tt_choice.specs.Branches.{root_choice}
+pub use Rattle.tt_choice.specs.Changes.{choice_after}
+pub use Rattle.tt_choice.specs.Kinds.{decision_of}
 
 -- an option of a node whose capacity is free
 pub record IsFreeOption (i : Instance) (c : Choice) (n k : ℕ) : Type 0 where
-  pub free : IsOpen i c (Cap n)
+  pub free : IsFreeNode i c n
   pub option : k < length (node_at i n).capacities
 
 -- a round that takes the first rounds from a message's range, and leaves some
@@ -87,16 +81,6 @@ taken_back c (FreeChannel m) = record c { channels = slice_set c.channels m None
 abbrev pub IsUndone : Choice → Choice → Type 0
 IsUndone old new = (kept : List Reversal) (reversal : Reversal) → old.kept ≡ kept ++ reversal ∷ []
     → new ≡ record (taken_back old reversal) { kept = kept }
-
--- the decision that leads to a branch's child of a number
-abbrev pub decision_of : Instance → Choice → Kind → ℕ → Decision
-decision_of i c Place k = decided.Place (slice_index (unplaced i c) k)
-decision_of i c (Cap n) k = decided.Cap n k
-decision_of i c (Pair p q) zero = decided.Before p q
-decision_of i c (Pair p q) (suc k) = decided.Before q p
-decision_of i c (Round m r) zero = decided.AtMost m r
-decision_of i c (Round m r) (suc k) = decided.AtLeast m (r + 1)
-decision_of i c (Chan m) k = decided.Channel m k
 
 -- the decisions of a branch, one for each child, in order
 abbrev pub decisions_of : Instance → Choice → Kind → List Decision

@@ -1,10 +1,9 @@
 -- Decisions of which some are kept, and what the kept ones alone say. Own profile.
 use Rattle.std.specs.Prelude.{ℕ, ◌+◌, ◌==◌, ◌&&◌, ◌||◌, nat_lt, not, List, [], ◌∷◌, length, Option, None, Some, Bool, true, false, IsTrue}
-use Rattle.ttp_model.specs.declared.step.Kind.{Kind}
-use Rattle.ttp_model.specs.declared.step.Kind.TheVariants.{Place, Cap, Pair, Round, Chan}
 use Rattle.ttp_model.specs.Instance.{Instance, node_at}
 use Rattle.tt_choice.specs.declared.decision.Decision.{Decision}
 use Rattle.tt_choice.specs.declared.decision.Decision.TheVariants as decided
+pub use Rattle.tt_choice.specs.Kinds.{is_of_places, HasPlaces}
 
 -- a decision that is kept, or that isn't
 pub data Marked : Type 0 where
@@ -42,14 +41,6 @@ abbrev pub places_kept : Bool → List Marked → Bool
 places_kept all [] = all
 places_kept all (keep d ∷ ms) = places_kept all ms
 places_kept all (drop d ∷ ms) = places_kept (all && not (takes_place d)) ms
-
--- a branch on the next place has its children where all places are kept
-abbrev pub HasPlaces : Kind → Bool → Type 0
-HasPlaces Place all = IsTrue all
-HasPlaces (Cap n) all = Unit {0}
-HasPlaces (Pair p q) all = Unit {0}
-HasPlaces (Round m r) all = Unit {0}
-HasPlaces (Chan m) all = Unit {0}
 
 -- a decision sets the least round of message m, its greatest round, or that p goes before q
 abbrev pub sets_least : ℕ → Decision → Bool

@@ -2,6 +2,8 @@ pub mod Precedence
 pub mod Packed
 pub mod Choice
 pub mod Extremes
+pub mod Changes
+pub mod Kinds
 pub mod Branches
 pub mod Decisions
 pub mod Sizes

@@ -1,11 +1,10 @@
 -- How much of a choice is left to choose.
-use Rattle.std.specs.Prelude.{ℕ, ◌+◌, ◌-◌, ◌*◌, ◌≤◌, length, count_by, is_none}
+use Rattle.std.specs.Prelude.{ℕ, ◌+◌, ◌-◌, length, count_by, is_none}
 use Rattle.std.specs.Int.Digits.{digits_of}
 use Rattle.ttp_model.specs.Instance.{Instance}
-use Rattle.ttp_model.specs.declared.step.Kind.{Kind}
-use Rattle.ttp_model.specs.declared.step.Kind.TheVariants.{Place, Cap, Pair, Round, Chan}
 use Rattle.ttp_model.specs.Totals.{total}
 use Rattle.tt_choice.specs.Choice.{Choice, least_round, greatest_round, unordered_pairs}
+pub use Rattle.tt_choice.specs.Kinds.{Halves}
 
 -- how many binary digits a number has; none for 0
 abbrev pub binary_digits : ℕ → ℕ
@@ -20,13 +19,3 @@ abbrev pub size_left : Instance → Choice → ℕ
 size_left i c =
     (length i.nodes - length c.prefix) + count_by is_none c.fixed + unordered_pairs i c
     + total (range_size c) (length i.messages) + count_by is_none c.channels
-
--- each side of a cut has at most half of the range
-abbrev pub Halves : Choice → Kind → Type 0
-Halves c Place = Unit {0}
-Halves c (Cap n) = Unit {0}
-Halves c (Pair p q) = Unit {0}
-Halves c (Round m r) =
-    (2 * (r - least_round c m) ≤ greatest_round c m - least_round c m)
-    × (2 * (greatest_round c m - (r + 1)) ≤ greatest_round c m - least_round c m)
-Halves c (Chan m) = Unit {0}

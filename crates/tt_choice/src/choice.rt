@@ -11,9 +11,11 @@ ghost use Rattle.tt_choice.specs.Branches.{open_choice, root_channel, root_choic
 mod changes;
 mod decisions;
 mod extremes;
+mod kinds;
 mod questions;
 mod trail;
 
+pub use self::kinds::{decision_at, is_of_places};
 use crate::precedence::Precedence;
 use crate::reversal::Reversal;
 use std::alloc::Global;

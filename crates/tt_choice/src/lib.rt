@@ -8,7 +8,7 @@ mod precedence;
 mod reversal;
 mod worked;
 
-pub use choice::Choice;
+pub use choice::{Choice, decision_at, is_of_places};
 pub use decision::Decision;
 pub use laws::{
     children_share_the_plans, decisions_are_taken_back, decisions_lead_to_the_children,

@@ -13,7 +13,9 @@ pub mod LateMessages
 pub mod Mirrors
 pub mod SilentTwins
 pub mod Keeps
+pub mod alike
 pub mod Rows
+pub mod SameGiven
 pub mod SameStep
 pub mod Sound
 pub mod Sharper

@@ -1,4 +1,7 @@
+pub mod Lines
+pub mod Sources
 pub mod Table
+pub mod Reads
 pub mod Leaves
 pub mod Sharper
 pub mod Worked

@@ -1,13 +1,18 @@
 //! Inference: steps that sharpen what is known of the plans that are sought.
 #![tactic(auto)]
 
+mod fact;
 mod facts;
 mod fault;
 mod indices;
 mod laws;
+mod limit;
+mod line;
 mod rules;
+mod source;
 mod worked;
 
+pub use fact::{Fact, link_after, link_before, sender, sending_node};
 pub use facts::Facts;
 pub use fault::StepFault;
 pub use indices::receives;
@@ -15,6 +20,10 @@ pub use laws::{
     first_facts_hold, leaves_rule_out, rules_are_sound, rules_conclude, steps_are_determined,
     steps_are_sound, steps_lead_as_far_inside, steps_only_sharpen,
 };
+pub use limit::Limit;
+pub use line::{FewNumbers, Line, LineNumbers, channel_line, plain_line};
+pub use rules::{line_of, reads, step_with, target};
+pub use source::{Reads, Source};
 pub use worked::{
     messages_lead_on_the_first_channel, messages_of_two_channels_close, one_message_closes_at_9,
     one_message_closes_inside, one_message_is_not_sent_late, silent_twins_stand_in_order,

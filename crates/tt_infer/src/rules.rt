@@ -1,7 +1,11 @@
-//! Which rule does a step stand for?
+//! Which rule does a step stand for, what does it write and read, and how is it written?
 
+ghost use Rattle.std.specs.Prelude.{◌≡◌, ◌≢◌, ◌∷◌, [], codes};
 ghost use Rattle.sought_plans.specs.Known.{Fits};
 ghost use Rattle.tt_infer.specs.Setting.{TakesOf};
+ghost use Rattle.tt_infer.specs.Lines.{numbers_in, row_of, with_keyword};
+ghost use Rattle.tt_infer.specs.Table.{IsLong, reads, step_row, step_words, steps_with, target};
+ghost use Rattle.tt_infer.specs.Sources.{Learnt, Fixed, Waits, Circle, Runs, Frames, Halves, Earlier, Lower, Nothing, One, Two, reads_said};
 
 mod closers;
 mod dominance;
@@ -11,9 +15,13 @@ mod order;
 mod rounds;
 mod starts;
 
+use crate::fact::{Fact, link_after, link_before, sender, sending_node};
 use crate::fault::StepFault;
+use crate::limit::Limit;
+use crate::line::{FewNumbers, Line, channel_line, plain_line, ring_line};
+use crate::source::{Reads, Source};
 use sought_plans::{Known, Setting};
-use ttp_model::Step;
+use ttp_model::{Instance, Ring, Step};
 
 /// Takes a step of the table, or refuses it.
 #[tactic(auto, using(crate::proofs::SameStep::takes_same))]
@@ -50,5 +58,306 @@ pub fn take(known: &mut Known, setting: &Setting, step: &Step) -> Result<(), Ste
         Step::XLate(m, r) => dominance::x_late(known, setting, *m, *r),
         Step::XSilent(u, v) => dominance::x_silent(known, setting, *u, *v),
         Step::XMirror(m) => dominance::x_mirror(known, setting, *m),
+    }
+}
+
+/// The fact that a step sharpens.
+pub fn target(instance: &Instance, step: &Step) -> Fact
+    ensures { result ≡ target instance.now step.now }
+{
+    match step {
+        Step::EsRelease(p) => Fact::Start(*p),
+        Step::EsLink(l) => Fact::Start(link_after(instance, *l)),
+        Step::EsBefore(_, q) | Step::EsArrive(_, q) | Step::EsMessage(_, q) => Fact::Start(*q),
+        Step::LoSend(m) => Fact::FirstRound(*m),
+        Step::LeOwn(p) | Step::LeBefore(p, _) | Step::UsSettled(p) => Fact::End(*p),
+        Step::LeLink(l) => Fact::End(link_before(instance, *l)),
+        Step::LeMessage(m, _) | Step::LeSend(m) => Fact::End(sender(instance, *m)),
+        Step::HiArrive(m, _) => Fact::LateRound(*m),
+        Step::OrdWindow(p, q) | Step::OrdTwin(p, q) => Fact::Order(*p, *q),
+        Step::XWindow(_)
+        | Step::XRound(_)
+        | Step::XCycle(_)
+        | Step::XLoad(..)
+        | Step::XFrame(_)
+        | Step::XFrames(..)
+        | Step::XChannel(..)
+        | Step::XLate(..)
+        | Step::XSilent(..)
+        | Step::XMirror(_) => Fact::Closed,
+    }
+}
+
+/// Nothing that is read.
+fn none() -> Reads<'static>
+    ensures { reads_said result ≡ Nothing }
+{
+    Reads::Nothing
+}
+
+/// One fact that is read.
+fn one(fact: Fact) -> Reads<'static>
+    ensures { reads_said result ≡ One (Learnt fact) }
+{
+    Reads::One(Source::Learnt(fact))
+}
+
+/// Two facts that are read.
+fn two(first: Fact, second: Fact) -> Reads<'static>
+    ensures { reads_said result ≡ Two (Learnt first) (Learnt second) }
+{
+    Reads::Two(Source::Learnt(first), Source::Learnt(second))
+}
+
+/// A fact and a limit that are read.
+fn both(fact: Fact, limit: Limit) -> Reads<'static>
+    ensures { reads_said result ≡ Two (Learnt fact) (Fixed limit) }
+{
+    Reads::Two(Source::Learnt(fact), Source::Fixed(limit))
+}
+
+/// What a step about a ring of processes reads.
+fn neighbours(ring: &Ring) -> Reads<'_>
+    ensures { reads_said result ≡ One (Circle ring.now) }
+{
+    Reads::One(Source::Circle(ring))
+}
+
+/// A limit that is read alone.
+fn fixed(limit: Limit) -> Reads<'static>
+    ensures { reads_said result ≡ One (Fixed limit) }
+{
+    Reads::One(Source::Fixed(limit))
+}
+
+/// What a process may have to wait for.
+fn waits(p: u32) -> Reads<'static>
+    ensures { reads_said result ≡ One (Waits p) }
+{
+    Reads::One(Source::Waits(p))
+}
+
+/// The processes of a node between two times.
+fn runs(n: u32, a: u32, b: u32) -> Reads<'static>
+    ensures { reads_said result ≡ One (Runs n a b) }
+{
+    Reads::One(Source::Runs(n, a, b))
+}
+
+/// The messages of a node between two rounds.
+fn frames(n: u32, a: u32, b: u32) -> Reads<'static>
+    ensures { reads_said result ≡ One (Frames n a b) }
+{
+    Reads::One(Source::Frames(n, a, b))
+}
+
+/// Those on one channel.
+fn halves(k: u32, n: u32, a: u32, b: u32) -> Reads<'static>
+    ensures { reads_said result ≡ One (Halves k n a b) }
+{
+    Reads::One(Source::Halves(k, n, a, b))
+}
+
+/// Whether a message could be sent in an earlier round.
+fn earlier(m: u32, r: u32) -> Reads<'static>
+    ensures { reads_said result ≡ One (Earlier m r) }
+{
+    Reads::One(Source::Earlier(m, r))
+}
+
+/// The lower messages of a message's node.
+fn lower(m: u32) -> Reads<'static>
+    ensures { reads_said result ≡ One (Lower m) }
+{
+    Reads::One(Source::Lower(m))
+}
+
+/// What a step reads.
+pub fn reads<'a>(instance: &Instance, step: &'a Step) -> Reads<'a>
+    ensures { reads_said result ≡ reads instance.now step.now }
+{
+    match step {
+        Step::EsRelease(_) | Step::OrdTwin(_, _) => none(),
+        Step::EsLink(l) => one(Fact::Start(link_before(instance, *l))),
+        Step::EsBefore(p, q) => two(Fact::Start(*p), Fact::Order(*p, *q)),
+        Step::EsArrive(m, _) => both(
+            Fact::FirstRound(*m),
+            Limit::LeastSlot(sending_node(instance, *m)),
+        ),
+        Step::EsMessage(m, _) => both(
+            Fact::Start(sender(instance, *m)),
+            Limit::LeastFrame(sending_node(instance, *m)),
+        ),
+        Step::LoSend(m) => both(
+            Fact::Start(sender(instance, *m)),
+            Limit::GreatestSlot(sending_node(instance, *m)),
+        ),
+        Step::LeOwn(_) => fixed(Limit::Goal),
+        Step::LeLink(l) => one(Fact::End(link_after(instance, *l))),
+        Step::LeBefore(p, q) => two(Fact::End(*q), Fact::Order(*p, *q)),
+        Step::LeMessage(m, q) => both(Fact::End(*q), Limit::LeastFrame(sending_node(instance, *m))),
+        Step::LeSend(m) => both(
+            Fact::LateRound(*m),
+            Limit::GreatestSlot(sending_node(instance, *m)),
+        ),
+        Step::HiArrive(m, q) => both(Fact::End(*q), Limit::LeastSlot(sending_node(instance, *m))),
+        Step::OrdWindow(p, q) => two(Fact::End(*p), Fact::Start(*q)),
+        Step::UsSettled(p) => waits(*p),
+        Step::XWindow(p) => two(Fact::Start(*p), Fact::End(*p)),
+        Step::XRound(m) => two(Fact::FirstRound(*m), Fact::LateRound(*m)),
+        Step::XCycle(ring) => neighbours(ring),
+        Step::XLoad(n, a, b) => runs(*n, *a, *b),
+        Step::XFrame(m) => fixed(Limit::GreatestFrame(sending_node(instance, *m))),
+        Step::XFrames(n, a, b) => frames(*n, *a, *b),
+        Step::XChannel(k, n, a, b) => halves(*k, *n, *a, *b),
+        Step::XLate(m, r) => earlier(*m, *r),
+        Step::XSilent(_, v) => fixed(Limit::Place(*v)),
+        Step::XMirror(m) => lower(*m),
+    }
+}
+
+/// The line of a step.
+pub fn line_of(step: &Step) -> Line<'_>
+    ensures row { row_of result ≡ step_row step.now }
+    ensures long { IsLong step.now }
+{
+    match step {
+        Step::EsRelease(p) => plain_line(b"es-release", FewNumbers::One(*p)),
+        Step::EsLink(l) => plain_line(b"es-link", FewNumbers::One(*l)),
+        Step::EsBefore(p, q) => plain_line(b"es-before", FewNumbers::Two(*p, *q)),
+        Step::EsArrive(m, q) => plain_line(b"es-arrive", FewNumbers::Two(*m, *q)),
+        Step::EsMessage(m, q) => plain_line(b"es-message", FewNumbers::Two(*m, *q)),
+        Step::LoSend(m) => plain_line(b"lo-send", FewNumbers::One(*m)),
+        Step::LeOwn(p) => plain_line(b"le-own", FewNumbers::One(*p)),
+        Step::LeLink(l) => plain_line(b"le-link", FewNumbers::One(*l)),
+        Step::LeBefore(p, q) => plain_line(b"le-before", FewNumbers::Two(*p, *q)),
+        Step::LeMessage(m, q) => plain_line(b"le-message", FewNumbers::Two(*m, *q)),
+        Step::LeSend(m) => plain_line(b"le-send", FewNumbers::One(*m)),
+        Step::HiArrive(m, q) => plain_line(b"hi-arrive", FewNumbers::Two(*m, *q)),
+        Step::OrdWindow(p, q) => plain_line(b"ord-window", FewNumbers::Two(*p, *q)),
+        Step::OrdTwin(p, q) => plain_line(b"ord-twin", FewNumbers::Two(*p, *q)),
+        Step::UsSettled(p) => plain_line(b"us-settled", FewNumbers::One(*p)),
+        Step::XWindow(p) => plain_line(b"x-window", FewNumbers::One(*p)),
+        Step::XRound(m) => plain_line(b"x-round", FewNumbers::One(*m)),
+        Step::XCycle(ring) => ring_line(b"x-cycle", ring),
+        Step::XLoad(n, a, b) => plain_line(b"x-load", FewNumbers::Three(*n, *a, *b)),
+        Step::XFrame(m) => plain_line(b"x-frame", FewNumbers::One(*m)),
+        Step::XFrames(n, a, b) => plain_line(b"x-frames", FewNumbers::Three(*n, *a, *b)),
+        Step::XChannel(k, n, a, b) => channel_line(b"x-channel", FewNumbers::Four(*k, *n, *a, *b)),
+        Step::XLate(m, r) => plain_line(b"x-late", FewNumbers::Two(*m, *r)),
+        Step::XSilent(u, v) => plain_line(b"x-silent", FewNumbers::Two(*u, *v)),
+        Step::XMirror(m) => channel_line(b"x-mirror", FewNumbers::One(*m)),
+    }
+}
+
+fn with_one(keyword: &[u8], a: u32) -> Option<Step>
+    ensures { result ≡ with_keyword step_words keyword.now (steps_with (a ∷ [])) }
+{
+    if keyword == b"es-release".as_slice() {
+        return Some(Step::EsRelease(a));
+    }
+    if keyword == b"es-link".as_slice() {
+        return Some(Step::EsLink(a));
+    }
+    if keyword == b"lo-send".as_slice() {
+        return Some(Step::LoSend(a));
+    }
+    if keyword == b"le-own".as_slice() {
+        return Some(Step::LeOwn(a));
+    }
+    if keyword == b"le-link".as_slice() {
+        return Some(Step::LeLink(a));
+    }
+    if keyword == b"le-send".as_slice() {
+        return Some(Step::LeSend(a));
+    }
+    if keyword == b"us-settled".as_slice() {
+        return Some(Step::UsSettled(a));
+    }
+    if keyword == b"x-window".as_slice() {
+        return Some(Step::XWindow(a));
+    }
+    if keyword == b"x-round".as_slice() {
+        return Some(Step::XRound(a));
+    }
+    if keyword == b"x-frame".as_slice() {
+        return Some(Step::XFrame(a));
+    }
+    if keyword == b"x-mirror".as_slice() {
+        return Some(Step::XMirror(a));
+    }
+    None
+}
+
+fn with_two(keyword: &[u8], a: u32, b: u32) -> Option<Step>
+    requires { keyword.now ≢ codes "x-cycle" }
+    ensures { result ≡ with_keyword step_words keyword.now (steps_with (a ∷ b ∷ [])) }
+{
+    if keyword == b"es-before".as_slice() {
+        return Some(Step::EsBefore(a, b));
+    }
+    if keyword == b"es-arrive".as_slice() {
+        return Some(Step::EsArrive(a, b));
+    }
+    if keyword == b"es-message".as_slice() {
+        return Some(Step::EsMessage(a, b));
+    }
+    if keyword == b"le-before".as_slice() {
+        return Some(Step::LeBefore(a, b));
+    }
+    if keyword == b"le-message".as_slice() {
+        return Some(Step::LeMessage(a, b));
+    }
+    if keyword == b"hi-arrive".as_slice() {
+        return Some(Step::HiArrive(a, b));
+    }
+    if keyword == b"ord-window".as_slice() {
+        return Some(Step::OrdWindow(a, b));
+    }
+    if keyword == b"ord-twin".as_slice() {
+        return Some(Step::OrdTwin(a, b));
+    }
+    if keyword == b"x-late".as_slice() {
+        return Some(Step::XLate(a, b));
+    }
+    if keyword == b"x-silent".as_slice() {
+        return Some(Step::XSilent(a, b));
+    }
+    None
+}
+
+fn with_three(keyword: &[u8], a: u32, b: u32, c: u32) -> Option<Step>
+    requires { keyword.now ≢ codes "x-cycle" }
+    ensures { result ≡ with_keyword step_words keyword.now (steps_with (a ∷ b ∷ c ∷ [])) }
+{
+    if keyword == b"x-load".as_slice() {
+        return Some(Step::XLoad(a, b, c));
+    }
+    if keyword == b"x-frames".as_slice() {
+        return Some(Step::XFrames(a, b, c));
+    }
+    None
+}
+
+fn with_four(keyword: &[u8], a: u32, b: u32, c: u32, d: u32) -> Option<Step>
+    requires { keyword.now ≢ codes "x-cycle" }
+    ensures { result ≡ with_keyword step_words keyword.now (steps_with (a ∷ b ∷ c ∷ d ∷ [])) }
+{
+    if keyword == b"x-channel".as_slice() {
+        return Some(Step::XChannel(a, b, c, d));
+    }
+    None
+}
+
+/// The step that a keyword and few numbers say. Of a cycle it isn't asked, which may have more.
+pub fn step_with(keyword: &[u8], numbers: FewNumbers) -> Option<Step>
+    requires { keyword.now ≢ codes "x-cycle" }
+    ensures { result ≡ with_keyword step_words keyword.now (steps_with (numbers_in numbers)) }
+{
+    match numbers {
+        FewNumbers::One(a) => with_one(keyword, a),
+        FewNumbers::Two(a, b) => with_two(keyword, a, b),
+        FewNumbers::Three(a, b, c) => with_three(keyword, a, b, c),
+        FewNumbers::Four(a, b, c, d) => with_four(keyword, a, b, c, d),
     }
 }

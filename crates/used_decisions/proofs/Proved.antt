@@ -3,12 +3,12 @@ use Rattle.std.proofs.Common.{◌≡◌, ℕ, ◌<◌, ◌≤◌, ◌&&◌, ◌|
 use Rattle.std.proofs.Common.{IsFalse, arith, inl, inr, refl, sym, subst, ◌∙◌, get_or-set_other}
 use Rattle.std.proofs.lemmas.Bool.{cases_eq, lt-ltb}
 use Rattle.ttp_model.specs.declared.step.Kind.{Kind}
-use Rattle.ttp_model.specs.declared.step.Kind.TheVariants as kinds
 use Rattle.ttp_model.specs.Instance.{Instance}
 use Rattle.tt_choice.specs.declared.decision.Decision.{Decision}
 use Rattle.tt_choice.specs.Branches.{IsOpen, children}
 use Rattle.tt_choice.specs.Decisions.{chosen, decision_of}
-use Rattle.tt_choice.specs.Kept.{keep, drop, all_of, HasPlaces, places_kept}
+use Rattle.tt_choice.specs.Kinds.{is_of_places}
+use Rattle.tt_choice.specs.Kept.{keep, drop, all_of, places_kept}
 use Rattle.step_reads.specs.RuledOut.IsRuledOut.{by_children, by_one}
 use Rattle.decision_paths.specs.declared.turn.Turn.{Turn}
 use Rattle.decision_paths.specs.declared.turn.Placed.{Placed}
@@ -28,23 +28,16 @@ proved_by_one i low used ds kind k is there never proved = λ ms keeps.
     let d = decision_of i (chosen i ds) kind k in
     by_one ms kind k (rw all is) (rw all there) (rw all (proved (ms ++ drop d ∷ []) (keeps_drop used 0 ds ms d (length ds) (omega arith) never keeps)))
 
-has_places : (kind : Kind) (all : Bool) → (kind ≡ kinds.Place → all ≡ true) → HasPlaces kind all
-has_places kinds.Place all is = is refl
-has_places (kinds.Cap n) all is = tt
-has_places (kinds.Pair p q) all is = tt
-has_places (kinds.Round m r) all is = tt
-has_places (kinds.Chan m) all is = tt
-
 -- a branch all of whose children are closed needs what they need, and all places where it takes the next one
 pub proved_by_all : (i : Instance) (low : ℕ) (ds : List Decision) (kind : Kind) (count : ℕ) (closed below used : List Bool)
     → HasClosed i low ds kind count closed below
     → ((k : ℕ) → k < count → IsTrue (has_level closed k))
     → ((level : ℕ) → IsTrue (has_level below level) → IsTrue (has_level used level))
-    → (kind ≡ kinds.Place → All (λ (one : Placed). IsTrue (has_level used one.level)) (placed_of (levelled 0 ds)))
+    → (IsTrue (is_of_places kind) → All (λ (one : Placed). IsTrue (has_level used one.level)) (placed_of (levelled 0 ds)))
     → IsProvedBy i low used ds
 proved_by_all i low ds kind count closed below used has all_closed more places = λ ms keeps.
     let all : all_of ms ≡ ds = all_of_is used 0 ds ms keeps in
-    by_children ms kind (rw all has.is.is_open) (has_places kind (places_kept true ms) (λ is. places_are_kept used 0 ds ms (places is) keeps))
+    by_children ms kind (rw all has.is.is_open) (λ is. places_are_kept used 0 ds ms (places is) keeps)
     (rw all (λ k there.
     let inside : k < count = omega (arith, there, has.is.just) in
     has.proved k inside (all_closed k inside) ms (keeps_fewer below used 0 ds ms more keeps)))

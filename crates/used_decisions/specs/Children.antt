@@ -1,7 +1,6 @@
 -- The children of a branch by what leads to them. Only private contracts ask for it.
-use Rattle.std.specs.Prelude.{◌≡◌, ℕ, zero, suc, ◌==◌, not, List, length, filter, Bool}
+use Rattle.std.specs.Prelude.{ℕ, ◌==◌, not, List, length, filter, Bool}
 use Rattle.std.specs.List.{range_with_len, list_any}
-use Rattle.tt_choice.specs.declared.decision.Decision.{Decision}
 use Rattle.decision_paths.specs.declared.turn.Turn.{Turn}
 use Rattle.decision_paths.specs.Turns.{Path, placed_of, nodes_of}
 
@@ -12,9 +11,3 @@ is_free turns n = not (list_any (λ m. m == n) (nodes_of (placed_of turns)))
 -- the nodes that a path doesn't place, rising
 abbrev pub free_nodes : Path → List ℕ
 free_nodes path = filter (is_free path.turns) (range_with_len 0 (length path.instance.nodes))
-
--- a decision is the first or the second of two
-abbrev pub IsNth : Decision → Decision → Decision → ℕ → Type 0
-IsNth decision first second zero = decision ≡ first
-IsNth decision first second (suc zero) = decision ≡ second
-IsNth decision first second (suc (suc k)) = ⊥

@@ -2,16 +2,17 @@
 
 ghost use Rattle.std.specs.Prelude.{◌≡◌, ◌<◌, ℕ, IfSome, IsTrue, All, length, slice_index, filter};
 ghost use Rattle.std.specs.List.{range_with_len};
-ghost use Rattle.ttp_model.specs.declared.step.Kind.TheVariants.{Place};
+ghost use Rattle.ttp_model.specs.Instance.{Instance};
 ghost use Rattle.tt_choice.specs.Choice.{Choice};
-ghost use Rattle.tt_choice.specs.Decisions.{decision_of};
+ghost use Rattle.tt_choice.specs.Changes.{unplaced};
+ghost use Rattle.tt_choice.specs.Kinds.{decision_of, is_of_places};
 ghost use Rattle.decision_paths.specs.Levels.{has_level};
 ghost use Rattle.decision_paths.specs.Turns.{placed_of, nodes_of};
 ghost use Rattle.leaf_decisions.specs.Uses.{HaveMarked};
-ghost use Rattle.used_decisions.specs.Children.{is_free, free_nodes, IsNth};
+ghost use Rattle.used_decisions.specs.Children.{is_free, free_nodes};
 
 use decision_paths::{Levels, Path, Placed};
-use tt_choice::Decision;
+use tt_choice::{Decision, decision_at, is_of_places};
 use ttp_model::Kind;
 
 /// How many nodes below one aren't placed.
@@ -38,40 +39,23 @@ fn child_with(path: &Path, n: u32) -> Option<u32>
     }
 }
 
-/// Whether a decision is the first or the second of two.
-fn nth(decision: Decision, first: Decision, second: Decision) -> Option<u32>
-    ensures { IfSome result (IsNth decision first second) }
+/// This number, where it is that of the child to which a decision leads; a node is that of the child, where it is put next.
+fn where_made(kind: Kind, decision: Decision, k: u32, node: Option<u32>) -> Option<u32>
+    ensures { IfSome result (λ j. (j ≡ k) × ((i : Instance) (c : Choice)
+        → IfSome node (λ n. n ≡ slice_index (unplaced i c) k) → decision ≡ decision_of i c kind k)) }
 {
-    if decision == first {
-        Some(0)
-    } else if decision == second {
-        Some(1)
-    } else {
-        None
-    }
+    let made = decision_at(kind, k, node)?;
+    if made == decision { Some(k) } else { None }
 }
 
-/// The number that a decision ends with.
-fn number_in(decision: Decision) -> u32 {
-    match decision {
-        Decision::Place(n) => n,
-        Decision::Cap(_, k) => k,
-        Decision::Before(_, q) => q,
-        Decision::AtMost(_, r) => r,
-        Decision::AtLeast(_, r) => r,
-        Decision::Channel(_, k) => k,
-    }
-}
-
-/// This number, where two decisions are the same.
-fn where_same(decision: Decision, other: Decision, number: u32) -> Option<u32>
-    ensures { IfSome result (λ k. (k ≡ number) × (decision ≡ other)) }
+/// Whether a decision leads to the first or the second child.
+fn one_of_two(kind: Kind, decision: Decision) -> Option<u32>
+    ensures { IfSome result (λ k. (i : Instance) (c : Choice) → decision ≡ decision_of i c kind k) }
 {
-    if decision == other {
-        Some(number)
-    } else {
-        None
+    if let Some(first) = where_made(kind, decision, 0, None) {
+        return Some(first);
     }
+    where_made(kind, decision, 1, None)
 }
 
 /// Which child of a branch a decision leads to, from 0, if it leads to one.
@@ -79,19 +63,15 @@ pub fn child_of(path: &Path, kind: Kind, decision: Decision) -> Option<u32>
     ensures { IfSome result (λ k. (c : Choice) → c.prefix ≡ nodes_of (placed_of path.now.turns)
         → decision ≡ decision_of path.now.instance c kind k) }
 {
-    let number = number_in(decision);
-    match kind {
-        Kind::Place => {
-            let n = where_same(decision, Decision::Place(number), number)?;
-            child_with(path, n)
+    match decision {
+        Decision::Place(n) => {
+            let k = child_with(path, n)?;
+            where_made(kind, decision, k, Some(n))
         }
-        Kind::Cap(n) => where_same(decision, Decision::Cap(n, number), number),
-        Kind::Pair(p, q) => nth(decision, Decision::Before(p, q), Decision::Before(q, p)),
-        Kind::Round(m, r) => {
-            let next = r.checked_add(1)?;
-            nth(decision, Decision::AtMost(m, r), Decision::AtLeast(m, next))
+        Decision::Cap(_, k) | Decision::Channel(_, k) => where_made(kind, decision, k, None),
+        Decision::Before(_, _) | Decision::AtMost(_, _) | Decision::AtLeast(_, _) => {
+            one_of_two(kind, decision)
         }
-        Kind::Chan(m) => where_same(decision, Decision::Channel(m, number), number),
     }
 }
 
@@ -107,12 +87,11 @@ fn insert_all(placed: &[Placed], levels: &mut Levels)
 /// What a branch uses with what its children do: how many of them take a place depends on all places above.
 pub fn used_with(path: &Path, kind: Kind, below: Levels) -> Levels
     ensures kept { (level : ℕ) → IsTrue (has_level below level) → IsTrue (has_level result level) }
-    ensures places { kind ≡ Place → All (λ one. one.level < length below → IsTrue (has_level result one.level)) (placed_of path.now.turns) }
+    ensures places { IsTrue (is_of_places kind) → All (λ one. one.level < length below → IsTrue (has_level result one.level)) (placed_of path.now.turns) }
 {
     let mut used = below;
-    match kind {
-        Kind::Place => insert_all(path.order(), &mut used),
-        Kind::Cap(_) | Kind::Pair(_, _) | Kind::Round(_, _) | Kind::Chan(_) => {}
+    if is_of_places(kind) {
+        insert_all(path.order(), &mut used);
     }
     used
 }

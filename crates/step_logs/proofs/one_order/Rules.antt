@@ -7,14 +7,15 @@ use Rattle.ttp_model.specs.Instance.{Instance}
 use Rattle.tt_choice.specs.Choice.{Choice, ArePair}
 use Rattle.tt_choice.specs.Branches.{order_pair}
 use Rattle.tt_choice.proofs.Before.{put_other}
-use Rattle.step_reads.specs.declared.fact.Fact.{Fact}
-use Rattle.step_reads.specs.declared.fact.Fact.TheVariants.{Start, End, FirstRound, LateRound, Order, Closed}
-use Rattle.step_reads.specs.declared.limit.Limit.{Limit}
-use Rattle.step_reads.specs.declared.limit.Limit.TheVariants.{Goal, LeastSlot, GreatestSlot, LeastFrame, GreatestFrame, Place, Copies, Counted}
+use Rattle.tt_infer.specs.declared.fact.Fact.{Fact}
+use Rattle.tt_infer.specs.declared.fact.Fact.TheVariants.{Start, End, FirstRound, LateRound, Order, Closed}
+use Rattle.tt_infer.specs.declared.limit.Limit.{Limit}
+use Rattle.tt_infer.specs.declared.limit.Limit.TheVariants.{Goal, LeastSlot, GreatestSlot, LeastFrame, GreatestFrame, Place, Copies, Counted}
 use Rattle.sought_plans.specs.Known.{Known, Fits, bef_of}
 use Rattle.tt_infer.specs.Table.{IsLawful}
-use Rattle.step_reads.specs.Reads.{AgreeOn, AgreeOnReads, GivesAlike, ReadsFact}
-use Rattle.step_reads.proofs.alike.Steps.{gives_alike, reads_unknown}
+use Rattle.tt_infer.specs.Reads.{AgreeOn, AgreeOnReads, GivesAlike, ReadsFact}
+use Rattle.tt_infer.proofs.SameGiven.{gives_alike}
+use Rattle.tt_infer.proofs.Rows.{reads_unknown}
 use Rattle.step_logs.proofs.one_order.Known.{ordered, sharpened_ordered}
 
 module _ (i : Instance) (c : Choice) (goal : ℕ) (f : Known) (p q : ℕ) (pair : ArePair i p q) (fits : Fits i f) where

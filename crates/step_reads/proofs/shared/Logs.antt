@@ -6,22 +6,22 @@ use Rattle.ttp_model.specs.Instance.{Instance}
 use Rattle.ttp_model.specs.Rules.{IsInstance}
 use Rattle.tt_choice.specs.Choice.{Choice, IsChoice}
 use Rattle.tt_choice.specs.Inside.{IsInside}
-use Rattle.step_reads.specs.declared.fact.Fact.{Fact}
+use Rattle.tt_infer.specs.declared.fact.Fact.{Fact}
 use Rattle.sought_plans.specs.Known.{Known, Fits, first_facts}
 use Rattle.sought_plans.specs.Conclusions.{Conclusion, StartsFrom, EndsUntil, SentFrom, SentBefore, GoesFirst, NothingLeft, IsAbout, sharpened}
 use Rattle.tt_infer.specs.Sharper.{IsSharper}
 use Rattle.tt_infer.specs.Leaves.{LeadSharply, ClosesSharply}
 use Rattle.step_reads.specs.Targets.{fact_of, target}
-use Rattle.step_reads.specs.Reads.{AgreeOn, AgreeOnReads}
+use Rattle.tt_infer.specs.Reads.{AgreeOn, AgreeOnReads}
 use Rattle.step_reads.specs.Shared.{SayAlike, IsWritten, ReadShared}
 use Rattle.tt_infer.proofs.FirstFacts.{first_facts_fit}
 use Rattle.tt_infer.proofs.Keeps.{Fits-sharpened}
 use Rattle.tt_infer.proofs.Sound.{step_is_about}
-use Rattle.step_reads.proofs.Targets.{target_is}
+use Rattle.tt_infer.proofs.Rows.{target_is}
 use Rattle.tt_infer.proofs.monotone.FirstFacts.{first_facts_sharper}
 use Rattle.tt_infer.proofs.monotone.Nested.{IsStronger}
 use Rattle.tt_infer.proofs.monotone.Sharpened.{IsSharper-stronger}
-use Rattle.step_reads.proofs.alike.Steps.{lawful_alike}
+use Rattle.tt_infer.proofs.SameGiven.{lawful_alike}
 use Rattle.step_reads.proofs.shared.After.{agree_after}
 use Rattle.step_reads.proofs.shared.Written.{agree_written, still_sharp}
 

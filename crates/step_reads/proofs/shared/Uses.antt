@@ -18,15 +18,15 @@ use Rattle.tt_choice.proofs.Decisions.{IsChoice-after_all}
 use Rattle.tt_choice.proofs.Extend.{first_part}
 use Rattle.tt_choice.proofs.Root.{IsChoice-root}
 use Rattle.tt_choice.proofs.kept.Law.{ends, kept_are_open, kept_is_outside, kept_least, kept_greatest, kept_order, kept_least_frame, kept_greatest_frame, kept_channel, kept_least_slot, kept_greatest_slot}
-use Rattle.step_reads.specs.declared.fact.Fact.{Fact}
-use Rattle.step_reads.specs.declared.fact.Fact.TheVariants.{Start, End, FirstRound, LateRound, Order, Closed}
-use Rattle.step_reads.specs.declared.limit.Limit.{Limit}
-use Rattle.step_reads.specs.declared.limit.Limit.TheVariants.{Goal, LeastSlot, GreatestSlot, LeastFrame, GreatestFrame, Place, Copies, Counted}
+use Rattle.tt_infer.specs.declared.fact.Fact.{Fact}
+use Rattle.tt_infer.specs.declared.fact.Fact.TheVariants.{Start, End, FirstRound, LateRound, Order, Closed}
+use Rattle.tt_infer.specs.declared.limit.Limit.{Limit}
+use Rattle.tt_infer.specs.declared.limit.Limit.TheVariants.{Goal, LeastSlot, GreatestSlot, LeastFrame, GreatestFrame, Place, Copies, Counted}
 use Rattle.sought_plans.specs.Known.{Known, first_facts, top_of}
 use Rattle.sought_plans.specs.Dominance.{StandsFirst}
 use Rattle.sought_plans.specs.Premises.{copies_of, is_fixed_on}
 use Rattle.tt_infer.specs.Leaves.{ClosesSharply}
-use Rattle.step_reads.specs.Reads.{GivesAlike}
+use Rattle.tt_infer.specs.Reads.{GivesAlike}
 use Rattle.step_reads.specs.Shared.{SayAlike, ReadShared}
 use Rattle.step_reads.specs.Uses.{KeepsFact, KeepsLimit, UseKept}
 use Rattle.step_reads.proofs.shared.Logs.{leaf_shared}

@@ -7,7 +7,7 @@ use Rattle.sought_plans.specs.Known.{Known, Fits, es_of, le_of, lo_of, top_of, b
 use Rattle.sought_plans.specs.Conclusions.{Conclusion, StartsFrom, EndsUntil, SentFrom, SentBefore, GoesFirst, NothingLeft, IsAbout, sharpened, capped}
 use Rattle.tt_infer.specs.Sharper.{IsSharper}
 use Rattle.step_reads.specs.Targets.{fact_of}
-use Rattle.step_reads.specs.Reads.{AgreeOn}
+use Rattle.tt_infer.specs.Reads.{AgreeOn}
 use Rattle.tt_infer.proofs.Keeps.{changed_here}
 use Rattle.step_reads.proofs.Targets.{stays}
 

@@ -3,7 +3,7 @@
 ghost use Rattle.std.specs.Prelude.{◌≡◌, ◌⊎◌, OnOk};
 ghost use Rattle.step_reads.specs.Added.{AddsFacts};
 
-use crate::fact::Fact;
+use tt_infer::Fact;
 use ttp_model::MemoryFault;
 
 /// Adds a fact.

@@ -1,14 +1,13 @@
 //! Which facts say that lower messages of a node are in no round together with one of it?
 
 ghost use Rattle.std.specs.Prelude.{◌≡◌, ◌<◌, ◌↔◌, OnOk, IsTrue, length};
-ghost use Rattle.ttp_model.specs.declared.step.Step.TheVariants.{XMirror};
+ghost use Rattle.tt_infer.specs.Sources.{Lower};
 ghost use Rattle.ttp_model.specs.Instance.{source_of};
-ghost use Rattle.step_reads.specs.Reads.{OfSome, ReadsFact, TellsApart};
+ghost use Rattle.tt_infer.specs.Reads.{OfSome, IsFactOf, TellsApart};
 ghost use Rattle.step_reads.specs.Added.{AddsFacts, TellsOneNodeApart};
 
-use crate::fact::Fact;
 use crate::reads::added::add_two;
-use tt_infer::Facts;
+use tt_infer::{Fact, Facts};
 use ttp_model::{Instance, MemoryFault};
 
 /// Adds what tells that messages `m` and `k` are in no round together, if their rounds tell it: that `k` is sent before `m`, or else that
@@ -52,7 +51,7 @@ fn add_of_node(facts: &Facts, m: u32, k: u32, reads: &mut Vec<Fact>) -> Result<(
 /// Adds what tells it of message `m` and of each lower one of its node: nothing where `m` isn't there. One pass over the lower messages.
 pub fn add_mirror(facts: &Facts, m: u32, reads: &mut Vec<Fact>) -> Result<(), MemoryFault>
     ensures { m < length facts.now.instance.messages
-        → OnOk result (AddsFacts (ReadsFact facts.now.instance facts.now.choice facts.now.known (XMirror m))
+        → OnOk result (AddsFacts (IsFactOf facts.now.instance facts.now.choice facts.now.known (Lower m))
         reads.old.items reads.new.items) }
 {
     if m as usize >= facts.instance().messages().len() {

@@ -1,13 +1,12 @@
 //! Which facts say that a message could be sent in a round?
 
 ghost use Rattle.std.specs.Prelude.{◌<◌, ◌↔◌, OnOk, IsTrue, length};
-ghost use Rattle.ttp_model.specs.declared.step.Step.TheVariants.{XLate};
-ghost use Rattle.step_reads.specs.Reads.{IsOtherOf, KeepsOut, OfSome, ReadsFact};
+ghost use Rattle.tt_infer.specs.Sources.{Earlier};
+ghost use Rattle.tt_infer.specs.Reads.{IsOtherOf, KeepsOut, OfSome, IsFactOf};
 ghost use Rattle.step_reads.specs.Added.{AddsFacts, KeepsOtherOut};
 
-use crate::fact::{Fact, sender};
 use crate::reads::added::{add, add_two};
-use tt_infer::Facts;
+use tt_infer::{Fact, Facts, sender};
 use ttp_model::{Instance, MemoryFault};
 
 /// Adds what keeps message `k` out of the frame of round `r`, if anything does: that it is sent later, or else that it is sent
@@ -69,7 +68,7 @@ fn add_others(facts: &Facts, m: u32, r: u32, reads: &mut Vec<Fact>) -> Result<()
 /// Adds what shows that message `m` could be sent in round `r`: nothing where it isn't there.
 pub fn add_late(facts: &Facts, m: u32, r: u32, reads: &mut Vec<Fact>) -> Result<(), MemoryFault>
     ensures { m < length facts.now.instance.messages
-        → OnOk result (AddsFacts (ReadsFact facts.now.instance facts.now.choice facts.now.known (XLate m r))
+        → OnOk result (AddsFacts (IsFactOf facts.now.instance facts.now.choice facts.now.known (Earlier m r))
         reads.old.items reads.new.items) }
 {
     let instance = facts.instance();

@@ -1,12 +1,12 @@
 //! Which facts say that processes wait for each other?
 
 ghost use Rattle.std.specs.Prelude.{◌-◌, ◌≤◌, OnOk, length};
-ghost use Rattle.step_reads.specs.Reads.{IsKnownPair, OfSome};
+ghost use Rattle.tt_infer.specs.Reads.{IsKnownPair, OfSome};
 ghost use Rattle.step_reads.specs.Added.{AddsFacts, OrdersNext, OrdersPair};
 
-use crate::fact::Fact;
 use crate::reads::added::add;
 use sought_plans::leads;
+use tt_infer::Fact;
 use ttp_model::{Instance, MemoryFault};
 
 /// Adds that process `p` goes before `q`, where neither a link nor a message leads from one to the other.

@@ -1,15 +1,14 @@
 //! Which facts say what runs, or is sent, in a span?
 
 ghost use Rattle.std.specs.Prelude.{◌≡◌, ◌<◌, OnOk, length};
-ghost use Rattle.ttp_model.specs.declared.step.Step.TheVariants.{XLoad, XFrames, XChannel};
+ghost use Rattle.tt_infer.specs.Sources.{Runs, Frames, Halves};
 ghost use Rattle.sought_plans.specs.Premises.{runs_within, sent_within};
-ghost use Rattle.step_reads.specs.Reads.{BoundsRun, BoundsSending, ReadsFact, counted_within};
+ghost use Rattle.tt_infer.specs.Reads.{BoundsRun, BoundsSending, IsFactOf, counted_within};
 ghost use Rattle.step_reads.specs.Added.{AddsFacts, BoundsCounted, BoundsRunWithin, BoundsSendingWithin};
 
-use crate::fact::Fact;
 use crate::reads::added::{add, add_two};
 use sought_plans::counts_on;
-use tt_infer::Facts;
+use tt_infer::{Fact, Facts};
 use ttp_model::MemoryFault;
 
 /// Adds the latest end of process `p`, and its earliest start where it has to be after 0.
@@ -122,7 +121,7 @@ pub fn add_load(
     b: u32,
     reads: &mut Vec<Fact>,
 ) -> Result<(), MemoryFault>
-    ensures { OnOk result (AddsFacts (ReadsFact facts.now.instance facts.now.choice facts.now.known (XLoad n a b))
+    ensures { OnOk result (AddsFacts (IsFactOf facts.now.instance facts.now.choice facts.now.known (Runs n a b))
         reads.old.items reads.new.items) }
 {
     let instance = facts.instance();
@@ -140,7 +139,7 @@ pub fn add_frames(
     b: u32,
     reads: &mut Vec<Fact>,
 ) -> Result<(), MemoryFault>
-    ensures { OnOk result (AddsFacts (ReadsFact facts.now.instance facts.now.choice facts.now.known (XFrames n a b))
+    ensures { OnOk result (AddsFacts (IsFactOf facts.now.instance facts.now.choice facts.now.known (Frames n a b))
         reads.old.items reads.new.items) }
 {
     let instance = facts.instance();
@@ -159,7 +158,7 @@ pub fn add_channel(
     b: u32,
     reads: &mut Vec<Fact>,
 ) -> Result<(), MemoryFault>
-    ensures { OnOk result (AddsFacts (ReadsFact facts.now.instance facts.now.choice facts.now.known (XChannel k n a b))
+    ensures { OnOk result (AddsFacts (IsFactOf facts.now.instance facts.now.choice facts.now.known (Halves k n a b))
         reads.old.items reads.new.items) }
 {
     let instance = facts.instance();

@@ -1,13 +1,12 @@
 //! Which facts say how long a process may have to wait?
 
 ghost use Rattle.std.specs.Prelude.{◌<◌, ◌↔◌, OnOk, IsTrue, length};
-ghost use Rattle.ttp_model.specs.declared.step.Step.TheVariants.{UsSettled};
-ghost use Rattle.step_reads.specs.Reads.{IsRival, OfSome, ReadsFact, TellsWait};
+ghost use Rattle.tt_infer.specs.Sources.{Waits};
+ghost use Rattle.tt_infer.specs.Reads.{IsRival, OfSome, IsFactOf, TellsWait};
 ghost use Rattle.step_reads.specs.Added.{AddsFacts, TellsArrival, TellsRivalWait};
 
-use crate::fact::Fact;
 use crate::reads::added::{add, add_two};
-use tt_infer::{Facts, receives};
+use tt_infer::{Fact, Facts, receives};
 use ttp_model::{Instance, MemoryFault, has_link};
 
 /// Whether process `x` is another one of the node of process `p`, and no link leads to it from `p`.
@@ -86,7 +85,7 @@ fn add_arrivals(instance: &Instance, p: u32, reads: &mut Vec<Fact>) -> Result<()
 /// Adds what tells how long process `p` may have to wait: nothing where it isn't there.
 pub fn add_settled(facts: &Facts, p: u32, reads: &mut Vec<Fact>) -> Result<(), MemoryFault>
     ensures { p < length facts.now.instance.processes
-        → OnOk result (AddsFacts (ReadsFact facts.now.instance facts.now.choice facts.now.known (UsSettled p))
+        → OnOk result (AddsFacts (IsFactOf facts.now.instance facts.now.choice facts.now.known (Waits p))
         reads.old.items reads.new.items) }
 {
     if p as usize >= facts.instance().processes().len() {

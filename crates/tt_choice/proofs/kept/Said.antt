@@ -11,7 +11,7 @@ use Rattle.tt_choice.specs.Inside.{IsInside}
 use Rattle.tt_choice.specs.Kept.{sets_least, sets_greatest, sets_order, fixes_above, fixes_below, fixes_channel}
 use Rattle.tt_choice.proofs.Before.{put_other, put_same}
 use Rattle.tt_choice.proofs.kept.Alike.{IsSetBy}
-use Rattle.tt_choice.proofs.kept.Wider.{none_outside}
+use Rattle.tt_choice.proofs.Open.{none_outside}
 
 never : {P : Type 0} → IsTrue false → P
 never is = absurd (false≢true is)

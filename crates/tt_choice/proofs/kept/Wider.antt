@@ -1,8 +1,9 @@
 -- What some of the decisions make is wider than what all of them make, and they are open there too.
-use Rattle.std.proofs.Common.{◌≡◌, ◌≢◌, ℕ, ◌*◌, ◌<◌, ◌==◌, ◌&&◌, not, List, [], ◌∷◌, ◌++◌, length, slice_index, Option, None, Some, Bool, true, false, IsTrue, IsFalse, arith, inl, inr, refl, ap, sym, subst, ◌∙◌, append_assoc, get_or-set_other, get_or-set_same}
+use Rattle.std.proofs.Common.{◌≡◌, ℕ, ◌*◌, ◌<◌, ◌==◌, ◌&&◌, not, List, [], ◌∷◌, ◌++◌, length, slice_index, Option, None, Some}
+use Rattle.std.proofs.Common.{Bool, true, false, IsTrue, IsFalse, arith, inl, inr, refl, ap, sym, subst, ◌∙◌, append_assoc, get_or-set_other, get_or-set_same}
 use Rattle.std.specs.List.{list_any}
 use Rattle.std.proofs.lemmas.List.{append-nil}
-use Rattle.std.proofs.lemmas.Bool.{cases_Bool, cases_eq, both_ways}
+use Rattle.std.proofs.lemmas.Bool.{cases_eq, both_ways}
 use Rattle.ttp_model.specs.Instance.{Instance, node_at}
 use Rattle.tt_choice.specs.declared.decision.Decision.{Decision}
 use Rattle.tt_choice.specs.declared.decision.Decision.TheVariants as decided
@@ -14,8 +15,9 @@ use Rattle.tt_choice.specs.Decisions.{choice_after, choice_after_all, IsOpenDeci
 use Rattle.tt_choice.specs.Inside.{IsInside, IsKeptBy}
 use Rattle.tt_choice.specs.Kept.{Marked, keep, drop, all_of, kept_of, takes_place, KeepsPlaces, places_kept}
 use Rattle.tt_choice.proofs.Before.{put_kept, put_only, put_same}
+use Rattle.tt_choice.proofs.Open.{node_outside, pair_outside, cut_outside, channel_outside}
 use Rattle.tt_choice.proofs.Decisions.{IsChoice-after}
-use Rattle.tt_choice.proofs.Inside.{begins_too, fixed_too, IsInside-self, IsInside-place, IsInside-fix, IsInside-order, IsInside-at_most, IsInside-at_least, IsInside-fix_channel}
+use Rattle.tt_choice.proofs.Inside.{begins_too, fixed_too, IsInside-self, IsInside-after}
 
 kept_twice : (one other last : Option ℕ) → IsKeptBy one other → IsKeptBy other last → IsKeptBy one last
 kept_twice None other last first second = tt
@@ -31,14 +33,6 @@ IsInside-trans i a b c first second = record {
   until = λ m h. omega (arith, first.until m h, second.until m h);
   channels = λ m h. kept_twice (fixed_channel c m) (fixed_channel b m) (fixed_channel a m) (second.channels m h) (first.channels m h);
 }
-
-pub IsInside-after : (i : Instance) (c : Choice) (δ : Decision) → IsChoice i c → IsOpenDecision i c δ → IsInside i (choice_after i c δ) c
-IsInside-after i c (decided.Place n) ok is = IsInside-place i c n
-IsInside-after i c (decided.Cap n k) ok is = IsInside-fix i c n k is.free.1
-IsInside-after i c (decided.Before p q) ok is = IsInside-order i c p q ok is.pair
-IsInside-after i c (decided.AtMost m r) ok is = IsInside-at_most i c m r ok is.message (omega (arith, is.below))
-IsInside-after i c (decided.AtLeast m r) ok is = IsInside-at_least i c m r ok is.message (omega (arith, is.above))
-IsInside-after i c (decided.Channel m k) ok is = IsInside-fix_channel i c m k is.free.free
 
 -- plans in a choice are in each choice that it is inside of
 pub IsIn-outside : (i : Instance) (inner outer : Choice) (plan : Plan) → IsInside i inner outer → IsIn i inner plan → IsIn i outer plan
@@ -75,18 +69,6 @@ pub record IsWider (i : Instance) (all : Bool) (c d : Choice) : Type 0 where
 pub same_prefix : (i : Instance) (all : Bool) (c d : Choice) → IsWider i all c d → IsTrue all → c.prefix ≡ d.prefix
 same_prefix i all c d wide is = wide.front ∙ ap (λ (rest : List ℕ). d.prefix ++ rest) (wide.whole is) ∙ append-nil d.prefix
 
-count_of : Option ℕ → ℕ
-count_of None = 0
-count_of (Some x) = 1
-
-some_none : (x : ℕ) → Some x ≢ None
-unfolding count_of
-some_none x same = let ends = ap count_of same in absurd (omega (arith, ends))
-
-pub none_outside : (one other : Option ℕ) → IsKeptBy one other → other ≡ None → one ≡ None
-none_outside None other kept none = refl
-none_outside (Some fixed) other kept none = absurd (some_none fixed (sym kept ∙ none))
-
 and_false : (b : Bool) → (b && false) ≡ false
 and_false true = refl
 and_false false = refl
@@ -95,12 +77,6 @@ and_true : (b : Bool) → (b && true) ≡ true → b ≡ true
 and_true true holds = refl
 and_true false holds = holds
 
-not_outside : (c d : Choice) (p q : ℕ) → (IsTrue (is_before d p q) → IsTrue (is_before c p q)) → IsFalse (is_before c p q) → IsFalse (is_before d p q)
-not_outside c d p q inside none = elim (cases_Bool (is_before d p q)) [
-  | inl is ↦ absurd (both_ways _ none (inside is))
-  | inr not ↦ not
-]
-
 module _ (i : Instance) (all : Bool) (c d : Choice) (wide : IsWider i all c d) where
   -- a decision that is open where all are made is open where some are
   pub open_wider : (δ : Decision) → (IsTrue (takes_place δ) → IsTrue all) → IsOpenDecision i c δ → IsOpenDecision i d δ
@@ -108,32 +84,15 @@ module _ (i : Instance) (all : Bool) (c d : Choice) (wide : IsWider i all c d) w
     node = is.node;
     new = subst (λ (prefix : List ℕ). IsFalse (list_any (λ (m : ℕ). m == n) prefix)) (same_prefix i all c d wide (places refl)) is.new;
   }
-  open_wider (decided.Cap n k) places is = record {
-    free = (is.free.0, none_outside (fixed_cap d n) (fixed_cap c n) (wide.inside.fixed n is.free.0) is.free.1);
-    option = is.option;
-  }
-  open_wider (decided.Before p q) places is = record {
-    pair = is.pair;
-    not_before = not_outside c d p q (wide.inside.pairs p q) is.not_before;
-    not_after = not_outside c d q p (wide.inside.pairs q p) is.not_after;
-  }
-  open_wider (decided.AtMost m r) places is = record {
-    message = is.message;
-    from = omega (arith, is.from, wide.inside.from m is.message);
-    below = omega (arith, is.below, wide.inside.until m is.message);
-  }
+  open_wider (decided.Cap n k) places is = record { free = node_outside i c d wide.inside n is.free; option = is.option }
+  open_wider (decided.Before p q) places is = pair_outside i c d wide.inside p q is
+  open_wider (decided.AtMost m r) places is = cut_outside i c d wide.inside m r is
   open_wider (decided.AtLeast m r) places is = record {
     message = is.message;
     above = omega (arith, is.above, wide.inside.from m is.message);
     to = omega (arith, is.to, wide.inside.until m is.message);
   }
-  open_wider (decided.Channel m k) places is = record {
-    free = record {
-      message = is.free.message;
-      free = none_outside (fixed_channel d m) (fixed_channel c m) (wide.inside.channels m is.free.message) is.free.free;
-    };
-    known = is.known;
-  }
+  open_wider (decided.Channel m k) places is = record { free = channel_outside i c d wide.inside m is.free; known = is.known }
 
   both_fixed : (n k m : ℕ) → n < length i.nodes → m < length i.nodes → IsKeptBy (fixed_cap (choice_after i d (decided.Cap n k)) m) (fixed_cap (choice_after i c (decided.Cap n k)) m)
   both_fixed n k m there h =

@@ -5,13 +5,13 @@ ghost use Rattle.ttp_model.specs.declared.limits.TheConstants.{MOST_NODES, MOST_
 ghost use Rattle.ttp_model.specs.Limits.{both_channels};
 ghost use Rattle.ttp_model.specs.Totals.{total};
 ghost use Rattle.tt_choice.specs.Choice.{IsChoice, IsComplete, fixed_cap, fixed_channel, least_round, greatest_round};
-ghost use Rattle.tt_choice.specs.Branches.{IsOpen, IsUnplaced, IsUnorderedPair, CutsRange};
+ghost use Rattle.tt_choice.specs.Branches.{IsUnplaced, IsUnorderedPair, CutsRange};
 ghost use Rattle.tt_choice.specs.Decisions.{IsFreeOption, CutsFirst, IsOpenDecision};
 ghost use Rattle.tt_choice.specs.Sizes.{size_left, range_size, binary_digits};
 
 use crate::choice::Choice;
 use crate::decision::Decision;
-use ttp_model::{BOTH_CHANNELS, Instance, Kind};
+use ttp_model::{BOTH_CHANNELS, Instance};
 
 /// How many binary digits a number has.
 fn binary_digits(n: u32) -> usize
@@ -22,21 +22,6 @@ fn binary_digits(n: u32) -> usize
 }
 
 impl Choice {
-    /// Whether a branch is open: what it decides is there and isn't decided yet. Costs the same
-    /// for each choice.
-    pub fn is_open(&self, instance: &Instance, kind: &Kind) -> bool
-        requires of { IsChoice instance.now self.now }
-        ensures { IsTrue result ↔ IsOpen instance.now self.now kind.now }
-    {
-        match *kind {
-            Kind::Place => self.prefix.len() < instance.nodes().len(),
-            Kind::Cap(n) => self.is_free(n),
-            Kind::Pair(p, q) => self.is_unordered_pair(instance, p, q),
-            Kind::Round(m, r) => self.cuts_range(m, r),
-            Kind::Chan(m) => self.is_free_channel(m),
-        }
-    }
-
     /// Whether a decision is open: what it decides is there and isn't decided yet. Costs the same for each choice, but for a
     /// place, which takes a pass along the prefix.
     pub fn is_open_decision(&self, instance: &Instance, decision: Decision) -> bool
@@ -75,14 +60,14 @@ impl Choice {
     }
 
     /// Whether node `n` is there and its capacity is free.
-    fn is_free(&self, n: u32) -> bool
+    pub(crate) fn is_free(&self, n: u32) -> bool
         ensures { IsTrue result ↔ ((n < length self.now.fixed) × (fixed_cap self.now n ≡ None)) }
     {
         (n as usize) < self.fixed.len() && self.fixed[n as usize].is_none()
     }
 
     /// Whether two processes stand on one node and are in neither order.
-    fn is_unordered_pair(&self, instance: &Instance, p: u32, q: u32) -> bool
+    pub(crate) fn is_unordered_pair(&self, instance: &Instance, p: u32, q: u32) -> bool
         requires of { IsChoice instance.now self.now }
         ensures { IsTrue result ↔ IsUnorderedPair instance.now self.now p q }
     {
@@ -97,7 +82,7 @@ impl Choice {
     }
 
     /// Whether message `m` is there and round `r` cuts its range in two.
-    fn cuts_range(&self, m: u32, r: u32) -> bool
+    pub(crate) fn cuts_range(&self, m: u32, r: u32) -> bool
         requires { length self.now.lo ≡ length self.now.hi }
         ensures { IsTrue result
             ↔ ((m < length self.now.hi) × (least_round self.now m ≤ r) × (r < greatest_round self.now m)) }
@@ -123,7 +108,7 @@ impl Choice {
     }
 
     /// Whether message `m` is there and its channel is free.
-    fn is_free_channel(&self, m: u32) -> bool
+    pub(crate) fn is_free_channel(&self, m: u32) -> bool
         ensures { IsTrue result ↔ ((m < length self.now.channels) × (fixed_channel self.now m ≡ None)) }
     {
         (m as usize) < self.channels.len() && self.channels[m as usize].is_none()

@@ -2,7 +2,8 @@
 use Rattle.std.proofs.Common.{◌≡◌, ◌∙◌, ◌++◌, append_assoc, string_bytes}
 use Rattle.certificate.specs.Trees.{preorder}
 use Rattle.certificate.proofs.TreeLists.{trees_of-preorder}
-use Rattle.certificate_words.specs.Counts.{branches_words, depth_words, leaves_words, tree_line}
+use Rattle.certificate_words.specs.Branches.{branches_words}
+use Rattle.certificate_words.specs.Counts.{depth_words, leaves_words, tree_line}
 use Rattle.certificate_words.proofs.counts.put_tree.Goals as goal
 
 pub returns : goal.returns

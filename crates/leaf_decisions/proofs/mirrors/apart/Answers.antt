@@ -1,5 +1,5 @@
 use Rattle.std.proofs.lemmas.Bool.{both_ways}
-use Rattle.step_reads.specs.declared.fact.Fact.TheVariants.{FirstRound, LateRound}
+use Rattle.tt_infer.specs.declared.fact.Fact.TheVariants.{FirstRound, LateRound}
 use Rattle.leaf_decisions.proofs.MirrorsRead.{is_apart, rounds_apart}
 use Rattle.leaf_decisions.proofs.Tells.{fact_more, more_none, more_twice, read_more}
 use Rattle.leaf_decisions.proofs.mirrors.apart.Goals as goal

@@ -1,4 +1,4 @@
-use Rattle.step_reads.specs.declared.limit.Limit.TheVariants.{Copies}
+use Rattle.tt_infer.specs.declared.limit.Limit.TheVariants.{Copies}
 use Rattle.leaf_decisions.proofs.Tells.{limit_more, more_twice, read_more}
 use Rattle.leaf_decisions.proofs.mirrors.aside.Goals as goal
 

@@ -1,5 +1,5 @@
 use Rattle.ttp_model.specs.Instance.{source_of}
-use Rattle.step_reads.specs.declared.limit.Limit.TheVariants.{GreatestSlot}
+use Rattle.tt_infer.specs.declared.limit.Limit.TheVariants.{GreatestSlot}
 use Rattle.leaf_decisions.proofs.Tells.{limit_more, more_twice, read_more}
 use Rattle.leaf_decisions.proofs.orders.arrival.Goals as goal
 

@@ -1,8 +1,8 @@
 use Rattle.std.proofs.Common.{◌≢◌, ℕ, subst}
 use Rattle.ttp_model.specs.Instance.{source_of}
 use Rattle.ttp_model.specs.Network.{messages_of}
-use Rattle.step_reads.specs.declared.fact.Fact.TheVariants.{FirstRound}
-use Rattle.step_reads.specs.declared.limit.Limit.TheVariants.{LeastSlot, LeastFrame}
+use Rattle.tt_infer.specs.declared.fact.Fact.TheVariants.{FirstRound}
+use Rattle.tt_infer.specs.declared.limit.Limit.TheVariants.{LeastSlot, LeastFrame}
 use Rattle.leaf_decisions.specs.Steps.{TellsEach, TellsKeptOut}
 use Rattle.leaf_decisions.proofs.KeptOut.{late_read}
 use Rattle.leaf_decisions.proofs.Tells.{fact_more, limit_more, more_twice, read_more}

@@ -1,4 +1,4 @@
-use Rattle.step_reads.specs.declared.fact.Fact.TheVariants.{FirstRound}
+use Rattle.tt_infer.specs.declared.fact.Fact.TheVariants.{FirstRound}
 use Rattle.leaf_decisions.proofs.Tells.{fact_more, more_twice, read_more}
 use Rattle.leaf_decisions.proofs.parts.rounds.Goals as goal
 

@@ -1,5 +1,5 @@
-use Rattle.step_reads.proofs.Targets.{target_is}
-use Rattle.step_reads.proofs.alike.Steps.{gives_alike}
+use Rattle.tt_infer.proofs.Rows.{target_is}
+use Rattle.tt_infer.proofs.SameGiven.{gives_alike}
 use Rattle.step_reads.proofs.shared.Logs.{leaf_shared}
 use Rattle.step_reads.proofs.shared.Uses.{leaf_kept}
 use Rattle.step_reads.proofs.laws.steps_rest_on_what_they_read.Goals as goal

@@ -1,4 +1,4 @@
-use Rattle.step_reads.specs.Reads.{OfSome}
+use Rattle.tt_infer.specs.Reads.{OfSome}
 use Rattle.step_reads.specs.Added.{AddsFacts, TellsOneNodeApart}
 use Rattle.step_reads.proofs.reads.apart.add_lower.Given as goal
 

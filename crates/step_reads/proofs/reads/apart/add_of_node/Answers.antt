@@ -2,7 +2,7 @@ use Rattle.std.proofs.Common.{◌≡◌}
 use Rattle.std.proofs.lemmas.Bool.{both_ways}
 use Rattle.std.proofs.lemmas.Result.{on_ok_weaker}
 use Rattle.ttp_model.specs.Instance.{source_of}
-use Rattle.step_reads.specs.Reads.{TellsApart}
+use Rattle.tt_infer.specs.Reads.{TellsApart}
 use Rattle.step_reads.proofs.AddedFacts.{adds_nowhere, adds_where}
 use Rattle.step_reads.proofs.reads.apart.add_of_node.Goals as goal
 

@@ -1,7 +1,7 @@
 use Rattle.std.proofs.Common.{◌≡◌, arith, inl, inr}
 use Rattle.std.proofs.lemmas.Result.{on_ok_weaker}
-use Rattle.step_reads.specs.Reads.{KeepsOut}
-use Rattle.step_reads.specs.declared.fact.Fact.TheVariants.{FirstRound, LateRound}
+use Rattle.tt_infer.specs.Reads.{KeepsOut}
+use Rattle.tt_infer.specs.declared.fact.Fact.TheVariants.{FirstRound, LateRound}
 use Rattle.step_reads.proofs.AddedFacts.{adds_as, adds_none}
 use Rattle.step_reads.proofs.reads.kept_out.add_kept_out.Goals as goal
 

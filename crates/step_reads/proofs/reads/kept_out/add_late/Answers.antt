@@ -1,9 +1,9 @@
 use Rattle.std.proofs.Common.{◌≡◌, ◌⊎◌, length, ap, arith}
 use Rattle.std.proofs.lemmas.Result.{on_ok_weaker}
 use Rattle.sought_plans.specs.Premises.{sender_of}
-use Rattle.step_reads.specs.Reads.{OfSome}
+use Rattle.tt_infer.specs.Reads.{OfSome}
 use Rattle.step_reads.specs.Added.{KeepsOtherOut}
-use Rattle.step_reads.specs.declared.fact.Fact.TheVariants.{End, FirstRound}
+use Rattle.tt_infer.specs.declared.fact.Fact.TheVariants.{End, FirstRound}
 use Rattle.step_reads.proofs.AddedFacts.{adds_both}
 use Rattle.step_reads.proofs.reads.kept_out.add_late.Goals as goal
 

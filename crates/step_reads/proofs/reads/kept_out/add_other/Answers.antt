@@ -1,6 +1,6 @@
 use Rattle.std.proofs.lemmas.Bool.{both_ways}
 use Rattle.std.proofs.lemmas.Result.{on_ok_weaker}
-use Rattle.step_reads.specs.Reads.{IsOtherOf, KeepsOut}
+use Rattle.tt_infer.specs.Reads.{IsOtherOf, KeepsOut}
 use Rattle.step_reads.proofs.AddedFacts.{adds_nowhere, adds_where}
 use Rattle.step_reads.proofs.reads.kept_out.add_other.Goals as goal
 

@@ -2,7 +2,7 @@ use Rattle.std.proofs.Common.{◌≡◌}
 use Rattle.std.proofs.lemmas.Bool.{both_ways}
 use Rattle.std.proofs.lemmas.Result.{on_ok_weaker}
 use Rattle.ttp_model.specs.Graph.{Leads}
-use Rattle.step_reads.specs.declared.fact.Fact.TheVariants.{Order}
+use Rattle.tt_infer.specs.declared.fact.Fact.TheVariants.{Order}
 use Rattle.step_reads.proofs.AddedFacts.{adds_nowhere, adds_where}
 use Rattle.step_reads.proofs.reads.rings.add_pair.Goals as goal
 

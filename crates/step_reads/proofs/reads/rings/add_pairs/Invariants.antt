@@ -1,4 +1,4 @@
-use Rattle.step_reads.specs.Reads.{OfSome}
+use Rattle.tt_infer.specs.Reads.{OfSome}
 use Rattle.step_reads.specs.Added.{AddsFacts, OrdersNext}
 use Rattle.step_reads.proofs.reads.rings.add_pairs.Given as goal
 

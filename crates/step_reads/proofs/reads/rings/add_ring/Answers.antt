@@ -1,8 +1,8 @@
 use Rattle.std.proofs.Common.{ℕ, List, ◌⊎◌, ◌+◌, ◌-◌, ◌≤◌, length, slice_index, arith, inl, inr, refl}
 use Rattle.std.proofs.lemmas.Result.{on_ok_weaker}
 use Rattle.ttp_model.specs.Instance.{Instance}
-use Rattle.step_reads.specs.declared.fact.Fact.{Fact}
-use Rattle.step_reads.specs.Reads.{IsKnownPair, OfSome}
+use Rattle.tt_infer.specs.declared.fact.Fact.{Fact}
+use Rattle.tt_infer.specs.Reads.{IsKnownPair, OfSome}
 use Rattle.step_reads.specs.Added.{OrdersNext, OrdersPair}
 use Rattle.step_reads.proofs.AddedFacts.{adds_as, adds_both}
 use Rattle.step_reads.proofs.reads.rings.add_ring.Goals as goal

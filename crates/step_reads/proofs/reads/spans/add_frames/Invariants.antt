@@ -1,5 +1,5 @@
 use Rattle.std.proofs.Common.{ℕ, ◌≤◌, length, slice_index}
-use Rattle.step_reads.specs.Reads.{OfSome}
+use Rattle.tt_infer.specs.Reads.{OfSome}
 use Rattle.step_reads.specs.Added.{AddsFacts, BoundsSendingWithin}
 use Rattle.step_reads.proofs.reads.spans.add_frames.Given as goal
 

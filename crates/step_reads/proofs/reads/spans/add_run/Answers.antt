@@ -1,6 +1,6 @@
 use Rattle.std.proofs.Common.{◌≡◌, ◌≤◌, arith}
 use Rattle.std.proofs.lemmas.Result.{on_ok_weaker}
-use Rattle.step_reads.specs.declared.fact.Fact.TheVariants.{End, Start}
+use Rattle.tt_infer.specs.declared.fact.Fact.TheVariants.{End, Start}
 use Rattle.step_reads.proofs.AddedFacts.{adds_just, adds_too}
 use Rattle.step_reads.proofs.reads.spans.add_run.Goals as goal
 

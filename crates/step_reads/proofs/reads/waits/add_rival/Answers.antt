@@ -1,6 +1,6 @@
 use Rattle.std.proofs.lemmas.Bool.{both_ways}
 use Rattle.std.proofs.lemmas.Result.{on_ok_weaker}
-use Rattle.step_reads.specs.Reads.{IsRival, TellsWait}
+use Rattle.tt_infer.specs.Reads.{IsRival, TellsWait}
 use Rattle.step_reads.proofs.AddedFacts.{adds_nowhere, adds_where}
 use Rattle.step_reads.proofs.reads.waits.add_rival.Goals as goal
 

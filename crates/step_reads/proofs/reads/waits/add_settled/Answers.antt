@@ -1,6 +1,6 @@
 use Rattle.std.proofs.Common.{length}
 use Rattle.std.proofs.lemmas.Result.{on_ok_weaker}
-use Rattle.step_reads.specs.Reads.{OfSome}
+use Rattle.tt_infer.specs.Reads.{OfSome}
 use Rattle.step_reads.specs.Added.{TellsArrival, TellsRivalWait}
 use Rattle.step_reads.proofs.AddedFacts.{adds_both}
 use Rattle.step_reads.proofs.reads.waits.add_settled.Goals as goal

@@ -5,12 +5,12 @@ use Rattle.ttp_model.specs.Limits.{both_channels}
 use Rattle.ttp_model.specs.Instance.{Instance, source_of}
 use Rattle.ttp_model.specs.declared.step.Step.TheVariants.{XMirror}
 use Rattle.tt_choice.specs.Choice.{Choice, fixed_channel}
-use Rattle.step_reads.specs.declared.fact.Fact.TheVariants.{FirstRound, LateRound}
-use Rattle.step_reads.specs.declared.limit.Limit.TheVariants.{Copies, Counted}
+use Rattle.tt_infer.specs.declared.fact.Fact.TheVariants.{FirstRound, LateRound}
+use Rattle.tt_infer.specs.declared.limit.Limit.TheVariants.{Copies, Counted}
 use Rattle.sought_plans.specs.Known.{Known, lo_of, top_of}
 use Rattle.sought_plans.specs.Premises.{copies, copies_of, counts_on, is_fixed_on}
 use Rattle.sought_plans.specs.Dominance.{IsMirrored, KeepsAside}
-use Rattle.step_reads.specs.Reads.{AgreeOnReads}
+use Rattle.tt_infer.specs.Reads.{AgreeOnReads}
 
 -- a message that counts twice is fixed to both channels
 twice_is_both : (o : Option ℕ) → copies_of o ≡ 2 → o ≡ Some both_channels

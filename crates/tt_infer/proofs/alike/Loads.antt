@@ -7,13 +7,13 @@ use Rattle.ttp_model.specs.Totals.{total}
 use Rattle.ttp_model.proofs.Decide.{at_most}
 use Rattle.ttp_model.proofs.Totals.{total_le}
 use Rattle.ttp_model.specs.declared.step.Step.TheVariants.{XLoad, XFrames, XChannel}
-use Rattle.step_reads.specs.declared.fact.Fact.{Fact}
-use Rattle.step_reads.specs.declared.fact.Fact.TheVariants.{Start, End, FirstRound, LateRound}
-use Rattle.step_reads.specs.declared.limit.Limit.TheVariants.{Copies, Counted}
+use Rattle.tt_infer.specs.declared.fact.Fact.{Fact}
+use Rattle.tt_infer.specs.declared.fact.Fact.TheVariants.{Start, End, FirstRound, LateRound}
+use Rattle.tt_infer.specs.declared.limit.Limit.TheVariants.{Copies, Counted}
 use Rattle.tt_choice.specs.Choice.{Choice}
 use Rattle.sought_plans.specs.Known.{Known, es_of, le_of, lo_of, top_of}
 use Rattle.sought_plans.specs.Premises.{wcet_of, runs_within, load_within, sent_within, bytes_within, copies, bytes_copied, counts_on, bytes_counted}
-use Rattle.step_reads.specs.Reads.{AgreeOn, AgreeOnReads, BoundsSending, ReadsFact, counted_within}
+use Rattle.tt_infer.specs.Reads.{AgreeOn, AgreeOnReads, BoundsSending, ReadsFact, counted_within}
 use Rattle.tt_infer.proofs.Selected.{span_tells, selected_le, if_wider}
 
 -- a bound from below that is read where it isn't 0

@@ -4,11 +4,11 @@ use Rattle.ttp_model.specs.Instance.{Instance, source_of}
 use Rattle.ttp_model.specs.declared.step.Step.TheVariants.{UsSettled}
 use Rattle.tt_choice.specs.Choice.{Choice}
 use Rattle.tt_choice.specs.Extremes.{end_most}
-use Rattle.step_reads.specs.declared.fact.Fact.TheVariants.{End, LateRound, Order}
-use Rattle.step_reads.specs.declared.limit.Limit.TheVariants.{GreatestSlot}
+use Rattle.tt_infer.specs.declared.fact.Fact.TheVariants.{End, LateRound, Order}
+use Rattle.tt_infer.specs.declared.limit.Limit.TheVariants.{GreatestSlot}
 use Rattle.sought_plans.specs.Known.{Known, le_of, top_of, bef_of}
 use Rattle.sought_plans.specs.Dominance.{MayGoBefore, MayWaitUntil, IsGreatestWait, IsSentTo, HasRounds}
-use Rattle.step_reads.specs.Reads.{AgreeOnReads, IsRival}
+use Rattle.tt_infer.specs.Reads.{AgreeOnReads, IsRival}
 
 module _ (i : Instance) (c : Choice) (goal : ℕ) (f : Known) (d : Choice) (aim : ℕ) (g : Known) (p : ℕ) (agree : AgreeOnReads i c goal f d aim g (UsSettled p)) where
   late_alike : (m : ℕ) → IsSentTo i p m → top_of f m ≡ top_of g m

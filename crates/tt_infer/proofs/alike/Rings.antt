@@ -5,12 +5,12 @@ use Rattle.ttp_model.specs.Graph.{HasLink, HasMessage, Leads}
 use Rattle.ttp_model.proofs.Decide.{Decision, like, both, one_of, equal, some_below, contained}
 use Rattle.ttp_model.proofs.Alike.{link_or_not}
 use Rattle.ttp_model.specs.declared.step.Step.TheVariants.{XCycle}
-use Rattle.step_reads.specs.declared.fact.Fact.{Fact}
-use Rattle.step_reads.specs.declared.fact.Fact.TheVariants.{Order}
+use Rattle.tt_infer.specs.declared.fact.Fact.{Fact}
+use Rattle.tt_infer.specs.declared.fact.Fact.TheVariants.{Order}
 use Rattle.tt_choice.specs.Choice.{Choice}
 use Rattle.sought_plans.specs.Known.{Known, bef_of}
 use Rattle.sought_plans.specs.Premises.{IsAhead, IsRing}
-use Rattle.step_reads.specs.Reads.{AgreeOn, AreNeighbours, ReadsFact}
+use Rattle.tt_infer.specs.Reads.{AgreeOn, AreNeighbours, ReadsFact}
 
 message_or_not : (i : Instance) (p q : ℕ) → Decision (HasMessage i p q)
 message_or_not i p q = like ((m : ℕ) × (m < length i.messages) × (((message_at i m).sender ≡ p) × Contains (message_at i m).receivers q)) (HasMessage i p q)

@@ -6,9 +6,9 @@ use Rattle.ttp_model.specs.declared.step.Step.TheVariants.{UsSettled}
 use Rattle.ttp_model.specs.Instance.{Instance}
 use Rattle.sought_plans.specs.Known.{Known, bef_of}
 use Rattle.sought_plans.specs.Premises.{IsAhead, IsRing}
-use Rattle.step_reads.specs.declared.fact.Fact.{Fact}
-use Rattle.step_reads.specs.declared.fact.Fact.TheVariants.{Start, End, FirstRound, LateRound, Order, Closed}
-use Rattle.step_reads.specs.Reads.{AreNeighbours, BoundsRun, BoundsSending, IsKnownPair, KeepsOut, TellsApart, TellsWait}
+use Rattle.tt_infer.specs.declared.fact.Fact.{Fact}
+use Rattle.tt_infer.specs.declared.fact.Fact.TheVariants.{Start, End, FirstRound, LateRound, Order, Closed}
+use Rattle.tt_infer.specs.Reads.{AreNeighbours, BoundsRun, BoundsSending, IsKnownPair, KeepsOut, TellsApart, TellsWait}
 
 -- orders are told from other facts, and from each other
 is_order : Fact → Bool

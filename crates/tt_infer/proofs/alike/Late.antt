@@ -7,13 +7,13 @@ use Rattle.ttp_model.proofs.Totals.{total_le}
 use Rattle.ttp_model.specs.declared.step.Step.TheVariants.{XLate}
 use Rattle.tt_choice.specs.Choice.{Choice}
 use Rattle.tt_choice.specs.Extremes.{start_least, cap_least}
-use Rattle.step_reads.specs.declared.fact.Fact.{Fact}
-use Rattle.step_reads.specs.declared.fact.Fact.TheVariants.{End, FirstRound, LateRound}
-use Rattle.step_reads.specs.declared.limit.Limit.TheVariants.{LeastSlot, LeastFrame}
+use Rattle.tt_infer.specs.declared.fact.Fact.{Fact}
+use Rattle.tt_infer.specs.declared.fact.Fact.TheVariants.{End, FirstRound, LateRound}
+use Rattle.tt_infer.specs.declared.limit.Limit.TheVariants.{LeastSlot, LeastFrame}
 use Rattle.sought_plans.specs.Known.{Known, le_of, lo_of, top_of}
 use Rattle.sought_plans.specs.Premises.{sender_of}
 use Rattle.sought_plans.specs.Dominance.{may_be_beside, bytes_beside, CouldBeEarlier}
-use Rattle.step_reads.specs.Reads.{AgreeOn, AgreeOnReads, KeepsOut}
+use Rattle.tt_infer.specs.Reads.{AgreeOn, AgreeOnReads, KeepsOut}
 use Rattle.tt_infer.proofs.Selected.{selected_le}
 
 -- the second of two tests that is stronger

@@ -1,7 +1,6 @@
--- What each step writes and reads: of what is known, and of the choice and its goal beside it. Own profile.
+-- What steps read, of what is known and of what a choice and its goal give beside it. Own profile.
 use Rattle.std.specs.Prelude.{◌≡◌, ◌≢◌, ℕ, ◌+◌, ◌-◌, ◌<◌, ◌≤◌, ◌⊎◌, ◌&&◌, List, length, slice_index, Bool, IsTrue, IsFalse}
 use Rattle.ttp_model.specs.declared.step.Step.{Step}
-use Rattle.ttp_model.specs.declared.step.Step.TheVariants.{EsRelease, EsLink, EsBefore, EsArrive, EsMessage, LoSend, LeOwn, LeLink, LeBefore, LeMessage, LeSend, HiArrive, OrdWindow, OrdTwin, UsSettled, XWindow, XRound, XCycle, XLoad, XFrame, XFrames, XChannel, XLate, XSilent, XMirror}
 use Rattle.ttp_model.specs.Instance.{Instance, link_at, node_of, source_of}
 use Rattle.ttp_model.specs.Graph.{HasLink, Leads}
 use Rattle.tt_choice.specs.Choice.{Choice}
@@ -10,11 +9,12 @@ use Rattle.sought_plans.specs.Known.{Known, es_of, le_of, lo_of, top_of, bef_of}
 use Rattle.sought_plans.specs.Premises.{sender_of, runs_within, sent_within, copies, counts_on}
 use Rattle.sought_plans.specs.Dominance.{IsSentTo, StandsFirst}
 use Rattle.sought_plans.specs.Conclusions.{Conclusion}
-use Rattle.tt_infer.specs.Table.{rule}
-use Rattle.step_reads.specs.declared.fact.Fact.{Fact}
-use Rattle.step_reads.specs.declared.fact.Fact.TheVariants.{Start, End, FirstRound, LateRound, Order, Closed}
-use Rattle.step_reads.specs.declared.limit.Limit.{Limit}
-use Rattle.step_reads.specs.declared.limit.Limit.TheVariants.{Goal, LeastSlot, GreatestSlot, LeastFrame, GreatestFrame, Place, Copies, Counted}
+use Rattle.tt_infer.specs.Table.{AreProcesses, rule, reads}
+use Rattle.tt_infer.specs.Sources.{Source, Learnt, Fixed, Waits, Circle, Runs, Frames, Halves, Earlier, Lower, Reads, Nothing, One, Two}
+use Rattle.tt_infer.specs.declared.fact.Fact.{Fact}
+use Rattle.tt_infer.specs.declared.fact.Fact.TheVariants.{Start, End, FirstRound, LateRound, Order, Closed}
+use Rattle.tt_infer.specs.declared.limit.Limit.{Limit}
+use Rattle.tt_infer.specs.declared.limit.Limit.TheVariants.{Goal, LeastSlot, GreatestSlot, LeastFrame, GreatestFrame, Place, Copies, Counted}
 
 -- the same of a fact is known in two states
 abbrev pub AgreeOn : Known → Known → Fact → Type 0
@@ -101,100 +101,96 @@ TellsApart f m k fact =
 abbrev pub MayMeet : Known → ℕ → ℕ → Type 0
 MayMeet f m k = (lo_of f m < top_of f k) × (lo_of f k < top_of f m)
 
--- The fact that a step sharpens.
-abbrev pub target : Instance → Step → Fact
-target i (EsRelease p) = Start p
-target i (EsLink l) = Start (link_at i l).after
-target i (EsBefore p q) = Start q
-target i (EsArrive m q) = Start q
-target i (EsMessage m q) = Start q
-target i (LoSend m) = FirstRound m
-target i (LeOwn p) = End p
-target i (LeLink l) = End (link_at i l).before
-target i (LeBefore p q) = End p
-target i (LeMessage m q) = End (sender_of i m)
-target i (LeSend m) = End (sender_of i m)
-target i (HiArrive m q) = LateRound m
-target i (OrdWindow p q) = Order p q
-target i (OrdTwin p q) = Order p q
-target i (UsSettled p) = End p
-target i (XWindow p) = Closed
-target i (XRound m) = Closed
-target i (XCycle ps) = Closed
-target i (XLoad n a b) = Closed
-target i (XFrame m) = Closed
-target i (XFrames n a b) = Closed
-target i (XChannel k n a b) = Closed
-target i (XLate m r) = Closed
-target i (XSilent u v) = Closed
-target i (XMirror m) = Closed
-
--- The facts that a step reads at a choice, where this is known before it.
-abbrev pub ReadsFact : Instance → Choice → Known → Step → Fact → Type 0
-ReadsFact i c f (EsRelease p) fact = ⊥
-ReadsFact i c f (EsLink l) fact = fact ≡ Start (link_at i l).before
-ReadsFact i c f (EsBefore p q) fact = (fact ≡ Start p) ⊎ (fact ≡ Order p q)
-ReadsFact i c f (EsArrive m q) fact = fact ≡ FirstRound m
-ReadsFact i c f (EsMessage m q) fact = fact ≡ Start (sender_of i m)
-ReadsFact i c f (LoSend m) fact = fact ≡ Start (sender_of i m)
-ReadsFact i c f (LeOwn p) fact = ⊥
-ReadsFact i c f (LeLink l) fact = fact ≡ End (link_at i l).after
-ReadsFact i c f (LeBefore p q) fact = (fact ≡ End q) ⊎ (fact ≡ Order p q)
-ReadsFact i c f (LeMessage m q) fact = fact ≡ End q
-ReadsFact i c f (LeSend m) fact = fact ≡ LateRound m
-ReadsFact i c f (HiArrive m q) fact = fact ≡ End q
-ReadsFact i c f (OrdWindow p q) fact = (fact ≡ End p) ⊎ (fact ≡ Start q)
-ReadsFact i c f (OrdTwin p q) fact = ⊥
-ReadsFact i c f (UsSettled p) fact =
+-- The facts that a source is, at a choice where this is known.
+abbrev pub IsFactOf : Instance → Choice → Known → Source → Fact → Type 0
+IsFactOf i c f (Learnt known) fact = fact ≡ known
+IsFactOf i c f (Fixed limit) fact = ⊥
+IsFactOf i c f (Waits p) fact =
     OfSome (length i.processes) (λ x told. IsRival i p x × TellsWait f p x told) fact
     ⊎ OfSome (length i.messages) (λ m told. IsSentTo i p m × (told ≡ LateRound m)) fact
-ReadsFact i c f (XWindow p) fact = (fact ≡ Start p) ⊎ (fact ≡ End p)
-ReadsFact i c f (XRound m) fact = (fact ≡ FirstRound m) ⊎ (fact ≡ LateRound m)
-ReadsFact i c f (XCycle ps) fact = IsKnownPair i ps fact
-ReadsFact i c f (XLoad n a b) fact =
+IsFactOf i c f (Circle ps) fact = IsKnownPair i ps fact
+IsFactOf i c f (Runs n a b) fact =
     OfSome (length i.processes) (λ p told. IsTrue (runs_within i f n a b p) × BoundsRun a p told) fact
-ReadsFact i c f (XFrame m) fact = ⊥
-ReadsFact i c f (XFrames n a b) fact =
+IsFactOf i c f (Frames n a b) fact =
     OfSome (length i.messages) (λ m told. IsTrue (sent_within i f n a b m) × BoundsSending a m told) fact
-ReadsFact i c f (XChannel k n a b) fact =
+IsFactOf i c f (Halves k n a b) fact =
     OfSome (length i.messages) (λ m told. IsTrue (counted_within i c f k n a b m) × BoundsSending a m told) fact
-ReadsFact i c f (XLate m r) fact =
+IsFactOf i c f (Earlier m r) fact =
     ((fact ≡ FirstRound m) ⊎ (fact ≡ End (sender_of i m)))
     ⊎ OfSome (length i.messages) (λ k told. IsOtherOf i m k × KeepsOut f r k told) fact
-ReadsFact i c f (XSilent u v) fact = ⊥
-ReadsFact i c f (XMirror m) fact = OfSome m (λ k told. (source_of i k ≡ source_of i m) × TellsApart f m k told) fact
+IsFactOf i c f (Lower m) fact = OfSome m (λ k told. (source_of i k ≡ source_of i m) × TellsApart f m k told) fact
 
--- The limits that it reads.
-abbrev pub ReadsLimit : Instance → Choice → Known → Step → Limit → Type 0
-ReadsLimit i c f (EsRelease p) limit = ⊥
-ReadsLimit i c f (EsLink l) limit = ⊥
-ReadsLimit i c f (EsBefore p q) limit = ⊥
-ReadsLimit i c f (EsArrive m q) limit = limit ≡ LeastSlot (source_of i m)
-ReadsLimit i c f (EsMessage m q) limit = limit ≡ LeastFrame (source_of i m)
-ReadsLimit i c f (LoSend m) limit = limit ≡ GreatestSlot (source_of i m)
-ReadsLimit i c f (LeOwn p) limit = limit ≡ Goal
-ReadsLimit i c f (LeLink l) limit = ⊥
-ReadsLimit i c f (LeBefore p q) limit = ⊥
-ReadsLimit i c f (LeMessage m q) limit = limit ≡ LeastFrame (source_of i m)
-ReadsLimit i c f (LeSend m) limit = limit ≡ GreatestSlot (source_of i m)
-ReadsLimit i c f (HiArrive m q) limit = limit ≡ LeastSlot (source_of i m)
-ReadsLimit i c f (OrdWindow p q) limit = ⊥
-ReadsLimit i c f (OrdTwin p q) limit = ⊥
-ReadsLimit i c f (UsSettled p) limit = (m : ℕ) × IsSentTo i p m × (limit ≡ GreatestSlot (source_of i m))
-ReadsLimit i c f (XWindow p) limit = ⊥
-ReadsLimit i c f (XRound m) limit = ⊥
-ReadsLimit i c f (XCycle ps) limit = ⊥
-ReadsLimit i c f (XLoad n a b) limit = ⊥
-ReadsLimit i c f (XFrame m) limit = limit ≡ GreatestFrame (source_of i m)
-ReadsLimit i c f (XFrames n a b) limit =
+-- The limits that it is.
+abbrev pub IsLimitOf : Instance → Choice → Known → Source → Limit → Type 0
+IsLimitOf i c f (Learnt known) limit = ⊥
+IsLimitOf i c f (Fixed given) limit = limit ≡ given
+IsLimitOf i c f (Waits p) limit = (m : ℕ) × IsSentTo i p m × (limit ≡ GreatestSlot (source_of i m))
+IsLimitOf i c f (Circle ps) limit = ⊥
+IsLimitOf i c f (Runs n a b) limit = ⊥
+IsLimitOf i c f (Frames n a b) limit =
     (limit ≡ GreatestFrame n) ⊎ ((m : ℕ) × (m < length i.messages) × IsTrue (sent_within i f n a b m) × (limit ≡ Copies m))
-ReadsLimit i c f (XChannel k n a b) limit =
+IsLimitOf i c f (Halves k n a b) limit =
     (limit ≡ GreatestFrame n) ⊎ ((m : ℕ) × (m < length i.messages) × IsTrue (counted_within i c f k n a b m) × (limit ≡ Counted m k))
-ReadsLimit i c f (XLate m r) limit = (limit ≡ LeastSlot (source_of i m)) ⊎ (limit ≡ LeastFrame (source_of i m))
-ReadsLimit i c f (XSilent u v) limit = limit ≡ Place v
-ReadsLimit i c f (XMirror m) limit =
+IsLimitOf i c f (Earlier m r) limit = (limit ≡ LeastSlot (source_of i m)) ⊎ (limit ≡ LeastFrame (source_of i m))
+IsLimitOf i c f (Lower m) limit =
     ((limit ≡ Copies m) ⊎ (limit ≡ Counted m 1))
     ⊎ ((k : ℕ) × (k < m) × (source_of i k ≡ source_of i m) × MayMeet f m k × (limit ≡ Copies k))
+
+-- what a fact is about is there
+abbrev pub IsFactThere : Instance → Fact → Type 0
+IsFactThere i (Start p) = p < length i.processes
+IsFactThere i (End p) = p < length i.processes
+IsFactThere i (FirstRound m) = m < length i.messages
+IsFactThere i (LateRound m) = m < length i.messages
+IsFactThere i (Order p q) = (p < length i.processes) × (q < length i.processes)
+IsFactThere i Closed = Unit {0}
+
+-- what a limit is about is there
+abbrev pub IsLimitThere : Instance → Limit → Type 0
+IsLimitThere i Goal = Unit {0}
+IsLimitThere i (LeastSlot n) = n < length i.nodes
+IsLimitThere i (GreatestSlot n) = n < length i.nodes
+IsLimitThere i (LeastFrame n) = n < length i.nodes
+IsLimitThere i (GreatestFrame n) = n < length i.nodes
+IsLimitThere i (Place v) = v < length i.nodes
+IsLimitThere i (Copies m) = m < length i.messages
+IsLimitThere i (Counted m k) = m < length i.messages
+
+-- what a source is about is there
+abbrev pub IsSourceThere : Instance → Source → Type 0
+IsSourceThere i (Learnt fact) = IsFactThere i fact
+IsSourceThere i (Fixed limit) = IsLimitThere i limit
+IsSourceThere i (Waits p) = p < length i.processes
+IsSourceThere i (Circle ps) = AreProcesses i ps
+IsSourceThere i (Runs n a b) = n < length i.nodes
+IsSourceThere i (Frames n a b) = n < length i.nodes
+IsSourceThere i (Halves k n a b) = (n < length i.nodes) × (2 ≤ i.cluster.channels)
+IsSourceThere i (Earlier m r) = m < length i.messages
+IsSourceThere i (Lower m) = m < length i.messages
+
+-- a node whose place is read stands in front of another one
+abbrev pub HasItsPlace : Choice → Source → Type 0
+HasItsPlace c (Fixed (Place v)) = (u : ℕ) × StandsFirst c.prefix v u
+HasItsPlace c source = Unit {0}
+
+-- one of the sources that are read
+abbrev pub OfOne : (Source → Type 0) → Reads → Type 0
+OfOne Is Nothing = ⊥
+OfOne Is (One source) = Is source
+OfOne Is (Two first second) = Is first ⊎ Is second
+
+-- each of them
+abbrev pub OfEach : (Source → Type 0) → Reads → Type 0
+OfEach Is Nothing = Unit {0}
+OfEach Is (One source) = Is source
+OfEach Is (Two first second) = Is first × Is second
+
+-- the facts and the limits that a step reads
+abbrev pub ReadsFact : Instance → Choice → Known → Step → Fact → Type 0
+ReadsFact i c f step fact = OfOne (λ source. IsFactOf i c f source fact) (reads i step)
+
+abbrev pub ReadsLimit : Instance → Choice → Known → Step → Limit → Type 0
+ReadsLimit i c f step limit = OfOne (λ source. IsLimitOf i c f source limit) (reads i step)
 
 -- two choices with their goals, and what is known at each, agree on all that a step reads at the first
 pub record AgreeOnReads (i : Instance) (c : Choice) (goal : ℕ) (f : Known) (d : Choice) (aim : ℕ) (g : Known) (step : Step) : Type 0 where

@@ -4,4 +4,4 @@ pub mod Loads
 pub mod Late
 pub mod Mirrors
 pub mod Orders
-pub mod Steps
+pub mod Premises
