@@ -1,6 +1,6 @@
 //! Which constraints leave no plan, and which of them can't be left out?
 
-ghost use Rattle.std.specs.Prelude.{◌≡◌, All, IfOk, IsPermutation, map};
+ghost use Rattle.std.specs.Prelude.{◌≡◌, All, IfOk, map, reverse};
 ghost use Rattle.ttp_model.specs.Instance.{Instance};
 ghost use Rattle.planner.specs.outcome.Options.{Options};
 ghost use Rattle.kept_constraints.specs.Constraints.{listed};
@@ -88,7 +88,7 @@ fn told(alloc: Global, halving: Halving) -> Result<Conflict, MemoryFault>
 
 /// Constraints with the last one first, so that later ones are left out rather than earlier ones.
 fn last_first(list: Vec<Constraint>) -> Vec<Constraint>
-    ensures { IsPermutation list.items result.items }
+    ensures { result.items ≡ reverse list.items }
 {
     let mut list = list;
     list.reverse();

@@ -8,33 +8,28 @@ use crate::needs::Needs;
 use crate::values::Values;
 use crate::weights::Weights;
 use std::alloc::Global;
-use tt_infer::{Fact, Facts, target};
+use tt_infer::{Fact, Facts};
 use ttp_model::{Instance, MemoryFault, Step};
 
-/// Steps each of which sharpened its fact, how far that was known before it, and what is known after them.
+/// The fact that a step sharpened, and how far it was known before the step.
+#[derive(Clone, Copy)]
+pub struct Written {
+    pub fact: Fact,
+    pub before: u32,
+}
+
+/// Steps, what each of them sharpened, and what is known after them.
 #[derive(Clone, Copy)]
 pub struct Log<'b, 'a> {
     pub facts: &'b Facts<'a>,
     pub steps: &'b [Step],
-    pub before: &'b [u32],
-}
-
-impl<'b, 'a> Log<'b, 'a> {
-    /// How far the fact of the step at a place was known before it.
-    fn before(&self, place: usize) -> u32 {
-        match self.before.get(place) {
-            Some(value) => *value,
-            None => 0,
-        }
-    }
+    pub written: &'b [Written],
 }
 
 /// Marks at the steps of a log that a closer needs, where each fact has to be only as sharp as what reads it asks for, in memory that
 /// is used again.
 #[derive(Drop)]
 pub struct Fewest {
-    /// The facts of the steps.
-    targets: Vec<Fact>,
     marked: Vec<bool>,
     needs: Needs,
     /// What is known before the step that is looked at, and what at first.
@@ -69,7 +64,6 @@ impl Fewest {
         let (before_step, at_first) = two_values(alloc, instance)?;
         let weights = Weights::none(alloc, instance)?;
         Ok(Fewest {
-            targets: Vec::new(alloc),
             marked: Vec::new(alloc),
             needs,
             before_step,
@@ -96,7 +90,8 @@ impl Fewest {
     ) -> Result<Option<Found>, MemoryFault> {
         self.closings.find(log.facts)?;
         self.weigh(log, given, most)?;
-        self.set_targets(log)?;
+        self.marked.clear();
+        self.marked.resize(log.steps.len(), false)?;
         self.set_first(log);
         let Some(place) = self.place_of_fewest(log, given) else {
             return Ok(None);
@@ -130,21 +125,10 @@ impl Fewest {
         Ok(())
     }
 
-    /// Takes note of the facts of the steps of a log.
-    fn set_targets(&mut self, log: Log) -> Result<(), MemoryFault> {
-        self.marked.clear();
-        self.marked.resize(log.steps.len(), false)?;
-        self.targets.clear();
-        for step in log.steps {
-            self.targets.push(target(log.facts.instance(), step))?;
-        }
-        Ok(())
-    }
-
     /// Takes note of what is known at first, before the steps of a log.
     fn set_first(&mut self, log: Log) {
         self.at_first.set_to_known(log.facts);
-        go_back(&mut self.at_first, log, self.targets.as_slice());
+        go_back(&mut self.at_first, log.written);
     }
 
     /// The place of the closer that needs the fewest steps, if there is one: none of the given one.
@@ -196,12 +180,12 @@ impl Fewest {
     fn mark_needed(&mut self, log: Log, most: usize) -> usize {
         let mut count = 0usize;
         for k in (0..log.steps.len()).rev() {
-            if count >= most || k >= self.targets.len() || k >= self.marked.len() {
+            if count >= most || k >= log.written.len() || k >= self.marked.len() {
                 return count;
             }
-            let known = log.before(k);
-            self.before_step.put(self.targets[k], known);
-            if let Some(need) = self.needs.take(self.targets[k], known) {
+            let Written { fact, before } = log.written[k];
+            self.before_step.put(fact, before);
+            if let Some(need) = self.needs.take(fact, before) {
                 self.marked[k] = true;
                 count += 1;
                 self.ask_before(log.facts, &log.steps[k], need);
@@ -228,10 +212,10 @@ fn two_values(alloc: Global, instance: &Instance) -> Result<(Values, Values), Me
     Ok((before_step, at_first))
 }
 
-/// Goes back before the steps of a log, whose facts these are.
-fn go_back(values: &mut Values, log: Log, targets: &[Fact]) {
-    for k in (0..targets.len()).rev() {
-        values.put(targets[k], log.before(k));
+/// Goes back before steps that sharpened this.
+fn go_back(values: &mut Values, written: &[Written]) {
+    for step in written.iter().rev() {
+        values.put(step.fact, step.before);
     }
 }
 

@@ -19,5 +19,5 @@ mod values;
 mod weights;
 
 pub use asking::node_of;
-pub use fewest::{Fewest, Found, Log};
+pub use fewest::{Fewest, Found, Log, Written};
 pub use marks::{Marked, Marks};

@@ -213,3 +213,25 @@ fn word_seen(rt: HostRuntime) -> Result<(), Fail> {
     assert!(rt; works_at_offer::<Brand>(rt.alloc(), &instance, 9)?);
     Ok(())
 }
+
+/// How many tasks a worker alone works in this manner, and how many it leaves since they aren't needed.
+fn worked_and_spared<J: Searched>(
+    alloc: Global,
+    instance: &Instance,
+    manner: Manner,
+) -> Result<(u64, usize), Fail>
+    requires { instance.now ≡ J.instance }
+{
+    let report = lone_report::<J>(alloc, instance, instance.past_horizon(), manner)?;
+    Ok((report.worked, report.spared.len()))
+}
+
+#[test]
+fn what_no_leaf_uses_is_spared(rt: HostRuntime) -> Result<(), Fail> {
+    let instance = ONE_MESSAGE.build(rt.alloc())?;
+    let plain = worked_and_spared::<Brand>(rt.alloc(), &instance, Manner::Plain)?;
+    assert!(rt; plain == (37, 0), "{} and {}", plain.0, plain.1);
+    let sparing = worked_and_spared::<Brand>(rt.alloc(), &instance, Manner::Sparing)?;
+    assert!(rt; sparing == (25, 12), "{} and {}", sparing.0, sparing.1);
+    Ok(())
+}

@@ -6,7 +6,7 @@ use crate::journal::Journal;
 use std::alloc::Global;
 use step_agenda::{Agenda, add_slot_steps, opening_steps};
 use tt_choice::Decision;
-use tt_infer::{Facts, target};
+use tt_infer::Facts;
 use ttp_model::{MemoryFault, Step};
 
 /// More turns than there can be steps.
@@ -88,8 +88,7 @@ fn try_all(
     ensures { Advances journal.old journal.new }
 {
     'tries: while let Some(step) = steps.pop() {
-        let fact = target(journal.facts().instance(), &step);
-        if journal.try_step(step)? {
+        if let Some(fact) = journal.try_step(step)? {
             agenda.note(journal.facts(), fact)?;
         }
     }

@@ -1,20 +1,23 @@
 //! What is known, and by which steps?
 
-ghost use Rattle.std.specs.Prelude.{◌≡◌, ◌<◌, ◌++◌, [], All, IfOk, OnOk, IfSome, IsTrue, IsFalse};
+ghost use Rattle.std.specs.Prelude.{◌≡◌, ◌<◌, ◌++◌, [], All, IfOk, OnOk, IfNone, IfSome, IsTrue, IsFalse};
 ghost use Rattle.tt_choice.specs.Choice.{IsChoice};
 ghost use Rattle.tt_choice.specs.Branches.{IsUnorderedPair, order_pair};
 ghost use Rattle.tt_choice.specs.Decisions.{choice_after, IsOpenDecision};
 ghost use Rattle.sought_plans.specs.Known.{first_facts};
 ghost use Rattle.sought_plans.specs.Conclusions.{GoesFirst, sharpened};
 ghost use Rattle.tt_infer.specs.Facts.{after};
+ghost use Rattle.tt_infer.specs.Table.{target};
+ghost use Rattle.step_reads.specs.Targets.{known_value};
 ghost use Rattle.step_logs.specs.Journal.{Advances, Sharpens, SharpensNothing, slack_of};
 
 use crate::copies::{push_copies, push_copy};
+use needed_steps::Written;
 use std::alloc::Global;
 use std::marker::Model;
 use step_reads::value;
 use tt_choice::{Choice, Decision};
-use tt_infer::{Facts, target};
+use tt_infer::{Fact, Facts, target};
 use ttp_model::{Instance, MemoryFault, Step};
 
 /// What is known of the plans that are sought, with a log of the steps that sharpened it.
@@ -22,8 +25,8 @@ use ttp_model::{Instance, MemoryFault, Step};
 pub struct Journal<'a> {
     facts: Facts<'a>,
     steps: Vec<Step>,
-    /// How far the fact of each step was known before it.
-    before: Vec<u32>,
+    /// What each step sharpened.
+    written: Vec<Written>,
 }
 
 impl<'a> Model for Journal<'a> {
@@ -34,15 +37,16 @@ impl<'a> Model for Journal<'a> {
     ghost view = { λ s. record { facts = s.facts; steps = s.steps.items } };
 }
 
-/// Takes a step. Whether it sharpened what is known.
-fn sharpens(facts: &mut Facts, step: &Step) -> bool
+/// Takes a step that writes this fact, which is known so far. Whether it sharpened it.
+fn sharpens(facts: &mut Facts, step: &Step, fact: Fact, before: u32) -> bool
+    requires writes { fact ≡ target facts.old.instance step.now }
+    requires known { before ≡ known_value facts.old.known fact }
     ensures others { facts.new ≡ after facts.old facts.new.known }
     ensures sharper { IsTrue result → Sharpens facts.old step.now facts.new.known }
     ensures same { IsFalse result → facts.new ≡ facts.old }
     ensures idle { IsFalse result → SharpensNothing facts.old step.now }
 {
-    let fact = target(facts.instance(), step);
-    let before = value(facts, fact);
+    let _instance = facts.instance();
     match facts.apply(step) {
         Ok(()) => value(facts, fact) != before,
         Err(_) => false,
@@ -50,24 +54,24 @@ fn sharpens(facts: &mut Facts, step: &Step) -> bool
 }
 
 /// A log without steps, in the memory of these lists.
-fn anew<'a>(facts: Facts<'a>, steps: Vec<Step>, before: Vec<u32>) -> Journal<'a>
+fn anew<'a>(facts: Facts<'a>, steps: Vec<Step>, written: Vec<Written>) -> Journal<'a>
     ensures { result ≡ record { facts = facts.entry; steps = [] } }
 {
-    let mut log = Journal::new(facts, steps, before);
+    let mut log = Journal::new(facts, steps, written);
     log.steps.clear();
-    log.before.clear();
+    log.written.clear();
     log
 }
 
 impl<'a> Journal<'a> {
-    /// Follows these steps, which may be of anything, with a log of its own: the last list is memory for how far facts were known.
-    pub fn new(facts: Facts<'a>, steps: Vec<Step>, before: Vec<u32>) -> Self
+    /// Follows these steps, which may be of anything, with a log of its own: the last list is memory for what they sharpen.
+    pub fn new(facts: Facts<'a>, steps: Vec<Step>, written: Vec<Written>) -> Self
         ensures { result ≡ record { facts = facts.entry; steps = steps.items } }
     {
         Journal {
             facts,
             steps,
-            before,
+            written,
         }
     }
 
@@ -92,10 +96,10 @@ impl<'a> Journal<'a> {
         let Journal {
             facts,
             steps,
-            before,
+            written,
         } = self;
         let facts = facts.after(alloc, level.facts(), decision)?;
-        let mut log = anew(facts, steps, before);
+        let mut log = anew(facts, steps, written);
         log.steps.reserve(level.steps.len())?;
         Ok(log)
     }
@@ -119,10 +123,10 @@ impl<'a> Journal<'a> {
         let Journal {
             facts,
             steps,
-            before,
+            written,
         } = self;
         let facts = facts.supposing(alloc, level.facts(), p, q)?;
-        Ok(anew(facts, steps, before))
+        Ok(anew(facts, steps, written))
     }
 
     /// The same with the steps of that log, whether they lead there or not.
@@ -157,8 +161,8 @@ impl<'a> Journal<'a> {
         self.steps.clear();
         self.steps.reserve(level.steps.len())?;
         push_copies(alloc, &mut self.steps, level.steps())?;
-        self.before.clear();
-        self.before.extend_from_slice(level.before.as_slice())?;
+        self.written.clear();
+        self.written.extend_from_slice(level.written.as_slice())?;
         Ok(())
     }
 
@@ -171,14 +175,14 @@ impl<'a> Journal<'a> {
         (facts, steps)
     }
 
-    /// What it has memory for: what is known, the steps, and how far facts were known.
-    pub fn into_memory(self) -> (Facts<'a>, Vec<Step>, Vec<u32>) {
+    /// What it has memory for: what is known, the steps, and what they sharpened.
+    pub fn into_memory(self) -> (Facts<'a>, Vec<Step>, Vec<Written>) {
         let Journal {
             facts,
             steps,
-            before,
+            written,
         } = self;
-        (facts, steps, before)
+        (facts, steps, written)
     }
 
     /// The steps, where no plan is left after them.
@@ -213,29 +217,29 @@ impl<'a> Journal<'a> {
         self.steps.as_slice()
     }
 
-    /// How far the fact of each step was known before it.
-    pub fn before(&self) -> &[u32] {
-        self.before.as_slice()
+    /// What each step sharpened.
+    pub fn written(&self) -> &[Written] {
+        self.written.as_slice()
     }
 
-    /// Tries a step, and appends it where it sharpens what is known. Whether it does. Reserves room
-    /// for it first.
-    pub fn try_step(&mut self, step: Step) -> Result<bool, MemoryFault>
+    /// Tries a step, and appends it where it sharpens what is known: the fact that it sharpened, where it does. Reserves room for it first.
+    pub fn try_step(&mut self, step: Step) -> Result<Option<Fact>, MemoryFault>
         ensures advances { Advances self.old self.new }
-        ensures sharper { IfOk result (λ sharper.
-            IsTrue sharper → slack_of self.new.facts < slack_of self.old.facts) }
-        ensures same { IfOk result (λ sharper. IsFalse sharper → self.new ≡ self.old) }
-        ensures idle { IfOk result (λ sharper. IsFalse sharper → SharpensNothing self.old.facts step) }
+        ensures sharper { IfOk result (λ sharpened. IfSome sharpened (λ fact.
+            (fact ≡ target self.old.facts.instance step) × (slack_of self.new.facts < slack_of self.old.facts))) }
+        ensures same { IfOk result (λ sharpened. IfNone sharpened (self.new ≡ self.old)) }
+        ensures idle { IfOk result (λ sharpened. IfNone sharpened (SharpensNothing self.old.facts step)) }
     {
-        let known = value(&self.facts, target(self.facts.instance(), &step));
-        let sharper = self.append(step)?;
-        if sharper {
-            self.before.push(known)?;
+        let fact = target(self.facts.instance(), &step);
+        let before = value(&self.facts, fact);
+        if !self.append(step, fact, before)? {
+            return Ok(None);
         }
-        Ok(sharper)
+        self.written.push(Written { fact, before })?;
+        Ok(Some(fact))
     }
 
-    /// The same with a step of another log, of which a copy is appended.
+    /// Tries a step of another log, and appends a copy of it where it sharpens what is known. Whether it does.
     pub fn try_again(&mut self, alloc: Global, step: &Step) -> Result<bool, MemoryFault>
         ensures advances { Advances self.old self.new }
         ensures sharper { IfOk result (λ sharper.
@@ -243,17 +247,20 @@ impl<'a> Journal<'a> {
         ensures same { IfOk result (λ sharper. IsFalse sharper → self.new ≡ self.old) }
         ensures idle { IfOk result (λ sharper. IsFalse sharper → SharpensNothing self.old.facts step.now) }
     {
-        let known = value(&self.facts, target(self.facts.instance(), step));
-        let sharper = self.append_copy(alloc, step)?;
+        let fact = target(self.facts.instance(), step);
+        let before = value(&self.facts, fact);
+        let sharper = self.append_again(alloc, step, fact, before)?;
         if sharper {
-            self.before.push(known)?;
+            self.written.push(Written { fact, before })?;
         }
         Ok(sharper)
     }
 
-    /// Appends a step where it sharpens what is known, but not how far that was known before.
+    /// Appends a step where it sharpens the fact that it writes, which is known so far, but not that it did.
     #[tactic(auto, using(crate::proofs::Logs::advances_refl, crate::proofs::Logs::advances_step))]
-    fn append(&mut self, step: Step) -> Result<bool, MemoryFault>
+    fn append(&mut self, step: Step, fact: Fact, before: u32) -> Result<bool, MemoryFault>
+        requires writes { fact ≡ target self.old.facts.instance step }
+        requires known { before ≡ known_value self.old.facts.known fact }
         ensures advances { Advances self.old self.new }
         ensures sharper { IfOk result (λ sharper.
             IsTrue sharper → slack_of self.new.facts < slack_of self.old.facts) }
@@ -261,7 +268,7 @@ impl<'a> Journal<'a> {
         ensures idle { IfOk result (λ sharper. IsFalse sharper → SharpensNothing self.old.facts step) }
     {
         self.steps.try_reserve(1)?;
-        if sharpens(&mut self.facts, &step) {
+        if sharpens(&mut self.facts, &step, fact, before) {
             self.steps.push(step)?;
             return Ok(true);
         }
@@ -270,7 +277,15 @@ impl<'a> Journal<'a> {
 
     /// The same with a copy of a step.
     #[tactic(auto, using(crate::proofs::Logs::advances_refl, crate::proofs::Logs::advances_step))]
-    pub fn append_copy(&mut self, alloc: Global, step: &Step) -> Result<bool, MemoryFault>
+    fn append_again(
+        &mut self,
+        alloc: Global,
+        step: &Step,
+        fact: Fact,
+        before: u32,
+    ) -> Result<bool, MemoryFault>
+        requires writes { fact ≡ target self.old.facts.instance step.now }
+        requires known { before ≡ known_value self.old.facts.known fact }
         ensures advances { Advances self.old self.new }
         ensures sharper { IfOk result (λ sharper.
             IsTrue sharper → slack_of self.new.facts < slack_of self.old.facts) }
@@ -278,11 +293,24 @@ impl<'a> Journal<'a> {
         ensures idle { IfOk result (λ sharper. IsFalse sharper → SharpensNothing self.old.facts step.now) }
     {
         push_copy(alloc, &mut self.steps, step)?;
-        if sharpens(&mut self.facts, step) {
+        if sharpens(&mut self.facts, step, fact, before) {
             return Ok(true);
         }
         let _copy = self.steps.pop();
         Ok(false)
+    }
+
+    /// Appends a copy of a step where it sharpens what is known, but not what it sharpened. Whether it does.
+    pub fn append_copy(&mut self, alloc: Global, step: &Step) -> Result<bool, MemoryFault>
+        ensures advances { Advances self.old self.new }
+        ensures sharper { IfOk result (λ sharper.
+            IsTrue sharper → slack_of self.new.facts < slack_of self.old.facts) }
+        ensures same { IfOk result (λ sharper. IsFalse sharper → self.new ≡ self.old) }
+        ensures idle { IfOk result (λ sharper. IsFalse sharper → SharpensNothing self.old.facts step.now) }
+    {
+        let fact = target(self.facts.instance(), step);
+        let before = value(&self.facts, fact);
+        self.append_again(alloc, step, fact, before)
     }
 
     /// Tries each of these steps once. Whether one sharpened what is known.

@@ -340,7 +340,7 @@ impl<'a> Propagator<'a> {
     {
         self.spare.reserve(1)?;
         let room = room(alloc, &mut self.spare, &self.current)?;
-        let (facts, steps, before) = room.into_memory();
+        let (facts, steps, written) = room.into_memory();
         let level = &self.current;
         let (leaf, facts) = trimmed_leaf(
             alloc,
@@ -348,9 +348,9 @@ impl<'a> Propagator<'a> {
             &mut self.fewest,
             level.facts(),
             level.steps(),
-            level.before(),
+            level.written(),
         )?;
-        keep(&mut self.spare, Journal::new(facts, steps, before));
+        keep(&mut self.spare, Journal::new(facts, steps, written));
         Ok(leaf)
     }
 }

@@ -8,7 +8,7 @@ ghost use Rattle.step_logs.specs.Propagator.{FollowsFrom, first_log};
 
 use crate::copies::all_copied;
 use crate::journal::Journal;
-use needed_steps::{Fewest, Found, Log, Marked, Marks};
+use needed_steps::{Fewest, Found, Log, Marked, Marks, Written};
 use std::alloc::Global;
 use tt_choice::Choice;
 use tt_infer::Facts;
@@ -96,7 +96,7 @@ pub fn trimmed_leaf<'a>(
     fewest: &mut Fewest,
     facts: &Facts<'a>,
     steps: &[Step],
-    before: &[u32],
+    written: &[Written],
 ) -> Result<(Leaf, Facts<'a>), MemoryFault>
     requires none_kept { bare facts.now.choice ≡ facts.now.choice }
     requires closes { ClosesSharply facts.now.instance facts.now.choice (record { goal = facts.now.goal; steps = steps.now }) }
@@ -105,7 +105,7 @@ pub fn trimmed_leaf<'a>(
     ensures goal { IfOk result (λ trimmed. trimmed.0.goal ≡ facts.now.goal) }
 {
     let _choice = facts.choice();
-    let journal = retried(alloc, room, fewest, facts, steps, before)?;
+    let journal = retried(alloc, room, fewest, facts, steps, written)?;
     let (known, kept) = journal.into_parts();
     if known.closed() {
         return Ok((leaf_of(facts.goal(), kept), known));
@@ -122,11 +122,11 @@ fn retried<'a>(
     fewest: &mut Fewest,
     facts: &Facts<'a>,
     steps: &[Step],
-    before: &[u32],
+    written: &[Written],
 ) -> Result<Journal<'a>, MemoryFault>
     ensures { IfOk result (FollowsFrom facts.now.instance (bare facts.now.choice) facts.now.goal) }
 {
-    let (count, closer) = fewest_needed(fewest, facts, steps, before)?;
+    let (count, closer) = fewest_needed(fewest, facts, steps, written)?;
     let mut journal = begun(alloc, room, facts, count)?;
     try_closing(alloc, &mut journal, steps, closer, fewest)?;
     Ok(journal)
@@ -153,7 +153,7 @@ fn fewest_needed(
     fewest: &mut Fewest,
     facts: &Facts,
     steps: &[Step],
-    before: &[u32],
+    written: &[Written],
 ) -> Result<(usize, Option<Step>), MemoryFault> {
     let Some((last, logged)) = steps.split_last() else {
         return Ok((0, None));
@@ -161,7 +161,7 @@ fn fewest_needed(
     let log = Log {
         facts,
         steps: logged,
-        before,
+        written,
     };
     let found = fewest.mark(log, Some(last), CLOSERS)?;
     Ok(with_closer(found, steps.len()))

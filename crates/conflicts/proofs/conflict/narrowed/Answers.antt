@@ -1,5 +1,5 @@
-use Rattle.std.proofs.Common.{List, IsPermutation, subst}
-use Rattle.std.proofs.lemmas.List.Sorted.{All-permutation, IsPermutation-sym}
+use Rattle.std.proofs.Common.{List, IsPermutation, subst, sym}
+use Rattle.std.proofs.lemmas.List.Sorted.{All-permutation, IsPermutation-sym, IsPermutation-reverse}
 use Rattle.kept_constraints.specs.Constraints.{listed}
 use Rattle.kept_constraints.specs.declared.constraints.Constraint.{Constraint}
 use Rattle.conflicts.specs.Halving.{Decides, IsDecided}
@@ -11,7 +11,8 @@ returns g c =
     let old = c.args.halving in
     let new = c.narrow.new.halving in
     let turned : IsPermutation (listed old.kept) c.last_first-list.result.items =
-    subst (λ (list : List Constraint). IsPermutation list c.last_first-list.result.items) c.in_ok-list.ensures c.last_first-list.ensures in
+    subst (λ (list : List Constraint). IsPermutation list c.last_first-list.result.items) c.in_ok-list.ensures
+    (subst (IsPermutation _) (sym c.last_first-list.ensures) (IsPermutation-reverse _)) in
     let done = subst (λ (part : List Constraint). Decides i c.args.options old part new) c.as_slice.ensures.value c.in_ok-narrow.ensures in
     c.in_ok-told.ensures i c.args.options old (record {
       halving = done.halving;

@@ -8,27 +8,27 @@ use Rattle.step_logs.proofs.journal.sharpens.Goals as goal
 pub returns-in-Ok-clause-sharper : goal.returns-in-Ok-clause-sharper
 returns-in-Ok-clause-sharper c = λ sharper.
     let s = c.args.facts.now in
-    let fact : c.target-fact.result ≡ target s.instance c.args.step.now = rw c.instance.ensures.value at c.target-fact.ensures in
+    let fact : c.args.fact ≡ target s.instance c.args.step.now = c.requires.writes in
     let apart = differ_from _ _ sharper in
-    sharpens_changed s c.args.step.now c.apply.new.self.known c.instance.ensures.inference c.in-Ok.ensures.step.0 c.in-Ok.ensures.step.1
-    (λ same. apart (c.value.ensures ∙ ap (known_value c.apply.new.self.known) fact ∙ same ∙ sym (ap (known_value s.known) fact) ∙ sym c.value-before.ensures))
+    sharpens_changed s c.args.step.now c.apply.new.self.known c.instance-instance.ensures.inference c.in-Ok.ensures.step.0 c.in-Ok.ensures.step.1
+    (λ same. apart (c.value.ensures ∙ ap (known_value c.apply.new.self.known) fact ∙ same ∙ sym (ap (known_value s.known) fact) ∙ sym c.requires.known))
 
 pub returns-in-Ok-clause-same : goal.returns-in-Ok-clause-same
 returns-in-Ok-clause-same c = λ fails.
     let s = c.args.facts.now in
-    let fact : c.target-fact.result ≡ target s.instance c.args.step.now = rw c.instance.ensures.value at c.target-fact.ensures in
+    let fact : c.args.fact ≡ target s.instance c.args.step.now = c.requires.writes in
     let same = same_from _ _ fails in
-    let known = stays_same s c.args.step.now c.apply.new.self.known c.instance.ensures.inference c.in-Ok.ensures.step.1
-    (sym (ap (known_value c.apply.new.self.known) fact) ∙ sym c.value.ensures ∙ same ∙ c.value-before.ensures ∙ ap (known_value s.known) fact) in
+    let known = stays_same s c.args.step.now c.apply.new.self.known c.instance-instance.ensures.inference c.in-Ok.ensures.step.1
+    (sym (ap (known_value c.apply.new.self.known) fact) ∙ sym c.value.ensures ∙ same ∙ c.requires.known ∙ ap (known_value s.known) fact) in
     c.apply.ensures.others ∙ ap (after s) known
 
 pub returns-in-Ok-clause-idle : goal.returns-in-Ok-clause-idle
 returns-in-Ok-clause-idle c = λ fails.
     let s = c.args.facts.now in
-    let fact : c.target-fact.result ≡ target s.instance c.args.step.now = rw c.instance.ensures.value at c.target-fact.ensures in
+    let fact : c.args.fact ≡ target s.instance c.args.step.now = c.requires.writes in
     let same = same_from _ _ fails in
-    let known = stays_same s c.args.step.now c.apply.new.self.known c.instance.ensures.inference c.in-Ok.ensures.step.1
-    (sym (ap (known_value c.apply.new.self.known) fact) ∙ sym c.value.ensures ∙ same ∙ c.value-before.ensures ∙ ap (known_value s.known) fact) in
+    let known = stays_same s c.args.step.now c.apply.new.self.known c.instance-instance.ensures.inference c.in-Ok.ensures.step.1
+    (sym (ap (known_value c.apply.new.self.known) fact) ∙ sym c.value.ensures ∙ same ∙ c.requires.known ∙ ap (known_value s.known) fact) in
     idle_taken s c.args.step.now c.apply.new.self.known c.in-Ok.ensures.step.1 known
 
 pub returns-in-Err-clause-idle : goal.returns-in-Err-clause-idle

@@ -7,7 +7,7 @@ pub returns-else-sharper-clause-sharper : goal.returns-else-sharper-clause-sharp
 returns-else-sharper-clause-sharper c = c.in_ok-sharper.ensures.sharper
 
 pub returns-in_ok-push-clause-advances : goal.returns-in_ok-push-clause-advances
-returns-in_ok-push-clause-advances c = rw (← c.self-2.view_is) at c.append_copy.ensures.advances
+returns-in_ok-push-clause-advances c = rw (← c.self-2.view_is) at c.append_again.ensures.advances
 
 pub returns-in_ok-push-clause-same : goal.returns-in_ok-push-clause-same
 returns-in_ok-push-clause-same c = λ fails. rw (← c.self-2.view_is) at (c.in_ok-sharper.ensures.same fails)

@@ -1,5 +1,5 @@
 use Rattle.step_logs.proofs.Logs.{advances_pushed}
-use Rattle.step_logs.proofs.journal.Journal.append_copy.Goals as goal
+use Rattle.step_logs.proofs.journal.Journal.append_again.Goals as goal
 
 pub returns-then-sharpens-clause-advances : goal.returns-then-sharpens-clause-advances
 returns-then-sharpens-clause-advances c =
