@@ -226,12 +226,23 @@ fn worked_and_spared<J: Searched>(
     Ok((report.worked, report.spared.len()))
 }
 
+/// The same plainly, and sparing.
+fn in_both_manners<J: Searched>(
+    alloc: Global,
+    instance: &Instance,
+) -> Result<((u64, usize), (u64, usize)), Fail>
+    requires { instance.now ≡ J.instance }
+{
+    let plain = worked_and_spared::<J>(alloc, instance, Manner::Plain)?;
+    let sparing = worked_and_spared::<J>(alloc, instance, Manner::Sparing)?;
+    Ok((plain, sparing))
+}
+
 #[test]
 fn what_no_leaf_uses_is_spared(rt: HostRuntime) -> Result<(), Fail> {
     let instance = ONE_MESSAGE.build(rt.alloc())?;
-    let plain = worked_and_spared::<Brand>(rt.alloc(), &instance, Manner::Plain)?;
+    let (plain, sparing) = in_both_manners::<Brand>(rt.alloc(), &instance)?;
     assert!(rt; plain == (37, 0), "{} and {}", plain.0, plain.1);
-    let sparing = worked_and_spared::<Brand>(rt.alloc(), &instance, Manner::Sparing)?;
     assert!(rt; sparing == (25, 12), "{} and {}", sparing.0, sparing.1);
     Ok(())
 }
