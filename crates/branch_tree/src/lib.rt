@@ -14,6 +14,7 @@ mod working;
 
 pub use examples::{one_message_in_round_0, one_message_in_round_1};
 pub use laws::{clashes_are_closed_by_their_closers, plans_are_closed_up_to_their_delay};
+pub use path_bounds::Agenda;
 pub use subtree_tasks::{Name, Piece, Task, names_stand_once, one_choice_stands};
 pub use workbench::Workbench;
 pub use worked::Worked;

@@ -20,7 +20,7 @@ use crate::lessons::Lessons;
 use crate::workbench::Workbench;
 use crate::worked::Worked;
 use certificate::Node;
-use path_bounds::{Propagator, best_goal, leaf_by};
+use path_bounds::{Agenda, Propagator, best_goal, leaf_by};
 use std::alloc::Global;
 use subtree_tasks::{Piece, Task, Trial, child_tasks, tried};
 use tt_choice::Choice;
@@ -187,12 +187,18 @@ pub fn close_left(
     ensures piece { IfOk result (IsLeftClosed instance.now task top) }
     ensures back { IfErr result (λ refused. refused.0 ≡ task) }
 {
-    close_left_by(alloc, instance, task, top, &[])
+    let mut agenda = match Agenda::of(alloc, instance) {
+        Ok(agenda) => agenda,
+        Err(fault) => return Err((task, fault)),
+    };
+    close_left_by(alloc, &mut agenda, instance, task, top, &[])
 }
 
-/// The same by the steps of another leaf, where they close it at `top` itself: that costs far less than a propagation.
+/// The same by the steps of another leaf, where they close it at `top` itself: that costs far less than a propagation. An agenda of the
+/// instance serves for one task after another.
 pub fn close_left_by(
     alloc: Global,
+    agenda: &mut Agenda,
     instance: &Instance,
     task: Task,
     top: u32,
@@ -202,7 +208,7 @@ pub fn close_left_by(
     ensures piece { IfOk result (IsLeftClosed instance.now task top) }
     ensures back { IfErr result (λ refused. refused.0 ≡ task) }
 {
-    match left_leaf(alloc, instance, &task, top, steps) {
+    match left_leaf(alloc, agenda, instance, &task, top, steps) {
         Ok(leaf) => Ok(Piece {
             name: task.into_name(),
             node: Node::Leaf(leaf),
@@ -214,6 +220,7 @@ pub fn close_left_by(
 /// The leaf that closes it.
 fn left_leaf(
     alloc: Global,
+    agenda: &mut Agenda,
     instance: &Instance,
     task: &Task,
     top: u32,
@@ -231,7 +238,7 @@ fn left_leaf(
             return Ok(leaf);
         }
     }
-    best_goal(alloc, instance, &choice, top)
+    best_goal(alloc, agenda, instance, &choice, top)
 }
 
 /// The greatest goal of at most `top` ticks at which propagation closes the whole tree: no plan has a delay below it.
@@ -241,7 +248,8 @@ pub fn root_bound(alloc: Global, instance: &Instance, top: u32) -> Result<u32, M
 {
     let _nodes = instance.nodes();
     let root = Task::root(alloc, instance)?;
-    let leaf = left_leaf(alloc, instance, &root, top, &[])?;
+    let mut agenda = Agenda::of(alloc, instance)?;
+    let leaf = left_leaf(alloc, &mut agenda, instance, &root, top, &[])?;
     Ok(leaf.goal)
 }
 

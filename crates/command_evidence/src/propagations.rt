@@ -12,7 +12,7 @@ ghost use Rattle.sought_plans.specs.Known.{first_facts};
 ghost use Rattle.tt_infer.specs.Leaves.{ClosesLeaf};
 ghost use Rattle.path_bounds.specs.Propagation.{LeadSharply};
 
-use path_bounds::{Propagator, Reached, Supposition, path_bound, propagate};
+use path_bounds::{Agenda, Propagator, Reached, Supposition, path_bound, propagate};
 use std::alloc::Global;
 use tt_choice::{Choice, Decision};
 use ttp_model::{Instance, Leaf, MemoryFault, Steps};
@@ -87,8 +87,9 @@ pub fn closed_is_told_of_steps_that_close(
     requires { IsChoice instance.now choice.now }
     ensures { IfOk result (λ answer. IfSome answer (ClosesLeaf instance.now choice.now)) }
 {
+    let mut agenda = Agenda::of(alloc, instance)?;
     let mut steps = Vec::new(alloc);
-    match propagate(alloc, instance, choice, goal, &mut steps)? {
+    match propagate(alloc, &mut agenda, instance, choice, goal, &mut steps)? {
         Reached::Closed => Ok(Some(Leaf {
             goal,
             steps: Steps::new(steps),

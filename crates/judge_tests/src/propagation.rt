@@ -9,7 +9,7 @@ ghost use Rattle.tt_choice.specs.Choice.{IsChoice};
 use crate::decisions::chosen;
 use crate::instances::Small;
 use crate::{instances, loads};
-use path_bounds::{Reached, best_goal, leaf_by, path_bound, propagate};
+use path_bounds::{Agenda, Reached, best_goal, leaf_by, path_bound, propagate};
 use std::alloc::Global;
 use std::process::Abort;
 use std::test::Fail;
@@ -57,8 +57,9 @@ fn closed_at(
 ) -> Result<Option<Closing>, MemoryFault>
     requires { IsChoice i.now choice.now }
 {
+    let mut agenda = Agenda::of(alloc, i)?;
     let mut steps = Vec::new(alloc);
-    match propagate(alloc, i, choice, goal, &mut steps)? {
+    match propagate(alloc, &mut agenda, i, choice, goal, &mut steps)? {
         Reached::Closed => Ok(Some((steps.len(), late(steps.last())))),
         Reached::At(_) => Ok(None),
     }
@@ -88,7 +89,8 @@ fn leaf_size(
 ) -> Result<(u32, usize), MemoryFault>
     requires { IsChoice i.now choice.now }
 {
-    let leaf = best_goal(alloc, i, choice, top)?;
+    let mut agenda = Agenda::of(alloc, i)?;
+    let leaf = best_goal(alloc, &mut agenda, i, choice, top)?;
     assert!(rt; replays(alloc, i, choice, &leaf)?);
     Ok((leaf.goal, leaf.steps.as_slice().len()))
 }

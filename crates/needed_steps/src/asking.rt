@@ -1,19 +1,18 @@
-//! How sharp has what a step reads to be, which facts count as what it rests on, and on which node can't something be?
+//! How sharp has what a step reads to be, may it say more than is known, and on which node can't something be?
 
 use crate::closers::{
     ask_earlier, ask_frames, ask_load, ask_mirror, ask_no_round, ask_ring, ask_window,
 };
-use crate::counted::{add_frames, add_late, add_orders, add_settled};
 use crate::ends::{
     ask_missed, ask_receiver_start, ask_second_start, ask_sending, ask_settled, ask_start,
 };
 use crate::homes::{home, source};
+use crate::idle::{has_no_round, has_no_time, is_too_late, pulls, pushes};
 use crate::moment::Moment;
 use crate::needs::Needs;
 use crate::starts::{ask_arrival, ask_end, ask_first_end, ask_passage, ask_ready};
-use step_reads::add_reads;
-use tt_infer::{Fact, Facts, link_after, link_before};
-use ttp_model::{Instance, MemoryFault, Step};
+use tt_infer::{Facts, link_after, link_before};
+use ttp_model::{Instance, Step};
 
 /// Asks for what a step reads: so sharp that it can be taken, and that it says of its own fact what is needed.
 pub fn ask(needs: &mut Needs, moment: &Moment, step: &Step, need: u32) {
@@ -47,35 +46,23 @@ pub fn ask(needs: &mut Needs, moment: &Moment, step: &Step, need: u32) {
     }
 }
 
-/// Adds the facts that a step rests on, where these facts are known when the last step is taken: those that it reads, and of rings,
-/// frames, messages that could go out earlier and settled plans more, by which closers are weighed.
-pub fn add_counted(facts: &Facts, step: &Step, counted: &mut Vec<Fact>) -> Result<(), MemoryFault> {
+/// Whether a step may say more than is known: not where two numbers show that it doesn't.
+pub fn may_say_more(facts: &Facts, step: &Step) -> bool {
+    let instance = facts.instance();
     match step {
-        Step::XCycle(ring) => add_orders(ring.as_slice(), counted),
-        Step::XFrames(n, a, b) => add_frames(facts, None, *n, *a, *b, counted),
-        Step::XChannel(k, n, a, b) => add_frames(facts, Some(*k), *n, *a, *b, counted),
-        Step::XLate(m, _) => add_late(facts.instance(), *m, counted),
-        Step::UsSettled(p) => add_settled(facts, *p, counted),
-        Step::EsRelease(_)
-        | Step::EsLink(_)
-        | Step::EsBefore(_, _)
-        | Step::EsArrive(_, _)
-        | Step::EsMessage(_, _)
-        | Step::LoSend(_)
-        | Step::LeOwn(_)
-        | Step::LeLink(_)
-        | Step::LeBefore(_, _)
-        | Step::LeMessage(_, _)
-        | Step::LeSend(_)
-        | Step::HiArrive(_, _)
-        | Step::OrdWindow(_, _)
-        | Step::OrdTwin(_, _)
-        | Step::XWindow(_)
-        | Step::XRound(_)
-        | Step::XLoad(_, _, _)
-        | Step::XFrame(_)
-        | Step::XSilent(_, _)
-        | Step::XMirror(_) => add_reads(facts, step, counted),
+        Step::EsLink(l) => pushes(facts, link_before(instance, *l), link_after(instance, *l)),
+        Step::LeLink(l) => pulls(facts, link_before(instance, *l), link_after(instance, *l)),
+        Step::EsBefore(p, q) => facts.bef(*p, *q) && pushes(facts, *p, *q),
+        Step::LeBefore(p, q) => facts.bef(*p, *q) && pulls(facts, *p, *q),
+        Step::OrdWindow(p, q) => is_too_late(facts, *q, *p),
+        Step::XWindow(p) => has_no_time(facts, *p),
+        Step::XRound(m) => has_no_round(facts, *m),
+        Step::EsRelease(_) | Step::EsArrive(_, _) | Step::EsMessage(_, _) => true,
+        Step::LoSend(_) | Step::HiArrive(_, _) | Step::OrdTwin(_, _) => true,
+        Step::LeOwn(_) | Step::LeMessage(_, _) | Step::LeSend(_) | Step::UsSettled(_) => true,
+        Step::XCycle(_) | Step::XLoad(_, _, _) | Step::XFrame(_) | Step::XFrames(_, _, _) => true,
+        Step::XChannel(_, _, _, _) | Step::XLate(_, _) | Step::XSilent(_, _) => true,
+        Step::XMirror(_) => true,
     }
 }
 

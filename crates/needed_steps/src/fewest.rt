@@ -18,9 +18,10 @@ pub struct Written {
     pub before: u32,
 }
 
-/// Steps, what each of them sharpened, and what is known after them.
+/// Steps, what each of them sharpened, and what is known at first and after them.
 #[derive(Clone, Copy)]
 pub struct Log<'b, 'a> {
+    pub first: &'b Facts<'a>,
     pub facts: &'b Facts<'a>,
     pub steps: &'b [Step],
     pub written: &'b [Written],
@@ -92,7 +93,7 @@ impl Fewest {
         self.weigh(log, given, most)?;
         self.marked.clear();
         self.marked.resize(log.steps.len(), false)?;
-        self.set_first(log);
+        self.at_first.set_to_known(log.first);
         let Some(place) = self.place_of_fewest(log, given) else {
             return Ok(None);
         };
@@ -105,7 +106,7 @@ impl Fewest {
     fn weigh(&mut self, log: Log, given: Option<&Step>, most: usize) -> Result<(), MemoryFault> {
         let are_many = self.closings.as_slice().len() >= most;
         if are_many {
-            self.weights.look_at(log.facts, log.steps)?;
+            self.weights.look_at(log)?;
         }
         self.light.clear();
         if let Some(closer) = given {
@@ -123,12 +124,6 @@ impl Fewest {
             self.light.truncate(most);
         }
         Ok(())
-    }
-
-    /// Takes note of what is known at first, before the steps of a log.
-    fn set_first(&mut self, log: Log) {
-        self.at_first.set_to_known(log.facts);
-        go_back(&mut self.at_first, log.written);
     }
 
     /// The place of the closer that needs the fewest steps, if there is one: none of the given one.
@@ -210,13 +205,6 @@ fn two_values(alloc: Global, instance: &Instance) -> Result<(Values, Values), Me
     let before_step = Values::none(alloc, instance)?;
     let at_first = Values::none(alloc, instance)?;
     Ok((before_step, at_first))
-}
-
-/// Goes back before steps that sharpened this.
-fn go_back(values: &mut Values, written: &[Written]) {
-    for step in written.iter().rev() {
-        values.put(step.fact, step.before);
-    }
 }
 
 /// The closer at a place: the given one where there is none.

@@ -8,6 +8,7 @@ mod counted;
 mod ends;
 mod fewest;
 mod homes;
+mod idle;
 mod marks;
 mod moment;
 mod needs;
@@ -18,6 +19,6 @@ mod starts;
 mod values;
 mod weights;
 
-pub use asking::node_of;
+pub use asking::{may_say_more, node_of};
 pub use fewest::{Fewest, Found, Log, Written};
 pub use marks::{Marked, Marks};

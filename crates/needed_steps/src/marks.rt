@@ -1,6 +1,6 @@
 //! Which steps does a closer need?
 
-use crate::asking::add_counted;
+use crate::counted::add_counted;
 use std::alloc::Global;
 use step_reads::FactSet;
 use tt_infer::{Fact, Facts, target};

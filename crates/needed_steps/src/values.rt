@@ -4,102 +4,92 @@ use std::alloc::Global;
 use tt_infer::{Fact, Facts};
 use ttp_model::{Instance, MemoryFault};
 
-/// No list has this place.
-const NOWHERE: usize = usize::MAX;
-
 /// A time in ticks for the start and the end of each process, and a round for the first one of each message and for the first one
 /// that is too late, in memory that is used again. Of what isn't there it is 0.
 #[derive(Drop)]
 pub struct Values {
-    /// How many processes there are.
-    processes: u32,
-    /// The starts of all processes, and then the first rounds of all messages.
-    least: Vec<u32>,
-    /// Their ends, and then their late rounds.
-    most: Vec<u32>,
+    starts: Vec<u32>,
+    ends: Vec<u32>,
+    first_rounds: Vec<u32>,
+    late_rounds: Vec<u32>,
 }
 
-/// Writes a list over a part of another one from a place on, where it has so much room.
-fn write_over(values: &mut [u32], from: usize, others: &[u32]) {
-    if from <= values.len() && others.len() <= values.len() - from {
-        values[from..from + others.len()].copy_from_slice(others);
+/// Writes a list over another one, where both are as long.
+fn write_over(values: &mut [u32], others: &[u32]) {
+    if others.len() == values.len() {
+        values.copy_from_slice(others);
     }
 }
 
 /// Writes a value, where there is a place for it.
-fn put(values: &mut [u32], at: usize, value: u32) {
-    if at < values.len() {
-        values[at] = value;
+fn put(values: &mut [u32], at: u32, value: u32) {
+    if (at as usize) < values.len() {
+        values[at as usize] = value;
     }
 }
 
 /// The value at a place: 0 where there is none.
-fn at(values: &[u32], at: usize) -> u32 {
-    if at < values.len() { values[at] } else { 0 }
+fn at(values: &[u32], at: u32) -> u32 {
+    if (at as usize) < values.len() {
+        values[at as usize]
+    } else {
+        0
+    }
 }
 
 impl Values {
     /// All are 0.
     pub fn none(alloc: Global, instance: &Instance) -> Result<Self, MemoryFault> {
-        let count = instance.processes().len() + instance.messages().len();
-        let least = vec![in alloc; 0u32; count]?;
-        let most = vec![in alloc; 0u32; count]?;
+        let processes = instance.processes().len();
+        let messages = instance.messages().len();
         Ok(Values {
-            processes: instance.processes().len() as u32,
-            least,
-            most,
+            starts: vec![in alloc; 0u32; processes]?,
+            ends: vec![in alloc; 0u32; processes]?,
+            first_rounds: vec![in alloc; 0u32; messages]?,
+            late_rounds: vec![in alloc; 0u32; messages]?,
         })
     }
 
     /// All are 0 again.
     pub fn clear(&mut self) {
-        self.least.as_mut_slice().fill(0);
-        self.most.as_mut_slice().fill(0);
+        self.set_all(0, 0);
     }
 
     /// Starts and first rounds are 0, and ends and late rounds past all others.
     pub fn widen(&mut self) {
-        self.least.as_mut_slice().fill(0);
-        self.most.as_mut_slice().fill(u32::MAX);
+        self.set_all(0, u32::MAX);
+    }
+
+    /// All starts and first rounds are one number, and all ends and late rounds another.
+    fn set_all(&mut self, least: u32, most: u32) {
+        self.starts.as_mut_slice().fill(least);
+        self.first_rounds.as_mut_slice().fill(least);
+        self.ends.as_mut_slice().fill(most);
+        self.late_rounds.as_mut_slice().fill(most);
     }
 
     /// So far are these facts known.
     pub fn set_to_known(&mut self, facts: &Facts) {
-        let messages = self.processes as usize;
-        write_over(self.least.as_mut_slice(), 0, facts.starts());
-        write_over(self.least.as_mut_slice(), messages, facts.first_rounds());
-        write_over(self.most.as_mut_slice(), 0, facts.ends());
-        write_over(self.most.as_mut_slice(), messages, facts.late_rounds());
-    }
-
-    /// Where the start and the end of a process stand.
-    fn of_process(&self, p: u32) -> usize {
-        if p < self.processes {
-            p as usize
-        } else {
-            NOWHERE
-        }
-    }
-
-    /// Where the two rounds of a message stand.
-    fn of_message(&self, m: u32) -> usize {
-        self.processes as usize + m as usize
+        write_over(self.starts.as_mut_slice(), facts.starts());
+        write_over(self.ends.as_mut_slice(), facts.ends());
+        write_over(self.first_rounds.as_mut_slice(), facts.first_rounds());
+        write_over(self.late_rounds.as_mut_slice(), facts.late_rounds());
     }
 
     pub fn start(&self, p: u32) -> u32 {
-        at(self.least.as_slice(), self.of_process(p))
+        at(self.starts.as_slice(), p)
     }
 
     pub fn end(&self, p: u32) -> u32 {
-        at(self.most.as_slice(), self.of_process(p))
+        at(self.ends.as_slice(), p)
     }
 
     pub fn first_round(&self, m: u32) -> u32 {
-        at(self.least.as_slice(), self.of_message(m))
+        at(self.first_rounds.as_slice(), m)
     }
 
     pub fn late_round(&self, m: u32) -> u32 {
-        at(self.most.as_slice(), self.of_message(m))
+        at(self.late_rounds.as_slice(), m)
     }
 
     /// How far a fact is known: 0 of an order, and of whether no plan is left.
@@ -116,22 +106,10 @@ impl Values {
     /// Writes how far a fact is known, if it is of one process or message.
     pub fn put(&mut self, fact: Fact, value: u32) {
         match fact {
-            Fact::Start(p) => {
-                let place = self.of_process(p);
-                put(self.least.as_mut_slice(), place, value);
-            }
-            Fact::End(p) => {
-                let place = self.of_process(p);
-                put(self.most.as_mut_slice(), place, value);
-            }
-            Fact::FirstRound(m) => {
-                let place = self.of_message(m);
-                put(self.least.as_mut_slice(), place, value);
-            }
-            Fact::LateRound(m) => {
-                let place = self.of_message(m);
-                put(self.most.as_mut_slice(), place, value);
-            }
+            Fact::Start(p) => put(self.starts.as_mut_slice(), p, value),
+            Fact::End(p) => put(self.ends.as_mut_slice(), p, value),
+            Fact::FirstRound(m) => put(self.first_rounds.as_mut_slice(), m, value),
+            Fact::LateRound(m) => put(self.late_rounds.as_mut_slice(), m, value),
             Fact::Order(_, _) | Fact::Closed => {}
         }
     }

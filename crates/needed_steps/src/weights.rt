@@ -1,9 +1,10 @@
 //! How many steps does each fact rest on?
 
-use crate::asking::add_counted;
+use crate::counted::add_of_source;
+use crate::fewest::Log;
 use crate::values::Values;
 use std::alloc::Global;
-use tt_infer::{Fact, Facts, target};
+use tt_infer::{Fact, Facts, Reads, Source, reads};
 use ttp_model::{Instance, MemoryFault, Step};
 
 /// By fact, how many steps of a log it rests on: a step that several others read counts once for each. Of what no step has sharpened
@@ -18,7 +19,7 @@ pub struct Weights {
     orders: Vec<u32>,
     /// Where orders have a weight.
     weighed: Vec<usize>,
-    /// What one step rests on, in room that is used again.
+    /// What one source counts as, in room that is used again.
     counted: Vec<Fact>,
 }
 
@@ -55,20 +56,47 @@ impl Weights {
         })
     }
 
-    /// Looks at the steps of a log after which this is known.
-    pub fn look_at(&mut self, facts: &Facts, steps: &[Step]) -> Result<(), MemoryFault> {
+    /// Looks at the steps of a log.
+    pub fn look_at(&mut self, log: Log) -> Result<(), MemoryFault> {
         self.clear();
-        for step in steps {
-            let weight = self.of_step(facts, step)?.saturating_add(1);
-            self.set(target(facts.instance(), step), weight)?;
+        for (step, written) in log.steps.iter().zip(log.written) {
+            let weight = self.of_step(log.facts, step)?;
+            self.set(written.fact, weight.saturating_add(1))?;
         }
         Ok(())
     }
 
     /// The weight of what a step rests on.
     pub fn of_step(&mut self, facts: &Facts, step: &Step) -> Result<u32, MemoryFault> {
+        match reads(facts.instance(), step) {
+            Reads::Nothing => Ok(0),
+            Reads::One(source) => self.of_source(facts, source),
+            Reads::Two(first, second) => {
+                let weight = self.of_source(facts, first)?;
+                Ok(weight.saturating_add(self.of_source(facts, second)?))
+            }
+        }
+    }
+
+    /// The weight of a source.
+    fn of_source(&mut self, facts: &Facts, source: Source) -> Result<u32, MemoryFault> {
+        match source {
+            Source::Learnt(fact) => Ok(self.of(fact)),
+            Source::Fixed(_) => Ok(0),
+            Source::Waits(_)
+            | Source::Circle(_)
+            | Source::Runs(_, _, _)
+            | Source::Frames(_, _, _)
+            | Source::Halves(_, _, _, _)
+            | Source::Earlier(_, _)
+            | Source::Lower(_) => self.of_counted(facts, source),
+        }
+    }
+
+    /// The weight of all facts that a source counts as.
+    fn of_counted(&mut self, facts: &Facts, source: Source) -> Result<u32, MemoryFault> {
         self.counted.clear();
-        add_counted(facts, step, &mut self.counted)?;
+        add_of_source(facts, source, &mut self.counted)?;
         let mut sum = 0u32;
         for fact in self.counted.as_slice() {
             sum = sum.saturating_add(self.of(*fact));

@@ -9,7 +9,7 @@ use crate::propagation::propagate;
 use crate::reached::Reached;
 use longest_chains::path_bound;
 use std::alloc::Global;
-use step_logs::{Journal, closed_leaf};
+use step_logs::{Agenda, Journal, closed_leaf};
 use tt_choice::Choice;
 use tt_infer::Facts;
 use ttp_model::{Instance, Leaf, MemoryFault, Step, Steps};
@@ -18,6 +18,7 @@ use ttp_model::{Instance, Leaf, MemoryFault, Step, Steps};
 /// of at most the path bound.
 fn closing_steps(
     alloc: Global,
+    agenda: &mut Agenda,
     instance: &Instance,
     choice: &Choice,
     goal: u32,
@@ -30,7 +31,7 @@ fn closing_steps(
         → IfOk result (λ found. IsSome found) }
 {
     let mut steps = Vec::new(alloc);
-    let reached = propagate(alloc, instance, choice, goal, &mut steps)?;
+    let reached = propagate(alloc, agenda, instance, choice, goal, &mut steps)?;
     match reached {
         Reached::Closed => Ok(Some(steps)),
         Reached::At(_) => Ok(None),
@@ -41,6 +42,7 @@ fn closing_steps(
 /// doesn't, as far as halving finds it, with steps that close the choice there.
 fn raised(
     alloc: Global,
+    agenda: &mut Agenda,
     instance: &Instance,
     choice: &Choice,
     low: u32,
@@ -61,7 +63,7 @@ fn raised(
     let mut high = top;
     'halving: while high - best.0 > 1 {
         let middle = best.0 + (high - best.0) / 2;
-        match closing_steps(alloc, instance, choice, middle)? {
+        match closing_steps(alloc, agenda, instance, choice, middle)? {
             Some(steps) => best = (middle, steps),
             None => high = middle,
         }
@@ -73,6 +75,7 @@ fn raised(
 /// bound.
 fn leaf_below(
     alloc: Global,
+    agenda: &mut Agenda,
     instance: &Instance,
     choice: &Choice,
     top: u32,
@@ -85,16 +88,18 @@ fn leaf_below(
         → bound ≤ leaf.goal) }
 {
     let bound = path_bound(alloc, instance)?;
-    let found = closing_steps(alloc, instance, choice, bound)?;
+    let found = closing_steps(alloc, agenda, instance, choice, bound)?;
     let steps = found.unwrap();
-    let best = raised(alloc, instance, choice, bound, steps, top)?;
+    let best = raised(alloc, agenda, instance, choice, bound, steps, top)?;
     closed_leaf(alloc, instance, choice, best.0, best.1)
 }
 
 /// A closed leaf at a goal of at most `top` ticks and at least the lesser of `top` and the path
-/// bound: the greatest that propagation closes, as far as halving finds it. Some twenty propagations.
+/// bound: the greatest that propagation closes, as far as halving finds it. Some twenty propagations, by an agenda of the instance, which
+/// can be used again.
 pub fn best_goal(
     alloc: Global,
+    agenda: &mut Agenda,
     instance: &Instance,
     choice: &Choice,
     top: u32,
@@ -105,10 +110,10 @@ pub fn best_goal(
     ensures bound { IfOk result (λ leaf. (bound : ℕ) → IsPathBound instance.now bound
         → min top bound ≤ leaf.goal) }
 {
-    let found = closing_steps(alloc, instance, choice, top)?;
+    let found = closing_steps(alloc, agenda, instance, choice, top)?;
     match found {
         Some(steps) => closed_leaf(alloc, instance, choice, top, steps),
-        None => leaf_below(alloc, instance, choice, top),
+        None => leaf_below(alloc, agenda, instance, choice, top),
     }
 }
 

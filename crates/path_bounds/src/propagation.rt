@@ -8,7 +8,7 @@ ghost use Rattle.path_bounds.specs.Propagation.{Propagates, IsClosed, FindsPlan}
 use crate::reached::Reached;
 use std::alloc::Global;
 use std::mem;
-use step_logs::{Journal, reach};
+use step_logs::{Agenda, Journal, reach};
 use tt_choice::Choice;
 use tt_infer::Facts;
 use ttp_model::{Instance, MemoryFault, Step};
@@ -16,9 +16,11 @@ use ttp_model::{Instance, MemoryFault, Step};
 /// Appends lawful steps for the plans of the choice with a delay below `goal` ticks, from the first
 /// facts on, each of which sharpens what is known, and answers where they lead: to no plan, always
 /// so at a goal of at most the path bound, or to what is known then. For a complete choice that is
-/// only where it has such a plan. After a refusal of memory the steps appended so far are lawful too.
+/// only where it has such a plan. After a refusal of memory the steps appended so far are lawful too. An agenda of the instance serves
+/// for one propagation after another.
 pub fn propagate<'a>(
     alloc: Global,
+    agenda: &mut Agenda,
     instance: &'a Instance,
     choice: &Choice,
     goal: u32,
@@ -35,7 +37,7 @@ pub fn propagate<'a>(
     let first = Facts::new(alloc, instance, choice, goal)?;
     let before = mem::replace(steps, Vec::new(alloc));
     let mut journal = Journal::new(first, before, Vec::new(alloc));
-    let done = reach(alloc, instance, choice, &mut journal);
+    let done = reach(alloc, agenda, instance, choice, &mut journal);
     let (facts, all) = journal.into_parts();
     *steps = all;
     done?;

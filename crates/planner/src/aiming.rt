@@ -4,7 +4,7 @@ ghost use Rattle.std.specs.Prelude.{IfOk};
 ghost use Rattle.planner.specs.Searched.{AreAims, IsFloor};
 
 use crate::closing::{close, lowered};
-use branch_tree::Task;
+use branch_tree::{Agenda, Task};
 use pool_worker::Aims;
 use std::alloc::Global;
 use ttp_model::{Instance, MemoryFault};
@@ -16,7 +16,8 @@ fn floor(alloc: Global, instance: &Instance) -> Result<u32, MemoryFault>
     let _nodes = instance.nodes();
     let top = instance.past_horizon();
     let root = Task::root(alloc, instance)?;
-    let piece = close(alloc, instance, root, top, &[])?;
+    let mut agenda = Agenda::of(alloc, instance)?;
+    let piece = close(alloc, &mut agenda, instance, root, top, &[])?;
     Ok(lowered(&piece, top))
 }
 

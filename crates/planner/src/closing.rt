@@ -7,7 +7,7 @@ ghost use Rattle.subtree_tasks.specs.Task.{IsTask};
 ghost use Rattle.branch_tree.specs.Work.{IsLeftClosed};
 ghost use Rattle.planner.specs.Closing.{AreClosed};
 
-use branch_tree::{Piece, Task, close_left_by};
+use branch_tree::{Agenda, Piece, Task, close_left_by};
 use certificate::Node;
 use std::alloc::Global;
 use ttp_model::{Instance, MemoryFault, Step};
@@ -36,6 +36,7 @@ fn last_steps(closed: &[Piece]) -> &[Step] {
 /// Closes one task at a goal of at most `top` ticks, where they do by these steps.
 pub fn close(
     alloc: Global,
+    agenda: &mut Agenda,
     instance: &Instance,
     task: Task,
     top: u32,
@@ -44,7 +45,7 @@ pub fn close(
     requires { IsTask instance.now task }
     ensures { IfOk result (IsLeftClosed instance.now task top) }
 {
-    match close_left_by(alloc, instance, task, top, steps) {
+    match close_left_by(alloc, agenda, instance, task, top, steps) {
         Ok(piece) => Ok(piece),
         Err((_, fault)) => Err(fault),
     }
@@ -63,9 +64,10 @@ pub fn close_all(
     ensures { IfOk result (λ r. AreClosed instance.now tasks.items top r.0.items r.1) }
 {
     let mut closed = Vec::with_capacity(alloc, tasks.len())?;
+    let mut agenda = Agenda::of(alloc, instance)?;
     let mut low = top;
     for task in tasks {
-        let piece = close(alloc, instance, task, low, last_steps(&closed))?;
+        let piece = close(alloc, &mut agenda, instance, task, low, last_steps(&closed))?;
         low = lowered(&piece, low);
         closed.push(piece)?;
     }

@@ -2,10 +2,11 @@
 
 ghost use Rattle.std.specs.Prelude.{◌<◌, length};
 
-use crate::consequences::add_consequences;
 use crate::flags::{lower, raise};
 use crate::rings::ring_step;
+use crate::twins::{add_decided, add_twin_steps};
 use crate::waiting::Waiting;
+use crate::wakes::Wakes;
 use load_bounds::{frame_load, node_load};
 use std::alloc::Global;
 use std::collections::VecDeque;
@@ -21,6 +22,8 @@ const FACTS_BETWEEN_RINGS: u32 = 4;
 /// weren't.
 #[derive(Drop)]
 pub struct Agenda {
+    /// Which steps read what.
+    wakes: Wakes,
     /// The facts in the order in which they were sharpened.
     changed: VecDeque<Fact>,
     /// The same facts, to have each of them once.
@@ -54,6 +57,7 @@ impl Agenda {
     /// Nothing that waits.
     pub fn of(alloc: Global, instance: &Instance) -> Result<Self, MemoryFault> {
         Ok(Agenda {
+            wakes: Wakes::of(alloc, instance)?,
             changed: VecDeque::new(alloc),
             waiting: Waiting::none(alloc, instance)?,
             unsettled: [false; MOST_PROCESSES],
@@ -63,6 +67,27 @@ impl Agenda {
             rounds: Vec::new(alloc),
             room: Vec::new(alloc),
         })
+    }
+
+    /// The steps that read no fact, the one to be tried first last: releases and deadlines, frames, twins.
+    pub fn opening_steps(&self, alloc: Global, facts: &Facts) -> Result<Vec<Step>, MemoryFault> {
+        let mut steps = Vec::new(alloc);
+        add_twin_steps(facts, &mut steps)?;
+        self.wakes.add_without_facts(alloc, &mut steps)?;
+        Ok(steps)
+    }
+
+    /// Adds the steps that read what a decision changes beside the facts: where slots stand and how long they are, and who leads a
+    /// turned frame.
+    pub fn add_decided(
+        &self,
+        alloc: Global,
+        facts: &Facts,
+        decision: Decision,
+        steps: &mut Vec<Step>,
+    ) -> Result<(), MemoryFault> {
+        self.wakes.add_changed(alloc, decision, steps)?;
+        add_decided(facts, decision, steps)
     }
 
     /// Room for the steps that are tried next, with none in it.
@@ -278,7 +303,7 @@ impl Agenda {
         match self.changed.pop_front() {
             Some(fact) => {
                 self.waiting.remove(fact);
-                add_consequences(facts, fact, steps)?;
+                self.wakes.add_woken(alloc, facts, fact, steps)?;
                 self.add_ring(alloc, facts, steps)?;
                 Ok(true)
             }

@@ -2,11 +2,10 @@
 #![tactic(auto)]
 
 mod agenda;
-mod consequences;
 mod flags;
-mod opening;
 mod rings;
+mod twins;
 mod waiting;
+mod wakes;
 
 pub use agenda::Agenda;
-pub use opening::{add_slot_steps, opening_steps};

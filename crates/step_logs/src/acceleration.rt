@@ -4,7 +4,7 @@ ghost use Rattle.step_logs.specs.Journal.{Advances};
 
 use crate::journal::Journal;
 use std::alloc::Global;
-use step_agenda::{Agenda, add_slot_steps, opening_steps};
+use step_agenda::Agenda;
 use tt_choice::Decision;
 use tt_infer::Facts;
 use ttp_model::{MemoryFault, Step};
@@ -22,7 +22,7 @@ pub fn accelerate(
     ensures { Advances journal.old journal.new }
 {
     agenda.begin(journal.facts().instance())?;
-    let mut steps = opening_steps(alloc, journal.facts())?;
+    let mut steps = agenda.opening_steps(alloc, journal.facts())?;
     follow(alloc, journal, agenda, &mut steps)
 }
 
@@ -38,7 +38,7 @@ pub fn go_on(
 {
     agenda.resume(before, journal.facts(), decision)?;
     let mut steps = agenda.take_room(alloc);
-    add_slot_steps(journal.facts(), decision, &mut steps)?;
+    agenda.add_decided(alloc, journal.facts(), decision, &mut steps)?;
     follow(alloc, journal, agenda, &mut steps)?;
     agenda.keep_room(steps);
     Ok(())

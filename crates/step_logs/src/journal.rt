@@ -292,12 +292,8 @@ impl<'a> Journal<'a> {
         ensures same { IfOk result (λ sharper. IsFalse sharper → self.new ≡ self.old) }
         ensures idle { IfOk result (λ sharper. IsFalse sharper → SharpensNothing self.old.facts step.now) }
     {
-        push_copy(alloc, &mut self.steps, step)?;
-        if sharpens(&mut self.facts, step, fact, before) {
-            return Ok(true);
-        }
-        let _copy = self.steps.pop();
-        Ok(false)
+        let copy = step.copied(alloc)?;
+        self.append(copy, fact, before)
     }
 
     /// Appends a copy of a step where it sharpens what is known, but not what it sharpened. Whether it does.

@@ -14,5 +14,6 @@ mod trim;
 pub use journal::Journal;
 pub use propagator::Propagator;
 pub use standstill::reach;
+pub use step_agenda::Agenda;
 pub use supposition::Supposition;
 pub use trim::closed_leaf;

@@ -194,19 +194,20 @@ fn next_level<'a>(
     Ok(next)
 }
 
-/// What is known before any decision of the plans below a goal, and the agenda that led to it.
+/// What is known before any decision of the plans below a goal.
 fn first_level<'a>(
     alloc: Global,
+    agenda: &mut Agenda,
     instance: &'a Instance,
     goal: u32,
-) -> Result<(Journal<'a>, Agenda), MemoryFault>
-    ensures { IfOk result (λ level. IsLog instance.now (root_choice instance.now) goal level.0) }
+) -> Result<Journal<'a>, MemoryFault>
+    ensures { IfOk result (IsLog instance.now (root_choice instance.now) goal) }
 {
     let root = Choice::root(alloc, instance)?;
     let first = Facts::new(alloc, instance, &root, goal)?;
     let mut current = Journal::new(first, Vec::new(alloc), Vec::new(alloc));
-    let agenda = reach(alloc, instance, &root, &mut current)?;
-    Ok((current, agenda))
+    reach(alloc, agenda, instance, &root, &mut current)?;
+    Ok(current)
 }
 
 impl<'a> Propagator<'a> {
@@ -220,7 +221,8 @@ impl<'a> Propagator<'a> {
     {
         let _nodes = instance.nodes();
         let fewest = Fewest::none(alloc, instance)?;
-        let (current, agenda) = first_level(alloc, instance, goal)?;
+        let mut agenda = Agenda::of(alloc, instance)?;
+        let current = first_level(alloc, &mut agenda, instance, goal)?;
         Ok(Propagator {
             instance,
             goal,

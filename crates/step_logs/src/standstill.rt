@@ -17,14 +17,15 @@ use step_agenda::Agenda;
 use tt_choice::Choice;
 use ttp_model::{Instance, MemoryFault};
 
-/// Sharpens what is known at first until the steps that a propagation rests on sharpen no more. Gives its agenda, to be
-/// used again.
+/// Sharpens what is known at first until the steps that a propagation rests on sharpen no more, by an agenda of the instance, which can
+/// be used again.
 pub fn reach(
     alloc: Global,
+    agenda: &mut Agenda,
     instance: &Instance,
     choice: &Choice,
     journal: &mut Journal,
-) -> Result<Agenda, MemoryFault>
+) -> Result<(), MemoryFault>
     requires of { IsChoice instance.now choice.now }
     requires begins { journal.old.facts ≡ record {
       instance = instance.now;
@@ -39,16 +40,15 @@ pub fn reach(
         → IsFalse journal.new.facts.known.closed
         → (plan : Plan) × IsPlanBelow instance.now choice.now journal.old.facts.goal plan) }
 {
-    let mut agenda = Agenda::of(alloc, instance)?;
-    accelerate(alloc, &mut agenda, journal)?;
+    accelerate(alloc, agenda, journal)?;
     if journal.facts().closed() {
-        return Ok(agenda);
+        return Ok(());
     }
     let steps = required_steps(alloc, instance, choice)?;
     journal.settle(alloc, steps.as_slice())?;
     let known = journal.facts();
     let _same = known.instance();
-    Ok(agenda)
+    Ok(())
 }
 
 /// Where nothing is left to choose, sharpens what is known until the steps that decide a complete choice sharpen no more.

@@ -1,10 +1,10 @@
 //! Which leaf do steps that close a choice make?
 
-ghost use Rattle.std.specs.Prelude.{◌≡◌, ◌^◌, ◌<◌, IfOk, IfSome, length};
+ghost use Rattle.std.specs.Prelude.{◌≡◌, ◌^◌, ◌<◌, [], IfOk, IfSome, length};
 ghost use Rattle.tt_choice.specs.Choice.{IsChoice, bare};
 ghost use Rattle.tt_infer.specs.Leaves.{ClosesSharply};
 ghost use Rattle.step_logs.specs.Journal.{Advances};
-ghost use Rattle.step_logs.specs.Propagator.{FollowsFrom, first_log};
+ghost use Rattle.step_logs.specs.Propagator.{FollowsFrom};
 
 use crate::copies::all_copied;
 use crate::journal::Journal;
@@ -126,24 +126,18 @@ fn retried<'a>(
 ) -> Result<Journal<'a>, MemoryFault>
     ensures { IfOk result (FollowsFrom facts.now.instance (bare facts.now.choice) facts.now.goal) }
 {
-    let (count, closer) = fewest_needed(fewest, facts, steps, written)?;
-    let mut journal = begun(alloc, room, facts, count)?;
+    let first = room.anew(facts)?;
+    let (count, closer) = fewest_needed(fewest, &first, facts, steps, written)?;
+    let mut journal = begun(alloc, first, count)?;
     try_closing(alloc, &mut journal, steps, closer, fewest)?;
     Ok(journal)
 }
 
-/// The log without steps of what these facts are about, with room for so many, in the room of other facts.
-fn begun<'a>(
-    alloc: Global,
-    room: Facts<'a>,
-    facts: &Facts<'a>,
-    count: usize,
-) -> Result<Journal<'a>, MemoryFault>
-    ensures { IfOk result (λ log. log
-        ≡ first_log facts.now.instance (bare facts.now.choice) facts.now.goal) }
+/// A log without steps of what is known at first, with room for so many.
+fn begun<'a>(alloc: Global, first: Facts<'a>, count: usize) -> Result<Journal<'a>, MemoryFault>
+    ensures { IfOk result (λ log. log ≡ record { facts = first.entry; steps = [] }) }
 {
     let kept = Vec::with_capacity(alloc, count)?;
-    let first = room.anew(facts)?;
     Ok(Journal::new(first, kept, Vec::new(alloc)))
 }
 
@@ -151,6 +145,7 @@ fn begun<'a>(
 /// with the closer, and that one where it is another.
 fn fewest_needed(
     fewest: &mut Fewest,
+    first: &Facts,
     facts: &Facts,
     steps: &[Step],
     written: &[Written],
@@ -159,6 +154,7 @@ fn fewest_needed(
         return Ok((0, None));
     };
     let log = Log {
+        first,
         facts,
         steps: logged,
         written,

@@ -9,4 +9,4 @@ mod reads;
 pub use fact_set::FactSet;
 pub use known_values::value;
 pub use laws::{needed_decisions_rule_out, steps_rest_on_what_they_read};
-pub use reads::add_reads;
+pub use reads::{add_reads, add_source};

@@ -23,7 +23,7 @@ use ttp_model::{MemoryFault, Step};
 use waits::add_settled;
 
 /// Adds the facts that a source is, where what it is about is there.
-fn add_source(facts: &Facts, source: Source, told: &mut Vec<Fact>) -> Result<(), MemoryFault>
+pub fn add_source(facts: &Facts, source: Source, told: &mut Vec<Fact>) -> Result<(), MemoryFault>
     ensures { IsSourceThere facts.now.instance (source_said source.entry)
         → OnOk result (AddsFacts (IsFactOf facts.now.instance facts.now.choice facts.now.known (source_said source.entry))
         told.old.items told.new.items) }

@@ -4,7 +4,7 @@ ghost use Rattle.std.specs.Prelude.{IfOk};
 ghost use Rattle.tt_choice.specs.Choice.{IsChoice};
 ghost use Rattle.subtree_tasks.specs.Trials.{IsTrial};
 
-use path_bounds::{Reached, closed_leaf, propagate};
+use path_bounds::{Agenda, Reached, closed_leaf, propagate};
 use std::alloc::Global;
 use tt_choice::Choice;
 use tt_infer::Facts;
@@ -29,8 +29,9 @@ pub fn tried<'a>(
     requires { IsChoice instance.now choice.now }
     ensures { IfOk result (IsTrial instance.now choice.now goal) }
 {
+    let mut agenda = Agenda::of(alloc, instance)?;
     let mut steps = Vec::new(alloc);
-    match propagate(alloc, instance, choice, goal, &mut steps)? {
+    match propagate(alloc, &mut agenda, instance, choice, goal, &mut steps)? {
         Reached::Closed => {
             let leaf = closed_leaf(alloc, instance, choice, goal, steps)?;
             Ok(Trial::Closed(leaf))

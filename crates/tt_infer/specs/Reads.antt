@@ -168,10 +168,28 @@ IsSourceThere i (Halves k n a b) = (n < length i.nodes) × (2 ≤ i.cluster.chan
 IsSourceThere i (Earlier m r) = m < length i.messages
 IsSourceThere i (Lower m) = m < length i.messages
 
--- a node whose place is read stands in front of another one
+-- a node whose place is a limit stands in front of another one
+abbrev pub StandsFront : Choice → Limit → Type 0
+StandsFront c Goal = Unit {0}
+StandsFront c (LeastSlot n) = Unit {0}
+StandsFront c (GreatestSlot n) = Unit {0}
+StandsFront c (LeastFrame n) = Unit {0}
+StandsFront c (GreatestFrame n) = Unit {0}
+StandsFront c (Place v) = (u : ℕ) × StandsFirst c.prefix v u
+StandsFront c (Copies m) = Unit {0}
+StandsFront c (Counted m k) = Unit {0}
+
+-- a source that is such a limit is one of such a node
 abbrev pub HasItsPlace : Choice → Source → Type 0
-HasItsPlace c (Fixed (Place v)) = (u : ℕ) × StandsFirst c.prefix v u
-HasItsPlace c source = Unit {0}
+HasItsPlace c (Learnt fact) = Unit {0}
+HasItsPlace c (Fixed limit) = StandsFront c limit
+HasItsPlace c (Waits p) = Unit {0}
+HasItsPlace c (Circle ps) = Unit {0}
+HasItsPlace c (Runs n a b) = Unit {0}
+HasItsPlace c (Frames n a b) = Unit {0}
+HasItsPlace c (Halves k n a b) = Unit {0}
+HasItsPlace c (Earlier m r) = Unit {0}
+HasItsPlace c (Lower m) = Unit {0}
 
 -- one of the sources that are read
 abbrev pub OfOne : (Source → Type 0) → Reads → Type 0

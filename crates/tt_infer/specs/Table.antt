@@ -147,6 +147,29 @@ reads i (XLate m r) = One (Earlier m r)
 reads i (XSilent u v) = One (Fixed (Place v))
 reads i (XMirror m) = One (Lower m)
 
+-- The steps that an instance names beforehand, in the order in which they are tried: of two processes of a node, of a message and one of
+-- its receivers, of a message, of a link, of a process alone, and those that close one. All others are looked for.
+abbrev pub pair_steps : ℕ → ℕ → List Step
+pair_steps p q = LeBefore p q ∷ EsBefore p q ∷ OrdWindow q p ∷ []
+
+abbrev pub transfer_steps : ℕ → ℕ → List Step
+transfer_steps m q = LeMessage m q ∷ HiArrive m q ∷ EsMessage m q ∷ EsArrive m q ∷ []
+
+abbrev pub message_steps : ℕ → List Step
+message_steps m = LeSend m ∷ LoSend m ∷ []
+
+abbrev pub link_steps : ℕ → List Step
+link_steps l = EsLink l ∷ LeLink l ∷ []
+
+abbrev pub process_steps : ℕ → List Step
+process_steps p = LeOwn p ∷ EsRelease p ∷ []
+
+abbrev pub process_closers : ℕ → List Step
+process_closers p = XWindow p ∷ []
+
+abbrev pub message_closers : ℕ → List Step
+message_closers m = XRound m ∷ XFrame m ∷ []
+
 -- the steps that ask for a round in which a message can be sent
 abbrev pub AsksForRounds : Step → Type 0
 AsksForRounds (EsRelease p) = ⊥

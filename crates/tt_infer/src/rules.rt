@@ -1,10 +1,10 @@
-//! Which rule does a step stand for, what does it write and read, and how is it written?
+//! Which rule does a step stand for, what does it write and read, which steps does an instance name, and how is each written?
 
 ghost use Rattle.std.specs.Prelude.{◌≡◌, ◌≢◌, ◌∷◌, [], codes};
 ghost use Rattle.sought_plans.specs.Known.{Fits};
 ghost use Rattle.tt_infer.specs.Setting.{TakesOf};
 ghost use Rattle.tt_infer.specs.Lines.{numbers_in, row_of, with_keyword};
-ghost use Rattle.tt_infer.specs.Table.{IsLong, reads, step_row, step_words, steps_with, target};
+ghost use Rattle.tt_infer.specs.Table.{IsLong, link_steps, message_closers, message_steps, pair_steps, process_closers, process_steps, reads, step_row, step_words, steps_with, target, transfer_steps};
 ghost use Rattle.tt_infer.specs.Sources.{Learnt, Fixed, Waits, Circle, Runs, Frames, Halves, Earlier, Lower, Nothing, One, Two, reads_said};
 
 mod closers;
@@ -214,6 +214,64 @@ pub fn reads<'a>(instance: &Instance, step: &'a Step) -> Reads<'a>
         Step::XSilent(_, v) => fixed(Limit::Place(*v)),
         Step::XMirror(m) => lower(*m),
     }
+}
+
+/// The steps of two processes of one node that are tried in this order.
+pub fn pair_steps(p: u32, q: u32) -> [Step; 3]
+    ensures { result ≡ pair_steps p q }
+{
+    [
+        Step::LeBefore(p, q),
+        Step::EsBefore(p, q),
+        Step::OrdWindow(q, p),
+    ]
+}
+
+/// Those of a message and one of its receivers.
+pub fn transfer_steps(m: u32, q: u32) -> [Step; 4]
+    ensures { result ≡ transfer_steps m q }
+{
+    [
+        Step::LeMessage(m, q),
+        Step::HiArrive(m, q),
+        Step::EsMessage(m, q),
+        Step::EsArrive(m, q),
+    ]
+}
+
+/// Those of a message.
+pub fn message_steps(m: u32) -> [Step; 2]
+    ensures { result ≡ message_steps m }
+{
+    [Step::LeSend(m), Step::LoSend(m)]
+}
+
+/// Those of a link.
+pub fn link_steps(l: u32) -> [Step; 2]
+    ensures { result ≡ link_steps l }
+{
+    [Step::EsLink(l), Step::LeLink(l)]
+}
+
+/// Those of a process alone.
+pub fn process_steps(p: u32) -> [Step; 2]
+    ensures { result ≡ process_steps p }
+{
+    [Step::LeOwn(p), Step::EsRelease(p)]
+}
+
+/// Those that close a process.
+pub fn process_closers(p: u32) -> [Step; 1]
+    ensures { result ≡ process_closers p }
+{
+    [Step::XWindow(p)]
+}
+
+/// Those that close a message.
+pub fn message_closers(m: u32) -> [Step; 2]
+    ensures { result ≡ message_closers m }
+{
+    [Step::XRound(m), Step::XFrame(m)]
 }
 
 /// The line of a step.

@@ -8,7 +8,7 @@ use crate::instances;
 use crate::instances::Small;
 use certificate::Cert;
 use load_bounds::{frame_load, node_load};
-use path_bounds::{Reached, propagate};
+use path_bounds::{Agenda, Reached, propagate};
 use std::alloc::{AllocError, Global};
 use std::process::Abort;
 use std::test::Fail;
@@ -191,8 +191,9 @@ fn is_open(
 ) -> Result<bool, Fail>
     requires { IsChoice i.now choice.now }
 {
+    let mut agenda = Agenda::of(alloc, i)?;
     let mut steps = Vec::new(alloc);
-    match propagate(alloc, i, choice, goal, &mut steps)? {
+    match propagate(alloc, &mut agenda, i, choice, goal, &mut steps)? {
         Reached::Closed => Ok(false),
         Reached::At(facts) => expect_open(rt, alloc, &facts, steps.as_slice()),
     }

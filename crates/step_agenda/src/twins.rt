@@ -1,95 +1,31 @@
-//! Which steps are tried first?
-
-ghost use Rattle.std.specs.Prelude.{◌<◌, length};
+//! Which steps of twins are tried, and when?
 
 use crate::flags::{is_up, raise};
-use std::alloc::Global;
 use tt_choice::Decision;
 use tt_infer::Facts;
 use ttp_model::{Instance, MOST_NODES, MOST_PROCESSES, MemoryFault, Step};
 
-/// The steps that ask for nothing that is sharpened later, the one to be tried first last: releases
-/// and deadlines, frames, twins.
-pub fn opening_steps(alloc: Global, facts: &Facts) -> Result<Vec<Step>, MemoryFault> {
-    let mut steps = Vec::new(alloc);
-    add_opening(facts, &mut steps)?;
-    Ok(steps)
+/// Adds the steps that no instance names beforehand and that read no fact: the orders of twins, and the closers of silent ones.
+pub fn add_twin_steps(facts: &Facts, steps: &mut Vec<Step>) -> Result<(), MemoryFault> {
+    add_twins(facts.instance(), steps)?;
+    add_silent_twins(facts, steps)
 }
 
-/// Adds these steps.
-fn add_opening(facts: &Facts, steps: &mut Vec<Step>) -> Result<(), MemoryFault> {
-    let instance = facts.instance();
-    add_twins(instance, steps)?;
-    add_silent_twins(facts, steps)?;
-    add_own(instance, steps)?;
-    add_frames(instance, steps)
-}
-
-/// Adds the steps that read what a decision changes beside the facts: where slots stand and how long they are, and who leads a turned
-/// frame.
-pub fn add_slot_steps(
+/// Adds those of them that a decision may give a premise, and the closer of a message that it fixes to channel 1.
+pub fn add_decided(
     facts: &Facts,
     decision: Decision,
     steps: &mut Vec<Step>,
 ) -> Result<(), MemoryFault> {
     match decision {
-        Decision::Place(_) => {
-            add_transfers(facts.instance(), steps)?;
-            add_silent_twins(facts, steps)
-        }
-        Decision::Cap(_, _) => {
-            add_transfers(facts.instance(), steps)?;
-            add_frames(facts.instance(), steps)
-        }
+        Decision::Place(_) => add_silent_twins(facts, steps),
         Decision::Channel(m, 1) => add(steps, Step::XMirror(m)),
         Decision::Before(_, _)
+        | Decision::Cap(_, _)
         | Decision::AtMost(_, _)
         | Decision::AtLeast(_, _)
         | Decision::Channel(_, _) => Ok(()),
     }
-}
-
-/// Adds the steps of each message that read its slot.
-fn add_transfers(instance: &Instance, steps: &mut Vec<Step>) -> Result<(), MemoryFault> {
-    let messages = instance.messages().len() as u32;
-    for m in 0..messages {
-        add_transfers_of(instance, m, steps)?;
-        add(steps, Step::LeSend(m))?;
-        add(steps, Step::LoSend(m))?;
-    }
-    Ok(())
-}
-
-/// Adds those of message `m` to its receivers.
-fn add_transfers_of(instance: &Instance, m: u32, steps: &mut Vec<Step>) -> Result<(), MemoryFault>
-    requires { m < length instance.now.messages }
-{
-    for q in instance.message_at(m as usize).receivers.as_slice() {
-        add(steps, Step::LeMessage(m, *q))?;
-        add(steps, Step::HiArrive(m, *q))?;
-        add(steps, Step::EsMessage(m, *q))?;
-        add(steps, Step::EsArrive(m, *q))?;
-    }
-    Ok(())
-}
-
-/// Adds the release and the latest end of each process.
-fn add_own(instance: &Instance, steps: &mut Vec<Step>) -> Result<(), MemoryFault> {
-    let processes = instance.processes().len() as u32;
-    for p in (0..processes).rev() {
-        add(steps, Step::LeOwn(p))?;
-        add(steps, Step::EsRelease(p))?;
-    }
-    Ok(())
-}
-
-/// Adds the closer of each message that may be too long for any frame.
-fn add_frames(instance: &Instance, steps: &mut Vec<Step>) -> Result<(), MemoryFault> {
-    let messages = instance.messages().len() as u32;
-    for m in 0..messages {
-        add(steps, Step::XFrame(m))?;
-    }
-    Ok(())
 }
 
 /// Adds the orders of processes that may be twins: they have no messages, and their numbers are equal.
