@@ -1,0 +1,10 @@
+mod ChainLines
+mod EntryLines
+mod Joined
+mod PlanFaults
+mod PlanLines
+mod ProcessLines
+mod Refused
+mod StepLines
+mod TextFaults
+mod TreeLines
