@@ -13,3 +13,4 @@ pub mod JustValid
 pub mod Allowed
 pub mod TwoChannels
 pub mod TwoMessages
+pub mod Changed

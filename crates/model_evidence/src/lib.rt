@@ -3,6 +3,7 @@
 //! plans are valid.
 #![tactic(auto)]
 
+mod changes;
 mod choices;
 mod decisions;
 mod edges;
@@ -22,6 +23,7 @@ mod texts;
 mod two_channels;
 mod windows;
 
+pub use changes::starts_before_and_after;
 pub use choices::{
     both_orders_of_a_pair, channel_taken_back, channel_that_was_fixed, channels_of_a_free_message,
     decision_taken_back, latest_slot_of_a_node, least_of_free_capacities, message_on_a_channel,

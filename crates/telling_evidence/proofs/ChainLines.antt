@@ -14,7 +14,8 @@ use Rattle.telling_evidence.proofs.Joined.{from_the_left, of_four}
 
 -- behind the lines of earlier parts, when it is sent, its name and its node
 pub transfer_told : (i : Instance) (bound : ℕ) (part : ChainPart) (others : List ChainPart) (m : ℕ) → part.cause ≡ Arrival m
-    → (front rest : List ℕ) × (chain_text i bound (part ∷ others) ≡ front ++ (codes ", which takes " ++ (ticks_words (least_transfer i (source_of i m)) ++ rest)))
+    → (front rest : List ℕ) × (chain_text i bound (part ∷ others)
+    ≡ front ++ (codes ", which takes " ++ (ticks_words (least_transfer i (source_of i m)) ++ rest)))
 unfolding chain_text part_text sending_text takes_words
 transfer_told i bound part others m is =
     let ticks : ℕ = least_transfer i (source_of i m) in

@@ -15,7 +15,8 @@ use Rattle.plan_words.specs.Messages.{copied_in_words, slot_end_words, there_wor
 
 -- the delay that is stated, and then the plan's own
 pub both_delays : (i : Instance) (plan : Plan) (stated : ℕ) (old new : List ℕ) → Gains (IsDelayText i plan stated) old new
-    → (rest : List ℕ) × (new ≡ old ++ (codes "The plan says that its delay is " ++ (decimal stated ++ (codes ".\n" ++ (codes "  it is " ++ (decimal (delay i plan) ++ rest))))))
+    → (rest : List ℕ) × (new ≡ old ++ (codes "The plan says that its delay is " ++ (decimal stated
+    ++ (codes ".\n" ++ (codes "  it is " ++ (decimal (delay i plan) ++ rest))))))
 unfolding delay_words stated_words own_words
 both_delays i plan stated old new gained = (
   _,

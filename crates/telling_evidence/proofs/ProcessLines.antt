@@ -4,11 +4,13 @@ use Rattle.ttp_model.specs.declared.plan.Plan.{Plan}
 use Rattle.ttp_model.specs.Instance.{Instance, link_at, process_at}
 use Rattle.ttp_model.specs.Plans.{end_of, start_of}
 use Rattle.process_words.specs.Names.{place_name, process_name}
-use Rattle.process_words.specs.Processes.{both_words, broken_link_text, end_words, first_run_words, is_deadline, last_end, late_by, late_text, late_words, limit_words, overlap_text, overlap_words, past_words, run_words, wait_words}
+use Rattle.process_words.specs.Processes.{both_words, broken_link_text, end_words, first_run_words, is_deadline, last_end, late_by, late_text}
+use Rattle.process_words.specs.Processes.{late_words, limit_words, overlap_text, overlap_words, past_words, run_words, wait_words}
 use Rattle.telling_evidence.proofs.Joined.{of_four}
 
 -- where both are the same it ends after its deadline
-pub after_its_deadline : (i : Instance) (plan : Plan) (p : ℕ) (old new : List ℕ) → (process_at i p).deadline ≡ i.cluster.horizon → new ≡ old ++ late_text i plan p
+pub after_its_deadline : (i : Instance) (plan : Plan) (p : ℕ) (old new : List ℕ) → (process_at i p).deadline ≡ i.cluster.horizon
+    → new ≡ old ++ late_text i plan p
     → (rest : List ℕ) × (new ≡ old ++ (process_name i p ++ (codes " on " ++ (place_name i p ++ (codes " ends after " ++ (codes "its deadline" ++ rest))))))
 unfolding late_text end_words past_words
 after_its_deadline i plan p old new same e =
@@ -17,7 +19,8 @@ after_its_deadline i plan p old new same e =
     ++ late_words (limit_words (is_deadline i p)) (last_end i p) (late_by i plan p)) in (
       rest,
       e ∙ ap (λ t. old ++ t) (of_four (process_name i p) _ _ _ ∙ ap (λ t. process_name i p ++ (codes " on " ++ t)) (of_four (place_name i p) _ _ _
-          ∙ ap (λ t. place_name i p ++ (codes " ends after " ++ t)) (of_four (limit_words (is_deadline i p)) _ _ _ ∙ ap (λ (d : Bool). limit_words d ++ rest) due))),
+          ∙ ap (λ t. place_name i p ++ (codes " ends after " ++ t)) (of_four (limit_words (is_deadline i p)) _ _ _
+          ∙ ap (λ (d : Bool). limit_words d ++ rest) due))),
     )
 
 -- the second one by its name and place, and then the first
@@ -26,7 +29,9 @@ pub waits_for : (i : Instance) (plan : Plan) (l : ℕ) (old new : List ℕ) → 
     ++ (process_name i (link_at i l).before ++ rest))))))
 unfolding broken_link_text wait_words
 waits_for i plan l old new e =
-    let (after, place, before) : List ℕ × List ℕ × List ℕ = (process_name i (link_at i l).after, place_name i (link_at i l).after, process_name i (link_at i l).before) in (
+    let after : List ℕ = process_name i (link_at i l).after in
+    let place : List ℕ = place_name i (link_at i l).after in
+    let before : List ℕ = process_name i (link_at i l).before in (
       _,
       e ∙ ap (λ t. old ++ t) (append_assoc after _ _ ∙ ap (λ t. after ++ (codes " on " ++ t)) (append_assoc place _ _
           ∙ ap (λ t. place ++ (codes " waits for " ++ t)) (append_assoc before _ _))),
@@ -34,7 +39,8 @@ waits_for i plan l old new e =
 
 -- the start of the first one and its end
 pub runs_from : (i : Instance) (plan : Plan) (p q : ℕ) (old new : List ℕ) → new ≡ old ++ overlap_text i plan p q
-    → (front rest : List ℕ) × (new ≡ old ++ (front ++ (codes " runs from " ++ (decimal (start_of plan p) ++ (codes " to " ++ (decimal (end_of i plan p) ++ rest))))))
+    → (front rest : List ℕ) × (new ≡ old ++ (front ++ (codes " runs from " ++ (decimal (start_of plan p)
+    ++ (codes " to " ++ (decimal (end_of i plan p) ++ rest))))))
 unfolding overlap_text both_words first_run_words
 runs_from i plan p q old new e =
     let head : List ℕ = overlap_words (process_name i p) (process_name i q) (place_name i p) in (

@@ -18,7 +18,8 @@ first_waits i p q r error old new is e = (
   _,
   e ∙ ap (λ (error : ModelError). old ++ refusal_text i error) is
       ∙ ap (λ t. old ++ (codes "Each of these waits for the one before it, and the first for the last:\n" ++ (codes "  " ++ t)))
-      (of_five (told (process_at i p).name) _ _ _ _ ∙ ap (λ t. told (process_at i p).name ++ (codes ", for " ++ t)) (of_four (told (process_at i r).name) _ _ _)),
+      (of_five (told (process_at i p).name) _ _ _ _
+      ∙ ap (λ t. told (process_at i p).name ++ (codes ", for " ++ t)) (of_four (told (process_at i r).name) _ _ _)),
 )
 
 -- the second of three receivers, which the third is too

@@ -20,7 +20,8 @@ use Rattle.step_words.specs.Steps.{reason_words, told_step}
 -- behind why it is so and the name of the process both times are told
 pub both_times : (i : Instance) (c : Choice) (goal : ℕ) (f g : Known) (step : Step) (p : ℕ) (old new : List ℕ) → target i step ≡ Start p
     → new ≡ old ++ told_step i c goal f g step
-    → (front : List ℕ) × (new ≡ old ++ (front ++ (codes " starts at " ++ (decimal (es_of g p) ++ (codes " or later (before: " ++ (decimal (es_of f p) ++ codes ")\n"))))))
+    → (front : List ℕ) × (new ≡ old ++ (front ++ (codes " starts at " ++ (decimal (es_of g p)
+    ++ (codes " or later (before: " ++ (decimal (es_of f p) ++ codes ")\n"))))))
 unfolding told_step start_words
 both_times i c goal f g step p old new is e = (
   reason_words i c goal f step ++ process_name i p,
@@ -36,7 +37,8 @@ unfolding told_step link_end_words
 last_start i c goal f g l old new e = (
   _,
   e ∙ ap (λ t. old ++ (codes "  as " ++ t)) (append_assoc (process_name i (link_at i l).after) _ _
-      ∙ ap (λ t. process_name i (link_at i l).after ++ (codes " starts at " ++ t)) (append_assoc (decimal (le_of f (link_at i l).after - wcet_of i (link_at i l).after)) _ _)),
+      ∙ ap (λ t. process_name i (link_at i l).after ++ (codes " starts at " ++ t))
+      (append_assoc (decimal (le_of f (link_at i l).after - wcet_of i (link_at i l).after)) _ _)),
 )
 
 -- of 201 steps one isn't told

@@ -18,7 +18,8 @@ pub past_the_largest : fault_text (member (codes "horizon") (integer (pos 429496
 unfolding fault_text number_text number_fault_text place_text digits
 past_the_largest = refl
 
-pub wrong_item : fault_text (member (codes "capacities") (array (item (integer (pos 8)) (item (string (codes "x")) no_items))) no_members) (WrongKind Top Capacities)
+pub wrong_item : fault_text
+    (member (codes "capacities") (array (item (integer (pos 8)) (item (string (codes "x")) no_items))) no_members) (WrongKind Top Capacities)
     ≡ codes "In the top of the text: capacities is a list with a text, where a list of whole numbers has to stand.\n"
 unfolding fault_text kind_text kind_fault_text place_text found_text
 wrong_item = refl
@@ -33,12 +34,14 @@ pub first_name : fault_text (member (codes "from") (array (item (string (codes "
 unfolding fault_text name_text odd_name_text odd_name_words place_text told told_byte near_words
 first_name = refl
 
-pub no_node : fault_text (member (codes "process") (array (item (table (member (codes "name") (string (codes "p")) (member (codes "node") (string (codes "p")) no_members))) no_items)) no_members)
+pub no_node : fault_text (member (codes "process") (array (item (table (member (codes "name") (string (codes "p"))
+    (member (codes "node") (string (codes "p")) no_members))) no_items)) no_members)
     (UnknownName (Process 0) Node) ≡ codes "In process 0, p: node names p, and no node has that name.\n"
 unfolding fault_text name_text odd_name_text odd_name_words place_text called_text named_text digits told told_byte near_words
 no_node = refl
 
-pub nearer : fault_text (member (codes "from") (string (codes "ab")) (member (codes "process") (array (item (table (member (codes "name") (string (codes "abcd")) no_members))
+pub nearer : fault_text (member (codes "from") (string (codes "ab")) (member (codes "process")
+    (array (item (table (member (codes "name") (string (codes "abcd")) no_members))
     (item (table (member (codes "name") (string (codes "abc")) no_members)) no_items))) no_members)) (UnknownName Top From)
     ≡ codes "In the top of the text: from names ab, and no process has that name. Did you mean abc?\n"
 unfolding fault_text name_text odd_name_text odd_name_words place_text told told_byte near_words rows chars next_row cost_at
