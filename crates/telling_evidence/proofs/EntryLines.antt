@@ -7,7 +7,7 @@ use Rattle.ttp_model.specs.declared.error.Place.TheVariants.{AtNode}
 use Rattle.ttp_model.specs.declared.parts.Node.{Node}
 use Rattle.ttp_model.specs.Instance.{Instance, no_node}
 use Rattle.entry_words.specs.declared.ranges.Outside.{Outside}
-use Rattle.entry_words.specs.declared.ranges.Quantity.TheVariants.{Head}
+use Rattle.entry_words.specs.declared.ranges.Quantity.TheVariants.{Channels}
 use Rattle.entry_words.specs.Names.{found_at, repeated_text, shared_text}
 use Rattle.entry_words.specs.Places.{entry_text}
 use Rattle.entry_words.specs.Ranges.{bounds_text, missed_text, outside_text, range_text}
@@ -28,9 +28,14 @@ both i few many is =
     (entry_text (codes "node") (found_at (position (λ x. bytes_eq x.name (slice_index_or nodes 1 no_node).name) nodes)))
     (entry_text (codes "node") 1)) is
 
-abbrev at_the_least : Outside
-at_the_least = record { quantity = Head; value = 4; least = 4; most = 2 }
+abbrev no_channel : Outside
+no_channel = record {
+  quantity = Channels;
+  value = 0;
+  least = 1;
+  most = 2;
+}
 
-pub least : range_text (codes "the cluster") (Some at_the_least) ≡ codes "In the cluster: head is 4, and from 4 to 2 may stand: 2 too much.\n"
+pub below : range_text (codes "the cluster") (Some no_channel) ≡ codes "In the cluster: channels is 0, and from 1 to 2 may stand: 1 too little.\n"
 unfolding range_text outside_text bounds_text missed_text digits
-least = refl
+below = refl

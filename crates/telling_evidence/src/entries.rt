@@ -27,16 +27,16 @@ pub fn both_of_a_name_are_told(text: &mut String, stated: Stated) -> Result<(), 
     put_repeated(text, stated, Place::AtNode(1))
 }
 
-/// A number that is as large as the least that may stand isn't told as too little.
-#[tactic(auto, using(crate::proofs::EntryLines::least))]
-pub fn least_is_not_too_little(text: &mut String) -> Result<(), AllocError>
+/// A number below those that may stand is told as too little, and not as too much.
+#[tactic(auto, using(crate::proofs::EntryLines::below))]
+pub fn too_little_is_told_as_such(text: &mut String) -> Result<(), AllocError>
     ensures { OnOk result (string_bytes text.new ≡ string_bytes text.old
-        ++ codes "In the cluster: head is 4, and from 4 to 2 may stand: 2 too much.\n") }
+        ++ codes "In the cluster: channels is 0, and from 1 to 2 may stand: 1 too little.\n") }
 {
     let outside = Outside {
-        quantity: Quantity::Head,
-        value: 4,
-        least: 4,
+        quantity: Quantity::Channels,
+        value: 0,
+        least: 1,
         most: 2,
     };
     put_range(text, Spot::Cluster, Some(outside))

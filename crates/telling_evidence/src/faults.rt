@@ -22,23 +22,23 @@ fn told(alloc: Global, top: &Table, fault: &TextError) -> Result<String, AllocEr
 /// A number that is one more than the largest doesn't fit.
 #[tactic(auto, using(crate::proofs::TextFaults::past_the_largest))]
 pub fn number_past_the_largest_is_told(alloc: Global, top: &Table) -> Result<String, AllocError>
-    ensures { table_view top.now ≡ member (codes "horizon") (integer (pos 4294967296)) no_members
+    ensures { table_view top.now ≡ member (codes "cluster") (table (member (codes "horizon") (integer (pos 4294967296)) no_members)) no_members
         → IfOk result (λ text. string_bytes text
-        ≡ codes "In the top of the text: the number 4294967296 of horizon isn't from 0 to 4294967295.\n") }
+        ≡ codes "In the cluster: the number 4294967296 of horizon isn't from 0 to 4294967295.\n") }
 {
-    let (place, key) = (Place::Top, Key::Horizon);
+    let (place, key) = (Place::Cluster, Key::Horizon);
     told(alloc, top, &TextError::OutOfRange { place, key })
 }
 
 /// Of a list with an item of a wrong kind that item is told.
 #[tactic(auto, using(crate::proofs::TextFaults::wrong_item))]
 pub fn item_of_a_list_is_told(alloc: Global, top: &Table) -> Result<String, AllocError>
-    ensures { table_view top.now ≡ member (codes "capacities")
-        (array (item (integer (pos 8)) (item (string (codes "x")) no_items))) no_members
+    ensures { table_view top.now ≡ member (codes "node") (array (item (table (member (codes "capacities")
+        (array (item (integer (pos 8)) (item (string (codes "x")) no_items))) no_members)) no_items)) no_members
         → IfOk result (λ text. string_bytes text
-        ≡ codes "In the top of the text: capacities is a list with a text, where a list of whole numbers has to stand.\n") }
+        ≡ codes "In node 0: capacities is a list with a text, where a list of whole numbers has to stand.\n") }
 {
-    let (place, key) = (Place::Top, Key::Capacities);
+    let (place, key) = (Place::Node(0), Key::Capacities);
     told(alloc, top, &TextError::WrongKind { place, key })
 }
 
@@ -56,12 +56,12 @@ pub fn key_that_is_odd_is_told(alloc: Global, top: &Table) -> Result<String, All
 /// Of two names that nothing has the first in byte order is told.
 #[tactic(auto, using(crate::proofs::TextFaults::first_name))]
 pub fn first_name_in_byte_order_is_told(alloc: Global, top: &Table) -> Result<String, AllocError>
-    ensures { table_view top.now ≡ member (codes "from")
-        (array (item (string (codes "b")) (item (string (codes "a")) no_items))) no_members
+    ensures { table_view top.now ≡ member (codes "message") (array (item (table (member (codes "to")
+        (array (item (string (codes "b")) (item (string (codes "a")) no_items))) no_members)) no_items)) no_members
         → IfOk result (λ text. string_bytes text
-        ≡ codes "In the top of the text: from names a, and no process has that name.\n") }
+        ≡ codes "In message 0: to names a, and no process has that name.\n") }
 {
-    let (place, key) = (Place::Top, Key::From);
+    let (place, key) = (Place::Message(0), Key::To);
     told(alloc, top, &TextError::UnknownName { place, key })
 }
 
@@ -80,12 +80,13 @@ pub fn node_of_a_process_is_told(alloc: Global, top: &Table) -> Result<String, A
 /// Of two names that are near the one that is one character away is meant, where it stands behind the other.
 #[tactic(auto, using(crate::proofs::TextFaults::nearer))]
 pub fn nearer_name_is_meant(alloc: Global, top: &Table) -> Result<String, AllocError>
-    ensures { table_view top.now ≡ member (codes "from") (string (codes "ab")) (member (codes "process")
+    ensures { table_view top.now ≡ member (codes "link") (array (item (table
+        (member (codes "from") (string (codes "ab")) no_members)) no_items)) (member (codes "process")
         (array (item (table (member (codes "name") (string (codes "abcd")) no_members))
         (item (table (member (codes "name") (string (codes "abc")) no_members)) no_items))) no_members)
         → IfOk result (λ text. string_bytes text
-        ≡ codes "In the top of the text: from names ab, and no process has that name. Did you mean abc?\n") }
+        ≡ codes "In link 0: from names ab, and no process has that name. Did you mean abc?\n") }
 {
-    let (place, key) = (Place::Top, Key::From);
+    let (place, key) = (Place::Link(0), Key::From);
     told(alloc, top, &TextError::UnknownName { place, key })
 }

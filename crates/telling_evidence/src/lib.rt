@@ -14,7 +14,7 @@ mod steps;
 pub use certificates::leaf_is_no_branch_above_itself;
 pub use chains::all_ticks_of_a_transfer_are_told;
 pub use entries::{
-    both_of_a_name_are_told, lead_lacks_twice_the_precision, least_is_not_too_little,
+    both_of_a_name_are_told, lead_lacks_twice_the_precision, too_little_is_told_as_such,
 };
 pub use faults::{
     first_name_in_byte_order_is_told, item_of_a_list_is_told, key_that_is_odd_is_told,

@@ -1,7 +1,6 @@
 //! What is told of a line at fault of a plan's text?
 
 ghost use Rattle.std.specs.Prelude.{◌≡◌, ℕ, true, List, ◌++◌, OnOk, codes, string_bytes};
-ghost use Rattle.told_bytes.specs.Told.{told};
 ghost use Rattle.told_bytes.specs.TextLines.{numbered_line};
 ghost use Rattle.plan_text_words.specs.Orders.{is_stranger};
 
