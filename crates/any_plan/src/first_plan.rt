@@ -1,7 +1,6 @@
 //! When does a search end that is for any plan?
 
-use branch_tree::Name;
-use planner::Gate;
+use planner::{Gate, Name};
 use std::sync::atomic::{AtomicBool, Ordering};
 use ttp_model::{Instance, Plan};
 

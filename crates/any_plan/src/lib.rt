@@ -4,5 +4,5 @@
 mod first_plan;
 mod sought;
 
-pub use planner::{Options, SolveFault};
+pub use planner::{Options, Outcome, SolveFault, solve};
 pub use sought::{Sought, any_plan};

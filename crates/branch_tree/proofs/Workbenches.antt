@@ -9,7 +9,7 @@ use Rattle.tt_choice.specs.Branches.{root_choice}
 use Rattle.tt_choice.specs.Decisions.{IsOpenDecision, AreOpenDecisions, chosen}
 use Rattle.tt_infer.specs.Facts.{Facts}
 use Rattle.tt_infer.specs.Leaves.{ClosesSharply}
-use Rattle.path_bounds.specs.Propagator.{Propagator, IsPropagation, IsLog, IsStarted}
+use Rattle.subtree_tasks.specs.Propagator.{Propagator, IsPropagation, IsLog, IsStarted}
 use Rattle.subtree_tasks.specs.Trials.{IsLeft, ClosesAt}
 use Rattle.branch_tree.specs.Workbench.{ComesTo, IsAt}
 use Rattle.subtree_tasks.proofs.Chosen.{open_at}

@@ -6,7 +6,7 @@ ghost use Rattle.ttp_model.specs.Plans.{IsValid};
 ghost use Rattle.ttp_model.specs.Delays.{delay};
 ghost use Rattle.ttp_model.specs.Moves.{IsSettled, MovesLead};
 ghost use Rattle.tt_choice.specs.Choice.{IsChoice, IsIn, IsComplete};
-ghost use Rattle.path_bounds.specs.PlansBelow.{IsPlanBelow};
+ghost use Rattle.subtree_tasks.specs.PlansBelow.{IsPlanBelow};
 ghost use Rattle.earliest_starts.specs.Answers.{IsEarliest};
 ghost use Rattle.subtree_tasks.specs.Trials.{ClosesAt};
 ghost use Rattle.branch_tree.specs.Work.{IsWorkedFind};

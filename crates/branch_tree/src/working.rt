@@ -7,7 +7,7 @@ ghost use Rattle.ttp_model.specs.Chains.{IsPathBound};
 ghost use Rattle.ttp_model.specs.Delays.{IsLowerBound};
 ghost use Rattle.tt_choice.specs.Choice.{IsChoice, IsComplete};
 ghost use Rattle.tt_infer.specs.Leaves.{ClosesSharply};
-ghost use Rattle.path_bounds.specs.PlansBelow.{IsPlanBelow};
+ghost use Rattle.subtree_tasks.specs.PlansBelow.{IsPlanBelow};
 ghost use Rattle.branch_tree.specs.Branching.{Branches};
 ghost use Rattle.subtree_tasks.specs.Task.{choice_of, root_task, IsTask};
 ghost use Rattle.branch_tree.specs.Work.{IsWorked, IsLeftClosed};
@@ -20,9 +20,10 @@ use crate::lessons::Lessons;
 use crate::workbench::Workbench;
 use crate::worked::Worked;
 use certificate::Node;
-use path_bounds::{Agenda, Propagator, best_goal, leaf_by};
 use std::alloc::Global;
-use subtree_tasks::{Piece, Task, Trial, child_tasks, tried};
+use subtree_tasks::{
+    Agenda, Piece, Propagator, Task, Trial, best_goal, child_tasks, leaf_by, tried,
+};
 use tt_choice::Choice;
 use ttp_model::{Instance, Kind, Leaf, MemoryFault, Step};
 

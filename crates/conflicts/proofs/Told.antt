@@ -7,7 +7,7 @@ use Rattle.ttp_model.specs.Instance.{Instance}
 use Rattle.ttp_model.specs.Rules.{IsInstance}
 use Rattle.ttp_model.specs.Delays.{HasNoPlan}
 use Rattle.certificate.specs.Cert.{Cert}
-use Rattle.planner.specs.outcome.Options.{Options}
+use Rattle.any_plan.specs.outcome.Options.{Options}
 use Rattle.any_plan.specs.declared.sought.Sought.{Sought}
 use Rattle.any_plan.specs.Searches.{Tells}
 use Rattle.kept_constraints.specs.declared.constraints.Constraint.{Constraint}

@@ -2,7 +2,7 @@
 use Rattle.std.specs.Prelude.{◌≡◌, List, map, All, Bool, true, false}
 use Rattle.ttp_model.specs.Instance.{Instance}
 use Rattle.certificate.specs.Cert.{Cert}
-use Rattle.planner.specs.outcome.Options.{Options}
+use Rattle.any_plan.specs.outcome.Options.{Options}
 use Rattle.any_plan.specs.Searches.{IsPlanOf, IsShown, WasStopped}
 use Rattle.kept_constraints.specs.declared.constraints.Constraint.{Constraint}
 use Rattle.kept_constraints.specs.declared.constraints.Constraints.{Constraints}

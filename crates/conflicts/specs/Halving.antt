@@ -1,7 +1,7 @@
 -- How constraints are left out, half by half. Only private contracts ask for it.
 use Rattle.std.specs.Prelude.{◌≡◌, ◌⊎◌, ◌↔◌, IsTrue, List, [], All, Contains, Option, None, Some}
 use Rattle.ttp_model.specs.Instance.{Instance}
-use Rattle.planner.specs.outcome.Options.{Options}
+use Rattle.any_plan.specs.outcome.Options.{Options}
 use Rattle.any_plan.specs.Searches.{IsShown, WasStopped}
 use Rattle.kept_constraints.specs.declared.constraints.Constraint.{Constraint}
 use Rattle.kept_constraints.specs.declared.constraints.Constraints.{Constraints}

@@ -2,7 +2,7 @@
 
 ghost use Rattle.std.specs.Prelude.{◌≡◌, All, IfOk, map, reverse};
 ghost use Rattle.ttp_model.specs.Instance.{Instance};
-ghost use Rattle.planner.specs.outcome.Options.{Options};
+ghost use Rattle.any_plan.specs.outcome.Options.{Options};
 ghost use Rattle.kept_constraints.specs.Constraints.{listed};
 ghost use Rattle.conflicts.specs.declared.halving.Halving.{Halving};
 ghost use Rattle.conflicts.specs.Conflicts.{Answers};

@@ -5,7 +5,7 @@ ghost use Rattle.ttp_model.specs.Instance.{Instance};
 ghost use Rattle.ttp_model.specs.Rules.{IsInstance};
 ghost use Rattle.ttp_model.specs.Delays.{HasNoPlan};
 ghost use Rattle.certificate.specs.Cert.{Cert};
-ghost use Rattle.planner.specs.outcome.Options.{Options};
+ghost use Rattle.any_plan.specs.outcome.Options.{Options};
 ghost use Rattle.kept_constraints.specs.declared.constraints.Constraints.{Constraints};
 ghost use Rattle.conflicts.specs.declared.conflict.Need.{Need};
 ghost use Rattle.conflicts.specs.Conflicts.{IsConflict};

@@ -11,10 +11,10 @@ use Rattle.tt_choice.specs.Kept.{Marked, keep, drop, all_of, kept_of, KeepsPlace
 use Rattle.tt_choice.proofs.Decisions.{after_all-more, open-more, child_after, decision_is_open}
 use Rattle.tt_choice.proofs.kept.Branches.{branch_kept, places_of, all_of-keep, all_of-drop, kept_of-keep, kept_of-drop, places-keep, places-drop}
 use Rattle.tt_choice.proofs.kept.Law.{ends}
-use Rattle.step_reads.specs.RuledOut.{IsRuledOut}
-use Rattle.step_reads.specs.RuledOut.IsRuledOut.{by_leaf, by_children, by_one}
-use Rattle.step_reads.proofs.shared.RuledOut.{closes_sharply}
-use Rattle.step_reads.proofs.shared.Uses.{leaf_kept}
+use Rattle.used_decisions.specs.RuledOut.{IsRuledOut}
+use Rattle.used_decisions.specs.RuledOut.IsRuledOut.{by_leaf, by_children, by_one}
+use Rattle.used_decisions.proofs.RuledOut.{closes_sharply}
+use Rattle.used_decisions.proofs.Uses.{leaf_kept}
 use Rattle.certificate.specs.declared.node.Node.TheVariants as node
 use Rattle.certificate.specs.Branch.{branch_of}
 use Rattle.certificate.specs.Trees.{Trees, none, grow}

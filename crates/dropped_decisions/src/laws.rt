@@ -6,7 +6,7 @@ ghost use Rattle.ttp_model.specs.Rules.{IsInstance};
 ghost use Rattle.tt_choice.specs.Branches.{root_choice};
 ghost use Rattle.tt_choice.specs.Decisions.{AreOpenDecisions, chosen};
 ghost use Rattle.tt_choice.specs.Kept.{Marked, all_of, kept_of, KeepsPlaces};
-ghost use Rattle.step_reads.specs.RuledOut.{IsRuledOut};
+ghost use Rattle.used_decisions.specs.RuledOut.{IsRuledOut};
 ghost use Rattle.certificate.specs.Trees.{Trees};
 ghost use Rattle.tree_check.specs.Proofs.{AreProofs};
 

@@ -7,7 +7,7 @@ use Rattle.ttp_model.specs.Instance.{Instance}
 use Rattle.ttp_model.specs.Rules.{IsInstance}
 use Rattle.ttp_model.specs.Plans.{IsValid}
 use Rattle.ttp_model.specs.Delays.{HasNoPlan}
-use Rattle.planner.specs.outcome.Options.{Options}
+use Rattle.any_plan.specs.outcome.Options.{Options}
 use Rattle.any_plan.specs.Searches.{WasStopped}
 use Rattle.later_ends.specs.Later.{later}
 use Rattle.later_ends.specs.Lateness.{IsLeastLateness, lateness}

@@ -1,1 +1,2 @@
 mod Halves
+pub use Rattle.any_plan.proofs.AnswerVersions

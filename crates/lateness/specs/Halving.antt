@@ -2,7 +2,7 @@
 use Rattle.std.specs.Prelude.{◌-◌, ◌<◌}
 use Rattle.ttp_model.specs.Instance.{Instance}
 use Rattle.ttp_model.specs.Plans.{IsValid}
-use Rattle.planner.specs.outcome.Options.{Options}
+use Rattle.any_plan.specs.outcome.Options.{Options}
 use Rattle.any_plan.specs.Searches.{WasStopped}
 use Rattle.later_ends.specs.Later.{later}
 use Rattle.lateness.specs.declared.halving.Known.{Known}

@@ -2,7 +2,7 @@
 use Rattle.std.proofs.Common.{ℕ, Bool, true, List, Option, None, Some, Result, Ok, Err, IfSome, MatchResult, inl, inr, refl}
 use Rattle.std.specs.Io.KnownBytes.{Appends}
 use Rattle.ttp_model.specs.Instance.{Instance}
-use Rattle.planner.specs.outcome.Options.{Options}
+use Rattle.process_limits.specs.outcome.Options.{Options}
 use Rattle.process_limits.specs.declared.limit.EndLimit.{EndLimit}
 use Rattle.process_limits.specs.declared.limit.EndLimit.TheVariants.{Least, Reached, Between, Unknown, Infeasible}
 use Rattle.process_limits.specs.Answers.{cert_of}

@@ -6,7 +6,7 @@ use Rattle.ttp_model.specs.Instance.{Instance}
 use Rattle.ttp_model.specs.Plans.{IsValid}
 use Rattle.ttp_model.specs.Delays.{delay}
 use Rattle.plan_format.specs.Spelling.{SpellsPlan}
-use Rattle.planner.specs.outcome.Options.{Options}
+use Rattle.process_limits.specs.outcome.Options.{Options}
 use Rattle.process_limits.specs.declared.limit.EndLimit.{EndLimit}
 use Rattle.process_limits.specs.declared.limit.EndLimit.TheVariants.{Least, Reached, Between, Unknown, Infeasible}
 use Rattle.process_limits.specs.Answers.{cert_of, IsEndLimit}

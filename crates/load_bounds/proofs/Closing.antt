@@ -5,9 +5,9 @@ use Rattle.std.proofs.Math.Nat.{mul_left_comm}
 use Rattle.ttp_model.specs.declared.step.Step.{Step}
 use Rattle.ttp_model.specs.declared.step.Step.TheVariants.{XLoad, XFrames, XChannel}
 use Rattle.tt_choice.specs.Extremes.{cap_most}
-use Rattle.sought_plans.specs.Conclusions.{NothingLeft, sharpened}
+use Rattle.tt_infer.specs.Conclusions.{NothingLeft, sharpened}
 use Rattle.tt_infer.specs.Facts.{Facts, AreFacts}
-use Rattle.sought_plans.specs.Known.{IsSought}
+use Rattle.tt_infer.specs.Known.{IsSought}
 use Rattle.tt_infer.proofs.Sound.{step_is_true}
 use Rattle.ttp_model.specs.declared.plan.Plan.{Plan}
 use Rattle.load_bounds.specs.declared.demands.Demand.{Demand}

@@ -7,8 +7,8 @@ use Rattle.std.proofs.Math.Nat.{mul-zero}
 use Rattle.ttp_model.specs.Instance.{Instance, message_at, node_of, source_of}
 use Rattle.ttp_model.proofs.Totals.{total_next}
 use Rattle.tt_choice.specs.Choice.{Choice}
-use Rattle.sought_plans.specs.Known.{Known, es_of, le_of, lo_of, top_of}
-use Rattle.sought_plans.specs.Premises.{wcet_of, load_within, copies, counts_on, bytes_within, bytes_copied, bytes_counted}
+use Rattle.tt_infer.specs.Known.{Known, es_of, le_of, lo_of, top_of}
+use Rattle.tt_infer.specs.Premises.{wcet_of, load_within, copies, counts_on, bytes_within, bytes_copied, bytes_counted}
 use Rattle.load_bounds.specs.declared.demands.Demand.{Demand}
 use Rattle.load_bounds.specs.Within.{part_within}
 use Rattle.load_bounds.specs.Gathered.{AreRuns, AreSendings, AreSendingsOn}

@@ -3,8 +3,8 @@ use Rattle.std.specs.Prelude.{◌≡◌, ℕ, List}
 use Rattle.ttp_model.specs.Instance.{Instance}
 use Rattle.ttp_model.specs.Totals.{total}
 use Rattle.tt_choice.specs.Choice.{Choice}
-use Rattle.sought_plans.specs.Known.{Known}
-use Rattle.sought_plans.specs.Premises.{load_within, bytes_copied, bytes_counted}
+use Rattle.tt_infer.specs.Known.{Known}
+use Rattle.tt_infer.specs.Premises.{load_within, bytes_copied, bytes_counted}
 use Rattle.load_bounds.specs.declared.demands.Demand.{Demand}
 use Rattle.load_bounds.specs.Within.{demand_within}
 

@@ -2,14 +2,13 @@
 
 ghost use Rattle.std.specs.Prelude.{◌<◌, ◌≤◌, IsSome, length};
 ghost use Rattle.ttp_model.specs.declared.plan.Plan.{Plan};
-ghost use Rattle.sought_plans.specs.Known.{IsSought};
+ghost use Rattle.tt_infer.specs.Known.{IsSought};
 ghost use Rattle.load_bounds.specs.Gathered.{AreRuns, AreSendings, AreSendingsOn};
 ghost use Rattle.load_bounds.specs.Loads.{IsNodeLoad, IsWholeLoad, IsLoadOn, IsChannelLoad, IsFrameLoad};
 
 use crate::demands::{Demand, Demands};
 use crate::excess::excess;
-use sought_plans::{copies, counts_on};
-use tt_infer::Facts;
+use tt_infer::{Facts, copies, counts_on};
 use ttp_model::Step;
 
 /// The processes of a node, each with its ticks from its earliest start until its latest end.

@@ -5,8 +5,8 @@ use Rattle.ttp_model.specs.declared.step.Step.{Step}
 use Rattle.ttp_model.specs.Instance.{Instance}
 use Rattle.ttp_model.specs.Rules.{IsInstance}
 use Rattle.tt_choice.specs.Choice.{Choice, IsChoice}
-use Rattle.sought_plans.specs.Known.{first_facts}
-use Rattle.tt_infer.specs.Facts.{Facts, after}
+use Rattle.step_logs.specs.Known.{first_facts}
+use Rattle.step_logs.specs.Facts.{Facts, after}
 use Rattle.step_logs.specs.Journal.{Journal, Advances}
 use Rattle.step_logs.proofs.RuledOut.{Lead-sharply}
 use Rattle.step_logs.proofs.Counts.{few_steps}

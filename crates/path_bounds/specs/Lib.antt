@@ -3,9 +3,9 @@ pub use Rattle.ttp_model.specs.Instance
 pub use Rattle.ttp_model.specs.Rules
 pub use Rattle.ttp_model.specs.Chains
 pub use Rattle.tt_choice.specs.Choice
-pub use Rattle.sought_plans.specs.Known
-pub use Rattle.tt_infer.specs.Facts
-pub use Rattle.tt_infer.specs.Leaves
+pub use Rattle.step_logs.specs.Known
+pub use Rattle.step_logs.specs.Facts
+pub use Rattle.step_logs.specs.Leaves
 pub use Rattle.step_logs.specs.Targets
 pub use Rattle.step_logs.specs.Journal
 pub use Rattle.step_logs.specs.PlansBelow

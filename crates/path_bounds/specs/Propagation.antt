@@ -5,9 +5,9 @@ use Rattle.ttp_model.specs.declared.error.MemoryFault.{MemoryFault}
 use Rattle.ttp_model.specs.declared.step.Step.{Step}
 use Rattle.ttp_model.specs.Instance.{Instance}
 use Rattle.tt_choice.specs.Choice.{Choice}
-use Rattle.sought_plans.specs.Known.{Known, first_facts}
-use Rattle.tt_infer.specs.Leaves.{Lead}
-pub use Rattle.tt_infer.specs.Leaves.{LeadSharply}
+use Rattle.step_logs.specs.Known.{Known, first_facts}
+use Rattle.step_logs.specs.Leaves.{Lead}
+pub use Rattle.step_logs.specs.Leaves.{LeadSharply}
 pub use Rattle.step_logs.specs.PlansBelow.{IsPlanBelow}
 use Rattle.path_bounds.specs.declared.reached.Reached.{Reached}
 use Rattle.path_bounds.specs.declared.reached.Reached.TheVariants.{Closed, At}

@@ -3,15 +3,14 @@
 ghost use Rattle.std.specs.Prelude.{◌≡◌, ℕ, ◌^◌, ◌<◌, ◌≤◌, min, length, IfOk, IfSome, IsSome};
 ghost use Rattle.ttp_model.specs.Chains.{IsPathBound};
 ghost use Rattle.tt_choice.specs.Choice.{IsChoice};
-ghost use Rattle.tt_infer.specs.Leaves.{ClosesSharply};
+ghost use Rattle.step_logs.specs.Leaves.{ClosesSharply};
 
 use crate::propagation::propagate;
 use crate::reached::Reached;
 use longest_chains::path_bound;
 use std::alloc::Global;
-use step_logs::{Agenda, Journal, closed_leaf};
+use step_logs::{Agenda, Facts, Journal, closed_leaf};
 use tt_choice::Choice;
-use tt_infer::Facts;
 use ttp_model::{Instance, Leaf, MemoryFault, Step, Steps};
 
 /// Steps that close the choice at a goal in ticks, where propagation finds them: always so at a goal

@@ -9,4 +9,4 @@ pub use goals::{best_goal, leaf_by};
 pub use longest_chains::path_bound;
 pub use propagation::propagate;
 pub use reached::Reached;
-pub use step_logs::{Agenda, Propagator, Supposition, closed_leaf};
+pub use step_logs::{Agenda, Facts, Propagator, Supposition, closed_leaf};

@@ -8,9 +8,8 @@ ghost use Rattle.path_bounds.specs.Propagation.{Propagates, IsClosed, FindsPlan}
 use crate::reached::Reached;
 use std::alloc::Global;
 use std::mem;
-use step_logs::{Agenda, Journal, reach};
+use step_logs::{Agenda, Facts, Journal, reach};
 use tt_choice::Choice;
-use tt_infer::Facts;
 use ttp_model::{Instance, MemoryFault, Step};
 
 /// Appends lawful steps for the plans of the choice with a delay below `goal` ticks, from the first

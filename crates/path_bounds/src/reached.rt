@@ -1,6 +1,6 @@
 //! What does a propagation come to?
 
-use tt_infer::Facts;
+use step_logs::Facts;
 
 /// Where the steps of a propagation lead.
 #[derive(Drop)]

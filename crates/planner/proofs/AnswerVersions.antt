@@ -9,8 +9,8 @@ use Rattle.certificate.specs.declared.version.Version.TheVariants.{One, Two}
 use Rattle.certificate.specs.Versions.{Allows}
 use Rattle.certificate.specs.Cert.{Cert}
 use Rattle.certificate.proofs.Versions.{two_allows_all}
-use Rattle.tree_check.specs.Proofs.{Proves}
-use Rattle.tree_check.proofs.OneChannel.{one_channel_is_allowed}
+use Rattle.dropped_decisions.specs.Proofs.{Proves}
+use Rattle.dropped_decisions.proofs.OneChannel.{one_channel_is_allowed}
 use Rattle.search_turns.specs.declared.outcome.Options.{Options}
 use Rattle.search_turns.specs.declared.outcome.Outcome.{Outcome}
 use Rattle.planner.specs.Answers.{cert_of, IsOutcome}

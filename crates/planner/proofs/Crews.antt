@@ -9,18 +9,18 @@ use Rattle.std.proofs.lemmas.List.Sorted.{IsPermutation-refl, IsPermutation-sym,
 use Rattle.ttp_model.specs.declared.plan.Plan.{Plan}
 use Rattle.ttp_model.specs.Instance.{Instance}
 use Rattle.ttp_model.specs.Rules.{IsInstance}
-use Rattle.subtree_tasks.specs.declared.piece.Piece.{Piece}
-use Rattle.subtree_tasks.specs.Task.{Task, IsTask}
+use Rattle.search_turns.specs.piece.Piece.{Piece}
+use Rattle.search_turns.specs.Task.{Task, IsTask}
 use Rattle.incumbent.specs.declared.word.Incumbent.{Incumbent}
 use Rattle.incumbent.specs.Watch.{seen, offers, out_count, IsOpening}
 use Rattle.steal_pool.specs.declared.hand.Hand.{Hand}
 use Rattle.steal_pool.specs.Hand.{pushed, taken, IsSameHand, all_pushed, all_taken}
-use Rattle.pool_worker.specs.declared.aims.Aims.{Aims}
-use Rattle.pool_worker.specs.declared.report.Report.{Report}
-use Rattle.pool_worker.specs.Tasks.{Turn, IsTurn, tasks_of, pieces_of, all_born, born}
-use Rattle.pool_worker.specs.Goals.{goals_of, goals_at, IsReached}
-use Rattle.pool_worker.specs.Best.{IsBestOf}
-use Rattle.pool_worker.specs.Report.{held, unpushed}
+use Rattle.search_turns.specs.aims.Aims.{Aims}
+use Rattle.search_turns.specs.report.Report.{Report}
+use Rattle.search_turns.specs.Tasks.{Turn, IsTurn, tasks_of, pieces_of, all_born, born}
+use Rattle.search_turns.specs.Goals.{goals_of, goals_at, IsReached}
+use Rattle.search_turns.specs.Best.{IsBestOf}
+use Rattle.search_turns.specs.Report.{held, unpushed}
 use Rattle.planner.specs.declared.crew.Job.{Job}
 use Rattle.planner.specs.declared.crew.Crew.{Crew}
 use Rattle.search_turns.specs.Searching.{limit_of, IsFound}

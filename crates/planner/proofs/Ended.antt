@@ -11,10 +11,10 @@ use Rattle.certificate.specs.declared.node.Node.{Node}
 use Rattle.certificate.specs.declared.node.Node.TheVariants as node
 use Rattle.certificate.specs.Trees.{Trees, none, grow, preorder}
 use Rattle.certificate.specs.Cert.{Cert}
-use Rattle.tree_check.specs.Proofs.{choices_below, Suits, AreProofs, Proves}
-use Rattle.tree_gathering.specs.Gathering.{HasGoal}
-use Rattle.pool_worker.specs.declared.aims.Aims.{Aims}
-use Rattle.pool_worker.proofs.Goals.{goal_near, goal_past}
+use Rattle.dropped_decisions.specs.Proofs.{choices_below, Suits, AreProofs, Proves}
+use Rattle.search_turns.specs.Gathering.{HasGoal}
+use Rattle.search_turns.specs.aims.Aims.{Aims}
+use Rattle.search_turns.proofs.Goals.{goal_near, goal_past}
 use Rattle.search_turns.specs.declared.outcome.Options.{Options}
 use Rattle.search_turns.specs.declared.outcome.Outcome.{Outcome}
 use Rattle.search_turns.specs.declared.outcome.Outcome.TheVariants.{Optimal, Infeasible, Stopped}

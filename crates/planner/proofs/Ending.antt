@@ -9,24 +9,24 @@ use Rattle.ttp_model.specs.Chains.{IsPathBound}
 use Rattle.tt_choice.specs.Choice.{Choice}
 use Rattle.certificate.specs.declared.limits.TheConstants.{MOST_BRANCHES_ABOVE}
 use Rattle.certificate.specs.declared.node.Node.TheVariants as node
-use Rattle.subtree_tasks.specs.declared.piece.Piece.{Piece}
-use Rattle.subtree_tasks.specs.Name.{Name}
-use Rattle.subtree_tasks.specs.Task.{Task, choice_of, IsTask}
-use Rattle.subtree_tasks.specs.Pieces.{IsRight, StandsAt, AreRight}
-use Rattle.subtree_tasks.specs.Account.{IsWholeTree}
-use Rattle.branch_tree.specs.Work.{IsLeftClosed}
-use Rattle.subtree_tasks.proofs.OneChoice.{stands_alone}
-use Rattle.pool_worker.specs.declared.aims.Aims.{Aims}
-use Rattle.pool_worker.specs.Tasks.{tasks_of}
+use Rattle.search_turns.specs.piece.Piece.{Piece}
+use Rattle.search_turns.specs.Name.{Name}
+use Rattle.search_turns.specs.Task.{Task, choice_of, IsTask}
+use Rattle.search_turns.specs.Pieces.{IsRight, StandsAt, AreRight}
+use Rattle.search_turns.specs.Account.{IsWholeTree}
+use Rattle.search_turns.specs.Work.{IsLeftClosed}
+use Rattle.search_turns.proofs.OneChoice.{stands_alone}
+use Rattle.search_turns.specs.aims.Aims.{Aims}
+use Rattle.search_turns.specs.Tasks.{tasks_of}
 use Rattle.search_turns.specs.declared.outcome.Options.{Options}
 use Rattle.search_turns.specs.Searching.{aim_of, IsWorkedOut, task_names, IsSearching}
-use Rattle.tree_gathering.specs.Gathering.{HasGoal, HaveGoals, AreShallow, IsLeafPiece}
+use Rattle.search_turns.specs.Gathering.{HasGoal, HaveGoals, AreShallow, IsLeafPiece}
 use Rattle.planner.specs.Searched.{IsSearched, IsClosedLeaf, ReachesGoal}
 use Rattle.planner.specs.Closing.{ClosesOne, AreClosed}
 use Rattle.search_turns.specs.declared.outcome.Why.{Why}
 use Rattle.search_turns.proofs.Searching.{last_there, one_only, weaker_goal}
 use Rattle.planner.proofs.Standing.{whole, right, shallow, stands}
-use Rattle.tree_gathering.proofs.Leaves.{closed_whole, closed_right}
+use Rattle.search_turns.proofs.Leaves.{closed_whole, closed_right}
 
 pub end_low : (low limit : ℕ) (closed : List Piece) → (low ≡ limit) ⊎ ((low < limit) × ReachesGoal low closed) → low ≤ limit
 end_low low limit closed (inl e) = omega (arith, e)

@@ -3,7 +3,7 @@ use Rattle.std.proofs.Common.{◌≡◌, ℕ, zero, suc, List, [], ◌∷◌, �
 use Rattle.std.specs.List.Sorted.{IsPermutation}
 use mathlib.Core.Option.{some, some-injective, some-ne-none}
 use lib.ListN.{get_elem?}
-use Rattle.subtree_tasks.specs.Task.{Task}
+use Rattle.search_turns.specs.Task.{Task}
 use Rattle.steal_pool.specs.declared.hand.Hand.{Hand}
 use Rattle.steal_pool.specs.Door.{DequeId}
 use Rattle.steal_pool.specs.Hand.{pushed, taken, IsSameHand, IsHandOf, IsPool, ChangesAt, all_pushed, all_taken}

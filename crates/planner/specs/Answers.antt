@@ -12,9 +12,9 @@ use Rattle.certificate.specs.declared.version.Version.{Version}
 use Rattle.certificate.specs.declared.version.Version.TheVariants.{One, Two}
 use Rattle.certificate.specs.Trees.{Trees, preorder}
 use Rattle.certificate.specs.Cert.{Cert}
-use Rattle.tree_check.specs.Proofs.{Proves}
+use Rattle.dropped_decisions.specs.Proofs.{Proves}
 use Rattle.dropped_decisions.specs.Branches.{branches}
-use Rattle.pool_worker.specs.Best.{IsPlanFound}
+use Rattle.search_turns.specs.Best.{IsPlanFound}
 use Rattle.search_turns.specs.declared.outcome.Options.{Options}
 use Rattle.search_turns.specs.declared.outcome.Outcome.{Outcome}
 use Rattle.search_turns.specs.declared.outcome.Outcome.TheVariants.{Optimal, Infeasible, Stopped}
@@ -22,7 +22,7 @@ use Rattle.search_turns.specs.declared.outcome.Why.{Why}
 use Rattle.search_turns.specs.declared.outcome.Why.TheVariants.{Budget, Memory, CalledOff, Gap}
 use Rattle.search_turns.specs.Searching.{limit_of}
 use Rattle.search_turns.specs.Ends.{IsFar, IsNear}
-use Rattle.tree_gathering.specs.Gathering.{HasGoal}
+use Rattle.search_turns.specs.Gathering.{HasGoal}
 
 -- a leaf at the limit or past it
 abbrev pub is_closed_at : ℕ → Node → Bool

@@ -2,11 +2,11 @@
 use Rattle.std.specs.Prelude.{◌≡◌, ℕ, ◌<◌, ◌⊎◌, List, ◌++◌, All, Contains}
 use Rattle.ttp_model.specs.Instance.{Instance}
 use Rattle.certificate.specs.Cert.{Cert}
-use Rattle.subtree_tasks.specs.declared.piece.Piece.{Piece}
-use Rattle.subtree_tasks.specs.Task.{Task}
-use Rattle.subtree_tasks.specs.Pieces.{names_of}
-use Rattle.branch_tree.specs.Work.{IsLeftClosed}
-use Rattle.tree_gathering.specs.Gathering.{HaveGoals, IsGathered}
+use Rattle.search_turns.specs.piece.Piece.{Piece}
+use Rattle.search_turns.specs.Task.{Task}
+use Rattle.search_turns.specs.Pieces.{names_of}
+use Rattle.search_turns.specs.Work.{IsLeftClosed}
+use Rattle.search_turns.specs.Gathering.{HaveGoals, IsGathered}
 use Rattle.search_turns.specs.Searching.{task_names}
 use Rattle.planner.specs.Searched.{ReachesGoal}
 

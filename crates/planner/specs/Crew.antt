@@ -2,19 +2,19 @@
 use Rattle.std.specs.Prelude.{◌≡◌, ◌⊎◌, ℕ, ◌+◌, ◌-◌, ◌≤◌, List, [], ◌∷◌, ◌++◌, map, length, sum_by, All, Option, None, Some, IsPermutation}
 use Rattle.ttp_model.specs.declared.plan.Plan.{Plan}
 use Rattle.ttp_model.specs.Instance.{Instance}
-use Rattle.subtree_tasks.specs.Task.{Task, IsTask, root_task}
+use Rattle.search_turns.specs.Task.{Task, IsTask, root_task}
 use Rattle.incumbent.specs.declared.word.Incumbent.{Incumbent}
 use Rattle.incumbent.specs.declared.word.Watch.{Watch}
 use Rattle.incumbent.specs.Watch.{first_value, offers, out_count, IsOpening, IsOther, IsSameWatch}
 use Rattle.steal_pool.specs.declared.hand.Hand.{Hand}
 use Rattle.steal_pool.specs.Hand.{IsPool, IsSameHand, all_pushed, all_taken}
-use Rattle.pool_worker.specs.declared.aims.Aims.{Aims}
-use Rattle.pool_worker.specs.declared.report.Report.{Report}
-use Rattle.pool_worker.specs.Tasks.{Turn, IsTurn, tasks_of, pieces_of, all_born}
-use Rattle.pool_worker.specs.Goals.{goals_of, AreGoals, IsReached}
-use Rattle.pool_worker.specs.Best.{OffersBest}
-use Rattle.pool_worker.specs.declared.report.Rest.{Rest}
-use Rattle.pool_worker.specs.Report.{HasAccount, held, unpushed}
+use Rattle.search_turns.specs.aims.Aims.{Aims}
+use Rattle.search_turns.specs.report.Report.{Report}
+use Rattle.search_turns.specs.Tasks.{Turn, IsTurn, tasks_of, pieces_of, all_born}
+use Rattle.search_turns.specs.Goals.{goals_of, AreGoals, IsReached}
+use Rattle.search_turns.specs.Best.{OffersBest}
+use Rattle.search_turns.specs.report.Rest.{Rest}
+use Rattle.search_turns.specs.Report.{HasAccount, held, unpushed}
 use Rattle.planner.specs.declared.crew.Job.{Job}
 use Rattle.planner.specs.declared.crew.Crew.{Crew}
 use Rattle.search_turns.specs.Searching.{limit_of, IsFound}

@@ -8,18 +8,18 @@ use Rattle.certificate.specs.declared.node.Node.{Node}
 use Rattle.certificate.specs.declared.node.Node.TheVariants as node
 use Rattle.certificate.specs.Trees.{preorder}
 use Rattle.certificate.specs.Cert.{Cert}
-use Rattle.tree_check.specs.Proofs.{Proves}
+use Rattle.dropped_decisions.specs.Proofs.{Proves}
 use Rattle.dropped_decisions.specs.Branches.{branches}
-use Rattle.subtree_tasks.specs.declared.piece.Piece.{Piece}
-use Rattle.subtree_tasks.specs.Pieces.{AreRight}
-use Rattle.subtree_tasks.specs.Account.{IsWholeTree}
+use Rattle.search_turns.specs.piece.Piece.{Piece}
+use Rattle.search_turns.specs.Pieces.{AreRight}
+use Rattle.search_turns.specs.Account.{IsWholeTree}
 use Rattle.search_turns.specs.declared.outcome.Options.{Options}
 use Rattle.search_turns.specs.declared.outcome.Why.{Why}
 use Rattle.search_turns.specs.declared.outcome.Why.TheVariants.{Budget, Memory, CalledOff, Gap}
-use Rattle.pool_worker.specs.declared.aims.Aims.{Aims}
-use Rattle.pool_worker.specs.Goals.{goal_of}
+use Rattle.search_turns.specs.aims.Aims.{Aims}
+use Rattle.search_turns.specs.Goals.{goal_of}
 use Rattle.search_turns.specs.Searching.{aim_of, limit_of, IsFound, IsWorkedOut}
-use Rattle.tree_gathering.specs.Gathering.{HasGoal, HaveGoals}
+use Rattle.search_turns.specs.Gathering.{HasGoal, HaveGoals}
 use Rattle.planner.specs.Answers.{answer_version, worked_at}
 
 -- a goal at which propagation closes the whole tree: at least the path bound, within one tick past the horizon

@@ -4,8 +4,7 @@ ghost use Rattle.std.specs.Prelude.{IfOk};
 ghost use Rattle.planner.specs.Searched.{AreAims, IsFloor};
 
 use crate::closing::{close, lowered};
-use branch_tree::{Agenda, Task};
-use pool_worker::Aims;
+use search_turns::{Agenda, Aims, Task};
 use std::alloc::Global;
 use ttp_model::{Instance, MemoryFault};
 

@@ -5,18 +5,16 @@ ghost use Rattle.ttp_model.specs.Instance.{Instance};
 ghost use Rattle.ttp_model.specs.Rules.{IsInstance};
 ghost use Rattle.incumbent.specs.Watch.{IsOpening, IsWatchOf};
 ghost use Rattle.steal_pool.specs.declared.hand.Hand.{Hand};
-ghost use Rattle.pool_worker.specs.declared.aims.Aims.{Aims};
+ghost use Rattle.search_turns.specs.aims.Aims.{Aims};
 ghost use Rattle.planner.specs.declared.crew.Job.{Job};
 ghost use Rattle.search_turns.specs.declared.outcome.SolveFault.TheVariants as fault;
 ghost use Rattle.search_turns.specs.Searching.{IsFound};
 ghost use Rattle.planner.specs.Crew.{IsBetter, IsNoLater, IsReportOfJob, AreReportsOf, IsJob, hands_of, budget_of, tasks_in, Gathers};
 
 use crate::joining::{keep_roomier, take_in};
-use branch_tree::{Piece, Task};
 use certificate::Node;
 use incumbent::{Incumbent, Watch};
-use pool_worker::{Aims, Gate, Report, Rest, run_worker_in};
-use search_turns::SolveFault;
+use search_turns::{Aims, Gate, Manner, Piece, Report, Rest, SolveFault, Task, run_worker_in};
 use std::alloc::Global;
 use std::marker::{Send, Sync};
 use std::snapshot::Snapshot;
@@ -25,7 +23,6 @@ use std::thread::{Promise, Scope, Threads};
 use std::{mem, thread};
 use steal_pool::{Hand, Searched};
 use ttp_model::{Instance, MemoryFault, Plan};
-use used_decisions::Manner;
 
 /// What a worker begins with.
 #[derive(Drop)]

@@ -11,11 +11,9 @@ ghost use Rattle.search_turns.specs.Searching.{IsFound};
 use crate::versions::answer_version;
 use certificate::Cert;
 use dropped_decisions::{Standing, proof_of, without_unused};
-use pool_worker::Aims;
-use search_turns::{Options, Outcome, Search, aim};
+use search_turns::{Aims, Manner, Options, Outcome, Search, aim};
 use std::alloc::Global;
 use ttp_model::{Instance, MemoryFault};
-use used_decisions::Manner;
 
 /// The pieces of a search, and the tasks that it left.
 fn standing(alloc: Global, search: &Search) -> Result<Vec<Standing>, MemoryFault> {

@@ -14,11 +14,9 @@ mod solving;
 mod versions;
 
 pub use laws::{answers_have_certificate_texts, answers_show, searches_answer};
-pub use pool_worker::{FreeGate, Gate};
-pub use search_turns::{Options, Outcome, SolveFault, Why};
-pub use solving::{solve, solve_in, solve_towards, solve_with};
-pub use tree_gathering::{
-    GatherFault, gather, gathered_certificates_have_texts, leaves_close_a_tree,
-    names_make_one_tree, whole_trees_prove,
+pub use search_turns::{
+    FreeGate, Gate, GatherFault, Manner, Name, Options, Outcome, SolveFault, Why, gather,
+    gathered_certificates_have_texts, leaves_close_a_tree, names_make_one_tree, root_bound,
+    whole_trees_prove,
 };
-pub use used_decisions::Manner;
+pub use solving::{solve, solve_in, solve_towards, solve_with};

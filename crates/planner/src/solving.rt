@@ -4,9 +4,9 @@ ghost use Rattle.std.specs.Prelude.{◌≡◌, ◌≤◌, ◌+◌, ℕ, IfOk, If
 ghost use Rattle.ttp_model.specs.Delays.{delay};
 ghost use Rattle.ttp_model.specs.Instance.{Instance};
 ghost use Rattle.ttp_model.specs.Plans.{IsValid};
-ghost use Rattle.subtree_tasks.specs.Account.{IsWholeTree};
-ghost use Rattle.subtree_tasks.specs.Task.{IsTask};
-ghost use Rattle.tree_gathering.specs.Gathering.{AreShallow, HaveGoals, IsGathered};
+ghost use Rattle.search_turns.specs.Account.{IsWholeTree};
+ghost use Rattle.search_turns.specs.Task.{IsTask};
+ghost use Rattle.search_turns.specs.Gathering.{AreShallow, HaveGoals, IsGathered};
 ghost use Rattle.search_turns.specs.declared.outcome.SolveFault.TheVariants as fault;
 ghost use Rattle.planner.specs.Answers.{best_of, IsOutcome, Shows};
 ghost use Rattle.planner.specs.Closing.{AreClosedBehind, IsClosedTree};
@@ -22,19 +22,18 @@ use crate::joining::join;
 use crate::leaner::{lean_proof, leaner};
 use crate::reserve::Reserve;
 use crate::versions::answer_version;
-use branch_tree::{Piece, Task};
 use certificate::{Cert, Node};
 use good_plan::good_plan;
-use pool_worker::{Aims, FreeGate, Gate};
-use search_turns::{Options, Order, Outcome, Search, SolveFault, Why, aim};
+use search_turns::{
+    Aims, FreeGate, Gate, Manner, Options, Order, Outcome, Piece, Search, SolveFault, Task, Why,
+    aim, gather_whole, usual_manner,
+};
 use std::alloc::Global;
 use std::marker::{Brand, Sync};
 use std::sync::Wait;
 use std::thread::Threads;
-use tree_gathering::gather_whole;
 use tt_settle::settle;
 use ttp_model::{Instance, MemoryFault, Plan, delay};
-use used_decisions::{Manner, usual_manner};
 
 /// A plan to begin with; none is looked for with a budget of 0, or in a plain search.
 fn first_plan<R: Threads + Sync>(

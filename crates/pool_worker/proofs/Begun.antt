@@ -4,8 +4,8 @@ use Rattle.std.proofs.lemmas.List.Sorted.{IsPermutation-refl}
 use Rattle.std.proofs.lemmas.List.{append-nil}
 use Rattle.std.proofs.lemmas.List.Elements.{All-nil}
 use Rattle.ttp_model.specs.Instance.{Instance}
-use Rattle.subtree_tasks.specs.declared.piece.Piece.{Piece}
-use Rattle.subtree_tasks.specs.Task.{IsTask}
+use Rattle.branch_tree.specs.piece.Piece.{Piece}
+use Rattle.branch_tree.specs.Task.{IsTask}
 use Rattle.incumbent.specs.declared.word.Watch.{Watch}
 use Rattle.incumbent.specs.Watch.{offers}
 use Rattle.steal_pool.specs.declared.hand.Hand.{Hand}

@@ -13,12 +13,12 @@ use Rattle.certificate.specs.declared.branch.Branch.{Branch}
 use Rattle.certificate.specs.Branch.{branch_of}
 use Rattle.certificate.specs.declared.node.Node.{Node}
 use Rattle.certificate.specs.declared.node.Node.TheVariants as node
-use Rattle.subtree_tasks.specs.Name.{Name, child_name}
-use Rattle.subtree_tasks.specs.Pieces.{IsRight, choice_below}
-use Rattle.subtree_tasks.specs.Task.{Task, choice_of}
+use Rattle.branch_tree.specs.Name.{Name, child_name}
+use Rattle.branch_tree.specs.Pieces.{IsRight, choice_below}
+use Rattle.branch_tree.specs.Task.{Task, choice_of}
 use Rattle.branch_tree.specs.Work.{IsSplit}
-use Rattle.subtree_tasks.proofs.ChildTasks.{with_one}
-use Rattle.subtree_tasks.proofs.Chosen.{choice_after_child}
+use Rattle.branch_tree.proofs.ChildTasks.{with_one}
+use Rattle.branch_tree.proofs.Chosen.{choice_after_child}
 use Rattle.pool_worker.specs.Tasks.{decisions_below, born}
 
 -- the choice of a child's task is the one that its parent's node leads to

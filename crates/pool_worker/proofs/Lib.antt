@@ -5,3 +5,6 @@ pub mod Turns
 pub mod Spared
 pub mod Begun
 pub mod Pushes
+pub use Rattle.branch_tree.proofs.ChildTasks
+pub use Rattle.branch_tree.proofs.Chosen
+pub use Rattle.branch_tree.proofs.OneChoice

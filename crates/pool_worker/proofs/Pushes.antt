@@ -3,7 +3,7 @@ use Rattle.std.proofs.Common.{◌≡◌, List, [], ◌∷◌, ◌++◌, sym, ap,
 use Rattle.std.proofs.lemmas.List.{append-nil}
 use Rattle.std.specs.List.Sorted.{IsPermutation}
 use Rattle.std.proofs.lemmas.List.Sorted.{IsPermutation-refl, IsPermutation-trans, IsPermutation-append_right, IsPermutation-append_comm}
-use Rattle.subtree_tasks.specs.Task.{Task}
+use Rattle.branch_tree.specs.Task.{Task}
 use Rattle.steal_pool.proofs.Orders.{then_same}
 use Rattle.pool_worker.specs.Run.{Pushes}
 

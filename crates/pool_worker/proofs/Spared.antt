@@ -4,8 +4,8 @@ use Rattle.std.proofs.lemmas.List.{append-nil}
 use Rattle.std.proofs.lemmas.Grind.{flat_map-append}
 use Rattle.std.proofs.lemmas.List.Elements.{All-weaker, All-nil, All-cons, All-head, All-tail}
 use Rattle.ttp_model.specs.Instance.{Instance}
-use Rattle.subtree_tasks.specs.declared.piece.Piece.{Piece}
-use Rattle.subtree_tasks.specs.Task.{Task}
+use Rattle.branch_tree.specs.piece.Piece.{Piece}
+use Rattle.branch_tree.specs.Task.{Task}
 use Rattle.tt_choice.specs.declared.decision.Decision.{Decision}
 use Rattle.used_decisions.specs.Ways.{Way}
 use Rattle.used_decisions.specs.Needs.{HoldsAt, HoldUpTo}

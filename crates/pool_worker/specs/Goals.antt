@@ -4,7 +4,7 @@ use Rattle.std.specs.List.{flat_map}
 use Rattle.ttp_model.specs.Instance.{Instance}
 use Rattle.certificate.specs.declared.node.Node.{Node}
 use Rattle.certificate.specs.declared.node.Node.TheVariants as node
-use Rattle.subtree_tasks.specs.declared.piece.Piece.{Piece}
+use Rattle.branch_tree.specs.piece.Piece.{Piece}
 use Rattle.pool_worker.specs.declared.aims.Aims.{Aims}
 use Rattle.incumbent.specs.declared.word.Watch.{Watch}
 use Rattle.incumbent.specs.Watch.{seen, offers, IsSameWatch}

@@ -3,3 +3,10 @@ pub mod Goals
 pub mod Best
 pub mod Report
 pub mod Run
+pub use Rattle.branch_tree.specs.Account
+pub use Rattle.branch_tree.specs.Name
+pub use Rattle.branch_tree.specs.Pieces
+pub use Rattle.branch_tree.specs.Task
+pub use Rattle.branch_tree.specs.Work
+pub use Rattle.branch_tree.specs.Workbench
+pub use Rattle.branch_tree.specs.piece

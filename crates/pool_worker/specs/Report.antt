@@ -2,13 +2,13 @@
 use Rattle.std.specs.Prelude.{◌≡◌, ℕ, ◌+◌, ◌≤◌, List, [], ◌∷◌, ◌++◌, All, IsPermutation}
 use Rattle.ttp_model.specs.Instance.{Instance}
 use Rattle.tt_choice.specs.declared.decision.Decision.{Decision}
-use Rattle.step_reads.specs.RuledOut.{IsRuledOut}
+use Rattle.used_decisions.specs.RuledOut.{IsRuledOut}
 use Rattle.used_decisions.specs.Proved.{all_kept}
 use Rattle.used_decisions.specs.Needs.{HoldUpTo}
 use Rattle.used_decisions.specs.declared.needs.Needs.{Needs}
-use Rattle.subtree_tasks.specs.declared.piece.Piece.{Piece}
-use Rattle.subtree_tasks.specs.Task.{Task, IsTask}
-use Rattle.subtree_tasks.specs.Account.{IsReportOf}
+use Rattle.branch_tree.specs.piece.Piece.{Piece}
+use Rattle.branch_tree.specs.Task.{Task, IsTask}
+use Rattle.branch_tree.specs.Account.{IsReportOf}
 use Rattle.steal_pool.specs.declared.hand.Hand.{Hand}
 use Rattle.steal_pool.specs.Hand.{pushed, taken}
 use Rattle.pool_worker.specs.declared.report.Rest.{Rest}

@@ -7,10 +7,10 @@ use Rattle.tt_choice.specs.Decisions.{decision_of}
 use Rattle.certificate.specs.declared.node.Node.{Node}
 use Rattle.certificate.specs.declared.node.Node.TheVariants as node
 use Rattle.certificate.specs.Trees.{children}
-use Rattle.subtree_tasks.specs.declared.piece.Piece.{Piece}
-use Rattle.subtree_tasks.specs.Name.{child_name}
-use Rattle.subtree_tasks.specs.Task.{Task, choice_of, IsTask}
-use Rattle.subtree_tasks.specs.Pieces.{IsRight}
+use Rattle.branch_tree.specs.piece.Piece.{Piece}
+use Rattle.branch_tree.specs.Name.{child_name}
+use Rattle.branch_tree.specs.Task.{Task, choice_of, IsTask}
+use Rattle.branch_tree.specs.Pieces.{IsRight}
 
 -- a task that was worked, and the piece that it became
 pub record Turn : Type 0 where

@@ -5,8 +5,8 @@ ghost use Rattle.ttp_model.specs.declared.plan.Plan.{Plan};
 ghost use Rattle.ttp_model.specs.Instance.{Instance};
 ghost use Rattle.ttp_model.specs.Rules.{IsInstance};
 ghost use Rattle.sought_plans.specs.Known.{IsSought};
-ghost use Rattle.subtree_tasks.specs.declared.piece.Piece.{Piece};
-ghost use Rattle.subtree_tasks.specs.Task.{Task, choice_of, IsTask};
+ghost use Rattle.branch_tree.specs.piece.Piece.{Piece};
+ghost use Rattle.branch_tree.specs.Task.{Task, choice_of, IsTask};
 ghost use Rattle.pool_worker.specs.Report.{IsReachedBy, IsSpared};
 
 /// Of a task that needn't be worked no plan is left below a bound that no leaf of the pieces is below: so nothing is lost with it.

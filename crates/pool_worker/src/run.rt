@@ -1,14 +1,14 @@
 //! What does a worker do in one turn?
 
 ghost use Rattle.std.specs.Prelude.{◌≡◌, ◌≢◌, false, ◌<◌, ◌≤◌, ◌+◌, ◌++◌, ℕ, List, All, IsTrue, IfOk, OnOk, OnErr, IfErr, IsPermutation, length, vec_len, vec_capacity};
-ghost use Rattle.subtree_tasks.specs.Task.{IsTask};
+ghost use Rattle.branch_tree.specs.Task.{IsTask};
 ghost use Rattle.branch_tree.specs.Workbench.{IsWorkbenchOf};
 ghost use Rattle.incumbent.specs.Watch.{IsOther};
 ghost use Rattle.steal_pool.specs.Hand.{pushed, taken, IsSameHand};
 ghost use Rattle.pool_worker.specs.declared.run.Sweep.TheVariants as sweep;
 ghost use Rattle.used_decisions.specs.declared.manner.Manner.TheVariants.{Plain};
 ghost use Rattle.used_decisions.specs.Needs.{HoldUpTo, AreAt};
-ghost use Rattle.subtree_tasks.specs.declared.piece.Piece.{Piece};
+ghost use Rattle.branch_tree.specs.piece.Piece.{Piece};
 ghost use Rattle.tt_choice.specs.declared.decision.Decision.{Decision};
 ghost use Rattle.ttp_model.specs.Instance.{Instance};
 ghost use Rattle.pool_worker.specs.Goals.{goals_at};

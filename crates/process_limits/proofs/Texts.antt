@@ -5,11 +5,11 @@ use Rattle.ttp_model.specs.Instance.{Instance}
 use Rattle.ttp_model.specs.Rules.{IsInstance}
 use Rattle.ttp_model.specs.Delays.{delay}
 use Rattle.certificate.specs.Versions.{Allows}
-use Rattle.planner.specs.outcome.Options.{Options}
-use Rattle.planner.specs.outcome.Outcome.{Outcome}
-use Rattle.planner.specs.outcome.Outcome.TheVariants as outcome
-use Rattle.planner.specs.Answers as answers
-use Rattle.planner.proofs.AnswerVersions.{answer_allows}
+use Rattle.any_plan.specs.outcome.Options.{Options}
+use Rattle.any_plan.specs.outcome.Outcome.{Outcome}
+use Rattle.any_plan.specs.outcome.Outcome.TheVariants as outcome
+use Rattle.any_plan.specs.Answers as answers
+use Rattle.any_plan.proofs.AnswerVersions.{answer_allows}
 use Rattle.cut_deadlines.specs.Cut.{CanEndBy, cut}
 use Rattle.cut_deadlines.specs.Ends.{AreThere}
 use Rattle.cut_deadlines.proofs.CutEnds.{each_by_last}

@@ -6,10 +6,10 @@ use Rattle.ttp_model.specs.Plans.{IsValid}
 use Rattle.ttp_model.specs.Delays.{delay}
 use Rattle.ttp_model.specs.Chains.{ChainEnds}
 use Rattle.certificate.specs.Cert.{Cert}
-use Rattle.planner.specs.outcome.Options.{Options}
-use Rattle.planner.specs.outcome.Outcome.TheVariants as outcome
-use Rattle.planner.specs.outcome.Why.{Why}
-use Rattle.planner.specs.Answers.{IsOutcome}
+use Rattle.any_plan.specs.outcome.Options.{Options}
+use Rattle.any_plan.specs.outcome.Outcome.TheVariants as outcome
+use Rattle.any_plan.specs.outcome.Why.{Why}
+use Rattle.any_plan.specs.Answers.{IsOutcome}
 use Rattle.any_plan.specs.Searches.{IsLeftOpen, IsShown}
 use Rattle.cut_deadlines.specs.Cut.{cut}
 use Rattle.cut_deadlines.specs.Ends.{last_end, IsLeastDelayBy, IsLeastEnd, IsLowerEnd}

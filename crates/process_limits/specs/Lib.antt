@@ -1,2 +1,3 @@
 pub mod Answers
 pub mod Searches
+pub use Rattle.any_plan.specs.outcome

@@ -2,7 +2,7 @@
 use Rattle.std.specs.Prelude.{ℕ, ◌<◌, List}
 use Rattle.ttp_model.specs.Instance.{Instance}
 use Rattle.certificate.specs.Cert.{Cert}
-use Rattle.planner.specs.outcome.Options.{Options}
+use Rattle.any_plan.specs.outcome.Options.{Options}
 use Rattle.any_plan.specs.Searches.{IsLeftOpen}
 use Rattle.cut_deadlines.specs.Cut.{cut}
 use Rattle.cut_deadlines.specs.Ends.{IsLowerEnd}

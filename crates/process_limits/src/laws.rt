@@ -4,7 +4,7 @@ ghost use Rattle.std.specs.Prelude.{ℕ, List};
 ghost use Rattle.ttp_model.specs.Instance.{Instance};
 ghost use Rattle.ttp_model.specs.Rules.{IsInstance};
 ghost use Rattle.certificate.specs.Versions.{Allows};
-ghost use Rattle.planner.specs.outcome.Options.{Options};
+ghost use Rattle.any_plan.specs.outcome.Options.{Options};
 ghost use Rattle.cut_deadlines.specs.Ends.{AreThere};
 ghost use Rattle.process_limits.specs.declared.limit.EndLimit.{EndLimit};
 ghost use Rattle.process_limits.specs.Answers.{cert_of, IsEndLimit};

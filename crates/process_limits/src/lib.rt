@@ -7,7 +7,7 @@ mod laws;
 mod least;
 mod limit;
 
+pub use any_plan::{Options, SolveFault};
 pub use laws::limits_have_certificate_texts;
 pub use least::least_end;
 pub use limit::{EndLimit, cert_of};
-pub use planner::{Options, SolveFault};

@@ -11,8 +11,8 @@ use Rattle.ttp_model.specs.Rules.{IsInstance}
 use Rattle.ttp_model.proofs.PlanNumbers.{delay_small}
 use Rattle.certificate.specs.declared.node.Node.{Node}
 use Rattle.certificate.specs.declared.node.Node.TheVariants as node
-use Rattle.subtree_tasks.specs.declared.piece.Piece.{Piece}
-use Rattle.subtree_tasks.specs.Task.{Task, IsTask, root_task}
+use Rattle.pool_worker.specs.piece.Piece.{Piece}
+use Rattle.pool_worker.specs.Task.{Task, IsTask, root_task}
 use Rattle.pool_worker.specs.Best.{IsPlanFound}
 use Rattle.pool_worker.specs.declared.aims.Aims.{Aims}
 use Rattle.pool_worker.specs.Tasks.{Turn, IsTurn, tasks_of, born, all_born}

@@ -1,2 +1,16 @@
 pub mod Searching
 pub mod Ends
+pub use Rattle.pool_worker.specs.Account
+pub use Rattle.pool_worker.specs.Best
+pub use Rattle.pool_worker.specs.Goals
+pub use Rattle.pool_worker.specs.Name
+pub use Rattle.pool_worker.specs.Pieces
+pub use Rattle.pool_worker.specs.Report
+pub use Rattle.pool_worker.specs.Task
+pub use Rattle.pool_worker.specs.Tasks
+pub use Rattle.pool_worker.specs.Work
+pub use Rattle.pool_worker.specs.declared.aims
+pub use Rattle.pool_worker.specs.declared.report
+pub use Rattle.pool_worker.specs.piece
+pub use Rattle.tree_gathering.specs.Gathering
+pub use Rattle.tree_gathering.specs.Trees

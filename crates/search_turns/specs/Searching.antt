@@ -2,9 +2,9 @@
 use Rattle.std.specs.Prelude.{◌≡◌, ℕ, ◌+◌, ◌<◌, List, ◌∷◌, ◌++◌, map, length, All, Option, None, Some, IsPermutation}
 use Rattle.ttp_model.specs.declared.plan.Plan.{Plan}
 use Rattle.ttp_model.specs.Instance.{Instance}
-use Rattle.subtree_tasks.specs.declared.piece.Piece.{Piece}
-use Rattle.subtree_tasks.specs.Name.{Name}
-use Rattle.subtree_tasks.specs.Task.{Task, IsTask, root_task}
+use Rattle.pool_worker.specs.piece.Piece.{Piece}
+use Rattle.pool_worker.specs.Name.{Name}
+use Rattle.pool_worker.specs.Task.{Task, IsTask, root_task}
 use Rattle.pool_worker.specs.Best.{IsPlanFound}
 use Rattle.pool_worker.specs.declared.aims.Aims.{Aims}
 use Rattle.pool_worker.specs.Goals.{goal_of}

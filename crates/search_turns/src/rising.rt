@@ -1,10 +1,10 @@
 //! Which task is worked next, where the bound of a search is to rise?
 
 ghost use Rattle.std.specs.Prelude.{◌≡◌, All};
-ghost use Rattle.subtree_tasks.specs.Task.{IsTask};
-ghost use Rattle.branch_tree.specs.Workbench.{IsWorkbenchOf};
+ghost use Rattle.pool_worker.specs.Task.{IsTask};
+ghost use Rattle.pool_worker.specs.Workbench.{IsWorkbenchOf};
 
-use branch_tree::{Task, Workbench, is_closed_below, root_bound};
+use pool_worker::{Task, Workbench, is_closed_below, root_bound};
 use std::alloc::Global;
 use ttp_model::{Instance, MemoryFault};
 

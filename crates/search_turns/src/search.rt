@@ -2,16 +2,15 @@
 
 ghost use Rattle.std.specs.Prelude.{◌≡◌, ◌≤◌, ◌<◌, ◌+◌, ◌++◌, All, OnOk, cond, length, vec_len, vec_capacity};
 ghost use Rattle.ttp_model.specs.declared.limits.TheConstants.{MOST_NODES};
-ghost use Rattle.subtree_tasks.specs.Task.{IsTask};
-ghost use Rattle.branch_tree.specs.Workbench.{IsWorkbenchOf};
+ghost use Rattle.pool_worker.specs.Task.{IsTask};
+ghost use Rattle.pool_worker.specs.Workbench.{IsWorkbenchOf};
 ghost use Rattle.pool_worker.specs.declared.aims.Aims.{Aims};
 ghost use Rattle.search_turns.specs.Searching.{aim_of, limit_of, IsFound, IsWorkedOut, IsSearching};
 
 use crate::outcome::Why;
 use crate::rising::{Order, Rising};
-use branch_tree::{Piece, Task, Workbench, Worked, work_on};
 use certificate::{Branch, Node};
-use pool_worker::{Aims, Gate, goal_of};
+use pool_worker::{Aims, Gate, Piece, Task, Workbench, Worked, goal_of, work_on};
 use std::alloc::Global;
 use ttp_model::{Instance, MOST_NODES, MemoryFault, Plan};
 

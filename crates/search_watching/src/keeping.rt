@@ -6,9 +6,8 @@ ghost use Rattle.ttp_model.specs.Plans.{IsValid};
 ghost use Rattle.search_watching.specs.Kept.{kept_end, IsPlanText};
 
 use crate::progress::Follower;
-use branch_tree::Name;
 use command_streams::{End, Fault, Sink};
-use planner::Gate;
+use planner::{Gate, Name};
 use std::alloc::Global;
 use std::sync::atomic::{AtomicBool, Ordering};
 use std::sync::{Mutex, Wait};

@@ -4,8 +4,7 @@ ghost use Rattle.std.specs.Prelude.{◌≡◌};
 ghost use Rattle.search_watching.specs.Patience.{is_enough};
 
 use crate::progress::Follower;
-use branch_tree::Name;
-use planner::Gate;
+use planner::{Gate, Name};
 use std::alloc::Global;
 use std::rt::Clock;
 use std::sync::atomic::{AtomicU64, Ordering};

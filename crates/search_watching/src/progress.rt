@@ -1,7 +1,6 @@
 //! How far is a search?
 
-use branch_tree::{Name, root_bound};
-use planner::{FreeGate, Gate};
+use planner::{FreeGate, Gate, Name, root_bound};
 use std::alloc::{AllocError, Global};
 use std::fmt;
 use std::rt::Clock;

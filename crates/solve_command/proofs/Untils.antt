@@ -9,7 +9,7 @@ use Rattle.planner.specs.outcome.Outcome.TheVariants as answer
 use Rattle.planner.specs.outcome.Why.{Why}
 use Rattle.planner.specs.outcome.Why.TheVariants as why
 use Rattle.planner.specs.Answers.{IsCause, IsOutcome}
-use Rattle.search_turns.specs.Ends.{IsNear}
+use Rattle.planner.specs.Ends.{IsNear}
 use Rattle.search_watching.specs.Patience.{is_enough, IsEnough}
 use Rattle.solve_command.specs.Solved.{why_word}
 

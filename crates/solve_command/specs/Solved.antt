@@ -14,7 +14,7 @@ use Rattle.planner.specs.outcome.SolveFault.{SolveFault}
 use Rattle.planner.specs.outcome.SolveFault.TheVariants as solving
 use Rattle.planner.specs.Answers as answers
 use Rattle.solve_command.specs.declared.solve.Solved.{Solved}
-use Rattle.search_turns.specs.Searching.{limit_of}
+use Rattle.planner.specs.Searching.{limit_of}
 use Rattle.search_watching.specs.Patience.{is_enough}
 use Rattle.plan_commands.specs.declared.verdict.Verified.{Verified}
 use Rattle.plan_commands.specs.Verdicts.{HasValidPlan, IsRefused, IsVerified}

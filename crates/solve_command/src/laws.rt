@@ -8,7 +8,7 @@ ghost use Rattle.planner.specs.outcome.Options.{Options};
 ghost use Rattle.planner.specs.outcome.Outcome.TheVariants.{Stopped};
 ghost use Rattle.planner.specs.outcome.Why.{Why};
 ghost use Rattle.planner.specs.Answers.{IsOutcome};
-ghost use Rattle.search_turns.specs.Ends.{IsNear};
+ghost use Rattle.planner.specs.Ends.{IsNear};
 ghost use Rattle.search_watching.specs.Patience.{is_enough, IsEnough};
 ghost use Rattle.solve_command.specs.Solved.{why_word};
 

@@ -9,3 +9,4 @@ mod waiting;
 mod wakes;
 
 pub use agenda::Agenda;
+pub use needed_steps::{Fewest, Found, Log, Marked, Marks, Written};

@@ -21,12 +21,12 @@ use Rattle.tt_choice.specs.Extremes.{start_most, end_least, cap_most}
 use Rattle.tt_choice.proofs.Exact.{start_most_is_most, end_least_is_least, cap_most_is_most}
 use Rattle.tt_choice.proofs.Extend.{from_parts, order_of}
 use Rattle.ttp_model.proofs.Totals.{total_le, total_same}
-use Rattle.sought_plans.specs.Known.{Known, first_facts, es_of, lo_of as known_lo, top_of}
+use Rattle.tt_infer.specs.Known.{Known, first_facts, es_of, lo_of as known_lo, top_of}
 use Rattle.tt_infer.specs.Facts.{Facts, AreFacts}
-use Rattle.sought_plans.specs.Conclusions.{NothingLeft}
-use Rattle.sought_plans.specs.Premises.{Receives, least_end, bytes_within, bytes_copied, bytes_counted, is_fixed_on}
-use Rattle.sought_plans.proofs.Channels.{total_copied_alone}
-use Rattle.sought_plans.specs.Known.{Fits}
+use Rattle.tt_infer.specs.Conclusions.{NothingLeft}
+use Rattle.tt_infer.specs.Premises.{Receives, least_end, bytes_within, bytes_copied, bytes_counted, is_fixed_on}
+use Rattle.tt_infer.proofs.Channels.{total_copied_alone}
+use Rattle.tt_infer.specs.Known.{Fits}
 use Rattle.tt_infer.proofs.FirstFacts.{first_facts_fit}
 use Rattle.tt_infer.proofs.Sharper.{IsSharper, IsSharper-step}
 use Rattle.tt_infer.proofs.Sound.{Fits-step}

@@ -12,7 +12,7 @@ use Rattle.ttp_model.specs.declared.step.Step.{Step}
 use Rattle.ttp_model.specs.Instance.{Instance}
 use Rattle.ttp_model.specs.Rules.{IsInstance}
 use Rattle.tt_choice.specs.Choice.{Choice, IsChoice}
-use Rattle.sought_plans.specs.Known.{Known, Fits, first_facts}
+use Rattle.tt_infer.specs.Known.{Known, Fits, first_facts}
 use Rattle.tt_infer.specs.Facts.{Facts}
 use Rattle.tt_infer.specs.Table.{IsLawful}
 use Rattle.tt_infer.proofs.FirstFacts.{first_facts_fit}

@@ -15,10 +15,10 @@ use Rattle.std.proofs.lemmas.Grind.{get_or_default_zero}
 use Rattle.std.proofs.Common.{Option, None, Some}
 use Rattle.tt_choice.specs.Choice.{Choice, IsOption, fixed_cap}
 use Rattle.tt_choice.specs.Extremes.{least_option, dur_least}
-use Rattle.sought_plans.specs.Known.{Known, es_of, le_of, first_facts}
-use Rattle.sought_plans.specs.Conclusions.{Conclusion, StartsFrom, EndsUntil, NothingLeft, sharpened, capped}
+use Rattle.tt_infer.specs.Known.{Known, es_of, le_of, first_facts}
+use Rattle.tt_infer.specs.Conclusions.{Conclusion, StartsFrom, EndsUntil, NothingLeft, sharpened, capped}
 use Rattle.tt_infer.specs.Facts.{Facts, AreFacts}
-use Rattle.sought_plans.specs.Premises.{Receives, least_end}
+use Rattle.tt_infer.specs.Premises.{Receives, least_end}
 use Rattle.tt_infer.specs.Table.{rule}
 use Rattle.step_logs.specs.Journal.{Journal, Advances, SharpensNothing}
 use Rattle.step_logs.specs.Required.{HasChainSteps}

@@ -12,7 +12,7 @@ use Rattle.tt_choice.specs.Branches.{root_choice}
 use Rattle.tt_choice.specs.Decisions.{choice_after, IsOpenDecision, chosen}
 use Rattle.tt_choice.proofs.Decisions.{after_all-more, open-more}
 use Rattle.tt_choice.proofs.Trail.{IsChoice-keeping, bare-same, none_kept-after_all}
-use Rattle.sought_plans.specs.Known.{first_facts}
+use Rattle.tt_infer.specs.Known.{first_facts}
 use Rattle.tt_infer.specs.Facts.{Facts, AreFacts, after}
 use Rattle.tt_infer.specs.Leaves.{LeadSharply, ClosesSharply}
 use Rattle.step_logs.specs.Journal.{Journal, Advances}

@@ -2,7 +2,7 @@
 use Rattle.std.specs.Prelude.{◌≡◌, ℕ, ◌+◌, ◌-◌, ◌<◌, List, ◌++◌, sum_by, Bool, if◌then◌else◌, IsFalse}
 use Rattle.ttp_model.specs.declared.step.Step.{Step}
 use Rattle.ttp_model.specs.Instance.{Instance}
-use Rattle.sought_plans.specs.Known.{Known}
+use Rattle.tt_infer.specs.Known.{Known}
 use Rattle.tt_infer.specs.Facts.{Facts, after}
 use Rattle.tt_infer.specs.Table.{IsLawful}
 use Rattle.tt_infer.specs.Leaves.{LeadSharply}

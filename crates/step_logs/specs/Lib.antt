@@ -6,7 +6,7 @@ pub use Rattle.ttp_model.specs.Instance
 pub use Rattle.ttp_model.specs.Rules
 pub use Rattle.ttp_model.specs.Chains
 pub use Rattle.tt_choice.specs.Choice
-pub use Rattle.sought_plans.specs.Known
+pub use Rattle.tt_infer.specs.Known
 pub use Rattle.tt_infer.specs.Facts
 pub use Rattle.tt_infer.specs.Leaves
 pub use Rattle.step_reads.specs.Targets

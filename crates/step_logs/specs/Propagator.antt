@@ -9,7 +9,7 @@ use Rattle.tt_choice.specs.declared.decision.Decision.{Decision}
 use Rattle.tt_choice.specs.Choice.{Choice, IsChoice, IsComplete}
 use Rattle.tt_choice.specs.Branches.{root_choice, order_pair}
 use Rattle.tt_choice.specs.Decisions.{AreOpenDecisions, chosen}
-use Rattle.sought_plans.specs.Known.{first_facts}
+use Rattle.tt_infer.specs.Known.{first_facts}
 use Rattle.tt_infer.specs.Facts.{Facts}
 use Rattle.step_logs.specs.Journal.{Journal, Advances}
 use Rattle.tt_infer.specs.Leaves.{LeadSharply}

@@ -4,7 +4,7 @@ use Rattle.ttp_model.specs.declared.step.Step.{Step}
 use Rattle.ttp_model.specs.declared.step.Step.TheVariants.{EsRelease, EsLink, EsBefore, EsArrive, EsMessage, LeOwn, LeSend, XWindow, XRound, XFrames, XChannel}
 use Rattle.ttp_model.specs.Instance.{Instance, source_of}
 use Rattle.tt_choice.specs.Choice.{Choice, is_before, least_round}
-use Rattle.sought_plans.specs.Premises.{Receives}
+use Rattle.tt_infer.specs.Premises.{Receives}
 
 -- what is in a list stays in it
 abbrev pub KeepsSteps : List Step → List Step → Type 0

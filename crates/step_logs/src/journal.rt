@@ -4,17 +4,17 @@ ghost use Rattle.std.specs.Prelude.{◌≡◌, ◌<◌, ◌++◌, [], All, IfOk,
 ghost use Rattle.tt_choice.specs.Choice.{IsChoice};
 ghost use Rattle.tt_choice.specs.Branches.{IsUnorderedPair, order_pair};
 ghost use Rattle.tt_choice.specs.Decisions.{choice_after, IsOpenDecision};
-ghost use Rattle.sought_plans.specs.Known.{first_facts};
-ghost use Rattle.sought_plans.specs.Conclusions.{GoesFirst, sharpened};
+ghost use Rattle.tt_infer.specs.Known.{first_facts};
+ghost use Rattle.tt_infer.specs.Conclusions.{GoesFirst, sharpened};
 ghost use Rattle.tt_infer.specs.Facts.{after};
 ghost use Rattle.tt_infer.specs.Table.{target};
 ghost use Rattle.step_reads.specs.Targets.{known_value};
 ghost use Rattle.step_logs.specs.Journal.{Advances, Sharpens, SharpensNothing, slack_of};
 
 use crate::copies::{push_copies, push_copy};
-use needed_steps::Written;
 use std::alloc::Global;
 use std::marker::Model;
+use step_agenda::Written;
 use step_reads::value;
 use tt_choice::{Choice, Decision};
 use tt_infer::{Fact, Facts, target};

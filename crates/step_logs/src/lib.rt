@@ -17,3 +17,4 @@ pub use standstill::reach;
 pub use step_agenda::Agenda;
 pub use supposition::Supposition;
 pub use trim::closed_leaf;
+pub use tt_infer::Facts;

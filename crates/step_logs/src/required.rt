@@ -4,7 +4,7 @@ ghost use Rattle.std.specs.Prelude.{◌≡◌, ℕ, ◌+◌, ◌<◌, ◌^◌, C
 ghost use Rattle.ttp_model.specs.declared.step.Step.{Step};
 ghost use Rattle.ttp_model.specs.Instance.{message_at};
 ghost use Rattle.tt_choice.specs.Choice.{IsChoice, IsComplete, is_before};
-ghost use Rattle.sought_plans.specs.Premises.{Receives};
+ghost use Rattle.tt_infer.specs.Premises.{Receives};
 ghost use Rattle.step_logs.specs.Required.{KeepsSteps, HasProcessSteps, HasReceiverSteps, HasChainSteps, HasFrameSteps, HasRoundSteps, HasCompleteSteps};
 
 use crate::copies::add;

@@ -4,7 +4,7 @@ ghost use Rattle.std.specs.Prelude.{◌≡◌, ℕ, ◌<◌, OnOk, IsFalse};
 ghost use Rattle.ttp_model.specs.declared.plan.Plan.{Plan};
 ghost use Rattle.ttp_model.specs.Chains.{IsPathBound};
 ghost use Rattle.tt_choice.specs.Choice.{IsChoice, IsComplete};
-ghost use Rattle.sought_plans.specs.Known.{first_facts};
+ghost use Rattle.tt_infer.specs.Known.{first_facts};
 ghost use Rattle.step_logs.specs.Journal.{Journal, Advances};
 ghost use Rattle.step_logs.specs.PlansBelow.{IsPlanBelow};
 ghost use Rattle.step_logs.specs.Propagator.{Begins};

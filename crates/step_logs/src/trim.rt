@@ -8,8 +8,8 @@ ghost use Rattle.step_logs.specs.Propagator.{FollowsFrom};
 
 use crate::copies::all_copied;
 use crate::journal::Journal;
-use needed_steps::{Fewest, Found, Log, Marked, Marks, Written};
 use std::alloc::Global;
+use step_agenda::{Fewest, Found, Log, Marked, Marks, Written};
 use tt_choice::Choice;
 use tt_infer::Facts;
 use ttp_model::{Instance, Leaf, MemoryFault, Step, Steps};

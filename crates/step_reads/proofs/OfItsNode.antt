@@ -5,9 +5,9 @@ use Rattle.std.proofs.lemmas.Bool.Decides.{eqb_tells}
 use Rattle.ttp_model.specs.Instance.{Instance, node_of, source_of}
 use Rattle.ttp_model.specs.Network.{is_on, is_message_of, is_received_by}
 use Rattle.tt_choice.specs.Choice.{Choice}
-use Rattle.sought_plans.specs.Known.{Known, es_of, le_of, lo_of, top_of}
-use Rattle.sought_plans.specs.Premises.{counts_on, sent_within}
-use Rattle.sought_plans.proofs.Elsewhere.{among_received}
+use Rattle.tt_infer.specs.Known.{Known, es_of, le_of, lo_of, top_of}
+use Rattle.tt_infer.specs.Premises.{counts_on, sent_within}
+use Rattle.tt_infer.proofs.Elsewhere.{among_received}
 use Rattle.step_reads.specs.Added.{BoundsCounted, BoundsRunWithin, BoundsSendingWithin, KeepsOtherOut, TellsArrival, TellsRivalWait}
 use Rattle.tt_infer.specs.declared.fact.Fact.{Fact}
 

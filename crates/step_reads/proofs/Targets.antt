@@ -4,8 +4,8 @@ use Rattle.std.proofs.lemmas.List.{set-get_or}
 use Rattle.ttp_model.specs.Instance.{Instance}
 use Rattle.tt_choice.specs.Precedence.{place_in, put_before}
 use Rattle.tt_choice.proofs.Before.{put_same, test_of}
-use Rattle.sought_plans.specs.Known.{Known, Fits, bef_of}
-use Rattle.sought_plans.specs.Conclusions.{Conclusion, StartsFrom, EndsUntil, SentFrom, SentBefore, GoesFirst, NothingLeft, IsAbout, sharpened}
+use Rattle.tt_infer.specs.Known.{Known, Fits, bef_of}
+use Rattle.tt_infer.specs.Conclusions.{Conclusion, StartsFrom, EndsUntil, SentFrom, SentBefore, GoesFirst, NothingLeft, IsAbout, sharpened}
 use Rattle.step_reads.specs.Targets.{fact_of, known_value}
 
 -- a test that counts as 1 holds

@@ -3,9 +3,9 @@ use Rattle.std.specs.Prelude.{◌≡◌, ℕ, ◌+◌, ◌⊎◌, List, slice_in
 use Rattle.ttp_model.specs.Instance.{Instance, source_of}
 use Rattle.ttp_model.specs.Graph.{Leads}
 use Rattle.tt_choice.specs.Choice.{Choice}
-use Rattle.sought_plans.specs.Known.{Known}
-use Rattle.sought_plans.specs.Premises.{runs_within, sent_within}
-use Rattle.sought_plans.specs.Dominance.{IsSentTo}
+use Rattle.tt_infer.specs.Known.{Known}
+use Rattle.tt_infer.specs.Premises.{runs_within, sent_within}
+use Rattle.tt_infer.specs.Dominance.{IsSentTo}
 use Rattle.tt_infer.specs.Reads.{BoundsRun, BoundsSending, counted_within, IsRival, TellsWait, IsOtherOf, KeepsOut, TellsApart}
 use Rattle.tt_infer.specs.declared.fact.Fact.{Fact}
 use Rattle.tt_infer.specs.declared.fact.Fact.TheVariants.{LateRound, Order}

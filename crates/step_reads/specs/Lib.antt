@@ -5,7 +5,7 @@ pub mod Uses
 pub mod RuledOut
 pub use Rattle.ttp_model.specs.Instance
 pub use Rattle.tt_choice.specs.Choice
-pub use Rattle.sought_plans.specs.Known
+pub use Rattle.tt_infer.specs.Known
 pub use Rattle.tt_infer.specs.Facts
 pub use Rattle.tt_infer.specs.Table
 pub use Rattle.tt_infer.specs.Reads

@@ -6,7 +6,7 @@ use Rattle.ttp_model.specs.Instance.{Instance}
 use Rattle.tt_choice.specs.Branches.{IsOpen, children}
 use Rattle.tt_choice.specs.Decisions.{chosen, decision_of}
 use Rattle.tt_choice.specs.Kept.{Marked, keep, drop, all_of, HasPlaces, places_kept}
-use Rattle.sought_plans.specs.Known.{first_facts}
+use Rattle.tt_infer.specs.Known.{first_facts}
 use Rattle.tt_infer.specs.Leaves.{ClosesSharply}
 use Rattle.step_reads.specs.Uses.{UseKept}
 

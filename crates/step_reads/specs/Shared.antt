@@ -3,7 +3,7 @@ use Rattle.std.specs.Prelude.{◌≡◌, ℕ, ◌⊎◌, List, [], ◌∷◌}
 use Rattle.ttp_model.specs.declared.step.Step.{Step}
 use Rattle.ttp_model.specs.Instance.{Instance}
 use Rattle.tt_choice.specs.Choice.{Choice}
-use Rattle.sought_plans.specs.Known.{Known, first_facts}
+use Rattle.tt_infer.specs.Known.{Known, first_facts}
 use Rattle.tt_infer.specs.Table.{IsLawful}
 use Rattle.step_reads.specs.Targets.{target}
 use Rattle.tt_infer.specs.Reads.{AgreeOn, GivesAlike, ReadsFact, ReadsLimit}

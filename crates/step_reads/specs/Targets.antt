@@ -1,6 +1,6 @@
 -- How far a fact is known.
 use Rattle.std.specs.Prelude.{ℕ, if◌then◌else◌}
-use Rattle.sought_plans.specs.Known.{Known, es_of, le_of, lo_of, top_of, bef_of}
+use Rattle.tt_infer.specs.Known.{Known, es_of, le_of, lo_of, top_of, bef_of}
 use Rattle.tt_infer.specs.declared.fact.Fact.{Fact}
 pub use Rattle.tt_infer.specs.Table.{fact_of, target}
 use Rattle.tt_infer.specs.declared.fact.Fact.TheVariants.{Start, End, FirstRound, LateRound, Order, Closed}

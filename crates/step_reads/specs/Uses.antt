@@ -7,7 +7,7 @@ use Rattle.ttp_model.specs.Plans.{is_on}
 use Rattle.tt_choice.specs.Decisions.{chosen}
 use Rattle.tt_choice.specs.Extremes.{place_of}
 use Rattle.tt_choice.specs.Kept.{Marked, all_of, kept_of, last_kept, sets_least, sets_greatest, sets_order, fixes_above, fixes_below, fixes_channel}
-use Rattle.sought_plans.specs.Known.{Known}
+use Rattle.tt_infer.specs.Known.{Known}
 use Rattle.tt_infer.specs.Table.{IsLawful}
 use Rattle.tt_infer.specs.Reads.{ReadsFact, ReadsLimit}
 use Rattle.step_reads.specs.Shared.{IsWritten}

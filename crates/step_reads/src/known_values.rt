@@ -1,7 +1,7 @@
 //! How far is a fact known?
 
 ghost use Rattle.std.specs.Prelude.{◌≡◌};
-ghost use Rattle.sought_plans.specs.Known.{es_of, le_of, lo_of, top_of};
+ghost use Rattle.tt_infer.specs.Known.{es_of, le_of, lo_of, top_of};
 ghost use Rattle.step_reads.specs.Targets.{known_value};
 
 use tt_infer::{Fact, Facts};

@@ -10,3 +10,4 @@ pub mod SharedLists
 pub mod Stretches
 pub mod StretchOrder
 pub use Rattle.path_bounds.proofs.RuledOut
+pub use Rattle.path_bounds.proofs.Complete

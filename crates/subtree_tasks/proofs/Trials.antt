@@ -6,7 +6,7 @@ use Rattle.ttp_model.specs.declared.step.Step.{Step}
 use Rattle.ttp_model.specs.Instance.{Instance}
 use Rattle.ttp_model.specs.Chains.{IsPathBound}
 use Rattle.tt_choice.specs.Choice.{Choice, IsComplete}
-use Rattle.tt_infer.specs.Facts.{Facts}
+use Rattle.path_bounds.specs.Facts.{Facts}
 use Rattle.path_bounds.specs.declared.reached.Reached.{Reached}
 use Rattle.path_bounds.specs.declared.reached.Reached.TheVariants.{At}
 use Rattle.path_bounds.specs.Propagation.{Propagates, IsReached, IsClosed, FindsPlan}

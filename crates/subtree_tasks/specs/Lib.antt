@@ -5,3 +5,5 @@ pub mod Account
 pub mod Once
 pub mod Trials
 pub mod Stretches
+pub use Rattle.path_bounds.specs.PlansBelow
+pub use Rattle.path_bounds.specs.Propagator

@@ -4,7 +4,7 @@ use Rattle.std.specs.List.{flat_map}
 use Rattle.ttp_model.specs.Instance.{Instance}
 use Rattle.tt_choice.specs.Choice.{Choice}
 use Rattle.tt_choice.specs.Branches.{IsBranch, root_choice, child}
-use Rattle.tt_infer.specs.Leaves.{ClosesSharply}
+use Rattle.path_bounds.specs.Leaves.{ClosesSharply}
 use Rattle.certificate.specs.declared.node.Node.{Node}
 use Rattle.certificate.specs.declared.node.Node.TheVariants as node
 use Rattle.certificate.specs.Trees.{children}

@@ -6,8 +6,8 @@ use Rattle.ttp_model.specs.Instance.{Instance}
 use Rattle.ttp_model.specs.Chains.{IsPathBound}
 use Rattle.tt_choice.specs.Choice.{Choice, IsComplete}
 use Rattle.path_bounds.specs.PlansBelow.{IsPlanBelow}
-use Rattle.tt_infer.specs.Facts.{Facts}
-use Rattle.tt_infer.specs.Leaves.{ClosesSharply}
+use Rattle.path_bounds.specs.Facts.{Facts}
+use Rattle.path_bounds.specs.Leaves.{ClosesSharply}
 use Rattle.subtree_tasks.specs.declared.trial.Trial.{Trial}
 use Rattle.subtree_tasks.specs.declared.trial.Trial.TheVariants.{Closed, At}
 

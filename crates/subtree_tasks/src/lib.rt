@@ -13,6 +13,7 @@ mod trial;
 pub use children::child_tasks;
 pub use laws::{names_stand_once, one_choice_stands};
 pub use name::Name;
+pub use path_bounds::{Agenda, Propagator, best_goal, leaf_by};
 pub use piece::Piece;
 pub use task::Task;
 pub use trial::{Trial, tried};

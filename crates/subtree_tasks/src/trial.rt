@@ -4,10 +4,9 @@ ghost use Rattle.std.specs.Prelude.{IfOk};
 ghost use Rattle.tt_choice.specs.Choice.{IsChoice};
 ghost use Rattle.subtree_tasks.specs.Trials.{IsTrial};
 
-use path_bounds::{Agenda, Reached, closed_leaf, propagate};
+use path_bounds::{Agenda, Facts, Reached, closed_leaf, propagate};
 use std::alloc::Global;
 use tt_choice::Choice;
-use tt_infer::Facts;
 use ttp_model::{Instance, Leaf, MemoryFault};
 
 /// What propagation comes to.

@@ -35,3 +35,5 @@ pub mod Mirrored
 pub mod InsideExample
 pub mod OneMessageRules
 pub mod monotone
+pub use Rattle.sought_plans.proofs.Channels
+pub use Rattle.sought_plans.proofs.Elsewhere

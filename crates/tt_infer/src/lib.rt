@@ -26,6 +26,7 @@ pub use rules::{
     line_of, link_steps, message_closers, message_steps, pair_steps, process_closers,
     process_steps, reads, step_with, target, transfer_steps,
 };
+pub use sought_plans::{copies, counts_on, leads};
 pub use source::{Reads, Source};
 pub use worked::{
     messages_lead_on_the_first_channel, messages_of_two_channels_close, one_message_closes_at_9,

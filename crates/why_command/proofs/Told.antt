@@ -5,8 +5,8 @@ use Rattle.std.proofs.lemmas.List.{get_or-map, get_or_past, length-map, length-r
 use Rattle.std.proofs.lemmas.List.Elements.{All-weaker}
 use Rattle.ttp_model.specs.Instance.{Instance}
 use Rattle.ttp_model.specs.Rules.{IsInstance}
-use Rattle.planner.specs.outcome.Options.{Options}
-use Rattle.planner.proofs.AnswerVersions.{answer_allows}
+use Rattle.lateness.specs.outcome.Options.{Options}
+use Rattle.lateness.proofs.AnswerVersions.{answer_allows}
 use Rattle.kept_constraints.specs.declared.constraints.Constraint.{Constraint}
 use Rattle.kept_constraints.specs.declared.constraints.Constraint.TheVariants as one
 use Rattle.kept_constraints.specs.Constraints.{all_of, has_deadline, has_release, is_on_both, is_set, keeps}

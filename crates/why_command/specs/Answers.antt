@@ -5,9 +5,9 @@ use Rattle.ttp_model.specs.Instance.{Instance}
 use Rattle.instance_text.specs.Faults.{States}
 use Rattle.certificate.specs.Spelling.{SpellsCert}
 use Rattle.certificate.specs.Versions.{Allows}
-use Rattle.planner.specs.outcome.Options.{Options}
-use Rattle.planner.specs.outcome.SolveFault.{SolveFault}
-use Rattle.planner.specs.outcome.SolveFault.TheVariants as solving
+use Rattle.lateness.specs.outcome.Options.{Options}
+use Rattle.lateness.specs.outcome.SolveFault.{SolveFault}
+use Rattle.lateness.specs.outcome.SolveFault.TheVariants as solving
 use Rattle.kept_constraints.specs.Only.{only}
 use Rattle.conflicts.specs.Conflicts.{Answers}
 use Rattle.conflicts.specs.declared.conflict.Conflict.{Conflict}

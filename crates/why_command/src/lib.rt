@@ -7,6 +7,6 @@ mod why;
 mod words;
 
 pub use ending::{WhyEnd, report, status};
-pub use planner::Options;
+pub use lateness::Options;
 pub use texts::Wanted;
 pub use why::why_run;

@@ -3,8 +3,8 @@ use Rattle.std.proofs.Common.{◌≡◌, ℕ, IsFalse, arith, refl, ap, sym, ◌
 use Rattle.ttp_model.specs.Instance.{Instance}
 use Rattle.tt_choice.specs.Precedence.{put_before}
 use Rattle.tt_choice.specs.Choice.{ArePair}
-use Rattle.sought_plans.specs.Known.{Known, Fits, bef_of}
-use Rattle.sought_plans.specs.Conclusions.{Conclusion, StartsFrom, EndsUntil, SentFrom, SentBefore, GoesFirst, NothingLeft, sharpened}
+use Rattle.tt_infer.specs.Known.{Known, Fits, bef_of}
+use Rattle.tt_infer.specs.Conclusions.{Conclusion, StartsFrom, EndsUntil, SentFrom, SentBefore, GoesFirst, NothingLeft, sharpened}
 use Rattle.step_logs.proofs.one_order.Tables.{puts_commute, same_without}
 
 -- and p goes before q

@@ -11,7 +11,7 @@ use Rattle.tt_choice.specs.declared.decision.Decision.{Decision}
 use Rattle.tt_choice.specs.declared.decision.Decision.TheVariants.{Before}
 use Rattle.tt_choice.specs.Branches.{order_pair, IsUnorderedPair}
 use Rattle.tt_choice.specs.Decisions.{choice_after, IsOpenDecision}
-use Rattle.sought_plans.specs.Known.{Known, Fits, bef_of, first_facts}
+use Rattle.tt_infer.specs.Known.{Known, Fits, bef_of, first_facts}
 use Rattle.tt_infer.specs.Facts.{Facts, AreFacts}
 use Rattle.tt_infer.proofs.FirstFacts.{first_facts_fit}
 use Rattle.tt_infer.proofs.Sharper.{IsSharper-step}

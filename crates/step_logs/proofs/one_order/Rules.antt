@@ -11,7 +11,7 @@ use Rattle.tt_infer.specs.declared.fact.Fact.{Fact}
 use Rattle.tt_infer.specs.declared.fact.Fact.TheVariants.{Start, End, FirstRound, LateRound, Order, Closed}
 use Rattle.tt_infer.specs.declared.limit.Limit.{Limit}
 use Rattle.tt_infer.specs.declared.limit.Limit.TheVariants.{Goal, LeastSlot, GreatestSlot, LeastFrame, GreatestFrame, Place, Copies, Counted}
-use Rattle.sought_plans.specs.Known.{Known, Fits, bef_of}
+use Rattle.tt_infer.specs.Known.{Known, Fits, bef_of}
 use Rattle.tt_infer.specs.Table.{IsLawful}
 use Rattle.tt_infer.specs.Reads.{AgreeOn, AgreeOnReads, GivesAlike, ReadsFact}
 use Rattle.tt_infer.proofs.SameGiven.{gives_alike}

@@ -5,8 +5,8 @@ use Rattle.ttp_model.specs.Instance.{Instance}
 use Rattle.tt_choice.proofs.Before.{put_other, put_same}
 use Rattle.tt_infer.specs.declared.fact.Fact.{Fact}
 use Rattle.tt_infer.specs.declared.fact.Fact.TheVariants.{Start, End, FirstRound, LateRound, Order, Closed}
-use Rattle.sought_plans.specs.Known.{Known, Fits, es_of, le_of, lo_of, top_of, bef_of}
-use Rattle.sought_plans.specs.Conclusions.{Conclusion, StartsFrom, EndsUntil, SentFrom, SentBefore, GoesFirst, NothingLeft, IsAbout, sharpened, capped}
+use Rattle.tt_infer.specs.Known.{Known, Fits, es_of, le_of, lo_of, top_of, bef_of}
+use Rattle.tt_infer.specs.Conclusions.{Conclusion, StartsFrom, EndsUntil, SentFrom, SentBefore, GoesFirst, NothingLeft, IsAbout, sharpened, capped}
 use Rattle.tt_infer.specs.Reads.{AgreeOn}
 use Rattle.tt_infer.proofs.Keeps.{changed_here, changed_there}
 

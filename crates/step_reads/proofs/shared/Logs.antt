@@ -7,8 +7,8 @@ use Rattle.ttp_model.specs.Rules.{IsInstance}
 use Rattle.tt_choice.specs.Choice.{Choice, IsChoice}
 use Rattle.tt_choice.specs.Inside.{IsInside}
 use Rattle.tt_infer.specs.declared.fact.Fact.{Fact}
-use Rattle.sought_plans.specs.Known.{Known, Fits, first_facts}
-use Rattle.sought_plans.specs.Conclusions.{Conclusion, StartsFrom, EndsUntil, SentFrom, SentBefore, GoesFirst, NothingLeft, IsAbout, sharpened}
+use Rattle.tt_infer.specs.Known.{Known, Fits, first_facts}
+use Rattle.tt_infer.specs.Conclusions.{Conclusion, StartsFrom, EndsUntil, SentFrom, SentBefore, GoesFirst, NothingLeft, IsAbout, sharpened}
 use Rattle.tt_infer.specs.Sharper.{IsSharper}
 use Rattle.tt_infer.specs.Leaves.{LeadSharply, ClosesSharply}
 use Rattle.step_reads.specs.Targets.{fact_of, target}

@@ -17,7 +17,7 @@ use Rattle.tt_choice.proofs.Root.{IsChoice-root}
 use Rattle.tt_choice.proofs.kept.Wider.{IsIn-outside, inside_front}
 use Rattle.tt_choice.proofs.kept.Branches.{branch_kept, places_of, all_of-keep, all_of-drop, kept_of-keep, kept_of-drop, places-keep, places-drop}
 use Rattle.tt_choice.proofs.kept.Law.{ends}
-use Rattle.sought_plans.specs.Known.{Known, IsSought, first_facts}
+use Rattle.tt_infer.specs.Known.{Known, IsSought, first_facts}
 use Rattle.tt_infer.specs.Leaves.{Lead, LeadSharply, ClosesLeaf, ClosesSharply}
 use Rattle.step_reads.specs.RuledOut.{IsRuledOut}
 use Rattle.step_reads.specs.RuledOut.IsRuledOut.{by_leaf, by_children, by_one}

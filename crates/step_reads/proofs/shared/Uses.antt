@@ -22,9 +22,9 @@ use Rattle.tt_infer.specs.declared.fact.Fact.{Fact}
 use Rattle.tt_infer.specs.declared.fact.Fact.TheVariants.{Start, End, FirstRound, LateRound, Order, Closed}
 use Rattle.tt_infer.specs.declared.limit.Limit.{Limit}
 use Rattle.tt_infer.specs.declared.limit.Limit.TheVariants.{Goal, LeastSlot, GreatestSlot, LeastFrame, GreatestFrame, Place, Copies, Counted}
-use Rattle.sought_plans.specs.Known.{Known, first_facts, top_of}
-use Rattle.sought_plans.specs.Dominance.{StandsFirst}
-use Rattle.sought_plans.specs.Premises.{copies_of, is_fixed_on}
+use Rattle.tt_infer.specs.Known.{Known, first_facts, top_of}
+use Rattle.tt_infer.specs.Dominance.{StandsFirst}
+use Rattle.tt_infer.specs.Premises.{copies_of, is_fixed_on}
 use Rattle.tt_infer.specs.Leaves.{ClosesSharply}
 use Rattle.tt_infer.specs.Reads.{GivesAlike}
 use Rattle.step_reads.specs.Shared.{SayAlike, ReadShared}

@@ -3,8 +3,8 @@ use Rattle.std.proofs.Common.{◌≡◌, ◌≢◌, ℕ, ◌<◌, min, max, leng
 use Rattle.std.proofs.lemmas.Bool.{cases_lt, cases_Bool, both_ways, false≢true}
 use Rattle.ttp_model.specs.Instance.{Instance}
 use Rattle.tt_choice.proofs.Before.{put_same}
-use Rattle.sought_plans.specs.Known.{Known, Fits, es_of, le_of, lo_of, top_of, bef_of}
-use Rattle.sought_plans.specs.Conclusions.{Conclusion, StartsFrom, EndsUntil, SentFrom, SentBefore, GoesFirst, NothingLeft, IsAbout, sharpened, capped}
+use Rattle.tt_infer.specs.Known.{Known, Fits, es_of, le_of, lo_of, top_of, bef_of}
+use Rattle.tt_infer.specs.Conclusions.{Conclusion, StartsFrom, EndsUntil, SentFrom, SentBefore, GoesFirst, NothingLeft, IsAbout, sharpened, capped}
 use Rattle.tt_infer.specs.Sharper.{IsSharper}
 use Rattle.step_reads.specs.Targets.{fact_of}
 use Rattle.tt_infer.specs.Reads.{AgreeOn}

@@ -5,8 +5,7 @@ ghost use Rattle.tt_infer.specs.Reads.{IsKnownPair, OfSome};
 ghost use Rattle.step_reads.specs.Added.{AddsFacts, OrdersNext, OrdersPair};
 
 use crate::reads::added::add;
-use sought_plans::leads;
-use tt_infer::Fact;
+use tt_infer::{Fact, leads};
 use ttp_model::{Instance, MemoryFault};
 
 /// Adds that process `p` goes before `q`, where neither a link nor a message leads from one to the other.

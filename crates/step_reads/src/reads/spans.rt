@@ -2,13 +2,12 @@
 
 ghost use Rattle.std.specs.Prelude.{◌≡◌, ◌<◌, OnOk, length};
 ghost use Rattle.tt_infer.specs.Sources.{Runs, Frames, Halves};
-ghost use Rattle.sought_plans.specs.Premises.{runs_within, sent_within};
+ghost use Rattle.tt_infer.specs.Premises.{runs_within, sent_within};
 ghost use Rattle.tt_infer.specs.Reads.{BoundsRun, BoundsSending, IsFactOf, counted_within};
 ghost use Rattle.step_reads.specs.Added.{AddsFacts, BoundsCounted, BoundsRunWithin, BoundsSendingWithin};
 
 use crate::reads::added::{add, add_two};
-use sought_plans::counts_on;
-use tt_infer::{Fact, Facts};
+use tt_infer::{Fact, Facts, counts_on};
 use ttp_model::MemoryFault;
 
 /// Adds the latest end of process `p`, and its earliest start where it has to be after 0.

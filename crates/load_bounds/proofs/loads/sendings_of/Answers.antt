@@ -1,7 +1,7 @@
 -- One more message: the node sends it and it makes a demand, or another sends it.
 use Rattle.std.proofs.Common.{◌≡◌, ◌≢◌, ◌+◌, ◌<◌, ◌++◌, ◌∷◌, [], List, length, refl, arith, subst, sym, ap, ◌∙◌, length-append}
 use Rattle.ttp_model.specs.Instance.{Instance, message_at, source_of}
-use Rattle.sought_plans.specs.Premises.{copies}
+use Rattle.tt_infer.specs.Premises.{copies}
 use Rattle.tt_choice.specs.Choice.{Choice}
 use Rattle.load_bounds.specs.declared.demands.Demand.{Demand}
 use Rattle.load_bounds.specs.Gathered.{AreSendings}

@@ -1,7 +1,7 @@
 -- One more message: the node sends it on the channel and it makes a demand, or it counts there for nothing.
 use Rattle.std.proofs.Common.{◌≡◌, ◌+◌, ◌<◌, ◌++◌, ◌∷◌, [], List, length, refl, arith, subst, sym, ap, ◌∙◌, length-append}
 use Rattle.ttp_model.specs.Instance.{Instance, message_at, source_of}
-use Rattle.sought_plans.specs.Premises.{counts_on}
+use Rattle.tt_infer.specs.Premises.{counts_on}
 use Rattle.tt_choice.specs.Choice.{Choice}
 use Rattle.load_bounds.specs.declared.demands.Demand.{Demand}
 use Rattle.load_bounds.specs.Gathered.{AreSendingsOn}

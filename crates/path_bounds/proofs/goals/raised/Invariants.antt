@@ -1,5 +1,5 @@
 use Rattle.std.proofs.Common.{◌^◌, ◌-◌, ◌<◌, ◌≤◌, length}
-use Rattle.tt_infer.specs.Leaves.{ClosesSharply}
+use Rattle.step_logs.specs.Leaves.{ClosesSharply}
 use Rattle.path_bounds.proofs.goals.raised.Given as goal
 
 abbrev pub invariant-halving : goal.invariant-halving

@@ -1,6 +1,6 @@
 use Rattle.std.proofs.Common.{arith, refl, ap, sym, ◌∙◌, Ok, IsFalse}
 use Rattle.std.proofs.lemmas.Result.{err_from_is_err_and}
-use Rattle.tt_infer.specs.Facts.{Facts}
+use Rattle.step_logs.specs.Facts.{Facts}
 use Rattle.path_bounds.specs.declared.reached.Reached.TheVariants.{Closed, At}
 use Rattle.step_logs.specs.Journal.{Journal}
 use Rattle.path_bounds.proofs.Appended.{appended_of, about_of}

@@ -1,7 +1,7 @@
 use Rattle.std.proofs.Common.{All, [], ◌∷◌, ◌++◌, refl, ◌∙◌, subst}
 use Rattle.std.proofs.lemmas.List.Elements.{All-tail}
 use Rattle.std.proofs.lemmas.List.Sorted.{All-permutation, IsPermutation-append_comm}
-use Rattle.subtree_tasks.specs.Task.{Task, IsTask}
+use Rattle.branch_tree.specs.Task.{Task, IsTask}
 use Rattle.steal_pool.specs.Hand.{pushed}
 use Rattle.pool_worker.proofs.Pushes.{none_pushed, one_pushed, pushed_of}
 use Rattle.pool_worker.proofs.Turns.{same_hand_still}

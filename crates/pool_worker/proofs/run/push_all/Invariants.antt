@@ -1,6 +1,6 @@
 use Rattle.std.proofs.Common.{◌≡◌, vec_len}
 use Rattle.std.specs.Prelude.{All}
-use Rattle.subtree_tasks.specs.Task.{IsTask}
+use Rattle.branch_tree.specs.Task.{IsTask}
 use Rattle.steal_pool.specs.Hand.{pushed, taken, IsSameHand}
 use Rattle.pool_worker.specs.Run.{Pushes}
 use Rattle.pool_worker.proofs.run.push_all.Given as goal

@@ -1,7 +1,7 @@
 use Rattle.std.proofs.Common.{List, Contains, IsFalse, ap, sym, subst, ◌∙◌}
 use Rattle.ttp_model.specs.declared.step.Step.{Step}
 use Rattle.ttp_model.specs.declared.step.Step.TheVariants.{UsSettled}
-use Rattle.sought_plans.specs.Known.{bef_of}
+use Rattle.tt_infer.specs.Known.{bef_of}
 use Rattle.tt_infer.specs.Facts.{Facts, AreFacts}
 use Rattle.step_logs.proofs.one_order.Logs.{carried_ordered}
 use Rattle.step_logs.proofs.propagator.carried_over.Goals as goal

@@ -1,9 +1,9 @@
 use Rattle.std.proofs.Common.{rules, arith, ℕ, ◌≡◌, ◌≤◌, ◌++◌, All, List, [], ◌∷◌, length, inl, inr, refl, sym, ap, ◌∙◌, subst}
 use Rattle.std.proofs.lemmas.List.Elements.{All-nil, All-head}
-use Rattle.subtree_tasks.specs.Task.{Task, choice_of, IsTask}
+use Rattle.branch_tree.specs.Task.{Task, choice_of, IsTask}
 use Rattle.branch_tree.specs.Work.{IsWorked, IsSplit, IsFind, ClosesAt}
-use Rattle.subtree_tasks.proofs.ChildTasks.{few_children}
-use Rattle.subtree_tasks.proofs.Chosen.{task_choice}
+use Rattle.branch_tree.proofs.ChildTasks.{few_children}
+use Rattle.branch_tree.proofs.Chosen.{task_choice}
 use Rattle.certificate.specs.Branch.{branch_of}
 use Rattle.incumbent.specs.Watch.{offers}
 use Rattle.steal_pool.specs.Hand.{pushed}

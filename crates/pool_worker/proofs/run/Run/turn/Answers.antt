@@ -1,6 +1,6 @@
 use Rattle.std.proofs.Common.{rules, ◌≡◌, ◌++◌, List, [], ◌∷◌, ⊎_elim, refl, sym, ap, ◌∙◌, subst}
-use Rattle.subtree_tasks.specs.declared.piece.Piece.{Piece}
-use Rattle.subtree_tasks.specs.Task.{Task, IsTask}
+use Rattle.branch_tree.specs.piece.Piece.{Piece}
+use Rattle.branch_tree.specs.Task.{Task, IsTask}
 use Rattle.ttp_model.specs.Instance.{Instance}
 use Rattle.std.proofs.lemmas.List.Elements.{All-nil}
 use Rattle.steal_pool.specs.Hand.{pushed}

@@ -1,4 +1,4 @@
-use Rattle.branch_tree.specs.Workbench.{IsWorkbenchOf}
+use Rattle.pool_worker.specs.Workbench.{IsWorkbenchOf}
 use Rattle.search_turns.proofs.rising.Rising.newest_open.Given as goal
 
 abbrev pub invariant-loop-at : goal.invariant-loop-at

@@ -1,4 +1,4 @@
-use Rattle.branch_tree.specs.Workbench.{IsWorkbenchOf}
+use Rattle.pool_worker.specs.Workbench.{IsWorkbenchOf}
 use Rattle.search_turns.proofs.rising.Rising.open_task.Given as goal
 
 abbrev pub invariant-loop-step : goal.invariant-loop-step

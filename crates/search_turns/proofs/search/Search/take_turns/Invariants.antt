@@ -1,5 +1,5 @@
 use Rattle.std.proofs.Common.{◌≡◌, ◌≤◌, ◌+◌, length}
-use Rattle.branch_tree.specs.Workbench.{IsWorkbenchOf}
+use Rattle.pool_worker.specs.Workbench.{IsWorkbenchOf}
 use Rattle.search_turns.specs.Searching.{limit_of, IsSearching}
 use Rattle.search_turns.proofs.search.Search.take_turns.Given as goal
 

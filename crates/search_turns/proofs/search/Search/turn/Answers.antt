@@ -3,10 +3,10 @@ use Rattle.std.proofs.lemmas.List.{append-nil}
 use Rattle.std.proofs.lemmas.List.Elements.{All-nil, All-contains}
 use Rattle.ttp_model.specs.declared.limits.TheConstants.{MOST_NODES}
 use Rattle.ttp_model.specs.declared.plan.Plan.{Plan}
-use Rattle.subtree_tasks.specs.Task.{Task, choice_of, IsTask}
-use Rattle.branch_tree.specs.Work.{IsWorked, IsSplit, IsFind, ClosesAt}
-use Rattle.subtree_tasks.proofs.ChildTasks.{few_children}
-use Rattle.subtree_tasks.proofs.Chosen.{task_choice}
+use Rattle.pool_worker.specs.Task.{Task, choice_of, IsTask}
+use Rattle.pool_worker.specs.Work.{IsWorked, IsSplit, IsFind, ClosesAt}
+use Rattle.pool_worker.proofs.ChildTasks.{few_children}
+use Rattle.pool_worker.proofs.Chosen.{task_choice}
 use Rattle.certificate.specs.declared.node.Node.TheVariants as node
 use Rattle.certificate.specs.Branch.{branch_of}
 use Rattle.pool_worker.specs.Tasks.{Turn}

@@ -1,6 +1,6 @@
 use Rattle.std.proofs.Common.{◌≡◌, ◌⊎◌, length, ap, arith}
 use Rattle.std.proofs.lemmas.Result.{on_ok_weaker}
-use Rattle.sought_plans.specs.Premises.{sender_of}
+use Rattle.tt_infer.specs.Premises.{sender_of}
 use Rattle.tt_infer.specs.Reads.{OfSome}
 use Rattle.step_reads.specs.Added.{KeepsOtherOut}
 use Rattle.tt_infer.specs.declared.fact.Fact.TheVariants.{End, FirstRound}

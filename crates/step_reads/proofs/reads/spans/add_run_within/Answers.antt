@@ -1,7 +1,7 @@
 use Rattle.std.proofs.Common.{IsTrue, sym, ◌∙◌}
 use Rattle.std.proofs.lemmas.Bool.{both_ways}
 use Rattle.std.proofs.lemmas.Result.{on_ok_weaker}
-use Rattle.sought_plans.specs.Premises.{runs_within}
+use Rattle.tt_infer.specs.Premises.{runs_within}
 use Rattle.tt_infer.specs.Reads.{BoundsRun}
 use Rattle.step_reads.proofs.AddedFacts.{adds_nowhere, adds_where}
 use Rattle.step_reads.proofs.reads.spans.add_run_within.Goals as goal

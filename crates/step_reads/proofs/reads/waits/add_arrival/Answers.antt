@@ -1,7 +1,7 @@
 use Rattle.std.proofs.Common.{◌≡◌}
 use Rattle.std.proofs.lemmas.Bool.{both_ways}
 use Rattle.std.proofs.lemmas.Result.{on_ok_weaker}
-use Rattle.sought_plans.specs.Dominance.{IsSentTo}
+use Rattle.tt_infer.specs.Dominance.{IsSentTo}
 use Rattle.tt_infer.specs.declared.fact.Fact.TheVariants.{LateRound}
 use Rattle.step_reads.proofs.AddedFacts.{adds_nowhere, adds_where}
 use Rattle.step_reads.proofs.reads.waits.add_arrival.Goals as goal

@@ -1,7 +1,7 @@
 use Rattle.std.proofs.Common.{◌≡◌, IsFalse, sym, ◌∙◌}
 use Rattle.std.proofs.lemmas.Bool.{both_ways}
 use Rattle.std.proofs.lemmas.Result.{on_ok_weaker}
-use Rattle.sought_plans.specs.Known.{bef_of}
+use Rattle.tt_infer.specs.Known.{bef_of}
 use Rattle.tt_infer.specs.declared.fact.Fact.TheVariants.{End, Order}
 use Rattle.step_reads.proofs.AddedFacts.{adds_just, adds_too}
 use Rattle.step_reads.proofs.reads.waits.add_wait.Goals as goal
