@@ -4,9 +4,9 @@
     tools/compare_checks.py [--cases N] [--seed S] [--program FILE] [--keep FOLDER] [--channels]
 
 The texts are the examples' and those of small instances made here, with plans and certificates; most are damaged in one to
-three places. Both programs have to write the same words and end with the same status, and of a valid plan the same tables and the
-same picture. A case on which they differ is told, and kept in FOLDER. What was answered how often is written at the end, and the
-status is 1 where any case differed.
+three places. Both programs have to write the same words and end with the same status, and of a valid plan the same schedules,
+node tables, picture and trace of a cycle with losses. A case on which they differ is told, and kept in FOLDER. What was answered
+how often is written at the end, and the status is 1 where any case differed.
 
 With --channels most instances that are made have two channels, and plans, choices and steps go with them. Which circle of
 processes is told is left out (M13)."""
@@ -308,9 +308,25 @@ def case(dice, examples, two_channels):
     return command, *texts
 
 
+def made_losses(dice, instance, plan_text):
+    """Words that name lost frames of a valid plan, now and then one that can't be."""
+    plan = second_check.verified(instance, plan_text)
+    rounds, nodes, words = second_check.cycle_rounds(instance, plan), len(plan.order), []
+    for _ in range(dice.choice([0, 1, 2, 4, 8])):
+        r, k = dice.randrange(rounds), dice.randrange(nodes)
+        words.append(f"{r}/{k}/{dice.choice(['*', *(n for n in range(nodes) if n != plan.order[k])])}")
+    if dice.random() < 0.1:
+        words.append(dice.choice(["0/0", "00/0/0", "0/0/**", "0/4/*", "4294967295/0/*", "4294967296/0/*"]))
+    dice.shuffle(words)
+    return words
+
+
 def second(command, instance, *texts):
-    """The second checker's status and text. Behind the plan of `schedule` stands the table's name."""
+    """The second checker's status and text. Behind a plan stand the table's name of `schedule`, and the losses of `replay`."""
     try:
+        if command == "replay":
+            losses = second_check.stated_losses(texts[1:])
+            return 0, second_check.replayed(second_check.Instance(instance), texts[0], losses)
         if command == "compare":
             return second_check.comparison(second_check.released("old", instance, texts[0]), second_check.released("new", *texts[1:]))[::-1]
         judged = second_check.Instance(instance)
@@ -327,9 +343,9 @@ def second(command, instance, *texts):
 
 
 def both(program, files, command, *texts):
-    """What the two programs say, each a status and a text. Behind the plan of `schedule` stands the table's name."""
-    words = ["schedule", *files, "--table", texts[-1]] if command == "schedule" else [command, *files]
-    ran = subprocess.run([program, *words], capture_output=True, text=True)
+    """What the two programs say, each a status and a text. Behind the plan stands what `second` takes there."""
+    words = ["--table"] * (command == "schedule") + list(texts[len(files):])
+    ran = subprocess.run([program, command, *files, *words], capture_output=True, text=True)
     return (ran.returncode, (ran.stdout + ran.stderr).rstrip("\n")), second(command, *texts)
 
 
@@ -359,7 +375,9 @@ def main():
                 continue
             if command == "verify" and other[0] == 0:
                 pairs += [both(asked.program, named, "schedule", *texts, table) for table in second_check.TABLES]
-                pairs.append(both(asked.program, named, "draw", *texts))
+                pairs += [both(asked.program, named, word, *texts) for word in ("draw", "tables")]
+                losses = made_losses(dice, second_check.Instance(texts[0]), texts[1])
+                pairs.append(both(asked.program, named, "replay", *texts, *losses))
             for first, other in pairs:
                 if first != other:
                     differ += 1

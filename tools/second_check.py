@@ -8,6 +8,9 @@
                                                    writes the table
     tools/second_check.py draw INSTANCE PLAN [--width PX] [--used]
                                                    writes the picture
+    tools/second_check.py tables INSTANCE PLAN     writes the node tables and the guardian windows
+    tools/second_check.py replay INSTANCE PLAN [LOSS]...
+                                                   writes what membership does
     tools/second_check.py compare OLD_INSTANCE OLD_PLAN NEW_INSTANCE NEW_PLAN
                                                    writes what is different
     tools/second_check.py limit INSTANCE ANSWER CERT PROCESS..
@@ -16,7 +19,7 @@
     tools/second_check.py why INSTANCE [OPTION]..  asks `ttplan why` with these words, and writes what that says once it is judged
 
 Anything else is told in one line on standard error, with the words and the statuses of `ttplan verify`, `check`, `judge`,
-`schedule`, `draw` and `compare`.
+`schedule`, `draw`, `tables`, `replay` and `compare`.
 It was written from docs/FORMATS.md and docs/CERTIFICATES.md alone, but for the elements and colours of a picture, which stand in
 crates/plan_picture/specs, and is proved in no way: where it and ttplan differ, a
 document is wrong, or one of the two programs is.
@@ -538,6 +541,11 @@ def slot_times(instance, plan):
     return behind, begins, durations
 
 
+def cycle_rounds(instance, plan):
+    """How many rounds a cycle has: as many as the delay needs."""
+    return -(-plan.delay // slot_times(instance, plan)[0])
+
+
 def slot_rows(instance, plan):
     yield "round", "position", "channel", "node", "start", "frame", "frame_end", "end", "capacity", "used", "messages"
     length, begins, durations = slot_times(instance, plan)
@@ -545,7 +553,7 @@ def slot_rows(instance, plan):
     for m, message in enumerate(instance.messages):
         for c in on_channels(plan, m):
             sent.setdefault((plan.rounds[m], instance.sender_node(m), c), []).append(message)
-    for r in range(-(-plan.delay // length)):
+    for r in range(cycle_rounds(instance, plan)):
         for (k, n), c in itertools.product(enumerate(plan.order), range(instance.channels)):
             start, frame = r * length + begins[n], sent.get((r, n, c), [])
             end = start + durations[n]
@@ -577,13 +585,18 @@ def schedule(instance, plan_text, table):
     return "\n".join(",".join(str(cell) for cell in row) for row in rows)
 
 
-# Two releases
+# What is loaded into a cluster
+
+
+def is_received(instance, message, node):
+    """Whether a message has a receiver on a node."""
+    return any(instance.processes[q].node == node for q in message.to)
 
 
 def table_lines(instance, plan, node):
     """The lines of a node's table."""
     lines = []
-    for r in range(-(-plan.delay // slot_times(instance, plan)[0])):
+    for r in range(cycle_rounds(instance, plan)):
         for k, n in enumerate(plan.order):
             words = ["row", r, k, instance.nodes[n].name, plan.caps[n]]
             for c in range(instance.channels):
@@ -592,7 +605,7 @@ def table_lines(instance, plan, node):
                     message = instance.messages[m]
                     if plan.rounds[m] != r or c not in on_channels(plan, m):
                         continue
-                    if node == n or any(instance.processes[q].node == node for q in message.to):
+                    if node == n or is_received(instance, message, node):
                         words.append(":".join(map(str, [message.name, c, offset] if instance.channels > 1 else [message.name, offset])))
                     offset += message.bytes
             lines.append(" ".join(map(str, words)))
@@ -602,10 +615,132 @@ def table_lines(instance, plan, node):
 def window_lines(instance, plan, node):
     """The lines of the windows of a node's slots."""
     length, begins, durations = slot_times(instance, plan)
-    for r in range(-(-plan.delay // length)):
+    for r in range(cycle_rounds(instance, plan)):
         start = r * length + begins[node]
         opens = start + instance.lead - instance.precision
         yield f"window {r} {instance.nodes[node].name} {opens} {start + durations[node] - instance.trail + instance.precision}"
+
+
+def loaded(instance, plan):
+    """The lines of the tables, node by node, and of the windows, in order of time."""
+    yield f"ttmedl {instance.channels}"
+    yield f"rounds {cycle_rounds(instance, plan)}"
+    for n, node in enumerate(instance.nodes):
+        yield f"node {node.name}"
+        yield from table_lines(instance, plan, n)
+    yield "ttguard 1"
+    for windows in zip(*(window_lines(instance, plan, n) for n in plan.order)):
+        yield from windows
+
+
+def tables(instance, plan_text):
+    """The text of what is loaded into a cluster by a valid plan; raises Refused."""
+    return "\n".join(loaded(instance, verified(instance, plan_text)))
+
+
+# What membership does
+
+
+class Member:
+    """A node in a cycle: its vector, whether it has sent and wasn't acknowledged, and then of whose frame it is in doubt."""
+
+    def __init__(self, node, nodes):
+        self.node, self.vector = node, frozenset(nodes)
+        self.has_sent, self.doubted = False, None
+
+    def is_active(self):
+        return self.node in self.vector
+
+    def sends(self):
+        """The vector that its frame shows."""
+        self.has_sent, self.doubted = True, None
+        return self.vector
+
+    def sees(self, sender, shown):
+        """What it does and is told of it, in a slot of another, of which it sees this vector, or None where no frame comes."""
+        doubted = self.doubted
+        if doubted is not None and shown == self.vector - {doubted}:
+            return self.is_acknowledged() + self.drops(doubted)
+        if doubted is None and shown == self.vector:
+            return self.is_acknowledged() if self.has_sent else []
+        if self.has_sent and shown == self.vector - {self.node}:
+            return self.doubts(sender) if doubted is None else self.leaves()
+        return self.drops(sender)
+
+    def is_acknowledged(self):
+        self.has_sent, self.doubted = False, None
+        return [("ack", self.node)]
+
+    def doubts(self, sender):
+        self.doubted = sender
+        return [("doubt", self.node)]
+
+    def drops(self, node):
+        told = [("drop", self.node, node)] if node in self.vector else []
+        self.vector -= {node}
+        return told
+
+    def leaves(self):
+        self.vector -= {self.node}
+        return [("leave", self.node)]
+
+
+def slot_lines(instance, member, sender, shown, frame):
+    """The lines of what a node does in a slot of another, and of the messages of the frame that it gets."""
+    for word, *nodes in member.sees(sender, shown):
+        yield " ".join([word, *(instance.nodes[n].name for n in nodes)])
+    if member.is_active() and shown == member.vector:
+        for message in frame:
+            if is_received(instance, message, member.node):
+                yield f"deliver {message.name} {instance.nodes[member.node].name}"
+
+
+def replay_lines(instance, plan, losses):
+    """The lines of a cycle with these losses, each of a round, a position and a node, or None for all."""
+    members = [Member(n, range(len(instance.nodes))) for n in range(len(instance.nodes))]
+    yield "ttreplay 1"
+    for r, (k, n) in itertools.product(range(cycle_rounds(instance, plan)), enumerate(plan.order)):
+        shown = members[n].sends() if members[n].is_active() else None
+        yield f"slot {r} {k} {instance.nodes[n].name} {'silent' if shown is None else 'sent'}"
+        frame = [instance.messages[m] for m in instance.sent_by[n] if plan.rounds[m] == r]
+        for member in members:
+            if member.node != n and member.is_active():
+                is_lost = losses & {(r, k, member.node), (r, k, None)}
+                yield from slot_lines(instance, member, n, None if is_lost else shown, frame)
+    for node, member in zip(instance.nodes, members):
+        yield " ".join(["member", node.name, *(instance.nodes[n].name for n in sorted(member.vector))])
+
+
+def stated_loss(index, word):
+    """The loss that the word of this index names; raises Refused."""
+    *slot, node = os.fsencode(word).split(b"/")
+    if len(slot) != 2 or not all(map(is_number, slot)) or not (node == b"*" or is_number(node)):
+        raise Refused(2, "usage loss", index)
+    return *map(int, slot), None if node == b"*" else int(node)
+
+
+def stated_losses(words):
+    return [stated_loss(index, word) for index, word in enumerate(words)]
+
+
+def can_be_lost(instance, plan, r, k, node):
+    """Whether this slot is in the cycle, and this node is there and isn't its sender."""
+    nodes = len(instance.nodes)
+    return r < cycle_rounds(instance, plan) and k < nodes and (node is None or node < nodes and node != plan.order[k])
+
+
+def replayed(instance, plan_text, losses):
+    """The text of a cycle of a valid plan in which these frames are lost; raises Refused."""
+    plan = verified(instance, plan_text)
+    if len(instance.nodes) < 3:
+        raise Refused(5, "replay N1")
+    for index, loss in enumerate(losses):
+        if not can_be_lost(instance, plan, *loss):
+            raise Refused(5, "replay N2", index)
+    return "\n".join(replay_lines(instance, plan, set(losses)))
+
+
+# Two releases
 
 
 def figures(things, numbers):
@@ -674,7 +809,7 @@ class Canvas:
 
     def __init__(self, instance, plan, width):
         self.round, self.begins, self.durations = slot_times(instance, plan)
-        self.rounds = -(-plan.delay // self.round)
+        self.rounds = cycle_rounds(instance, plan)
         self.width, self.across = width, width - 152
         self.channels = instance.channels
         self.height = 52 + 34 * (self.channels + len(instance.nodes)) + 8
@@ -1434,8 +1569,10 @@ def why(words):
 
 USAGE = ("usage: second_check.py verify INSTANCE PLAN | check INSTANCE CERT | judge INSTANCE PLAN CERT"
          " | schedule INSTANCE PLAN [--table TABLE] | draw INSTANCE PLAN [--width PX] [--used]"
+         " | tables INSTANCE PLAN | replay INSTANCE PLAN [LOSS].."
          " | compare OLD_INSTANCE OLD_PLAN NEW_INSTANCE NEW_PLAN | limit INSTANCE ANSWER CERT PROCESS.. | why INSTANCE [OPTION]..")
-COMMANDS = {"verify": (verify, "plan", PLAN_BYTES), "check": (check, "certificate", CERTIFICATE_BYTES)}
+COMMANDS = {"verify": (verify, "plan", PLAN_BYTES), "check": (check, "certificate", CERTIFICATE_BYTES),
+            "tables": (tables, "plan", PLAN_BYTES)}
 
 
 def opened(path, what):
@@ -1518,6 +1655,14 @@ def limit(paths, names):
                        taken(certificate, "certificate", CERTIFICATE_BYTES), chosen)
 
 
+def replay(paths, words):
+    """What membership does in a cycle of the plan of a file, where the words name what is lost; raises Refused."""
+    with opened(paths[0], "instance") as instance, opened(paths[1], "plan") as plan:
+        losses = stated_losses(words)
+        judged = Instance(taken(instance, "instance", INSTANCE_BYTES))
+        return replayed(judged, taken(plan, "plan", PLAN_BYTES), losses), 0
+
+
 def compare(paths):
     """What is different of the releases of files; raises Refused."""
     with contextlib.ExitStack() as files:
@@ -1564,6 +1709,8 @@ def run(words):
         return judge(words[1:])
     if len(words) == 5 and words[0] == "compare":
         return compare(words[1:])
+    if len(words) >= 3 and words[0] == "replay":
+        return replay(words[1:3], words[3:])
     if len(words) >= 5 and words[0] == "limit":
         return limit(words[1:4], words[4:])
     if len(words) >= 2 and words[0] == "why":

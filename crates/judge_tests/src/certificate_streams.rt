@@ -2,7 +2,6 @@
 
 ghost use Rattle.certificate.specs.Streams.{IsFresh};
 
-use crate::certificate_texts::deep;
 use crate::readers::{Slow, giving};
 use certificate::{Cert, CertStream, SourceFault, read};
 use std::alloc::{AllocError, Global};
@@ -11,6 +10,18 @@ use std::test::Fail;
 
 const TWO_LEAVES: &str =
     "ttcert 1\nlow 9\nround 0 1\nleaf 9 5\nes-release 0\nlo-send 0\nes-arrive 0 1\nle-own 1\nx-window 1\nleaf 101 2\nus-settled 0\nx-late 0 1\n";
+
+/// So many branches one below another, and so many leaves.
+fn deep(alloc: Global, branches: u32, leaves: u32) -> Result<Vec<u8>, AllocError> {
+    let mut text = Vec::from_slice(alloc, b"ttcert 1\nlow 0\n")?;
+    for _ in 0..branches {
+        text.extend_from_slice(b"round 0 0\n")?;
+    }
+    for _ in 0..leaves {
+        text.extend_from_slice(b"leaf 0 0\n")?;
+    }
+    Ok(text)
+}
 
 /// Adds what a stream says to its end or its first fault: the bound, and each node with its line.
 fn add_drained(

@@ -8,8 +8,6 @@ mod building;
 #[cfg(test)]
 mod certificate_streams;
 #[cfg(test)]
-mod certificate_texts;
-#[cfg(test)]
 mod choices;
 #[cfg(test)]
 mod complete_choices;
@@ -18,23 +16,13 @@ mod decisions;
 #[cfg(test)]
 mod inference;
 #[cfg(test)]
-mod instance_texts;
-#[cfg(test)]
 mod instances;
 #[cfg(test)]
 mod kept_decisions;
 #[cfg(test)]
-mod limits;
-#[cfg(test)]
-mod lines;
-#[cfg(test)]
 mod loads;
 #[cfg(test)]
-mod node_tables;
-#[cfg(test)]
 mod outcomes;
-#[cfg(test)]
-mod plan_texts;
 #[cfg(test)]
 mod plan_verdicts;
 #[cfg(test)]
@@ -46,14 +34,8 @@ mod readers;
 #[cfg(test)]
 mod refusals;
 #[cfg(test)]
-mod replays;
-#[cfg(test)]
 mod settled_plans;
 #[cfg(test)]
 mod slot_times;
 #[cfg(test)]
-mod streamed_checks;
-#[cfg(test)]
-mod verdicts;
-#[cfg(test)]
-mod windows;
+mod text_faults;

@@ -1,11 +1,9 @@
-//! Which valid plans, and which tables of their nodes, do several tests begin with?
+//! Which valid plans do several tests begin with?
 
 ghost use Rattle.std.specs.Prelude.{IfOk};
 ghost use Rattle.ttp_model.specs.Plans.{IsValid};
-ghost use Rattle.medl_tables.specs.Medl.{AreTables};
 
 use crate::outcomes::same;
-use medl_tables::{Medl, MemoryFault};
 use plan_check::check;
 use std::alloc::{AllocError, Global};
 use std::process::Abort;
@@ -46,18 +44,4 @@ pub fn valid_plan(
     let found = check(instance, &plan).expect(rt, "a valid plan");
     same(rt, "the delay", found, delay);
     Ok(plan)
-}
-
-/// The tables of this plan, which is valid and has this delay.
-pub fn tables(
-    rt: &impl Abort,
-    alloc: Global,
-    instance: &Instance,
-    lists: Lists,
-    delay: u64,
-) -> Result<Medl, MemoryFault>
-    ensures { IfOk result (AreTables instance.now) }
-{
-    let plan = valid_plan(rt, alloc, instance, lists, delay)?;
-    Medl::of(alloc, instance, &plan)
 }

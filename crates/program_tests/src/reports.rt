@@ -1,26 +1,47 @@
 //! Which line and status does a refusal have, and what stands on standard error where it isn't written in full?
 
-use crate::failing_streams::{Calls, Keeper};
 use certificate::CertTextError;
 use command_streams::End::Refused;
 use command_streams::{End, Fault, SearchFault, Sink, Source, report, status};
 use instance_text::TextError;
 use plan_format::PlanTextError;
 use std::alloc::Global;
+use std::io;
+use std::io::Write;
 use tree_check::CertFault;
 use ttp_model::{ModelError, Place, PlanFault, PlanPart};
+
+/// A writer that takes a byte a call, and none where its room is full.
+#[derive(Drop)]
+struct Narrow {
+    taken: Vec<u8>,
+    room: usize,
+}
+
+impl Write for Narrow {
+    fn write(&mut self, buf: &[u8]) -> io::Result<usize> {
+        match buf.first() {
+            Some(byte) if self.taken.len() < self.room => {
+                self.taken.push(*byte)?;
+                Ok(1)
+            }
+            _ => Ok(0),
+        }
+    }
+
+    fn flush(&mut self) -> io::Result<()> {
+        Ok(())
+    }
+}
 
 /// The first room on standard error, up to that for the whole line, with which it hasn't just a prefix of the line, or a
 /// failure isn't told just where a part is lacking.
 fn wrong_room(alloc: Global, end: &End, line: &[u8]) -> Option<usize> {
     for room in 0..line.len() + 1 {
-        let calls = Calls {
-            most: 1,
-            left: room,
-            is_full: true,
-            failed: false,
+        let mut error = Narrow {
+            taken: Vec::new(alloc),
+            room,
         };
-        let mut error = Keeper::new(alloc, calls);
         let told = report(end, &mut error);
         let is_whole = room == line.len();
         if told.is_ok() != is_whole || error.taken.as_slice() != &line[..room] {

@@ -9,7 +9,7 @@ use std::sync::Wait;
 use std::test::Fail;
 use std::thread::Threads;
 use tree_check::check;
-use ttp_model::{BOTH_CHANNELS, Instance, Plan};
+use ttp_model::{Instance, Plan};
 
 /// An answer in ticks. Its plan has the delay that is stated, and its certificate proves the bound, in its instance's version.
 #[derive(Clone, Copy)]
@@ -22,30 +22,14 @@ pub struct Answer {
     pub delay: Option<u64>,
     /// How many nodes the certificate has.
     pub nodes: u64,
-    /// How many channels the plan's messages are on; none where there is no plan.
-    pub channels: u32,
+    /// A tick past the instance's horizon.
+    past: u64,
 }
 
 impl Answer {
     /// Whether it says that this delay is least, and proves that, or that there is no plan.
     pub fn is_least(self, least: Option<u64>) -> bool {
-        let is_proved = match least {
-            Some(delay) => self.low == delay,
-            None => true,
-        };
-        self.stopped.is_none() && self.delay == least && is_proved
-    }
-
-    /// Whether it is right where this delay is least: it says so, or was stopped for this cause with bounds around it.
-    pub fn is_right(self, least: u64, cause: Why) -> bool {
-        let Some(why) = self.stopped else {
-            return self.is_least(Some(least));
-        };
-        let is_above = match self.delay {
-            Some(delay) => least <= delay && self.low < delay,
-            None => true,
-        };
-        why == cause && self.low <= least && is_above
+        self.stopped.is_none() && self.delay == least && self.low == least.unwrap_or(self.past)
     }
 }
 
@@ -55,19 +39,6 @@ fn judged(instance: &Instance, plan: &Plan, delay: u64) -> Result<u64, Fail> {
         return Ok(delay);
     }
     Err("the plan hasn't this delay".into())
-}
-
-/// Whether a plan's messages are on this channel, be it beside the other one.
-fn is_used(plan: &Plan, channel: u32) -> bool {
-    let channels = plan.channels.as_slice();
-    channels
-        .iter()
-        .any(|number| *number == channel || *number == BOTH_CHANNELS)
-}
-
-/// How many channels a plan's messages are on.
-fn channels_of(plan: &Plan) -> u32 {
-    u32::from(is_used(plan, 0)) + u32::from(is_used(plan, 1))
 }
 
 /// The bound that a certificate proves; an error where it proves none, or is in another version than the instance's.
@@ -84,20 +55,21 @@ fn proved(alloc: Global, instance: &Instance, cert: &Cert) -> Result<u64, Fail> 
 
 /// An outcome in numbers; an error where its plan or its certificate is wrong.
 pub fn read(alloc: Global, instance: &Instance, outcome: &Outcome) -> Result<Answer, Fail> {
+    let past = u64::from(instance.past_horizon());
     match outcome {
         Outcome::Optimal { plan, delay, cert } => Ok(Answer {
             stopped: None,
             low: proved(alloc, instance, cert)?,
             delay: Some(judged(instance, plan, *delay)?),
             nodes: cert.nodes().len() as u64,
-            channels: channels_of(plan),
+            past,
         }),
         Outcome::Infeasible { cert } => Ok(Answer {
             stopped: None,
             low: proved(alloc, instance, cert)?,
             delay: None,
             nodes: cert.nodes().len() as u64,
-            channels: 0,
+            past,
         }),
         Outcome::Stopped {
             why,
@@ -108,16 +80,16 @@ pub fn read(alloc: Global, instance: &Instance, outcome: &Outcome) -> Result<Ans
             if proved(alloc, instance, cert)? != u64::from(*low) {
                 return Err("the certificate proves another bound".into());
             }
-            let (delay, channels) = match best {
-                Some((plan, delay)) => (Some(judged(instance, plan, *delay)?), channels_of(plan)),
-                None => (None, 0),
+            let delay = match best {
+                Some((plan, delay)) => Some(judged(instance, plan, *delay)?),
+                None => None,
             };
             Ok(Answer {
                 stopped: Some(*why),
                 low: u64::from(*low),
                 delay,
                 nodes: cert.nodes().len() as u64,
-                channels,
+                past,
             })
         }
     }

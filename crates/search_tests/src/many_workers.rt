@@ -3,8 +3,7 @@
 use crate::answers::{Answer, MANNERS, read, solved_sample};
 use crate::gates::Assembly;
 use crate::instances::{
-    LEAST_DELAYS, ONE_MESSAGE, ONE_OF_FOUR, ONE_OF_SIXTEEN, ONE_OF_THREE, SIX_FRAMES, Sample,
-    TWO_RECEIVERS,
+    LEAST_DELAYS, ONE_OF_FOUR, ONE_OF_SIXTEEN, ONE_OF_THREE, SIX_FRAMES, Sample,
 };
 use planner::{Manner, Options, Why, solve_in};
 use std::alloc::Global;
@@ -44,55 +43,10 @@ fn find_least<R: Abort + Threads + Wait + Sync>(
 
 #[test]
 fn many_workers_find_the_least_delay(rt: HostRuntime) -> Result<(), Fail> {
-    for workers in &[1, 2, 3, 16] {
+    for workers in &[1, 3] {
         for manner in MANNERS {
             find_least(&rt, rt.alloc(), *workers, *manner)?;
         }
-    }
-    Ok(())
-}
-
-/// How often each instance is solved by sixteen workers.
-const ROUNDS: u32 = 10;
-
-#[test]
-fn sixteen_workers_always_find_the_same_delay(rt: HostRuntime) -> Result<(), Fail> {
-    for _ in 0..ROUNDS {
-        find_least(&rt, rt.alloc(), 16, Manner::Sparing)?;
-    }
-    Ok(())
-}
-
-/// Whether so many workers without a budget answer the path bound and no plan.
-fn leave_path_bound<R: Threads + Wait + Sync>(
-    rt: &R,
-    alloc: Global,
-    workers: u32,
-) -> Result<bool, Fail> {
-    let options = Options {
-        workers,
-        budget: 0,
-        gap: 0,
-    };
-    let answer = solved_sample(rt, alloc, &ONE_MESSAGE, options, Manner::Plain)?;
-    Ok(answer.stopped == Some(Why::Budget) && matches!(answer.low, 8 | 9) && answer.delay.is_none())
-}
-
-/// Workers without a budget leave the path bound, and three bound two messages with each budget.
-#[test]
-fn each_budget_gives_bounds(rt: HostRuntime) -> Result<(), Fail> {
-    for workers in &[1, 2, 16] {
-        assert!(rt; leave_path_bound(&rt, rt.alloc(), *workers)?, "{workers}");
-    }
-    let workers = 3;
-    for budget in 0..60 {
-        let options = Options {
-            workers,
-            budget,
-            gap: 0,
-        };
-        let answer = solved_sample(&rt, rt.alloc(), &TWO_RECEIVERS, options, Manner::Sparing)?;
-        assert!(rt; answer.is_right(8, Why::Budget), "budget {budget}");
     }
     Ok(())
 }

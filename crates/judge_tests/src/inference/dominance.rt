@@ -3,7 +3,7 @@
 use super::{Row, replay};
 use crate::instances::Part::{Message, Node, Process};
 use crate::instances::{Small, TWO_CHANNELS};
-use crate::{instances, settled_plans, verdicts};
+use crate::{instances, settled_plans};
 use std::test::Fail;
 use tt_choice::Decision::{AtLeast, AtMost, Channel, Place};
 use tt_infer::StepFault::{AlreadyClosed, NoPremise, NoSuchIndex};
@@ -402,9 +402,6 @@ fn mirror_rows(rt: HostRuntime) -> Result<(), Fail> {
     for row in TURNED {
         replay(&rt, rt.alloc(), row)?;
     }
-    for row in verdicts::TURNED {
-        verdicts::expect(&rt, rt.alloc(), row)?;
-    }
     for row in settled_plans::TURNED {
         settled_plans::expect(&rt, rt.alloc(), row)?;
     }
@@ -415,9 +412,6 @@ fn mirror_rows(rt: HostRuntime) -> Result<(), Fail> {
 fn dominance_rows(rt: HostRuntime) -> Result<(), Fail> {
     for row in ROWS {
         replay(&rt, rt.alloc(), row)?;
-    }
-    for row in verdicts::DOMINANCE {
-        verdicts::expect(&rt, rt.alloc(), row)?;
     }
     for row in settled_plans::ROWS {
         settled_plans::expect(&rt, rt.alloc(), row)?;
