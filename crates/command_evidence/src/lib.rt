@@ -6,6 +6,7 @@ mod bundles;
 mod certificates;
 mod checks;
 mod events;
+mod held;
 mod judgements;
 mod plans;
 mod propagations;
@@ -36,6 +37,7 @@ pub use checks::{
 pub use events::{
     leaf_is_closed_at_what_was_seen, look_sees_the_best_delay, pop_takes_the_last_name,
 };
+pub use held::{no_more_leaves_wait_than_may, proved_branch_leaves_no_plan};
 pub use judgements::{bounds_are_told_in_order, delay_told_is_the_least, none_is_told_of_no_plan};
 pub use plans::{
     printed_text_spells_the_plan, settled_frames_are_not_turned, settled_frames_fit,

@@ -11,6 +11,12 @@ use std::alloc::{AllocError, Global};
 /// What an instance's file holds.
 const INSTANCE_HELP: &str = "The cluster and its processes, in TOML";
 
+/// What `--workers` says.
+const WORKERS_HELP: &str = "How many workers search, 1 to 16";
+
+/// What `--budget` says where there are several searches.
+const SEARCH_BUDGET_HELP: &str = "How many subtrees each search has at most";
+
 /// What a search prints, and how to go on where it is stopped.
 const SOLVE_HELP: &str =
     "It prints one of these, and ends with the status beside it:\n   0  the text of a plan: it is valid, and no valid plan has a smaller delay\n  10  `none`: no plan is valid\n  11  `stopped WHY LOW BEST`, and behind it the text of the best plan found\n\nWHY is `budget`, where the budget is spent, `memory`, where memory ran out, `until`, where the best plan found is as short as was asked for, `gap`, where no plan is shorter by more ticks than were asked for, or `time`, where the seconds have passed. No valid plan has a delay below LOW ticks. BEST is the delay of the best plan found, or `none`, and then no text follows.\n\nA search that is interrupted prints no plan, and its certificate's file is empty; with --keep its best plan so far is left. To go in steps, begin with a small budget, and take ten times as much after each `stopped budget`. Each run begins anew; those before the last work at most a ninth of its budget.\n\nBefore the search a good plan is looked for, where more than 32 are left to choose: nodes to place, capacities, pairs of processes, and binary digits of rounds.";
@@ -100,22 +106,25 @@ fn schedule_command<'a>(alloc: Global) -> Result<Command<'a>, AllocError> {
     .arg(table)
 }
 
-/// The subcommand that draws.
-pub(crate) fn draw_command<'a>(alloc: Global) -> Result<Command<'a>, AllocError> {
-    let width = number(alloc, WIDTH, "How many pixels it is wide, 200 to 10000");
-    let used = Arg::new(alloc, "used")
+/// Whether only slots in use are drawn.
+fn used<'a>(alloc: Global) -> Arg<'a> {
+    Arg::new(alloc, "used")
         .long("used")
         .action(ArgAction::SetTrue)
         .help(
             "Leaves out the slots that carry nothing; a picture that shows each slot of the cycle has 100,000 at most",
-        );
+        )
+}
+
+/// The subcommand that draws.
+pub(crate) fn draw_command<'a>(alloc: Global) -> Result<Command<'a>, AllocError> {
     command_on_files(
         alloc,
         "draw",
         "Prints a picture of a valid plan's cycle, as SVG",
     )?
-    .arg(width)?
-    .arg(used)
+    .arg(number(alloc, WIDTH, "How many pixels it is wide, 200 to 10000"))?
+    .arg(used(alloc))
 }
 
 /// An option `--name` that takes a number.
@@ -167,38 +176,33 @@ fn progress<'a>(alloc: Global) -> Arg<'a> {
 
 /// The subcommand that searches.
 pub(crate) fn solve_command<'a>(alloc: Global) -> Result<Command<'a>, AllocError> {
-    let workers = number(alloc, WORKERS, "How many workers search, 1 to 16");
-    let budget = number(
-        alloc,
-        BUDGET,
-        "How many subtrees are searched at most: each that is split, closed or gives a plan counts once; with 0 no plan is looked for",
-    );
-    let until = number(
-        alloc,
-        UNTIL,
-        "Ends once a plan of at most so many ticks is known; with the horizon any plan is",
-    );
-    let gap = number(
-        alloc,
-        GAP,
-        "Leaves a subtree as soon as no plan in it is shorter by more than so many ticks than the best known",
-    );
-    let seconds = number(
-        alloc,
-        SECONDS,
-        "No worker takes a further subtree so many seconds after the start; what is left is closed as with a budget",
-    );
     Command::new(alloc, "solve")
         .about(
             "Prints a valid plan with the least delay, or `none`, or bounds where the search is stopped",
         )
         .after_help(SOLVE_HELP)
         .arg(file(alloc, "INSTANCE", INSTANCE_HELP))?
-        .arg(workers)?
-        .arg(budget)?
-        .arg(until)?
-        .arg(gap)?
-        .arg(seconds)?
+        .arg(number(alloc, WORKERS, WORKERS_HELP))?
+        .arg(number(
+            alloc,
+            BUDGET,
+            "How many subtrees are searched at most: each that is split, closed or gives a plan counts once; with 0 no plan is looked for",
+        ))?
+        .arg(number(
+            alloc,
+            UNTIL,
+            "Ends once a plan of at most so many ticks is known; with the horizon any plan is",
+        ))?
+        .arg(number(
+            alloc,
+            GAP,
+            "Leaves a subtree as soon as no plan in it is shorter by more than so many ticks than the best known",
+        ))?
+        .arg(number(
+            alloc,
+            SECONDS,
+            "No worker takes a further subtree so many seconds after the start; what is left is closed as with a budget",
+        ))?
         .arg(start(alloc))?
         .arg(certificate(alloc))?
         .arg(kept(alloc))?
@@ -234,18 +238,12 @@ fn certificate_of_none<'a>(alloc: Global) -> Arg<'a> {
 
 /// The subcommand that tells why there is no plan.
 pub(crate) fn why_command<'a>(alloc: Global) -> Result<Command<'a>, AllocError> {
-    let workers = number(alloc, WHY_WORKERS, "How many workers search, 1 to 16");
-    let budget = number(
-        alloc,
-        WHY_BUDGET,
-        "How many subtrees each search has at most",
-    );
     Command::new(alloc, "why")
         .about("Tells which constraints of an instance leave no plan")
         .after_help(WHY_HELP)
         .arg(file(alloc, "INSTANCE", INSTANCE_HELP))?
-        .arg(workers)?
-        .arg(budget)?
+        .arg(number(alloc, WHY_WORKERS, WORKERS_HELP))?
+        .arg(number(alloc, WHY_BUDGET, SEARCH_BUDGET_HELP))?
         .arg(late(alloc))?
         .arg(reduced(alloc))?
         .arg(certificate_of_none(alloc))
@@ -268,12 +266,6 @@ fn certificate_of_last<'a>(alloc: Global) -> Arg<'a> {
 
 /// The subcommand that tells how early processes can end.
 pub(crate) fn limit_command<'a>(alloc: Global) -> Result<Command<'a>, AllocError> {
-    let workers = number(alloc, LIMIT_WORKERS, "How many workers search, 1 to 16");
-    let budget = number(
-        alloc,
-        LIMIT_BUDGET,
-        "How many subtrees each search has at most",
-    );
     Command::new(alloc, "limit")
         .about(
             "Prints the least tick by which all these processes can end, and a plan that does it",
@@ -281,8 +273,8 @@ pub(crate) fn limit_command<'a>(alloc: Global) -> Result<Command<'a>, AllocError
         .after_help(LIMIT_HELP)
         .arg(file(alloc, "INSTANCE", INSTANCE_HELP))?
         .arg(processes(alloc))?
-        .arg(workers)?
-        .arg(budget)?
+        .arg(number(alloc, LIMIT_WORKERS, WORKERS_HELP))?
+        .arg(number(alloc, LIMIT_BUDGET, SEARCH_BUDGET_HELP))?
         .arg(certificate_of_last(alloc))
 }
 

@@ -14,6 +14,7 @@ mod membership;
 mod node_tables;
 mod pictures;
 mod plans;
+mod printing;
 mod rules;
 mod schedules;
 mod slots;
@@ -45,6 +46,7 @@ pub use plans::{
     end_past_the_horizon, first_node_once_more, frame_that_is_full, link_without_a_gap,
     processes_that_touch, start_before_the_message, start_past_its_release,
 };
+pub use printing::text_that_is_handed_out_states_its_instance;
 pub use rules::{
     Tables, linked_both_ways, one_process_too_many, received_at_home, received_by_nobody,
     with_short_lead,
