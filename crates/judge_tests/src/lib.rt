@@ -6,8 +6,6 @@ mod alike;
 #[cfg(test)]
 mod building;
 #[cfg(test)]
-mod certificate_streams;
-#[cfg(test)]
 mod choices;
 #[cfg(test)]
 mod complete_choices;
@@ -29,8 +27,6 @@ mod plan_verdicts;
 mod plans;
 #[cfg(test)]
 mod propagation;
-#[cfg(test)]
-mod readers;
 #[cfg(test)]
 mod refusals;
 #[cfg(test)]

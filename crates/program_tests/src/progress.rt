@@ -1,8 +1,9 @@
 //! How a search says how far it is, and that its answer is the same.
 
 use crate::told::{FIRST, FIRST_PLAN, Told, joined};
-use search_watching::{Progress, Reading, Summary};
-use solve_command::{Options, solve_run_with};
+use planner::{Gate, Name};
+use search_watching::{Follower, Patience, Patient, Progress, Reading, Summary};
+use solve_command::{FreeGate, Options, solve_run_with};
 use std::alloc::{Alloc, AllocError, Global};
 use std::fmt::Display;
 use std::io;
@@ -12,6 +13,7 @@ use std::sync::atomic::{AtomicU64, Ordering};
 use std::test::Fail;
 use std::thread::Threads;
 use std::time::Duration;
+use ttp_model::Instance;
 
 /// A clock that goes on by some seconds each time it is read, and a screen that counts its lines, and those that begin in one
 /// way.
@@ -177,5 +179,39 @@ const TOLD: &str =
 fn a_reading_and_a_summary_say_what_their_numbers_are(rt: HostRuntime) -> Result<(), Fail> {
     let lines = format!(in rt.alloc(); "{READING}\n{SUMMARY}")?;
     assert!(rt; lines.as_str() == TOLD, "{lines}");
+    Ok(())
+}
+
+/// A follower who lets no worker go on.
+#[derive(Clone, Copy, Debug)]
+struct Weary;
+
+impl Gate for Weary {
+    fn start(&self, _worker: usize) {}
+
+    fn enter(&self, _worker: usize, _name: &Name) {}
+
+    fn leave(&self, _worker: usize, _name: &Name) {}
+
+    fn goes_on(&self, _worker: usize) -> bool {
+        false
+    }
+}
+
+impl Follower for Weary {
+    fn begin(&self, _alloc: Global, _instance: &Instance) {}
+
+    fn end(&self) {}
+}
+
+#[test]
+fn a_worker_goes_on_where_who_follows_beside_lets_it(rt: HostRuntime) -> Result<(), Fail> {
+    let screen = Screen::new(rt.alloc(), 0, "");
+    let patience = Patience {
+        until: None,
+        seconds: None,
+    };
+    assert!(rt; !Patient::beside(&Weary, &screen, patience).goes_on(0));
+    assert!(rt; Patient::beside(&FreeGate, &screen, patience).goes_on(0));
     Ok(())
 }
