@@ -4,3 +4,4 @@ pub mod Arrivals
 pub mod Sound
 pub mod Made
 pub mod FrameLoads
+pub mod Listed
