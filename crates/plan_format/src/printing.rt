@@ -95,19 +95,29 @@ fn push_channels(
     Ok(())
 }
 
+/// Writes the lines of a valid plan, which state its own delay in ticks.
+fn push_plan(text: &mut Vec<u8>, instance: &Instance, plan: &Plan) -> Result<(), MemoryFault>
+    requires valid { IsValid instance.now plan.now }
+    requires empty { text.old.items ≡ [] }
+    ensures { OnOk result (SpellsPlan instance.now text.new.items plan.now (delay instance.now plan.now)) }
+{
+    let _nodes = instance.nodes();
+    push_head(text, instance, delay(instance, plan))?;
+    push_order(text, instance, plan.order.as_slice())?;
+    push_lines(text, instance, Column::Capacity, plan.caps.as_slice())?;
+    push_lines(text, instance, Column::Start, plan.starts.as_slice())?;
+    push_lines(text, instance, Column::Round, plan.rounds.as_slice())?;
+    push_channels(text, instance, plan.channels.as_slice())?;
+    Ok(())
+}
+
 /// The text of a valid plan, which states the plan's own delay in ticks. Linear in the text.
 pub fn print(alloc: Global, instance: &Instance, plan: &Plan) -> Result<Vec<u8>, MemoryFault>
     requires { IsValid instance.now plan.now }
     ensures { IfOk result (λ text.
         SpellsPlan instance.now text.items plan.now (delay instance.now plan.now)) }
 {
-    let _nodes = instance.nodes();
     let mut text = Vec::new(alloc);
-    push_head(&mut text, instance, delay(instance, plan))?;
-    push_order(&mut text, instance, plan.order.as_slice())?;
-    push_lines(&mut text, instance, Column::Capacity, plan.caps.as_slice())?;
-    push_lines(&mut text, instance, Column::Start, plan.starts.as_slice())?;
-    push_lines(&mut text, instance, Column::Round, plan.rounds.as_slice())?;
-    push_channels(&mut text, instance, plan.channels.as_slice())?;
+    push_plan(&mut text, instance, plan)?;
     Ok(text)
 }

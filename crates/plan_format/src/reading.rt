@@ -1,8 +1,9 @@
 //! Which plan and which delay does a text spell, or what is its first fault?
 
-ghost use Rattle.std.specs.Prelude.{◌≡◌, ◌≢◌, ◌+◌, ◌≤◌, ℕ, IfOk};
+ghost use Rattle.std.specs.Prelude.{◌≡◌, ◌≢◌, ◌+◌, ◌≤◌, ℕ, IfOk, bytes_eq};
 ghost use Rattle.ttp_model.specs.declared.limits.TheConstants.{MOST_MESSAGES, MOST_NODES, MOST_PROCESSES};
 ghost use Rattle.ttp_model.specs.Rules.{IsInstance};
+ghost use Rattle.plan_format.specs.Channels.{first_line};
 ghost use Rattle.plan_format.specs.Spelling.{SpellsPlan};
 ghost use Rattle.plan_format.specs.Reading.{IsAnswer, HasFront, head_at, delay_at, part_at, channels_line, channels_at, end_line, plan_at};
 
@@ -16,12 +17,19 @@ use line_text::after_keyword;
 use std::alloc::Global;
 use ttp_model::{Instance, Numbers, Plan};
 
+/// Whether this is the first line of a text for the instance.
+fn is_first_line(instance: &Instance, line: &[u8]) -> bool
+    ensures { result ≡ bytes_eq line.now (first_line instance.now) }
+{
+    line == first_line(instance)
+}
+
 #[tactic(auto, unfolding(crate::specs::Reading::head_at))]
 fn after_head<'a>(instance: &Instance, text: &'a [u8]) -> Result<&'a [u8], PlanTextError>
     ensures { IsAnswer ⊥ (λ x. x.now) result (head_at instance.now text.now) }
 {
     let (first, after) = line_of(1, text)?;
-    if first != first_line(instance) {
+    if !is_first_line(instance, first) {
         return Err(LineFault::Form.at(1));
     }
     Ok(after)
