@@ -18,7 +18,7 @@ use Rattle.instance_text.specs.Kinds.{Stated, ◌>>=◌, each, list_of, Index, i
 use Rattle.instance_text.specs.Tables.{found, Making, at_row, in_turn, table_at, has_only, keys_at}
 use Rattle.instance_text.specs.Stated.{stated_tables, cluster_of, nodes_of, processes_of, links_of, messages_of, process_of, link_of, message_of, knows_nodes, knows_processes, stated_by, node_names, process_names, the_process, the_link, the_message}
 use Rattle.instance_text.specs.Index.{cut_index, cut_index_in}
-use Rattle.instance_text.proofs.StatedLaws.{stated-all}
+use Rattle.instance_text.proofs.StatedLaws.{stated-tables, stated-all}
 
 -- ---- readings with the same fault, or with values that are alike
 
@@ -270,6 +270,7 @@ module _ (h k : List (List ℕ) → Index) (know : (names : List (List ℕ)) →
       let is : instance_with cluster.0 nodes.0 processes.0 links.0 messages.0 ≡ i = is_ok (instance_with cluster.0 nodes.0 processes.0 links.0 messages.0) i messages.2 in
       let by_nodes : h (node_names nodes.0) ≡ k (node_names nodes.0) = let P : Instance → Type 0 = λ j. h (node_names j.nodes) ≡ k (node_names j.nodes) in subst P (sym is) at_nodes in
       let by_processes : h (process_names processes.0) ≡ k (process_names processes.0) = let P : Instance → Type 0 = λ j. h (process_names j.processes) ≡ k (process_names j.processes) in subst P (sym is) at_processes in
-      stated-all k ms tables.0 cluster.0 nodes.0 (h (node_names nodes.0)) tables.1 (sym cluster.1) nodes.1 by_nodes
-      processes.0 (h (process_names processes.0)) processes.1 by_processes links.0 links.1 messages.0 messages.1
+      stated-tables k ms tables.0 tables.1
+      ∙ stated-all k tables.0 cluster.0 nodes.0 (sym cluster.1) nodes.1
+      processes.0 (h (process_names processes.0)) (ap (λ (index : Index). processes_of index tables.0.processes) (sym by_nodes) ∙ processes.1) by_processes links.0 links.1 messages.0 messages.1
       ∙ ap (λ (j : Instance). Ok j) is

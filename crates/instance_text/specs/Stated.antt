@@ -131,17 +131,20 @@ node_names nodes = map (λ n. n.name) nodes
 abbrev pub process_names : List Process → List (List ℕ)
 process_names processes = map (λ p. p.name) processes
 
--- The whole instance, where the names of a list state indices so: the top table first, then each
--- table in order. A process may name any node, and a link or a message any process.
-abbrev pub stated_by : (List (List ℕ) → Index) → Members → Stated Instance
-stated_by index_of ms =
-    stated_tables ms >>= (λ tables.
+-- The instance of these tables, where the names of a list state indices so, each table in order. A process may name any
+-- node, and a link or a message any process.
+abbrev pub stated_in : (List (List ℕ) → Index) → Tables → Stated Instance
+stated_in index_of tables =
     cluster_of tables.cluster >>= (λ cluster.
     nodes_of tables.nodes >>= (λ nodes.
     processes_of (index_of (node_names nodes)) tables.processes >>= (λ processes.
     links_of (index_of (process_names processes)) tables.links >>= (λ links.
     messages_of (index_of (process_names processes)) tables.messages >>= (λ messages.
-    Ok (instance_with cluster nodes processes links messages)))))))
+    Ok (instance_with cluster nodes processes links messages))))))
+
+-- the whole instance: the top table first
+abbrev pub stated_by : (List (List ℕ) → Index) → Members → Stated Instance
+stated_by index_of ms = stated_tables ms >>= (λ tables. stated_in index_of tables)
 
 -- a name states its index
 abbrev pub stated : Members → Stated Instance

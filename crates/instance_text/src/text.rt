@@ -6,13 +6,14 @@ ghost use Rattle.toml.specs.View.{table_view};
 ghost use Rattle.ttp_model.specs.Instance.{Instance};
 ghost use Rattle.ttp_model.specs.Rules.{IsInstance};
 ghost use Rattle.instance_text.specs.Faults.{IsFaultOfPart, IsDocument, IsTextFault, States, IsFirstTextFault};
-ghost use Rattle.instance_text.specs.Stated.{stated_by};
+ghost use Rattle.instance_text.specs.Stated.{stated_by, stated_in, processes_of, node_names};
 ghost use Rattle.instance_text.specs.Index.{cut_index_in};
-ghost use Rattle.instance_text.specs.Views.{instance_of};
+ghost use Rattle.instance_text.specs.Views.{instance_of, table_views, tables_view};
 ghost use Rattle.instance_text.specs.declared.error.TextError.TheVariants.{OutOfMemory};
 
 use crate::error::TextError;
 use crate::names::Names;
+use crate::top::Tables;
 use crate::{cluster, links, messages, nodes, processes, top};
 use std::alloc::Global;
 use std::str;
@@ -56,11 +57,19 @@ pub fn stated_parts(alloc: Global, table: &Table) -> Result<Parts, TextError>
     ensures err { IfErr result (IsFaultOfPart (stated_by cut_index_in (table_view table.now))) }
 {
     let tables = top::tables_of(alloc, table)?;
+    let parts = parts_in(alloc, &tables);
+    drop(tables);
+    parts
+}
+
+/// The parts that these tables state, one list after another.
+fn parts_in(alloc: Global, tables: &Tables) -> Result<Parts, TextError>
+    ensures ok { IfOk result (λ ps. stated_in cut_index_in (tables_view tables.now) ≡ Ok (instance_of ps)) }
+    ensures err { IfErr result (IsFaultOfPart (stated_in cut_index_in (tables_view tables.now))) }
+{
     let cluster = cluster::cluster(tables.cluster)?;
     let nodes = nodes::nodes(alloc, &tables.nodes)?;
-    let names = Names::of(alloc, &nodes)?;
-    let processes = processes::processes(alloc, &tables.processes, &names)?;
-    drop(names);
+    let processes = processes_on(alloc, &tables.processes, &nodes)?;
     let names = Names::of(alloc, &processes)?;
     let links = links::links(alloc, &tables.links, &names)?;
     let messages = messages::messages(alloc, &tables.messages, &names)?;
@@ -72,6 +81,19 @@ pub fn stated_parts(alloc: Global, table: &Table) -> Result<Parts, TextError>
         links,
         messages,
     })
+}
+
+/// The processes of these tables, which may name these nodes.
+fn processes_on(alloc: Global, tables: &[&Table], nodes: &[Node]) -> Result<Vec<Process>, TextError>
+    ensures ok { IfOk result (λ ps. processes_of (cut_index_in (node_names nodes.now)) (table_views tables.now)
+        ≡ Ok ps.items) }
+    ensures err { IfErr result (IsFaultOfPart (processes_of (cut_index_in (node_names nodes.now))
+        (table_views tables.now))) }
+{
+    let names = Names::of(alloc, nodes)?;
+    let processes = processes::processes(alloc, tables, &names);
+    drop(names);
+    processes
 }
 
 /// The instance that the bytes state, or the first fault: bytes that are no TOML, then the top
