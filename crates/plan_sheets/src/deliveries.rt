@@ -114,18 +114,23 @@ fn put_delivery(sheet: &mut Sheet, instance: &Instance, row: &Delivery) -> Resul
     requires start { IsLineStart sheet.old }
     ensures { OnOk result (IsSheet sheet.new (text_of sheet.old ++ delivery_line instance.now row.now) []) }
 {
-    sheet.put(instance.message_at(row.message as usize).name.as_bytes())?;
-    sheet.put(instance.process_at(row.sender as usize).name.as_bytes())?;
-    sheet.put(instance.process_at(row.receiver as usize).name.as_bytes())?;
-    sheet.put_number(row.bytes as u64)?;
-    sheet.put_number(row.round as u64)?;
+    let message = instance.message_at(row.message as usize).name.as_bytes();
+    let sender = instance.process_at(row.sender as usize).name.as_bytes();
+    let receiver = instance.process_at(row.receiver as usize).name.as_bytes();
+    let node = instance.nodes()[row.node as usize].name.as_bytes();
+    sheet.put(message)?;
+    sheet.put(sender)?;
+    sheet.put(receiver)?;
+    sheet.put_numbers(&[row.bytes as u64, row.round as u64])?;
     put_channel(sheet, row.channel)?;
-    sheet.put(instance.nodes()[row.node as usize].name.as_bytes())?;
-    sheet.put_number(row.ready)?;
-    sheet.put_number(row.slot)?;
-    sheet.put_number(row.slot_end)?;
-    sheet.put_number(row.arrived)?;
-    sheet.put_number(row.needed as u64)?;
+    sheet.put(node)?;
+    sheet.put_numbers(&[
+        row.ready,
+        row.slot,
+        row.slot_end,
+        row.arrived,
+        row.needed as u64,
+    ])?;
     sheet.end_line()?;
     Ok(())
 }

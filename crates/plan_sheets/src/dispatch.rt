@@ -89,13 +89,17 @@ fn put_dispatch(sheet: &mut Sheet, instance: &Instance, row: &Dispatch) -> Resul
     requires start { IsLineStart sheet.old }
     ensures { OnOk result (IsSheet sheet.new (text_of sheet.old ++ dispatch_line instance.now row.now) []) }
 {
-    sheet.put(instance.nodes()[row.node as usize].name.as_bytes())?;
-    sheet.put(instance.process_at(row.process as usize).name.as_bytes())?;
-    sheet.put_number(row.start as u64)?;
-    sheet.put_number(row.end)?;
-    sheet.put_number(row.release as u64)?;
-    sheet.put_number(row.deadline as u64)?;
-    sheet.put_number(row.slack)?;
+    let node = instance.nodes()[row.node as usize].name.as_bytes();
+    let process = instance.process_at(row.process as usize).name.as_bytes();
+    sheet.put(node)?;
+    sheet.put(process)?;
+    sheet.put_numbers(&[
+        row.start as u64,
+        row.end,
+        row.release as u64,
+        row.deadline as u64,
+        row.slack,
+    ])?;
     sheet.end_line()?;
     Ok(())
 }

@@ -1,6 +1,6 @@
 //! How does the text of a table grow, cell by cell and line by line?
 
-ghost use Rattle.std.specs.Prelude.{◌≡◌, [], ◌∷◌, ◌++◌, IfOk, OnOk, decimal};
+ghost use Rattle.std.specs.Prelude.{◌≡◌, [], ◌∷◌, ◌++◌, IfOk, OnOk, decimal, map};
 ghost use Rattle.plan_sheets.specs.Lines.{IsSheet, IsTidy, cells_of, line_of, text_of};
 
 use csv::{ByteRecord, Writer, WriterBuilder};
@@ -47,6 +47,17 @@ impl Sheet {
         self.digits.clear();
         push_number(&mut self.digits, number)?;
         self.cells.push_field(self.digits.as_slice())?;
+        Ok(())
+    }
+
+    /// Adds a cell for each of these numbers.
+    pub fn put_numbers(&mut self, numbers: &[u64]) -> Result<(), MemoryFault>
+        requires { IsTidy self.old }
+        ensures { OnOk result (IsSheet self.new (text_of self.old) (cells_of self.old ++ map decimal numbers.now)) }
+    {
+        for number in numbers {
+            self.put_number(*number)?;
+        }
         Ok(())
     }
 

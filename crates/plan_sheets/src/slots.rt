@@ -1,10 +1,10 @@
 //! What does each slot carry, and when?
 
-ghost use Rattle.std.specs.Prelude.{◌≡◌, ◌<◌, ◌≤◌, ◌++◌, ◌↔◌, ◌*◌, [], All, Contains, IfOk, IsTrue, OnOk, drop, length};
+ghost use Rattle.std.specs.Prelude.{◌≡◌, ◌<◌, ◌≤◌, ◌++◌, ◌↔◌, ◌*◌, [], ◌∷◌, All, Contains, IfOk, IsTrue, OnOk, drop, length};
 ghost use Rattle.ttp_model.specs.declared.limits.TheConstants.{MOST_BYTES, MOST_MESSAGES};
 ghost use Rattle.ttp_model.specs.Plans.{HasLengths, IsValid, load_on};
 ghost use Rattle.tt_layout.specs.Layout.{timing};
-ghost use Rattle.plan_sheets.specs.Lines.{IsLineStart, IsSheet, text_of};
+ghost use Rattle.plan_sheets.specs.Lines.{IsLineStart, IsSheet, IsTidy, cells_of, text_of};
 ghost use Rattle.plan_sheets.specs.Slots.{IsSlotRow, is_in_frame, messages_in, position_text, round_text, slot_line, slot_of, slots_text, spaced_names};
 
 use crate::sheet::Sheet;
@@ -208,20 +208,36 @@ fn put_slot(
     requires start { IsLineStart sheet.old }
     ensures { OnOk result (IsSheet sheet.new (text_of sheet.old ++ slot_line instance.now row.now) []) }
 {
-    let names = spaced_names(alloc, instance, row.messages.as_slice())?;
-    sheet.put_number(row.round as u64)?;
-    sheet.put_number(row.position as u64)?;
-    sheet.put_number(row.channel as u64)?;
-    sheet.put(instance.nodes()[row.node as usize].name.as_bytes())?;
-    sheet.put_number(row.start)?;
-    sheet.put_number(row.frame)?;
-    sheet.put_number(row.frame_end)?;
-    sheet.put_number(row.end)?;
-    sheet.put_number(row.capacity as u64)?;
-    sheet.put_number(row.used as u64)?;
-    sheet.put(without_first(names.as_slice()))?;
+    let node = instance.nodes()[row.node as usize].name.as_bytes();
+    sheet.put_numbers(&[row.round as u64, row.position as u64, row.channel as u64])?;
+    sheet.put(node)?;
+    sheet.put_numbers(&[
+        row.start,
+        row.frame,
+        row.frame_end,
+        row.end,
+        row.capacity as u64,
+        row.used as u64,
+    ])?;
+    put_names(alloc, sheet, instance, row.messages.as_slice())?;
     sheet.end_line()?;
     Ok(())
+}
+
+/// Adds a cell with the names of messages, parted by spaces.
+fn put_names(
+    alloc: Global,
+    sheet: &mut Sheet,
+    instance: &Instance,
+    messages: &[u32],
+) -> Result<(), MemoryFault>
+    requires tidy { IsTidy sheet.old }
+    requires there { All (λ m. m < length instance.now.messages) messages.now }
+    ensures { let names = drop 1 (spaced_names instance.now messages.now) in
+        OnOk result (IsSheet sheet.new (text_of sheet.old) (cells_of sheet.old ++ names ∷ [])) }
+{
+    let names = spaced_names(alloc, instance, messages)?;
+    sheet.put(without_first(names.as_slice()))
 }
 
 /// The names of messages, each with a space before it.

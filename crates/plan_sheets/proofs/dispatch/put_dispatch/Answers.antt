@@ -1,20 +1,16 @@
 use Rattle.std.proofs.Common.{◌≡◌, arith}
 use Rattle.std.proofs.lemmas.Grind.{common_steps}
 use Rattle.ttp_model.specs.Instance.{node_at, process_at}
-use Rattle.plan_sheets.proofs.Growing.{first_cell, line_ends, next_cell}
+use Rattle.plan_sheets.proofs.Growing.{first_cells, line_ends, next_cells}
 use Rattle.plan_sheets.proofs.dispatch.put_dispatch.Goals as goal
 
 pub returns : goal.returns
 returns c =
     let i = c.args.instance.now in
     let row = c.args.row.now in
-    let node : c.as_bytes.result.now ≡ (node_at i row.node).name = grind (arith, common_steps) in
-    let process : c.as_bytes-2.result.now ≡ (process_at i row.process).name = grind (arith, common_steps) in
-    let r1 = first_cell _ _ _ c.requires.start (rw node at c.in_ok-put.ensures) in
-    let r2 = next_cell _ _ _ _ _ r1 (rw process at c.in_ok-put-2.ensures) in
-    let r3 = next_cell _ _ _ _ _ r2 c.in_ok-put_number.ensures in
-    let r4 = next_cell _ _ _ _ _ r3 c.in_ok-put_number-2.ensures in
-    let r5 = next_cell _ _ _ _ _ r4 c.in_ok-put_number-3.ensures in
-    let r6 = next_cell _ _ _ _ _ r5 c.in_ok-put_number-4.ensures in
-    let r7 = next_cell _ _ _ _ _ r6 c.in_ok-put_number-5.ensures in
-    line_ends _ _ _ _ r7 c.in_ok-end_line.ensures
+    let node : c.as_bytes-node.result.now ≡ (node_at i row.node).name = grind (arith, common_steps) in
+    let process : c.as_bytes-process.result.now ≡ (process_at i row.process).name = grind (arith, common_steps) in
+    let r1 = first_cells _ _ _ c.requires.start (rw node at c.in_ok-put.ensures) in
+    let r2 = next_cells _ _ _ _ _ r1 (rw process at c.in_ok-put-2.ensures) in
+    let r3 = next_cells _ _ _ _ _ r2 c.in_ok-put_numbers.ensures in
+    line_ends _ _ _ _ r3 c.in_ok-end_line.ensures

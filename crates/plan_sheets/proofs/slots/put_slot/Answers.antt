@@ -1,25 +1,14 @@
-use Rattle.std.proofs.Common.{◌≡◌, drop, arith}
+use Rattle.std.proofs.Common.{◌≡◌, arith}
 use Rattle.std.proofs.lemmas.Grind.{common_steps}
 use Rattle.ttp_model.specs.Instance.{node_at}
-use Rattle.plan_sheets.specs.Slots.{spaced_names}
-use Rattle.plan_sheets.proofs.Growing.{first_cell, line_ends, next_cell}
+use Rattle.plan_sheets.proofs.Growing.{first_cells, line_ends, next_cells}
 use Rattle.plan_sheets.proofs.slots.put_slot.Goals as goal
 
 pub returns : goal.returns
 returns c =
-    let i = c.args.instance.now in
-    let row = c.args.row.now in
-    let node : c.as_bytes.result.now ≡ (node_at i row.node).name = grind (arith, common_steps) in
-    let names : c.without_first.result.now ≡ drop 1 (spaced_names i row.messages) = grind (arith, common_steps) in
-    let r1 = first_cell _ _ _ c.requires.start c.in_ok-put_number.ensures in
-    let r2 = next_cell _ _ _ _ _ r1 c.in_ok-put_number-2.ensures in
-    let r3 = next_cell _ _ _ _ _ r2 c.in_ok-put_number-3.ensures in
-    let r4 = next_cell _ _ _ _ _ r3 (rw node at c.in_ok-put.ensures) in
-    let r5 = next_cell _ _ _ _ _ r4 c.in_ok-put_number-4.ensures in
-    let r6 = next_cell _ _ _ _ _ r5 c.in_ok-put_number-5.ensures in
-    let r7 = next_cell _ _ _ _ _ r6 c.in_ok-put_number-6.ensures in
-    let r8 = next_cell _ _ _ _ _ r7 c.in_ok-put_number-7.ensures in
-    let r9 = next_cell _ _ _ _ _ r8 c.in_ok-put_number-8.ensures in
-    let r10 = next_cell _ _ _ _ _ r9 c.in_ok-put_number-9.ensures in
-    let r11 = next_cell _ _ _ _ _ r10 (rw names at c.in_ok-put-2.ensures) in
-    line_ends _ _ _ _ r11 c.in_ok-end_line.ensures
+    let node : c.as_bytes-node.result.now ≡ (node_at c.args.instance.now c.args.row.now.node).name = grind (arith, common_steps) in
+    let r1 = first_cells _ _ _ c.requires.start c.in_ok-put_numbers.ensures in
+    let r2 = next_cells _ _ _ _ _ r1 (rw node at c.in_ok-put.ensures) in
+    let r3 = next_cells _ _ _ _ _ r2 c.in_ok-put_numbers-2.ensures in
+    let r4 = next_cells _ _ _ _ _ r3 (rw c.as_slice.ensures at c.in_ok-put_names.ensures) in
+    line_ends _ _ _ _ r4 c.in_ok-end_line.ensures
