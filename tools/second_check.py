@@ -49,7 +49,7 @@ import tomllib
 from dataclasses import dataclass, replace
 
 INSTANCE_BYTES, PLAN_BYTES, CERTIFICATE_BYTES = 8_388_608, 131_072, 268_435_456
-STOPPED_BYTES = len("stopped budget 4294967295 4294967295\n")
+PRINTED_BYTES = PLAN_BYTES + len("stopped budget 4294967295 4294967295\n")
 NUMBER_MOST = 4_294_967_295
 TICKS_MOST = 1_000_000
 NESTING_MOST = 80  # of brackets in brackets, and of a key's parts
@@ -580,8 +580,8 @@ TABLES = {"processes": process_rows, "slots": slot_rows, "messages": message_row
 
 
 def schedule(instance, plan_text, table):
-    """The text of a table of a valid plan; raises Refused."""
-    rows = TABLES[table](instance, verified(instance, plan_text))
+    """The text of a table of a printed plan; raises Refused."""
+    rows = TABLES[table](instance, printed(instance, plan_text))
     return "\n".join(",".join(str(cell) for cell in row) for row in rows)
 
 
@@ -923,8 +923,8 @@ def picture(instance, plan, canvas, used):
 
 
 def draw(instance, plan_text, width, used):
-    """The text of a picture of a valid plan; raises Refused."""
-    plan = verified(instance, plan_text)
+    """The text of a picture of a printed plan; raises Refused."""
+    plan = printed(instance, plan_text)
     canvas = Canvas(instance, plan, width)
     slots = canvas.rounds * len(instance.nodes)
     if slots > SLOTS_MOST and not used:
@@ -939,24 +939,47 @@ def is_number(word):
     return NUMBER.fullmatch(word) is not None and not is_too_great(word)
 
 
-def is_stopped_line(line):
+def says_plan(line):
+    """Whether the line that a search prints in front of a plan says that it found one; None of any other line."""
     words = line.split(b" ")
-    return (len(words) == 4 and words[0] == b"stopped" and words[1] in (b"budget", b"memory", b"until", b"time", b"gap")
-            and is_number(words[2]) and (words[3] == b"none" or is_number(words[3])))
+    if len(words) == 2 and words[0] == b"limit":
+        return True if is_number(words[1]) else None
+    if len(words) == 4 and words[0] == b"stopped" and words[1] in (b"budget", b"memory", b"until", b"time", b"gap"):
+        words = words[1:]
+    elif len(words) != 3 or words[0] != b"between":
+        return None
+    if not is_number(words[1]) or not (words[2] == b"none" or is_number(words[2])):
+        return None
+    return words[2] != b"none"
 
 
-def given_delay(instance, text):
-    """The delay of the plan that is given, or None where it is said that there is none; raises Refused."""
+def plan_if_found(instance, text):
+    """The valid plan of a printed text, or None where its first line says that none was found; raises Refused."""
     line, end, rest = text.partition(b"\n")
-    if not end or not is_stopped_line(line):
-        return None if text == b"none\n" else verified(instance, text).delay
-    if not line.endswith(b" none"):
-        return verified(instance, rest, lines_before=1).delay
+    found = says_plan(line) if end else None
+    if found is None:
+        return verified(instance, text)
+    if found:
+        return verified(instance, rest, lines_before=1)
     if len(rest) > PLAN_BYTES:
         raise Refused(6, "read plan")
     if rest:
         raise plan_fault("F6", 2)
     return None
+
+
+def printed(instance, text):
+    """The valid plan of a printed text; raises Refused."""
+    plan = plan_if_found(instance, text)
+    if plan is None:
+        raise plan_fault("F5", 2)
+    return plan
+
+
+def given_delay(instance, text):
+    """The delay of the plan that is given, or None where it is said that there is none; raises Refused."""
+    plan = None if text == b"none\n" else plan_if_found(instance, text)
+    return None if plan is None else plan.delay
 
 
 # A certificate: its text
@@ -1602,7 +1625,7 @@ def judge(paths):
     with (opened(paths[0], "instance") as instance, opened(paths[1], "plan") as plan,
           opened(paths[2], "certificate") as certificate):
         judged = Instance(taken(instance, "instance", INSTANCE_BYTES))
-        delay = given_delay(judged, taken(plan, "plan", STOPPED_BYTES + PLAN_BYTES))
+        delay = given_delay(judged, taken(plan, "plan", PRINTED_BYTES))
         return judgement(judged, delay, proved_bound(judged, taken(certificate, "certificate", CERTIFICATE_BYTES)))
 
 
@@ -1651,7 +1674,7 @@ def limit(paths, names):
           opened(paths[2], "certificate") as certificate):
         judged = Instance(taken(instance, "instance", INSTANCE_BYTES))
         chosen = chosen_by(judged, names)
-        return limited(judged, taken(answer, "plan", STOPPED_BYTES + PLAN_BYTES),
+        return limited(judged, taken(answer, "plan", PRINTED_BYTES),
                        taken(certificate, "certificate", CERTIFICATE_BYTES), chosen)
 
 
@@ -1685,7 +1708,7 @@ def command_of(words):
     if len(words) == 5 and words[0] == "schedule" and words[3] == "--table" and words[4] in TABLES:
         words, table = words[:3], words[4]
     if len(words) == 3 and words[0] == "schedule":
-        return (lambda instance, text: schedule(instance, text, table)), "plan", PLAN_BYTES
+        return (lambda instance, text: schedule(instance, text, table)), "plan", PRINTED_BYTES
     if len(words) >= 3 and words[0] == "draw":
         return drawing_of(words[3:])
     if len(words) != 3 or words[0] not in COMMANDS:
@@ -1701,7 +1724,7 @@ def drawing_of(words):
         words, width = [], int(words[1])
     if words or width not in WIDTHS:
         raise Refused(2, USAGE)
-    return (lambda instance, text: draw(instance, text, width, used)), "plan", PLAN_BYTES
+    return (lambda instance, text: draw(instance, text, width, used)), "plan", PRINTED_BYTES
 
 
 def run(words):

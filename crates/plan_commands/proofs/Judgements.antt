@@ -18,7 +18,7 @@ use Rattle.plan_commands.specs.declared.judge.Judgement.TheVariants.{Least, NoPl
 use Rattle.plan_commands.specs.Verdicts.{HasValidPlan}
 use Rattle.plan_commands.specs.Certified.{HasBound}
 use Rattle.plan_commands.specs.Judged.{HasPlanOf, IsJudged, IsJudgementOf, IsReached, StandsBehind, StandsFor, limit_of}
-use Rattle.plan_commands.proofs.StoppedLines.{begins_once}
+use Rattle.plan_commands.proofs.AnswerLines.{begins_once}
 use Rattle.plan_commands.proofs.Judging.{bound_below}
 
 -- ---- what stands for a delay is a valid plan
@@ -29,7 +29,8 @@ plan_of_text i text (Some d) has = (has.0, (has.1.valid, has.1.has_delay))
 
 plan_behind : (i : Instance) (begun : Front) (rest : List ℕ) (best : Option ℕ) → StandsBehind i begun rest best → IsReached i best
 plan_behind i front.Plan rest best stands = plan_of_text i rest best stands
-plan_behind i front.Stopped rest best stands = plan_of_text i rest best stands
+plan_behind i front.Headed rest best stands = plan_of_text i rest best stands
+plan_behind i front.Bare rest best stands = subst (IsReached i) (sym stands.1) tt
 plan_behind i front.NoPlan rest best stands = subst (IsReached i) (sym stands.1) tt
 
 reached : (i : Instance) (plan : List ℕ) (best : Option ℕ) → StandsFor i plan best → IsReached i best
@@ -92,7 +93,8 @@ text_once i text (Some d) (Some e) w first second = ap (λ (n : ℕ). Some n) (d
 
 behind_once : (i : Instance) (begun : Front) (rest : List ℕ) (a b : Option ℕ) → IsInstance i → StandsBehind i begun rest a → StandsBehind i begun rest b → a ≡ b
 behind_once i front.Plan rest a b w first second = text_once i rest a b w first second
-behind_once i front.Stopped rest a b w first second = text_once i rest a b w first second
+behind_once i front.Headed rest a b w first second = text_once i rest a b w first second
+behind_once i front.Bare rest a b w first second = first.1 ∙ sym second.1
 behind_once i front.NoPlan rest a b w first second = first.1 ∙ sym second.1
 
 place_once : (i : Instance) (plan : List ℕ) (a b : Option ℕ) → IsInstance i → StandsFor i plan a → StandsFor i plan b → a ≡ b

@@ -31,7 +31,8 @@ horizon_above i certificate best low is bound =
 above : (i : Instance) (begun : Front) (rest certificate : List ℕ) (best : Option ℕ) (low : ℕ) → StandsBehind i begun rest best
     → HasBound i certificate low → low ≤ limit_of i best
 above i front.Plan rest certificate best low stands bound = plan_above i rest certificate best low stands bound
-above i front.Stopped rest certificate best low stands bound = plan_above i rest certificate best low stands bound
+above i front.Headed rest certificate best low stands bound = plan_above i rest certificate best low stands bound
+above i front.Bare rest certificate best low stands bound = horizon_above i certificate best low stands.1 bound
 above i front.NoPlan rest certificate best low stands bound = horizon_above i certificate best low stands.1 bound
 
 pub bound_below : (i : Instance) (plan certificate : List ℕ) (best : Option ℕ) (low : ℕ) → StandsFor i plan best → HasBound i certificate low

@@ -9,8 +9,9 @@ pub mod Certificates
 pub mod Unread
 pub mod Streamed
 pub mod Accepted
-pub mod StoppedLines
+pub mod AnswerLines
 pub mod PlanLines
+pub mod Prints
 pub mod Standings
 pub mod Judging
 pub mod Judgements

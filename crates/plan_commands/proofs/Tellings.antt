@@ -80,28 +80,27 @@ verdict_of_readers (Some instance) None v old new end is writing = tt
 verdict_of_readers (Some instance) (Some plan) v old new end is writing =
     verdict_outcome (IsVerified instance plan) (IsRefused instance plan) v is is.has_plan.has_delay tt old new end writing
 
--- a text that is told of what two readers tell
-pub told_of_readers : (Tells : Instance → Table → List ℕ → Type 0) (RefusedBy : List ℕ → List ℕ → Fault
-    → Type 0) (a b : Option (List ℕ)) (v : Verified) (text : List ℕ) (old new : Option (List ℕ)) (end : End)
-    → IfSome a (λ instance. IfSome b (λ plan. IsVerified instance plan v)) → Tells v.instance v.plan text → IsWriting text old new end
-    → IfSome a (λ instance. IfSome b (λ plan. IsCommandAnswer (OnDone (IsTold (IsVerified instance plan) Tells)) (RefusedBy instance plan) old new end))
-told_of_readers Tells RefusedBy None b v text old new end is tells writing = tt
-told_of_readers Tells RefusedBy (Some instance) None v text old new end is tells writing = tt
-told_of_readers Tells RefusedBy (Some instance) (Some plan) v text old new end is tells writing =
-    written_outcome (IsTold (IsVerified instance plan) Tells) (RefusedBy instance plan) text (record { verified = v; is = is; tells = tells })
-    old new end writing
+-- a text that is told of what two readers tell, of which a plan is verified so
+module _ (IsVerifiedAs : List ℕ → List ℕ → Verified → Type 0) (Tells : Instance → Table → List ℕ → Type 0) (RefusedBy : List ℕ → List ℕ → Fault → Type 0) where
+  pub told_of_readers : (a b : Option (List ℕ)) (v : Verified) (text : List ℕ) (old new : Option (List ℕ)) (end : End)
+      → IfSome a (λ instance. IfSome b (λ plan. IsVerifiedAs instance plan v)) → Tells v.instance v.plan text → IsWriting text old new end
+      → IfSome a (λ instance. IfSome b (λ plan. IsCommandAnswer (OnDone (IsTold (IsVerifiedAs instance plan) Tells)) (RefusedBy instance plan) old new end))
+  told_of_readers None b v text old new end is tells writing = tt
+  told_of_readers (Some instance) None v text old new end is tells writing = tt
+  told_of_readers (Some instance) (Some plan) v text old new end is tells writing =
+      written_outcome (IsTold (IsVerifiedAs instance plan) Tells) (RefusedBy instance plan) text (record { verified = v; is = is; tells = tells })
+      old new end writing
 
--- a text that is made and told of what two readers tell
-pub made_of_readers : (Tells : Instance → Table → List ℕ → Type 0) (RefusedBy : List ℕ → List ℕ → Fault → Type 0)
-    → ((instance plan : List ℕ) → RefusedBy instance plan Memory)
-    → (a b : Option (List ℕ)) (v : Verified) (text : List ℕ) (old new : Option (List ℕ)) (end : End)
-    → IfSome a (λ instance. IfSome b (λ plan. IsVerified instance plan v)) → Tells v.instance v.plan text → IsWritingUnlessMemory text old new end
-    → IfSome a (λ instance. IfSome b (λ plan. IsCommandAnswer (OnDone (IsTold (IsVerified instance plan) Tells)) (RefusedBy instance plan) old new end))
-made_of_readers Tells RefusedBy may None b v text old new end is tells writing = tt
-made_of_readers Tells RefusedBy may (Some instance) None v text old new end is tells writing = tt
-made_of_readers Tells RefusedBy may (Some instance) (Some plan) v text old new end is tells writing =
-    made_outcome (IsTold (IsVerified instance plan) Tells) (RefusedBy instance plan) text (record { verified = v; is = is; tells = tells }) old new
-    (may instance plan) end writing
+  -- a text that is made and told of it
+  pub made_of_readers : ((instance plan : List ℕ) → RefusedBy instance plan Memory)
+      → (a b : Option (List ℕ)) (v : Verified) (text : List ℕ) (old new : Option (List ℕ)) (end : End)
+      → IfSome a (λ instance. IfSome b (λ plan. IsVerifiedAs instance plan v)) → Tells v.instance v.plan text → IsWritingUnlessMemory text old new end
+      → IfSome a (λ instance. IfSome b (λ plan. IsCommandAnswer (OnDone (IsTold (IsVerifiedAs instance plan) Tells)) (RefusedBy instance plan) old new end))
+  made_of_readers may None b v text old new end is tells writing = tt
+  made_of_readers may (Some instance) None v text old new end is tells writing = tt
+  made_of_readers may (Some instance) (Some plan) v text old new end is tells writing =
+      made_outcome (IsTold (IsVerifiedAs instance plan) Tells) (RefusedBy instance plan) text (record { verified = v; is = is; tells = tells }) old new
+      (may instance plan) end writing
 
 -- what is answered of a plan is answered of the texts that spell it
 module _ (IsText Tells : List ℕ → Type 0) (told : (text : List ℕ) → IsText text → Tells text) where
@@ -166,10 +165,11 @@ module _ (IsTextAt : End → List ℕ → Type 0) (IsRefusedBy : Fault → Type 
   refused_outcome (Unwritten sink.Certificate) refused = (refused, keeps old)
   refused_outcome (Unwritten sink.Plan) refused = (refused, keeps old)
 
-pub refused_of_readers : (IsTextAt : List ℕ → List ℕ → End → List ℕ → Type 0) (a b old : Option (List ℕ)) (fault : Fault)
-    → IfSome a (λ instance. IfSome b (λ plan. IsRefused instance plan fault))
-    → IfSome a (λ instance. IfSome b (λ plan. IsCommandAnswer (IsTextAt instance plan) (IsRefused instance plan) old old (Refused fault)))
-refused_of_readers IsTextAt None b old fault refused = tt
-refused_of_readers IsTextAt (Some instance) None old fault refused = tt
-refused_of_readers IsTextAt (Some instance) (Some plan) old fault refused =
-    refused_outcome (IsTextAt instance plan) (IsRefused instance plan) (λ never. never) old fault refused
+pub refused_of_readers : (IsTextAt : List ℕ → List ℕ → End → List ℕ → Type 0) (RefusedBy : List ℕ → List ℕ → Fault → Type 0)
+    → ((instance plan : List ℕ) → ¬ RefusedBy instance plan (Unwritten sink.Out)) → (a b old : Option (List ℕ)) (fault : Fault)
+    → IfSome a (λ instance. IfSome b (λ plan. RefusedBy instance plan fault))
+    → IfSome a (λ instance. IfSome b (λ plan. IsCommandAnswer (IsTextAt instance plan) (RefusedBy instance plan) old old (Refused fault)))
+refused_of_readers IsTextAt RefusedBy never None b old fault refused = tt
+refused_of_readers IsTextAt RefusedBy never (Some instance) None old fault refused = tt
+refused_of_readers IsTextAt RefusedBy never (Some instance) (Some plan) old fault refused =
+    refused_outcome (IsTextAt instance plan) (RefusedBy instance plan) (never instance plan) old fault refused

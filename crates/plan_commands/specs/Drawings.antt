@@ -9,7 +9,8 @@ use Rattle.command_streams.specs.declared.ending.Fault.{Fault}
 use Rattle.command_streams.specs.declared.ending.Fault.TheVariants.{Memory, TooManySlots}
 use Rattle.command_streams.specs.declared.ending.End.{End}
 use Rattle.command_streams.specs.Outcomes.{IsCommandAnswer, OnDone}
-use Rattle.plan_commands.specs.Verdicts.{IsRefused, IsTold, IsVerified}
+use Rattle.plan_commands.specs.Printed.{IsPrinted, IsUnprinted}
+use Rattle.plan_commands.specs.Verdicts.{IsTold}
 
 -- what `draw` tells of a valid plan: the text of its picture, which hasn't too many slots
 pub record IsPictureText (width : ℕ) (shown : Shown) (i : Instance) (plan : Table) (text : List ℕ) : Type 0 where
@@ -22,18 +23,18 @@ IsUndrawn shown i plan Memory = Unit {0}
 IsUndrawn shown i plan (TooManySlots count) = too_many_slots i plan shown ≡ Some count
 IsUndrawn shown i plan _ = ⊥
 
--- an instance and a valid plan are verified, and its picture would have so many slots, which are too many
+-- an instance and a printed plan are verified, and its picture would have so many slots, which are too many
 pub record IsTooLarge (shown : Shown) (instance plan : List ℕ) (count : ℕ) : Type 0 where
   pub verified : Verified
-  pub is : IsVerified instance plan verified
+  pub is : IsPrinted instance plan verified
   pub many : too_many_slots verified.instance verified.plan shown ≡ Some count
 
--- why `draw` refuses: as `verify`, and then for the number of slots
+-- why `draw` refuses: as `verify`, but for what a search printed in front of the plan, and then for the number of slots
 abbrev pub IsDrawRefused : Shown → List ℕ → List ℕ → Fault → Type 0
 IsDrawRefused shown instance plan (TooManySlots count) = IsTooLarge shown instance plan count
-IsDrawRefused shown instance plan fault = IsRefused instance plan fault
+IsDrawRefused shown instance plan fault = IsUnprinted instance plan fault
 
 -- what `draw` answers of the bytes of an instance and of a plan, and what it writes
 abbrev pub IsDrawAnswer : ℕ → Shown → List ℕ → List ℕ → Option (List ℕ) → Option (List ℕ) → End → Type 0
 IsDrawAnswer width shown instance plan =
-    IsCommandAnswer (OnDone (IsTold (IsVerified instance plan) (IsPictureText width shown))) (IsDrawRefused shown instance plan)
+    IsCommandAnswer (OnDone (IsTold (IsPrinted instance plan) (IsPictureText width shown))) (IsDrawRefused shown instance plan)

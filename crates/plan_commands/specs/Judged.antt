@@ -1,14 +1,13 @@
 -- What the bytes of an instance, of a plan or the word that there is none, and of a certificate are judged to be, and what `judge` writes of them.
-use Rattle.std.specs.Prelude.{◌≡◌, ◌≢◌, ℕ, ◌+◌, ◌<◌, ◌≤◌, ◌^◌, ◌⊎◌, List, [], ◌∷◌, ◌++◌, length, codes, decimal, Option, None, Some}
+use Rattle.std.specs.Prelude.{◌≡◌, ◌≢◌, ℕ, ◌+◌, ◌<◌, ◌≤◌, ◌⊎◌, List, [], ◌∷◌, ◌++◌, length, codes, decimal, Option, None, Some}
 use Rattle.std.specs.Io.KnownBytes.{Appends, Keeps}
 use Rattle.ttp_model.specs.declared.plan.Plan.{Plan as Table}
 use Rattle.ttp_model.specs.Instance.{Instance}
 use Rattle.ttp_model.specs.Plans.{IsValid}
 use Rattle.ttp_model.specs.Delays.{delay}
 use Rattle.plan_format.specs.declared.fault.LineFault.TheVariants.{Trailing}
-use Rattle.plan_format.specs.declared.fault.PlanTextError.{PlanTextError}
-use Rattle.plan_format.specs.declared.fault.PlanTextError.TheVariants.{At, OutOfMemory}
-use Rattle.command_streams.specs.Limits.{instance_limit, plan_limit}
+use Rattle.plan_format.specs.declared.fault.PlanTextError.TheVariants.{At}
+use Rattle.command_streams.specs.Limits.{plan_limit}
 use Rattle.command_streams.specs.Streams.{AppendsPart}
 use Rattle.command_streams.specs.declared.ending.Source.TheVariants as source
 use Rattle.command_streams.specs.declared.ending.Sink.TheVariants as sink
@@ -17,14 +16,15 @@ use Rattle.command_streams.specs.declared.ending.Fault.TheVariants.{InstanceText
 use Rattle.command_streams.specs.declared.ending.End.{End}
 use Rattle.command_streams.specs.declared.ending.End.TheVariants.{Done, Absent, Stopped, Refused}
 use Rattle.command_streams.specs.Outcomes.{IsCommandAnswer}
-use Rattle.command_streams.specs.Instances.{HasInstance, IsInstanceFault, StatesSome}
+use Rattle.command_streams.specs.Instances.{HasInstance}
 use Rattle.plan_commands.specs.declared.front.Front.{Front}
 use Rattle.plan_commands.specs.declared.front.Front.TheVariants as front
 use Rattle.plan_commands.specs.declared.judge.Standing.{Standing}
 use Rattle.plan_commands.specs.declared.judge.Judgement.{Judgement}
 use Rattle.plan_commands.specs.declared.judge.Judgement.TheVariants.{Least, NoPlan, Between}
-use Rattle.plan_commands.specs.Fronts.{BeginsWith, longest_stopped_line}
-use Rattle.plan_commands.specs.Verdicts.{HasValidPlan, IsPlanFault}
+use Rattle.plan_commands.specs.Fronts.{BeginsWith}
+use Rattle.plan_commands.specs.Printed.{IsPlanFaultBehind, IsRefusedAs}
+use Rattle.plan_commands.specs.Verdicts.{HasValidPlan}
 use Rattle.plan_commands.specs.Certified.{HasBound, IsCertificateFault}
 
 -- ---- what is given in a plan's place
@@ -34,10 +34,16 @@ abbrev pub HasPlanOf : Instance → List ℕ → Option ℕ → Type 0
 HasPlanOf i text None = ⊥
 HasPlanOf i text (Some d) = (plan : Table) × HasValidPlan i text plan d
 
+-- that nothing stands there, and that there is no plan
+abbrev pub IsNothing : List ℕ → Option ℕ → Type 0
+IsNothing rest best = (rest ≡ []) × (best ≡ None)
+
 -- what stands behind such a front stands for the delay of a valid plan, or nothing does and there is none
 abbrev pub StandsBehind : Instance → Front → List ℕ → Option ℕ → Type 0
-StandsBehind i front.NoPlan rest best = (rest ≡ []) × (best ≡ None)
-StandsBehind i begun rest best = HasPlanOf i rest best
+StandsBehind i front.Plan rest best = HasPlanOf i rest best
+StandsBehind i front.Headed rest best = HasPlanOf i rest best
+StandsBehind i front.Bare rest best = IsNothing rest best
+StandsBehind i front.NoPlan rest best = IsNothing rest best
 
 -- the bytes in a plan's place stand for that
 pub record StandsFor (i : Instance) (bytes : List ℕ) (best : Option ℕ) : Type 0 where
@@ -46,27 +52,16 @@ pub record StandsFor (i : Instance) (bytes : List ℕ) (best : Option ℕ) : Typ
   pub begins : BeginsWith bytes begun rest
   pub stands : StandsBehind i begun rest best
 
--- an error of a plan's text behind one line more
-abbrev pub error_behind_line : PlanTextError → PlanTextError
-error_behind_line (At line fault) = At (line + 1) fault
-error_behind_line OutOfMemory = OutOfMemory
+-- anything within a plan's limit stands where nothing may
+abbrev pub IsMore : List ℕ → Fault → Type 0
+IsMore rest fault = (rest ≢ []) × ((length rest ≤ plan_limit) × (fault ≡ PlanText (At 2 Trailing)))
 
--- a fault of what stands behind such a front: lines are counted from the first of all
-abbrev pub told_behind : Front → Fault → Fault
-told_behind front.Stopped (PlanText error) = PlanText (error_behind_line error)
-told_behind begun fault = fault
-
--- a fault of the plan behind such a front
-pub record IsPlanFaultBehind (i : Instance) (begun : Front) (rest : List ℕ) (fault : Fault) : Type 0 where
-  pub own : Fault
-  pub refused : IsPlanFault i rest own
-  pub told : fault ≡ told_behind begun own
-
--- why what stands behind such a front, within a plan's limit, stands for nothing: the fault of the plan, or that anything follows
--- where there is none
+-- why what stands behind such a front stands for nothing: the fault of the plan, or that anything follows where there is none
 abbrev pub IsRefusedBehind : Instance → Front → List ℕ → Fault → Type 0
-IsRefusedBehind i front.NoPlan rest fault = (rest ≢ []) × ((length rest ≤ plan_limit) × (fault ≡ PlanText (At 2 Trailing)))
-IsRefusedBehind i begun rest fault = IsPlanFaultBehind i begun rest fault
+IsRefusedBehind i front.Plan rest fault = IsPlanFaultBehind i front.Plan rest fault
+IsRefusedBehind i front.Headed rest fault = IsPlanFaultBehind i front.Headed rest fault
+IsRefusedBehind i front.Bare rest fault = IsMore rest fault
+IsRefusedBehind i front.NoPlan rest fault = IsMore rest fault
 
 -- the bytes in a plan's place are at this fault
 pub record IsRefusedPlace (i : Instance) (bytes : List ℕ) (fault : Fault) : Type 0 where
@@ -132,12 +127,6 @@ pub record IsToldAt (instance plan certificate : List ℕ) (end : End) (text : L
 
 -- ---- why nothing is told
 
--- the instance is stated, and what is given in a plan's place is at this fault
-pub record IsUnstanding (instance plan : List ℕ) (fault : Fault) : Type 0 where
-  pub problem : Instance
-  pub has_instance : HasInstance instance problem
-  pub refused : IsRefusedPlace problem plan fault
-
 -- the instance is stated, something stands in a plan's place, and the certificate's bytes are at this fault
 pub record IsUnbounded (instance plan certificate : List ℕ) (fault : Fault) : Type 0 where
   pub problem : Instance
@@ -148,16 +137,7 @@ pub record IsUnbounded (instance plan certificate : List ℕ) (fault : Fault) : 
 
 -- why the bytes of an instance and of what is given in a plan's place stand for nothing: for the instance, or else for the place
 abbrev pub HasNoStanding : List ℕ → List ℕ → Fault → Type 0
-HasNoStanding instance plan (InstanceText error) = IsInstanceFault instance (InstanceText error)
-HasNoStanding instance plan Memory = Unit {0}
-HasNoStanding instance plan (Unread source.Instance) = Unit {0}
-HasNoStanding instance plan (Unread source.Plan) = StatesSome instance
-HasNoStanding instance plan (TooLong source.Instance) = instance_limit < length instance
-HasNoStanding instance plan (TooLong source.Plan) = StatesSome instance × (plan_limit < length plan)
-HasNoStanding instance plan (PlanText error) = IsUnstanding instance plan (PlanText error)
-HasNoStanding instance plan (Plan fault) = IsUnstanding instance plan (Plan fault)
-HasNoStanding instance plan (StatedDelay d) = IsUnstanding instance plan (StatedDelay d)
-HasNoStanding instance plan _ = ⊥
+HasNoStanding instance plan fault = IsRefusedAs IsRefusedPlace instance plan fault
 
 -- why nothing is judged: for those two, or else for the certificate
 abbrev pub IsUnjudged : List ℕ → List ℕ → List ℕ → Fault → Type 0
@@ -173,31 +153,6 @@ IsJudgeAnswer instance plan certificate =
     IsCommandAnswer (IsToldAt instance plan certificate) (IsUnjudged instance plan certificate)
 
 -- ---- steps on the way
-
--- the bytes in a plan's place, at most: a plan's, and those of the longest line of a search that was stopped
-abbrev pub place_limit : ℕ
-place_limit = plan_limit + longest_stopped_line
-
--- more than a plan's limit stands behind the front of the bytes
-pub record IsTooLong (bytes : List ℕ) : Type 0 where
-  pub begun : Front
-  pub rest : List ℕ
-  pub begins : BeginsWith bytes begun rest
-  pub long : plan_limit < length rest
-
--- why bytes in a plan's place stand for nothing: they are at this fault, or are too many
-abbrev pub IsRefusedOrLong : Instance → List ℕ → Fault → Type 0
-IsRefusedOrLong i bytes fault = IsRefusedPlace i bytes fault ⊎ ((fault ≡ TooLong source.Plan) × IsTooLong bytes)
-
--- there is a number for the line behind
-abbrev pub HasLineBehind : PlanTextError → Type 0
-HasLineBehind (At line fault) = line + 1 < 2 ^ 32
-HasLineBehind OutOfMemory = Unit {0}
-
--- the same of a fault
-abbrev pub CanBeBehind : Fault → Type 0
-CanBeBehind (PlanText error) = HasLineBehind error
-CanBeBehind _ = Unit {0}
 
 -- the bytes of an instance, and of what stands for this in a plan's place
 pub record IsStanding (instance plan : List ℕ) (standing : Standing) : Type 0 where

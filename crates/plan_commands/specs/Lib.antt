@@ -7,4 +7,5 @@ pub mod LossWords
 pub mod Traces
 pub mod Certified
 pub mod Fronts
+pub mod Printed
 pub mod Judged

@@ -6,7 +6,8 @@ use Rattle.plan_sheets.specs.declared.table.Table.{Table}
 use Rattle.plan_sheets.specs.Tables.{table_text}
 use Rattle.command_streams.specs.declared.ending.End.{End}
 use Rattle.command_streams.specs.Outcomes.{IsCommandAnswer, OnDone}
-use Rattle.plan_commands.specs.Verdicts.{IsRefused, IsTold, IsVerified}
+use Rattle.plan_commands.specs.Printed.{IsPrinted, IsUnprinted}
+use Rattle.plan_commands.specs.Verdicts.{IsTold}
 
 -- what `schedule` tells of a valid plan: the text of this table
 abbrev pub IsTableText : Table → Instance → Plan → List ℕ → Type 0
@@ -14,4 +15,4 @@ IsTableText table i plan text = text ≡ table_text i plan table
 
 -- what `schedule` answers of the bytes of an instance and of a plan, and what it writes
 abbrev pub IsScheduleAnswer : Table → List ℕ → List ℕ → Option (List ℕ) → Option (List ℕ) → End → Type 0
-IsScheduleAnswer table instance plan = IsCommandAnswer (OnDone (IsTold (IsVerified instance plan) (IsTableText table))) (IsRefused instance plan)
+IsScheduleAnswer table instance plan = IsCommandAnswer (OnDone (IsTold (IsPrinted instance plan) (IsTableText table))) (IsUnprinted instance plan)

@@ -1,7 +1,7 @@
-//! How does a text in a plan's place begin: as a plan, or as what a search wrote that was stopped or found no plan?
+//! How does a text in a plan's place begin: as a plan, or as what a search printed that says more or found no plan?
 
-ghost use Rattle.std.specs.Prelude.{◌≡◌, ◌↔◌, IfNone, IfSome, IsTrue};
-ghost use Rattle.plan_commands.specs.Fronts.{BeginsWith, IsBestWord, IsNumber, IsStoppedLine, IsWhyWord, no_plan_text};
+ghost use Rattle.std.specs.Prelude.{◌≡◌, ◌↔◌, IsTrue, MatchOption};
+ghost use Rattle.plan_commands.specs.Fronts.{AreBounds, AreStopped, BeginsWith, IsAnswerLine, IsBestWord, IsEnd, IsNumber, IsWhyWord, no_plan_text};
 ghost use Rattle.plan_commands.specs.declared.front.Front.{Front};
 
 use line_text::{NumberWord, after_keyword, cut, number_word};
@@ -11,9 +11,11 @@ use line_text::{NumberWord, after_keyword, cut, number_word};
 pub enum Front {
     /// As a plan does.
     Plan,
-    /// With the line of a search that was stopped and had found a plan.
-    Stopped,
-    /// With the word that no plan is valid, or the line of a search that was stopped and had found none.
+    /// With the line of a search that found a plan, which stands behind it.
+    Headed,
+    /// With the line of a search that was stopped before it found one.
+    Bare,
+    /// With the word that no plan is valid.
     NoPlan,
 }
 
@@ -35,32 +37,66 @@ fn is_number(word: &[u8]) -> bool
     matches!(number_word(word), NumberWord::Number(_))
 }
 
-/// What follows of the word for the best delay, where it is one.
+/// What follows of the word for the best that is known, where it is one.
 fn front_of_best(word: &[u8]) -> Option<Front>
-    ensures some { IfSome result (λ front. IsBestWord front word.now) }
-    ensures none { IfNone result ((front : Front) → ¬ IsBestWord front word.now) }
+    ensures { MatchOption result ((front : Front) → ¬ IsBestWord front word.now) (λ front. IsBestWord front word.now) }
 {
     if word == b"none".as_slice() {
-        Some(Front::NoPlan)
+        Some(Front::Bare)
     } else if is_number(word) {
-        Some(Front::Stopped)
+        Some(Front::Headed)
     } else {
         None
     }
 }
 
-/// What follows of the line of a search that was stopped, where it is one. The line's end isn't part of it.
-fn front_of_line(line: &[u8]) -> Option<Front>
-    ensures some { IfSome result (IsStoppedLine line.now) }
-    ensures none { IfNone result ((front : Front) → ¬ IsStoppedLine line.now front) }
+/// What follows of a tick by which processes end, where the word is one.
+fn front_of_end(word: &[u8]) -> Option<Front>
+    ensures { MatchOption result ((front : Front) → ¬ IsEnd word.now front) (IsEnd word.now) }
 {
-    let words = after_keyword(b"stopped ", line)?;
-    let (why, words) = cut(b' ', words)?;
-    let (low, best) = cut(b' ', words)?;
-    if !is_why(why) || !is_number(low) {
-        return None;
+    if is_number(word) {
+        Some(Front::Headed)
+    } else {
+        None
     }
-    front_of_best(best)
+}
+
+/// What follows of a bound and the best that is known.
+fn front_of_bounds(words: &[u8]) -> Option<Front>
+    ensures { MatchOption result ((front : Front) → ¬ AreBounds words.now front) (AreBounds words.now) }
+{
+    let (low, best) = cut(b' ', words)?;
+    if is_number(low) {
+        front_of_best(best)
+    } else {
+        None
+    }
+}
+
+/// What follows of the words of a search that was stopped.
+fn front_of_stopped(words: &[u8]) -> Option<Front>
+    ensures { MatchOption result ((front : Front) → ¬ AreStopped words.now front) (AreStopped words.now) }
+{
+    let (why, rest) = cut(b' ', words)?;
+    if is_why(why) {
+        front_of_bounds(rest)
+    } else {
+        None
+    }
+}
+
+/// What follows of a line that is printed in front of a plan, where it is one. The line's end isn't part of it.
+fn front_of_line(line: &[u8]) -> Option<Front>
+    ensures { MatchOption result ((front : Front) → ¬ IsAnswerLine line.now front) (IsAnswerLine line.now) }
+{
+    if let Some(words) = after_keyword(b"stopped ", line) {
+        return front_of_stopped(words);
+    }
+    if let Some(words) = after_keyword(b"between ", line) {
+        return front_of_bounds(words);
+    }
+    let word = after_keyword(b"limit ", line)?;
+    front_of_end(word)
 }
 
 /// Whether bytes say that no plan is valid.

@@ -6,24 +6,20 @@ ghost use Rattle.command_streams.specs.Limits.{certificate_limit, instance_limit
 ghost use Rattle.command_streams.specs.Streams.{TakesAtMost};
 ghost use Rattle.command_streams.specs.Instances.{IsOfInstance};
 ghost use Rattle.command_streams.specs.Outcomes.{IfRefused};
-ghost use Rattle.plan_commands.specs.Judged.{CanBeBehind, HasLineBehind, HasNoStanding, HasPlanOf, IsBeforeCertificate, IsJudgeAnswer, IsJudgementOf, IsPlanFaultBehind, IsRefusedBehind, IsRefusedOrLong, IsStanding, IsWritingJudgement, StandsBehind, StandsFor, end_of, error_behind_line, judgement_line, judgement_text, limit_of, place_limit, told_behind};
+ghost use Rattle.plan_commands.specs.Printed.{IsAtFaultOrLong, IsPlanFaultBehind, printed_limit};
+ghost use Rattle.plan_commands.specs.Judged.{HasNoStanding, HasPlanOf, IsBeforeCertificate, IsJudgeAnswer, IsJudgementOf, IsMore, IsNothing, IsRefusedBehind, IsRefusedPlace, IsStanding, IsWritingJudgement, StandsBehind, StandsFor, end_of, judgement_line, judgement_text, limit_of};
 
 use crate::certified::read_bound;
 use crate::front::{Front, front_of};
-use crate::verdict::{PLAN_LIMIT, verified_of_text};
-use command_streams::{End, Fault, Sink, Source, read_all, read_instance, write_text};
+use crate::printed::{read_printed, verified_behind};
+use crate::verdict::PLAN_LIMIT;
+use command_streams::{End, Fault, Sink, Source, read_instance, write_text};
 use plan_format::{LineFault, PlanTextError};
 use std::alloc::{AllocError, Global};
 use std::fmt;
 use std::io::{Read, Write};
 use std::thread::Threads;
 use ttp_model::Instance;
-
-/// The bytes of the line of a search that was stopped, at most: two numbers of ten digits, three words and what parts them.
-const LONGEST_STOPPED_LINE: usize = 37;
-
-/// The bytes in a plan's place, at most.
-const PLACE_LIMIT: usize = PLAN_LIMIT + LONGEST_STOPPED_LINE;
 
 /// An instance, and the delay in ticks of the plan that is given for it, or none where it is said that there is no plan.
 #[derive(Debug, Drop)]
@@ -58,34 +54,6 @@ impl fmt::Display for Judgement {
     }
 }
 
-/// The error of a text in which one line more stands in front of the plan.
-fn error_behind_line(error: PlanTextError) -> PlanTextError
-    requires { HasLineBehind error }
-    ensures { result ≡ error_behind_line error }
-{
-    match error {
-        PlanTextError::At { line, fault } => PlanTextError::At {
-            line: line + 1,
-            fault,
-        },
-        PlanTextError::OutOfMemory => PlanTextError::OutOfMemory,
-    }
-}
-
-/// The fault of what stands behind such a front, with lines counted from the first of all.
-fn told_behind(front: Front, fault: Fault) -> Fault
-    requires { CanBeBehind fault }
-    ensures { result ≡ told_behind front fault }
-{
-    match front {
-        Front::Plan | Front::NoPlan => fault,
-        Front::Stopped => match fault {
-            Fault::PlanText(error) => Fault::PlanText(error_behind_line(error)),
-            other => other,
-        },
-    }
-}
-
 /// The delay of the plan that stands behind such a front.
 fn standing_of_plan(
     alloc: Global,
@@ -98,13 +66,28 @@ fn standing_of_plan(
         (λ standing. (standing.instance ≡ instance) × HasPlanOf instance rest.now standing.best)
         (IsPlanFaultBehind instance front rest.now) }
 {
-    let _nodes = instance.nodes();
-    match verified_of_text(alloc, instance, rest) {
+    match verified_behind(alloc, instance, front, rest) {
         Ok(verified) => Ok(Standing {
             instance: verified.instance,
             best: Some(verified.delay),
         }),
-        Err(fault) => Err(told_behind(front, fault)),
+        Err(fault) => Err(fault),
+    }
+}
+
+/// That there is no plan, where nothing stands behind such a front.
+fn standing_of_none(instance: Instance, rest: &[u8]) -> Result<Standing, Fault>
+    requires { length rest.now ≤ PLAN_LIMIT }
+    ensures judged { MatchResult result
+        (λ standing. (standing.instance ≡ instance) × IsNothing rest.now standing.best)
+        (IsMore rest.now) }
+{
+    if rest.is_empty() {
+        let best = None;
+        Ok(Standing { instance, best })
+    } else {
+        let fault = LineFault::Trailing;
+        Err(Fault::PlanText(PlanTextError::At { line: 2, fault }))
     }
 }
 
@@ -121,16 +104,8 @@ fn standing_behind(
         (IsRefusedBehind instance front rest.now) }
 {
     match front {
-        Front::Plan | Front::Stopped => standing_of_plan(alloc, instance, front, rest),
-        Front::NoPlan => {
-            if rest.is_empty() {
-                let best = None;
-                Ok(Standing { instance, best })
-            } else {
-                let fault = LineFault::Trailing;
-                Err(Fault::PlanText(PlanTextError::At { line: 2, fault }))
-            }
-        }
+        Front::Plan | Front::Headed => standing_of_plan(alloc, instance, front, rest),
+        Front::Bare | Front::NoPlan => standing_of_none(instance, rest),
     }
 }
 
@@ -138,7 +113,7 @@ fn standing_behind(
 fn standing_of_text(alloc: Global, instance: Instance, bytes: &[u8]) -> Result<Standing, Fault>
     ensures judged { MatchResult result
         (λ standing. (standing.instance ≡ instance) × StandsFor instance bytes.now standing.best)
-        (IsRefusedOrLong instance bytes.now) }
+        (IsAtFaultOrLong IsRefusedPlace instance bytes.now) }
     ensures later { IfErr result (λ fault. ¬ IsOfInstance fault) }
 {
     let (front, rest) = front_of(bytes);
@@ -158,11 +133,11 @@ fn standing_of_readers<I: Read, P: Read>(
         (IsStanding i p)
         (HasNoStanding i p))) }
     ensures instance { TakesAtMost (instance_limit + 1) (I.remaining instance.old) (I.remaining instance.new) }
-    ensures plan { TakesAtMost (place_limit + 1) (P.remaining plan.old) (P.remaining plan.new) }
+    ensures plan { TakesAtMost (printed_limit + 1) (P.remaining plan.old) (P.remaining plan.new) }
     ensures order { IfErr result (λ fault. IsOfInstance fault → Keeps (P.remaining plan.old) (P.remaining plan.new)) }
 {
     let instance = read_instance(alloc, instance)?;
-    let bytes = read_all(alloc, plan, PLACE_LIMIT, Source::Plan)?;
+    let bytes = read_printed(alloc, plan)?;
     standing_of_text(alloc, instance, bytes.as_slice())
 }
 
@@ -224,8 +199,8 @@ fn write_judgement<W: Write>(alloc: Global, judgement: Judgement, out: &mut W) -
 
 /// Reads an instance, a plan and a certificate, and writes what the certificate's bound says of the plan: `least` with its delay
 /// in ticks, where the bound is that delay; or `between` with the bound and the delay, where the bound is smaller, and then the
-/// end is `Stopped`. In the plan's place the text of a search that was stopped may stand, which begins with its line `stopped`,
-/// or the word `none`. Where no plan is given `none` is written where the bound is one tick past the horizon, and then the end is
+/// end is `Stopped`. In the plan's place may stand whatever a search printed: a line `stopped`, `limit` or `between`, and behind it
+/// the plan, where one was found; or the word `none`. Where no plan is given `none` is written where the bound is one tick past the horizon, and then the end is
 /// `Absent`; and `between` with the bound and the word `none` where it is smaller. The instance is read and judged first, as
 /// `verify` does, then the plan, and then the certificate as `check` does. Where anything else ends the command nothing is
 /// written, and after a failed write a prefix of the line stands.
@@ -242,7 +217,7 @@ pub fn judge_run<I: Read, P: Read, C: Read, W: Write>(
     // Of a reader no more is taken than its limit and one byte; of the plan's nothing at a fault of the instance, and of the
     // certificate's nothing at a fault of either.
     ensures instance { TakesAtMost (instance_limit + 1) (I.remaining instance.old) (I.remaining instance.new) }
-    ensures plan { TakesAtMost (place_limit + 1) (P.remaining plan.old) (P.remaining plan.new) }
+    ensures plan { TakesAtMost (printed_limit + 1) (P.remaining plan.old) (P.remaining plan.new) }
     ensures certificate { TakesAtMost (certificate_limit + 1) (C.remaining certificate.old) (C.remaining certificate.new) }
     ensures order { IfRefused result (λ fault. IsOfInstance fault → Keeps (P.remaining plan.old) (P.remaining plan.new)) }
     ensures last { IfRefused result (λ fault. IsBeforeCertificate fault → Keeps (C.remaining certificate.old) (C.remaining certificate.new)) }

@@ -5,7 +5,7 @@ ghost use Rattle.ttp_model.specs.Instance.{Instance};
 ghost use Rattle.ttp_model.specs.Delays.{HasNoPlan, IsLeastDelay, IsLowerBound};
 ghost use Rattle.command_streams.specs.Instances.{HasInstance};
 ghost use Rattle.plan_commands.specs.Certified.{HasBound};
-ghost use Rattle.plan_commands.specs.Fronts.{IsStoppedLine, longest_stopped_line};
+ghost use Rattle.plan_commands.specs.Fronts.{IsAnswerLine, longest_answer_line};
 ghost use Rattle.plan_commands.specs.Judged.{IsJudged, IsJudgementOf, IsReached, StandsFor, limit_of};
 ghost use Rattle.plan_commands.specs.declared.front.Front.{Front};
 ghost use Rattle.plan_commands.specs.declared.judge.Judgement.{Judgement};
@@ -29,9 +29,9 @@ pub fn between_has_the_least_delay()
         → (i : Instance) × HasInstance instance i × IsLowerBound i low × (low < limit_of i best) × IsReached i best }
 {}
 
-/// The line of a search that was stopped is short, so that no text within its limits is left unread.
-pub fn stopped_lines_are_short()
-    ensures { (line : List ℕ) (front : Front) → IsStoppedLine line front → length line < longest_stopped_line }
+/// The line in front of a printed plan is short, so that no text within its limits is left unread.
+pub fn answer_lines_are_short()
+    ensures { (line : List ℕ) (front : Front) → IsAnswerLine line front → length line < longest_answer_line }
 {}
 
 /// Texts without a fault are judged.

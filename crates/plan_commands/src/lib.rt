@@ -9,20 +9,23 @@ mod laws;
 mod losses;
 mod node_tables;
 mod picture;
+mod printed;
 mod replay;
 mod sheets;
 mod verdict;
 
 pub use bundle::verify_bundle;
 pub use certified::{check_run, read_bound};
+pub use front::{Front, front_of};
 pub use judge::judge_run;
 pub use laws::{
-    between_has_the_least_delay, least_is_the_least_delay, none_is_that_there_is_no_plan,
-    stopped_lines_are_short, texts_are_judged, texts_are_judged_by_what_they_say,
+    answer_lines_are_short, between_has_the_least_delay, least_is_the_least_delay,
+    none_is_that_there_is_no_plan, texts_are_judged, texts_are_judged_by_what_they_say,
     texts_are_judged_once,
 };
 pub use node_tables::tables;
 pub use picture::draw_run;
+pub use printed::{bare_fault, printed_of_readers, read_printed};
 pub use replay::replay_run;
 pub use sheets::schedule_run;
 pub use verdict::{PLAN_LIMIT, Verified, verified_of_readers, verify};

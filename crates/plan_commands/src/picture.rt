@@ -4,13 +4,14 @@ ghost use Rattle.std.specs.Prelude.{◌+◌, ◌≤◌, IfSome};
 ghost use Rattle.ttp_model.specs.Plans.{IsValid};
 ghost use Rattle.std.specs.Io.KnownBytes.{Keeps};
 ghost use Rattle.plan_picture.specs.Limits.{least_width, most_width};
-ghost use Rattle.command_streams.specs.Limits.{instance_limit, plan_limit};
+ghost use Rattle.command_streams.specs.Limits.{instance_limit};
 ghost use Rattle.command_streams.specs.Streams.{TakesAtMost};
 ghost use Rattle.command_streams.specs.Instances.{IsOfInstance};
 ghost use Rattle.command_streams.specs.Outcomes.{IfRefused, IsCommandAnswer, OnDone};
+ghost use Rattle.plan_commands.specs.Printed.{printed_limit};
 ghost use Rattle.plan_commands.specs.Drawings.{IsDrawAnswer, IsPictureText, IsUndrawn};
 
-use crate::verdict::verified_of_readers;
+use crate::printed::printed_of_readers;
 use command_streams::{End, Fault, end_with};
 use plan_picture::{Shown, print, too_many_slots};
 use std::alloc::Global;
@@ -42,7 +43,7 @@ fn write_picture<W: Write>(
     }
 }
 
-/// Verifies a plan as `verify` does, and writes a picture of its cycle, so many pixels wide. One that shows each slot may
+/// Verifies a printed plan as `verify` does that of its text, and writes a picture of its cycle, so many pixels wide. One that shows each slot may
 /// have 100,000 of them. Where anything else ends the command nothing is written, and after a failed write a prefix of
 /// the text stands.
 pub fn draw_run<I: Read, P: Read, W: Write>(
@@ -59,10 +60,10 @@ pub fn draw_run<I: Read, P: Read, W: Write>(
         IsDrawAnswer width shown i p (W.contents out.old) (W.contents out.new) result)) }
     // Of a reader no more is taken than its limit and one byte, and of the plan's nothing at a fault of the instance.
     ensures instance { TakesAtMost (instance_limit + 1) (I.remaining instance.old) (I.remaining instance.new) }
-    ensures plan { TakesAtMost (plan_limit + 1) (P.remaining plan.old) (P.remaining plan.new) }
+    ensures plan { TakesAtMost (printed_limit + 1) (P.remaining plan.old) (P.remaining plan.new) }
     ensures order { IfRefused result (λ fault. IsOfInstance fault → Keeps (P.remaining plan.old) (P.remaining plan.new)) }
 {
-    match verified_of_readers(alloc, instance, plan) {
+    match printed_of_readers(alloc, instance, plan) {
         Ok(verified) => {
             let end = write_picture(alloc, &verified.instance, &verified.plan, width, shown, out);
             drop(verified);

@@ -1,6 +1,6 @@
 use Rattle.std.proofs.Common.{sym, refl}
 use Rattle.line_text.proofs.Digits.{number_takes}
-use Rattle.plan_commands.proofs.StoppedLines.{no_number}
+use Rattle.plan_commands.proofs.AnswerLines.{no_number}
 use Rattle.plan_commands.proofs.front.is_number.Goals as goal
 
 pub returns-in-Number : goal.returns-in-Number

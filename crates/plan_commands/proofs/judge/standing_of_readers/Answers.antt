@@ -1,5 +1,7 @@
 use Rattle.std.proofs.lemmas.Result.{err_from_is_err_and}
-use Rattle.plan_commands.proofs.Standings.{standing_of_readers, unread_standing}
+use Rattle.plan_commands.specs.Judged.{IsRefusedPlace}
+use Rattle.plan_commands.proofs.Prints.{unread_printed}
+use Rattle.plan_commands.proofs.Standings.{standing_of_readers}
 use Rattle.plan_commands.proofs.judge.standing_of_readers.Goals as goal
 
 pub returns-clause-judged : goal.returns-clause-judged
@@ -10,5 +12,5 @@ returns-clause-judged g c =
 pub returns-in_err-bytes-clause-judged : goal.returns-in_err-bytes-clause-judged
 returns-in_err-bytes-clause-judged g c =
     let p = err_from_is_err_and c.from_residual-in_err-bytes.result c.from_residual-in_err-bytes.ensures.1 in
-    rw (p.1, p.2) (unread_standing (g.I.Read.remaining c.args.instance.now) (g.P.Read.remaining c.args.plan.now)
+    rw (p.1, p.2) (unread_printed IsRefusedPlace (g.I.Read.remaining c.args.instance.now) (g.P.Read.remaining c.args.plan.now)
     c.in_ok-instance.instance c.in_err-bytes.field-0.0 c.in_ok-instance.ensures.judged c.in_err-bytes.ensures.err)

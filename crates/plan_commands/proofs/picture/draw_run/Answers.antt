@@ -1,6 +1,7 @@
 use Rattle.command_streams.specs.Outcomes.{OnDone}
 use Rattle.plan_commands.specs.Drawings.{IsPictureText}
-use Rattle.plan_commands.specs.Verdicts.{IsTold, IsVerified}
+use Rattle.plan_commands.specs.Printed.{IsPrinted}
+use Rattle.plan_commands.specs.Verdicts.{IsTold}
 use Rattle.plan_commands.proofs.Drawn.{drawn_of_readers, undrawn}
 use Rattle.plan_commands.proofs.Tellings.{never_of_instance}
 use Rattle.plan_commands.proofs.picture.draw_run.Goals as goal
@@ -14,5 +15,5 @@ returns-in-Ok-clause-order g c = never_of_instance _ _ c.write_picture-end.ensur
 
 pub returns-in-Err-clause-answer : goal.returns-in-Err-clause-answer
 returns-in-Err-clause-answer g c =
-    undrawn c.args.shown (λ instance plan. OnDone (IsTold (IsVerified instance plan) (IsPictureText c.args.width c.args.shown)))
+    undrawn c.args.shown (λ instance plan. OnDone (IsTold (IsPrinted instance plan) (IsPictureText c.args.width c.args.shown)))
     _ _ _ c.in-Err.fault c.in-Err.ensures.judged

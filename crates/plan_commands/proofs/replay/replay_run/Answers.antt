@@ -1,6 +1,7 @@
 use Rattle.command_streams.proofs.Outcomes.{ended_later}
 use Rattle.plan_commands.specs.LossWords.{bytes_of}
 use Rattle.plan_commands.specs.Traces.{IsReplayRefused, IsTraceText}
+use Rattle.plan_commands.specs.Verdicts.{IsVerified}
 use Rattle.plan_commands.proofs.LossLists.{well_formed}
 use Rattle.plan_commands.proofs.Tellings.{told_of_readers}
 use Rattle.plan_commands.proofs.Traced.{refused_as_trace, refused_as_verdict}
@@ -14,7 +15,7 @@ returns-in-Err-verified_of_readers-clause-answer g c =
 pub returns-in-Ok-trace_text-clause-answer : goal.returns-in-Ok-trace_text-clause-answer
 returns-in-Ok-trace_text-clause-answer g c =
     let trace = rw c.as_slice.ensures.value at c.in-Ok-trace_text.ensures.judged in
-    told_of_readers (IsTraceText (bytes_of c.args.words.now)) (IsReplayRefused (bytes_of c.args.words.now))
+    told_of_readers IsVerified (IsTraceText (bytes_of c.args.words.now)) (IsReplayRefused (bytes_of c.args.words.now))
     _ _ c.in-Ok-verified_of_readers.verified _ _ _ _ c.in-Ok-verified_of_readers.ensures.judged
     (record { losses = c.in-Ok.losses.items; spelled = c.in-Ok.ensures; trace = trace })
     (rw c.as_slice-in-Ok-trace_text.ensures.value at c.end_with.ensures)

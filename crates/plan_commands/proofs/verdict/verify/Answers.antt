@@ -1,6 +1,6 @@
 use Rattle.command_streams.proofs.Outcomes.{written_later}
 use Rattle.command_streams.specs.Outcomes.{OnDone}
-use Rattle.plan_commands.specs.Verdicts.{IsTold, IsValidLine, IsVerified}
+use Rattle.plan_commands.specs.Verdicts.{IsRefused, IsTold, IsValidLine, IsVerified}
 use Rattle.plan_commands.proofs.Tellings.{refused_of_readers, verdict_of_readers}
 use Rattle.plan_commands.proofs.verdict.verify.Goals as goal
 
@@ -12,4 +12,4 @@ returns-in-Ok-clause-order g c = written_later _ _ _ _ _ c.write_verdict-end.ens
 
 pub returns-in-Err-clause-verdict : goal.returns-in-Err-clause-verdict
 returns-in-Err-clause-verdict g c =
-    refused_of_readers (λ instance plan. OnDone (IsTold (IsVerified instance plan) IsValidLine)) _ _ _ c.in-Err.fault c.in-Err.ensures.judged
+    refused_of_readers (λ instance plan. OnDone (IsTold (IsVerified instance plan) IsValidLine)) IsRefused (λ _ _ never. never) _ _ _ c.in-Err.fault c.in-Err.ensures.judged
