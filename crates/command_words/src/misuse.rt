@@ -7,6 +7,7 @@ use crate::commands::{draw_command, limit_command, solve_command, why_command};
 use crate::numbers::{NumberOption, NumberedCommand};
 use clap::error::ErrorKind;
 use clap::{Command, Error};
+use command_streams::Source;
 use std::alloc::{AllocError, Global};
 
 /// Why the values of a subcommand ask for nothing.
@@ -112,15 +113,22 @@ pub fn keeping_over(alloc: Global, file: &str) -> Error {
     }
 }
 
-/// Why a command is refused whose option would write over another file that its words name, by a link, or by a way through other
-/// folders.
+/// Why a command is refused that would empty, by this option, another file that its words name, by a link, or by a way through other
+/// folders: one that it reads, or one that it writes besides.
 pub fn emptying_over(
     alloc: Global,
     command: NumberedCommand,
     option: &'static str,
     file: &str,
+    read: Option<Source>,
 ) -> Error {
-    match Misuse::Emptying(command, option, file).error(alloc) {
+    let misuse = match (command, read) {
+        (NumberedCommand::Solve, Some(Source::Plan)) => Misuse::OverwritingPlan(file),
+        (NumberedCommand::Solve | NumberedCommand::Limit, Some(Source::Instance))
+            if option == "cert" => { Misuse::Overwriting(command, file) }
+        _ => Misuse::Emptying(command, option, file),
+    };
+    match misuse.error(alloc) {
         Ok(error) => error,
         Err(error) => Error::from(error),
     }

@@ -3,15 +3,14 @@
 
 ghost use Rattle.command_words.specs.Requests.{IsSound, IsSoundTask};
 
+mod files;
 mod plan_file;
 
-use crate::plan_file::{PlanFile, name_beside, name_one_file};
+use crate::files::{FileFault, Files, Named};
+use crate::plan_file::{PlanFile, name_beside};
 use command_streams::end_with;
 pub use command_streams::{End, Fault, SearchFault, Sink, Source, report, status};
-use command_words::{
-    Explained, Limit, NumberedCommand, Request, Search, Task, VERSION, Why, emptying_over,
-    keeping_over, refuse, request_in,
-};
+use command_words::{Explained, Limit, Request, Search, Task, VERSION, Why, refuse, request_in};
 pub use compare_command::{Compared, Release, compare_run};
 pub use explain_command::{explain_certificate, explain_instance, explain_plan};
 pub use limit_command::limit_run;
@@ -21,7 +20,6 @@ pub use plan_commands::{
 use search_watching::{Follower, Keeper, Patience, Patient, Progress, kept_end};
 use solve_command::{FreeGate, solve_run_from, solve_run_with};
 pub use solve_command::{Options, solve_run};
-use std::alloc::AllocError;
 use std::fs::File;
 use std::io;
 use std::marker::Sync;
@@ -178,62 +176,19 @@ fn run_compare(rt: &HostRuntime, old: (&str, &str), new: (&str, &str)) -> Compar
     )
 }
 
-/// Where a certificate is written, where one was asked for: a file that is created anew.
-fn create_certificate(rt: &HostRuntime, name: Option<&str>) -> Result<Option<File>, Fault> {
-    match name {
-        None => Ok(None),
-        Some(name) => match File::create(rt, name) {
-            Ok(file) => Ok(Some(file)),
-            Err(_) => Err(Fault::Unwritten(Sink::Certificate)),
-        },
-    }
-}
-
-/// What a search reads and writes beside its answer.
-#[derive(Drop)]
-struct Files {
-    instance: File,
-    start: Option<File>,
-    certificate: Option<File>,
-}
-
-/// The file of the plan with which a search begins, where one is named.
-fn open_start(rt: &HostRuntime, name: Option<&str>) -> Result<Option<File>, Fault> {
-    match name {
-        None => Ok(None),
-        Some(name) => match File::open(rt, name) {
-            Ok(file) => Ok(Some(file)),
-            Err(_) => Err(Fault::Unread(Source::Plan)),
-        },
-    }
-}
-
-/// The files of a search: that of the instance is opened first, then that of the plan to begin with, and then that of the certificate.
-fn open_files(rt: &HostRuntime, search: &Search) -> Result<Files, Fault> {
-    let Ok(instance) = File::open(rt, search.instance) else {
-        return Err(Fault::Unread(Source::Instance));
-    };
-    let start = open_start(rt, search.start)?;
-    let certificate = create_certificate(rt, search.certificate)?;
-    Ok(Files {
-        instance,
-        start,
-        certificate,
-    })
-}
-
 /// Searches an instance. All files are open before one is read, that of the best plan so far last.
-fn run_solve(rt: &HostRuntime, threads: &(impl Threads + Wait + Sync), search: &Search) -> End {
-    let files = match open_files(rt, search) {
-        Ok(files) => files,
-        Err(fault) => return End::Refused(fault),
-    };
+fn run_solve<'a>(
+    rt: &HostRuntime,
+    threads: &(impl Threads + Wait + Sync),
+    search: &Search<'a>,
+) -> Result<End, FileFault<'a>> {
+    let files = Files::open(rt, &Named::of_search(search))?;
     if !search.progress {
-        return search_keeping(rt, threads, search, files, &FreeGate);
+        return Ok(search_keeping(rt, threads, search, files, &FreeGate));
     }
     match Progress::on(rt.alloc(), rt, search.workers) {
-        Ok(progress) => search_keeping(rt, threads, search, files, &progress),
-        Err(_) => End::Refused(Fault::Memory),
+        Ok(progress) => Ok(search_keeping(rt, threads, search, files, &progress)),
+        Err(_) => Err(FileFault::Memory),
     }
 }
 
@@ -273,6 +228,7 @@ fn search_files(
         mut instance,
         start,
         mut certificate,
+        ..
     } = files;
     let options = Options {
         workers: search.workers,
@@ -284,7 +240,10 @@ fn search_files(
         seconds: search.seconds,
     };
     let patient = Patient::beside(follower, rt, patience);
-    let certificate = certificate.as_mut();
+    let certificate = match &mut certificate {
+        Some(made) => Some(&mut made.file),
+        None => None,
+    };
     let out = &mut rt.stdout();
     match start {
         None => solve_run_with(
@@ -308,14 +267,6 @@ fn search_files(
             certificate,
             out,
         ),
-    }
-}
-
-/// The file of an option, where it is used: it is created anew.
-fn create_if_any(rt: &HostRuntime, name: Option<&str>) -> io::Result<Option<File>> {
-    match name {
-        None => Ok(None),
-        Some(name) => Ok(Some(File::create(rt, name)?)),
     }
 }
 
@@ -352,71 +303,64 @@ fn why_to(
 
 /// Tells why the instance of a file has no plan. All files are open before one is read: that of the instance first, then that of the
 /// certificate.
-fn run_why(rt: &HostRuntime, threads: &(impl Threads + Wait + Sync), why: &Why) -> WhyEnd {
-    let Ok(mut instance) = File::open(rt, why.instance) else {
-        return WhyEnd::As(End::Refused(Fault::Unread(Source::Instance)));
-    };
-    let Ok(certificate) = create_if_any(rt, why.certificate) else {
-        return WhyEnd::As(End::Refused(Fault::Unwritten(Sink::Certificate)));
-    };
-    let Ok(reduced) = create_if_any(rt, why.reduced) else {
-        return WhyEnd::Unreduced;
-    };
+fn run_why<'a>(
+    rt: &HostRuntime,
+    threads: &(impl Threads + Wait + Sync),
+    why: &Why<'a>,
+) -> Result<WhyEnd, FileFault<'a>> {
+    let Files {
+        mut instance,
+        certificate,
+        reduced,
+        ..
+    } = Files::open(rt, &Named::of_why(why))?;
     let nothing = &mut Vec::new(rt.alloc());
+    let nothing_either = &mut Vec::new(rt.alloc());
     let instance = &mut instance;
-    match (certificate, reduced) {
+    Ok(match (certificate, reduced) {
         (Some(mut certificate), Some(mut reduced)) => {
-            why_to(rt, threads, why, instance, &mut certificate, &mut reduced)
+            let (certificate, reduced) = (&mut certificate.file, &mut reduced.file);
+            why_to(rt, threads, why, instance, certificate, reduced)
         }
         (Some(mut certificate), None) => {
-            why_to(rt, threads, why, instance, &mut certificate, nothing)
+            why_to(rt, threads, why, instance, &mut certificate.file, nothing)
         }
         (None, Some(mut reduced)) => {
-            why_to(
-                rt,
-                threads,
-                why,
-                instance,
-                &mut Vec::new(rt.alloc()),
-                &mut reduced,
-            )
+            why_to(rt, threads, why, instance, nothing, &mut reduced.file)
         }
-        (None, None) => {
-            why_to(
-                rt,
-                threads,
-                why,
-                instance,
-                &mut Vec::new(rt.alloc()),
-                nothing,
-            )
-        }
-    }
+        (None, None) => why_to(rt, threads, why, instance, nothing, nothing_either),
+    })
 }
 
 /// Tells how early processes of the instance of a file can end. Both files are open before the instance is read.
-fn run_limit(rt: &HostRuntime, threads: &(impl Threads + Wait + Sync), limit: &Limit) -> End {
-    let Ok(mut instance) = File::open(rt, limit.instance) else {
-        return End::Refused(Fault::Unread(Source::Instance));
-    };
-    let mut certificate = match create_certificate(rt, limit.certificate) {
-        Ok(certificate) => certificate,
-        Err(fault) => return End::Refused(fault),
+fn run_limit<'a>(
+    rt: &HostRuntime,
+    threads: &(impl Threads + Wait + Sync),
+    limit: &Limit<'a>,
+) -> Result<End, FileFault<'a>> {
+    let Files {
+        mut instance,
+        mut certificate,
+        ..
+    } = Files::open(rt, &Named::of_limit(limit))?;
+    let certificate = match &mut certificate {
+        Some(made) => Some(&mut made.file),
+        None => None,
     };
     let options = Options {
         workers: limit.workers,
         budget: limit.budget,
         gap: 0,
     };
-    limit_run(
+    Ok(limit_run(
         threads,
         rt.alloc(),
         &mut instance,
         limit.processes.as_slice(),
         options,
-        certificate.as_mut(),
+        certificate,
         &mut rt.stdout(),
-    )
+    ))
 }
 
 /// Does what is asked for, says on standard error why it was refused, and gives the status. A search starts threads and waits for
@@ -430,13 +374,21 @@ fn run(rt: &HostRuntime, threads: &(impl Threads + Wait + Sync), request: Reques
             plan,
             task,
         } => run_on_files(rt, instance, plan, task),
-        Request::Solve(search) => run_solve(rt, threads, &search),
-        Request::Why(why) => {
-            let end = run_why(rt, threads, &why);
-            let _ = why_command::report(&end, &mut rt.stderr());
-            return why_command::status(&end);
-        }
-        Request::Limit(limit) => run_limit(rt, threads, &limit),
+        Request::Solve(search) => match run_solve(rt, threads, &search) {
+            Ok(end) => end,
+            Err(fault) => return fault.tell(rt),
+        },
+        Request::Why(why) => match run_why(rt, threads, &why) {
+            Ok(end) => {
+                let _ = why_command::report(&end, &mut rt.stderr());
+                return why_command::status(&end);
+            }
+            Err(fault) => return fault.tell(rt),
+        },
+        Request::Limit(limit) => match run_limit(rt, threads, &limit) {
+            Ok(end) => end,
+            Err(fault) => return fault.tell(rt),
+        },
         Request::Check {
             instance,
             certificate,
@@ -466,83 +418,15 @@ fn run(rt: &HostRuntime, threads: &(impl Threads + Wait + Sync), request: Reques
     ended(rt, &end)
 }
 
-/// Whether a search keeps its best plan, or what is to take its place, in a file that another of its words names.
-fn keeps_over_another(rt: &HostRuntime, search: &Search, kept: &str) -> Result<bool, AllocError> {
-    let next = name_beside(rt, kept)?;
-    let others = [Some(search.instance), search.start, search.certificate];
-    for other in others.into_iter().flatten() {
-        if name_one_file(rt, kept, other) || name_one_file(rt, next.as_str(), other) {
-            return Ok(true);
-        }
-    }
-    Ok(false)
-}
-
-/// The file in which a request would keep its best plan, though it names that file besides.
-fn overwritten<'a>(rt: &HostRuntime, request: &Request<'a>) -> Result<Option<&'a str>, AllocError> {
-    match request {
-        Request::Solve(search) => match search.kept {
-            Some(kept) if keeps_over_another(rt, search, kept)? => Ok(Some(kept)),
-            _ => Ok(None),
-        },
-        _ => Ok(None),
-    }
-}
-
-/// Whether a file is one of two others that are named.
-fn is_either(rt: &HostRuntime, file: &str, first: &str, second: Option<&str>) -> bool {
-    if name_one_file(rt, file, first) {
-        return true;
-    }
-    match second {
-        Some(second) => name_one_file(rt, file, second),
-        None => false,
-    }
-}
-
-/// The command and the option by which a request would empty a file that it names besides, and that file.
-fn emptied<'a>(
-    rt: &HostRuntime,
-    request: &Request<'a>,
-) -> Option<(NumberedCommand, &'static str, &'a str)> {
-    match request {
-        Request::Why(why) => match (why.certificate, why.reduced) {
-            (Some(file), _) if is_either(rt, file, why.instance, None) => {
-                Some((NumberedCommand::Why, "cert", file))
-            }
-            (other, Some(file)) if is_either(rt, file, why.instance, other) => {
-                Some((NumberedCommand::Why, "reduced", file))
-            }
-            _ => None,
-        },
-        Request::Limit(limit) => match limit.certificate {
-            Some(file) if is_either(rt, file, limit.instance, None) => {
-                Some((NumberedCommand::Limit, "cert", file))
-            }
-            _ => None,
-        },
-        _ => None,
-    }
-}
-
 /// Runs the words' request, says on standard error why it was refused, and gives the status.
 fn status_of_words(
     rt: &HostRuntime,
     threads: &(impl Threads + Wait + Sync),
     words: &[String],
 ) -> u8 {
-    let request = match request_in(rt.alloc(), words) {
-        Ok(request) => request,
-        Err(error) => return refuse(&error, &mut rt.stderr()),
-    };
-    if let Some((command, option, file)) = emptied(rt, &request) {
-        let error = emptying_over(rt.alloc(), command, option, file);
-        return refuse(&error, &mut rt.stderr());
-    }
-    match overwritten(rt, &request) {
-        Ok(Some(file)) => refuse(&keeping_over(rt.alloc(), file), &mut rt.stderr()),
-        Ok(None) => run(rt, threads, request),
-        Err(_) => ended(rt, &End::Refused(Fault::Memory)),
+    match request_in(rt.alloc(), words) {
+        Ok(request) => run(rt, threads, request),
+        Err(error) => refuse(&error, &mut rt.stderr()),
     }
 }
 

@@ -1,10 +1,9 @@
-//! Where is the best plan so far kept, and which names are those of one file?
+//! Where is the best plan so far kept?
 
 use search_watching::Shelf;
 use std::alloc::AllocError;
 use std::fs::{self, File};
 use std::io::{self, Write};
-use std::os::unix::fs::MetadataExt;
 use ttp_model::Instance;
 
 /// The file of the best plan so far. The next one is written to a file beside it, which then takes its name.
@@ -73,28 +72,4 @@ impl<'a> Shelf for PlanFile<'a> {
         }
         stands
     }
-}
-
-/// The folder of a name, and the last part of it.
-fn parted(name: &str) -> (&str, &str) {
-    match name.rsplit_once('/') {
-        Some(("", last)) => ("/", last),
-        Some((folder, last)) => (folder, last),
-        None => (".", name),
-    }
-}
-
-/// Whether two names, of which there is something, are those of one file.
-fn are_one(rt: &HostRuntime, a: &str, b: &str) -> bool {
-    match (fs::metadata(rt, a), fs::metadata(rt, b)) {
-        (Ok(a), Ok(b)) => a.dev() == b.dev() && a.ino() == b.ino(),
-        _ => false,
-    }
-}
-
-/// Whether two names are those of one file, by whatever links and ways, also where it isn't there yet.
-pub fn name_one_file(rt: &HostRuntime, a: &str, b: &str) -> bool {
-    let (folder, last) = parted(a);
-    let (other, name) = parted(b);
-    are_one(rt, a, b) || (last == name && are_one(rt, folder, other))
 }

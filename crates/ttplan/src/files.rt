@@ -1,0 +1,294 @@
+//! Which files has a command that searches, and is one that it writes another one of them?
+
+use crate::plan_file::name_beside;
+use command_streams::{End, Fault, Sink, Source, report, status};
+use command_words::{Limit, NumberedCommand, Search, Why, emptying_over, keeping_over, refuse};
+use std::alloc::AllocError;
+use std::fs::{self, File, Metadata, OpenOptions};
+use std::io;
+use std::os::unix::fs::{FileTypeExt, MetadataExt};
+use why_command::WhyEnd;
+
+/// A command that searches, and the names of its files.
+#[derive(Clone, Copy, Debug)]
+pub struct Named<'a> {
+    command: NumberedCommand,
+    instance: &'a str,
+    start: Option<&'a str>,
+    certificate: Option<&'a str>,
+    reduced: Option<&'a str>,
+    kept: Option<&'a str>,
+}
+
+impl<'a> Named<'a> {
+    /// The names in a request of `solve`.
+    pub fn of_search(search: &Search<'a>) -> Self {
+        Named {
+            command: NumberedCommand::Solve,
+            instance: search.instance,
+            start: search.start,
+            certificate: search.certificate,
+            reduced: None,
+            kept: search.kept,
+        }
+    }
+
+    /// The names in a request of `why`.
+    pub fn of_why(why: &Why<'a>) -> Self {
+        Named {
+            command: NumberedCommand::Why,
+            instance: why.instance,
+            start: None,
+            certificate: why.certificate,
+            reduced: why.reduced,
+            kept: None,
+        }
+    }
+
+    /// The names in a request of `limit`.
+    pub fn of_limit(limit: &Limit<'a>) -> Self {
+        Named {
+            command: NumberedCommand::Limit,
+            instance: limit.instance,
+            start: None,
+            certificate: limit.certificate,
+            reduced: None,
+            kept: None,
+        }
+    }
+}
+
+/// An option that names a file which a command makes, or empties where it is there.
+#[derive(Clone, Copy, Debug)]
+pub enum Written {
+    Certificate,
+    Reduced,
+}
+
+impl Written {
+    /// The option's name.
+    fn option(self) -> &'static str {
+        match self {
+            Written::Certificate => "cert",
+            Written::Reduced => "reduced",
+        }
+    }
+}
+
+/// Why a command can't have its files.
+#[derive(Clone, Copy, Debug)]
+pub enum FileFault<'a> {
+    /// When this one can't be opened.
+    Unread(Source),
+    /// When the one of this option can't be made.
+    Unwritten(Written),
+    /// When the one of this option, by this name, is one that is read, as which it is told, or another one that is written.
+    Emptied(NumberedCommand, Written, &'a str, Option<Source>),
+    /// When a plan that is kept by this name would take the place of another one.
+    Replaced(&'a str),
+    /// When memory was wanted, and refused.
+    Memory,
+}
+
+impl From<AllocError> for FileFault<'_> {
+    fn from(_error: AllocError) -> Self {
+        FileFault::Memory
+    }
+}
+
+impl FileFault<'_> {
+    /// Says it on standard error, and gives the status.
+    pub fn tell(&self, rt: &HostRuntime) -> u8 {
+        let err = &mut rt.stderr();
+        let fault = match self {
+            FileFault::Unread(source) => Fault::Unread(*source),
+            FileFault::Unwritten(Written::Certificate) => Fault::Unwritten(Sink::Certificate),
+            FileFault::Unwritten(Written::Reduced) => {
+                let _ = why_command::report(&WhyEnd::Unreduced, err);
+                return why_command::status(&WhyEnd::Unreduced);
+            }
+            FileFault::Emptied(command, written, file, source) => {
+                let option = written.option();
+                return refuse(
+                    &emptying_over(rt.alloc(), *command, option, file, *source),
+                    err,
+                );
+            }
+            FileFault::Replaced(file) => return refuse(&keeping_over(rt.alloc(), file), err),
+            FileFault::Memory => Fault::Memory,
+        };
+        let end = End::Refused(fault);
+        let _ = report(&end, err);
+        status(&end)
+    }
+}
+
+/// A file that is written.
+#[derive(Drop)]
+pub struct Made<'a> {
+    pub file: File,
+    name: &'a str,
+    /// Whether it wasn't there before.
+    is_new: bool,
+}
+
+/// The files of a command that searches: those that it reads are open, and those that it writes are empty.
+#[derive(Drop)]
+pub struct Files<'a> {
+    pub instance: File,
+    pub start: Option<File>,
+    pub certificate: Option<Made<'a>>,
+    pub reduced: Option<Made<'a>>,
+}
+
+impl<'a> Files<'a> {
+    /// Opens what a command reads, in the order of its words, then makes what it writes, and then empties that. No file that was there is
+    /// emptied before it is known that none of these is another one of the command, by whatever name, way or link.
+    pub fn open(rt: &HostRuntime, named: &Named<'a>) -> Result<Self, FileFault<'a>> {
+        let files = Files {
+            instance: opened(rt, Source::Instance, named.instance)?,
+            start: match named.start {
+                Some(name) => Some(opened(rt, Source::Plan, name)?),
+                None => None,
+            },
+            certificate: made(rt, Written::Certificate, named.certificate)?,
+            reduced: made(rt, Written::Reduced, named.reduced)?,
+        };
+        match files.fault(rt, named)? {
+            Some(fault) => {
+                take_back(rt, &files.certificate);
+                take_back(rt, &files.reduced);
+                Err(fault)
+            }
+            None => {
+                empty(Written::Certificate, &files.certificate)?;
+                empty(Written::Reduced, &files.reduced)?;
+                Ok(files)
+            }
+        }
+    }
+
+    /// Why a file that is written is another one of the command, where one is.
+    fn fault(
+        &self,
+        rt: &HostRuntime,
+        named: &Named<'a>,
+    ) -> Result<Option<FileFault<'a>>, AllocError> {
+        let command = named.command;
+        if let Some(made) = &self.certificate {
+            if let Some(source) = self.read_as(made.file.metadata()) {
+                let certificate = Written::Certificate;
+                let fault = FileFault::Emptied(command, certificate, made.name, Some(source));
+                return Ok(Some(fault));
+            }
+        }
+        if let Some(made) = &self.reduced {
+            let source = self.read_as(made.file.metadata());
+            if source.is_some() || self.is_certificate(made.file.metadata()) {
+                let fault = FileFault::Emptied(command, Written::Reduced, made.name, source);
+                return Ok(Some(fault));
+            }
+        }
+        match named.kept {
+            Some(kept) if self.has(rt, kept) || self.has(rt, name_beside(rt, kept)?.as_str()) => {
+                Ok(Some(FileFault::Replaced(kept)))
+            }
+            _ => Ok(None),
+        }
+    }
+
+    /// As what a file is read, where it is.
+    fn read_as(&self, found: io::Result<Metadata>) -> Option<Source> {
+        let Ok(found) = found else {
+            return None;
+        };
+        if is_of(&self.instance, &found) {
+            return Some(Source::Instance);
+        }
+        match &self.start {
+            Some(start) if is_of(start, &found) => Some(Source::Plan),
+            _ => None,
+        }
+    }
+
+    /// Whether a file is the certificate's.
+    fn is_certificate(&self, found: io::Result<Metadata>) -> bool {
+        match (&self.certificate, found) {
+            (Some(made), Ok(found)) => is_of(&made.file, &found),
+            _ => false,
+        }
+    }
+
+    /// Whether a name is that of a file that is read, or of the certificate's.
+    fn has(&self, rt: &HostRuntime, name: &str) -> bool {
+        self.read_as(fs::metadata(rt, name)).is_some()
+            || self.is_certificate(fs::metadata(rt, name))
+    }
+}
+
+/// Whether what was found is this file. A device isn't emptied, and two names of one may be used.
+fn is_of(file: &File, found: &Metadata) -> bool {
+    match file.metadata() {
+        Ok(own) => {
+            !own.file_type().is_char_device()
+                && own.dev() == found.dev()
+                && own.ino() == found.ino()
+        }
+        Err(_) => false,
+    }
+}
+
+/// The file of this name, opened to be read.
+fn opened<'a>(rt: &HostRuntime, source: Source, name: &str) -> Result<File, FileFault<'a>> {
+    match File::open(rt, name) {
+        Ok(file) => Ok(file),
+        Err(_) => Err(FileFault::Unread(source)),
+    }
+}
+
+/// The file that an option names, opened to be written: where it is there, as it is.
+fn made<'a>(
+    rt: &HostRuntime,
+    written: Written,
+    name: Option<&'a str>,
+) -> Result<Option<Made<'a>>, FileFault<'a>> {
+    let Some(name) = name else {
+        return Ok(None);
+    };
+    if let Ok(file) = File::create_new(rt, name) {
+        let is_new = true;
+        return Ok(Some(Made { file, name, is_new }));
+    }
+    let mut options = OpenOptions::new();
+    match options.write(true).create(true).open(rt, name) {
+        Ok(file) => {
+            let is_new = false;
+            Ok(Some(Made { file, name, is_new }))
+        }
+        Err(_) => Err(FileFault::Unwritten(written)),
+    }
+}
+
+/// Takes a file away that wasn't there before.
+fn take_back(rt: &HostRuntime, made: &Option<Made<'_>>) {
+    if let Some(made) = made {
+        if made.is_new {
+            let _ = fs::remove_file(rt, made.name);
+        }
+    }
+}
+
+/// Empties a file; a pipe and a device hold nothing.
+fn empty<'a>(written: Written, made: &Option<Made<'a>>) -> Result<(), FileFault<'a>> {
+    let Some(made) = made else {
+        return Ok(());
+    };
+    let is_plain = match made.file.metadata() {
+        Ok(found) => found.is_file(),
+        Err(_) => false,
+    };
+    if is_plain && made.file.set_len(0).is_err() {
+        return Err(FileFault::Unwritten(written));
+    }
+    Ok(())
+}
