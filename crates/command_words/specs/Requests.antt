@@ -19,12 +19,13 @@ IsSoundTask _ = Unit {0}
 abbrev pub IsApart : Search → List ℕ → Type 0
 IsApart search file = IsOtherFile file search.instance.now × IfSome search.start (λ plan. IsOtherFile file plan.now)
 
--- a search has 1 to 16 workers; by their names the files that it writes are none that it reads, and not the same
+-- a search has 1 to 16 workers; by their names the files that it writes are none that it reads, and not the same, but that a plan may be
+-- kept in the file of the one to begin with
 pub record IsSoundSearch (search : Search) : Type 0 where
   pub some : 1 ≤ search.workers
   pub few : search.workers ≤ 16
   pub certificate : IfSome search.certificate (λ file. IsApart search file.now)
-  pub kept : IfSome search.kept (λ file. IsApart search file.now)
+  pub kept : IfSome search.kept (λ file. IsOtherFile file.now search.instance.now)
   pub both : IfSome search.kept (λ file. IfSome search.certificate (λ other. IsOtherFile file.now other.now))
 
 -- the same of a search for what leaves no plan: it reads the instance alone

@@ -160,7 +160,7 @@ fn start<'a>(alloc: Global) -> Arg<'a> {
 /// The file of the best plan so far.
 fn kept<'a>(alloc: Global) -> Arg<'a> {
     Arg::new(alloc, "keep").long("keep").value_name("FILE").help(
-        "Keeps the best plan so far in this file, at every time as a whole, so that an interrupt leaves it there: a better one is written to FILE.new, which is then renamed. INSTANCE, PLAN and the certificate's file are refused",
+        "Keeps the best plan so far in this file, at every time as a whole, so that an interrupt leaves it there: a better one is written to FILE.new, or to FILE.new.1 and so on where that is somebody's, which is then renamed. A plan for INSTANCE that stands there stays until a better one is found. INSTANCE and the certificate's file are refused",
     )
 }
 

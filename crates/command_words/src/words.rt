@@ -225,31 +225,28 @@ fn certificate_of<'a>(
     Ok(Some(file))
 }
 
-/// The file of the best plan so far, which by its name is none that is read, nor the certificate's.
+/// The file of the best plan so far, which by its name is neither the instance's nor the certificate's. It may be that of the plan to
+/// begin with.
 fn kept_of<'a>(
     alloc: Global,
     matches: &ArgMatches<'a>,
     instance: &str,
-    start: Option<&str>,
     certificate: Option<&str>,
 ) -> Result<Option<&'a str>, Misuse<'a>>
     ensures instance { IfOk result (λ name. IfSome name (λ file. IsOtherFile file.now instance.now)) }
-    ensures start { IfOk result (λ name. IfSome name (λ file. IfSome start.entry (λ plan. IsOtherFile file.now plan.now))) }
     ensures certificate { IfOk result (λ name. IfSome name (λ file. IfSome certificate.entry (λ other. IsOtherFile file.now other.now))) }
 {
     let Some(file) = matches.get_str("keep") else {
         return Ok(None);
     };
-    if name_one_file(alloc, file, instance)?
-        || is_named_by(alloc, file, start)?
-        || is_named_by(alloc, file, certificate)?
-    {
+    if name_one_file(alloc, file, instance)? || is_named_by(alloc, file, certificate)? {
         return Err(Misuse::Keeping(file));
     }
     Ok(Some(file))
 }
 
-/// A search with its numbers, each in its range, and files to be written that aren't those which it reads.
+/// A search with its numbers, each in its range, and files to be written that aren't those which it reads, but that a plan may be kept in
+/// the file of the one to begin with.
 fn solve_request<'a>(alloc: Global, matches: &ArgMatches<'a>) -> Result<Request<'a>, Misuse<'a>>
     ensures { IfOk result IsSound }
 {
@@ -262,7 +259,7 @@ fn solve_request<'a>(alloc: Global, matches: &ArgMatches<'a>) -> Result<Request<
         instance,
         start,
         certificate,
-        kept: kept_of(alloc, matches, instance, start, certificate)?,
+        kept: kept_of(alloc, matches, instance, certificate)?,
         workers: number_of(WORKERS, matches)? as u32,
         budget: number_of(BUDGET, matches)?,
         progress: matches.get_flag("progress"),

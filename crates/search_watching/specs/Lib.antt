@@ -1,2 +1,3 @@
+pub mod Beside
 pub mod Kept
 pub mod Patience

@@ -1,52 +1,113 @@
 //! Which plan is kept while a search goes on?
 
-ghost use Rattle.std.specs.Prelude.{◌≡◌, ◌<◌, ℕ, cond, min};
+ghost use Rattle.std.specs.Prelude.{◌≡◌, ◌<◌, ◌⊎◌, ℕ, List, IfOk, IfSome, Some, cond, min, true};
 ghost use Rattle.ttp_model.specs.Delays.{delay};
 ghost use Rattle.ttp_model.specs.Plans.{IsValid};
-ghost use Rattle.search_watching.specs.Kept.{kept_end, IsPlanText};
+ghost use Rattle.search_watching.specs.Kept.{kept_end, HoldsNoBetter, IsPlanText};
 
+use crate::folder::{Folder, replaced};
 use crate::progress::Follower;
 use command_streams::{End, Fault, Sink};
+use plan_format::PlanTextError;
 use planner::{Gate, Name};
-use std::alloc::Global;
+use std::alloc::{AllocError, Global};
 use std::sync::atomic::{AtomicBool, Ordering};
 use std::sync::{Mutex, Wait};
 use ttp_model::{Instance, Plan};
 
-/// Where the text of a better plan takes the place of the one before it.
-pub trait Shelf: Drop {
-    /// The delay of the plan that stands there, in ticks; a greater number than any plan's where none does.
-    ghost kept: { Self → ℕ };
+/// The file of the best plan so far.
+#[derive(Drop)]
+pub struct Shelf<'a, D: Folder> {
+    alloc: Global,
+    folder: D,
+    name: &'a str,
+    /// What the file held before the search.
+    before: Vec<u8>,
+    /// The delay of the plan that stands there, in ticks; the greatest number where none is known to, and 0 where it can't be told.
+    ticks: u64,
+}
 
-    /// The delay of the plan that stands there, in ticks; the greatest number where none does.
-    fn kept(&self) -> u64
-        ensures { result ≡ kept self.now };
+/// The delay of the valid plan of the instance whose text this is, which it states, in ticks.
+fn delay_told(alloc: Global, instance: &Instance, text: &[u8]) -> Result<Option<u64>, AllocError>
+    ensures found { IfOk result (λ found. IfSome found (IsPlanText instance.now text.now)) }
+    ensures only { IfOk result (λ found. (ticks : ℕ) → IsPlanText instance.now text.now ticks → found ≡ Some ticks) }
+{
+    let (plan, stated) = match plan_format::read(alloc, instance, text) {
+        Ok(read) => read,
+        Err(PlanTextError::OutOfMemory) => return Err(AllocError),
+        Err(PlanTextError::At { .. }) => return Ok(None),
+    };
+    match plan_check::check(instance, &plan) {
+        Ok(delay) if delay == u64::from(stated) => Ok(Some(delay)),
+        Ok(_) => Ok(None),
+        Err(_) => Ok(None),
+    }
+}
 
-    /// Whether the text of a better plan of the instance that is searched, which takes so many ticks, stands there now as a whole. Else the one
-    /// before it still does.
+impl<'a, D: Folder> Shelf<'a, D> {
+    /// A file of this name, and what it holds.
+    pub fn at(alloc: Global, folder: D, name: &'a str, before: Vec<u8>) -> Self {
+        Shelf {
+            alloc,
+            folder,
+            name,
+            before,
+            ticks: u64::MAX,
+        }
+    }
+
+    /// Takes note of a plan of the instance that stands there before the search, so that none that isn't better takes its place. Where
+    /// memory is refused nothing will, and it says so.
+    pub fn begin(&mut self, instance: &Instance) -> bool
+        ensures { HoldsNoBetter instance.now self.old.before.items self.new.ticks }
+    {
+        match delay_told(self.alloc, instance, self.before.as_slice()) {
+            Ok(Some(ticks)) => {
+                self.ticks = ticks;
+                true
+            }
+            Ok(None) => true,
+            Err(_) => {
+                self.ticks = 0;
+                false
+            }
+        }
+    }
+
+    /// Puts the text of a better plan, which takes so many ticks, in place of what stands there, and says whether it could. At each moment
+    /// the file holds what it held before, or the new text as a whole.
     fn put(&mut self, instance: &Instance, text: &[u8], ticks: u64) -> bool
         requires text { IsPlanText instance.now text.now ticks }
-        requires better { ticks < kept self.old }
-        ensures { kept self.new ≡ cond result ticks (kept self.old) };
+        requires better { ticks < self.old.ticks }
+        ensures ticks { self.new.ticks ≡ cond result ticks self.old.ticks }
+        ensures any_moment { (bytes : List ℕ) → D.has_held self.new.folder self.new.name.now bytes
+            → D.has_held self.old.folder self.old.name.now bytes ⊎ (bytes ≡ text.now) }
+        ensures stands { result ≡ true → D.holds self.new.folder self.new.name.now text.now }
+    {
+        let is_put = replaced(self.alloc, &mut self.folder, self.name, text);
+        if is_put {
+            self.ticks = ticks;
+        }
+        is_put
+    }
 }
 
 /// Puts the text of a plan that takes so many ticks in place of the one before it, where it is better: whether the better of both stands
 /// there now.
-fn put_better<S: Shelf>(
-    alloc: Global,
-    shelf: &mut S,
+fn put_better<'a, D: Folder>(
+    shelf: &mut Shelf<'a, D>,
     instance: &Instance,
     plan: &Plan,
     ticks: u64,
 ) -> bool
     requires valid { IsValid instance.now plan.now }
     requires takes { ticks ≡ delay instance.now plan.now }
-    ensures { S.kept shelf.new ≡ cond result (min (S.kept shelf.old) ticks) (S.kept shelf.old) }
+    ensures { shelf.new.ticks ≡ cond result (min shelf.old.ticks ticks) shelf.old.ticks }
 {
-    if shelf.kept() <= ticks {
+    if shelf.ticks <= ticks {
         return true;
     }
-    match plan_format::print(alloc, instance, plan) {
+    match plan_format::print(shelf.alloc, instance, plan) {
         Ok(text) => shelf.put(instance, text.as_slice(), ticks),
         Err(_) => false,
     }
@@ -70,20 +131,18 @@ pub fn kept_end(end: End, has_failed: bool) -> End
 /// Follows a search, as another follower does who is told of all, and keeps the best plan found. Who finds a plan while another one is put
 /// waits for that.
 #[derive(Drop)]
-pub struct Keeper<'a, R: Wait, S: Shelf, F: Follower> {
+pub struct Keeper<'a, R: Wait, D: Folder, F: Follower> {
     rt: &'a R,
-    alloc: Global,
     follower: &'a F,
-    shelf: Mutex<S>,
+    shelf: Mutex<Shelf<'a, D>>,
     failed: AtomicBool,
 }
 
-impl<'a, R: Wait, S: Shelf, F: Follower> Keeper<'a, R, S, F> {
+impl<'a, R: Wait, D: Folder, F: Follower> Keeper<'a, R, D, F> {
     /// No plan is found yet.
-    pub fn beside(follower: &'a F, rt: &'a R, alloc: Global, shelf: S) -> Self {
+    pub fn beside(follower: &'a F, rt: &'a R, shelf: Shelf<'a, D>) -> Self {
         Keeper {
             rt,
-            alloc,
             follower,
             shelf: Mutex::new(shelf),
             failed: AtomicBool::new(false),
@@ -94,14 +153,9 @@ impl<'a, R: Wait, S: Shelf, F: Follower> Keeper<'a, R, S, F> {
     pub fn has_failed(&self) -> bool {
         self.failed.load(Ordering::SeqCst)
     }
-
-    /// What the best plan is kept on.
-    pub fn shelf(self) -> S {
-        self.shelf.into_inner()
-    }
 }
 
-impl<'a, R: Wait, S: Shelf, F: Follower> Gate for Keeper<'a, R, S, F> {
+impl<'a, R: Wait, D: Folder, F: Follower> Gate for Keeper<'a, R, D, F> {
     fn start(&self, worker: usize) {
         self.follower.start(worker);
     }
@@ -121,14 +175,19 @@ impl<'a, R: Wait, S: Shelf, F: Follower> Gate for Keeper<'a, R, S, F> {
     fn found(&self, instance: &Instance, plan: &Plan, delay: u64) {
         self.follower.found(instance, plan, delay);
         let mut shelf = self.shelf.lock(self.rt);
-        if !put_better(self.alloc, &mut *shelf, instance, plan, delay) {
+        if !put_better(&mut *shelf, instance, plan, delay) {
             self.failed.store(true, Ordering::SeqCst);
         }
     }
 }
 
-impl<'a, R: Wait, S: Shelf, F: Follower> Follower for Keeper<'a, R, S, F> {
+impl<'a, R: Wait, D: Folder, F: Follower> Follower for Keeper<'a, R, D, F> {
     fn begin(&self, alloc: Global, instance: &Instance) {
+        let mut shelf = self.shelf.lock(self.rt);
+        if !shelf.begin(instance) {
+            self.failed.store(true, Ordering::SeqCst);
+        }
+        drop(shelf);
         self.follower.begin(alloc, instance);
     }
 

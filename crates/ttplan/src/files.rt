@@ -1,10 +1,8 @@
 //! Which files has a command that searches, and is one that it writes another one of them?
 
-use crate::plan_file::name_beside;
 use command_streams::{End, Fault, Sink, Source, report, status};
 use command_words::{Limit, NumberedCommand, Search, Why, emptying_over, keeping_over, refuse};
-use std::alloc::AllocError;
-use std::fs::{self, File, Metadata, OpenOptions};
+use std::fs::{self, File, OpenOptions};
 use std::io;
 use std::os::unix::fs::{FileTypeExt, MetadataExt};
 use why_command::WhyEnd;
@@ -58,11 +56,12 @@ impl<'a> Named<'a> {
     }
 }
 
-/// An option that names a file which a command makes, or empties where it is there.
+/// An option that names a file which a command writes.
 #[derive(Clone, Copy, Debug)]
 pub enum Written {
     Certificate,
     Reduced,
+    Kept,
 }
 
 impl Written {
@@ -71,6 +70,7 @@ impl Written {
         match self {
             Written::Certificate => "cert",
             Written::Reduced => "reduced",
+            Written::Kept => "keep",
         }
     }
 }
@@ -90,12 +90,6 @@ pub enum FileFault<'a> {
     Memory,
 }
 
-impl From<AllocError> for FileFault<'_> {
-    fn from(_error: AllocError) -> Self {
-        FileFault::Memory
-    }
-}
-
 impl FileFault<'_> {
     /// Says it on standard error, and gives the status.
     pub fn tell(&self, rt: &HostRuntime) -> u8 {
@@ -103,6 +97,7 @@ impl FileFault<'_> {
         let fault = match self {
             FileFault::Unread(source) => Fault::Unread(*source),
             FileFault::Unwritten(Written::Certificate) => Fault::Unwritten(Sink::Certificate),
+            FileFault::Unwritten(Written::Kept) => Fault::Unwritten(Sink::Plan),
             FileFault::Unwritten(Written::Reduced) => {
                 let _ = why_command::report(&WhyEnd::Unreduced, err);
                 return why_command::status(&WhyEnd::Unreduced);
@@ -139,6 +134,8 @@ pub struct Files<'a> {
     pub start: Option<File>,
     pub certificate: Option<Made<'a>>,
     pub reduced: Option<Made<'a>>,
+    /// The file in which the best plan so far is kept, where it is there: a plan that stands in it is read.
+    pub kept: Option<File>,
 }
 
 impl<'a> Files<'a> {
@@ -153,8 +150,12 @@ impl<'a> Files<'a> {
             },
             certificate: made(rt, Written::Certificate, named.certificate)?,
             reduced: made(rt, Written::Reduced, named.reduced)?,
+            kept: match named.kept {
+                Some(name) => kept(rt, name)?,
+                None => None,
+            },
         };
-        match files.fault(rt, named)? {
+        match files.fault(named) {
             Some(fault) => {
                 take_back(rt, &files.certificate);
                 take_back(rt, &files.reduced);
@@ -169,72 +170,73 @@ impl<'a> Files<'a> {
     }
 
     /// Why a file that is written is another one of the command, where one is.
-    fn fault(
-        &self,
-        rt: &HostRuntime,
-        named: &Named<'a>,
-    ) -> Result<Option<FileFault<'a>>, AllocError> {
+    fn fault(&self, named: &Named<'a>) -> Option<FileFault<'a>> {
         let command = named.command;
         if let Some(made) = &self.certificate {
-            if let Some(source) = self.read_as(made.file.metadata()) {
-                let certificate = Written::Certificate;
-                let fault = FileFault::Emptied(command, certificate, made.name, Some(source));
-                return Ok(Some(fault));
+            if let Some(source) = self.read_as(&made.file) {
+                let option = Written::Certificate;
+                return Some(FileFault::Emptied(command, option, made.name, Some(source)));
             }
         }
         if let Some(made) = &self.reduced {
-            let source = self.read_as(made.file.metadata());
-            if source.is_some() || self.is_certificate(made.file.metadata()) {
-                let fault = FileFault::Emptied(command, Written::Reduced, made.name, source);
-                return Ok(Some(fault));
+            let source = self.read_as(&made.file);
+            if source.is_some() || self.is_certificate(&made.file) {
+                let option = Written::Reduced;
+                return Some(FileFault::Emptied(command, option, made.name, source));
             }
         }
+        let is_replaced = match &self.kept {
+            Some(file) => is_one(&self.instance, file) || self.is_certificate(file),
+            None => false,
+        };
         match named.kept {
-            Some(kept) if self.has(rt, kept) || self.has(rt, name_beside(rt, kept)?.as_str()) => {
-                Ok(Some(FileFault::Replaced(kept)))
-            }
-            _ => Ok(None),
+            Some(name) if is_replaced => Some(FileFault::Replaced(name)),
+            _ => None,
         }
     }
 
     /// As what a file is read, where it is.
-    fn read_as(&self, found: io::Result<Metadata>) -> Option<Source> {
-        let Ok(found) = found else {
-            return None;
-        };
-        if is_of(&self.instance, &found) {
+    fn read_as(&self, file: &File) -> Option<Source> {
+        if is_one(&self.instance, file) {
             return Some(Source::Instance);
         }
         match &self.start {
-            Some(start) if is_of(start, &found) => Some(Source::Plan),
+            Some(start) if is_one(start, file) => Some(Source::Plan),
             _ => None,
         }
     }
 
     /// Whether a file is the certificate's.
-    fn is_certificate(&self, found: io::Result<Metadata>) -> bool {
-        match (&self.certificate, found) {
-            (Some(made), Ok(found)) => is_of(&made.file, &found),
-            _ => false,
+    fn is_certificate(&self, file: &File) -> bool {
+        match &self.certificate {
+            Some(made) => is_one(&made.file, file),
+            None => false,
         }
-    }
-
-    /// Whether a name is that of a file that is read, or of the certificate's.
-    fn has(&self, rt: &HostRuntime, name: &str) -> bool {
-        self.read_as(fs::metadata(rt, name)).is_some()
-            || self.is_certificate(fs::metadata(rt, name))
     }
 }
 
-/// Whether what was found is this file. A device isn't emptied, and two names of one may be used.
-fn is_of(file: &File, found: &Metadata) -> bool {
-    match file.metadata() {
-        Ok(own) => {
-            !own.file_type().is_char_device()
-                && own.dev() == found.dev()
-                && own.ino() == found.ino()
+/// Whether two files are one, by the device and the number that the system knows each by. A terminal isn't emptied, nor is a device that
+/// is like one, so two of its names may be used.
+fn is_one(a: &File, b: &File) -> bool {
+    match (a.metadata(), b.metadata()) {
+        (Ok(a), Ok(b)) => {
+            !a.file_type().is_char_device() && a.dev() == b.dev() && a.ino() == b.ino()
         }
-        Err(_) => false,
+        _ => false,
+    }
+}
+
+/// The file in which the best plan so far is to be kept, as it is there: only a plain file is replaced.
+fn kept<'a>(rt: &HostRuntime, name: &str) -> Result<Option<File>, FileFault<'a>> {
+    let found = match fs::metadata(rt, name) {
+        Ok(found) if found.is_file() => File::open(rt, name),
+        Ok(_) => Err(io::ErrorKind::InvalidInput.into()),
+        Err(error) if error.kind() == io::ErrorKind::NotFound => return Ok(None),
+        Err(error) => Err(error),
+    };
+    match found {
+        Ok(file) => Ok(Some(file)),
+        Err(_) => Err(FileFault::Unwritten(Written::Kept)),
     }
 }
 

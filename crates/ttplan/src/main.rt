@@ -7,7 +7,7 @@ mod files;
 mod plan_file;
 
 use crate::files::{FileFault, Files, Named};
-use crate::plan_file::{PlanFile, name_beside};
+use crate::plan_file::shelf_of;
 use command_streams::end_with;
 pub use command_streams::{End, Fault, SearchFault, Sink, Source, report, status};
 use command_words::{Explained, Limit, Request, Search, Task, VERSION, Why, refuse, request_in};
@@ -184,36 +184,29 @@ fn run_solve<'a>(
 ) -> Result<End, FileFault<'a>> {
     let files = Files::open(rt, &Named::of_search(search))?;
     if !search.progress {
-        return Ok(search_keeping(rt, threads, search, files, &FreeGate));
+        return search_keeping(rt, threads, search, files, &FreeGate);
     }
     match Progress::on(rt.alloc(), rt, search.workers) {
-        Ok(progress) => Ok(search_keeping(rt, threads, search, files, &progress)),
+        Ok(progress) => search_keeping(rt, threads, search, files, &progress),
         Err(_) => Err(FileFault::Memory),
     }
 }
 
 /// Searches the instance of a file, tells a follower how the search goes on, and keeps the best plan so far where that is asked for.
-fn search_keeping(
+fn search_keeping<'a>(
     rt: &HostRuntime,
     threads: &(impl Threads + Wait + Sync),
-    search: &Search,
-    files: Files,
+    search: &Search<'a>,
+    mut files: Files<'a>,
     follower: &(impl Follower + Sync),
-) -> End {
+) -> Result<End, FileFault<'a>> {
     let Some(name) = search.kept else {
-        return search_files(rt, threads, search, files, follower);
+        return Ok(search_files(rt, threads, search, files, follower));
     };
-    let Ok(next) = name_beside(rt, name) else {
-        return End::Refused(Fault::Memory);
-    };
-    let Ok(shelf) = PlanFile::at(rt, name, next.as_str()) else {
-        return End::Refused(Fault::Unwritten(Sink::Plan));
-    };
-    let keeper = Keeper::beside(follower, threads, rt.alloc(), shelf);
+    let shelf = shelf_of(rt, name, &mut files.kept)?;
+    let keeper = Keeper::beside(follower, threads, shelf);
     let end = search_files(rt, threads, search, files, &keeper);
-    let has_failed = keeper.has_failed();
-    keeper.shelf().clear();
-    kept_end(end, has_failed)
+    Ok(kept_end(end, keeper.has_failed()))
 }
 
 /// Searches the instance of a file, from the plan of another where there is one, and tells a follower how the search goes on.
