@@ -1,5 +1,6 @@
 //! Which files has a command that searches, and is one that it writes another one of them?
 
+use crate::hints::{Said, hint_at_fault};
 use command_streams::{End, Fault, Sink, Source, report, status};
 use command_words::{Limit, NumberedCommand, Search, Why, emptying_over, keeping_over, refuse};
 use std::fs::{self, File, OpenOptions};
@@ -92,7 +93,7 @@ pub enum FileFault<'a> {
 
 impl FileFault<'_> {
     /// Says it on standard error, and gives the status.
-    pub fn tell(&self, rt: &HostRuntime) -> u8 {
+    pub fn tell(&self, rt: &HostRuntime, said: &Said) -> u8 {
         let err = &mut rt.stderr();
         let fault = match self {
             FileFault::Unread(source) => Fault::Unread(*source),
@@ -114,6 +115,9 @@ impl FileFault<'_> {
         };
         let end = End::Refused(fault);
         let _ = report(&end, err);
+        if let End::Refused(fault) = &end {
+            hint_at_fault(rt, said, fault);
+        }
         status(&end)
     }
 }

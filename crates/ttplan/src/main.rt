@@ -4,9 +4,11 @@
 ghost use Rattle.command_words.specs.Requests.{IsSound, IsSoundTask};
 
 mod files;
+mod hints;
 mod plan_file;
 
 use crate::files::{FileFault, Files, Named};
+use crate::hints::{Said, hint_at_fault, hint_at_none};
 use crate::plan_file::shelf_of;
 use command_streams::end_with;
 pub use command_streams::{End, Fault, SearchFault, Sink, Source, report, status};
@@ -45,8 +47,8 @@ fn open_both(
 }
 
 /// Does what is asked for on two files: both are open before either is read.
-fn run_on_files(rt: &HostRuntime, instance: &str, plan: &str, task: Task) -> End
-    requires { IsSoundTask task }
+fn run_on_files(rt: &HostRuntime, instance: &str, plan: &str, task: &Task) -> End
+    requires { IsSoundTask task.now }
 {
     let (mut instance, mut plan) = match open_both(rt, instance, plan, Source::Plan) {
         Ok(files) => files,
@@ -64,14 +66,14 @@ fn run_on_files(rt: &HostRuntime, instance: &str, plan: &str, task: Task) -> End
             &mut out,
         ),
         Task::Schedule(table) => {
-            schedule_run(rt.alloc(), &mut instance, &mut plan, table, &mut out)
+            schedule_run(rt.alloc(), &mut instance, &mut plan, *table, &mut out)
         }
         Task::Draw { width, shown } => draw_run(
             rt.alloc(),
             &mut instance,
             &mut plan,
-            width,
-            shown,
+            *width,
+            *shown,
             &mut out,
         ),
     }
@@ -356,45 +358,73 @@ fn run_limit<'a>(
     ))
 }
 
+/// The words of a task that aren't names of files.
+fn words_of<'t>(task: &'t Task<'t>) -> &'t [&'t str] {
+    match task {
+        Task::Replay(losses) => losses.as_slice(),
+        Task::Verify | Task::Tables | Task::Schedule(_) | Task::Draw { .. } => &[],
+    }
+}
+
+/// Says on standard error why a comparison was refused, and gives the status.
+fn ended_comparing(rt: &HostRuntime, compared: &Compared, old: Said, new: Said) -> u8 {
+    let _ = compare_command::report(compared, &mut rt.stderr());
+    match compared {
+        Compared::Refused(Release::Old, fault) => hint_at_fault(rt, &old, fault),
+        Compared::Refused(Release::New, fault) => hint_at_fault(rt, &new, fault),
+        Compared::Same | Compared::Different => {}
+    }
+    compare_command::status(compared)
+}
+
 /// Does what is asked for, says on standard error why it was refused, and gives the status. A search starts threads and waits for
 /// them, and so does the check of a certificate.
 fn run(rt: &HostRuntime, threads: &(impl Threads + Wait + Sync), request: Request) -> u8
     requires { IsSound request }
 {
-    let end = match request {
+    match request {
         Request::OnFiles {
             instance,
             plan,
             task,
-        } => run_on_files(rt, instance, plan, task),
-        Request::Solve(search) => match run_solve(rt, threads, &search) {
-            Ok(end) => end,
-            Err(fault) => return fault.tell(rt),
-        },
-        Request::Why(why) => match run_why(rt, threads, &why) {
-            Ok(end) => {
-                let _ = why_command::report(&end, &mut rt.stderr());
-                return why_command::status(&end);
-            }
-            Err(fault) => return fault.tell(rt),
-        },
-        Request::Limit(limit) => match run_limit(rt, threads, &limit) {
-            Ok(end) => end,
-            Err(fault) => return fault.tell(rt),
-        },
+        } => {
+            let end = run_on_files(rt, instance, plan, &task);
+            let said = Said::files(instance, Some(plan), None);
+            ended(rt, &end, &said.with_words(words_of(&task)))
+        }
+        Request::Solve(search) => ended_solving(rt, threads, &search),
+        Request::Why(why) => ended_asking(rt, threads, &why),
+        Request::Limit(limit) => ended_limiting(rt, threads, &limit),
         Request::Check {
             instance,
             certificate,
-        } => run_check(rt, threads, instance, certificate),
+        } => {
+            let end = run_check(rt, threads, instance, certificate);
+            ended(rt, &end, &Said::files(instance, None, Some(certificate)))
+        }
         Request::Judge {
             instance,
             plan,
             certificate,
-        } => run_judge(rt, threads, instance, plan, certificate),
+        } => {
+            let end = run_judge(rt, threads, instance, plan, certificate);
+            ended(
+                rt,
+                &end,
+                &Said::files(instance, Some(plan), Some(certificate)),
+            )
+        }
         Request::Explain {
             instance,
             explained,
-        } => run_explain(rt, threads, instance, explained),
+        } => {
+            let said = match explained {
+                Explained::Instance => Said::files(instance, None, None),
+                Explained::Plan(plan) => Said::files(instance, Some(plan), None),
+                Explained::Certificate(cert) => Said::files(instance, None, Some(cert)),
+            };
+            ended(rt, &run_explain(rt, threads, instance, explained), &said)
+        }
         Request::Compare {
             old_instance,
             old_plan,
@@ -402,13 +432,60 @@ fn run(rt: &HostRuntime, threads: &(impl Threads + Wait + Sync), request: Reques
             new_plan,
         } => {
             let compared = run_compare(rt, (old_instance, old_plan), (new_instance, new_plan));
-            let _ = compare_command::report(&compared, &mut rt.stderr());
-            return compare_command::status(&compared);
+            let old = Said::files(old_instance, Some(old_plan), None);
+            let new = Said::files(new_instance, Some(new_plan), None);
+            ended_comparing(rt, &compared, old, new)
         }
-        Request::VerifyBundle => { verify_bundle(rt.alloc(), &mut rt.stdin(), &mut rt.stdout()) }
-        Request::Version => end_with(&mut rt.stdout(), VERSION.as_bytes()),
-    };
-    ended(rt, &end)
+        Request::VerifyBundle => {
+            let end = verify_bundle(rt.alloc(), &mut rt.stdin(), &mut rt.stdout());
+            ended(rt, &end, &Said::nothing())
+        }
+        Request::Version => {
+            ended(
+                rt,
+                &end_with(&mut rt.stdout(), VERSION.as_bytes()),
+                &Said::nothing(),
+            )
+        }
+    }
+}
+
+/// Searches, says on standard error why that was refused, and gives the status.
+fn ended_solving(rt: &HostRuntime, threads: &(impl Threads + Wait + Sync), search: &Search) -> u8 {
+    let said = Said::files(search.instance, search.start, None);
+    match run_solve(rt, threads, search) {
+        Ok(end) => {
+            if let End::Absent = end {
+                hint_at_none(rt, search.instance);
+            }
+            ended(rt, &end, &said)
+        }
+        Err(fault) => fault.tell(rt, &said),
+    }
+}
+
+/// Tells why there is no plan, says on standard error why that was refused, and gives the status.
+fn ended_asking(rt: &HostRuntime, threads: &(impl Threads + Wait + Sync), why: &Why) -> u8 {
+    let said = Said::files(why.instance, None, None);
+    match run_why(rt, threads, why) {
+        Ok(end) => {
+            let _ = why_command::report(&end, &mut rt.stderr());
+            if let WhyEnd::As(End::Refused(fault)) = &end {
+                hint_at_fault(rt, &said, fault);
+            }
+            why_command::status(&end)
+        }
+        Err(fault) => fault.tell(rt, &said),
+    }
+}
+
+/// Tells how early processes can end, says on standard error why that was refused, and gives the status.
+fn ended_limiting(rt: &HostRuntime, threads: &(impl Threads + Wait + Sync), limit: &Limit) -> u8 {
+    let said = Said::files(limit.instance, None, None);
+    match run_limit(rt, threads, limit) {
+        Ok(end) => ended(rt, &end, &said.with_words(limit.processes.as_slice())),
+        Err(fault) => fault.tell(rt, &said),
+    }
 }
 
 /// Runs the words' request, says on standard error why it was refused, and gives the status.
@@ -424,8 +501,11 @@ fn status_of_words(
 }
 
 /// Says on standard error why a command was refused, and gives the status.
-fn ended(rt: &HostRuntime, end: &End) -> u8 {
+fn ended(rt: &HostRuntime, end: &End, said: &Said) -> u8 {
     let _ = report(end, &mut rt.stderr());
+    if let End::Refused(fault) = end {
+        hint_at_fault(rt, said, fault);
+    }
     status(end)
 }
 
@@ -433,7 +513,7 @@ fn main(rt: HostRuntime) -> ExitCode {
     let status = match command_words::all(&rt) {
         Ok(words) => status_of_words(&rt, &rt, words.as_slice()),
         Err(error) if error.kind() == io::ErrorKind::OutOfMemory => {
-            ended(&rt, &End::Refused(Fault::Memory))
+            ended(&rt, &End::Refused(Fault::Memory), &Said::nothing())
         }
         Err(_) => {
             let _ = rt.eprintln("error: a word of the command line is not text");
