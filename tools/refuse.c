@@ -1,8 +1,12 @@
 // Stands before a program's C library by LD_PRELOAD and refuses one call, at which it writes a byte on the descriptor that
-// REFUSE_TOLD names. Either the call of malloc, calloc or realloc whose number, counted from 1, REFUSE names; or the read or write
-// whose number REFUSE_CALL names, of those of the file REFUSE_STREAM (`out`: standard output): it fails, or takes no byte where
-// REFUSE_FULL is set. So does that of REFUSE_OTHER, counted by itself. REFUSE_MOST is how many bytes a read or a write moves at most.
+// REFUSE_TOLD names. Either the call of malloc, calloc or realloc whose number, counted from 1, REFUSE names; or the start of a thread
+// whose number REFUSE_THREAD names; or the read or write whose number REFUSE_CALL names, of those of the file REFUSE_STREAM (`out`:
+// standard output): it fails, or takes no byte where REFUSE_FULL is set. So does that of REFUSE_OTHER, counted by itself. REFUSE_MOST
+// is how many bytes a read or a write moves at most.
+#define _GNU_SOURCE
+#include <dlfcn.h>
 #include <errno.h>
+#include <pthread.h>
 #include <stdatomic.h>
 #include <stdio.h>
 #include <stdlib.h>
@@ -14,8 +18,11 @@ void *__libc_malloc(size_t size);
 void *__libc_calloc(size_t count, size_t size);
 void *__libc_realloc(void *block, size_t size);
 
-static atomic_long allocations, calls[2];
-static long refused, refused_call;
+typedef int starting(pthread_t *, const pthread_attr_t *, void *(*)(void *), void *);
+
+static atomic_long allocations, starts, calls[2];
+static long refused, refused_start, refused_call;
+static starting *start;
 static size_t most;
 static int told, is_full;
 static const char *streams[2];
@@ -27,6 +34,8 @@ static long number_of(const char *name) {
 
 __attribute__((constructor)) static void begin(void) {
     told = getenv("REFUSE_TOLD") ? (int)number_of("REFUSE_TOLD") : -1;
+    start = (starting *)dlsym(RTLD_NEXT, "pthread_create");
+    refused_start = number_of("REFUSE_THREAD");
     refused_call = number_of("REFUSE_CALL");
     most = (size_t)number_of("REFUSE_MOST");
     is_full = getenv("REFUSE_FULL") != 0;
@@ -53,6 +62,13 @@ void *malloc(size_t size) { return is_refused() ? 0 : __libc_malloc(size); }
 void *calloc(size_t count, size_t size) { return is_refused() ? 0 : __libc_calloc(count, size); }
 
 void *realloc(void *block, size_t size) { return is_refused() ? 0 : __libc_realloc(block, size); }
+
+int pthread_create(pthread_t *thread, const pthread_attr_t *how, void *(*run)(void *), void *with) {
+    if (refused_start == 0 || atomic_fetch_add(&starts, 1) + 1 != refused_start)
+        return start(thread, how, run, with);
+    tell();
+    return EAGAIN;
+}
 
 // Whether a descriptor is a stream's.
 static int is_stream(int descriptor, const char *stream) {

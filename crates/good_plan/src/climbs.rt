@@ -74,8 +74,9 @@ fn best_draft<R: Threads + Sync>(
     Ok(best)
 }
 
-/// The draft of the best summit that climbs come to, of equal ones that of the first. Workers change nothing of it, since a
-/// climb rests on its number and on where it sets out. A fault of memory where one of the climbs had no lists.
+/// The draft of the best summit that climbs come to, of equal ones that of the first. They go side by side in as many pieces as there
+/// are workers at most, each piece in turn. Workers change nothing of it, since a climb rests on its number and on where it sets
+/// out. A fault of memory where one of the climbs had no lists, which counts as the best.
 fn summit<R: Threads + Sync>(
     rt: &R,
     alloc: Global,
@@ -84,31 +85,23 @@ fn summit<R: Threads + Sync>(
     best: &Draft,
     numbers: Range<u64>,
 ) -> Result<Draft, AllocError> {
-    let summit = if workers > 1 {
-        side_by_side(rt, alloc, network, best, numbers)
-    } else {
-        in_turn(alloc, network, best, numbers)
-    };
+    let least = least_piece(&numbers, workers);
+    let summit = numbers
+        .into_par_iter()
+        .with_min_len(least)
+        .map(|number: u64| -> Option<Summit> { climbed(alloc, network, best, number) })
+        .min_by_key(rt, |summit: &Option<Summit>| -> (u64, u64) { rank(summit) })
+        .flatten();
     match summit {
         Some(summit) => Ok(summit.into_draft()),
         None => Err(AllocError),
     }
 }
 
-/// The best summit of climbs in threads of their own; none where one of them had no lists, which counts as the best.
-fn side_by_side<R: Threads + Sync>(
-    rt: &R,
-    alloc: Global,
-    network: &Network,
-    best: &Draft,
-    numbers: Range<u64>,
-) -> Option<Summit> {
-    numbers
-        .into_par_iter()
-        .with_min_len(1)
-        .map(|number: u64| -> Option<Summit> { climbed(alloc, network, best, number) })
-        .min_by_key(rt, |summit: &Option<Summit>| -> (u64, u64) { rank(summit) })
-        .flatten()
+/// How many climbs a piece has at least, so that there are no more pieces than workers.
+fn least_piece(numbers: &Range<u64>, workers: u32) -> usize {
+    let count = numbers.end.saturating_sub(numbers.start);
+    count.div_ceil(workers.max(1) as u64) as usize
 }
 
 /// What is to be least of what climbs come to.
@@ -116,32 +109,6 @@ fn rank(summit: &Option<Summit>) -> (u64, u64) {
     match summit {
         Some(summit) => summit.rank(),
         None => (0, 0),
-    }
-}
-
-/// The best summit of climbs on the caller's thread; none where one of them had no lists.
-fn in_turn(alloc: Global, network: &Network, best: &Draft, numbers: Range<u64>) -> Option<Summit> {
-    let mut highest = None;
-    for number in numbers {
-        let Some(summit) = climbed(alloc, network, best, number) else {
-            return None;
-        };
-        highest = Some(higher(highest, summit));
-    }
-    highest
-}
-
-/// The better one of two summits, of equal ones the first.
-fn higher(first: Option<Summit>, second: Summit) -> Summit {
-    match first {
-        Some(first) => {
-            if first.rank() <= second.rank() {
-                first
-            } else {
-                second
-            }
-        }
-        None => second,
     }
 }
 

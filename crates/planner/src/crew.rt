@@ -12,6 +12,7 @@ ghost use Rattle.search_turns.specs.Searching.{IsFound};
 ghost use Rattle.planner.specs.Crew.{IsBetter, IsNoLater, IsReportOfJob, AreReportsOf, IsJob, hands_of, budget_of, tasks_in, Gathers};
 
 use crate::joining::{keep_roomier, take_in};
+use crate::muster::Muster;
 use certificate::Node;
 use incumbent::{Incumbent, Watch};
 use search_turns::{Aims, Gate, Manner, Piece, Report, Rest, SolveFault, Task, run_worker_in};
@@ -211,14 +212,14 @@ impl<J: Searched> Crew<J> {
 }
 
 /// Starts a thread for the last job, does the same for the others, and joins it: their reports, in the order of the jobs, come
-/// into a list that has room for all.
+/// into a list that has room for all. Where a thread can't be started, those that run are called off.
 fn start_all<'s, E, J: Searched + Send + Sync + 's, G: Gate + Sync, R: Threads>(
     rt: &R,
     scope: &'s Scope<'s, E>,
     alloc: Global,
     instance: &'s Instance,
     word: &'s Incumbent,
-    gate: &'s G,
+    muster: &'s Muster<'s, G>,
     manner: Manner,
     aims: Aims,
     jobs: &mut Vec<Job<J>>,
@@ -245,12 +246,13 @@ fn start_all<'s, E, J: Searched + Send + Sync + 's, G: Gate + Sync, R: Threads>(
         move || -> Report<J>
             requires { (instance.now ≡ J.instance) × IsJob word.now job }
             ensures { IsReportOfJob J.instance aims job result }
-        { done(alloc, instance, word, gate, manner, aims, job) },
+        { done(alloc, instance, word, muster, manner, aims, job) },
     ) else {
+        muster.call_off();
         return Err(SolveFault::Thread);
     };
     let others = start_all(
-        rt, scope, alloc, instance, word, gate, manner, aims, jobs, reports,
+        rt, scope, alloc, instance, word, muster, manner, aims, jobs, reports,
     );
     let report = child.join(rt);
     reports.push_reserved(report);
@@ -264,7 +266,7 @@ fn run_in<'s, E, J: Searched + Send + Sync + 's, G: Gate + Sync, R: Threads>(
     alloc: Global,
     instance: &'s Instance,
     word: &'s Incumbent,
-    gate: &'s G,
+    muster: &'s Muster<'s, G>,
     manner: Manner,
     aims: Aims,
     mut jobs: Vec<Job<J>>,
@@ -282,7 +284,7 @@ fn run_in<'s, E, J: Searched + Send + Sync + 's, G: Gate + Sync, R: Threads>(
         alloc,
         instance,
         word,
-        gate,
+        muster,
         manner,
         aims,
         &mut jobs,
@@ -293,8 +295,8 @@ fn run_in<'s, E, J: Searched + Send + Sync + 's, G: Gate + Sync, R: Threads>(
     Ok(reports)
 }
 
-/// A thread for each job, and what they report, in order. The list of reports is made before a thread is started: as they end
-/// no memory is taken.
+/// A thread for each job, and what they report, in order; where one can't be started, nothing, once those that run have ended, each at
+/// its next turn. The list of reports is made before a thread is started: as they end no memory is taken.
 pub fn run_all<J: Searched + Send + Sync, G: Gate + Sync, R: Threads + Wait>(
     rt: &R,
     alloc: Global,
@@ -312,6 +314,8 @@ pub fn run_all<J: Searched + Send + Sync, G: Gate + Sync, R: Threads + Wait>(
     let Ok(reports) = Vec::with_capacity(alloc, jobs.len()) else {
         return Err(SolveFault::Memory);
     };
+    let muster = Muster::beside(gate);
+    let muster = &muster;
     thread::scope(
         thread::scope_env(),
         rt,
@@ -320,7 +324,7 @@ pub fn run_all<J: Searched + Send + Sync, G: Gate + Sync, R: Threads + Wait>(
             ensures reports { IfOk result (λ all. AreReportsOf J.instance aims jobs.items all.items) }
         {
             run_in(
-                rt, scope, alloc, instance, word, gate, manner, aims, jobs, reports,
+                rt, scope, alloc, instance, word, muster, manner, aims, jobs, reports,
             )
         },
     )

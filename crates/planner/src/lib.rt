@@ -9,6 +9,7 @@ mod end_tree;
 mod joining;
 mod laws;
 mod leaner;
+mod muster;
 mod reserve;
 mod solving;
 mod versions;

@@ -344,7 +344,8 @@ pub fn solve_towards<R: Threads + Wait + Sync, G: Gate + Sync>(
 /// nothing is worked and no plan is looked for. Where the root leaves at most 32 to choose the search is plain: no plan is looked for before it
 /// either, every subtree is worked, and the certificate is the tree that was worked.
 ///
-/// It waits for its workers. Where a thread can't be started, those that run are joined, and nothing is answered.
+/// It waits for its workers. Where a thread can't be started, those that run end at their next subtree and are joined, and nothing is
+/// answered.
 pub fn solve<R: Threads + Wait + Sync>(
     rt: &R,
     alloc: Global,
