@@ -322,7 +322,8 @@ def made_losses(dice, instance, plan_text):
 
 
 def second(command, instance, *texts):
-    """The second checker's status and text. Behind a plan stand the table's name of `schedule`, and the losses of `replay`."""
+    """The second checker's status and text. Behind a plan stand the table's name of `schedule`, the width of `draw`, and `used` where
+    empty slots are left out, and the losses of `replay`."""
     try:
         if command == "replay":
             losses = second_check.stated_losses(texts[1:])
@@ -336,7 +337,8 @@ def second(command, instance, *texts):
         if command == "schedule":
             return 0, second_check.schedule(judged, *texts)
         if command == "draw":
-            return 0, second_check.draw(judged, *texts, width=1200, used=False)
+            width, *used = texts[1:] or ["1200"]
+            return 0, second_check.draw(judged, texts[0], width=int(width), used=bool(used))
         return 0, second_check.COMMANDS[command][0](judged, *texts)
     except second_check.Refused as fault:
         return fault.status, fault.line

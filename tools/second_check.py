@@ -797,9 +797,10 @@ def released(word, instance_text, plan_text):
 COLOURS = """#044763 #d7706c #007656 #c1acfe #704e01 #04b3cb #bd5983 #a9dc8e #044e80 #da825f #017f74 #edadf6 #656009 #16bcec #cd6372 #91ecb0""".split()
 WHITE_ON = (0, 2, 4, 6, 8, 10, 12)
 STYLE = ("text{font:12px sans-serif;fill:#222}text.mark{text-anchor:middle}"
-         "line{stroke:#555}line.mark{stroke:#ddd}line.delay{stroke:#c00;stroke-dasharray:4 3}.track{fill:#f4f4f4}"
+         "line{stroke:#555}line.mark{stroke:#ddd}line.delay{stroke:#c00;stroke-dasharray:4 3}line.horizon,.due line{stroke:#c00}"
+         "text.horizon,.due text{fill:#c00}text.horizon{text-anchor:end}.due text{font-size:9px;text-anchor:middle}.track{fill:#f4f4f4}"
          + "".join(f".n{n}{{fill:{colour}}}" for n, colour in enumerate(COLOURS))
-         + ",".join(f"text.t{n}" for n in WHITE_ON) + "{fill:#fff}")
+         + ",".join(f"text.t{n}" for n in WHITE_ON) + "{fill:#fff}.beside text{fill:#222}")
 MARK_STEPS = [first * 10**zeros for zeros in range(8) for first in (1, 2, 5)]
 WIDTHS, SLOTS_MOST = range(200, 10_001), 100_000
 
@@ -886,9 +887,30 @@ def slot_boxes(instance, plan, canvas, are_used):
                  f" {sum(message.bytes for message in frame)} of {plan.caps[n]} bytes")
         box, names = canvas.rectangle(c, n, start, length), "".join(f" {message.name}" for message in frame)
         if are_used:
-            yield f"<g><title>{words}:{names}</title>{box}{canvas.name(c, n, start, length, names)}</g>"
+            beside = canvas.name(c, n, start, name_room(instance, plan, canvas, c, start), names)
+            yield (f'<g><title>{words}:{names}</title><g class="beside">{beside}</g>{box}'
+                   f"{canvas.name(c, n, start, length, names)}</g>")
         else:
             yield f"<g><title>{words}</title>{box}</g>"
+
+
+def name_room(instance, plan, canvas, channel, start):
+    """The ticks to the next slot that carries something on the channel; as many as the cycle has where none follows."""
+    slots = (plan.rounds[m] * canvas.round + canvas.begins[instance.sender_node(m)]
+             for m in range(len(instance.messages)) if channel in on_channels(plan, m))
+    return min((slot - start for slot in slots if slot > start), default=canvas.cycle)
+
+
+def limit_lines(instance, canvas):
+    for process in instance.processes:
+        due, top = process.deadline, top_of(canvas.channels + process.node)
+        if due < instance.horizon and due <= canvas.cycle:
+            yield (f'<g class="due">{canvas.line("", due, top, due, top + 27)}><title>{process.name} is due by {due}</title></line>'
+                   f'<text x="{canvas.place(due)}" y="{top - 1}">{due}</text></g>')
+    end = instance.horizon
+    if end <= canvas.cycle:
+        yield (canvas.line(' class="horizon"', end, 46, end, canvas.height - 8) + f"><title>horizon {end}</title></line>"
+               f'<text class="horizon" x="{canvas.place(end)}" y="30">horizon {end}</text>')
 
 
 def process_boxes(instance, plan, canvas):
@@ -919,6 +941,7 @@ def picture(instance, plan, canvas, used):
     yield from slot_boxes(instance, plan, canvas, True)
     yield from process_boxes(instance, plan, canvas)
     yield "</svg>"
+    yield from limit_lines(instance, canvas)
     yield "</svg>"
 
 

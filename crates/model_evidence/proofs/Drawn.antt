@@ -16,7 +16,7 @@ use Rattle.plan_picture.specs.declared.rectangle.Rectangle.{Rectangle}
 use Rattle.plan_picture.specs.declared.slots.Load.TheVariants.{Messages, Nothing}
 use Rattle.plan_picture.specs.Canvas.{canvas_of, tenths_text}
 use Rattle.plan_picture.specs.Lines.{deliveries_text, delivery_of, delivery_text, delivery_title, line_text, lines_text, message_text, sending_text}
-use Rattle.plan_picture.specs.Picture.{boxes_text, head_text, hollow_text, picture_text, ticks_text, whole_text}
+use Rattle.plan_picture.specs.Picture.{boxes_text, head_text, hollow_text, limits_text, picture_text, ticks_text, whole_text}
 use Rattle.plan_picture.specs.Processes.{process_name_text, process_rectangle, process_text, process_title_text, processes_text}
 use Rattle.plan_picture.specs.Rectangles.{opened_text, opening_text, rectangle_text}
 use Rattle.plan_picture.specs.Rows.{rows_text}
@@ -34,7 +34,7 @@ rectangle-written r = simp append_assoc
 -- a process has its own
 opened-has : (c : Canvas) (r : Rectangle) → IsPartOf (rectangle_text r) (opened_text c r)
 unfolding opened_text
-opened-has c r = later (rectangle_text r) (codes "</title>") (rectangle_text r ++ opening_text c r) (first (rectangle_text r) (opening_text c r))
+opened-has c r = first (rectangle_text r) (opening_text c r)
 
 process-has : (c : Canvas) (i : Instance) (plan : Plan) (p : ℕ) → IsPartOf (rectangle_text (process_rectangle i plan p)) (process_text c i plan p)
 unfolding process_text
@@ -107,14 +107,14 @@ boxes-have_slots c i plan = later _ (ticks_text c) _ (sooner _ (hollow_text c i 
 whole-has_boxes : (c : Canvas) (i : Instance) (plan : Plan) (shown : Shown) → IsPartOf (boxes_text c i plan shown) (whole_text c i plan shown)
 unfolding whole_text
 whole-has_boxes c i plan shown =
-    let boxes = first (boxes_text c i plan shown) (codes "</svg>\n") in
+    let boxes = first (boxes_text c i plan shown) (limits_text c i) in
     let lines = later _ (lines_text c i plan) _ boxes in
     later _ (head_text c i plan) _ (later _ (rows_text c i) _ (later _ (scale_text c) _ (later _ (delay_text c (delay i plan)) _ lines)))
 
 whole-has_lines : (c : Canvas) (i : Instance) (plan : Plan) (shown : Shown) → IsPartOf (lines_text c i plan) (whole_text c i plan shown)
 unfolding whole_text
 whole-has_lines c i plan shown =
-    let lines = first (lines_text c i plan) (boxes_text c i plan shown ++ codes "</svg>\n") in
+    let lines = first (lines_text c i plan) (boxes_text c i plan shown ++ limits_text c i) in
     later _ (head_text c i plan) _ (later _ (rows_text c i) _ (later _ (scale_text c) _ (later _ (delay_text c (delay i plan)) _ lines)))
 
 -- a text that is the same is a part too

@@ -3,3 +3,4 @@ pub mod Places
 pub mod Pieces
 pub mod Steps
 pub mod Loads
+pub mod Room

@@ -31,6 +31,12 @@ module _ (i : Instance) (plan : Plan) (n r c : ℕ) where
   bytes-elsewhere : (m : ℕ) → is_in_frame i plan n r c m ≡ false → bytes_on i plan n r c m ≡ 0
   bytes-elsewhere m is = one-fails (source_of i m == n && round_of plan m == r) (is_on c (channel_of plan m)) (message_at i m).bytes is
 
+  pub in-frame : (m : ℕ) → 0 < bytes_on i plan n r c m → is_in_frame i plan n r c m ≡ true
+  in-frame m some = elim (cases_Bool (is_in_frame i plan n r c m)) [
+    | inl here ↦ here
+    | inr elsewhere ↦ absurd (omega (arith, some, bytes-elsewhere m elsewhere))
+  ]
+
   pub messages-of_no_bytes : ((m : ℕ) → m < length i.messages → 1 ≤ (message_at i m).bytes) → (count : ℕ) → count ≤ length i.messages
       → total (bytes_on i plan n r c) count ≡ 0 → filter (is_in_frame i plan n r c) (range_with_len 0 count) ≡ []
   messages-of_no_bytes some zero within none = refl

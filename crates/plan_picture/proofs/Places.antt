@@ -15,6 +15,7 @@ use Rattle.plan_picture.specs.declared.canvas.Canvas.{Canvas}
 use Rattle.plan_picture.specs.declared.canvas.TheConstants.{MOST_CYCLE}
 use Rattle.plan_picture.specs.Limits.{most_width}
 use Rattle.plan_picture.specs.Canvas.{cycle_ticks, place_of}
+use Rattle.plan_picture.specs.Deadlines.{due_line}
 use Rattle.plan_picture.specs.Lines.{IsNear, delivery_of, sending_of}
 
 pub div-mono : (m n k : ℕ) → 0 < k → m ≤ n → m / k ≤ n / k
@@ -42,6 +43,10 @@ cycle-some i plan wi some =
     let end : end_of i plan 0 ≤ delay i plan = greatest_each (end_of i plan) (length i.processes) 0 first in
     let times : delay i plan ≤ cycle_ticks i plan = (div_ceil_times (delay i plan) (round_length i.cluster plan.caps) some).0 in
     omega (arith, times, end, (wi.ranges (AtProcess 0) first).wcet_least)
+
+-- a deadline is within any horizon
+pub due-near : (row due : ℕ) → due ≤ MOST_TICKS → IsNear (due_line row due)
+due-near row due most = record { from = most; to = most }
 
 module _ (i : Instance) (plan : Plan) (wi : IsInstance i) (w : IsValid i plan) where
   pub end-near : (p : ℕ) → p < length i.processes → end_of i plan p ≤ MOST_TICKS

@@ -1,10 +1,12 @@
 pub mod Limits
 pub mod Canvas
 pub mod Rectangles
+pub mod Names
 pub mod Slots
 pub mod Processes
 pub mod Lines
 pub mod Scale
+pub mod Deadlines
 pub mod Rows
 pub mod Picture
 pub mod Shapes

@@ -11,6 +11,7 @@ use Rattle.plan_picture.specs.declared.picture.Shown.TheVariants.{All, Used}
 use Rattle.plan_picture.specs.declared.slots.Load.TheVariants.{Messages, Nothing}
 use Rattle.plan_picture.specs.Limits.{most_slots}
 use Rattle.plan_picture.specs.Canvas.{canvas_of}
+use Rattle.plan_picture.specs.Deadlines.{deadlines_text, horizon_text}
 use Rattle.plan_picture.specs.Lines.{lines_text}
 use Rattle.plan_picture.specs.Processes.{processes_text}
 use Rattle.plan_picture.specs.Rows.{rows_text}
@@ -29,7 +30,7 @@ too_many_slots i plan Used = None
 -- how texts and shapes look
 unfoldable pub style_text : List ℕ
 style_text =
-    codes "<style>text{font:12px sans-serif;fill:#222}text.mark{text-anchor:middle}line{stroke:#555}line.mark{stroke:#ddd}line.delay{stroke:#c00;stroke-dasharray:4 3}.track{fill:#f4f4f4}.n0{fill:#044763}.n1{fill:#d7706c}.n2{fill:#007656}.n3{fill:#c1acfe}.n4{fill:#704e01}.n5{fill:#04b3cb}.n6{fill:#bd5983}.n7{fill:#a9dc8e}.n8{fill:#044e80}.n9{fill:#da825f}.n10{fill:#017f74}.n11{fill:#edadf6}.n12{fill:#656009}.n13{fill:#16bcec}.n14{fill:#cd6372}.n15{fill:#91ecb0}text.t0,text.t2,text.t4,text.t6,text.t8,text.t10,text.t12{fill:#fff}</style>\n"
+    codes "<style>text{font:12px sans-serif;fill:#222}text.mark{text-anchor:middle}line{stroke:#555}line.mark{stroke:#ddd}line.delay{stroke:#c00;stroke-dasharray:4 3}line.horizon,.due line{stroke:#c00}text.horizon,.due text{fill:#c00}text.horizon{text-anchor:end}.due text{font-size:9px;text-anchor:middle}.track{fill:#f4f4f4}.n0{fill:#044763}.n1{fill:#d7706c}.n2{fill:#007656}.n3{fill:#c1acfe}.n4{fill:#704e01}.n5{fill:#04b3cb}.n6{fill:#bd5983}.n7{fill:#a9dc8e}.n8{fill:#044e80}.n9{fill:#da825f}.n10{fill:#017f74}.n11{fill:#edadf6}.n12{fill:#656009}.n13{fill:#16bcec}.n14{fill:#cd6372}.n15{fill:#91ecb0}text.t0,text.t2,text.t4,text.t6,text.t8,text.t10,text.t12{fill:#fff}.beside text{fill:#222}</style>\n"
 
 -- the numbers of a plan in words
 unfoldable pub figures_words : ℕ → ℕ → ℕ → List ℕ
@@ -79,10 +80,15 @@ unfoldable pub boxes_text : Canvas → Instance → Plan → Shown → List ℕ
 boxes_text c i plan shown =
     ticks_text c ++ (hollow_text c i plan shown ++ (slots_text c i plan Messages ++ (processes_text c i plan ++ codes "</svg>\n")))
 
+-- deadlines and the horizon, over all others, and what closes the picture
+unfoldable pub limits_text : Canvas → Instance → List ℕ
+limits_text c i = deadlines_text c i ++ (horizon_text c i ++ codes "</svg>\n")
+
 -- the whole of it, on these measures
 unfoldable pub whole_text : Canvas → Instance → Plan → Shown → List ℕ
 whole_text c i plan shown =
-    head_text c i plan ++ (rows_text c i ++ (scale_text c ++ (delay_text c (delay i plan) ++ (lines_text c i plan ++ (boxes_text c i plan shown ++ codes "</svg>\n")))))
+    head_text c i plan ++ (rows_text c i ++ (scale_text c ++ (delay_text c (delay i plan)
+    ++ (lines_text c i plan ++ (boxes_text c i plan shown ++ limits_text c i)))))
 
 -- the picture of a plan, so many pixels wide
 abbrev pub picture_text : Instance → Plan → ℕ → Shown → List ℕ

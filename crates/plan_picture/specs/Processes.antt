@@ -27,7 +27,8 @@ process_words node p start due =
 -- the title of a process
 unfoldable pub process_title_text : Instance → Plan → ℕ → List ℕ
 process_title_text i plan p =
-    codes "<g><title>" ++ process_words (node_at i (node_of i p)).name (process_at i p) (start_of plan p) (min (process_at i p).deadline i.cluster.horizon)
+    codes "<g><title>" ++ (process_words (node_at i (node_of i p)).name (process_at i p) (start_of plan p) (min (process_at i p).deadline i.cluster.horizon)
+    ++ codes "</title>")
 
 -- its name in its rectangle, and a line where it starts
 unfoldable pub process_name_text : List ℕ → List ℕ

@@ -21,10 +21,10 @@ pixels_text cycle across node =
     codes "<svg width=\"" ++ (decimal cycle ++ (codes "\" height=\"24\" viewBox=\"0 0 " ++ (decimal across
     ++ (codes " 24\" preserveAspectRatio=\"none\"><text class=\"t" ++ (decimal (colour_of node) ++ codes "\" x=\"4\" y=\"16\">")))))
 
--- what begins a text that is cut off at the rectangle: the second in the first
+-- what begins a text that is cut off where the rectangle ends: the second in the first
 unfoldable pub opening_text : Canvas → Rectangle → List ℕ
 opening_text c r = frame_text r.start (top_of r.row) r.length ++ pixels_text c.cycle c.across r.node
 
--- a rectangle behind a title, and the beginning of a text in it
+-- a rectangle, and the beginning of a text in it
 unfoldable pub opened_text : Canvas → Rectangle → List ℕ
-opened_text c r = codes "</title>" ++ (rectangle_text r ++ opening_text c r)
+opened_text c r = rectangle_text r ++ opening_text c r

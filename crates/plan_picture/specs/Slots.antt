@@ -2,7 +2,7 @@
 use Rattle.std.specs.Prelude.{ℕ, ◌+◌, ◌-◌, ◌==◌, Bool, not, List, [], ◌∷◌, ◌++◌, codes, decimal, if◌then◌else◌, length}
 use Rattle.std.specs.List.{flat_map, range_with_len}
 use Rattle.ttp_model.specs.declared.plan.Plan.{Plan}
-use Rattle.ttp_model.specs.Instance.{Instance, message_at, node_at}
+use Rattle.ttp_model.specs.Instance.{Instance, node_at}
 use Rattle.tt_layout.specs.Cycle.{cycle_rounds}
 use Rattle.plan_sheets.specs.declared.slots.Slot.{Slot}
 use Rattle.plan_sheets.specs.Slots.{slot_of}
@@ -11,6 +11,7 @@ use Rattle.plan_picture.specs.declared.rectangle.Rectangle.{Rectangle}
 use Rattle.plan_picture.specs.declared.slots.Load.{Load}
 use Rattle.plan_picture.specs.declared.slots.Load.TheVariants.{Messages, Nothing}
 use Rattle.plan_picture.specs.Canvas.{top_of}
+use Rattle.plan_picture.specs.Names.{beside_text, names_text}
 use Rattle.plan_picture.specs.Rectangles.{opened_text, rectangle_text}
 
 -- the rectangle of a slot
@@ -21,14 +22,6 @@ slot_rectangle s = record { row = s.channel; node = s.node; start = s.start; len
 unfoldable pub slot_words : List ℕ → Slot → List ℕ
 slot_words name s =
     name ++ (codes " in round " ++ (decimal s.round ++ (codes ": " ++ (decimal s.start ++ (codes " to " ++ (decimal s.end ++ (codes ", " ++ (decimal s.used ++ (codes " of " ++ (decimal s.capacity ++ codes " bytes"))))))))))
-
--- the name of a message, with a space before it
-unfoldable pub name_text : Instance → ℕ → List ℕ
-name_text i m = codes " " ++ (message_at i m).name
-
--- and of all of them
-abbrev pub names_text : Instance → List ℕ → List ℕ
-names_text i messages = flat_map (name_text i) messages
 
 -- whether a slot has such a load
 abbrev pub has_load : Load → Slot → Bool
@@ -44,32 +37,36 @@ unfoldable pub hollow_slot_text : Instance → Slot → Rectangle → List ℕ
 hollow_slot_text i s r =
     codes "<g><title>" ++ (slot_words (node_at i s.node).name s ++ (codes "</title>" ++ (rectangle_text r ++ codes "</g>\n")))
 
--- the title of a slot that carries messages
-unfoldable pub slot_title_text : Instance → Slot → List ℕ
-slot_title_text i s = codes "<g><title>" ++ (slot_words (node_at i s.node).name s ++ (codes ":" ++ names_text i s.messages))
+-- what begins the title of a slot that carries messages
+unfoldable pub title_front : Instance → Slot → List ℕ
+title_front i s = codes "<g><title>" ++ (slot_words (node_at i s.node).name s ++ codes ":")
 
--- and what is seen of it
+-- the title
+unfoldable pub slot_title_text : Instance → Slot → List ℕ
+slot_title_text i s = title_front i s ++ (names_text i s.messages ++ codes "</title>")
+
+-- and its rectangle, with their names
 unfoldable pub slot_box_text : Canvas → Instance → Slot → Rectangle → List ℕ
 slot_box_text c i s r =
     opened_text c r ++ (names_text i s.messages ++ codes "</text></svg></svg></g>\n")
 
--- one of a slot that carries messages, whose names stand in it
-unfoldable pub used_slot_text : Canvas → Instance → Slot → Rectangle → List ℕ
-used_slot_text c i s r =
-    slot_title_text i s ++ slot_box_text c i s r
+-- one of a slot that carries messages, whose names stand in it and go on beside it
+unfoldable pub used_slot_text : Canvas → Instance → Plan → Slot → Rectangle → List ℕ
+used_slot_text c i plan s r =
+    slot_title_text i s ++ (beside_text c i plan s ++ slot_box_text c i s r)
 
 -- one of a slot with such a load
-abbrev pub box_text : Canvas → Instance → Load → Slot → Rectangle → List ℕ
-box_text c i Nothing s r = hollow_slot_text i s r
-box_text c i Messages s r = used_slot_text c i s r
+abbrev pub box_text : Canvas → Instance → Plan → Load → Slot → Rectangle → List ℕ
+box_text c i plan Nothing s r = hollow_slot_text i s r
+box_text c i plan Messages s r = used_slot_text c i plan s r
 
 -- what is drawn of a slot where slots with such a load are drawn
-abbrev pub slot_piece : Canvas → Instance → Load → Slot → List ℕ
-slot_piece c i load s = flat_map (box_text c i load s) (rectangles_with load s)
+abbrev pub slot_piece : Canvas → Instance → Plan → Load → Slot → List ℕ
+slot_piece c i plan load s = flat_map (box_text c i plan load s) (rectangles_with load s)
 
 -- of the slot at position k of round r, on a channel
 unfoldable pub slot_at : Canvas → Instance → Plan → Load → ℕ → ℕ → ℕ → List ℕ
-slot_at c i plan load r k channel = slot_piece c i load (slot_of i plan r k channel)
+slot_at c i plan load r k channel = slot_piece c i plan load (slot_of i plan r k channel)
 
 -- on each channel
 unfoldable pub position_slots : Canvas → Instance → Plan → Load → ℕ → ℕ → List ℕ

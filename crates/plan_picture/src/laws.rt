@@ -4,14 +4,16 @@ ghost use Rattle.std.specs.Prelude.{◌≡◌, ◌≢◌, ℕ, ◌+◌, ◌<◌,
 ghost use Rattle.ttp_model.specs.declared.plan.Plan.{Plan};
 ghost use Rattle.ttp_model.specs.Instance.{Instance, message_at, node_of, process_at};
 ghost use Rattle.ttp_model.specs.Rules.{IsInstance};
-ghost use Rattle.ttp_model.specs.Plans.{IsValid, start_of};
+ghost use Rattle.ttp_model.specs.Plans.{IsValid, end_of, start_of};
 ghost use Rattle.ttp_model.specs.Slots.{duration, slot_start};
 ghost use Rattle.plan_sheets.specs.Slots.{slot_of};
 ghost use Rattle.plan_picture.specs.declared.canvas.Canvas.{Canvas};
 ghost use Rattle.plan_picture.specs.declared.picture.Shown.TheVariants.{All, Used};
 ghost use Rattle.plan_picture.specs.declared.slots.Load.TheVariants.{Nothing};
 ghost use Rattle.plan_picture.specs.Canvas.{place_of};
+ghost use Rattle.plan_picture.specs.Deadlines.{deadline_of};
 ghost use Rattle.plan_picture.specs.Lines.{LeadsOn, delivery_of, sending_of};
+ghost use Rattle.plan_picture.specs.Names.{name_room};
 ghost use Rattle.plan_picture.specs.Processes.{process_rectangle};
 ghost use Rattle.plan_picture.specs.Shapes.{EndsBy, rectangles_of};
 ghost use Rattle.plan_picture.specs.Slots.{has_load, slot_rectangle};
@@ -51,6 +53,19 @@ pub fn rectangles_are_apart()
     ensures processes { (i : Instance) (plan : Plan) (p q : ℕ) → IsValid i plan → p < length i.processes → q < length i.processes
         → p ≢ q → (process_rectangle i plan p).row ≡ (process_rectangle i plan q).row
         → EndsBy (process_rectangle i plan p) (process_rectangle i plan q) ⊎ EndsBy (process_rectangle i plan q) (process_rectangle i plan p) }
+{}
+
+/// The names of a slot end before the next slot of its row that carries a message, or just there.
+pub fn names_are_apart()
+    ensures { (canvas : Canvas) (i : Instance) (plan : Plan) (j k r s c : ℕ) → IsInstance i → IsValid i plan
+        → j < length i.nodes → k < length i.nodes → (r < s) ⊎ ((r ≡ s) × (j < k)) → 0 < (slot_of i plan s k c).used
+        → EndsBy (name_room canvas i plan (slot_of i plan r j c)) (slot_rectangle (slot_of i plan s k c)) }
+{}
+
+/// The line of a deadline doesn't stand before the end of its process.
+pub fn deadlines_are_behind_ends()
+    ensures { (i : Instance) (plan : Plan) (p : ℕ) → IsValid i plan → p < length i.processes
+        → end_of i plan p ≤ (deadline_of i p).from }
 {}
 
 /// No line of a message leads to the left, in ticks and in pixels.

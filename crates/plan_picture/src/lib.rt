@@ -3,8 +3,10 @@
 #![tactic(auto)]
 
 mod canvas;
+mod deadlines;
 mod laws;
 mod lines;
+mod names;
 mod picture;
 mod processes;
 mod rectangle;
@@ -14,8 +16,8 @@ mod slots;
 
 pub use canvas::{LEAST_WIDTH, MOST_WIDTH};
 pub use laws::{
-    each_slot_and_process_has_its_rectangle, lines_lead_on, rectangles_are_apart,
-    slots_without_messages_are_hollow,
+    deadlines_are_behind_ends, each_slot_and_process_has_its_rectangle, lines_lead_on,
+    names_are_apart, rectangles_are_apart, slots_without_messages_are_hollow,
 };
 pub use picture::{MOST_SLOTS, Shown, print, too_many_slots};
 pub use ttp_model::MemoryFault;

@@ -71,7 +71,7 @@ pub fn delivery_of(instance: &Instance, plan: &Plan, m: usize, q: usize) -> Line
 
 /// Adds the beginning of a line, behind which a title may stand.
 #[tactic(auto, unfolding(crate::specs::Lines::line_text))]
-fn put_line(text: &mut String, canvas: &Canvas, line: &Line) -> Result<(), AllocError>
+pub fn put_line(text: &mut String, canvas: &Canvas, line: &Line) -> Result<(), AllocError>
     requires sound { IsCanvas canvas.now }
     requires near { IsNear line.now }
     ensures { OnOk result (string_bytes text.new ≡ string_bytes text.old ++ line_text canvas.now line.now) }

@@ -6,9 +6,10 @@ ghost use Rattle.ttp_model.specs.Plans.{IsValid};
 ghost use Rattle.ttp_model.specs.Slots.{round_length};
 ghost use Rattle.plan_picture.specs.Limits.{least_width, most_width};
 ghost use Rattle.plan_picture.specs.Canvas.{IsCanvas};
-ghost use Rattle.plan_picture.specs.Picture.{boxes_text, caption_text, cycle_slots, figures_words, front_text, ground_text, head_text, hollow_text, picture_text, style_text, ticks_text, title_text, too_many_slots};
+ghost use Rattle.plan_picture.specs.Picture.{boxes_text, caption_text, cycle_slots, figures_words, front_text, ground_text, head_text, hollow_text, limits_text, picture_text, style_text, ticks_text, title_text, too_many_slots, whole_text};
 
 use crate::canvas::{Canvas, canvas_of};
+use crate::deadlines::{put_deadlines, put_horizon};
 use crate::lines::put_lines;
 use crate::processes::put_processes;
 use crate::rows::put_rows;
@@ -59,10 +60,9 @@ pub fn too_many_slots(instance: &Instance, plan: &Plan, shown: Shown) -> Option<
 
 /// How texts and shapes look. Colours of nodes differ in lightness too, of neighbours the most.
 const STYLE: &str =
-    "<style>text{font:12px sans-serif;fill:#222}text.mark{text-anchor:middle}line{stroke:#555}line.mark{stroke:#ddd}line.delay{stroke:#c00;stroke-dasharray:4 3}.track{fill:#f4f4f4}.n0{fill:#044763}.n1{fill:#d7706c}.n2{fill:#007656}.n3{fill:#c1acfe}.n4{fill:#704e01}.n5{fill:#04b3cb}.n6{fill:#bd5983}.n7{fill:#a9dc8e}.n8{fill:#044e80}.n9{fill:#da825f}.n10{fill:#017f74}.n11{fill:#edadf6}.n12{fill:#656009}.n13{fill:#16bcec}.n14{fill:#cd6372}.n15{fill:#91ecb0}text.t0,text.t2,text.t4,text.t6,text.t8,text.t10,text.t12{fill:#fff}</style>\n";
+    "<style>text{font:12px sans-serif;fill:#222}text.mark{text-anchor:middle}line{stroke:#555}line.mark{stroke:#ddd}line.delay{stroke:#c00;stroke-dasharray:4 3}line.horizon,.due line{stroke:#c00}text.horizon,.due text{fill:#c00}text.horizon{text-anchor:end}.due text{font-size:9px;text-anchor:middle}.track{fill:#f4f4f4}.n0{fill:#044763}.n1{fill:#d7706c}.n2{fill:#007656}.n3{fill:#c1acfe}.n4{fill:#704e01}.n5{fill:#04b3cb}.n6{fill:#bd5983}.n7{fill:#a9dc8e}.n8{fill:#044e80}.n9{fill:#da825f}.n10{fill:#017f74}.n11{fill:#edadf6}.n12{fill:#656009}.n13{fill:#16bcec}.n14{fill:#cd6372}.n15{fill:#91ecb0}text.t0,text.t2,text.t4,text.t6,text.t8,text.t10,text.t12{fill:#fff}.beside text{fill:#222}</style>\n";
 
 /// The picture of a valid plan, so many pixels wide.
-#[tactic(auto, unfolding(crate::specs::Picture::whole_text))]
 pub fn print(
     alloc: Global,
     instance: &Instance,
@@ -77,14 +77,43 @@ pub fn print(
 {
     let canvas = canvas_of(instance, plan, width);
     let mut text = String::new(alloc);
-    put_head(&mut text, &canvas, instance, plan)?;
-    put_rows(&mut text, &canvas, instance)?;
-    put_scale(&mut text, &canvas)?;
-    put_delay(&mut text, &canvas, delay(instance, plan))?;
-    put_lines(&mut text, &canvas, instance, plan)?;
-    put_boxes(alloc, &mut text, &canvas, instance, plan, shown)?;
-    writeln!(text, "</svg>")?;
+    put_whole(alloc, &mut text, &canvas, instance, plan, shown)?;
     Ok(text)
+}
+
+/// Adds the whole of it, on these measures.
+#[tactic(auto, unfolding(crate::specs::Picture::whole_text))]
+fn put_whole(
+    alloc: Global,
+    text: &mut String,
+    canvas: &Canvas,
+    instance: &Instance,
+    plan: &Plan,
+    shown: Shown,
+) -> Result<(), MemoryFault>
+    requires sound { IsCanvas canvas.now }
+    requires valid { IsValid instance.now plan.now }
+    ensures { OnOk result (string_bytes text.new ≡ string_bytes text.old ++ whole_text canvas.now instance.now plan.now shown) }
+{
+    put_head(text, canvas, instance, plan)?;
+    put_rows(text, canvas, instance)?;
+    put_scale(text, canvas)?;
+    put_delay(text, canvas, delay(instance, plan))?;
+    put_lines(text, canvas, instance, plan)?;
+    put_boxes(alloc, text, canvas, instance, plan, shown)?;
+    put_limits(text, canvas, instance)?;
+    Ok(())
+}
+
+/// Draws deadlines and the horizon over all others, and closes the picture.
+#[tactic(auto, unfolding(crate::specs::Picture::limits_text))]
+fn put_limits(text: &mut String, canvas: &Canvas, instance: &Instance) -> Result<(), AllocError>
+    requires { IsCanvas canvas.now }
+    ensures { OnOk result (string_bytes text.new ≡ string_bytes text.old ++ limits_text canvas.now instance.now) }
+{
+    put_deadlines(text, canvas, instance)?;
+    put_horizon(text, canvas, instance)?;
+    text.push_str("</svg>\n")
 }
 
 /// The numbers of a plan, in words.

@@ -106,7 +106,7 @@ fn put_process_title(
         start: plan.starts.as_slice()[p] as u64,
         due: process.deadline.min(instance.cluster().horizon),
     };
-    write!(text, "<g><title>{words}")
+    write!(text, "<g><title>{words}</title>")
 }
 
 /// Adds its name in its rectangle, and a line where it starts.

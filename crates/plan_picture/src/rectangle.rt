@@ -34,7 +34,7 @@ impl fmt::Display for Rectangle {
     }
 }
 
-/// What begins a text in a rectangle, which is cut off there. Ticks have no height: the inner `svg` gives the text its
+/// What begins a text in a rectangle, which is cut off where it ends. Ticks have no height: the inner `svg` gives the text its
 /// pixels again.
 #[derive(Clone, Copy, Debug)]
 struct Opening {
@@ -105,7 +105,22 @@ impl fmt::Display for Pixels {
     }
 }
 
-/// Adds a rectangle behind a title, and the beginning of a text in it.
+/// Adds the beginning of a text in a rectangle, which isn't drawn.
+pub fn put_opening(
+    text: &mut String,
+    canvas: &Canvas,
+    rectangle: &Rectangle,
+) -> Result<(), AllocError>
+    ensures { OnOk result (string_bytes text.new ≡ string_bytes text.old ++ opening_text canvas.now rectangle.now) }
+{
+    let opening = Opening {
+        canvas: *canvas,
+        rectangle: *rectangle,
+    };
+    write!(text, "{opening}")
+}
+
+/// Adds a rectangle, and the beginning of a text in it.
 #[tactic(auto, unfolding(crate::specs::Rectangles::opened_text))]
 pub fn put_opened(
     text: &mut String,
@@ -114,12 +129,7 @@ pub fn put_opened(
 ) -> Result<(), AllocError>
     ensures { OnOk result (string_bytes text.new ≡ string_bytes text.old ++ opened_text canvas.now rectangle.now) }
 {
-    let (rectangle, opening) = (
-        *rectangle,
-        Opening {
-            canvas: *canvas,
-            rectangle: *rectangle,
-        },
-    );
-    write!(text, "</title>{rectangle}{opening}")
+    let shown = *rectangle;
+    write!(text, "{shown}")?;
+    put_opening(text, canvas, rectangle)
 }

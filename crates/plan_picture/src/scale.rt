@@ -59,7 +59,12 @@ pub fn put_scale(text: &mut String, canvas: &Canvas) -> Result<(), AllocError>
 
 /// Adds the beginning of a line from the scale to the bottom, in a style.
 #[tactic(auto, unfolding(crate::specs::Scale::upright_text))]
-fn put_upright(text: &mut String, canvas: &Canvas, style: &str, tick: u64) -> Result<(), AllocError>
+pub fn put_upright(
+    text: &mut String,
+    canvas: &Canvas,
+    style: &str,
+    tick: u64,
+) -> Result<(), AllocError>
     requires sound { IsCanvas canvas.now }
     requires inside { tick ≤ MOST_CYCLE }
     ensures { OnOk result (string_bytes text.new ≡ string_bytes text.old ++ upright_text canvas.now style.now tick) }

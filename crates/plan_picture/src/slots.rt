@@ -1,12 +1,13 @@
 //! How are the slots drawn, in the rows of the channels?
 
-ghost use Rattle.std.specs.Prelude.{◌≡◌, ◌≤◌, ◌++◌, ◌<◌, ◌↔◌, All, Contains, IsTrue, OnOk, Some, length, string_bytes};
+ghost use Rattle.std.specs.Prelude.{◌≡◌, ◌≤◌, ◌++◌, ◌<◌, ◌↔◌, Contains, IsTrue, OnOk, Some, length, string_bytes};
 ghost use Rattle.ttp_model.specs.Plans.{IsValid};
 ghost use Rattle.tt_layout.specs.Layout.{timing};
 ghost use Rattle.plan_sheets.specs.Slots.{IsSlotRow};
-ghost use Rattle.plan_picture.specs.Slots.{band_text, bands_text, has_load, hollow_slot_text, names_text, position_slots, round_slots, slot_box_text, slot_piece, slot_rectangle, slot_title_text, slot_words, slots_text, used_slot_text};
+ghost use Rattle.plan_picture.specs.Slots.{band_text, bands_text, has_load, hollow_slot_text, position_slots, round_slots, slot_box_text, slot_piece, slot_rectangle, slot_title_text, slot_words, slots_text, title_front, used_slot_text};
 
 use crate::canvas::{Canvas, top_of};
+use crate::names::{put_beside, put_names};
 use crate::rectangle::{Rectangle, put_opened};
 use plan_sheets::{Slot, slot_of};
 use std::alloc::{AllocError, Global};
@@ -136,7 +137,7 @@ fn put_position(
     let channels = instance.cluster().channels;
     for channel in 0..channels {
         let slot = slot_of(alloc, instance, plan, layout, round, k, channel, sends)?;
-        put_slot(text, canvas, instance, &slot, load)?;
+        put_slot(text, canvas, instance, plan, &slot, load)?;
     }
     Ok(())
 }
@@ -169,19 +170,21 @@ fn put_slot(
     text: &mut String,
     canvas: &Canvas,
     instance: &Instance,
+    plan: &Plan,
     slot: &Slot,
     load: Load,
 ) -> Result<(), AllocError>
+    requires valid { IsValid instance.now plan.now }
     requires there { IsSlotRow instance.now slot.now }
     requires order { slot.now.start ≤ slot.now.end }
-    ensures { OnOk result (string_bytes text.new ≡ string_bytes text.old ++ slot_piece canvas.now instance.now load slot.now) }
+    ensures { OnOk result (string_bytes text.new ≡ string_bytes text.old ++ slot_piece canvas.now instance.now plan.now load slot.now) }
 {
     if !load.is_of(slot) {
         return Ok(());
     }
     match load {
         Load::Nothing => put_hollow_slot(text, instance, slot),
-        Load::Messages => put_used_slot(text, canvas, instance, slot),
+        Load::Messages => put_used_slot(text, canvas, instance, plan, slot),
     }
 }
 
@@ -204,13 +207,16 @@ fn put_used_slot(
     text: &mut String,
     canvas: &Canvas,
     instance: &Instance,
+    plan: &Plan,
     slot: &Slot,
 ) -> Result<(), AllocError>
+    requires valid { IsValid instance.now plan.now }
     requires there { IsSlotRow instance.now slot.now }
     requires order { slot.now.start ≤ slot.now.end }
-    ensures { OnOk result (string_bytes text.new ≡ string_bytes text.old ++ used_slot_text canvas.now instance.now slot.now (slot_rectangle slot.now)) }
+    ensures { OnOk result (string_bytes text.new ≡ string_bytes text.old ++ used_slot_text canvas.now instance.now plan.now slot.now (slot_rectangle slot.now)) }
 {
     put_slot_title(text, instance, slot)?;
+    put_beside(text, canvas, instance, plan, slot)?;
     put_slot_box(text, canvas, instance, slot)
 }
 
@@ -220,13 +226,23 @@ fn put_slot_title(text: &mut String, instance: &Instance, slot: &Slot) -> Result
     requires there { IsSlotRow instance.now slot.now }
     ensures { OnOk result (string_bytes text.new ≡ string_bytes text.old ++ slot_title_text instance.now slot.now) }
 {
-    let name = instance.nodes()[slot.node as usize].name.as_str();
-    let words = SlotWords { name, slot };
-    write!(text, "<g><title>{words}:")?;
-    put_names(text, instance, slot.messages.as_slice())
+    put_title_front(text, instance, slot)?;
+    put_names(text, instance, slot.messages.as_slice())?;
+    text.push_str("</title>")
 }
 
-/// Adds what is seen of it.
+/// Adds what begins the title of a slot that carries messages.
+#[tactic(auto, unfolding(crate::specs::Slots::title_front))]
+fn put_title_front(text: &mut String, instance: &Instance, slot: &Slot) -> Result<(), AllocError>
+    requires { IsSlotRow instance.now slot.now }
+    ensures { OnOk result (string_bytes text.new ≡ string_bytes text.old ++ title_front instance.now slot.now) }
+{
+    let name = instance.nodes()[slot.node as usize].name.as_str();
+    let words = SlotWords { name, slot };
+    write!(text, "<g><title>{words}:")
+}
+
+/// Adds its rectangle, with their names.
 #[tactic(auto, unfolding(crate::specs::Slots::slot_box_text))]
 fn put_slot_box(
     text: &mut String,
@@ -242,17 +258,4 @@ fn put_slot_box(
     put_opened(text, canvas, &rectangle)?;
     put_names(text, instance, slot.messages.as_slice())?;
     text.push_str("</text></svg></svg></g>\n")
-}
-
-/// Adds the names of messages, each with a space before it.
-#[tactic(auto, unfolding(crate::specs::Slots::name_text))]
-fn put_names(text: &mut String, instance: &Instance, messages: &[u32]) -> Result<(), AllocError>
-    requires { All (λ m. m < length instance.now.messages) messages.now }
-    ensures { OnOk result (string_bytes text.new ≡ string_bytes text.old ++ names_text instance.now messages.now) }
-{
-    for m in messages {
-        let name = instance.message_at(*m as usize).name.as_str();
-        write!(text, " {name}")?;
-    }
-    Ok(())
 }

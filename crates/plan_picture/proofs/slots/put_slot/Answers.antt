@@ -5,12 +5,15 @@ use Rattle.plan_picture.proofs.slots.put_slot.Goals as goal
 
 pub returns-then-not-is_of : goal.returns-then-not-is_of
 returns-then-not-is_of c =
-    rw (left_out c.args.canvas.now c.args.instance.now c.args.load c.args.slot.now (sym c.is_of.ensures ∙ c.if-not-is_of.true)) (sym (append-nil _))
+    let lacks = sym c.is_of.ensures ∙ c.if-not-is_of.true in
+    rw (left_out c.args.canvas.now c.args.instance.now c.args.plan.now c.args.load c.args.slot.now lacks) (sym (append-nil _))
 
 pub returns-in-Nothing : goal.returns-in-Nothing
 returns-in-Nothing c =
-    rw (drawn c.args.canvas.now c.args.instance.now c.args.load c.args.slot.now (sym c.is_of.ensures ∙ c.if-not-is_of.false), c.in-Nothing.is) c.put_hollow_slot.ensures
+    let has = sym c.is_of.ensures ∙ c.if-not-is_of.false in
+    rw (drawn c.args.canvas.now c.args.instance.now c.args.plan.now c.args.load c.args.slot.now has, c.in-Nothing.is) c.put_hollow_slot.ensures
 
 pub returns-in-Messages : goal.returns-in-Messages
 returns-in-Messages c =
-    rw (drawn c.args.canvas.now c.args.instance.now c.args.load c.args.slot.now (sym c.is_of.ensures ∙ c.if-not-is_of.false), c.in-Messages.is) c.put_used_slot.ensures
+    let has = sym c.is_of.ensures ∙ c.if-not-is_of.false in
+    rw (drawn c.args.canvas.now c.args.instance.now c.args.plan.now c.args.load c.args.slot.now has, c.in-Messages.is) c.put_used_slot.ensures

@@ -1,8 +1,8 @@
 use Rattle.std.proofs.Common.{◌≡◌, ◌++◌, arith, slice_index, string_bytes}
 use Rattle.std.proofs.lemmas.Grind.{common_steps}
-use Rattle.plan_picture.specs.Slots.{name_text}
+use Rattle.plan_picture.specs.Names.{name_text}
 use Rattle.plan_picture.proofs.Growing.{list_grows}
-use Rattle.plan_picture.proofs.slots.put_names.Goals as goal
+use Rattle.plan_picture.proofs.names.put_names.Goals as goal
 
 pub loop-m-preserved : goal.loop-m-preserved
 unfolding name_text
