@@ -152,8 +152,8 @@ impl<'a> Files<'a> {
                 Some(name) => Some(opened(rt, Source::Plan, name)?),
                 None => None,
             },
-            certificate: made(rt, Written::Certificate, named.certificate)?,
-            reduced: made(rt, Written::Reduced, named.reduced)?,
+            certificate: file_to_write(rt, Written::Certificate, named.certificate)?,
+            reduced: file_to_write(rt, Written::Reduced, named.reduced)?,
             kept: match named.kept {
                 Some(name) => kept(rt, name)?,
                 None => None,
@@ -253,7 +253,7 @@ fn opened<'a>(rt: &HostRuntime, source: Source, name: &str) -> Result<File, File
 }
 
 /// The file that an option names, opened to be written: where it is there, as it is.
-fn made<'a>(
+fn file_to_write<'a>(
     rt: &HostRuntime,
     written: Written,
     name: Option<&'a str>,
