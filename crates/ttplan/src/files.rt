@@ -124,32 +124,71 @@ impl FileFault<'_> {
 
 /// A file that is written.
 #[derive(Drop)]
-pub struct Made<'a> {
-    pub file: File,
+struct Made<'a> {
+    file: File,
     name: &'a str,
     /// Whether it wasn't there before.
     is_new: bool,
 }
 
+/// The file itself, where one is written.
+fn file_of(made: Option<Made<'_>>) -> Option<File> {
+    match made {
+        Some(made) => Some(made.file),
+        None => None,
+    }
+}
+
 /// The files of a command that searches: those that it reads are open, and those that it writes are empty.
 #[derive(Drop)]
-pub struct Files<'a> {
+pub struct Files {
     pub instance: File,
     pub start: Option<File>,
-    pub certificate: Option<Made<'a>>,
-    pub reduced: Option<Made<'a>>,
+    pub certificate: Option<File>,
+    pub reduced: Option<File>,
     /// The file in which the best plan so far is kept, where it is there: a plan that stands in it is read.
     pub kept: Option<File>,
 }
 
-impl<'a> Files<'a> {
+impl Files {
     /// Opens what a command reads, in the order of its words, then makes what it writes, and then empties that. No file that was there is
     /// emptied before it is known that none of these is another one of the command, by whatever name, way or link.
-    pub fn open(rt: &HostRuntime, named: &Named<'a>) -> Result<Self, FileFault<'a>> {
-        let files = Files {
-            instance: opened(rt, Source::Instance, named.instance)?,
+    pub fn open<'a>(rt: &HostRuntime, named: &Named<'a>) -> Result<Self, FileFault<'a>> {
+        let opened = Opened::of(rt, named)?;
+        if let Some(fault) = opened.fault(named) {
+            take_back(rt, &opened.certificate);
+            take_back(rt, &opened.reduced);
+            return Err(fault);
+        }
+        empty(Written::Certificate, &opened.certificate)?;
+        empty(Written::Reduced, &opened.reduced)?;
+        Ok(Files {
+            instance: opened.instance,
+            start: opened.start,
+            certificate: file_of(opened.certificate),
+            reduced: file_of(opened.reduced),
+            kept: opened.kept,
+        })
+    }
+}
+
+/// The same files, of which those that are written hold what they held.
+#[derive(Drop)]
+struct Opened<'a> {
+    instance: File,
+    start: Option<File>,
+    certificate: Option<Made<'a>>,
+    reduced: Option<Made<'a>>,
+    kept: Option<File>,
+}
+
+impl<'a> Opened<'a> {
+    /// Opens what a command reads, in the order of its words, and then what it writes, which is made where it isn't there.
+    fn of(rt: &HostRuntime, named: &Named<'a>) -> Result<Self, FileFault<'a>> {
+        Ok(Opened {
+            instance: file_to_read(rt, Source::Instance, named.instance)?,
             start: match named.start {
-                Some(name) => Some(opened(rt, Source::Plan, name)?),
+                Some(name) => Some(file_to_read(rt, Source::Plan, name)?),
                 None => None,
             },
             certificate: file_to_write(rt, Written::Certificate, named.certificate)?,
@@ -158,19 +197,7 @@ impl<'a> Files<'a> {
                 Some(name) => kept(rt, name)?,
                 None => None,
             },
-        };
-        match files.fault(named) {
-            Some(fault) => {
-                take_back(rt, &files.certificate);
-                take_back(rt, &files.reduced);
-                Err(fault)
-            }
-            None => {
-                empty(Written::Certificate, &files.certificate)?;
-                empty(Written::Reduced, &files.reduced)?;
-                Ok(files)
-            }
-        }
+        })
     }
 
     /// Why a file that is written is another one of the command, where one is.
@@ -245,7 +272,7 @@ fn kept<'a>(rt: &HostRuntime, name: &str) -> Result<Option<File>, FileFault<'a>>
 }
 
 /// The file of this name, opened to be read.
-fn opened<'a>(rt: &HostRuntime, source: Source, name: &str) -> Result<File, FileFault<'a>> {
+fn file_to_read<'a>(rt: &HostRuntime, source: Source, name: &str) -> Result<File, FileFault<'a>> {
     match File::open(rt, name) {
         Ok(file) => Ok(file),
         Err(_) => Err(FileFault::Unread(source)),

@@ -40,15 +40,15 @@ impl fmt::Display for Word<'_> {
 
 /// The words of a command line that a refusal is about.
 #[derive(Clone, Copy, Debug)]
-pub struct Said<'a> {
+pub struct Said<'a, 'w> {
     pub instance: Option<&'a str>,
     pub plan: Option<&'a str>,
     pub certificate: Option<&'a str>,
     /// Lost frames, or names of processes.
-    pub words: &'a [&'a str],
+    pub words: &'w [&'a str],
 }
 
-impl<'a> Said<'a> {
+impl<'a, 'w> Said<'a, 'w> {
     /// These files are named.
     pub fn files(instance: &'a str, plan: Option<&'a str>, certificate: Option<&'a str>) -> Self {
         Said {
@@ -60,8 +60,13 @@ impl<'a> Said<'a> {
     }
 
     /// The same, beside these words.
-    pub fn with_words(self, words: &'a [&'a str]) -> Self {
-        Said { words, ..self }
+    pub fn with_words<'v>(self, words: &'v [&'a str]) -> Said<'a, 'v> {
+        Said {
+            instance: self.instance,
+            plan: self.plan,
+            certificate: self.certificate,
+            words,
+        }
     }
 
     /// Nothing is named.

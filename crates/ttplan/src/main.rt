@@ -199,7 +199,7 @@ fn search_keeping<'a>(
     rt: &HostRuntime,
     threads: &(impl Threads + Wait + Sync),
     search: &Search<'a>,
-    mut files: Files<'a>,
+    mut files: Files,
     follower: &(impl Follower + Sync),
 ) -> Result<End, FileFault<'a>> {
     let Some(name) = search.kept else {
@@ -235,10 +235,7 @@ fn search_files(
         seconds: search.seconds,
     };
     let patient = Patient::beside(follower, rt, patience);
-    let certificate = match &mut certificate {
-        Some(made) => Some(&mut made.file),
-        None => None,
-    };
+    let certificate = certificate.as_mut();
     let out = &mut rt.stdout();
     match start {
         None => solve_run_with(
@@ -314,15 +311,12 @@ fn run_why<'a>(
     let instance = &mut instance;
     Ok(match (certificate, reduced) {
         (Some(mut certificate), Some(mut reduced)) => {
-            let (certificate, reduced) = (&mut certificate.file, &mut reduced.file);
-            why_to(rt, threads, why, instance, certificate, reduced)
+            why_to(rt, threads, why, instance, &mut certificate, &mut reduced)
         }
         (Some(mut certificate), None) => {
-            why_to(rt, threads, why, instance, &mut certificate.file, nothing)
+            why_to(rt, threads, why, instance, &mut certificate, nothing)
         }
-        (None, Some(mut reduced)) => {
-            why_to(rt, threads, why, instance, nothing, &mut reduced.file)
-        }
+        (None, Some(mut reduced)) => { why_to(rt, threads, why, instance, nothing, &mut reduced) }
         (None, None) => why_to(rt, threads, why, instance, nothing, nothing_either),
     })
 }
@@ -338,10 +332,6 @@ fn run_limit<'a>(
         mut certificate,
         ..
     } = Files::open(rt, &Named::of_limit(limit))?;
-    let certificate = match &mut certificate {
-        Some(made) => Some(&mut made.file),
-        None => None,
-    };
     let options = Options {
         workers: limit.workers,
         budget: limit.budget,
@@ -353,13 +343,13 @@ fn run_limit<'a>(
         &mut instance,
         limit.processes.as_slice(),
         options,
-        certificate,
+        certificate.as_mut(),
         &mut rt.stdout(),
     ))
 }
 
 /// The words of a task that aren't names of files.
-fn words_of<'t>(task: &'t Task<'t>) -> &'t [&'t str] {
+fn words_of<'t, 'n>(task: &'t Task<'n>) -> &'t [&'n str] {
     match task {
         Task::Replay(losses) => losses.as_slice(),
         Task::Verify | Task::Tables | Task::Schedule(_) | Task::Draw { .. } => &[],

@@ -1,7 +1,5 @@
 //! Which files of the system does a search make and rename to keep its best plan?
 
-ghost use Rattle.std.specs.Prelude.{Unit};
-
 use crate::files::{FileFault, Written};
 use command_streams::{Fault, Source, read_all};
 use plan_commands::PLAN_LIMIT;
