@@ -788,7 +788,7 @@ def released(word, instance_text, plan_text):
     """An instance with a valid plan of it; raises Refused."""
     with of_release(word):
         instance = Instance(instance_text)
-        return instance, verified(instance, plan_text)
+        return instance, printed(instance, plan_text)
 
 
 # A plan as a picture
@@ -1721,7 +1721,7 @@ def compare(paths):
         for word, (instance, plan) in releases:
             with of_release(word):
                 problem = Instance(taken(instance, "instance", INSTANCE_BYTES))
-                judged.append((problem, verified(problem, taken(plan, "plan", PLAN_BYTES))))
+                judged.append((problem, printed(problem, taken(plan, "plan", PRINTED_BYTES))))
         return comparison(*judged)
 
 

@@ -4,7 +4,7 @@ use Rattle.command_streams.specs.declared.ending.Fault.{Fault}
 use Rattle.command_streams.proofs.Outcomes.{keeps}
 use Rattle.plan_changes.specs.Changes.{changes_text}
 use Rattle.plan_commands.specs.declared.verdict.Verified.{Verified}
-use Rattle.plan_commands.specs.Verdicts.{IsRefused, IsVerified}
+use Rattle.plan_commands.specs.Printed.{IsPrinted, IsUnprinted}
 use Rattle.compare_command.specs.declared.ending.Release.TheVariants.{New, Old}
 use Rattle.compare_command.specs.declared.ending.Compared.{Compared}
 use Rattle.compare_command.specs.declared.ending.Compared.TheVariants.{Different, Refused, Same}
@@ -38,7 +38,7 @@ module _ (old new : Texts) (before after : Verified) (says_before : SayVerified 
 
 -- the new release is verified
 pub new_told : (a b : Option (List ℕ)) (old new : Verified) (out written : Option (List ℕ)) (end : Compared)
-    → IfSome a (λ i. IfSome b (λ p. IsVerified i p new)) → IsTelling (planned_of old) (planned_of new) out written end
+    → IfSome a (λ i. IfSome b (λ p. IsPrinted i p new)) → IsTelling (planned_of old) (planned_of new) out written end
     → (texts : Texts) → SayVerified texts old → IfSome a (λ i. IfSome b (λ p. IsCompareAnswer texts (record { instance = i; plan = p }) out written end))
 new_told None b old new out written end verified told texts says = tt
 new_told (Some i) None old new out written end verified told texts says = tt
@@ -46,7 +46,7 @@ new_told (Some i) (Some p) old new out written end verified told texts says =
     answered texts (record { instance = i; plan = p }) old new says verified out written end told
 
 -- it is refused
-pub new_refused : (a b : Option (List ℕ)) (old : Verified) (out : Option (List ℕ)) (fault : Fault) → IfSome a (λ i. IfSome b (λ p. IsRefused i p fault))
+pub new_refused : (a b : Option (List ℕ)) (old : Verified) (out : Option (List ℕ)) (fault : Fault) → IfSome a (λ i. IfSome b (λ p. IsUnprinted i p fault))
     → (texts : Texts) → SayVerified texts old
     → IfSome a (λ i. IfSome b (λ p. IsCompareAnswer texts (record { instance = i; plan = p }) out out (Refused New fault)))
 new_refused None b old out fault refused texts says = tt
@@ -55,7 +55,7 @@ new_refused (Some i) (Some p) old out fault refused texts says = inr (record { v
 
 -- the old one is verified, and what is answered then is known
 pub old_told : (a b c d : Option (List ℕ)) (old : Verified) (out written : Option (List ℕ)) (end : Compared)
-    → IfSome a (λ i. IfSome b (λ p. IsVerified i p old))
+    → IfSome a (λ i. IfSome b (λ p. IsPrinted i p old))
     → ((texts : Texts) → SayVerified texts old → IfSome c (λ j. IfSome d (λ q. IsCompareAnswer texts (record { instance = j; plan = q }) out written end)))
     → IfSome a (λ i. IfSome b (λ p. IfSome c (λ j. IfSome d (λ q.
     IsCompareAnswer (record { instance = i; plan = p }) (record { instance = j; plan = q }) out written end))))

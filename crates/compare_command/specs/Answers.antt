@@ -7,7 +7,7 @@ use Rattle.command_streams.specs.declared.ending.Fault.TheVariants.{Memory, Unwr
 use Rattle.command_streams.specs.Streams.{AppendsPart}
 use Rattle.command_streams.specs.Outcomes.{IsWritten}
 use Rattle.plan_commands.specs.declared.verdict.Verified.{Verified}
-use Rattle.plan_commands.specs.Verdicts.{IsRefused, IsVerified}
+use Rattle.plan_commands.specs.Printed.{IsPrinted, IsUnprinted}
 use Rattle.plan_changes.specs.Planned.{Planned}
 use Rattle.plan_changes.specs.Changes.{IsUnchanged, changes_text}
 use Rattle.compare_command.specs.declared.ending.Release.{Release}
@@ -15,14 +15,14 @@ use Rattle.compare_command.specs.declared.ending.Release.TheVariants.{New, Old}
 use Rattle.compare_command.specs.declared.ending.Compared.{Compared}
 use Rattle.compare_command.specs.declared.ending.Compared.TheVariants.{Different, Refused, Same}
 
--- the bytes of an instance and of a plan
+-- the bytes of an instance and of a printed plan
 pub record Texts : Type 0 where
   pub instance : List ℕ
   pub plan : List ℕ
 
 -- they are those of an instance and of a valid plan of it that states its own delay
 abbrev pub SayVerified : Texts → Verified → Type 0
-SayVerified texts v = IsVerified texts.instance texts.plan v
+SayVerified texts v = IsPrinted texts.instance texts.plan v
 
 -- what is compared of these
 abbrev pub planned_of : Verified → Planned
@@ -52,15 +52,15 @@ pub record IsCutOff (old new : Texts) (fault : Fault) (before after : Option (Li
   pub is : IsComparison IsEither old new text
   pub part : AppendsPart before after text
 
--- the old release is verified, and the new one is refused as `verify` refuses it
+-- the old release is verified, and the new one is refused
 pub record IsNewRefused (old new : Texts) (fault : Fault) : Type 0 where
   pub verified : Verified
   pub says : SayVerified old verified
-  pub refused : IsRefused new.instance new.plan fault
+  pub refused : IsUnprinted new.instance new.plan fault
 
 -- why nothing is told: for the old release, or else for the new one
 abbrev pub IsReleaseRefused : Texts → Texts → Release → Fault → Type 0
-IsReleaseRefused old new Old fault = IsRefused old.instance old.plan fault
+IsReleaseRefused old new Old fault = IsUnprinted old.instance old.plan fault
 IsReleaseRefused old new New fault = IsNewRefused old new fault
 
 -- what `compare` answers of the bytes of the old release and of the new one, and what it writes

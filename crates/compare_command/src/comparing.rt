@@ -3,16 +3,17 @@
 ghost use Rattle.std.specs.Prelude.{◌≡◌, ◌+◌, ◌↔◌, IfOk, IfSome, IsTrue};
 ghost use Rattle.std.specs.Io.KnownBytes.{Keeps};
 ghost use Rattle.ttp_model.specs.Plans.{IsValid};
-ghost use Rattle.command_streams.specs.Limits.{instance_limit, plan_limit};
+ghost use Rattle.command_streams.specs.Limits.{instance_limit};
 ghost use Rattle.command_streams.specs.Streams.{TakesAtMost};
 ghost use Rattle.command_streams.specs.Instances.{IsOfInstance};
+ghost use Rattle.plan_commands.specs.Printed.{printed_limit};
 ghost use Rattle.plan_changes.specs.Changes.{IsUnchanged, changes_text};
 ghost use Rattle.compare_command.specs.Answers.{IfReleaseRefused, IsCompareAnswer, IsTelling, IsWritingOf, SayVerified, Texts, planned_of};
 
 use crate::ending::{Compared, Release};
 use command_streams::{Fault, Sink, write_text};
 use plan_changes::{Changes, MemoryFault, Planned, changes_of};
-use plan_commands::{Verified, verified_of_readers};
+use plan_commands::{Verified, printed_of_readers};
 use std::alloc::Global;
 use std::io::{Read, Write};
 
@@ -73,9 +74,9 @@ fn compare_with<I: Read, P: Read, W: Write>(
     ensures release { IfReleaseRefused result (λ release fault. release ≡ Release.New) }
     ensures order { IfReleaseRefused result (λ release fault. IsOfInstance fault → Keeps (P.remaining plan.old) (P.remaining plan.new)) }
     ensures instance { TakesAtMost (instance_limit + 1) (I.remaining instance.old) (I.remaining instance.new) }
-    ensures plan { TakesAtMost (plan_limit + 1) (P.remaining plan.old) (P.remaining plan.new) }
+    ensures plan { TakesAtMost (printed_limit + 1) (P.remaining plan.old) (P.remaining plan.new) }
 {
-    match verified_of_readers(alloc, instance, plan) {
+    match printed_of_readers(alloc, instance, plan) {
         Ok(new) => {
             let compared = tell_changes(alloc, old, &new, out);
             drop(new);
@@ -85,7 +86,7 @@ fn compare_with<I: Read, P: Read, W: Write>(
     }
 }
 
-/// Verifies an instance and a plan as `verify` does, and then a second instance and a plan of it, and writes which nodes' tables
+/// Verifies an instance and a printed plan as `verify` does, and then a second instance and a printed plan of it, and writes which nodes' tables
 /// and windows are other bytes in the second, and what is different of the plan. Where anything else ends the command nothing
 /// is written, and after a failed write a prefix of the text stands.
 pub fn compare_run<I: Read, P: Read, J: Read, Q: Read, W: Write>(
@@ -102,9 +103,9 @@ pub fn compare_run<I: Read, P: Read, J: Read, Q: Read, W: Write>(
         (W.contents out.old) (W.contents out.new) result)))) }
     // Of a reader no more is taken than its limit and one byte.
     ensures old_instance { TakesAtMost (instance_limit + 1) (I.remaining old_instance.old) (I.remaining old_instance.new) }
-    ensures old_plan { TakesAtMost (plan_limit + 1) (P.remaining old_plan.old) (P.remaining old_plan.new) }
+    ensures old_plan { TakesAtMost (printed_limit + 1) (P.remaining old_plan.old) (P.remaining old_plan.new) }
     ensures new_instance { TakesAtMost (instance_limit + 1) (J.remaining new_instance.old) (J.remaining new_instance.new) }
-    ensures new_plan { TakesAtMost (plan_limit + 1) (Q.remaining new_plan.old) (Q.remaining new_plan.new) }
+    ensures new_plan { TakesAtMost (printed_limit + 1) (Q.remaining new_plan.old) (Q.remaining new_plan.new) }
     // Nothing is taken of the new release where the old one is refused, and nothing of a plan at a fault of its instance.
     ensures order { IfReleaseRefused result (λ release fault. release ≡ Release.Old
         → Keeps (J.remaining new_instance.old) (J.remaining new_instance.new) × Keeps (Q.remaining new_plan.old) (Q.remaining new_plan.new)) }
@@ -113,7 +114,7 @@ pub fn compare_run<I: Read, P: Read, J: Read, Q: Read, W: Write>(
     ensures new_order { IfReleaseRefused result (λ release fault. IsOfInstance fault
         → Keeps (Q.remaining new_plan.old) (Q.remaining new_plan.new)) }
 {
-    match verified_of_readers(alloc, old_instance, old_plan) {
+    match printed_of_readers(alloc, old_instance, old_plan) {
         Ok(old) => {
             let compared = compare_with(alloc, &old, new_instance, new_plan, out);
             drop(old);
