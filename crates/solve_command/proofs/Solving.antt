@@ -9,7 +9,8 @@ use Rattle.planner.specs.outcome.Outcome.{Outcome}
 use Rattle.planner.specs.outcome.Outcome.TheVariants as answer
 use Rattle.planner.specs.Answers as answers
 use Rattle.plan_commands.specs.declared.verdict.Verified.{Verified}
-use Rattle.plan_commands.specs.Verdicts.{IsVerified}
+use Rattle.plan_commands.specs.Printed.{IsPrinted}
+use Rattle.plan_commands.proofs.Prints.{delay_of_printed}
 use Rattle.solve_command.specs.declared.solve.Solved.{Solved}
 use Rattle.command_streams.specs.declared.ending.SearchFault.TheVariants as search
 use Rattle.command_streams.specs.declared.ending.Sink.{Sink}
@@ -153,18 +154,19 @@ solved_of_bytes None i start options until found has_instance is = tt
 solved_of_bytes (Some bytes) i start options until (Ok solved) has_instance is = solved_bytes bytes i start options until solved has_instance is
 solved_of_bytes (Some bytes) i start options until (Err fault) has_instance is = unsolved_bytes bytes i fault has_instance is
 
--- and where it began with a plan, of the bytes that spell that one
+-- and where it began with a plan, of the bytes that have printed that one
 solved_texts : (bytes plan : List ℕ) (v : Verified) (options : Options) (until : Option ℕ) (solved : Solved)
-    → IsVerified bytes plan v → IsSearchOf v.instance (Some v.plan) options until solved → IsSolvedFrom bytes plan options until solved
+    → IsPrinted bytes plan v → IsSearchOf v.instance (Some v.plan) options until solved → IsSolvedFrom bytes plan options until solved
 solved_texts bytes plan v options until solved verified is = record {
   is = solved_bytes bytes v.instance (Some v.plan) options until solved verified.has_instance is;
   first = v.plan;
   ticks = v.delay;
   begins = rw is.of verified.has_plan;
-  no_later = rw (is.of, ← verified.has_plan.has_delay) is.no_later;
+  no_later = rw (is.of, ← delay_of_printed v.instance plan v.plan v.delay verified.has_plan) is.no_later;
 }
 
-unsolved_texts : (bytes plan : List ℕ) (v : Verified) (fault : Fault) → IsVerified bytes plan v → IsNoSearch fault → IsUnsolvedFrom bytes plan fault
+-- or why these have no answer
+unsolved_texts : (bytes plan : List ℕ) (v : Verified) (fault : Fault) → IsPrinted bytes plan v → IsNoSearch fault → IsUnsolvedFrom bytes plan fault
 unsolved_texts bytes plan v Memory verified is = tt
 unsolved_texts bytes plan v (Search fault) verified is = record { verified = v; is = verified }
 unsolved_texts bytes plan v (Unwritten s) verified is = absurd is
@@ -184,7 +186,7 @@ unsolved_texts bytes plan v (Unread source) verified is = absurd is
 unsolved_texts bytes plan v (TooLong source) verified is = absurd is
 
 pub solved_of_texts : (a b : Option (List ℕ)) (v : Verified) (options : Options) (until : Option ℕ) (found : Result Solved Fault)
-    → IfSome a (λ bytes. IfSome b (λ plan. IsVerified bytes plan v)) → MatchResult found (IsSearchOf v.instance (Some v.plan) options until) IsNoSearch
+    → IfSome a (λ bytes. IfSome b (λ plan. IsPrinted bytes plan v)) → MatchResult found (IsSearchOf v.instance (Some v.plan) options until) IsNoSearch
     → IfSome a (λ bytes. IfSome b (λ plan. MatchResult found (IsSolvedFrom bytes plan options until) (IsUnsolvedFrom bytes plan)))
 solved_of_texts None b v options until found verified is = tt
 solved_of_texts (Some bytes) None v options until found verified is = tt

@@ -17,7 +17,7 @@ use Rattle.solve_command.specs.declared.solve.Solved.{Solved}
 use Rattle.planner.specs.Searching.{limit_of}
 use Rattle.search_watching.specs.Patience.{is_enough}
 use Rattle.plan_commands.specs.declared.verdict.Verified.{Verified}
-use Rattle.plan_commands.specs.Verdicts.{HasValidPlan, IsRefused, IsVerified}
+use Rattle.plan_commands.specs.Printed.{HasPrintedPlan, IsPrinted, IsUnprinted}
 use Rattle.command_streams.specs.declared.ending.Source.TheVariants as source
 use Rattle.command_streams.specs.declared.ending.SearchFault.{SearchFault}
 use Rattle.command_streams.specs.declared.ending.SearchFault.TheVariants as search
@@ -94,28 +94,28 @@ IsUnsolved bytes (Search search.Memory) = StatesSome bytes
 IsUnsolved bytes (Search search.Thread) = StatesSome bytes
 IsUnsolved bytes _ = ⊥
 
--- the same of a search that begins with the valid plan that other bytes spell: the answer has a plan that takes no longer
+-- the same of a search that begins with the valid plan that other bytes have printed: the answer has a plan that takes no longer
 pub record IsSolvedFrom (bytes plan : List ℕ) (options : Options) (until : Option ℕ) (solved : Solved) : Type 0 where
   pub is : IsSolved bytes options until solved
   pub first : Table
   pub ticks : ℕ
-  pub begins : HasValidPlan solved.instance plan first ticks
+  pub begins : HasPrintedPlan solved.instance plan first ticks
   pub no_later : limit_of solved.instance (answers.best_of solved.outcome) ≤ ticks
 
--- the bytes of an instance, and of a plan that is valid for it and states its own delay
+-- the bytes of an instance, and of a printed plan that is valid for it and states its own delay
 pub record AreVerified (instance plan : List ℕ) : Type 0 where
   pub verified : Verified
-  pub is : IsVerified instance plan verified
+  pub is : IsPrinted instance plan verified
 
--- why these have no answer: `verify` refuses them too, or there was no memory or no thread for a search
+-- why these have no answer: they are refused, or there was no memory or no thread for a search
 abbrev pub IsUnsolvedFrom : List ℕ → List ℕ → Fault → Type 0
 IsUnsolvedFrom instance plan (Search fault) = AreVerified instance plan
-IsUnsolvedFrom instance plan fault = IsRefused instance plan fault
+IsUnsolvedFrom instance plan fault = IsUnprinted instance plan fault
 
 -- what `solve` answers of the bytes of an instance, and what it writes; a plan of at most `until` is asked for, if any
 unfoldable pub IsSolveAnswer : (bytes : List ℕ) (options : Options) (until : Option ℕ) (wanted : Bool) (from to old new : Option (List ℕ)) → End → Type 0
 IsSolveAnswer bytes options until = IsToldOf (IsSolved bytes options until) (IsUnsolved bytes)
 
--- what it answers where it begins with the plan that other bytes spell
+-- what it answers where it begins with the plan that other bytes have printed
 unfoldable pub IsStartedAnswer : (bytes plan : List ℕ) (options : Options) (until : Option ℕ) (wanted : Bool) (from to old new : Option (List ℕ)) → End → Type 0
 IsStartedAnswer bytes plan options until = IsToldOf (IsSolvedFrom bytes plan options until) (IsUnsolvedFrom bytes plan)

@@ -6,9 +6,10 @@ ghost use Rattle.ttp_model.specs.Delays.{delay};
 ghost use Rattle.ttp_model.specs.Plans.{IsValid};
 ghost use Rattle.certificate.specs.Versions.{Allows};
 ghost use Rattle.command_streams.specs.Instances.{IsOfInstance};
-ghost use Rattle.command_streams.specs.Limits.{instance_limit, plan_limit};
+ghost use Rattle.command_streams.specs.Limits.{instance_limit};
 ghost use Rattle.command_streams.specs.Outcomes.{IfRefused};
 ghost use Rattle.command_streams.specs.Streams.{TakesAtMost};
+ghost use Rattle.plan_commands.specs.Printed.{printed_limit};
 ghost use Rattle.planner.specs.Searching.{limit_of};
 ghost use Rattle.planner.specs.Answers.{best_of, cert_of, IsBestPlan, IsOutcome, Shows};
 ghost use Rattle.solve_command.specs.Solved.{best_word, fault_of, stopped_line, why_word, IsAnswerText, IsNoSearch, IsSearchOf, IsSolveAnswer, IsSolved, IsSolvedFrom, IsStartedAnswer, IsStoppedText, IsUnsolved, IsUnsolvedFrom};
@@ -16,7 +17,7 @@ ghost use Rattle.solve_command.specs.Telling.{end_told, held, left, IsCertifying
 
 use certificate::Cert;
 use command_streams::{End, Fault, SearchFault, Sink, read_instance, write_text};
-use plan_commands::{Verified, verified_of_readers};
+use plan_commands::{Verified, printed_of_readers};
 use planner::{FreeGate, Options, Outcome, SolveFault, Why, solve_towards};
 use search_watching::{Follower, is_enough};
 use std::alloc::{AllocError, Global};
@@ -239,7 +240,7 @@ fn solved_of_reader<R: Threads + Wait + Sync, G: Follower + Sync, I: Read>(
     solved_instance(rt, alloc, instance, None, options, until, follower)
 }
 
-/// Searches the instance that a reader's bytes state, from the valid plan that another's spell.
+/// Searches the instance that a reader's bytes state, from the valid plan that another's have printed.
 fn solved_of_readers<R: Threads + Wait + Sync, G: Follower + Sync, I: Read, P: Read>(
     rt: &R,
     alloc: Global,
@@ -255,10 +256,10 @@ fn solved_of_readers<R: Threads + Wait + Sync, G: Follower + Sync, I: Read, P: R
     ensures printable { IfOk result (λ solved.
         Allows (cert_of solved.outcome).version (cert_of solved.outcome).tree) }
     ensures instance { TakesAtMost (instance_limit + 1) (I.remaining instance.old) (I.remaining instance.new) }
-    ensures plan { TakesAtMost (plan_limit + 1) (P.remaining start.old) (P.remaining start.new) }
+    ensures plan { TakesAtMost (printed_limit + 1) (P.remaining start.old) (P.remaining start.new) }
     ensures unread { IfErr result (λ fault. IsOfInstance fault → Keeps (P.remaining start.old) (P.remaining start.new)) }
 {
-    let Verified { instance, plan, .. } = verified_of_readers(alloc, instance, start)?;
+    let Verified { instance, plan, .. } = printed_of_readers(alloc, instance, start)?;
     solved_instance(rt, alloc, instance, Some(plan), options, until, follower)
 }
 
@@ -343,8 +344,8 @@ pub fn solve_run_with<R: Threads + Wait + Sync, G: Follower + Sync, I: Read, C: 
     }
 }
 
-/// Searches and writes as `solve_run_with` does, and begins with a plan: that is read behind the instance, and refused as by `verify`. The plan
-/// that is answered takes no longer.
+/// Searches and writes as `solve_run_with` does, and begins with a plan: that is read behind the instance, as a search prints it or its text alone, and
+/// refused as by `verify`. The plan that is answered takes no longer.
 pub fn solve_run_from<
     R: Threads + Wait + Sync,
     G: Follower + Sync,
@@ -368,7 +369,7 @@ pub fn solve_run_from<
         (held C.contents certificate.entry) (left C.contents certificate.exit)
         (W.contents out.old) (W.contents out.new) result)) }
     ensures instance { TakesAtMost (instance_limit + 1) (I.remaining instance.old) (I.remaining instance.new) }
-    ensures plan { TakesAtMost (plan_limit + 1) (P.remaining start.old) (P.remaining start.new) }
+    ensures plan { TakesAtMost (printed_limit + 1) (P.remaining start.old) (P.remaining start.new) }
     // Where the instance is refused, the plan is left unread.
     ensures unread { IfRefused result (λ fault. IsOfInstance fault → Keeps (P.remaining start.old) (P.remaining start.new)) }
 {
