@@ -1,12 +1,47 @@
 //! What is said by the steps that leave out what a move makes better?
 
-ghost use Rattle.std.specs.Prelude.{◌≡◌, ◌++◌, ◌<◌, OnOk, length, string_bytes};
+ghost use Rattle.std.specs.Prelude.{◌≡◌, ◌↔◌, ◌++◌, ◌<◌, IsTrue, OnOk, length, string_bytes};
+ghost use Rattle.tt_infer.specs.Table.{IsDominance};
 ghost use Rattle.step_words.specs.Dominance.{late_words, mirror_words, settled_words, silent_words};
 
 use crate::names::{message_name, node_name, process_name, source_name};
 use crate::slots::start_least;
 use std::alloc::AllocError;
 use tt_infer::Facts;
+use ttp_model::Step;
+
+/// Whether a step is true of settled plans alone.
+pub fn is_dominance(step: &Step) -> bool
+    ensures { IsTrue result ↔ IsDominance step.now }
+{
+    match step {
+        Step::EsRelease(_)
+        | Step::EsLink(_)
+        | Step::EsBefore(_, _)
+        | Step::EsArrive(_, _)
+        | Step::EsMessage(_, _)
+        | Step::LoSend(_)
+        | Step::LeOwn(_)
+        | Step::LeLink(_)
+        | Step::LeBefore(_, _)
+        | Step::LeMessage(_, _)
+        | Step::LeSend(_)
+        | Step::HiArrive(_, _)
+        | Step::OrdWindow(_, _)
+        | Step::XWindow(_)
+        | Step::XRound(_)
+        | Step::XCycle(_)
+        | Step::XLoad(..)
+        | Step::XFrame(_)
+        | Step::XFrames(..)
+        | Step::XChannel(..) => false,
+        Step::OrdTwin(_, _)
+        | Step::UsSettled(_)
+        | Step::XLate(_, _)
+        | Step::XSilent(_, _)
+        | Step::XMirror(_) => true,
+    }
+}
 
 /// Adds that a process would start a tick earlier.
 #[tactic(auto, unfolding(crate::specs::Dominance::settled_words))]

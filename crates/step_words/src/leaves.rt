@@ -1,14 +1,17 @@
 //! What do the steps of a leaf say, in words?
 
-ghost use Rattle.std.specs.Prelude.{◌≡◌, ◌++◌, List, ℕ, OnOk, string_bytes, take};
+ghost use Rattle.std.specs.Prelude.{◌≡◌, ◌↔◌, ◌++◌, IsTrue, List, ℕ, OnOk, string_bytes, take};
+ghost use Rattle.std.specs.List.{Any};
 ghost use Rattle.ttp_model.specs.declared.step.Leaf.{Leaf};
 ghost use Rattle.sought_plans.specs.Known.{Known, first_facts};
 ghost use Rattle.tt_choice.specs.Choice.{IsChoice};
 ghost use Rattle.tt_infer.specs.Facts.{after};
 ghost use Rattle.tt_infer.specs.Leaves.{ClosesLeaf, Lead};
+ghost use Rattle.tt_infer.specs.Table.{IsDominance};
 ghost use Rattle.step_words.specs.Limits.{most_steps};
-ghost use Rattle.step_words.specs.Leaves.{Tell, TellsLeaf, goal_line, more_steps};
+ghost use Rattle.step_words.specs.Leaves.{Tell, TellsLeaf, goal_line, more_steps, sought_words};
 
+use crate::dominance::is_dominance;
 use crate::steps::put_step;
 use std::alloc::{AllocError, Global};
 use tt_choice::Choice;
@@ -18,15 +21,36 @@ use ttp_model::{Instance, Leaf, MemoryFault, Step};
 /// How many steps of a leaf are told.
 pub const MOST_STEPS: usize = 200;
 
+/// Whether some step is true of settled plans alone.
+fn needs_settled(steps: &[Step]) -> bool
+    ensures { IsTrue result ↔ Any IsDominance steps.now }
+{
+    for k in 0..steps.len() {
+        if is_dominance(&steps[k]) {
+            return true;
+        }
+    }
+    false
+}
+
+/// Of which plans the steps speak.
+fn sought_words(settled: bool) -> &'static str
+    ensures { result.now ≡ sought_words settled }
+{
+    if settled {
+        "; then one has that no small change improves. Step by step, of such a one:\n"
+    } else {
+        ". Step by step:\n"
+    }
+}
+
 /// Adds what is supposed.
 #[tactic(auto, unfolding(crate::specs::Leaves::goal_line))]
-fn put_goal(text: &mut String, goal: u32) -> Result<(), AllocError>
-    ensures { OnOk result (string_bytes text.new ≡ string_bytes text.old ++ goal_line goal) }
+fn put_goal(text: &mut String, settled: bool, goal: u32) -> Result<(), AllocError>
+    ensures { OnOk result (string_bytes text.new ≡ string_bytes text.old ++ goal_line settled goal) }
 {
-    writeln!(
-        text,
-        "Suppose that a plan has a delay below {goal}. Step by step:"
-    )
+    let sought = sought_words(settled);
+    write!(text, "Suppose that a plan has a delay below {goal}{sought}")
 }
 
 /// Adds how many steps there are more than are told.
@@ -55,8 +79,8 @@ fn put_steps(text: &mut String, facts: &mut Facts, steps: &[Step]) -> Result<(),
     Ok(())
 }
 
-/// Adds a leaf that closes a choice in words: what is supposed, its first 200 steps, and how many there are more. Takes
-/// memory for what is known.
+/// Adds a leaf that closes a choice in words: what is supposed, of any plan or of one that no small change improves, its first 200
+/// steps, and how many there are more. Takes memory for what is known.
 pub fn put_leaf(
     alloc: Global,
     text: &mut String,
@@ -71,7 +95,7 @@ pub fn put_leaf(
 {
     let steps = leaf.steps.as_slice();
     let mut facts = Facts::new(alloc, instance, choice, leaf.goal)?;
-    put_goal(text, leaf.goal)?;
+    put_goal(text, needs_settled(steps), leaf.goal)?;
     put_steps(text, &mut facts, steps)?;
     put_more(text, steps.len())?;
     Ok(())

@@ -46,7 +46,7 @@ pub one_more : (i : Instance) (c : Choice) (leaf : Leaf) (old new : List ℕ) �
     → (text : List ℕ) × TellsLeaf i c leaf text × (new ≡ old ++ text) → (front : List ℕ) × (new ≡ old ++ (front ++ codes "and 1 steps more\n"))
 unfolding more_steps digits
 one_more i c leaf old new is told = (
-  goal_line leaf.goal ++ told.1.told,
-  told.2 ∙ ap (λ t. old ++ t) (told.1.text_is ∙ ap (λ n. goal_line leaf.goal ++ (told.1.told ++ more_steps n)) is
-      ∙ sym (append_assoc (goal_line leaf.goal) told.1.told (codes "and 1 steps more\n"))),
+  goal_line told.1.settled leaf.goal ++ told.1.told,
+  told.2 ∙ ap (λ t. old ++ t) (told.1.text_is ∙ ap (λ n. goal_line told.1.settled leaf.goal ++ (told.1.told ++ more_steps n)) is
+      ∙ sym (append_assoc (goal_line told.1.settled leaf.goal) told.1.told (codes "and 1 steps more\n"))),
 )
