@@ -521,14 +521,24 @@ def slack(instance, plan, p):
     return fits
 
 
+def in_order(instance, plan, node):
+    """The processes of a node in the order of their starts."""
+    there = [p for p, process in enumerate(instance.processes) if process.node == node]
+    return sorted(there, key=lambda p: plan.starts[p])
+
+
+def dispatch_row(instance, plan, p):
+    """What a dispatcher is told of a process."""
+    process, start = instance.processes[p], plan.starts[p]
+    return (instance.nodes[process.node].name, process.name, start, start + process.wcet, process.release,
+            min(process.deadline, instance.horizon))
+
+
 def process_rows(instance, plan):
     yield "node", "process", "start", "end", "release", "deadline", "slack"
-    for n, node in enumerate(instance.nodes):
-        there = [p for p, process in enumerate(instance.processes) if process.node == n]
-        for p in sorted(there, key=lambda p: plan.starts[p]):
-            process, start = instance.processes[p], plan.starts[p]
-            yield (node.name, process.name, start, start + process.wcet, process.release,
-                   min(process.deadline, instance.horizon), slack(instance, plan, p))
+    for n in range(len(instance.nodes)):
+        for p in in_order(instance, plan, n):
+            yield *dispatch_row(instance, plan, p), slack(instance, plan, p)
 
 
 def slot_times(instance, plan):
@@ -619,6 +629,11 @@ def window_lines(instance, plan, node):
         start = r * length + begins[node]
         opens = start + instance.lead - instance.precision
         yield f"window {r} {instance.nodes[node].name} {opens} {start + durations[node] - instance.trail + instance.precision}"
+
+
+def dispatch_rows(instance, plan, node):
+    """What a node's dispatcher is told of its processes."""
+    return (dispatch_row(instance, plan, p) for p in in_order(instance, plan, node))
 
 
 def loaded(instance, plan):
@@ -748,10 +763,13 @@ def figures(things, numbers):
 
 
 def by_name(instance, plan):
-    """What is loaded for each node, the order, and the figures of a plan, all by names."""
-    loads = {node.name: (table_lines(instance, plan, n), list(window_lines(instance, plan, n))) for n, node in enumerate(instance.nodes)}
+    """What is loaded for each node, the order, and what is given and planned of each thing, all by names."""
+    loads = {node.name: (table_lines(instance, plan, n), list(window_lines(instance, plan, n)), list(dispatch_rows(instance, plan, n)))
+             for n, node in enumerate(instance.nodes)}
     words = [CHANNEL_WORDS[number].decode() for number in plan.channels]
     return loads, [instance.nodes[n].name for n in plan.order], {
+        "node": figures(instance.processes, (instance.nodes[process.node].name for process in instance.processes)),
+        "wcet": figures(instance.processes, (process.wcet for process in instance.processes)),
         "cap": figures(instance.nodes, plan.caps), "start": figures(instance.processes, plan.starts),
         "round": figures(instance.messages, plan.rounds), "chan": figures(instance.messages, words)}
 

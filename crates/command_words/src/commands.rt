@@ -31,7 +31,7 @@ const EXPLAIN_HELP: &str =
 
 /// What a comparison prints.
 const COMPARE_HELP: &str =
-    "It prints a line for each node of either instance, by its name: `same`, where its table and its guardian's windows are the same bytes in both, `changed`, where they aren't, `new` or `gone`. Behind these lines is told what is different of the plan: `order changed`, and `cap`, `start`, `round` and `chan`, each with a name, the old value and the new one, or `-` where there is none.\n\nIt ends with status 0 where each node is the same and nothing is different, and else with 1. Both plans have to be valid: else it says so as `ttplan verify` does, behind the word `old` or `new`.";
+    "It prints a line for each node of either instance, by its name: `same`, where in both its table and its guardian's windows are the same bytes and its processes have the same rows in `ttplan schedule` but for their slack; `changed`, where that isn't so; `new` or `gone`. Behind these lines is told what is different of processes and of the plan: `order changed`, and `node`, `wcet`, `cap`, `start`, `round` and `chan`, each with a name, the old value and the new one, or `-` where there is none.\n\nIt ends with status 0 where each node is the same and nothing is different, and else with 1. Both plans have to be valid: else it says so as `ttplan verify` does, behind the word `old` or `new`.";
 
 /// What is printed of an instance without a plan.
 const WHY_HELP: &str =

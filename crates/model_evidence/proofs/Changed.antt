@@ -3,6 +3,8 @@ use Rattle.std.proofs.Common.{◌≡◌, ◌≢◌, ℕ, Bool, false, List, [], 
 use Rattle.line_text.specs.Words.{spaced}
 use Rattle.plan_format.specs.declared.column.Column.TheVariants.{Capacity, Round, Start}
 use Rattle.plan_changes.specs.Changes.{channels_text, changes_text, order_text}
+use Rattle.plan_changes.specs.declared.attributes.Attribute.TheVariants.{Node, Wcet}
+use Rattle.plan_changes.specs.Attributes.{attributes_text}
 use Rattle.plan_changes.specs.Figures.{difference_text, differences_text, figure_for, figures_line, names_of}
 use Rattle.plan_changes.specs.Names.{names_of_either}
 use Rattle.plan_changes.specs.Planned.{Planned}
@@ -31,4 +33,5 @@ both_starts old new name before after there first second other =
     element (λ name. difference_text Start name (figure_for Start old name) (figure_for Start new name))
     (names_of_either (names_of Start old) (names_of Start new)) name there in
     later _ (units_text old new) _ (sooner _ _ (channels_text old new) (sooner _ _ (differences_text old new Round)
-    (later _ (order_text old new ++ differences_text old new Capacity) _ (subst (λ part. IsPartOf part (differences_text old new Start)) line inside))))
+    (later _ (order_text old new ++ attributes_text old new Node ++ attributes_text old new Wcet ++ differences_text old new Capacity) _
+    (subst (λ part. IsPartOf part (differences_text old new Start)) line inside))))

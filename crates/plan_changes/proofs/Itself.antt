@@ -8,7 +8,7 @@ use Rattle.std.proofs.lemmas.Bool.{cond_both}
 use Rattle.std.proofs.lemmas.List.{append-nil}
 use Rattle.std.proofs.lemmas.List.Elements.{All-contains_itself, All-tail}
 use Rattle.std.proofs.lemmas.Slice.Eq.{bytes_eq-Decides, slice_eq-Decides}
-use Rattle.ttp_model.specs.declared.error.Part.TheVariants.{Nodes}
+use Rattle.ttp_model.specs.declared.error.Part.TheVariants.{Nodes, Processes}
 use Rattle.plan_format.specs.declared.column.Column.{Column}
 use Rattle.plan_format.specs.declared.column.Column.TheVariants.{Channel}
 use Rattle.plan_format.specs.Channels.{has_two_channels}
@@ -18,6 +18,9 @@ use Rattle.plan_changes.specs.declared.fate.Fate.TheVariants.{Same}
 use Rattle.plan_changes.specs.Planned.{Planned}
 use Rattle.plan_changes.specs.Names.{gone_from, names_of_either, place_in}
 use Rattle.plan_changes.specs.Units.{fate_at, fate_line, fate_of, nodes_of_either, table_lines, units_text, window_lines}
+use Rattle.plan_changes.specs.Dispatch.{dispatch_lines}
+use Rattle.plan_changes.specs.declared.attributes.Attribute.{Attribute}
+use Rattle.plan_changes.specs.Attributes.{attribute_difference, attribute_word, attributes_text}
 use Rattle.plan_changes.specs.Figures.{difference_text, differences_text, figure_for, names_of}
 use Rattle.plan_changes.specs.Changes.{changes_text, channels_text, names_in_order, order_text, plan_text}
 use Rattle.plan_changes.proofs.Places.{bytes_eq-same, place_in-there}
@@ -39,7 +42,7 @@ names_of_either-itself names = rw gone_from-itself (append-nil names)
 
 fate_at-itself : (p : Planned) (place : Option ℕ) → is_none place ≡ false → fate_at p p place place ≡ Same
 fate_at-itself p None there = absurd cc
-fate_at-itself p (Some k) there = rw (bytes_eq-same (table_lines p k), bytes_eq-same (window_lines p k)) refl
+fate_at-itself p (Some k) there = rw (bytes_eq-same (table_lines p k), bytes_eq-same (window_lines p k), bytes_eq-same (dispatch_lines p k)) refl
 
 fate_of-itself : (p : Planned) (name : List ℕ) → Contains (names_in p.instance Nodes) name → fate_of p p name ≡ Same
 unfolding fate_of
@@ -57,6 +60,16 @@ order_text-itself p =
     let names = names_in_order p in
     let same = (slice_eq-Decides bytes_eq-Decides names names (pointwise bytes_eq names names) refl).1 refl in
     rw same refl
+
+attribute_difference-same : (attribute : Attribute) (name word : List ℕ) → attribute_difference attribute name word word ≡ []
+unfolding attribute_difference
+attribute_difference-same attribute name word = rw (bytes_eq-same word) refl
+
+attributes_text-itself : (p : Planned) (attribute : Attribute) → attributes_text p p attribute ≡ []
+attributes_text-itself p attribute =
+    let names = names_of_either (names_in p.instance Processes) (names_in p.instance Processes) in
+    flat_map-none (λ name. attribute_difference attribute name (attribute_word attribute p name) (attribute_word attribute p name)) names
+    (λ name. attribute_difference-same attribute name (attribute_word attribute p name))
 
 option_eq-same : (figure : Option ℕ) → option_eq nat_eq figure figure ≡ true
 option_eq-same None = refl
@@ -79,7 +92,7 @@ channels_text-itself p =
     rw (differences_text-itself p Channel) (cond_both (two || two) [] [] (λ told. told ≡ []) (λ _. refl) (λ _. refl))
 
 pub plan_text-itself : (p : Planned) → plan_text p p ≡ []
-plan_text-itself p = simp (order_text-itself, differences_text-itself, channels_text-itself)
+plan_text-itself p = simp (order_text-itself, attributes_text-itself, differences_text-itself, channels_text-itself)
 
 -- ---- the text
 

@@ -8,6 +8,7 @@ use Rattle.plan_format.specs.Names.{names_in}
 use Rattle.plan_changes.specs.declared.fate.Fate.TheVariants.{Changed, Same}
 use Rattle.plan_changes.specs.Planned.{Planned}
 use Rattle.plan_changes.specs.Names.{place_in}
+use Rattle.plan_changes.specs.Dispatch.{dispatch_lines}
 use Rattle.plan_changes.specs.Units.{IsLoadedAlike, are_loaded_alike, fate_at, fate_of, table_lines, window_lines}
 
 if_same : (test : Bool) → (if test then Same else Changed) ≡ Same → test ≡ true
@@ -20,7 +21,8 @@ module _ (old new : Planned) (name : List ℕ) where
   alike None after first second same = absurd cc
   alike (Some k) None first second same = absurd cc
   alike (Some k) (Some n) first second same =
-      let both = and_parts _ _ (if_same (are_loaded_alike old k new n) same) in
+      let all = and_parts _ _ (if_same (are_loaded_alike old k new n) same) in
+      let both = and_parts _ _ all.0 in
       record {
         k = k;
         before = first;
@@ -28,6 +30,7 @@ module _ (old new : Planned) (name : List ℕ) where
         after = second;
         tables = (bytes_eq-Decides (table_lines old k) (table_lines new n)).0 both.0;
         windows = (bytes_eq-Decides (window_lines old k) (window_lines new n)).0 both.1;
+        dispatches = (bytes_eq-Decides (dispatch_lines old k) (dispatch_lines new n)).0 all.1;
       }
 
   same : IsLoadedAlike old new name → fate_of old new name ≡ Same
@@ -35,7 +38,8 @@ module _ (old new : Planned) (name : List ℕ) where
   same w =
       let tables = (bytes_eq-Decides (table_lines old w.k) (table_lines new w.n)).1 w.tables in
       let windows = (bytes_eq-Decides (window_lines old w.k) (window_lines new w.n)).1 w.windows in
-      rw (w.before, w.after, tables, windows) refl
+      let dispatches = (bytes_eq-Decides (dispatch_lines old w.k) (dispatch_lines new w.n)).1 w.dispatches in
+      rw (w.before, w.after, tables, windows, dispatches) refl
 
   pub same-loaded_alike : fate_of old new name ≡ Same ↔ IsLoadedAlike old new name
   unfolding fate_of

@@ -7,6 +7,8 @@ use Rattle.plan_format.specs.Channels.{has_two_channels}
 use Rattle.plan_changes.specs.declared.fate.Fate.TheVariants.{Same}
 use Rattle.plan_changes.specs.Planned.{Planned}
 use Rattle.plan_changes.specs.Units.{fate_of, nodes_of_either, units_text}
+use Rattle.plan_changes.specs.declared.attributes.Attribute.TheVariants.{Node, Wcet}
+use Rattle.plan_changes.specs.Attributes.{attributes_text}
 use Rattle.plan_changes.specs.Figures.{differences_text}
 
 -- the nodes' names in the order of their slots
@@ -21,11 +23,11 @@ order_text old new = if pointwise bytes_eq (names_in_order old) (names_in_order 
 unfoldable pub channels_text : Planned → Planned → List ℕ
 channels_text old new = if has_two_channels old.instance || has_two_channels new.instance then differences_text old new Channel else []
 
--- what is different of the plan: the order, and then capacities, starts, rounds and channels
+-- what is different of the plan: the order, the nodes and times of processes, and then capacities, starts, rounds and channels
 abbrev pub plan_text : Planned → Planned → List ℕ
 plan_text old new =
-    order_text old new ++ differences_text old new Capacity ++ differences_text old new Start ++ differences_text old new Round
-    ++ channels_text old new
+    order_text old new ++ attributes_text old new Node ++ attributes_text old new Wcet ++ differences_text old new Capacity ++ differences_text old new Start
+    ++ differences_text old new Round ++ channels_text old new
 
 -- the whole text: a line for each node of either, and then what is different of the plan
 abbrev pub changes_text : Planned → Planned → List ℕ

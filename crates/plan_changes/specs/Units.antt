@@ -1,4 +1,5 @@
--- Which nodes are loaded otherwise, by the bytes of their tables and of their guardians' windows. Own profile.
+-- Which nodes are loaded otherwise, by the bytes of their tables and of their guardians' windows, and by what their dispatchers are
+-- told. Own profile.
 use Rattle.std.specs.Prelude.{◌≡◌, ℕ, List, ◌++◌, Option, None, Some, ◌==◌, ◌&&◌, Bool, bytes_eq, codes, filter, if◌then◌else◌}
 use Rattle.std.specs.List.{flat_map}
 use Rattle.ttp_model.specs.declared.error.Part.TheVariants.{Nodes}
@@ -12,6 +13,7 @@ use Rattle.plan_changes.specs.declared.fate.Fate.{Fate}
 use Rattle.plan_changes.specs.declared.fate.Fate.TheVariants.{Same, Changed, New, Gone}
 use Rattle.plan_changes.specs.Planned.{Planned}
 use Rattle.plan_changes.specs.Names.{names_of_either, place_in}
+use Rattle.plan_changes.specs.Dispatch.{dispatch_lines}
 
 -- the lines of a node's table
 unfoldable pub table_lines : Planned → ℕ → List ℕ
@@ -21,11 +23,13 @@ table_lines p n = text_at p.instance (medl_of p.instance p.plan) n
 unfoldable pub window_lines : Planned → ℕ → List ℕ
 window_lines p n = windows_text p.instance (filter (λ w. w.node == n) (cycle_windows p.instance p.plan))
 
--- whether the same bytes are loaded for node k of the old one and for node n of the new one
+-- whether the same is loaded for node k of the old one and for node n of the new one
 abbrev pub are_loaded_alike : Planned → ℕ → Planned → ℕ → Bool
-are_loaded_alike old k new n = bytes_eq (table_lines old k) (table_lines new n) && bytes_eq (window_lines old k) (window_lines new n)
+are_loaded_alike old k new n =
+    bytes_eq (table_lines old k) (table_lines new n) && bytes_eq (window_lines old k) (window_lines new n)
+    && bytes_eq (dispatch_lines old k) (dispatch_lines new n)
 
--- a node of this name is in both, with the same table and the same windows
+-- a node of this name is in both, with the same table, the same windows and the same rows of its processes
 pub record IsLoadedAlike (old new : Planned) (name : List ℕ) : Type 0 where
   pub k : ℕ
   pub before : place_in (names_in old.instance Nodes) name ≡ Some k
@@ -33,6 +37,7 @@ pub record IsLoadedAlike (old new : Planned) (name : List ℕ) : Type 0 where
   pub after : place_in (names_in new.instance Nodes) name ≡ Some n
   pub tables : table_lines old k ≡ table_lines new n
   pub windows : window_lines old k ≡ window_lines new n
+  pub dispatches : dispatch_lines old k ≡ dispatch_lines new n
 
 -- what becomes of a node that is found at these places
 abbrev pub fate_at : Planned → Planned → Option ℕ → Option ℕ → Fate

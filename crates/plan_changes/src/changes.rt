@@ -5,6 +5,7 @@ ghost use Rattle.std.specs.Cmp.Lexicographic.{pointwise};
 ghost use Rattle.plan_format.specs.Channels.{has_two_channels};
 ghost use Rattle.plan_changes.specs.Changes.{IsUnchanged, changes_text, channels_text, names_in_order, order_text, plan_text};
 
+use crate::attributes::{Attribute, push_attributes};
 use crate::figures::push_differences;
 use crate::planned::Planned;
 use crate::units::push_units;
@@ -90,6 +91,8 @@ fn push_plan(
     ensures { OnOk result (text.new.items ≡ text.old.items ++ plan_text old.now new.now) }
 {
     push_order(text, old, new)?;
+    push_attributes(alloc, text, old, new, Attribute::Node)?;
+    push_attributes(alloc, text, old, new, Attribute::Wcet)?;
     push_differences(alloc, text, old, new, Column::Capacity)?;
     push_differences(alloc, text, old, new, Column::Start)?;
     push_differences(alloc, text, old, new, Column::Round)?;
@@ -97,8 +100,9 @@ fn push_plan(
 }
 
 /// What is told of a change, from one instance with its plan to another: a line for each node of either, `same`, `changed`, `new`
-/// or `gone` with its name, and then `order changed`, and `cap`, `start`, `round` and `chan` with a name, the old figure and the
-/// new one; `chan` where one of both has two channels. Made whole; for each node both tables and both lists of windows are made, one node after another.
+/// or `gone` with its name, and then `order changed`, and `node`, `wcet`, `cap`, `start`, `round` and `chan` with a name, what was
+/// and what is; `chan` where one of both has two channels. Made whole; for each node what is loaded in both is made, one node after
+/// another.
 pub fn changes_of(alloc: Global, old: &Planned, new: &Planned) -> Result<Changes, MemoryFault>
     ensures text { IfOk result (λ changes. changes.text.items ≡ changes_text old.now new.now) }
     ensures unchanged { IfOk result (λ changes. IsTrue changes.unchanged ↔ IsUnchanged old.now new.now) }

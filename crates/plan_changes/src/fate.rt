@@ -9,7 +9,7 @@ use std::alloc::AllocError;
 /// What becomes of a node.
 #[derive(Clone, Copy, Debug, PartialEq, Eq)]
 pub enum Fate {
-    /// Its table and the windows of its slots are the same, byte for byte.
+    /// Its table and the windows of its slots are the same, byte for byte, and so is what its dispatcher is told of its processes.
     Same,
     /// They aren't.
     Changed,

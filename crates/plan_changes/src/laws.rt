@@ -16,8 +16,9 @@ pub fn what_is_compared_with_itself_is_unchanged()
     ensures text { (p : Planned) → changes_text p p ≡ flat_map (fate_line Same) (names_in p.instance Nodes) }
 {}
 
-/// Of a node `same` is told just where both have it, and the bytes of its table and of its slots' windows are the same in both.
-pub fn same_is_by_the_bytes_loaded()
+/// Of a node `same` is told just where both have it, and in both its table and its slots' windows are the same bytes, and the rows of
+/// its processes in the table that `schedule` writes are the same but for their slack.
+pub fn same_is_by_what_is_loaded()
     ensures { (old new : Planned) (name : List ℕ) → (fate_of old new name ≡ Same) ↔ IsLoadedAlike old new name }
 {}
 

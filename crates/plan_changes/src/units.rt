@@ -2,9 +2,11 @@
 
 ghost use Rattle.std.specs.Prelude.{◌≡◌, ◌++◌, ◌<◌, ◌↔◌, ◌==◌, All, IfOk, IsTrue, bytes_eq, filter, length, map};
 ghost use Rattle.std.specs.List.{flat_map};
+ghost use Rattle.plan_changes.specs.Dispatch.{dispatch_lines};
 ghost use Rattle.plan_changes.specs.Units.{are_loaded_alike, fate_line, fate_of, nodes_of_either, table_lines, units_text, window_lines};
 ghost use Rattle.plan_changes.specs.declared.fate.Fate.TheVariants.{Same};
 
+use crate::dispatch::dispatch_lines;
 use crate::fate::{Fate, push_fate};
 use crate::names::names_of_either;
 use crate::planned::Planned;
@@ -77,7 +79,22 @@ fn have_same_windows(
     Ok(before.as_slice() == after.as_slice())
 }
 
-/// Whether the same bytes are loaded for two nodes. What is made of each has a line for each slot.
+/// Whether the dispatchers of two nodes are told the same.
+fn have_same_dispatch(
+    alloc: Global,
+    old: &Planned,
+    k: u32,
+    new: &Planned,
+    n: u32,
+) -> Result<bool, MemoryFault>
+    ensures { IfOk result (λ same. same ≡ bytes_eq (dispatch_lines old.now k) (dispatch_lines new.now n)) }
+{
+    let before = dispatch_lines(alloc, old, k)?;
+    let after = dispatch_lines(alloc, new, n)?;
+    Ok(before.as_slice() == after.as_slice())
+}
+
+/// Whether the same is loaded for two nodes. What is made of each has a line for each slot and for each process.
 fn are_loaded_alike(
     alloc: Global,
     old: &Planned,
@@ -89,7 +106,11 @@ fn are_loaded_alike(
     requires after { n < length new.now.instance.nodes }
     ensures { IfOk result (λ alike. alike ≡ are_loaded_alike old.now k new.now n) }
 {
-    Ok(have_same_table(alloc, old, k, new, n)? && have_same_windows(alloc, old, k, new, n)?)
+    Ok(
+        have_same_table(alloc, old, k, new, n)?
+            && have_same_windows(alloc, old, k, new, n)?
+            && have_same_dispatch(alloc, old, k, new, n)?,
+    )
 }
 
 /// What becomes of the node of a name that one of them has.

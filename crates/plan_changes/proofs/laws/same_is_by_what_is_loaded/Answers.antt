@@ -1,5 +1,5 @@
 use Rattle.plan_changes.proofs.Loaded.{same-loaded_alike}
-use Rattle.plan_changes.proofs.laws.same_is_by_the_bytes_loaded.Goals as goal
+use Rattle.plan_changes.proofs.laws.same_is_by_what_is_loaded.Goals as goal
 
 pub returns : goal.returns
 returns c = λ old new name. same-loaded_alike old new name
