@@ -4,6 +4,7 @@ use Rattle.ttp_model.specs.Instance.{Instance}
 use Rattle.instance_text.specs.declared.error.TextError.{TextError}
 use Rattle.instance_words.specs.Described.{description}
 use Rattle.instance_words.specs.Explained.{IsExplanation}
+use Rattle.path_words.specs.LateLines.{IsLateText}
 use Rattle.path_words.specs.Lines.{IsChainText}
 use Rattle.command_streams.specs.Endings.{fault_status}
 use Rattle.command_streams.specs.Instances.{HasInstance, IsInstanceFault}
@@ -21,11 +22,14 @@ pub record TellsRefused (bytes text : List ℕ) : Type 0 where
   pub are : IsExplanation bytes wrong words
   pub told : text ≡ line_of (fault.InstanceText wrong) ++ words
 
--- an instance that keeps its rules: how large it is, which messages fit into no frame, and why no plan ends before its path bound
+-- an instance that keeps its rules: how large it is, which messages fit into no frame, why no plan ends before its path bound, and which
+-- processes end too late whatever the plan
 pub record TellsSizes (i : Instance) (text : List ℕ) : Type 0 where
   pub words : List ℕ
   pub are : IsChainText i words
-  pub told : text ≡ description i ++ words
+  pub late : List ℕ
+  pub are_late : IsLateText i late
+  pub told : text ≡ (description i ++ words) ++ late
 
 -- bytes that state one
 pub record TellsGood (bytes text : List ℕ) : Type 0 where

@@ -42,8 +42,10 @@ fn described(alloc: Global, instance: &Instance) -> Result<String, Fault>
     ensures err { IfErr result (λ wrong. wrong ≡ Memory) }
 {
     let chain = path_words::print(alloc, instance)?;
+    let late = path_words::print_late(alloc, instance)?;
     let mut text = describe_instance(alloc, instance)?;
     text.push_str(chain.as_str())?;
+    text.push_str(late.as_str())?;
     Ok(text)
 }
 
@@ -63,9 +65,9 @@ fn instance_told<I: Read>(alloc: Global, instance: &mut I) -> Result<String, Fau
     }
 }
 
-/// Tells an instance: `instance` with its sizes, each message that fits into no frame, and why no plan ends before its path bound;
-/// or the line of `verify` where it is refused, and behind it why, in sentences. Where anything else ends the command nothing is
-/// written, and after a failed write a prefix of the text stands.
+/// Tells an instance: `instance` with its sizes, each message that fits into no frame, why no plan ends before its path bound, and
+/// which processes end too late whatever the plan; or the line of `verify` where it is refused, and behind it why, in sentences. Where
+/// anything else ends the command nothing is written, and after a failed write a prefix of the text stands.
 pub fn explain_instance<I: Read, W: Write>(alloc: Global, instance: &mut I, out: &mut W) -> End
     ensures answer { IfSome (I.remaining instance.old) (λ i. IsInstanceExplained i (W.contents out.old) (W.contents out.new) result) }
     ensures instance { TakesAtMost (instance_limit + 1) (I.remaining instance.old) (I.remaining instance.new) }

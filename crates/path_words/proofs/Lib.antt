@@ -4,3 +4,4 @@ pub mod Leading
 pub mod OneChain
 pub mod Short
 pub mod Telling
+mod Growing

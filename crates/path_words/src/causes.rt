@@ -1,6 +1,6 @@
 //! What does a process of a chain wait for?
 
-ghost use Rattle.std.specs.Prelude.{◌≡◌, ◌+◌, ◌<◌, ◌↔◌, Contains, IsTrue, length, slice_index};
+ghost use Rattle.std.specs.Prelude.{◌≡◌, ◌+◌, ◌^◌, ◌<◌, ◌↔◌, Contains, IsTrue, length, slice_index};
 ghost use Rattle.ttp_model.specs.Instance.{message_at, process_at, source_of};
 ghost use Rattle.ttp_model.specs.Chains.{least_transfer};
 ghost use Rattle.longest_chains.specs.Longest.{AreLongest};
@@ -80,10 +80,11 @@ fn receives(instance: &Instance, p: usize, m: usize) -> bool
 }
 
 /// When message `m` is there, at the earliest.
-fn arrival_of(instance: &Instance, ends: &[u64], m: usize) -> u64
+pub fn arrival_of(instance: &Instance, ends: &[u64], m: usize) -> u64
     requires longest { AreLongest instance.now ends.now }
     requires message { m < length instance.now.messages }
-    ensures { result ≡ slice_index ends.now (message_at instance.now m).sender + least_transfer instance.now (source_of instance.now m) }
+    ensures value { result ≡ slice_index ends.now (message_at instance.now m).sender + least_transfer instance.now (source_of instance.now m) }
+    ensures small { result < 2 ^ 33 }
 {
     let _processes = instance.processes();
     let ready = ends[instance.message_at(m).sender as usize];

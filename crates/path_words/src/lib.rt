@@ -1,12 +1,16 @@
-//! Why does no plan end before the path bound? The chain of links and messages that adds up to it, from a release on.
+//! Why does no plan end before the path bound? The chain of links and messages that adds up to it, from a release on. And which
+//! processes end too late, whatever the plan?
 #![tactic(auto)]
 
 mod causes;
 mod chain;
+mod late;
+mod late_words;
 mod laws;
 mod words;
 
 pub use chain::{Cause, ChainPart, chain_of};
+pub use late_words::print_late;
 pub use laws::{
     bounds_past_the_horizon_leave_no_plan, chains_are_short, chains_begin_at_a_release,
     chains_end_at_the_path_bound, one_chain_is_told, parts_are_joined,

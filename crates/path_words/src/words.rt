@@ -130,7 +130,7 @@ fn put_takes(text: &mut String, name: &str, node: &str, ticks: u64) -> Result<()
 
 /// Adds the line of a process.
 #[tactic(auto, unfolding(crate::specs::Lines::run_text))]
-fn put_run(text: &mut String, instance: &Instance, part: ChainPart) -> Result<(), AllocError>
+pub fn put_run(text: &mut String, instance: &Instance, part: ChainPart) -> Result<(), AllocError>
     requires { IsPartThere instance.now part }
     ensures { OnOk result (string_bytes text.new ≡ string_bytes text.old ++ run_text instance.now part) }
 {

@@ -110,7 +110,7 @@ pub fn put_late(
 }
 
 /// By when process `p` has to end, at the latest.
-fn last_end(instance: &Instance, p: usize) -> u64
+pub fn last_end(instance: &Instance, p: usize) -> u64
     requires { p < length instance.now.processes }
     ensures { result ≡ last_end instance.now p }
 {
@@ -119,7 +119,7 @@ fn last_end(instance: &Instance, p: usize) -> u64
 }
 
 /// Whether that is its deadline, in words.
-fn limit_name(instance: &Instance, p: usize) -> &'static str
+pub fn limit_name(instance: &Instance, p: usize) -> &'static str
     requires { p < length instance.now.processes }
     ensures { result.now ≡ limit_words (is_deadline instance.now p) }
 {
@@ -168,7 +168,7 @@ fn put_run(text: &mut String, start: u64, wcet: u64, end: u64) -> Result<(), All
 
 /// Adds that this is too late.
 #[tactic(auto, unfolding(crate::specs::Processes::late_words))]
-fn put_limit(text: &mut String, limit: &str, time: u64, by: u64) -> Result<(), AllocError>
+pub fn put_limit(text: &mut String, limit: &str, time: u64, by: u64) -> Result<(), AllocError>
     ensures { OnOk result (string_bytes text.new ≡ string_bytes text.old ++ late_words limit.now time by) }
 {
     let by = Ticks { number: by };
