@@ -1,5 +1,6 @@
 -- Of names that are malformed, or stand twice. Own profile.
-use Rattle.std.specs.Prelude.{ℕ, ◌+◌, ◌-◌, List, [], ◌∷◌, ◌++◌, codes, decimal, length, slice_index, not, ◌==◌, nat_lt, if◌then◌else◌, Option, None, Some, position, bytes_eq}
+use Rattle.std.specs.Prelude.{ℕ, ◌+◌, ◌-◌, Bool, ◌&&◌, List, [], ◌∷◌, ◌++◌, codes, decimal, length, slice_index, not, ◌==◌, nat_lt, if◌then◌else◌, Option, None, Some, is_some, position, bytes_eq}
+use Rattle.std.specs.List.{flat_map, range_with_len}
 use Rattle.told_bytes.specs.Told.{told}
 use Rattle.ttp_model.specs.Limits.{most_name_bytes}
 use Rattle.ttp_model.specs.Rules.{begins_name, continues_name}
@@ -25,6 +26,24 @@ found_at (Some k) = k
 abbrev pub wrong_at : List ℕ → ℕ
 wrong_at name = if begins_name (slice_index name 0) then found_at (position (λ c. not (continues_name c)) name) else 0
 
+-- no byte of a name is one
+abbrev pub has_name_bytes : List ℕ → Bool
+has_name_bytes name = begins_name (slice_index name 0) && not (is_some (position (λ c. not (continues_name c)) name))
+
+-- the k-th byte of a name, or _ where it can't stand there
+abbrev pub stands_at : ℕ → ℕ → Bool
+stands_at k byte = if k == 0 then begins_name byte else continues_name byte
+
+abbrev pub standing_at : List ℕ → ℕ → ℕ
+standing_at name k = if stands_at k (slice_index name k) then slice_index name k else 95
+
+-- a name with _ in place of each byte that can't stand where it does
+abbrev pub mended_byte : List ℕ → ℕ → List ℕ
+mended_byte name k = told (standing_at name k ∷ [])
+
+abbrev pub mended_name : List ℕ → List ℕ
+mended_name name = flat_map (mended_byte name) (range_with_len 0 (length name))
+
 -- no name at all
 unfoldable pub empty_name_text : List ℕ → List ℕ
 empty_name_text place = codes "In " ++ (place ++ codes ": the name is empty.\n")
@@ -36,10 +55,13 @@ long_name_text place count =
     ++ (codes " may stand: " ++ (decimal (count - most_name_bytes) ++ codes " too many.\n")))))))
 
 -- one with a byte that can't stand there; bytes are counted from 1
-unfoldable pub wrong_byte_text : List ℕ → ℕ → ℕ → List ℕ
-wrong_byte_text place number byte =
+unfoldable pub wrong_byte_words : List ℕ → ℕ → ℕ → List ℕ
+wrong_byte_words place number byte =
     codes "In " ++ (place ++ (codes ": byte " ++ (decimal number ++ (codes " of the name is " ++ (told (byte ∷ [])
-    ++ codes ", and a name has letters, digits and _, and begins with no digit.\n")))))
+    ++ codes ", and a name has letters, digits and _, and begins with no digit: ")))))
+
+unfoldable pub wrong_byte_text : List ℕ → List ℕ → ℕ → ℕ → List ℕ
+wrong_byte_text place name number byte = wrong_byte_words place number byte ++ (mended_name name ++ codes " may stand.\n")
 
 -- one of the three
 unfoldable pub name_text : List ℕ → List ℕ → List ℕ
@@ -48,7 +70,7 @@ name_text place name =
     then empty_name_text place
     else (if nat_lt most_name_bytes (length name)
     then long_name_text place (length name)
-    else wrong_byte_text place (wrong_at name + 1) (slice_index name (wrong_at name)))
+    else wrong_byte_text place name (wrong_at name + 1) (slice_index name (wrong_at name)))
 
 -- the first of a name in the list of a place
 abbrev pub first_named : Instance → Place → ℕ

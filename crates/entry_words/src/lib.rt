@@ -14,7 +14,7 @@ mod times;
 pub use capacities::put_capacities;
 pub use laws::{lacking_ticks_are_some, missed_is_some, too_many_are_some};
 pub use lists::{put_length, put_no_receiver};
-pub use names::{name_at, put_name, put_repeated};
+pub use names::{has_name_bytes, name_at, put_name, put_repeated};
 pub use numbers::number_at;
 pub use places::{Spot, called, spot_at};
 pub use ranges::{Outside, Quantity, outside_at, put_range};

@@ -1,8 +1,8 @@
 //! What is told of names that are malformed, or stand twice?
 
-ghost use Rattle.std.specs.Prelude.{◌≡◌, ◌++◌, OnOk, bytes_eq, not, position, slice_index, string_bytes};
+ghost use Rattle.std.specs.Prelude.{◌≡◌, ◌++◌, ◌<◌, OnOk, bytes_eq, length, not, position, slice_index, string_bytes};
 ghost use Rattle.ttp_model.specs.Rules.{begins_name, continues_name};
-ghost use Rattle.entry_words.specs.Names.{empty_name_text, first_named, found_at, index_at, kind_at, long_name_text, name_at, name_text, repeated_text, shared_text, wrong_at, wrong_byte_text};
+ghost use Rattle.entry_words.specs.Names.{empty_name_text, first_named, found_at, index_at, has_name_bytes, kind_at, long_name_text, mended_byte, mended_name, name_at, name_text, repeated_text, shared_text, standing_at, stands_at, wrong_at, wrong_byte_text, wrong_byte_words};
 ghost use Rattle.entry_words.specs.Places.{entry_text};
 ghost use Rattle.entry_words.specs.Spots.{spot_text};
 ghost use Rattle.entry_words.specs.Stated.{instance_of};
@@ -11,7 +11,7 @@ use crate::lists::excess;
 use crate::places::{Entry, Spot};
 use crate::stated::{Stated, message_name, node_name, process_name};
 use std::alloc::AllocError;
-use told_bytes::Told;
+use told_bytes::{Told, put_told};
 use ttp_model::{MOST_NAME_BYTES, Place};
 
 /// The name at a place, or an empty one where it has none.
@@ -71,6 +71,51 @@ fn wrong_at(name: &[u8]) -> usize
     }
 }
 
+/// Whether each byte of a name may stand where it does.
+pub fn has_name_bytes(name: &[u8]) -> bool
+    ensures { result ≡ has_name_bytes name.now }
+{
+    begins_name(byte_at(name, 0)) && other_at(name).is_none()
+}
+
+/// Whether a byte may stand at a place of a name.
+fn stands_at(k: usize, byte: u8) -> bool
+    ensures { result ≡ stands_at k byte }
+{
+    if k == 0 {
+        begins_name(byte)
+    } else {
+        continues_name(byte)
+    }
+}
+
+/// The byte at a place of a name, or `_` where it can't stand there.
+fn standing_at(name: &[u8], k: usize) -> u8
+    ensures { result ≡ standing_at name.now k }
+{
+    let byte = byte_at(name, k);
+    if stands_at(k, byte) { byte } else { b'_' }
+}
+
+/// Adds that byte.
+fn put_mended_byte(text: &mut String, name: &[u8], k: usize) -> Result<(), AllocError>
+    ensures { OnOk result (string_bytes text.new ≡ string_bytes text.old ++ mended_byte name.now k) }
+{
+    let one = [standing_at(name, k)];
+    put_told(text, &one)
+}
+
+/// Adds a name with `_` in place of each byte that can't stand where it does.
+fn put_mended(text: &mut String, name: &[u8]) -> Result<(), AllocError>
+    ensures { OnOk result (string_bytes text.new ≡ string_bytes text.old ++ mended_name name.now) }
+{
+    let count = name.len();
+    for k in 0..count {
+        put_mended_byte(text, name, k)?;
+    }
+    Ok(())
+}
+
 /// Says that a name is empty.
 #[tactic(auto, unfolding(crate::specs::Names::empty_name_text))]
 fn put_empty_name(text: &mut String, spot: Spot) -> Result<(), AllocError>
@@ -95,16 +140,37 @@ fn put_long_name(text: &mut String, spot: Spot, count: usize) -> Result<(), Allo
 }
 
 /// Says which byte of one can't stand there, counted from 1.
-#[tactic(auto, unfolding(crate::specs::Names::wrong_byte_text))]
-fn put_wrong_byte(text: &mut String, spot: Spot, number: u64, byte: u8) -> Result<(), AllocError>
-    ensures { OnOk result (string_bytes text.new ≡ string_bytes text.old ++ wrong_byte_text (spot_text spot.entry) number byte) }
+#[tactic(auto, unfolding(crate::specs::Names::wrong_byte_words))]
+fn put_wrong_byte_words(
+    text: &mut String,
+    spot: Spot,
+    number: u64,
+    byte: u8,
+) -> Result<(), AllocError>
+    ensures { OnOk result (string_bytes text.new ≡ string_bytes text.old ++ wrong_byte_words (spot_text spot.entry) number byte) }
 {
     let one = [byte];
     let byte = Told { bytes: &one };
-    writeln!(
+    write!(
         text,
-        "In {spot}: byte {number} of the name is {byte}, and a name has letters, digits and _, and begins with no digit."
+        "In {spot}: byte {number} of the name is {byte}, and a name has letters, digits and _, and begins with no digit: "
     )
+}
+
+/// Says that too, and which name may stand.
+#[tactic(auto, unfolding(crate::specs::Names::wrong_byte_text))]
+fn put_wrong_byte(
+    text: &mut String,
+    spot: Spot,
+    name: &[u8],
+    number: u64,
+    byte: u8,
+) -> Result<(), AllocError>
+    ensures { OnOk result (string_bytes text.new ≡ string_bytes text.old ++ wrong_byte_text (spot_text spot.entry) name.now number byte) }
+{
+    put_wrong_byte_words(text, spot, number, byte)?;
+    put_mended(text, name)?;
+    text.push_str(" may stand.\n")
 }
 
 /// Tells what is wrong with a name.
@@ -120,7 +186,7 @@ pub fn put_name(text: &mut String, spot: Spot, name: &str) -> Result<(), AllocEr
         put_long_name(text, spot, count)
     } else {
         let at = wrong_at(name);
-        put_wrong_byte(text, spot, at as u64 + 1, byte_at(name, at))
+        put_wrong_byte(text, spot, name, at as u64 + 1, byte_at(name, at))
     }
 }
 

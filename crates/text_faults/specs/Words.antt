@@ -1,6 +1,7 @@
 -- What is told of each fault of a text that is TOML. Own profile.
-use Rattle.std.specs.Prelude.{ℕ, ℤ, List, [], ◌++◌, codes, Option, None, Some}
+use Rattle.std.specs.Prelude.{ℕ, ℤ, List, [], ◌++◌, codes, if◌then◌else◌, Option, None, Some}
 use Rattle.std.specs.Fmt.{signed_decimal}
+use Rattle.entry_words.specs.Names.{has_name_bytes}
 use Rattle.told_bytes.specs.Told.{told}
 use Rattle.instance_text.specs.declared.error.Key.{Key}
 use Rattle.instance_text.specs.declared.error.Key.TheVariants as key
@@ -85,5 +86,16 @@ odd_name_words place name word list =
     codes "In " ++ (place ++ (codes ": " ++ (name ++ (codes " names " ++ (told word ++ (codes ", and no " ++ (entry_word list
     ++ codes " has that name.")))))))
 
+-- which one was meant, or is near and can't be a name itself
+unfoldable pub no_name_words : List ℕ → List ℕ
+no_name_words name = codes " One is named " ++ (told name ++ codes ", and a name has letters, digits and _, and begins with no digit.")
+
+abbrev pub named_words : List ℕ → List ℕ
+named_words name = if has_name_bytes name then near_words (Some name) else no_name_words name
+
+abbrev pub near_name_words : Option (List ℕ) → List ℕ
+near_name_words None = []
+near_name_words (Some name) = named_words name
+
 unfoldable pub odd_name_text : List ℕ → List ℕ → List ℕ → Key → Option (List ℕ) → List ℕ
-odd_name_text place name word list near = odd_name_words place name word list ++ (near_words near ++ codes "\n")
+odd_name_text place name word list near = odd_name_words place name word list ++ (near_name_words near ++ codes "\n")

@@ -3,10 +3,10 @@
 ghost use Rattle.std.specs.Prelude.{◌≡◌, ◌++◌, OnOk, Some, option_map, string_bytes};
 ghost use Rattle.entry_words.specs.Spots.{spot_text};
 ghost use Rattle.instance_text.specs.Keys.{text_of};
-ghost use Rattle.text_faults.specs.Words.{entry_word, found_text, kind_fault_text, kind_text, missing_text, near_words, number_fault_text, odd_key_text, odd_key_words, odd_name_text, odd_name_words, shape_text};
+ghost use Rattle.text_faults.specs.Words.{entry_word, found_text, kind_fault_text, kind_text, missing_text, named_words, near_name_words, near_words, no_name_words, number_fault_text, odd_key_text, odd_key_words, odd_name_text, odd_name_words, shape_text};
 
 use crate::values::{Found, Kind, Shape};
-use entry_words::Spot;
+use entry_words::{Spot, has_name_bytes};
 use instance_text::Key;
 use std::alloc::AllocError;
 use std::fmt;
@@ -179,6 +179,39 @@ fn put_odd_name_words(
     )
 }
 
+/// Says of a name that is near that it can't be one.
+#[tactic(auto, unfolding(crate::specs::Words::no_name_words))]
+fn put_no_name(text: &mut String, name: &str) -> Result<(), AllocError>
+    ensures { OnOk result (string_bytes text.new ≡ string_bytes text.old ++ no_name_words name.now) }
+{
+    let name = told(name);
+    write!(
+        text,
+        " One is named {name}, and a name has letters, digits and _, and begins with no digit."
+    )
+}
+
+/// Asks whether a name that is near was meant, or says that it can't be one.
+fn put_named(text: &mut String, name: &str) -> Result<(), AllocError>
+    ensures { OnOk result (string_bytes text.new ≡ string_bytes text.old ++ named_words name.now) }
+{
+    if has_name_bytes(name.as_bytes()) {
+        put_near(text, Some(name))
+    } else {
+        put_no_name(text, name)
+    }
+}
+
+/// Does so, where one is near.
+fn put_near_name(text: &mut String, near: Option<&str>) -> Result<(), AllocError>
+    ensures { OnOk result (string_bytes text.new ≡ string_bytes text.old ++ near_name_words (option_map (λ s. s.now) near.entry)) }
+{
+    match near {
+        None => Ok(()),
+        Some(name) => put_named(text, name),
+    }
+}
+
 /// Tells of a name that nothing has.
 #[tactic(auto, unfolding(crate::specs::Words::odd_name_text))]
 pub fn put_odd_name(
@@ -192,6 +225,6 @@ pub fn put_odd_name(
     ensures { OnOk result (string_bytes text.new ≡ string_bytes text.old ++ odd_name_text (spot_text spot.entry) (text_of key) word.now list (option_map (λ s. s.now) near.entry)) }
 {
     put_odd_name_words(text, spot, key, word, list)?;
-    put_near(text, near)?;
+    put_near_name(text, near)?;
     writeln!(text)
 }
