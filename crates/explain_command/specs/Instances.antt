@@ -11,16 +11,17 @@ use Rattle.command_streams.specs.Instances.{HasInstance, IsInstanceFault}
 use Rattle.command_streams.specs.declared.ending.Fault.TheVariants as fault
 use Rattle.explain_command.specs.declared.instances.Stated.{Stated}
 use Rattle.explain_command.specs.declared.instances.Stated.TheVariants.{Instance as Of, Refused}
+use Rattle.explain_command.specs.Mistaken.{in_place_of_instance}
 use Rattle.explain_command.specs.Telling.{line_of}
 
--- bytes that state none: why, which is no want of memory
+-- bytes that state none: why, which is no want of memory, and what they are like
 pub record TellsRefused (bytes text : List ℕ) : Type 0 where
   pub wrong : TextError
   pub first : IsInstanceFault bytes (fault.InstanceText wrong)
   pub status : fault_status (fault.InstanceText wrong) ≡ 3
   pub words : List ℕ
   pub are : IsExplanation bytes wrong words
-  pub told : text ≡ line_of (fault.InstanceText wrong) ++ words
+  pub told : text ≡ (line_of (fault.InstanceText wrong) ++ words) ++ in_place_of_instance bytes
 
 -- an instance that keeps its rules: how large it is, which messages fit into no frame, why no plan ends before its path bound, and which
 -- processes end too late whatever the plan

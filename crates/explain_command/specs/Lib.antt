@@ -1,4 +1,5 @@
 pub mod Telling
+pub mod Mistaken
 pub mod Plans
 pub mod Instances
 pub mod Certificates

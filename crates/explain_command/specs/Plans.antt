@@ -19,6 +19,7 @@ use Rattle.command_streams.specs.declared.ending.Source.TheVariants as source
 use Rattle.command_streams.specs.declared.ending.Fault.{Fault}
 use Rattle.command_streams.specs.declared.ending.Fault.TheVariants as fault
 use Rattle.plan_text_words.specs.Texts.{line_fault_text}
+use Rattle.explain_command.specs.Mistaken.{first_line_words}
 use Rattle.explain_command.specs.Telling.{line_of}
 
 -- a plan that breaks a rule: which two things its first fault compares
@@ -54,12 +55,12 @@ pub record TellsSpelled (i : Instance) (bytes text : List ℕ) : Type 0 where
   pub spelled : SpellsPlan i bytes plan stated
   pub tells : TellsPlan i plan stated text
 
--- bytes that spell none: the line at fault, and the form that it has to have
+-- bytes that spell none: the line at fault, the form that it has to have, and what the text is like
 pub record TellsUnspelled (i : Instance) (bytes text : List ℕ) : Type 0 where
   pub line : ℕ
   pub wrong : LineFault
   pub first : plan_at i bytes ≡ Err (At line wrong)
-  pub told : text ≡ line_of (fault.PlanText (At line wrong)) ++ line_fault_text i bytes line wrong
+  pub told : text ≡ (line_of (fault.PlanText (At line wrong)) ++ line_fault_text i bytes line wrong) ++ first_line_words bytes line
 
 -- the bytes of a plan
 abbrev pub TellsPlanBytes : Instance → List ℕ → List ℕ → Type 0

@@ -7,6 +7,7 @@ ghost use Rattle.command_streams.specs.declared.ending.Fault.TheVariants as faul
 ghost use Rattle.explain_command.specs.Explained.{IsUntold};
 ghost use Rattle.explain_command.specs.Instances.{IsStatedOf, TellsRefused};
 
+use crate::mistaken::in_place_of_instance;
 use crate::telling::put_line;
 use command_streams::{Fault, INSTANCE_LIMIT, instance_of_text};
 use instance_text::TextError;
@@ -44,6 +45,7 @@ fn told_refusal(alloc: Global, bytes: &[u8], wrong: TextError) -> Result<String,
     let mut text = String::new(alloc);
     put_line(&mut text, &Fault::InstanceText(wrong))?;
     text.push_str(words.as_str())?;
+    text.push_str(in_place_of_instance(bytes))?;
     Ok(text)
 }
 

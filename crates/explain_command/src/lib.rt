@@ -4,6 +4,7 @@
 mod certificates;
 mod explaining;
 mod instances;
+mod mistaken;
 mod plans;
 mod telling;
 

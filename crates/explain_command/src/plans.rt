@@ -9,6 +9,7 @@ ghost use Rattle.plan_format.specs.declared.fault.PlanTextError.TheVariants.{At}
 ghost use Rattle.plan_format.specs.Reading.{plan_at};
 ghost use Rattle.explain_command.specs.Plans.{TellsBroken, TellsMisstated, TellsPlan, TellsPlanBytes, TellsUnspelled, TellsValid};
 
+use crate::mistaken::first_line_words;
 use crate::telling::{put_line, put_valid_line};
 use command_streams::Fault;
 use plan_format::{LineFault, PlanTextError, read};
@@ -104,6 +105,7 @@ fn put_unspelled(
     let error = PlanTextError::At { line, fault: wrong };
     put_line(text, &Fault::PlanText(error))?;
     put_line_fault(text, instance, bytes, line, wrong)?;
+    text.push_str(first_line_words(bytes, line))?;
     Ok(())
 }
 
