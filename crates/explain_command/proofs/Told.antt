@@ -3,6 +3,10 @@ use Rattle.std.proofs.Common.{◌≡◌, ℕ, List, Option, None, Some, Result, 
 use Rattle.ttp_model.specs.Instance.{Instance}
 use Rattle.command_streams.specs.Instances.{HasInstance, StatesSome}
 use Rattle.command_streams.specs.Outcomes.{IsCommandAnswer, IsWriting, OnDone}
+use Rattle.command_streams.specs.Streams.{IsReadFault}
+use Rattle.command_streams.proofs.StatedOnce.{by_read_fault}
+use Rattle.plan_commands.specs.Printed.{printed_limit}
+use Rattle.plan_commands.proofs.Prints.{long_text}
 use Rattle.command_streams.specs.declared.ending.End.{End}
 use Rattle.command_streams.specs.declared.ending.End.TheVariants.{Refused}
 use Rattle.command_streams.specs.declared.ending.Sink.TheVariants.{Out}
@@ -69,6 +73,17 @@ plan_untold i p problem (NoSuchProcess k) has is = absurd is
 plan_untold i p problem (WrongLoss k) has is = absurd is
 plan_untold i p problem (Search fault) has is = absurd is
 plan_untold i p problem (Unwritten sink) has is = absurd is
+
+-- why a printed plan isn't read
+pub plan_unread : (b : Option (List ℕ)) (fault : Fault) → IsReadFault source.Plan printed_limit b fault → IfSome b (λ p. IsPlanUnread p fault)
+plan_unread None fault is = tt
+plan_unread (Some p) fault is = by_read_fault (IsPlanUnread p) source.Plan printed_limit (Some p) tt tt (λ long. long_text p long) fault is
+
+-- what is said of the bytes that were read is said of those that the reader had
+pub said_of_reader : {S : Type 0} (Says : List ℕ → Result S Fault → Type 0) (b : Option (List ℕ)) (bytes : List ℕ) (result : Result S Fault)
+    → IfSome b (λ p. bytes ≡ p) → Says bytes result → IfSome b (λ p. Says p result)
+said_of_reader Says None bytes result is said = tt
+said_of_reader Says (Some p) bytes result is said = subst (λ (read : List ℕ). Says read result) is said
 
 pub plans_untold : (a b : Option (List ℕ)) (problem : Instance) (fault : Fault) → IfSome a (λ i. HasInstance i problem) → IfSome b (λ p. IsPlanUnread p fault)
     → IfSome a (λ i. IfSome b (λ p. IsPlanUntold i p fault))

@@ -1,13 +1,14 @@
 -- What the command tells, and why it tells nothing.
 use Rattle.std.specs.Prelude.{ℕ, ◌<◌, ◌⊎◌, List, length, Option}
 use Rattle.ttp_model.specs.Instance.{Instance}
-use Rattle.command_streams.specs.Limits.{certificate_limit, instance_limit, plan_limit}
+use Rattle.command_streams.specs.Limits.{certificate_limit, instance_limit}
 use Rattle.command_streams.specs.Instances.{HasInstance, StatesSome}
 use Rattle.command_streams.specs.Outcomes.{IsCommandAnswer, OnDone}
 use Rattle.command_streams.specs.declared.ending.Source.TheVariants as source
 use Rattle.command_streams.specs.declared.ending.Fault.{Fault}
 use Rattle.command_streams.specs.declared.ending.Fault.TheVariants.{Memory, TooLong, Unread}
 use Rattle.command_streams.specs.declared.ending.End.{End}
+use Rattle.plan_commands.specs.Printed.{IsTooLong}
 use Rattle.explain_command.specs.Certificates.{TellsCertificateBytes}
 use Rattle.explain_command.specs.Instances.{TellsInstance, TellsRefused}
 use Rattle.explain_command.specs.Plans.{TellsPlanBytes}
@@ -32,7 +33,7 @@ IsUntold instance _ = ⊥
 -- of an instance and a plan
 abbrev pub IsPlanUntold : List ℕ → List ℕ → Fault → Type 0
 IsPlanUntold instance plan (Unread source.Plan) = StatesSome instance
-IsPlanUntold instance plan (TooLong source.Plan) = StatesSome instance × (plan_limit < length plan)
+IsPlanUntold instance plan (TooLong source.Plan) = StatesSome instance × IsTooLong plan
 IsPlanUntold instance plan fault = IsUntold instance fault
 
 -- of an instance and a certificate

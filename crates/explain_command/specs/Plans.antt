@@ -1,5 +1,5 @@
 -- What is told of a plan's bytes, for an instance.
-use Rattle.std.specs.Prelude.{◌≡◌, ◌≢◌, ◌⊎◌, ℕ, ◌<◌, List, ◌++◌, Err, length}
+use Rattle.std.specs.Prelude.{◌≡◌, ◌≢◌, ◌⊎◌, ℕ, ◌+◌, List, ◌++◌, Err, codes}
 use Rattle.ttp_model.specs.declared.fault.PlanFault.{PlanFault}
 use Rattle.ttp_model.specs.declared.plan.Plan.{Plan}
 use Rattle.ttp_model.specs.Instance.{Instance}
@@ -14,7 +14,10 @@ use Rattle.plan_chain.specs.Lines.{IsChainText}
 use Rattle.plan_words.specs.Faults.{fault_text}
 use Rattle.plan_words.specs.Delays.{IsDelayText}
 use Rattle.plan_commands.specs.Verdicts.{valid_line}
-use Rattle.command_streams.specs.Limits.{plan_limit}
+use Rattle.plan_commands.specs.declared.front.Front.{Front}
+use Rattle.plan_commands.specs.declared.front.Front.TheVariants as front
+use Rattle.plan_commands.specs.Fronts.{BeginsWith, no_plan_text}
+use Rattle.plan_commands.specs.Printed.{IsTooLong, bare_fault}
 use Rattle.command_streams.specs.declared.ending.Source.TheVariants as source
 use Rattle.command_streams.specs.declared.ending.Fault.{Fault}
 use Rattle.command_streams.specs.declared.ending.Fault.TheVariants as fault
@@ -55,20 +58,38 @@ pub record TellsSpelled (i : Instance) (bytes text : List ℕ) : Type 0 where
   pub spelled : SpellsPlan i bytes plan stated
   pub tells : TellsPlan i plan stated text
 
--- bytes that spell none: the line at fault, the form that it has to have, and what the text is like
-pub record TellsUnspelled (i : Instance) (bytes text : List ℕ) : Type 0 where
+-- bytes that spell none, behind so many lines: the line at fault, the form that it has to have, and what the text is like
+pub record TellsUnspelled (i : Instance) (before : ℕ) (bytes text : List ℕ) : Type 0 where
   pub line : ℕ
   pub wrong : LineFault
   pub first : plan_at i bytes ≡ Err (At line wrong)
-  pub told : text ≡ (line_of (fault.PlanText (At line wrong)) ++ line_fault_text i bytes line wrong) ++ first_line_words bytes line
+  pub told : text ≡ (line_of (fault.PlanText (At (before + line) wrong)) ++ line_fault_text i bytes before line wrong) ++ first_line_words bytes (before + line)
 
--- the bytes of a plan
-abbrev pub TellsPlanBytes : Instance → List ℕ → List ℕ → Type 0
-TellsPlanBytes i bytes text = TellsUnspelled i bytes text ⊎ TellsSpelled i bytes text
+-- the bytes of a plan's text, behind so many lines
+abbrev pub TellsPlanText : Instance → ℕ → List ℕ → List ℕ → Type 0
+TellsPlanText i before bytes text = TellsUnspelled i before bytes text ⊎ TellsSpelled i bytes text
+
+-- a line that says that no plan was found, with what stands behind it
+abbrev pub bare_text : List ℕ → List ℕ
+bare_text rest = line_of (fault.PlanText (At 2 (bare_fault rest))) ++ codes "The first line says that no plan was found.\n"
+
+-- what stands behind such a front
+abbrev pub TellsPrinted : Instance → Front → List ℕ → List ℕ → Type 0
+TellsPrinted i front.Plan rest text = TellsPlanText i 0 rest text
+TellsPrinted i front.Headed rest text = TellsPlanText i 1 rest text
+TellsPrinted i front.Bare rest text = text ≡ bare_text rest
+TellsPrinted i front.NoPlan rest text = TellsPlanText i 0 no_plan_text text
+
+-- the bytes of a printed plan
+pub record TellsPlanBytes (i : Instance) (bytes text : List ℕ) : Type 0 where
+  pub begun : Front
+  pub rest : List ℕ
+  pub begins : BeginsWith bytes begun rest
+  pub tells : TellsPrinted i begun rest text
 
 -- why nothing is told of them
 abbrev pub IsPlanUnread : List ℕ → Fault → Type 0
 IsPlanUnread bytes fault.Memory = Unit {0}
 IsPlanUnread bytes (fault.Unread source.Plan) = Unit {0}
-IsPlanUnread bytes (fault.TooLong source.Plan) = plan_limit < length bytes
+IsPlanUnread bytes (fault.TooLong source.Plan) = IsTooLong bytes
 IsPlanUnread bytes _ = ⊥

@@ -3,10 +3,11 @@
 ghost use Rattle.std.specs.Prelude.{◌≡◌, ◌+◌, IfErr, IfOk, IfSome, string_bytes};
 ghost use Rattle.std.specs.Io.KnownBytes.{Keeps};
 ghost use Rattle.command_streams.specs.Instances.{IsOfInstance, StatesSome};
-ghost use Rattle.command_streams.specs.Limits.{certificate_limit, instance_limit, plan_limit};
+ghost use Rattle.command_streams.specs.Limits.{certificate_limit, instance_limit};
 ghost use Rattle.command_streams.specs.Outcomes.{IfRefused};
 ghost use Rattle.command_streams.specs.Streams.{TakesAtMost};
 ghost use Rattle.command_streams.specs.declared.ending.Fault.TheVariants.{Memory};
+ghost use Rattle.plan_commands.specs.Printed.{printed_limit};
 ghost use Rattle.explain_command.specs.Explained.{IsCertificateExplained, IsCertificateUntold, IsInstanceExplained, IsPlanExplained, IsPlanUntold, IsUntold, TellsBoth};
 ghost use Rattle.explain_command.specs.Certificates.{IsUnreadable, TellsCertificateBytes};
 ghost use Rattle.explain_command.specs.Instances.{IsStatedOf, TellsInstance, TellsSizes};
@@ -14,10 +15,10 @@ ghost use Rattle.explain_command.specs.Plans.{IsPlanUnread, TellsPlanBytes};
 
 use crate::certificates::told_certificate;
 use crate::instances::{Stated, stated_of_bytes};
-use crate::plans::told_plan;
+use crate::plans::told_printed;
 use command_streams::{End, Fault, INSTANCE_LIMIT, Source, end_with, read_all};
 use instance_words::describe_instance;
-use plan_commands::PLAN_LIMIT;
+use plan_commands::{PLAN_LIMIT, front_of, read_printed};
 use std::alloc::Global;
 use std::io::{Read, Write};
 use std::thread::Threads;
@@ -78,16 +79,29 @@ pub fn explain_instance<I: Read, W: Write>(alloc: Global, instance: &mut I, out:
     }
 }
 
+/// What is told of the bytes of a printed plan.
+fn told_of_text(alloc: Global, instance: &Instance, bytes: &[u8]) -> Result<String, Fault>
+    ensures ok { IfOk result (λ text. TellsPlanBytes instance.now bytes.now (string_bytes text)) }
+    ensures err { IfErr result (IsPlanUnread bytes.now) }
+    ensures later { IfErr result (λ fault. ¬ IsOfInstance fault) }
+{
+    let (front, rest) = front_of(bytes);
+    if rest.len() > PLAN_LIMIT {
+        return Err(Fault::TooLong(Source::Plan));
+    }
+    let text = told_printed(alloc, instance, bytes, front, rest)?;
+    Ok(text)
+}
+
 /// What is told of the bytes of a plan's reader.
 fn told_of_plan<P: Read>(alloc: Global, instance: &Instance, plan: &mut P) -> Result<String, Fault>
     ensures ok { IfSome (P.remaining plan.old) (λ p. IfOk result (λ text. TellsPlanBytes instance.now p (string_bytes text))) }
     ensures err { IfSome (P.remaining plan.old) (λ p. IfErr result (IsPlanUnread p)) }
     ensures later { IfErr result (λ fault. ¬ IsOfInstance fault) }
-    ensures plan { TakesAtMost (plan_limit + 1) (P.remaining plan.old) (P.remaining plan.new) }
+    ensures plan { TakesAtMost (printed_limit + 1) (P.remaining plan.old) (P.remaining plan.new) }
 {
-    let bytes = read_all(alloc, plan, PLAN_LIMIT, Source::Plan)?;
-    let text = told_plan(alloc, instance, bytes.as_slice())?;
-    Ok(text)
+    let bytes = read_printed(alloc, plan)?;
+    told_of_text(alloc, instance, bytes.as_slice())
 }
 
 /// What is told of an instance and a plan.
@@ -100,7 +114,7 @@ fn plan_told<I: Read, P: Read>(
         IfOk result (λ text. TellsBoth TellsPlanBytes i p (string_bytes text)))) }
     ensures err { IfSome (I.remaining instance.old) (λ i. IfSome (P.remaining plan.old) (λ p. IfErr result (IsPlanUntold i p))) }
     ensures instance { TakesAtMost (instance_limit + 1) (I.remaining instance.old) (I.remaining instance.new) }
-    ensures plan { TakesAtMost (plan_limit + 1) (P.remaining plan.old) (P.remaining plan.new) }
+    ensures plan { TakesAtMost (printed_limit + 1) (P.remaining plan.old) (P.remaining plan.new) }
     ensures order { IfErr result (λ fault. IsOfInstance fault → Keeps (P.remaining plan.old) (P.remaining plan.new)) }
     ensures unread { IfSome (I.remaining instance.old) (λ i. ¬ StatesSome i → Keeps (P.remaining plan.old) (P.remaining plan.new)) }
 {
@@ -126,7 +140,7 @@ pub fn explain_plan<I: Read, P: Read, W: Write>(
     ensures answer { IfSome (I.remaining instance.old) (λ i. IfSome (P.remaining plan.old) (λ p.
         IsPlanExplained i p (W.contents out.old) (W.contents out.new) result)) }
     ensures instance { TakesAtMost (instance_limit + 1) (I.remaining instance.old) (I.remaining instance.new) }
-    ensures plan { TakesAtMost (plan_limit + 1) (P.remaining plan.old) (P.remaining plan.new) }
+    ensures plan { TakesAtMost (printed_limit + 1) (P.remaining plan.old) (P.remaining plan.new) }
     ensures order { IfRefused result (λ fault. IsOfInstance fault → Keeps (P.remaining plan.old) (P.remaining plan.new)) }
     ensures unread { IfSome (I.remaining instance.old) (λ i. ¬ StatesSome i → Keeps (P.remaining plan.old) (P.remaining plan.new)) }
 {

@@ -1,17 +1,19 @@
 //! What is told of a plan?
 
-ghost use Rattle.std.specs.Prelude.{◌≡◌, ◌≢◌, Err, IfOk, OnOk, string_bytes};
+ghost use Rattle.std.specs.Prelude.{◌≡◌, ◌≢◌, ◌≤◌, Err, IfOk, OnOk, string_bytes};
 ghost use Rattle.ttp_model.specs.Plans.{IsValid};
 ghost use Rattle.ttp_model.specs.Delays.{delay};
 ghost use Rattle.ttp_model.specs.Faults.{IsFirstFault};
 ghost use Rattle.plan_words.specs.Gains.{Gains};
 ghost use Rattle.plan_format.specs.declared.fault.PlanTextError.TheVariants.{At};
 ghost use Rattle.plan_format.specs.Reading.{plan_at};
-ghost use Rattle.explain_command.specs.Plans.{TellsBroken, TellsMisstated, TellsPlan, TellsPlanBytes, TellsUnspelled, TellsValid};
+ghost use Rattle.plan_commands.specs.Fronts.{BeginsWith};
+ghost use Rattle.explain_command.specs.Plans.{TellsBroken, TellsMisstated, TellsPlan, TellsPlanText, TellsPrinted, TellsUnspelled, TellsValid, bare_text};
 
 use crate::mistaken::first_line_words;
 use crate::telling::{put_line, put_valid_line};
 use command_streams::Fault;
+use plan_commands::{Front, bare_fault};
 use plan_format::{LineFault, PlanTextError, read};
 use plan_text_words::put_line_fault;
 use plan_words::{put_delay, put_fault};
@@ -91,35 +93,80 @@ fn put_plan(
     }
 }
 
-/// Tells which line of a plan's text is at fault.
+/// Tells which line of a plan's text is at fault, in front of which so many lines stand.
 fn put_unspelled(
     text: &mut String,
     instance: &Instance,
     bytes: &[u8],
+    before: u32,
     line: u32,
     wrong: LineFault,
 ) -> Result<(), MemoryFault>
-    requires { plan_at instance.now bytes.now ≡ Err (At line wrong) }
-    ensures { OnOk result (Gains (TellsUnspelled instance.now bytes.now) (string_bytes text.old) (string_bytes text.new)) }
+    requires at { plan_at instance.now bytes.now ≡ Err (At line wrong) }
+    requires most { before ≤ 1 }
+    ensures { OnOk result (Gains (TellsUnspelled instance.now before bytes.now) (string_bytes text.old) (string_bytes text.new)) }
 {
-    let error = PlanTextError::At { line, fault: wrong };
+    let _nodes = instance.nodes();
+    let error = PlanTextError::At {
+        line: before + line,
+        fault: wrong,
+    };
     put_line(text, &Fault::PlanText(error))?;
-    put_line_fault(text, instance, bytes, line, wrong)?;
-    text.push_str(first_line_words(bytes, line))?;
+    put_line_fault(text, instance, bytes, before, line, wrong)?;
+    text.push_str(first_line_words(bytes, before + line))?;
     Ok(())
 }
 
-/// What is told of the bytes of a plan.
-pub fn told_plan(alloc: Global, instance: &Instance, bytes: &[u8]) -> Result<String, MemoryFault>
-    ensures { IfOk result (λ text. TellsPlanBytes instance.now bytes.now (string_bytes text)) }
+/// What is told of the bytes of a plan's text, in front of which so many lines stand.
+fn told_plan(
+    alloc: Global,
+    instance: &Instance,
+    bytes: &[u8],
+    before: u32,
+) -> Result<String, MemoryFault>
+    requires { before ≤ 1 }
+    ensures { IfOk result (λ text. TellsPlanText instance.now before bytes.now (string_bytes text)) }
 {
     let mut text = String::new(alloc);
     match read(alloc, instance, bytes) {
         Ok((plan, stated)) => put_plan(alloc, &mut text, instance, &plan, stated)?,
         Err(PlanTextError::At { line, fault }) => {
-            put_unspelled(&mut text, instance, bytes, line, fault)?
+            put_unspelled(&mut text, instance, bytes, before, line, fault)?
         }
         Err(PlanTextError::OutOfMemory) => return Err(MemoryFault),
     }
     Ok(text)
+}
+
+/// What is told of a line that says that no plan was found, with what stands behind it.
+fn told_bare(alloc: Global, rest: &[u8]) -> Result<String, MemoryFault>
+    ensures { IfOk result (λ text. string_bytes text ≡ bare_text rest.now) }
+{
+    let fault = bare_fault(rest);
+    let mut text = String::new(alloc);
+    put_line(
+        &mut text,
+        &Fault::PlanText(PlanTextError::At { line: 2, fault }),
+    )?;
+    text.push_str("The first line says that no plan was found.\n")?;
+    Ok(text)
+}
+
+/// What is told of the bytes that begin so, and of what stands behind that.
+pub fn told_printed(
+    alloc: Global,
+    instance: &Instance,
+    bytes: &[u8],
+    front: Front,
+    rest: &[u8],
+) -> Result<String, MemoryFault>
+    requires { BeginsWith bytes.now front rest.now }
+    ensures { IfOk result (λ text. TellsPrinted instance.now front rest.now (string_bytes text)) }
+{
+    match front {
+        Front::Plan => told_plan(alloc, instance, rest, 0),
+        Front::Headed => told_plan(alloc, instance, rest, 1),
+        Front::Bare => told_bare(alloc, rest),
+        Front::NoPlan => told_plan(alloc, instance, bytes, 0),
+    }
 }

@@ -1,5 +1,5 @@
 -- What is told of a line that is at fault. Own profile.
-use Rattle.std.specs.Prelude.{ℕ, ◌-◌, ◌==◌, List, [], ◌++◌, codes, decimal, if◌then◌else◌, length}
+use Rattle.std.specs.Prelude.{ℕ, ◌+◌, ◌-◌, ◌==◌, List, [], ◌++◌, codes, decimal, if◌then◌else◌, length}
 use Rattle.ttp_model.specs.Instance.{Instance}
 use Rattle.plan_format.specs.declared.fault.LineFault.{LineFault}
 use Rattle.plan_format.specs.declared.fault.LineFault.TheVariants.{Form, Number, Name, Order, EarlyEnd, Trailing}
@@ -51,15 +51,16 @@ unfoldable pub count_words : ℕ → List ℕ
 count_words count = codes "  the text has to have " ++ (decimal count ++ codes " lines\n")
 
 -- of a text that ends, its lines; of the order line, a name that is wrong; of others nothing more
-abbrev pub more_text : Instance → List ℕ → ℕ → LineFault → List ℕ
-more_text i text line EarlyEnd = count_words (end_line i - 1)
-more_text i text line Order = uneven_text i text
-more_text i text line Name = if line == 3 then stranger_text i text else []
-more_text i text line Form = []
-more_text i text line Number = []
-more_text i text line Trailing = []
+abbrev pub more_text : Instance → List ℕ → (before line : ℕ) → LineFault → List ℕ
+more_text i text before line EarlyEnd = count_words (before + (end_line i - 1))
+more_text i text before line Order = uneven_text i text
+more_text i text before line Name = if line == 3 then stranger_text i text else []
+more_text i text before line Form = []
+more_text i text before line Number = []
+more_text i text before line Trailing = []
 
-unfoldable pub line_fault_text : Instance → List ℕ → ℕ → LineFault → List ℕ
-line_fault_text i bytes line fault =
-    fault_words (before_number fault) line (behind_number fault)
-    ++ (is_text (numbered_line bytes line) ++ (should_be_text i line ++ more_text i (numbered_line bytes line) line fault))
+-- of a plan's text in front of which so many lines stand, which are counted too
+unfoldable pub line_fault_text : Instance → List ℕ → (before line : ℕ) → LineFault → List ℕ
+line_fault_text i bytes before line fault =
+    fault_words (before_number fault) (before + line) (behind_number fault)
+    ++ (is_text (numbered_line bytes line) ++ (should_be_text i line ++ more_text i (numbered_line bytes line) before line fault))

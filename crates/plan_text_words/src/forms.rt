@@ -1,6 +1,6 @@
 //! What has to stand in each line of a plan's text?
 
-ghost use Rattle.std.specs.Prelude.{◌≡◌, ◌-◌, ◌++◌, ◌<◌, OnOk, [], length, slice_index_or, string_bytes};
+ghost use Rattle.std.specs.Prelude.{◌≡◌, ◌-◌, ◌++◌, ◌<◌, ◌^◌, OnOk, [], length, slice_index_or, string_bytes};
 ghost use Rattle.ttp_model.specs.declared.error.Part.TheVariants.{Messages, Nodes, Processes};
 ghost use Rattle.plan_format.specs.Channels.{first_line, has_two_channels};
 ghost use Rattle.plan_format.specs.Names.{names_in};
@@ -121,7 +121,8 @@ fn put_channel_form(text: &mut String, instance: &Instance, k: usize) -> Result<
 
 /// The number of the last line, which is how many there are.
 pub fn last_line(instance: &Instance) -> u32
-    ensures { result ≡ end_line instance.now - 1 }
+    ensures value { result ≡ end_line instance.now - 1 }
+    ensures few { result < 2 ^ 31 }
 {
     let nodes = instance.nodes().len();
     let processes = instance.processes().len();

@@ -1,6 +1,6 @@
 //! What is told of a line that is at fault?
 
-ghost use Rattle.std.specs.Prelude.{◌≡◌, ◌++◌, OnOk, codes, string_bytes};
+ghost use Rattle.std.specs.Prelude.{◌≡◌, ◌+◌, ◌<◌, ◌≤◌, ◌^◌, ◌++◌, OnOk, codes, string_bytes};
 ghost use Rattle.told_bytes.specs.Told.{told};
 ghost use Rattle.plan_text_words.specs.Forms.{form_of};
 ghost use Rattle.told_bytes.specs.TextLines.{numbered_line};
@@ -16,22 +16,31 @@ use ttp_model::Instance;
 /// The number of the order line.
 const ORDER_LINE: u32 = 3;
 
-/// Tells what is wrong with a line, what it is, and what has to stand there.
+/// Tells what is wrong with a line of a plan's text, what it is, and what has to stand there. So many lines stand in front of that text,
+/// at most one, and are counted too.
 #[tactic(auto, unfolding(crate::specs::Texts::line_fault_text))]
 pub fn put_line_fault(
     text: &mut String,
     instance: &Instance,
     bytes: &[u8],
+    before: u32,
     line: u32,
     fault: LineFault,
 ) -> Result<(), AllocError>
-    ensures { OnOk result (string_bytes text.new ≡ string_bytes text.old ++ line_fault_text instance.now bytes.now line fault) }
+    requires most { before ≤ 1 }
+    requires number { before + line < 2 ^ 32 }
+    ensures { OnOk result (string_bytes text.new ≡ string_bytes text.old ++ line_fault_text instance.now bytes.now before line fault) }
 {
     let told = numbered_line(bytes, u64::from(line));
-    put_wrong(text, before_number(fault), line, behind_number(fault))?;
+    put_wrong(
+        text,
+        before_number(fault),
+        before + line,
+        behind_number(fault),
+    )?;
     put_is(text, told)?;
     put_should_be(text, instance, line)?;
-    put_more(text, instance, told, line, fault)
+    put_more(text, instance, told, before, line, fault)
 }
 
 /// Adds how many lines a text has to have that ends too early, or which name of an order line is wrong.
@@ -39,13 +48,15 @@ fn put_more(
     text: &mut String,
     instance: &Instance,
     told: &[u8],
+    before: u32,
     line: u32,
     fault: LineFault,
 ) -> Result<(), AllocError>
-    ensures { OnOk result (string_bytes text.new ≡ string_bytes text.old ++ more_text instance.now told.now line fault) }
+    requires { before ≤ 1 }
+    ensures { OnOk result (string_bytes text.new ≡ string_bytes text.old ++ more_text instance.now told.now before line fault) }
 {
     match fault {
-        LineFault::EarlyEnd => put_count(text, last_line(instance)),
+        LineFault::EarlyEnd => put_count(text, before + last_line(instance)),
         LineFault::Order => put_uneven(text, instance, told),
         LineFault::Name => put_other_name(text, instance, told, line),
         LineFault::Form | LineFault::Number | LineFault::Trailing => Ok(()),
@@ -59,7 +70,7 @@ fn put_other_name(
     told: &[u8],
     line: u32,
 ) -> Result<(), AllocError>
-    ensures { OnOk result (string_bytes text.new ≡ string_bytes text.old ++ more_text instance.now told.now line LineFault.Name) }
+    ensures { OnOk result (string_bytes text.new ≡ string_bytes text.old ++ more_text instance.now told.now 0 line LineFault.Name) }
 {
     if line == ORDER_LINE {
         put_stranger(text, instance, told)

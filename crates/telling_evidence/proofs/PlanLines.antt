@@ -10,7 +10,7 @@ use Rattle.plan_text_words.specs.Texts.{fault_words, is_text, is_words, line_fau
 
 -- the word behind the keyword
 pub stranger : (i : Instance) (bytes old new : List ℕ) → numbered_line bytes 3 ≡ codes "order x" → is_stranger i (codes "x") ≡ true
-    → new ≡ old ++ line_fault_text i bytes 3 Name → (front : List ℕ) × (new ≡ old ++ (front ++ codes "  x is no node\n"))
+    → new ≡ old ++ line_fault_text i bytes 0 3 Name → (front : List ℕ) × (new ≡ old ++ (front ++ codes "  x is no node\n"))
 unfolding line_fault_text stranger_words told told_byte
 stranger i bytes old new line is e =
     let wrong : List ℕ = fault_words (codes "Line ") 3 (codes " names something else") in
@@ -23,8 +23,8 @@ stranger i bytes old new line is e =
     )
 
 -- the line of that number
-pub second_line : (i : Instance) (bytes old new : List ℕ) → numbered_line bytes 2 ≡ codes "a" → new ≡ old ++ line_fault_text i bytes 2 Form
+pub second_line : (i : Instance) (bytes old new : List ℕ) → numbered_line bytes 2 ≡ codes "a" → new ≡ old ++ line_fault_text i bytes 0 2 Form
     → (rest : List ℕ) × (new ≡ old ++ (codes "Line 2 has another form.\n" ++ (codes "  it is: a\n" ++ rest)))
 unfolding line_fault_text fault_words is_words told told_byte digits
 second_line i bytes old new line e =
-    (_, e ∙ ap (λ (line : List ℕ). old ++ (codes "Line 2 has another form.\n" ++ (is_text line ++ (should_be_text i 2 ++ more_text i line 2 Form)))) line)
+    (_, e ∙ ap (λ (line : List ℕ). old ++ (codes "Line 2 has another form.\n" ++ (is_text line ++ (should_be_text i 2 ++ more_text i line 0 2 Form)))) line)

@@ -19,7 +19,7 @@ pub fn stranger_is_told_as_a_word(
         → OnOk result ((front : List ℕ) × (string_bytes text.new ≡ string_bytes text.old
         ++ (front ++ codes "  x is no node\n"))) }
 {
-    put_line_fault(text, instance, bytes, 3, LineFault::Name)
+    put_line_fault(text, instance, bytes, 0, 3, LineFault::Name)
 }
 
 /// The line at fault is told, and not the one in front of it.
@@ -32,5 +32,5 @@ pub fn line_at_fault_is_told(
         → OnOk result ((rest : List ℕ) × (string_bytes text.new ≡ string_bytes text.old
         ++ (codes "Line 2 has another form.\n" ++ (codes "  it is: a\n" ++ rest)))) }
 {
-    put_line_fault(text, instance, bytes, 2, LineFault::Form)
+    put_line_fault(text, instance, bytes, 0, 2, LineFault::Form)
 }
