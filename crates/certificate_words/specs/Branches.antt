@@ -4,6 +4,7 @@ use Rattle.ttp_model.specs.declared.step.Kind.{Kind}
 use Rattle.ttp_model.specs.declared.step.Kind.TheVariants.{Place, Cap, Pair, Round, Chan}
 use Rattle.ttp_model.specs.Instance.{Instance, message_at, node_at, process_at}
 use Rattle.certificate.specs.declared.node.Node.{Node}
+use Rattle.step_words.specs.Counts.{noun}
 use Rattle.certificate.specs.Words.{head_of, head_words}
 
 -- ---- how many there are
@@ -23,8 +24,9 @@ nodes_with word nodes = count_by (has_keyword word) nodes
 -- how many branches there are of each kind
 unfoldable pub kinds_words : ℕ → ℕ → ℕ → ℕ → ℕ → List ℕ
 kinds_words place cap pair round chan =
-    codes "Its tree has " ++ (decimal place ++ (codes " branches of place, " ++ (decimal cap ++ (codes " of cap, " ++ (decimal pair
-    ++ (codes " of pair, " ++ (decimal round ++ (codes " of round and " ++ (decimal chan ++ codes " of chan, ")))))))))
+    codes "Its tree has " ++ (decimal place ++ (codes " " ++ (noun place (codes "branch") (codes "branches") ++ (codes " of place, " ++ (decimal cap
+    ++ (codes " of cap, " ++ (decimal pair ++ (codes " of pair, " ++ (decimal round ++ (codes " of round and " ++ (decimal chan
+    ++ codes " of chan, ")))))))))))
 
 -- among these nodes
 abbrev pub branches_words : List Node → List ℕ
@@ -82,12 +84,14 @@ not_open_words i (Chan m) =
 -- ---- it has so many children, and another count would be right
 
 unfoldable pub placed_children : ℕ → List ℕ
-placed_children count = codes "It has " ++ (decimal count ++ codes " children, and has to have one for each node that isn't placed above it.\n")
+placed_children count =
+    codes "It has " ++ (decimal count ++ (codes " " ++ (noun count (codes "child") (codes "children")
+    ++ codes ", and has to have one for each node that isn't placed above it.\n")))
 
 unfoldable pub capacity_children : ℕ → List ℕ → ℕ → List ℕ
 capacity_children count name capacities =
-    codes "It has " ++ (decimal count ++ (codes " children, and has to have one for each capacity of " ++ (name ++ (codes ", which has " ++ (decimal capacities
-    ++ codes ".\n")))))
+    codes "It has " ++ (decimal count ++ (codes " " ++ (noun count (codes "child") (codes "children")
+    ++ (codes ", and has to have one for each capacity of " ++ (name ++ (codes ", which has " ++ (decimal capacities ++ codes ".\n")))))))
 
 -- by its kind: only two of them have a count of their own
 abbrev pub child_count_words : Instance → Kind → ℕ → List ℕ

@@ -7,6 +7,7 @@ ghost use Rattle.certificate_words.specs.Branches.{absent_words, branches_words,
 
 use certificate::{Branch, Node};
 use std::alloc::AllocError;
+use step_words::noun;
 use ttp_model::{Instance, Kind};
 
 /// The keyword of a branch's line.
@@ -58,9 +59,10 @@ fn put_kinds(
 ) -> Result<(), AllocError>
     ensures { OnOk result (string_bytes text.new ≡ string_bytes text.old ++ kinds_words place cap pair round chan) }
 {
+    let branches = noun(place as u64, "branch", "branches");
     write!(
         text,
-        "Its tree has {place} branches of place, {cap} of cap, {pair} of pair, {round} of round and {chan} of chan, "
+        "Its tree has {place} {branches} of place, {cap} of cap, {pair} of pair, {round} of round and {chan} of chan, "
     )
 }
 
@@ -198,9 +200,10 @@ pub fn put_not_open(text: &mut String, instance: &Instance, kind: Kind) -> Resul
 fn put_placed_children(text: &mut String, count: u32) -> Result<(), AllocError>
     ensures { OnOk result (string_bytes text.new ≡ string_bytes text.old ++ placed_children count) }
 {
+    let children = noun(u64::from(count), "child", "children");
     writeln!(
         text,
-        "It has {count} children, and has to have one for each node that isn't placed above it."
+        "It has {count} {children}, and has to have one for each node that isn't placed above it."
     )
 }
 
@@ -214,9 +217,10 @@ fn put_capacity_children(
 ) -> Result<(), AllocError>
     ensures { OnOk result (string_bytes text.new ≡ string_bytes text.old ++ capacity_children count name.now capacities) }
 {
+    let children = noun(u64::from(count), "child", "children");
     writeln!(
         text,
-        "It has {count} children, and has to have one for each capacity of {name}, which has {capacities}."
+        "It has {count} {children}, and has to have one for each capacity of {name}, which has {capacities}."
     )
 }
 

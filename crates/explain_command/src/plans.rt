@@ -107,13 +107,14 @@ fn put_unspelled(
     ensures { OnOk result (Gains (TellsUnspelled instance.now before bytes.now) (string_bytes text.old) (string_bytes text.new)) }
 {
     let _nodes = instance.nodes();
+    let counted = before + line;
     let error = PlanTextError::At {
-        line: before + line,
+        line: counted,
         fault: wrong,
     };
     put_line(text, &Fault::PlanText(error))?;
     put_line_fault(text, instance, bytes, before, line, wrong)?;
-    text.push_str(first_line_words(bytes, before + line))?;
+    text.push_str(first_line_words(bytes, counted))?;
     Ok(())
 }
 

@@ -5,3 +5,4 @@ pub mod OneChain
 pub mod Short
 pub mod Telling
 mod Growing
+mod TooLate

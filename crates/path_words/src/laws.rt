@@ -1,12 +1,14 @@
 //! What follows from the definitions alone. These functions do nothing: their contracts are the laws.
 
-ghost use Rattle.std.specs.Prelude.{◌≡◌, ℕ, ◌<◌, ◌≤◌, ◌++◌, ◌∷◌, [], List, length};
+ghost use Rattle.std.specs.Prelude.{◌≡◌, ◌≢◌, ℕ, ◌<◌, ◌≤◌, ◌++◌, ◌∷◌, [], List, length};
 ghost use Rattle.ttp_model.specs.Instance.{Instance};
 ghost use Rattle.ttp_model.specs.Rules.{IsInstance};
 ghost use Rattle.ttp_model.specs.Chains.{IsPathBound};
 ghost use Rattle.ttp_model.specs.Delays.{HasNoPlan};
+ghost use Rattle.longest_chains.specs.Longest.{AreLongest};
 ghost use Rattle.path_words.specs.declared.chain.ChainPart.{ChainPart};
 ghost use Rattle.path_words.specs.Chain.{AreJoined, BeginsAtRelease, IsChain};
+ghost use Rattle.path_words.specs.Late.{late_parts};
 ghost use Rattle.path_words.specs.Lines.{IsChainText};
 
 /// A chain has a part, and its last process, which is told first, ends at the path bound.
@@ -35,6 +37,11 @@ pub fn chains_are_short()
 /// Where the path bound is past the horizon no plan is valid.
 pub fn bounds_past_the_horizon_leave_no_plan()
     ensures { (i : Instance) (bound : ℕ) → IsInstance i → IsPathBound i bound → i.cluster.horizon < bound → HasNoPlan i }
+{}
+
+/// What ends too late even at the earliest does so in each plan: where there is such a process no plan is valid.
+pub fn late_processes_leave_no_plan()
+    ensures { (i : Instance) (ends : List ℕ) → IsInstance i → AreLongest i ends → late_parts i ends ≢ [] → HasNoPlan i }
 {}
 
 /// There is one such chain, and one text of it.

@@ -7,6 +7,7 @@ use Rattle.ttp_model.specs.Instance.{Instance}
 use Rattle.tt_choice.specs.Choice.{Choice}
 use Rattle.sought_plans.specs.Known.{Known, first_facts}
 use Rattle.tt_infer.specs.Table.{IsDominance, IsLawful}
+use Rattle.step_words.specs.Counts.{noun}
 use Rattle.step_words.specs.Limits.{most_steps}
 use Rattle.step_words.specs.Steps.{told_step}
 
@@ -25,8 +26,12 @@ unfoldable pub goal_line : Bool → ℕ → List ℕ
 goal_line settled goal = codes "Suppose that a plan has a delay below " ++ (decimal goal ++ sought_words settled)
 
 -- how many steps there are more than are told
-unfoldable pub more_steps : ℕ → List ℕ
-more_steps count = if nat_le count most_steps then [] else codes "and " ++ (decimal (count - most_steps) ++ codes " steps more\n")
+unfoldable pub more_steps_words : ℕ → List ℕ
+more_steps_words n = codes "and " ++ (decimal n ++ (codes " " ++ (noun n (codes "step") (codes "steps") ++ codes " more\n")))
+
+-- where there are
+abbrev pub more_steps : ℕ → List ℕ
+more_steps count = if nat_le count most_steps then [] else more_steps_words (count - most_steps)
 
 -- a leaf that closes a choice in words: what is supposed, where some step is true of settled plans alone too, its first steps, and how
 -- many there are more

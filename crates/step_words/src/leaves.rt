@@ -9,8 +9,9 @@ ghost use Rattle.tt_infer.specs.Facts.{after};
 ghost use Rattle.tt_infer.specs.Leaves.{ClosesLeaf, Lead};
 ghost use Rattle.tt_infer.specs.Table.{IsDominance};
 ghost use Rattle.step_words.specs.Limits.{most_steps};
-ghost use Rattle.step_words.specs.Leaves.{Tell, TellsLeaf, goal_line, more_steps, sought_words};
+ghost use Rattle.step_words.specs.Leaves.{Tell, TellsLeaf, goal_line, more_steps, more_steps_words, sought_words};
 
+use crate::counts::noun;
 use crate::dominance::is_dominance;
 use crate::steps::put_step;
 use std::alloc::{AllocError, Global};
@@ -54,15 +55,22 @@ fn put_goal(text: &mut String, settled: bool, goal: u32) -> Result<(), AllocErro
 }
 
 /// Adds how many steps there are more than are told.
-#[tactic(auto, unfolding(crate::specs::Leaves::more_steps))]
+#[tactic(auto, unfolding(crate::specs::Leaves::more_steps_words))]
+fn put_more_steps(text: &mut String, more: usize) -> Result<(), AllocError>
+    ensures { OnOk result (string_bytes text.new ≡ string_bytes text.old ++ more_steps_words more) }
+{
+    let steps = noun(more as u64, "step", "steps");
+    writeln!(text, "and {more} {steps} more")
+}
+
+/// Adds them where there are.
 fn put_more(text: &mut String, count: usize) -> Result<(), AllocError>
     ensures { OnOk result (string_bytes text.new ≡ string_bytes text.old ++ more_steps count) }
 {
     if count <= MOST_STEPS {
         return Ok(());
     }
-    let more = count - MOST_STEPS;
-    writeln!(text, "and {more} steps more")
+    put_more_steps(text, count - MOST_STEPS)
 }
 
 /// Adds the first steps in words, and takes them.

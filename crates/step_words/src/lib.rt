@@ -3,6 +3,7 @@
 
 mod closers;
 mod conclusions;
+mod counts;
 mod dominance;
 mod ends;
 mod leaves;
@@ -15,5 +16,6 @@ mod starts;
 mod steps;
 mod times;
 
+pub use counts::noun;
 pub use leaves::{MOST_STEPS, put_leaf};
 pub use steps::{may_say, put_step};

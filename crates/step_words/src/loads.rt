@@ -3,6 +3,7 @@
 ghost use Rattle.std.specs.Prelude.{◌≡◌, ◌++◌, ◌<◌, ◌≤◌, OnOk, length, string_bytes};
 ghost use Rattle.step_words.specs.Loads.{channel_room_words, channel_words, frame_words, frames_words, load_words, room_words, span_words};
 
+use crate::counts::noun;
 use crate::names::{message_name, node_name, source_name};
 use crate::slots::cap_most;
 use std::alloc::AllocError;
@@ -16,10 +17,12 @@ pub fn put_load(text: &mut String, facts: &Facts, n: u32, a: u32, b: u32) -> Res
     ensures { OnOk result (string_bytes text.new ≡ string_bytes text.old ++ load_words facts.now.instance n a b) }
 {
     let name = node_name(facts.instance(), n);
-    let ticks = b.saturating_sub(a);
+    let count = b.saturating_sub(a);
+    let these = noun(u64::from(count), "this", "these");
+    let ticks = noun(u64::from(count), "tick", "ticks");
     write!(
         text,
-        "  as what has to run on {name} from {a} to {b} takes more than these {ticks} ticks, "
+        "  as what has to run on {name} from {a} to {b} takes more than {these} {count} {ticks}, "
     )
 }
 
@@ -32,11 +35,12 @@ pub fn put_frame(text: &mut String, facts: &Facts, m: u32) -> Result<(), AllocEr
     let instance = facts.instance();
     let name = message_name(instance, m);
     let node = source_name(instance, m);
-    let bytes = instance.message_at(m as usize).bytes;
+    let count = instance.message_at(m as usize).bytes;
+    let bytes = noun(u64::from(count), "byte", "bytes");
     let most = cap_most(facts, instance.source_of(m as usize));
     write!(
         text,
-        "  as {name} has {bytes} bytes and a frame of {node} at most {most}, "
+        "  as {name} has {count} {bytes} and a frame of {node} at most {most}, "
     )
 }
 
@@ -64,9 +68,12 @@ fn put_span(
 fn put_room(text: &mut String, rounds: u32, cap: u32, channels: u32) -> Result<(), AllocError>
     ensures { OnOk result (string_bytes text.new ≡ string_bytes text.old ++ room_words rounds cap channels) }
 {
+    let frames = noun(u64::from(rounds), "frame", "frames");
+    let on = noun(u64::from(channels), "on", "on each of");
+    let all = noun(u64::from(channels), "channel", "channels");
     write!(
         text,
-        " has more bytes than {rounds} frames of at most {cap} on each of {channels} channels, "
+        " has more bytes than {rounds} {frames} of at most {cap} {on} {channels} {all}, "
     )
 }
 
@@ -98,9 +105,10 @@ pub fn put_frames(
 fn put_channel_room(text: &mut String, k: u32, room: u64) -> Result<(), AllocError>
     ensures { OnOk result (string_bytes text.new ≡ string_bytes text.old ++ channel_room_words k room) }
 {
+    let bytes = noun(room, "byte", "bytes");
     write!(
         text,
-        " on channel {k} has more than the {room} bytes of its frames, "
+        " on channel {k} has more than the {room} {bytes} of its frames, "
     )
 }
 

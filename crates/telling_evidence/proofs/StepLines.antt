@@ -11,9 +11,10 @@ use Rattle.sought_plans.specs.Premises.{wcet_of}
 use Rattle.tt_infer.specs.declared.fact.Fact.{Fact}
 use Rattle.tt_infer.specs.declared.fact.Fact.TheVariants.{Start}
 use Rattle.step_reads.specs.Targets.{known_value, target}
+use Rattle.step_words.specs.Counts.{noun}
 use Rattle.step_words.specs.Conclusions.{conclusion_words, start_words}
 use Rattle.step_words.specs.Ends.{link_end_words}
-use Rattle.step_words.specs.Leaves.{TellsLeaf, goal_line, more_steps}
+use Rattle.step_words.specs.Leaves.{TellsLeaf, goal_line, more_steps, more_steps_words}
 use Rattle.step_words.specs.Names.{process_name}
 use Rattle.step_words.specs.Steps.{reason_words, told_step}
 
@@ -43,10 +44,10 @@ last_start i c goal f g l old new e = (
 
 -- of 201 steps one isn't told
 pub one_more : (i : Instance) (c : Choice) (leaf : Leaf) (old new : List ℕ) → length leaf.steps ≡ 201
-    → (text : List ℕ) × TellsLeaf i c leaf text × (new ≡ old ++ text) → (front : List ℕ) × (new ≡ old ++ (front ++ codes "and 1 steps more\n"))
-unfolding more_steps digits
+    → (text : List ℕ) × TellsLeaf i c leaf text × (new ≡ old ++ text) → (front : List ℕ) × (new ≡ old ++ (front ++ codes "and 1 step more\n"))
+unfolding more_steps_words noun digits
 one_more i c leaf old new is told = (
   goal_line told.1.settled leaf.goal ++ told.1.told,
   told.2 ∙ ap (λ t. old ++ t) (told.1.text_is ∙ ap (λ n. goal_line told.1.settled leaf.goal ++ (told.1.told ++ more_steps n)) is
-      ∙ sym (append_assoc (goal_line told.1.settled leaf.goal) told.1.told (codes "and 1 steps more\n"))),
+      ∙ sym (append_assoc (goal_line told.1.settled leaf.goal) told.1.told (codes "and 1 step more\n"))),
 )

@@ -9,16 +9,17 @@ use Rattle.certificate.specs.Cert.{Cert}
 use Rattle.certificate.specs.Spelling.{SpellsCert}
 use Rattle.certificate.specs.Trees.{Trees, grow, none, preorder}
 use Rattle.certificate_words.specs.Branches.{branches_words}
-use Rattle.certificate_words.specs.Counts.{depth_words, leaves_words, tree_line}
+use Rattle.certificate_words.specs.Counts.{depth_text, leaves_words, tree_line}
 use Rattle.certificate_words.specs.Proofs.{TellsProof, TellsTree}
+use Rattle.step_words.specs.Counts.{noun}
 
 abbrev one_branch : Branch → Leaf → Leaf → Trees
 one_branch branch first second = grow (Splits branch) (grow (Closes first) none (grow (Closes second) none none)) none
 
 pub one_above : (i : Instance) (bytes old new : List ℕ) → (told : List ℕ) × TellsProof i bytes told × (new ≡ old ++ told)
     → (cert : Cert) × SpellsCert bytes cert × ((branch : Branch) (first second : Leaf) → cert.tree ≡ one_branch branch first second
-    → (front : List ℕ) × (new ≡ old ++ (front ++ codes "and at most 1 branches above a leaf.\n")))
-unfolding tree_line depth_words digits
+    → (front : List ℕ) × (new ≡ old ++ (front ++ codes "and at most 1 branch above a leaf.\n")))
+unfolding tree_line depth_text noun digits
 one_above i bytes old new told = (
   told.1.0,
   told.1.1,

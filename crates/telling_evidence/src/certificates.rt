@@ -24,7 +24,7 @@ pub fn leaf_is_no_branch_above_itself(
     ensures { OnOk result ((cert : Cert) × SpellsCert bytes.now cert × ((branch : Branch) (first second : Leaf)
         → cert.tree ≡ grow (Splits branch) (grow (Closes first) none (grow (Closes second) none none)) none
         → (front : List ℕ) × (string_bytes text.new ≡ string_bytes text.old
-        ++ (front ++ codes "and at most 1 branches above a leaf.\n")))) }
+        ++ (front ++ codes "and at most 1 branch above a leaf.\n")))) }
 {
     put_proof(alloc, text, instance, bytes)
 }

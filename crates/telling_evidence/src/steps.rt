@@ -59,7 +59,7 @@ pub fn steps_more_than_are_told(
     requires choice { IsChoice instance.now choice.now }
     requires closes { ClosesLeaf instance.now choice.now leaf.now }
     ensures { length leaf.now.steps ≡ 201 → OnOk result ((front : List ℕ)
-        × (string_bytes text.new ≡ string_bytes text.old ++ (front ++ codes "and 1 steps more\n"))) }
+        × (string_bytes text.new ≡ string_bytes text.old ++ (front ++ codes "and 1 step more\n"))) }
 {
     put_leaf(alloc, text, instance, choice, leaf)
 }

@@ -2,8 +2,8 @@ use Rattle.std.proofs.Common.{arith}
 use Rattle.plan_commands.proofs.PlanLines.{line_behind}
 use Rattle.explain_command.proofs.plans.put_unspelled.Goals as goal
 
-pub overflow_add-error : goal.overflow_add-error
-overflow_add-error c =
+pub overflow_add-counted : goal.overflow_add-counted
+overflow_add-counted c =
     omega (arith, c.requires.most, line_behind c.args.instance.now c.nodes-nodes.ensures.instance c.args.bytes.now c.args.line c.args.wrong c.requires.at)
 
 pub put_line_fault-requires-clause-number : goal.put_line_fault-requires-clause-number
