@@ -1,23 +1,20 @@
-use Rattle.std.proofs.Common.{◌≡◌, ◌∙◌, ◌++◌, ◌<◌, ℕ, List, ap, arith, length, min, string_bytes, subst, sym, take}
+use Rattle.std.proofs.Common.{◌≡◌, ◌∙◌, ◌++◌, ◌<◌, ℕ, List, ap, arith, length, min, string_bytes, take}
 use Rattle.std.specs.List.{flat_map}
 use Rattle.std.proofs.lemmas.List.{take_min}
 use Rattle.path_words.specs.declared.chain.ChainPart.{ChainPart}
 use Rattle.path_words.specs.LateLines.{late_line, most_late}
-use Rattle.path_words.specs.There.{IsPartThere}
 use Rattle.path_words.proofs.Growing.{list_grows}
 use Rattle.path_words.proofs.late_words.put_first.Goals as goal
 
 pub put_one-requires : goal.put_one-requires
 put_one-requires c =
     let inside : c.loop-k.k < length c.args.parts.now = omega (arith, c.loop-k-test.true, c.min-told.ensures) in
-    subst (IsPartThere c.args.instance.now) (sym c.index-parts-k.is) (c.requires c.loop-k.k c.index-parts-k.result inside)
+    c.requires c.loop-k.k _ inside
 
 pub loop-k-preserved : goal.loop-k-preserved
 loop-k-preserved c =
     let inside : c.loop-k.k < length c.args.parts.now = omega (arith, c.loop-k-test.true, c.min-told.ensures) in
-    let line = late_line c.args.instance.now in
-    let told = c.in_ok-put_one.ensures ∙ ap (λ (part : ChainPart). string_bytes c.loop-k.text ++ line part) c.index-parts-k.is in
-    list_grows _ _ _ line c.args.parts.now c.loop-k.k c.index-parts-k.result inside c.loop-k.invariant told
+    list_grows _ _ _ (late_line c.args.instance.now) c.args.parts.now c.loop-k.k _ inside c.loop-k.invariant c.in_ok-put_one.ensures
 
 pub returns : goal.returns
 returns c =
