@@ -13,9 +13,10 @@
                                                    writes what membership does
     tools/second_check.py compare OLD_INSTANCE OLD_PLAN NEW_INSTANCE NEW_PLAN
                                                    writes what is different
-    tools/second_check.py limit INSTANCE ANSWER CERT PROCESS..
+    tools/second_check.py limit INSTANCE ANSWER CERT [--reduced FILE] PROCESS..
                                                    writes the first line of ANSWER, which `ttplan limit INSTANCE PROCESS..` printed
-                                                   with CERT as its certificate, where the two show what they have to
+                                                   with CERT as its certificate, where the two show what they have to, and FILE
+                                                   states the instance that it is for
     tools/second_check.py why INSTANCE [OPTION]..  asks `ttplan why` with these words, and writes what that says once it is judged
 
 Anything else is told in one line on standard error, with the words and the statuses of `ttplan verify`, `check`, `judge`,
@@ -1490,6 +1491,10 @@ def constraints(instance):
 
 def told_constraints(instance, lines):
     """The constraints that lines tell, each with its word; raises Refused."""
+    if not lines:
+        raise wrong("lines")
+    if lines == ["need nothing"]:
+        return []
     places, told = constraints(instance), []
     for line in lines:
         word, _, words = line.partition(" ")
@@ -1634,7 +1639,7 @@ def why(words):
 USAGE = ("usage: second_check.py verify INSTANCE PLAN | check INSTANCE CERT | judge INSTANCE PLAN CERT"
          " | schedule INSTANCE PLAN [--table TABLE] | draw INSTANCE PLAN [--width PX] [--used]"
          " | tables INSTANCE PLAN | replay INSTANCE PLAN [LOSS].."
-         " | compare OLD_INSTANCE OLD_PLAN NEW_INSTANCE NEW_PLAN | limit INSTANCE ANSWER CERT PROCESS.. | why INSTANCE [OPTION]..")
+         " | compare OLD_INSTANCE OLD_PLAN NEW_INSTANCE NEW_PLAN | limit INSTANCE ANSWER CERT [--reduced FILE] PROCESS.. | why INSTANCE [OPTION]..")
 COMMANDS = {"verify": (verify, "plan", PLAN_BYTES), "check": (check, "certificate", CERTIFICATE_BYTES),
             "tables": (tables, "plan", PLAN_BYTES)}
 
@@ -1687,7 +1692,13 @@ def with_deadlines(instance, chosen, tick):
     return cut
 
 
-def limited(instance, answer, certificate_text, chosen):
+def judge_searched(searched, reduced_text):
+    """Judges the text of the instance that a certificate is for, where there is one; raises Refused."""
+    if reduced_text is not None and not are_same(searched, Instance(reduced_text)):
+        raise Refused(5, "limit reduced")
+
+
+def limited(instance, answer, certificate_text, reduced_text, chosen):
     """What an answer and its certificate show of the ends of these processes, and the status; raises Refused. That the end can't be
     earlier is shown by no certificate."""
     line, _, rest = answer.partition(b"\n")
@@ -1695,6 +1706,7 @@ def limited(instance, answer, certificate_text, chosen):
     if not form or bool(rest) != (line != b"none" and form[3] != b"none"):
         raise Refused(5, "limit form")
     if not rest:
+        judge_searched(instance, reduced_text)
         low = proved_bound(instance, certificate_text)
         if line == b"none" and low != instance.horizon + 1:
             raise Refused(5, "limit bound", low)
@@ -1705,18 +1717,29 @@ def limited(instance, answer, certificate_text, chosen):
         raise Refused(5, "limit end", last)
     # a search that was stopped was for an end half way
     tick = last if form[1] else int(form[2]) + (last - int(form[2])) // 2
-    low = proved_bound(with_deadlines(instance, chosen, tick), certificate_text)
+    searched = with_deadlines(instance, chosen, tick)
+    judge_searched(searched, reduced_text)
+    low = proved_bound(searched, certificate_text)
     return line.decode(), 0 if form[1] and low == plan.delay else 11
 
 
-def limit(paths, names):
+def reduced_in(words):
+    """The text of the file that is named behind `--reduced`, where that goes first, and the words behind it; raises Refused."""
+    if words[0] != "--reduced" or len(words) < 3:
+        return None, words
+    with opened(words[1], "reduced") as reduced:
+        return taken(reduced, "reduced", INSTANCE_BYTES), words[2:]
+
+
+def limit(paths, words):
     """The same of files; raises Refused."""
+    reduced_text, names = reduced_in(words)
     with (opened(paths[0], "instance") as instance, opened(paths[1], "plan") as answer,
           opened(paths[2], "certificate") as certificate):
         judged = Instance(taken(instance, "instance", INSTANCE_BYTES))
         chosen = chosen_by(judged, names)
         return limited(judged, taken(answer, "plan", PRINTED_BYTES),
-                       taken(certificate, "certificate", CERTIFICATE_BYTES), chosen)
+                       taken(certificate, "certificate", CERTIFICATE_BYTES), reduced_text, chosen)
 
 
 def replay(paths, words):

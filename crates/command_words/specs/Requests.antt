@@ -42,6 +42,8 @@ pub record IsSoundLimit (limit : Limit) : Type 0 where
   pub few : limit.workers ≤ 16
   pub named : 1 ≤ length limit.processes.items
   pub certificate : IfSome limit.certificate (λ file. IsOtherFile file.now limit.instance.now)
+  pub reduced : IfSome limit.reduced (λ file. IsOtherFile file.now limit.instance.now)
+  pub both : IfSome limit.reduced (λ file. IfSome limit.certificate (λ other. IsOtherFile file.now other.now))
 
 abbrev pub IsSound : Request → Type 0
 IsSound (OnFiles instance plan task) = IsSoundTask task

@@ -35,7 +35,7 @@ const COMPARE_HELP: &str =
 
 /// What is printed of an instance without a plan.
 const WHY_HELP: &str =
-    "It prints a line `ttwhy 1`, and behind it one of these, and ends with the status beside it:\n   0  `plan D`: there is a plan, of D ticks; it need not be a shortest\n  10  `none`, and a line for each constraint of a set that leaves no plan by itself: the horizon, deadlines, releases, messages, that one is on both channels, and links\n  11  `unknown`: a search was stopped before that was known\n\nA line begins with `need`, where there is a plan by the others of the set, and with `maybe`, where a search for one was stopped. With --late a line `late X` follows, where there is a plan once the horizon and all deadlines are X ticks later, and none where they are fewer.\n\nFirst times are left out, then messages, and then links, as long as there is still no plan. Each search is for any plan, and has N subtrees.";
+    "It prints a line `ttwhy 1`, and behind it one of these, and ends with the status beside it:\n   0  `plan D`: there is a plan, of D ticks; it need not be a shortest\n  10  `none`, and a line for each constraint of a set that leaves no plan by itself: the horizon, deadlines, releases, messages, that one is on both channels, and links\n  11  `unknown`: a search was stopped before that was known\n\nA line begins with `need`, where there is a plan by the others of the set, and with `maybe`, where a search for one was stopped; it is `need nothing`, where the execution times alone leave no plan. With --late a line `late X` follows, where there is a plan once the horizon and all deadlines are X ticks later, and none where they are fewer; `late -`, where there is none within 1000000 ticks, the latest that can be said.\n\nFirst times are left out, then messages, and then links, as long as there is still no plan. Each search is for any plan, and has N subtrees.";
 
 /// What is printed of processes that are to end early.
 const LIMIT_HELP: &str =
@@ -257,10 +257,20 @@ fn processes<'a>(alloc: Global) -> Arg<'a> {
         .help("The name of a process, of which each is named once")
 }
 
+/// The file of the instance that it is for.
+fn searched<'a>(alloc: Global) -> Arg<'a> {
+    Arg::new(alloc, "reduced")
+        .long("reduced")
+        .value_name("FILE")
+        .help(
+            "Also writes the instance that the certificate is for to this file, in TOML: of `limit D` the one in which the deadlines of these processes are D, or earlier. A file that is there is emptied first; INSTANCE itself is refused, and the certificate's file",
+        )
+}
+
 /// The file of the last search's certificate.
 fn certificate_of_last<'a>(alloc: Global) -> Arg<'a> {
     Arg::new(alloc, "cert").long("cert").value_name("FILE").help(
-        "Also writes the certificate of the last search to this file, before the answer is printed: `ttplan check` accepts it, of `limit D` for the instance in which the deadlines of these processes are D, or earlier. A file that is there is emptied first; INSTANCE itself is refused",
+        "Also writes the certificate of the last search to this file, before the answer is printed: `ttplan check` accepts it for the file of `--reduced`. A file that is there is emptied first; INSTANCE itself is refused",
     )
 }
 
@@ -275,6 +285,7 @@ pub(crate) fn limit_command<'a>(alloc: Global) -> Result<Command<'a>, AllocError
         .arg(processes(alloc))?
         .arg(number(alloc, LIMIT_WORKERS, WORKERS_HELP))?
         .arg(number(alloc, LIMIT_BUDGET, SEARCH_BUDGET_HELP))?
+        .arg(searched(alloc))?
         .arg(certificate_of_last(alloc))
 }
 

@@ -93,6 +93,8 @@ pub struct Limit<'a> {
     pub processes: Vec<&'a str>,
     /// Where the certificate is written.
     pub certificate: Option<&'a str>,
+    /// Where the instance that the certificate is for is written.
+    pub reduced: Option<&'a str>,
     /// How many workers search, 1 to 16.
     pub workers: u32,
     /// How many subtrees each search has at most.
@@ -145,7 +147,7 @@ pub enum Request<'a> {
 
 /// The program's version, and those of the texts that it reads and writes.
 pub const VERSION: &str =
-    "ttplan 0.1.0\ntexts: ttplan 1, ttplan 2, ttcert 1, ttcert 2, ttmedl 1, ttmedl 2, ttguard 1, ttreplay 1\n";
+    "ttplan 0.1.0\ntexts: ttplan 1, ttplan 2, ttcert 1, ttcert 2, ttmedl 1, ttmedl 2, ttguard 1, ttreplay 1, ttwhy 1\n";
 
 /// The words that the program was called with. The error's kind is `InvalidData` where one is not UTF-8.
 pub fn all(rt: &(impl Env + AllocGlobal)) -> io::Result<Vec<String>> {
@@ -269,9 +271,10 @@ fn solve_request<'a>(alloc: Global, matches: &ArgMatches<'a>) -> Result<Request<
     }))
 }
 
-/// The file that an option of `why` names, which by its name is neither the instance's nor another one.
+/// The file that an option of this command names, which by its name is neither the instance's nor another one.
 fn emptied_of<'a>(
     alloc: Global,
+    command: NumberedCommand,
     matches: &ArgMatches<'a>,
     option: &'static str,
     instance: &str,
@@ -284,7 +287,7 @@ fn emptied_of<'a>(
         return Ok(None);
     };
     if name_one_file(alloc, file, instance)? || is_named_by(alloc, file, other)? {
-        return Err(Misuse::Emptying(NumberedCommand::Why, option, file));
+        return Err(Misuse::Emptying(command, option, file));
     }
     Ok(Some(file))
 }
@@ -296,11 +299,12 @@ fn why_request<'a>(alloc: Global, matches: &ArgMatches<'a>) -> Result<Request<'a
     let Some(instance) = matches.get_str("INSTANCE") else {
         return Err(Misuse::Missing);
     };
-    let certificate = emptied_of(alloc, matches, "cert", instance, None)?;
+    let command = NumberedCommand::Why;
+    let certificate = emptied_of(alloc, command, matches, "cert", instance, None)?;
     Ok(Request::Why(Why {
         instance,
         certificate,
-        reduced: emptied_of(alloc, matches, "reduced", instance, certificate)?,
+        reduced: emptied_of(alloc, command, matches, "reduced", instance, certificate)?,
         workers: number_of(WHY_WORKERS, matches)? as u32,
         budget: number_of(WHY_BUDGET, matches)?,
         late: matches.get_flag("late"),
@@ -317,20 +321,23 @@ fn processes_of<'a>(alloc: Global, matches: &ArgMatches<'a>) -> Result<Vec<&'a s
     }
 }
 
-/// A search for early ends, with its numbers, each in its range, and a certificate's file that isn't the one which it reads.
+/// A search for early ends, with its numbers, each in its range, and files to be written that aren't the one which it reads.
 fn limit_request<'a>(alloc: Global, matches: &ArgMatches<'a>) -> Result<Request<'a>, Misuse<'a>>
     ensures { IfOk result IsSound }
 {
     let Some(instance) = matches.get_str("INSTANCE") else {
         return Err(Misuse::Missing);
     };
-    let certificate = certificate_of(alloc, NumberedCommand::Limit, matches, instance, None)?;
+    let command = NumberedCommand::Limit;
+    let certificate = certificate_of(alloc, command, matches, instance, None)?;
+    let reduced = emptied_of(alloc, command, matches, "reduced", instance, certificate)?;
     let workers = number_of(LIMIT_WORKERS, matches)? as u32;
     let budget = number_of(LIMIT_BUDGET, matches)?;
     Ok(Request::Limit(Limit {
         instance,
         processes: processes_of(alloc, matches)?,
         certificate,
+        reduced,
         workers,
         budget,
     }))

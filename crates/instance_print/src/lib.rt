@@ -5,4 +5,4 @@ mod printing;
 mod same;
 mod tables;
 
-pub use printing::print;
+pub use printing::{PrintFault, print};

@@ -6,7 +6,16 @@ ghost use Rattle.instance_text.specs.Faults.{States};
 use crate::same::is_same;
 use crate::tables::{push_cluster, push_links, push_messages, push_nodes, push_processes};
 use std::alloc::{AllocError, Global};
-use ttp_model::{Instance, MemoryFault};
+use ttp_model::Instance;
+
+/// Why no text of an instance is handed out.
+#[derive(Clone, Copy, Debug, PartialEq, Eq)]
+pub enum PrintFault {
+    /// Memory was refused as the text was made.
+    Memory,
+    /// The text that was made doesn't read back as the instance, or memory was refused as it was read.
+    Unread,
+}
 
 /// The tables of an instance, in the order of its lists.
 fn tables_of(alloc: Global, instance: &Instance) -> Result<Vec<u8>, AllocError> {
@@ -31,13 +40,15 @@ fn states(alloc: Global, text: &[u8], instance: &Instance) -> bool
 
 /// A text that states the instance: it is read again before it is handed out, and another text never is. Takes time in
 /// proportion to the text, as `instance_text::read` does.
-pub fn print(alloc: Global, instance: &Instance) -> Result<Vec<u8>, MemoryFault>
+pub fn print(alloc: Global, instance: &Instance) -> Result<Vec<u8>, PrintFault>
     ensures { IfOk result (λ text. States text.items (Ok instance.now)) }
 {
-    let text = tables_of(alloc, instance)?;
+    let Ok(text) = tables_of(alloc, instance) else {
+        return Err(PrintFault::Memory);
+    };
     if states(alloc, text.as_slice(), instance) {
         Ok(text)
     } else {
-        Err(MemoryFault)
+        Err(PrintFault::Unread)
     }
 }

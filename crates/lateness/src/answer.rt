@@ -11,6 +11,6 @@ pub enum Lateness {
     Between { low: u32, high: u32, plan: Plan },
     /// Not fewer than `low`; no plan is known however late.
     Unknown { low: u32 },
-    /// There is none however late.
+    /// There is none with all ends at `MOST_TICKS`, the latest that an instance can state.
     Never,
 }

@@ -37,7 +37,7 @@ fn least_below<R: Threads + Wait + Sync>(
 }
 
 /// How many ticks later all has to end for there to be a plan of an instance that has none. Searches first with all ends as late as
-/// can be said: where there is no plan then, there is none however late. Else what the plan found is late is enough, and a search
+/// an instance can state: where there is no plan then, none is told, however many ticks later. Else what the plan found is late is enough, and a search
 /// half way tells whether less is, and so on. Each search ends at its first plan, and has the whole budget; where one is stopped
 /// before that, less is answered.
 #[tactic(auto, using(crate::proofs::Halves::never))]

@@ -1,5 +1,6 @@
 -- What the bytes of an instance and words that name processes are answered by searches, and what `limit` writes of the answer.
-use Rattle.std.specs.Prelude.{◌≡◌, ℕ, ◌<◌, List, [], ◌∷◌, ◌++◌, length, codes, decimal, Bool, IsTrue, Option, None, Some}
+use Rattle.std.specs.Prelude.{◌≡◌, ◌⊎◌, ℕ, ◌<◌, List, [], ◌∷◌, ◌++◌, length, codes, decimal, Bool, true, false, Option, None, Some}
+use Rattle.std.specs.Global.{Vec}
 use Rattle.std.specs.Io.KnownBytes.{Keeps}
 use Rattle.ttp_model.specs.declared.plan.Plan.{Plan}
 use Rattle.ttp_model.specs.Instance.{Instance}
@@ -9,17 +10,20 @@ use Rattle.plan_format.specs.Spelling.{SpellsPlan}
 use Rattle.process_limits.specs.outcome.Options.{Options}
 use Rattle.process_limits.specs.declared.limit.EndLimit.{EndLimit}
 use Rattle.process_limits.specs.declared.limit.EndLimit.TheVariants.{Least, Reached, Between, Unknown, Infeasible}
-use Rattle.process_limits.specs.Answers.{cert_of, IsEndLimit}
+use Rattle.process_limits.specs.Answers.{cert_of, searched, IsEndLimit}
+use Rattle.certificate.specs.Spelling.{SpellsCert}
 use Rattle.command_streams.specs.declared.ending.Source.TheVariants as source
-use Rattle.command_streams.specs.declared.ending.Sink.TheVariants as sink
 use Rattle.command_streams.specs.declared.ending.Fault.{Fault}
-use Rattle.command_streams.specs.declared.ending.Fault.TheVariants.{InstanceText, Memory, NoSuchProcess, Search, TooLong, Unread, Unwritten}
+use Rattle.command_streams.specs.declared.ending.Fault.TheVariants.{InstanceText, Memory, NoSuchProcess, Search, TooLong, Unread}
 use Rattle.command_streams.specs.declared.ending.End.{End}
-use Rattle.command_streams.specs.declared.ending.End.TheVariants.{Done, Absent, Stopped}
+use Rattle.command_streams.specs.declared.ending.End.TheVariants.{Done, Absent, Refused, Stopped}
 use Rattle.command_streams.specs.Limits.{instance_limit}
-use Rattle.command_streams.specs.Outcomes.{IsCommandAnswer}
 use Rattle.command_streams.specs.Instances.{HasInstance, IsInstanceFault}
-use Rattle.solve_command.specs.Telling.{IsCertificatePart, IsCertified}
+use Rattle.answer_files.specs.declared.ending.FilesEnd.{FilesEnd}
+use Rattle.answer_files.specs.declared.ending.FilesEnd.TheVariants.{As}
+use Rattle.answer_files.specs.declared.texts.Texts.{Texts}
+use Rattle.answer_files.specs.Writing.{IsNothing, IsTextOf, IsWritingOf}
+use Rattle.limit_command.specs.declared.texts.Beside.{Beside}
 use Rattle.limit_command.specs.declared.limits.Limited.{Limited}
 use Rattle.limit_command.specs.Names.{AreNamed, IsNameFault}
 
@@ -65,11 +69,38 @@ abbrev pub HasValidPlan : Instance → Option Plan → Type 0
 HasValidPlan i None = Unit {0}
 HasValidPlan i (Some plan) = IsValid i plan
 
+-- what is written to the certificate's file: the certificate of the last search
+abbrev pub IsCertificateText : Bool → EndLimit → List ℕ → Type 0
+IsCertificateText true limit text = SpellsCert text (cert_of limit)
+IsCertificateText false limit text = text ≡ []
+
+-- what is written to the other file: a text that states the instance of that search, where the one that was made reads back as it
+abbrev pub IsSearchedText : Bool → Instance → List ℕ → EndLimit → Option (Vec ℕ) → Type 0
+IsSearchedText true i ps limit text = IsTextOf (searched i ps limit) text
+IsSearchedText false i ps limit text = IsNothing text
+
+-- the texts that tell an answer to how early these processes can end
+pub record AreTextsOf (beside : Beside) (i : Instance) (ps : List ℕ) (limit : EndLimit) (texts : Texts) : Type 0 where
+  pub certificate : IsCertificateText beside.certificate limit texts.certificate.items
+  pub reduced : IsSearchedText beside.reduced i ps limit texts.reduced
+  pub answer : IsLimitText i limit texts.answer.items
+
+-- an answer to how early these processes can end, with its texts
+pub record IsLimitBy (i : Instance) (ps : List ℕ) (options : Options) (beside : Beside) (limited : Limited) : Type 0 where
+  pub is : IsEndLimit i ps options limited.limit
+  pub texts : AreTextsOf beside i ps limited.limit limited.texts
+
+-- why there is none: there was no memory, or no thread for a search
+abbrev pub IsUnsearched : Fault → Type 0
+IsUnsearched Memory = Unit {0}
+IsUnsearched (Search fault) = Unit {0}
+IsUnsearched _ = ⊥
+
 -- the words name processes, and this is an answer to how early these can end
-pub record IsLimitOf (i : Instance) (words : List (List ℕ)) (options : Options) (limit : EndLimit) : Type 0 where
+pub record IsLimitedOf (i : Instance) (words : List (List ℕ)) (options : Options) (beside : Beside) (limited : Limited) : Type 0 where
   pub processes : List ℕ
   pub named : AreNamed i words processes
-  pub is : IsEndLimit i processes options limit
+  pub is : IsLimitBy i processes options beside limited
 
 -- the words name processes
 pub record NameSome (i : Instance) (words : List (List ℕ)) : Type 0 where
@@ -83,16 +114,11 @@ IsNoLimitOf i words (NoSuchProcess k) = IsNameFault i words (NoSuchProcess k)
 IsNoLimitOf i words (Search fault) = NameSome i words
 IsNoLimitOf i words _ = ⊥
 
--- and this is its text
-pub record IsLimitedOf (i : Instance) (words : List (List ℕ)) (options : Options) (limited : Limited) : Type 0 where
-  pub answer : IsLimitOf i words options limited.limit
-  pub tells : IsLimitText i limited.limit limited.text.items
-
 -- the bytes state an instance, and this is an answer to it and the words
-pub record IsLimited (bytes : List ℕ) (words : List (List ℕ)) (options : Options) (limited : Limited) : Type 0 where
+pub record IsLimited (bytes : List ℕ) (words : List (List ℕ)) (options : Options) (beside : Beside) (limited : Limited) : Type 0 where
   pub problem : Instance
   pub has_instance : HasInstance bytes problem
-  pub is : IsLimitedOf problem words options limited
+  pub is : IsLimitedOf problem words options beside limited
 
 -- the bytes state an instance, and there is no answer to it and the words
 pub record IsUnanswered (bytes : List ℕ) (words : List (List ℕ)) (fault : Fault) : Type 0 where
@@ -110,28 +136,22 @@ IsUnlimited bytes words (NoSuchProcess k) = IsUnanswered bytes words (NoSuchProc
 IsUnlimited bytes words (Search fault) = IsUnanswered bytes words (Search fault)
 IsUnlimited bytes words _ = ⊥
 
--- `wanted` says whether there is a writer for the certificate; `from` and `to` are what it held and holds
-module _ (bytes : List ℕ) (words : List (List ℕ)) (options : Options) (wanted : Bool) (from to : Option (List ℕ)) where
-  -- an answer that is told by this text at this end, and whose certificate was written in full
-  pub record IsToldLimit (last : End) (text : List ℕ) : Type 0 where
-    pub limited : Limited
-    pub is : IsLimited bytes words options limited
-    pub ends : last ≡ end_told limited.limit
-    pub text_is : text ≡ limited.text.items
-    pub certified : IsCertified (cert_of limited.limit) from to
+-- an answer is told
+pub record IsToldLimit (bytes : List ℕ) (words : List (List ℕ)) (options : Options) (beside : Beside) (from to before after old new : Option (List ℕ)) (end : FilesEnd) : Type 0 where
+  pub limited : Limited
+  pub is : IsLimited bytes words options beside limited
+  pub writing : IsWritingOf limited.texts (end_told limited.limit) from to before after old new end
 
-  -- an answer whose certificate was wanted, and could only be written in part
-  pub record IsHalfCertified : Type 0 where
-    pub is_wanted : IsTrue wanted
-    pub limited : Limited
-    pub is : IsLimited bytes words options limited
-    pub part : IsCertificatePart (cert_of limited.limit) from to
+-- nothing is told, for this fault, and nothing is written
+pub record IsUntold (bytes : List ℕ) (words : List (List ℕ)) (from to before after old new : Option (List ℕ)) (end : FilesEnd) : Type 0 where
+  pub fault : Fault
+  pub lacking : IsUnlimited bytes words fault
+  pub ends : end ≡ As (Refused fault)
+  pub certificate : Keeps from to
+  pub reduced : Keeps before after
+  pub answer : Keeps old new
 
-  -- why nothing is told: the certificate's writer failed, or there is no answer and the writer keeps what it held
-  abbrev pub IsUntold : Fault → Type 0
-  IsUntold (Unwritten sink.Certificate) = IsHalfCertified
-  IsUntold fault = IsUnlimited bytes words fault × Keeps from to
-
-  -- what `limit` answers of the bytes of an instance and of words, and what it writes: the certificate, and then the text
-  unfoldable pub IsLimitAnswer : Option (List ℕ) → Option (List ℕ) → End → Type 0
-  IsLimitAnswer = IsCommandAnswer IsToldLimit IsUntold
+-- what `limit` answers of the bytes of an instance and of words, and what it writes
+abbrev pub IsLimitAnswer : List ℕ → List (List ℕ) → Options → Beside → (from to before after old new : Option (List ℕ)) → FilesEnd → Type 0
+IsLimitAnswer bytes words options beside from to before after old new end =
+    IsToldLimit bytes words options beside from to before after old new end ⊎ IsUntold bytes words from to before after old new end

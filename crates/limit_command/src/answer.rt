@@ -1,6 +1,7 @@
-//! What is written of an answer, and at which end?
+//! Which texts tell an answer, and at which end?
 
 ghost use Rattle.std.specs.Prelude.{◌≡◌, IfOk, option_copied, string_bytes};
+ghost use Rattle.answer_files.specs.Writing.{IsToldAt};
 ghost use Rattle.limit_command.specs.Limited.{end_told, first_line, line_of, plan_of, HasValidPlan, IsLimitText};
 
 use command_streams::End;
@@ -70,7 +71,8 @@ pub fn answer_text(
 
 /// The end at which an answer is told.
 pub fn end_of(limit: &EndLimit) -> End
-    ensures { result ≡ end_told limit.now }
+    ensures value { result ≡ end_told limit.now }
+    ensures told { IsToldAt result }
 {
     match limit {
         EndLimit::Least { .. } => End::Done,

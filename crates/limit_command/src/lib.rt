@@ -4,6 +4,8 @@
 mod answer;
 mod limits;
 mod names;
+mod texts;
 
 pub use limits::limit_run;
 pub use process_limits::Options;
+pub use texts::Beside;

@@ -1,5 +1,5 @@
 -- The certificate of an answer has a text: the instance that was searched last keeps all rules.
-use Rattle.std.proofs.Common.{ℕ, List, None, slice_index_or, arith}
+use Rattle.std.proofs.Common.{◌≡◌, ℕ, List, None, Some, slice_index_or, arith, subst}
 use Rattle.ttp_model.specs.declared.plan.Plan.{Plan}
 use Rattle.ttp_model.specs.Instance.{Instance}
 use Rattle.ttp_model.specs.Rules.{IsInstance}
@@ -16,7 +16,7 @@ use Rattle.cut_deadlines.proofs.CutEnds.{each_by_last}
 use Rattle.cut_deadlines.proofs.CutRules.{keeps_rules}
 use Rattle.process_limits.specs.declared.limit.EndLimit.{EndLimit}
 use Rattle.process_limits.specs.declared.limit.EndLimit.TheVariants.{Least, Reached, Between, Unknown, Infeasible}
-use Rattle.process_limits.specs.Answers.{cert_of, EndsAt, IsEndLimit, middle}
+use Rattle.process_limits.specs.Answers.{cert_of, EndsAt, IsEndLimit, middle, tick_of}
 use Rattle.process_limits.proofs.Bounds.{room}
 
 module _ (i : Instance) (ps : List ℕ) (options : Options) (w : IsInstance i) (are : AreThere i ps) where
@@ -24,6 +24,15 @@ module _ (i : Instance) (ps : List ℕ) (options : Options) (w : IsInstance i) (
   room_of_plan : (plan : Plan) (end : ℕ) → EndsAt i ps plan end → CanEndBy i ps end
   room_of_plan plan end ends k e h =
       omega (arith, ends.valid.released (slice_index_or ps k e) (are k e h), each_by_last i ps plan end (omega (arith, ends.at)) k e h)
+
+  -- so each of them can end by when it had to in the last search
+  pub can_end : (limit : EndLimit) (d : ℕ) → IsEndLimit i ps options limit → tick_of limit ≡ Some d → CanEndBy i ps d
+  can_end (Least end plan cert) d is at = let same : end ≡ d = cc in subst (CanEndBy i ps) same (room_of_plan plan end is.plan_ends)
+  can_end (Reached end plan cert) d is at = let same : end ≡ d = cc in subst (CanEndBy i ps) same (room_of_plan plan end is.plan_ends)
+  can_end (Between low high plan cert) d is at =
+      let same : middle low high ≡ d = cc in subst (CanEndBy i ps) same (room i ps are low (middle low high) is.chains (omega arith))
+  can_end (Unknown low cert) d is at = absurd cc
+  can_end (Infeasible cert) d is at = absurd cc
 
   -- so the certificate of a search of the cut instance
   cut_allows : (d : ℕ) (outcome : Outcome) → CanEndBy i ps d → answers.IsOutcome (cut i ps d) options outcome

@@ -28,6 +28,23 @@ cert_of (Infeasible cert) = cert
 abbrev pub middle : ℕ → ℕ → ℕ
 middle low high = low + (high - low) / 2
 
+-- by when these processes had to end in the last search: none where it was of the instance itself
+abbrev pub tick_of : EndLimit → Option ℕ
+tick_of (Least end plan cert) = Some end
+tick_of (Reached end plan cert) = Some end
+tick_of (Between low high plan cert) = Some (middle low high)
+tick_of (Unknown low cert) = None
+tick_of (Infeasible cert) = None
+
+-- the instance with these deadlines cut to a tick, where there is one
+abbrev pub cut_to : Instance → List ℕ → Option ℕ → Instance
+cut_to i ps None = i
+cut_to i ps (Some d) = cut i ps d
+
+-- the instance of the last search, which its certificate is for
+abbrev pub searched : Instance → List ℕ → EndLimit → Instance
+searched i ps limit = cut_to i ps (tick_of limit)
+
 -- no chain to any of these processes adds up to more
 abbrev pub IsBehindChains : Instance → List ℕ → ℕ → Type 0
 IsBehindChains i ps low = All (λ p. (time : ℕ) → ChainEnds i p time → time ≤ low) ps

@@ -27,12 +27,11 @@ pub struct Known {
     pub plan: Plan,
 }
 
-/// A tick half way, before `high`.
-fn middle(low: u32, high: u32) -> u32
-    requires { low < high }
+/// A tick half way, before `high` where that is the later one.
+pub fn middle(low: u32, high: u32) -> u32
     ensures { result ≡ middle low high }
 {
-    low + (high - low) / 2
+    low + high.saturating_sub(low) / 2
 }
 
 impl Known {

@@ -8,6 +8,7 @@ mod least;
 mod limit;
 
 pub use any_plan::{Options, SolveFault};
+pub use cut_deadlines::with_deadlines;
 pub use laws::limits_have_certificate_texts;
 pub use least::least_end;
-pub use limit::{EndLimit, cert_of};
+pub use limit::{EndLimit, cert_of, tick_of};

@@ -1,8 +1,9 @@
 //! What is answered of some processes that are to end early?
 
 ghost use Rattle.std.specs.Prelude.{◌≡◌};
-ghost use Rattle.process_limits.specs.Answers.{cert_of};
+ghost use Rattle.process_limits.specs.Answers.{cert_of, tick_of};
 
+use crate::halving::middle;
 use certificate::Cert;
 use ttp_model::Plan;
 
@@ -37,6 +38,19 @@ pub enum EndLimit {
     Infeasible {
         cert: Cert,
     },
+}
+
+/// By when these processes had to end in the last search, in ticks: none where it was of the instance itself.
+pub fn tick_of(limit: &EndLimit) -> Option<u32>
+    ensures { result ≡ tick_of limit.now }
+{
+    match limit {
+        EndLimit::Least { end, .. } => Some(*end),
+        EndLimit::Reached { end, .. } => Some(*end),
+        EndLimit::Between { low, high, .. } => Some(middle(*low, *high)),
+        EndLimit::Unknown { .. } => None,
+        EndLimit::Infeasible { .. } => None,
+    }
 }
 
 /// The certificate of the last search.

@@ -100,16 +100,22 @@ static ROWS: &[Row] = &[
     (&["ttplan", "why", "a", "--reduced", "b", "--cert", "b"], Err(EMPTYING_REDUCED)),
     (
         &["ttplan", "limit", "a", "q"],
-        Ok("Limit(Limit { instance: \"a\", processes: [\"q\"], certificate: None, workers: 4, budget: 1000000 })"),
+        Ok("Limit(Limit { instance: \"a\", processes: [\"q\"], certificate: None, reduced: None, workers: 4, budget: 1000000 })"),
     ),
     (
         &["ttplan", "limit", "--workers", "2", "a", "--cert=c", "q", "a", "q", "--budget", "7"],
-        Ok("Limit(Limit { instance: \"a\", processes: [\"q\", \"a\", \"q\"], certificate: Some(\"c\"), workers: 2, budget: 7 })"),
+        Ok("Limit(Limit { instance: \"a\", processes: [\"q\", \"a\", \"q\"], certificate: Some(\"c\"), reduced: None, workers: 2, budget: 7 })"),
     ),
     (
         &["ttplan", "limit", "a", "q", "--cert", "q"],
-        Ok("Limit(Limit { instance: \"a\", processes: [\"q\"], certificate: Some(\"q\"), workers: 4, budget: 1000000 })"),
+        Ok("Limit(Limit { instance: \"a\", processes: [\"q\"], certificate: Some(\"q\"), reduced: None, workers: 4, budget: 1000000 })"),
     ),
+    (
+        &["ttplan", "limit", "a", "q", "--cert", "c", "--reduced", "b"],
+        Ok("Limit(Limit { instance: \"a\", processes: [\"q\"], certificate: Some(\"c\"), reduced: Some(\"b\"), workers: 4, budget: 1000000 })"),
+    ),
+    (&["ttplan", "limit", "a", "q", "--reduced", "b", "--cert", "b"], Err(EMPTYING_REDUCED)),
+    (&["ttplan", "limit", "b", "q", "--reduced", "b"], Err(EMPTYING_REDUCED)),
     (&["ttplan", "limit", "a"], Err("<PROCESS>")),
     (&["ttplan", "limit"], Err("<INSTANCE>")),
     (&["ttplan", "limit", "a", "q", "--late"], Err("unexpected argument '--late'")),

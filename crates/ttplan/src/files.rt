@@ -1,12 +1,12 @@
 //! Which files has a command that searches, and is one that it writes another one of them?
 
 use crate::hints::{Said, hint_at_fault};
+use answer_files::FilesEnd;
 use command_streams::{End, Fault, Sink, Source, report, status};
 use command_words::{Limit, NumberedCommand, Search, Why, emptying_over, keeping_over, refuse};
 use std::fs::{self, File, OpenOptions};
 use std::io;
 use std::os::unix::fs::{FileTypeExt, MetadataExt};
-use why_command::WhyEnd;
 
 /// A command that searches, and the names of its files.
 #[derive(Clone, Copy, Debug)]
@@ -51,7 +51,7 @@ impl<'a> Named<'a> {
             instance: limit.instance,
             start: None,
             certificate: limit.certificate,
-            reduced: None,
+            reduced: limit.reduced,
             kept: None,
         }
     }
@@ -100,8 +100,8 @@ impl FileFault<'_> {
             FileFault::Unwritten(Written::Certificate) => Fault::Unwritten(Sink::Certificate),
             FileFault::Unwritten(Written::Kept) => Fault::Unwritten(Sink::Plan),
             FileFault::Unwritten(Written::Reduced) => {
-                let _ = why_command::report(&WhyEnd::Unreduced, err);
-                return why_command::status(&WhyEnd::Unreduced);
+                let _ = answer_files::report(&FilesEnd::Unreduced, err);
+                return answer_files::status(&FilesEnd::Unreduced);
             }
             FileFault::Emptied(command, written, file, source) => {
                 let option = written.option();

@@ -10,12 +10,13 @@ mod plan_file;
 use crate::files::{FileFault, Files, Named};
 use crate::hints::{Said, hint_at_fault, hint_at_none};
 use crate::plan_file::shelf_of;
+pub use answer_files::FilesEnd;
 use command_streams::end_with;
 pub use command_streams::{End, Fault, SearchFault, Sink, Source, report, status};
 use command_words::{Explained, Limit, Request, Search, Task, VERSION, Why, refuse, request_in};
 pub use compare_command::{Compared, Release, compare_run};
 pub use explain_command::{explain_certificate, explain_instance, explain_plan};
-pub use limit_command::limit_run;
+pub use limit_command::{Beside, limit_run};
 pub use plan_commands::{
     check_run, draw_run, judge_run, replay_run, schedule_run, tables, verify, verify_bundle,
 };
@@ -28,7 +29,7 @@ use std::marker::Sync;
 use std::process::ExitCode;
 use std::sync::Wait;
 use std::thread::Threads;
-pub use why_command::{Wanted, WhyEnd, why_run};
+pub use why_command::{Wanted, why_run};
 
 /// An instance's file and a second one, both opened, in the order of the words.
 fn open_both(
@@ -270,7 +271,7 @@ fn why_to(
     instance: &mut File,
     certificate: &mut impl io::Write,
     reduced: &mut impl io::Write,
-) -> WhyEnd {
+) -> FilesEnd {
     let options = Options {
         workers: why.workers,
         budget: why.budget,
@@ -293,13 +294,12 @@ fn why_to(
     )
 }
 
-/// Tells why the instance of a file has no plan. All files are open before one is read: that of the instance first, then that of the
-/// certificate.
+/// Tells why the instance of a file has no plan. All files are open before one is read.
 fn run_why<'a>(
     rt: &HostRuntime,
     threads: &(impl Threads + Wait + Sync),
     why: &Why<'a>,
-) -> Result<WhyEnd, FileFault<'a>> {
+) -> Result<FilesEnd, FileFault<'a>> {
     let Files {
         mut instance,
         certificate,
@@ -321,31 +321,69 @@ fn run_why<'a>(
     })
 }
 
-/// Tells how early processes of the instance of a file can end. Both files are open before the instance is read.
-fn run_limit<'a>(
+/// Tells how early processes of the instance of a file can end, with writers for what is wanted beside it.
+fn limit_to(
     rt: &HostRuntime,
     threads: &(impl Threads + Wait + Sync),
-    limit: &Limit<'a>,
-) -> Result<End, FileFault<'a>> {
-    let Files {
-        mut instance,
-        mut certificate,
-        ..
-    } = Files::open(rt, &Named::of_limit(limit))?;
+    limit: &Limit,
+    instance: &mut File,
+    certificate: &mut impl io::Write,
+    reduced: &mut impl io::Write,
+) -> FilesEnd {
     let options = Options {
         workers: limit.workers,
         budget: limit.budget,
         gap: 0,
     };
-    Ok(limit_run(
+    let beside = Beside {
+        certificate: limit.certificate.is_some(),
+        reduced: limit.reduced.is_some(),
+    };
+    limit_run(
         threads,
         rt.alloc(),
-        &mut instance,
+        instance,
         limit.processes.as_slice(),
         options,
-        certificate.as_mut(),
+        beside,
+        certificate,
+        reduced,
         &mut rt.stdout(),
-    ))
+    )
+}
+
+/// Tells how early processes of the instance of a file can end. All files are open before the instance is read.
+fn run_limit<'a>(
+    rt: &HostRuntime,
+    threads: &(impl Threads + Wait + Sync),
+    limit: &Limit<'a>,
+) -> Result<FilesEnd, FileFault<'a>> {
+    let Files {
+        mut instance,
+        certificate,
+        reduced,
+        ..
+    } = Files::open(rt, &Named::of_limit(limit))?;
+    let nothing = &mut Vec::new(rt.alloc());
+    let nothing_either = &mut Vec::new(rt.alloc());
+    let instance = &mut instance;
+    Ok(match (certificate, reduced) {
+        (Some(mut certificate), Some(mut reduced)) => limit_to(
+            rt,
+            threads,
+            limit,
+            instance,
+            &mut certificate,
+            &mut reduced,
+        ),
+        (Some(mut certificate), None) => {
+            limit_to(rt, threads, limit, instance, &mut certificate, nothing)
+        }
+        (None, Some(mut reduced)) => {
+            limit_to(rt, threads, limit, instance, nothing, &mut reduced)
+        }
+        (None, None) => limit_to(rt, threads, limit, instance, nothing, nothing_either),
+    })
 }
 
 /// The words of a task that aren't names of files.
@@ -458,13 +496,7 @@ fn ended_solving(rt: &HostRuntime, threads: &(impl Threads + Wait + Sync), searc
 fn ended_asking(rt: &HostRuntime, threads: &(impl Threads + Wait + Sync), why: &Why) -> u8 {
     let said = Said::files(why.instance, None, None);
     match run_why(rt, threads, why) {
-        Ok(end) => {
-            let _ = why_command::report(&end, &mut rt.stderr());
-            if let WhyEnd::As(End::Refused(fault)) = &end {
-                hint_at_fault(rt, &said, fault);
-            }
-            why_command::status(&end)
-        }
+        Ok(end) => ended_with_files(rt, &end, &said),
         Err(fault) => fault.tell(rt, &said),
     }
 }
@@ -473,7 +505,7 @@ fn ended_asking(rt: &HostRuntime, threads: &(impl Threads + Wait + Sync), why: &
 fn ended_limiting(rt: &HostRuntime, threads: &(impl Threads + Wait + Sync), limit: &Limit) -> u8 {
     let said = Said::files(limit.instance, None, None);
     match run_limit(rt, threads, limit) {
-        Ok(end) => ended(rt, &end, &said.with_words(limit.processes.as_slice())),
+        Ok(end) => ended_with_files(rt, &end, &said.with_words(limit.processes.as_slice())),
         Err(fault) => fault.tell(rt, &said),
     }
 }
@@ -497,6 +529,15 @@ fn ended(rt: &HostRuntime, end: &End, said: &Said) -> u8 {
         hint_at_fault(rt, said, fault);
     }
     status(end)
+}
+
+/// The same of a command that writes an instance beside its answer.
+fn ended_with_files(rt: &HostRuntime, end: &FilesEnd, said: &Said) -> u8 {
+    let _ = answer_files::report(end, &mut rt.stderr());
+    if let FilesEnd::As(End::Refused(fault)) = end {
+        hint_at_fault(rt, said, fault);
+    }
+    answer_files::status(end)
 }
 
 fn main(rt: HostRuntime) -> ExitCode {

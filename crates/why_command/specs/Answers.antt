@@ -1,8 +1,8 @@
 -- What `why` answers of the bytes of an instance, and what it writes.
-use Rattle.std.specs.Prelude.{◌≡◌, ◌⊎◌, ℕ, ◌<◌, List, [], length, Bool, true, false, Option, None, Some, Ok}
-use Rattle.std.specs.Io.KnownBytes.{Appends, Keeps}
+use Rattle.std.specs.Prelude.{◌≡◌, ◌⊎◌, ℕ, ◌<◌, List, [], length, Bool, true, false, Option, None, Some}
+use Rattle.std.specs.Global.{Vec}
+use Rattle.std.specs.Io.KnownBytes.{Keeps}
 use Rattle.ttp_model.specs.Instance.{Instance}
-use Rattle.instance_text.specs.Faults.{States}
 use Rattle.certificate.specs.Spelling.{SpellsCert}
 use Rattle.certificate.specs.Versions.{Allows}
 use Rattle.lateness.specs.outcome.Options.{Options}
@@ -15,19 +15,18 @@ use Rattle.conflicts.specs.declared.conflict.Conflict.TheVariants as told
 use Rattle.lateness.specs.Answers.{IsLateness}
 use Rattle.lateness.specs.declared.answer.Lateness.{Lateness}
 use Rattle.command_streams.specs.declared.ending.Source.TheVariants as source
-use Rattle.command_streams.specs.declared.ending.Sink.TheVariants as sink
 use Rattle.command_streams.specs.declared.ending.SearchFault.{SearchFault}
 use Rattle.command_streams.specs.declared.ending.SearchFault.TheVariants as search
 use Rattle.command_streams.specs.declared.ending.Fault.{Fault}
-use Rattle.command_streams.specs.declared.ending.Fault.TheVariants.{InstanceText, Memory, Search, TooLong, Unread, Unwritten}
+use Rattle.command_streams.specs.declared.ending.Fault.TheVariants.{InstanceText, Memory, Search, TooLong, Unread}
 use Rattle.command_streams.specs.declared.ending.End.{End}
 use Rattle.command_streams.specs.declared.ending.End.TheVariants.{Absent, Done, Refused, Stopped}
 use Rattle.command_streams.specs.Limits.{instance_limit}
-use Rattle.command_streams.specs.Streams.{AppendsPart}
 use Rattle.command_streams.specs.Instances.{HasInstance, IsInstanceFault, StatesSome}
-use Rattle.why_command.specs.declared.ending.WhyEnd.{WhyEnd}
-use Rattle.why_command.specs.declared.ending.WhyEnd.TheVariants.{As, Unreduced}
-use Rattle.why_command.specs.declared.texts.Texts.{Texts}
+use Rattle.answer_files.specs.declared.ending.FilesEnd.{FilesEnd}
+use Rattle.answer_files.specs.declared.ending.FilesEnd.TheVariants.{As}
+use Rattle.answer_files.specs.declared.texts.Texts.{Texts}
+use Rattle.answer_files.specs.Writing.{IsNothing, IsTextOf, IsWritingOf}
 use Rattle.why_command.specs.declared.texts.Wanted.{Wanted}
 use Rattle.why_command.specs.declared.why.Found.{Found}
 use Rattle.why_command.specs.Words.{why_text}
@@ -56,12 +55,12 @@ IsCertificateText true (told.Plan ticks plan) text = text ≡ []
 IsCertificateText true told.Unknown text = text ≡ []
 IsCertificateText false conflict text = text ≡ []
 
--- what is written to the other file: a text that states that instance
-abbrev pub IsReducedText : Bool → Instance → Conflict → List ℕ → Type 0
-IsReducedText true i (told.None needs K cert) text = States text (Ok (only i K))
-IsReducedText true i (told.Plan ticks plan) text = text ≡ []
-IsReducedText true i told.Unknown text = text ≡ []
-IsReducedText false i conflict text = text ≡ []
+-- what is written to the other file: a text that states that instance, where the one that was made reads back as it
+abbrev pub IsReducedText : Bool → Instance → Conflict → Option (Vec ℕ) → Type 0
+IsReducedText true i (told.None needs K cert) text = IsTextOf (only i K) text
+IsReducedText true i (told.Plan ticks plan) text = IsNothing text
+IsReducedText true i told.Unknown text = IsNothing text
+IsReducedText false i conflict text = IsNothing text
 
 -- how late all has to end is told
 abbrev pub IsLateTold : Instance → Options → Option Lateness → Type 0
@@ -83,7 +82,7 @@ pub record IsExplained (wanted : Bool) (i : Instance) (options : Options) (both 
 -- the texts that tell what was found
 pub record AreTextsOf (wanted : Wanted) (i : Instance) (conflict : Conflict) (late : Option Lateness) (texts : Texts) : Type 0 where
   pub certificate : IsCertificateText wanted.certificate conflict texts.certificate.items
-  pub reduced : IsReducedText wanted.reduced i conflict texts.reduced.items
+  pub reduced : IsReducedText wanted.reduced i conflict texts.reduced
   pub answer : texts.answer.items ≡ why_text i conflict late
 
 -- what was found of this instance, with its texts
@@ -115,51 +114,14 @@ IsUnexplained bytes (InstanceText error) = IsInstanceFault bytes (InstanceText e
 IsUnexplained bytes (Search fault) = StatesSome bytes
 IsUnexplained bytes _ = ⊥
 
--- How texts are written: the certificate to a file that held `from`, the instance to one that held `before`, and then the answer.
-module _ (texts : Texts) (from to before after old new : Option (List ℕ)) where
-  -- all are
-  pub record AreWritten : Type 0 where
-    pub certificate : Appends from to texts.certificate.items
-    pub reduced : Appends before after texts.reduced.items
-    pub answer : Appends old new texts.answer.items
-
-  -- the certificate is written in part, and nothing else is
-  pub record IsUncertified : Type 0 where
-    pub certificate : AppendsPart from to texts.certificate.items
-    pub reduced : Keeps before after
-    pub answer : Keeps old new
-
-  -- the instance is written in part, and no answer is
-  pub record IsUnreduced : Type 0 where
-    pub certificate : Appends from to texts.certificate.items
-    pub reduced : AppendsPart before after texts.reduced.items
-    pub answer : Keeps old new
-
-  -- the answer is written in part
-  pub record IsCutOff : Type 0 where
-    pub certificate : Appends from to texts.certificate.items
-    pub reduced : Appends before after texts.reduced.items
-    pub answer : AppendsPart old new texts.answer.items
-
-  -- how that ends: at its last end, or where a writer fails
-  abbrev pub IsWritingTo : End → WhyEnd → Type 0
-  IsWritingTo last Unreduced = IsUnreduced
-  IsWritingTo last (As (Refused (Unwritten sink.Certificate))) = IsUncertified
-  IsWritingTo last (As (Refused (Unwritten sink.Out))) = IsCutOff
-  IsWritingTo last (As end) = (end ≡ last) × AreWritten
-
--- the same with the end behind the texts
-abbrev pub IsWritingOf : Texts → End → (from to before after old new : Option (List ℕ)) → WhyEnd → Type 0
-IsWritingOf texts last from to before after old new end = IsWritingTo texts from to before after old new last end
-
 -- what was found is told
-pub record IsToldAnswer (bytes : List ℕ) (options : Options) (wanted : Wanted) (from to before after old new : Option (List ℕ)) (end : WhyEnd) : Type 0 where
+pub record IsToldAnswer (bytes : List ℕ) (options : Options) (wanted : Wanted) (from to before after old new : Option (List ℕ)) (end : FilesEnd) : Type 0 where
   pub found : Found
   pub is : IsFound bytes options wanted found
   pub writing : IsWritingOf found.texts (end_told found.conflict) from to before after old new end
 
 -- nothing is told, for this fault, and nothing is written
-pub record IsUntold (bytes : List ℕ) (from to before after old new : Option (List ℕ)) (end : WhyEnd) : Type 0 where
+pub record IsUntold (bytes : List ℕ) (from to before after old new : Option (List ℕ)) (end : FilesEnd) : Type 0 where
   pub fault : Fault
   pub lacking : IsUnexplained bytes fault
   pub ends : end ≡ As (Refused fault)
@@ -168,6 +130,6 @@ pub record IsUntold (bytes : List ℕ) (from to before after old new : Option (L
   pub answer : Keeps old new
 
 -- what `why` answers, and what it writes
-abbrev pub IsWhyAnswer : List ℕ → Options → Wanted → (from to before after old new : Option (List ℕ)) → WhyEnd → Type 0
+abbrev pub IsWhyAnswer : List ℕ → Options → Wanted → (from to before after old new : Option (List ℕ)) → FilesEnd → Type 0
 IsWhyAnswer bytes options wanted from to before after old new end =
     IsToldAnswer bytes options wanted from to before after old new end ⊎ IsUntold bytes from to before after old new end

@@ -1,5 +1,5 @@
 -- What `why` writes of what was found. Own profile.
-use Rattle.std.specs.Prelude.{ℕ, ◌<◌, ◌++◌, List, [], ◌∷◌, All, Bool, true, false, Option, None, Some, codes, decimal, length}
+use Rattle.std.specs.Prelude.{ℕ, ◌<◌, ◌==◌, ◌++◌, if◌then◌else◌, List, [], ◌∷◌, All, Bool, true, false, Option, None, Some, codes, decimal, length}
 use Rattle.std.specs.List.{flat_map}
 use Rattle.ttp_model.specs.Instance.{Instance, link_at, process_at}
 use Rattle.process_words.specs.Names.{message_name, process_name}
@@ -56,6 +56,10 @@ need_word false = codes "maybe "
 abbrev pub need_line : Instance → Need → List ℕ
 need_line i need = need_word need.is_shown ++ (constraint_words i need.constraint ++ 10 ∷ [])
 
+-- the lines of all of them; where none is needed the execution times alone leave no plan
+abbrev pub needs_text : Instance → List Need → List ℕ
+needs_text i needs = if length needs == 0 then codes "need nothing\n" else flat_map (need_line i) needs
+
 -- the text where there is a plan of this delay
 abbrev pub plan_text : ℕ → List ℕ
 plan_text ticks = codes "ttwhy 1\nplan " ++ (decimal ticks ++ 10 ∷ [])
@@ -74,7 +78,7 @@ late_text (Some lateness) = codes "late " ++ (late_words lateness ++ 10 ∷ [])
 
 -- the text where these constraints leave none
 abbrev pub none_text : Instance → List Need → Option Lateness → List ℕ
-none_text i needs late = codes "ttwhy 1\nnone\n" ++ (flat_map (need_line i) needs ++ late_text late)
+none_text i needs late = codes "ttwhy 1\nnone\n" ++ (needs_text i needs ++ late_text late)
 
 -- what is written of what was found
 abbrev pub why_text : Instance → Conflict → Option Lateness → List ℕ

@@ -5,6 +5,7 @@ ghost use Rattle.why_command.specs.Answers.{AreTextsOf, IsCertificateText, IsPri
 ghost use Rattle.why_command.specs.Words.{AreToldOf};
 
 use crate::words::why_text;
+use answer_files::{Texts, instance_text};
 use conflicts::Conflict;
 use kept_constraints::with_only;
 use lateness::Lateness;
@@ -19,14 +20,6 @@ pub struct Wanted {
     pub reduced: bool,
     /// How many ticks later all would have to end.
     pub late: bool,
-}
-
-/// What is written; of the certificate and the instance nothing where they aren't wanted, or where no constraints leave no plan.
-#[derive(Debug, Drop)]
-pub struct Texts {
-    pub certificate: Vec<u8>,
-    pub reduced: Vec<u8>,
-    pub answer: Vec<u8>,
 }
 
 /// The text of the certificate.
@@ -44,25 +37,28 @@ fn certificate_text(
     }
 }
 
-/// The text of the instance by the constraints that leave no plan.
+/// The text of the instance by the constraints that leave no plan; none where no text of it reads back.
 fn reduced_text(
     alloc: Global,
     instance: &Instance,
     conflict: &Conflict,
     wanted: bool,
-) -> Result<Vec<u8>, MemoryFault>
-    ensures { IfOk result (λ text. IsReducedText wanted instance.now conflict.now text.items) }
+) -> Result<Option<Vec<u8>>, MemoryFault>
+    ensures { IfOk result (IsReducedText wanted instance.now conflict.now) }
 {
     match conflict {
         Conflict::None { kept, .. } if wanted => {
             let reduced = with_only(alloc, instance, kept)?;
-            instance_print::print(alloc, &reduced)
+            instance_text(alloc, &reduced)
         }
-        Conflict::Plan { .. } | Conflict::None { .. } | Conflict::Unknown => Ok(Vec::new(alloc)),
+        Conflict::Plan { .. } | Conflict::None { .. } | Conflict::Unknown => {
+            Ok(Some(Vec::new(alloc)))
+        }
     }
 }
 
-/// The texts that tell what was found.
+/// The texts that tell what was found; of the certificate and the instance nothing where they aren't wanted, or where no constraints
+/// leave no plan.
 pub fn texts_of(
     alloc: Global,
     instance: &Instance,

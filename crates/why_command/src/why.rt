@@ -4,11 +4,12 @@ ghost use Rattle.std.specs.Prelude.{◌≡◌, ◌+◌, IfOk, IfSome, MatchResul
 ghost use Rattle.conflicts.specs.Conflicts.{Answers};
 ghost use Rattle.command_streams.specs.Limits.{instance_limit};
 ghost use Rattle.command_streams.specs.Streams.{TakesAtMost};
-ghost use Rattle.why_command.specs.Answers.{IsExplained, IsFound, IsLate, IsSearched, IsUnexplained, IsUnsearched, IsWhyAnswer, IsWritingOf, end_told, fault_of};
+ghost use Rattle.answer_files.specs.Writing.{IsToldAt, IsWritingOf};
+ghost use Rattle.why_command.specs.Answers.{IsExplained, IsFound, IsLate, IsSearched, IsUnexplained, IsUnsearched, IsWhyAnswer, end_told, fault_of};
 
-use crate::ending::WhyEnd;
-use crate::texts::{Texts, Wanted, texts_of};
-use command_streams::{End, Fault, SearchFault, Sink, read_instance, write_text};
+use crate::texts::{Wanted, texts_of};
+use answer_files::{FilesEnd, Texts, write_texts};
+use command_streams::{End, Fault, SearchFault, read_instance};
 use conflicts::{Conflict, find_conflict};
 use lateness::{Lateness, Options, SolveFault, least_lateness};
 use std::alloc::Global;
@@ -30,7 +31,8 @@ pub struct Found {
 
 /// The end at which it is told.
 fn end_of(conflict: &Conflict) -> End
-    ensures { result ≡ end_told conflict.now }
+    ensures value { result ≡ end_told conflict.now }
+    ensures told { IsToldAt result }
 {
     match conflict {
         Conflict::Plan { .. } => End::Done,
@@ -136,21 +138,18 @@ fn tell<C: Write, S: Write, W: Write>(
     certificate: &mut C,
     reduced: &mut S,
     out: &mut W,
-) -> WhyEnd
+) -> FilesEnd
     ensures { IsWritingOf found.now.texts (end_told found.now.conflict)
         (C.contents certificate.old) (C.contents certificate.new) (S.contents reduced.old) (S.contents reduced.new)
         (W.contents out.old) (W.contents out.new) result }
 {
-    if write_text(certificate, found.texts.certificate.as_slice()).is_err() {
-        return WhyEnd::As(End::Refused(Fault::Unwritten(Sink::Certificate)));
-    }
-    if write_text(reduced, found.texts.reduced.as_slice()).is_err() {
-        return WhyEnd::Unreduced;
-    }
-    if write_text(out, found.texts.answer.as_slice()).is_err() {
-        return WhyEnd::As(End::Refused(Fault::Unwritten(Sink::Out)));
-    }
-    WhyEnd::As(end_of(&found.conflict))
+    write_texts(
+        &found.texts,
+        end_of(&found.conflict),
+        certificate,
+        reduced,
+        out,
+    )
 }
 
 /// Reads an instance, and writes why it has no plan: the constraints that leave none by themselves, with the word `need` where
@@ -159,7 +158,8 @@ fn tell<C: Write, S: Write, W: Write>(
 /// where that is wanted. Each search has the budget. Where they are wanted the certificate of
 /// the instance by these constraints alone is written first, and then the text of that instance; to a writer of what isn't wanted
 /// nothing is. All texts are made before one is written: where memory is refused nothing is written, and where a writer fails nothing
-/// is written to those behind it.
+/// is written to those behind it. Where the text that was made of that instance doesn't read back as it, nothing is written of it, and
+/// the end is `Unreduced` once the answer is written.
 pub fn why_run<R: Threads + Wait + Sync, I: Read, C: Write, S: Write, W: Write>(
     rt: &R,
     alloc: Global,
@@ -169,7 +169,7 @@ pub fn why_run<R: Threads + Wait + Sync, I: Read, C: Write, S: Write, W: Write>(
     certificate: &mut C,
     reduced: &mut S,
     out: &mut W,
-) -> WhyEnd
+) -> FilesEnd
     ensures answer { IfSome (I.remaining instance.old) (λ bytes. IsWhyAnswer bytes options wanted
         (C.contents certificate.old) (C.contents certificate.new) (S.contents reduced.old) (S.contents reduced.new)
         (W.contents out.old) (W.contents out.new) result) }
@@ -182,6 +182,6 @@ pub fn why_run<R: Threads + Wait + Sync, I: Read, C: Write, S: Write, W: Write>(
             drop(found);
             end
         }
-        Err(fault) => WhyEnd::As(End::Refused(fault)),
+        Err(fault) => FilesEnd::As(End::Refused(fault)),
     }
 }

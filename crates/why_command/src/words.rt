@@ -2,7 +2,7 @@
 
 ghost use Rattle.std.specs.Prelude.{◌≡◌, ◌<◌, ◌++◌, All, IfOk, OnOk, codes, decimal, length};
 ghost use Rattle.std.specs.List.{flat_map};
-ghost use Rattle.why_command.specs.Words.{AreToldOf, IsOf, both_words, constraint_words, deadline_words, horizon_words, late_text, late_words, link_words, message_words, need_line, need_word, none_text, plan_text, release_words, why_text};
+ghost use Rattle.why_command.specs.Words.{AreToldOf, IsOf, both_words, constraint_words, deadline_words, horizon_words, late_text, late_words, link_words, message_words, need_line, need_word, needs_text, none_text, plan_text, release_words, why_text};
 
 use conflicts::{Conflict, Need};
 use kept_constraints::Constraint;
@@ -120,6 +120,18 @@ fn push_needs(text: &mut Vec<u8>, instance: &Instance, needs: &[Need]) -> Result
     Ok(())
 }
 
+/// Adds the lines of all constraints that leave no plan; where there are none a line that says so.
+fn push_told(text: &mut Vec<u8>, instance: &Instance, needs: &[Need]) -> Result<(), AllocError>
+    requires { All (λ need. IsOf instance.now need.constraint) needs.now }
+    ensures { OnOk result (text.new.items ≡ text.old.items ++ needs_text instance.now needs.now) }
+{
+    if needs.is_empty() {
+        text.extend_from_slice(b"need nothing\n")
+    } else {
+        push_needs(text, instance, needs)
+    }
+}
+
 fn plan_text(alloc: Global, delay: u64) -> Result<Vec<u8>, AllocError>
     ensures { IfOk result (λ text. text.items ≡ plan_text delay) }
 {
@@ -180,7 +192,7 @@ fn none_text(
     ensures { IfOk result (λ text. text.items ≡ none_text instance.now needs.now late.now) }
 {
     let mut text = Vec::from_slice(alloc, b"ttwhy 1\nnone\n")?;
-    push_needs(&mut text, instance, needs)?;
+    push_told(&mut text, instance, needs)?;
     push_late(&mut text, late)?;
     Ok(text)
 }

@@ -1,4 +1,5 @@
+use Rattle.limit_command.proofs.Telling.{told_limit}
 use Rattle.limit_command.proofs.limits.limit_run.Goals as goal
 
-pub returns-in-Some-clause-answer : goal.returns-in-Some-clause-answer
-returns-in-Some-clause-answer g c = rw c.in-Some.is c.limit_certified.ensures.answer
+pub returns-in-Ok-clause-answer : goal.returns-in-Ok-clause-answer
+returns-in-Ok-clause-answer g c = told_limit _ _ c.args.options c.args.beside _ _ _ _ _ _ _ _ c.in-Ok.ensures.judged c.tell-end.ensures

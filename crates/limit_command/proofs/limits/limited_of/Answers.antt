@@ -1,8 +1,9 @@
-use Rattle.process_limits.proofs.Texts.{limit_allows}
 use Rattle.limit_command.proofs.Naming.{named_there}
+use Rattle.limit_command.proofs.Telling.{limited_by}
 use Rattle.limit_command.proofs.limits.limited_of.Goals as goal
 
-pub returns-in-Ok-clause-printable : goal.returns-in-Ok-clause-printable
-returns-in-Ok-clause-printable g c =
-    let is = c.in_ok-limit.ensures in
-    limit_allows c.args.instance.now is.processes c.args.options c.nodes-nodes.ensures.instance (named_there _ _ _ is.named) c.in_ok-limit.limit is.is
+pub limit_by-requires-after_bounds : goal.limit_by-requires-after_bounds
+limit_by-requires-after_bounds g c = λ κs alive. rw c.as_slice.ensures.value (named_there _ _ _ c.in_ok-processes.ensures)
+
+pub returns : goal.returns
+returns g c = limited_by _ _ _ _ _ c.in_ok-processes.ensures _ (rw c.as_slice.ensures.value at c.limit_by.ensures)
