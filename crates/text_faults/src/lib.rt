@@ -18,3 +18,4 @@ pub use laws::{
     near_names_are_there, odd_keys_are_unknown, odd_names_are_unknown, what_is_said_is_shown,
     what_is_wanted_is_read,
 };
+pub use near::nearest;

@@ -1,9 +1,13 @@
 //! What is a person at a terminal told beside a line of codes?
 
-use command_streams::{Fault, Source, status_of_fault};
+use command_streams::{Fault, Source, read_instance, status_of_fault};
+use std::alloc::Global;
 use std::fmt;
+use std::fs::{self, File};
 use std::io::{self, IsTerminal, Write};
+use text_faults::nearest;
 use told_bytes::Told;
+use ttp_model::Instance;
 
 /// The status of a command to which memory was refused, whatever text it was for.
 const WANT_OF_MEMORY: u8 = 4;
@@ -108,6 +112,53 @@ pub fn hint_at_fault(rt: &HostRuntime, said: &Said, fault: &Fault) {
     let mut err = rt.stderr();
     if err.is_terminal() && status_of_fault(fault) != WANT_OF_MEMORY {
         let _ = write_hint(&mut err, said, fault);
+        match fault {
+            Fault::NoSuchProcess(index) if !said.is_repeated(*index) => {
+                let _ = write_near(rt, &mut err, said, *index);
+            }
+            _ => {}
+        }
+    }
+}
+
+/// The instance of a plain file, read once more.
+fn instance_again(rt: &HostRuntime, name: &str) -> Option<Instance> {
+    let is_plain = match fs::metadata(rt, name) {
+        Ok(found) => found.is_file(),
+        Err(_) => false,
+    };
+    if !is_plain {
+        return None;
+    }
+    let mut file = File::open(rt, name).ok()?;
+    read_instance(rt.alloc(), &mut file).ok()
+}
+
+/// The name of a process that is nearest to a word, where one is near.
+fn near_process<'a>(alloc: Global, instance: &'a Instance, word: &str) -> Option<&'a str> {
+    let mut names = Vec::new(alloc);
+    for process in instance.processes() {
+        names.push(process.name.as_str()).ok()?;
+    }
+    nearest(alloc, word, names.as_slice()).ok()?
+}
+
+/// Asks whether the process was meant whose name is nearest to the word of this index, where that names none.
+fn write_near(
+    rt: &HostRuntime,
+    out: &mut impl Write,
+    said: &Said,
+    index: usize,
+) -> io::Result<()> {
+    let (Some(name), Some(word)) = (said.instance, said.words.get(index)) else {
+        return Ok(());
+    };
+    let Some(instance) = instance_again(rt, name) else {
+        return Ok(());
+    };
+    match near_process(rt.alloc(), &instance, *word) {
+        Some(near) => writeln!(out, "did you mean {}?", Word(near)),
+        None => Ok(()),
     }
 }
 
