@@ -1,7 +1,7 @@
 //! Why is no plan left, by what has to run or to be sent?
 
 ghost use Rattle.std.specs.Prelude.{◌≡◌, ◌++◌, ◌<◌, ◌≤◌, OnOk, length, string_bytes};
-ghost use Rattle.step_words.specs.Loads.{channel_room_words, channel_words, frame_words, frames_words, load_words, room_words, span_words};
+ghost use Rattle.step_words.specs.Loads.{carried_words, channel_room_words, channel_words, frame_words, frames_words, load_words, longer_words, on_channels, room_words, span_words, these_ticks, wide_words};
 
 use crate::counts::noun;
 use crate::names::{message_name, node_name, source_name};
@@ -10,24 +10,54 @@ use std::alloc::AllocError;
 use tt_infer::Facts;
 use ttp_model::Instance;
 
+/// Adds that what has to run on a node between two ticks takes longer.
+#[tactic(auto, unfolding(crate::specs::Loads::longer_words))]
+fn put_longer(text: &mut String, node: &str, a: u32, b: u32) -> Result<(), AllocError>
+    ensures { OnOk result (string_bytes text.new ≡ string_bytes text.old ++ longer_words node.now a b) }
+{
+    write!(
+        text,
+        "  as what has to run on {node} from {a} to {b} takes more than "
+    )
+}
+
+/// Adds so many ticks.
+fn put_these_ticks(text: &mut String, count: u32) -> Result<(), AllocError>
+    ensures { OnOk result (string_bytes text.new ≡ string_bytes text.old ++ these_ticks count) }
+{
+    let these = noun(u64::from(count), "this", "these");
+    let ticks = noun(u64::from(count), "tick", "ticks");
+    write!(text, "{these} {count} {ticks}, ")
+}
+
 /// Adds that processes take longer than there is time.
 #[tactic(auto, unfolding(crate::specs::Loads::load_words))]
 pub fn put_load(text: &mut String, facts: &Facts, n: u32, a: u32, b: u32) -> Result<(), AllocError>
     requires { n < length facts.now.instance.nodes }
     ensures { OnOk result (string_bytes text.new ≡ string_bytes text.old ++ load_words facts.now.instance n a b) }
 {
-    let name = node_name(facts.instance(), n);
-    let count = b.saturating_sub(a);
-    let these = noun(u64::from(count), "this", "these");
-    let ticks = noun(u64::from(count), "tick", "ticks");
+    put_longer(text, node_name(facts.instance(), n), a, b)?;
+    put_these_ticks(text, b.saturating_sub(a))
+}
+
+/// Adds that a message has so many bytes, and a frame of its node at most another number.
+fn put_wide(
+    text: &mut String,
+    message: &str,
+    count: u32,
+    node: &str,
+    most: u32,
+) -> Result<(), AllocError>
+    ensures { OnOk result (string_bytes text.new ≡ string_bytes text.old ++ wide_words message.now count node.now most) }
+{
+    let bytes = noun(u64::from(count), "byte", "bytes");
     write!(
         text,
-        "  as what has to run on {name} from {a} to {b} takes more than {these} {count} {ticks}, "
+        "  as {message} has {count} {bytes} and a frame of {node} at most {most}, "
     )
 }
 
 /// Adds that a message is longer than any frame.
-#[tactic(auto, unfolding(crate::specs::Loads::frame_words))]
 pub fn put_frame(text: &mut String, facts: &Facts, m: u32) -> Result<(), AllocError>
     requires { m < length facts.now.instance.messages }
     ensures { OnOk result (string_bytes text.new ≡ string_bytes text.old ++ frame_words facts.now.instance facts.now.choice m) }
@@ -35,13 +65,9 @@ pub fn put_frame(text: &mut String, facts: &Facts, m: u32) -> Result<(), AllocEr
     let instance = facts.instance();
     let name = message_name(instance, m);
     let node = source_name(instance, m);
-    let count = instance.message_at(m as usize).bytes;
-    let bytes = noun(u64::from(count), "byte", "bytes");
+    let bytes = instance.message_at(m as usize).bytes;
     let most = cap_most(facts, instance.source_of(m as usize));
-    write!(
-        text,
-        "  as {name} has {count} {bytes} and a frame of {node} at most {most}, "
-    )
+    put_wide(text, name, bytes, node, most)
 }
 
 /// Adds in which rounds a node sends what it has to.
@@ -63,18 +89,33 @@ fn put_span(
     )
 }
 
-/// Adds how much so many frames carry on all channels.
+/// Adds how much so many frames carry.
+fn put_carried(text: &mut String, rounds: u32, cap: u32) -> Result<(), AllocError>
+    ensures { OnOk result (string_bytes text.new ≡ string_bytes text.old ++ carried_words rounds cap) }
+{
+    let frames = noun(u64::from(rounds), "frame", "frames");
+    write!(
+        text,
+        " has more bytes than {rounds} {frames} of at most {cap}"
+    )
+}
+
+/// Adds on how many channels.
+fn put_on_channels(text: &mut String, count: u32) -> Result<(), AllocError>
+    ensures { OnOk result (string_bytes text.new ≡ string_bytes text.old ++ on_channels count) }
+{
+    let on = noun(u64::from(count), "on", "on each of");
+    let channels = noun(u64::from(count), "channel", "channels");
+    write!(text, " {on} {count} {channels}, ")
+}
+
+/// Adds how much they carry on all channels.
 #[tactic(auto, unfolding(crate::specs::Loads::room_words))]
 fn put_room(text: &mut String, rounds: u32, cap: u32, channels: u32) -> Result<(), AllocError>
     ensures { OnOk result (string_bytes text.new ≡ string_bytes text.old ++ room_words rounds cap channels) }
 {
-    let frames = noun(u64::from(rounds), "frame", "frames");
-    let on = noun(u64::from(channels), "on", "on each of");
-    let all = noun(u64::from(channels), "channel", "channels");
-    write!(
-        text,
-        " has more bytes than {rounds} {frames} of at most {cap} {on} {channels} {all}, "
-    )
+    put_carried(text, rounds, cap)?;
+    put_on_channels(text, channels)
 }
 
 /// Adds that it is more than its frames carry, on all channels.
