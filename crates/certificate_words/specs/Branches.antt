@@ -21,12 +21,20 @@ has_keyword word node = bytes_eq (keyword node) word
 abbrev pub nodes_with : List ℕ → List Node → ℕ
 nodes_with word nodes = count_by (has_keyword word) nodes
 
--- how many branches there are of each kind
+-- how many branches there are of places
+unfoldable pub places_words : ℕ → List ℕ
+places_words place =
+    codes "Its tree has " ++ (decimal place ++ (codes " " ++ (noun place (codes "branch") (codes "branches") ++ codes " of place, ")))
+
+-- and of the other kinds
+unfoldable pub others_words : ℕ → ℕ → ℕ → ℕ → List ℕ
+others_words cap pair round chan =
+    decimal cap ++ (codes " of cap, " ++ (decimal pair ++ (codes " of pair, " ++ (decimal round ++ (codes " of round and " ++ (decimal chan
+    ++ codes " of chan, "))))))
+
+-- of each kind
 unfoldable pub kinds_words : ℕ → ℕ → ℕ → ℕ → ℕ → List ℕ
-kinds_words place cap pair round chan =
-    codes "Its tree has " ++ (decimal place ++ (codes " " ++ (noun place (codes "branch") (codes "branches") ++ (codes " of place, " ++ (decimal cap
-    ++ (codes " of cap, " ++ (decimal pair ++ (codes " of pair, " ++ (decimal round ++ (codes " of round and " ++ (decimal chan
-    ++ codes " of chan, ")))))))))))
+kinds_words place cap pair round chan = places_words place ++ others_words cap pair round chan
 
 -- among these nodes
 abbrev pub branches_words : List Node → List ℕ

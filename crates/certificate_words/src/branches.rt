@@ -3,7 +3,7 @@
 ghost use Rattle.std.specs.Prelude.{◌≡◌, ◌++◌, OnOk, string_bytes};
 ghost use Rattle.ttp_model.specs.declared.step.Kind.TheVariants.{Cap, Chan, Pair, Round};
 ghost use Rattle.certificate.specs.Words.{branch_words};
-ghost use Rattle.certificate_words.specs.Branches.{absent_words, branches_words, capacity_children, child_count_words, decided_cap, decided_chan, decided_pair, has_keyword, keyword, kinds_words, nodes_with, not_open_words, placed_children, uncut_rounds};
+ghost use Rattle.certificate_words.specs.Branches.{absent_words, branches_words, capacity_children, child_count_words, decided_cap, decided_chan, decided_pair, has_keyword, keyword, kinds_words, nodes_with, not_open_words, others_words, placed_children, places_words, uncut_rounds};
 
 use certificate::{Branch, Node};
 use std::alloc::AllocError;
@@ -47,6 +47,32 @@ pub fn nodes_with(nodes: &[Node], word: &str) -> usize
     nodes.iter().filter(|node| has_keyword(node, word)).count()
 }
 
+/// Adds how many branches there are of places.
+#[tactic(auto, unfolding(crate::specs::Branches::places_words))]
+fn put_places(text: &mut String, count: usize) -> Result<(), AllocError>
+    ensures { OnOk result (string_bytes text.new ≡ string_bytes text.old ++ places_words count) }
+{
+    let branches = noun(count as u64, "branch", "branches");
+    write!(text, "Its tree has {count} {branches} of place, ")
+}
+
+/// Adds how many there are of the other kinds.
+#[tactic(auto, unfolding(crate::specs::Branches::others_words))]
+fn put_others(
+    text: &mut String,
+    cap: usize,
+    pair: usize,
+    round: usize,
+    chan: usize,
+) -> Result<(), AllocError>
+    ensures { OnOk result (string_bytes text.new ≡ string_bytes text.old ++ others_words cap pair round chan) }
+{
+    write!(
+        text,
+        "{cap} of cap, {pair} of pair, {round} of round and {chan} of chan, "
+    )
+}
+
 /// Adds that there are so many branches of each kind.
 #[tactic(auto, unfolding(crate::specs::Branches::kinds_words))]
 fn put_kinds(
@@ -59,11 +85,8 @@ fn put_kinds(
 ) -> Result<(), AllocError>
     ensures { OnOk result (string_bytes text.new ≡ string_bytes text.old ++ kinds_words place cap pair round chan) }
 {
-    let branches = noun(place as u64, "branch", "branches");
-    write!(
-        text,
-        "Its tree has {place} {branches} of place, {cap} of cap, {pair} of pair, {round} of round and {chan} of chan, "
-    )
+    put_places(text, place)?;
+    put_others(text, cap, pair, round, chan)
 }
 
 /// Adds how many of each kind these nodes have.
