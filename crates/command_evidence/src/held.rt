@@ -11,12 +11,12 @@ use tt_choice::Decision;
 use ttp_model::MemoryFault;
 use used_decisions::Needs;
 
-/// Lets a leaf wait where not as many do as are judged together: then no more wait than may. Whether it waits.
+/// Lets a leaf wait where not as many do as are judged together: then no more wait than might before. Whether it waits.
 pub fn no_more_leaves_wait_than_may(
     held: &mut HeldLeaves,
     leaf: HeldLeaf,
 ) -> Result<bool, MemoryFault>
-    ensures { IfOk result (λ waits. IsTrue waits → length held.new.leaves.items ≤ held.new.most) }
+    ensures { IfOk result (λ waits. IsTrue waits → length held.new.leaves.items ≤ held.old.most) }
 {
     if held.is_full() {
         return Ok(false);
