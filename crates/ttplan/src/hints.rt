@@ -144,12 +144,7 @@ fn near_process<'a>(alloc: Global, instance: &'a Instance, word: &str) -> Option
 }
 
 /// Asks whether the process was meant whose name is nearest to the word of this index, where that names none.
-fn write_near(
-    rt: &HostRuntime,
-    out: &mut impl Write,
-    said: &Said,
-    index: usize,
-) -> io::Result<()> {
+fn write_near(rt: &HostRuntime, out: &mut impl Write, said: &Said, index: usize) -> io::Result<()> {
     let (Some(name), Some(word)) = (said.instance, said.words.get(index)) else {
         return Ok(());
     };
