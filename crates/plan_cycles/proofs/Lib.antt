@@ -1,0 +1,9 @@
+pub mod Periods
+pub mod Executions
+pub mod CycleSlots
+pub mod Loads
+pub mod Guarded
+pub mod Repeated
+pub mod Behind
+pub mod PairRules
+pub mod PairPlan
