@@ -36,6 +36,13 @@ module _ (i : Instance) (plan : Plan) (w : IsInstance i) (v : IsValid i plan) wh
   pub delay-le-cycle : delay i plan ≤ cycle_rounds i plan * round_length i.cluster plan.caps
   delay-le-cycle = (div_ceil_times (delay i plan) (round_length i.cluster plan.caps) round_some).0
 
+  -- the cycle has a round, since a process runs
+  pub cycle_some : 0 < cycle_rounds i plan
+  cycle_some =
+      let some = w.limits.processes_least in
+      let first = greatest_each (end_of i plan) (length i.processes) 0 some in
+      fewer_rounds 0 (cycle_rounds i plan) (round_length i.cluster plan.caps) (omega (arith, first, (w.ranges (AtProcess 0) some).wcet_least, delay-le-cycle))
+
   -- a message's slot ends before some receiver does, so its round is one of the cycle
   pub round_inside : (m : ℕ) → m < length i.messages → round_of plan m < cycle_rounds i plan
   round_inside m inside =

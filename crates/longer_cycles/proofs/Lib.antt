@@ -1,0 +1,2 @@
+pub mod BehindCycle
+pub mod LaterWindows

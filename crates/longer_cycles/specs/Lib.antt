@@ -1,0 +1,2 @@
+pub mod Rounds
+pub use Rattle.plan_cycles.specs.Cycles
