@@ -1,19 +1,27 @@
 -- What holds of a request.
 use Rattle.std.specs.Prelude.{◌≤◌, ℕ, List, length, IfSome}
 use Rattle.command_words.specs.declared.words.Request.{Request}
-use Rattle.command_words.specs.declared.words.Request.TheVariants.{OnFiles, Solve, Why as Asking, Limit as Limiting}
+use Rattle.command_words.specs.declared.words.Request.TheVariants.{OfRounds, OnFiles, Solve, Why as Asking, Limit as Limiting}
 use Rattle.command_words.specs.declared.words.Search.{Search}
 use Rattle.command_words.specs.declared.words.Why.{Why}
 use Rattle.command_words.specs.declared.words.Limit.{Limit}
 use Rattle.command_words.specs.declared.words.Task.{Task}
 use Rattle.command_words.specs.declared.words.Task.TheVariants.{Draw}
+use Rattle.command_words.specs.declared.words.RoundsTask.{RoundsTask}
+use Rattle.command_words.specs.declared.words.RoundsTask.TheVariants.{Period, Tables}
 use Rattle.command_words.specs.Names.{IsOtherFile}
 use Rattle.plan_picture.specs.Limits.{least_width, most_width}
+use Rattle.ttp_model.specs.Limits.{most_ticks}
 
 -- a picture is as wide as it may be
 abbrev pub IsSoundTask : Task → Type 0
 IsSoundTask (Draw width shown) = (least_width ≤ width) × (width ≤ most_width)
 IsSoundTask _ = Unit {0}
+
+-- a period is as long as it may be
+abbrev pub IsSoundRounds : RoundsTask → Type 0
+IsSoundRounds (Period ticks) = (1 ≤ ticks) × (ticks ≤ most_ticks)
+IsSoundRounds (Tables rounds) = Unit {0}
 
 -- by its name a file is none that a search reads
 abbrev pub IsApart : Search → List ℕ → Type 0
@@ -47,6 +55,7 @@ pub record IsSoundLimit (limit : Limit) : Type 0 where
 
 abbrev pub IsSound : Request → Type 0
 IsSound (OnFiles instance plan task) = IsSoundTask task
+IsSound (OfRounds instance plan task) = IsSoundRounds task
 IsSound (Solve search) = IsSoundSearch search
 IsSound (Asking why) = IsSoundWhy why
 IsSound (Limiting limit) = IsSoundLimit limit

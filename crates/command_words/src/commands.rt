@@ -1,8 +1,8 @@
 //! How is the command line laid out: which subcommands and options are there, and what does the help say of them?
 
 use crate::numbers::{
-    BUDGET, GAP, LIMIT_BUDGET, LIMIT_WORKERS, NumberOption, SECONDS, UNTIL, WHY_BUDGET,
-    WHY_WORKERS, WIDTH, WORKERS,
+    BUDGET, GAP, LIMIT_BUDGET, LIMIT_WORKERS, NumberOption, PERIOD, ROUNDS, SECONDS, UNTIL,
+    WHY_BUDGET, WHY_WORKERS, WIDTH, WORKERS,
 };
 use crate::words::VERSION;
 use clap::{Arg, ArgAction, Command};
@@ -41,6 +41,10 @@ const WHY_HELP: &str =
 const LIMIT_HELP: &str =
     "It prints one of these, and ends with the status beside it:\n   0  `limit D`, and behind it the text of a plan: the last of these processes ends at D in it, and before D in no valid plan; of the plans that do it none has a smaller delay\n  10  `none`: no plan is valid\n  11  `limit D` and a plan that does it, where the search for the least delay was stopped; `between LOW HIGH` and a plan in which the last of them ends at HIGH, where a search before that was; or `between LOW none`, where no plan is known. It ends before LOW in no valid plan\n\nFirst any plan is looked for, then one that ends these processes half way between the ticks that are known, and so on. The last search is for the least delay. Each has N subtrees.";
 
+/// What is printed of a plan in a period.
+const PERIOD_HELP: &str =
+    "It prints a line `ttperiod 1`, and behind it `period` and `round` with their ticks, `rounds` with how many whole rounds the period holds, and `gap` with the ticks behind the last of them, in which the bus is silent. Where that isn't 0 more lines follow:\n  `near A B`: the longest round of no more ticks than the plan's that divides the period, and the shortest of no fewer\n  `fit TRAIL ROUND`, at most five, by rising trail and then by rising round: with this trail, which is no shorter than the instance's own, some capacities that the nodes offer make a round of so many ticks, and it divides the period\n\nThe plan may begin anew each period as long as that holds the rounds of its cycle: else it says so, and ends with status 5.";
+
 /// A file that has to be named.
 fn file<'a>(alloc: Global, name: &'a str, help: &'a str) -> Arg<'a> {
     Arg::new(alloc, name).required(true).help(help)
@@ -66,12 +70,33 @@ fn verify_command<'a>(alloc: Global) -> Result<Command<'a>, AllocError> {
     )
 }
 
-fn tables_command<'a>(alloc: Global) -> Result<Command<'a>, AllocError> {
+/// The subcommand that prints what is loaded.
+pub(crate) fn tables_command<'a>(alloc: Global) -> Result<Command<'a>, AllocError> {
     command_on_files(
         alloc,
         "tables",
         "Prints the node tables of a valid plan, and its guardian windows",
-    )
+    )?
+    .arg(number(
+        alloc,
+        ROUNDS,
+        "Prints those of so many rounds, in place of as many as the plan's cycle has; the further ones carry nothing",
+    ))
+}
+
+/// The subcommand on a plan that repeats.
+pub(crate) fn period_command<'a>(alloc: Global) -> Result<Command<'a>, AllocError> {
+    command_on_files(
+        alloc,
+        "period",
+        "Prints how the rounds of a valid plan lie in a period, and which rounds would divide it",
+    )?
+    .after_help(PERIOD_HELP)
+    .arg(bare_number(
+        alloc,
+        PERIOD,
+        "How many ticks after its begin the plan begins anew, 1 to 1000000",
+    ))
 }
 
 fn replay_command<'a>(alloc: Global) -> Result<Command<'a>, AllocError> {
@@ -138,6 +163,14 @@ fn number<'a>(alloc: Global, option: NumberOption, help: &'a str) -> Arg<'a> {
         Some(default) => number.default_value(default),
         None => number,
     }
+}
+
+/// A number that has to stand there by itself.
+fn bare_number<'a>(alloc: Global, option: NumberOption, help: &'a str) -> Arg<'a> {
+    Arg::new(alloc, option.name)
+        .required(true)
+        .allow_negative_numbers(true)
+        .help(help)
 }
 
 /// The file of a certificate.
@@ -369,6 +402,7 @@ pub(crate) fn command<'a>(alloc: Global) -> Result<Command<'a>, AllocError> {
     let program = with(program, judge_command(alloc))?;
     let program = with(program, explain_command(alloc))?;
     let program = with(program, tables_command(alloc))?;
+    let program = with(program, period_command(alloc))?;
     let program = with(program, replay_command(alloc))?;
     let program = with(program, schedule_command(alloc))?;
     let program = with(program, draw_command(alloc))?;

@@ -11,4 +11,6 @@ mod words;
 pub use misuse::{emptying_over, keeping_over};
 pub use numbers::NumberedCommand;
 pub use refusal::refuse;
-pub use words::{Explained, Limit, Request, Search, Task, VERSION, Why, all, request_in};
+pub use words::{
+    Explained, Limit, Request, RoundsTask, Search, Task, VERSION, Why, all, request_in,
+};

@@ -3,7 +3,9 @@
 ghost use Rattle.std.specs.Prelude.{◌≡◌};
 ghost use Rattle.command_words.specs.declared.misuse.Misuse.TheVariants.{Memory};
 
-use crate::commands::{draw_command, limit_command, solve_command, why_command};
+use crate::commands::{
+    draw_command, limit_command, period_command, solve_command, tables_command, why_command,
+};
 use crate::numbers::{NumberOption, NumberedCommand};
 use clap::error::ErrorKind;
 use clap::{Command, Error};
@@ -17,6 +19,8 @@ pub enum Misuse<'a> {
     Missing,
     /// When the option's value is no number within its bounds.
     Number(NumberOption, &'a str),
+    /// When so is a value that stands by itself.
+    BareNumber(NumberOption, &'a str),
     /// When the certificate of this command would be written over the instance.
     Overwriting(NumberedCommand, &'a str),
     /// When it would be written over the plan to begin with.
@@ -57,6 +61,17 @@ impl Misuse<'_> {
                     "invalid value '{word}' for '--{name} <{value}>': a whole number from {least} to {most} is expected"
                 )
             }
+            Misuse::BareNumber(option, word) => {
+                let NumberOption {
+                    value,
+                    least,
+                    most,
+                    ..
+                } = option;
+                format!(in alloc;
+                    "invalid value '{word}' for '<{value}>': a whole number from {least} to {most} is expected"
+                )
+            }
             Misuse::Overwriting(_, word) => format!(in alloc;
                 "invalid value '{word}' for '--cert <FILE>': that is the instance's file, which would be emptied"
             ),
@@ -76,7 +91,7 @@ impl Misuse<'_> {
     /// The subcommand whose values they are; those of `solve` where it isn't told.
     fn of(&self) -> NumberedCommand {
         match self {
-            Misuse::Number(option, _) => option.command,
+            Misuse::Number(option, _) | Misuse::BareNumber(option, _) => option.command,
             Misuse::Overwriting(command, _) => *command,
             Misuse::Emptying(command, _, _) => *command,
             Misuse::Missing => NumberedCommand::Solve,
@@ -101,6 +116,8 @@ fn named<'a>(alloc: Global, command: NumberedCommand) -> Result<Command<'a>, All
         NumberedCommand::Draw => draw_command(alloc)?.bin_name("ttplan draw"),
         NumberedCommand::Why => why_command(alloc)?.bin_name("ttplan why"),
         NumberedCommand::Limit => limit_command(alloc)?.bin_name("ttplan limit"),
+        NumberedCommand::Tables => tables_command(alloc)?.bin_name("ttplan tables"),
+        NumberedCommand::Period => period_command(alloc)?.bin_name("ttplan period"),
     }
 }
 

@@ -3,6 +3,7 @@
 ghost use Rattle.std.specs.Prelude.{◌≡◌, ◌≤◌, IfSome};
 
 use plan_picture::{LEAST_WIDTH, MOST_WIDTH};
+use ttp_model::MOST_TICKS;
 
 /// A subcommand that has options with numbers.
 #[derive(Clone, Copy, Debug)]
@@ -11,6 +12,8 @@ pub enum NumberedCommand {
     Draw,
     Why,
     Limit,
+    Tables,
+    Period,
 }
 
 /// An option that takes a whole number within bounds.
@@ -124,6 +127,26 @@ pub const WIDTH: NumberOption = NumberOption {
     least: LEAST_WIDTH as u64,
     most: MOST_WIDTH as u64,
     default: Some("1200"),
+};
+
+/// Of how many rounds tables are.
+pub const ROUNDS: NumberOption = NumberOption {
+    command: NumberedCommand::Tables,
+    name: "rounds",
+    value: "N",
+    least: 0,
+    most: u32::MAX as u64,
+    default: None,
+};
+
+/// How many ticks a period has. It stands by itself, without a name before it.
+pub const PERIOD: NumberOption = NumberOption {
+    command: NumberedCommand::Period,
+    name: "PERIOD",
+    value: "PERIOD",
+    least: 1,
+    most: MOST_TICKS as u64,
+    default: None,
 };
 
 impl NumberOption {

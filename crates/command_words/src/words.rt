@@ -2,14 +2,14 @@
 
 ghost use Rattle.std.specs.Prelude.{◌≡◌, ◌<◌, ◌≤◌, ◌^◌, length, false, IfOk, IfSome};
 ghost use Rattle.command_words.specs.Names.{IsOtherFile};
-ghost use Rattle.command_words.specs.Requests.{IsSound, IsSoundTask};
+ghost use Rattle.command_words.specs.Requests.{IsSound, IsSoundRounds, IsSoundTask};
 
 use crate::commands::command;
 use crate::misuse::Misuse;
 use crate::names::name_one_file;
 use crate::numbers::{
-    BUDGET, GAP, LIMIT_BUDGET, LIMIT_WORKERS, NumberOption, NumberedCommand, SECONDS, UNTIL,
-    WHY_BUDGET, WHY_WORKERS, WIDTH, WORKERS,
+    BUDGET, GAP, LIMIT_BUDGET, LIMIT_WORKERS, NumberOption, NumberedCommand, PERIOD, ROUNDS,
+    SECONDS, UNTIL, WHY_BUDGET, WHY_WORKERS, WIDTH, WORKERS,
 };
 use clap::error::ErrorKind;
 use clap::{ArgMatches, Error};
@@ -32,6 +32,15 @@ pub enum Task<'a> {
     Schedule(Table),
     /// Write a picture of its cycle, so many pixels wide, 200 to 10,000.
     Draw { width: u32, shown: Shown },
+}
+
+/// What to tell of the rounds of a plan's cycle.
+#[derive(Clone, Copy, Debug, PartialEq, Eq)]
+pub enum RoundsTask {
+    /// How they lie in a period of so many ticks, 1 to 1,000,000.
+    Period(u64),
+    /// The node tables and guardian windows of so many.
+    Tables(u32),
 }
 
 /// What is to be explained.
@@ -109,6 +118,12 @@ pub enum Request<'a> {
         instance: &'a str,
         plan: &'a str,
         task: Task<'a>,
+    },
+    /// Tell of the rounds of the plan of one file for the instance of another.
+    OfRounds {
+        instance: &'a str,
+        plan: &'a str,
+        task: RoundsTask,
     },
     /// Search the instance of a file.
     Solve(Search<'a>),
@@ -403,6 +418,41 @@ fn request_on_files<'a>(matches: &ArgMatches<'a>, task: Task<'a>) -> Option<Requ
     })
 }
 
+/// A task on the rounds of a plan for an instance.
+fn request_of_rounds<'a>(matches: &ArgMatches<'a>, task: RoundsTask) -> Option<Request<'a>>
+    requires { IsSoundRounds task }
+    ensures { IfSome result IsSound }
+{
+    Some(Request::OfRounds {
+        instance: matches.get_str("INSTANCE")?,
+        plan: matches.get_str("PLAN")?,
+        task,
+    })
+}
+
+/// Tables of the rounds of a plan's cycle, or of so many.
+fn tables_request<'a>(matches: &ArgMatches<'a>) -> Result<Option<Request<'a>>, Misuse<'a>>
+    ensures { IfOk result (λ request. IfSome request IsSound) }
+{
+    match some_u32_of(ROUNDS, matches)? {
+        None => Ok(request_on_files(matches, Task::Tables)),
+        Some(rounds) => Ok(request_of_rounds(matches, RoundsTask::Tables(rounds))),
+    }
+}
+
+/// How many ticks the period has that is named.
+fn period_task<'a>(matches: &ArgMatches<'a>) -> Result<RoundsTask, Misuse<'a>>
+    ensures { IfOk result IsSoundRounds }
+{
+    let Some(word) = matches.get_str(PERIOD.name) else {
+        return Err(Misuse::Missing);
+    };
+    match PERIOD.read(word) {
+        Some(ticks) => Ok(RoundsTask::Period(ticks)),
+        None => Err(Misuse::BareNumber(PERIOD, word)),
+    }
+}
+
 /// A replay with the frames that are lost, or with none.
 fn replay_task<'a>(alloc: Global, matches: &ArgMatches<'a>) -> Result<Task<'a>, AllocError>
     ensures { IfOk result IsSoundTask }
@@ -453,7 +503,8 @@ fn request_of<'a>(
         "explain" => explain_request(matches),
         "compare" => compare_request(matches),
         "verify" => request_on_files(matches, Task::Verify),
-        "tables" => request_on_files(matches, Task::Tables),
+        "tables" => tables_request(matches)?,
+        "period" => request_of_rounds(matches, period_task(matches)?),
         "replay" => request_on_files(matches, replay_task(alloc, matches)?),
         "schedule" => request_on_files(matches, schedule_task(matches)?),
         "draw" => request_on_files(matches, draw_task(matches)?),
