@@ -5,7 +5,7 @@
 
 The texts are the examples' and those of small instances made here, with plans and certificates; most are damaged in one to
 three places. Both programs have to write the same words and end with the same status, and of a valid plan the same schedules,
-node tables, picture and trace of a cycle with losses. A case on which they differ is told, and kept in FOLDER. What was answered
+node tables, picture, periods and trace of a cycle with losses. A case on which they differ is told, and kept in FOLDER. What was answered
 how often is written at the end, and the status is 1 where any case differed.
 
 With --channels most instances that are made have two channels, and plans, choices and steps go with them. Which circle of
@@ -323,7 +323,7 @@ def made_losses(dice, instance, plan_text):
 
 def second(command, instance, *texts):
     """The second checker's status and text. Behind a plan stand the table's name of `schedule`, the width of `draw`, and `used` where
-    empty slots are left out, and the losses of `replay`."""
+    empty slots are left out, the losses of `replay`, the ticks of `period`, and the rounds of `tables`."""
     try:
         if command == "replay":
             losses = second_check.stated_losses(texts[1:])
@@ -339,14 +339,22 @@ def second(command, instance, *texts):
         if command == "draw":
             width, *used = texts[1:] or ["1200"]
             return 0, second_check.draw(judged, texts[0], width=int(width), used=bool(used))
+        if command == "period":
+            return 0, second_check.period(judged, texts[0], int(texts[1]))
+        if command == "tables":
+            return 0, second_check.tables(judged, texts[0], *map(int, texts[1:]))
         return 0, second_check.COMMANDS[command][0](judged, *texts)
     except second_check.Refused as fault:
         return fault.status, fault.line
 
 
+OPTIONS = {"schedule": ["--table"], "tables": ["--rounds"]}
+
+
 def both(program, files, command, *texts):
     """What the two programs say, each a status and a text. Behind the plan stands what `second` takes there."""
-    words = ["--table"] * (command == "schedule") + list(texts[len(files):])
+    given = list(texts[len(files):])
+    words = OPTIONS.get(command, []) * bool(given) + given
     ran = subprocess.run([program, command, *files, *words], capture_output=True, text=True)
     return (ran.returncode, (ran.stdout + ran.stderr).rstrip("\n")), second(command, *texts)
 
@@ -378,6 +386,8 @@ def main():
             if command == "verify" and other[0] == 0:
                 pairs += [both(asked.program, named, "schedule", *texts, table) for table in second_check.TABLES]
                 pairs += [both(asked.program, named, word, *texts) for word in ("draw", "tables")]
+                pairs.append(both(asked.program, named, "period", *texts, str(dice.choice([8, 12, 60, 100, 360, 1000, 10000, 99991]))))
+                pairs.append(both(asked.program, named, "tables", *texts, str(dice.randrange(8))))
                 losses = made_losses(dice, second_check.Instance(texts[0]), texts[1])
                 pairs.append(both(asked.program, named, "replay", *texts, *losses))
             for first, other in pairs:

@@ -8,7 +8,10 @@
                                                    writes the table
     tools/second_check.py draw INSTANCE PLAN [--width PX] [--used]
                                                    writes the picture
-    tools/second_check.py tables INSTANCE PLAN     writes the node tables and the guardian windows
+    tools/second_check.py tables INSTANCE PLAN [--rounds N]
+                                                   writes the node tables and the guardian windows
+    tools/second_check.py period INSTANCE PLAN PERIOD
+                                                   writes how the plan's rounds lie in a period
     tools/second_check.py replay INSTANCE PLAN [LOSS]...
                                                    writes what membership does
     tools/second_check.py compare OLD_INSTANCE OLD_PLAN NEW_INSTANCE NEW_PLAN
@@ -20,7 +23,7 @@
     tools/second_check.py why INSTANCE [OPTION]..  asks `ttplan why` with these words, and writes what that says once it is judged
 
 Anything else is told in one line on standard error, with the words and the statuses of `ttplan verify`, `check`, `judge`,
-`schedule`, `draw`, `tables`, `replay` and `compare`.
+`schedule`, `draw`, `tables`, `period`, `replay` and `compare`.
 It was written from docs/FORMATS.md and docs/CERTIFICATES.md alone, but for the elements and colours of a picture, which stand in
 crates/plan_picture/specs, and is proved in no way: where it and ttplan differ, a
 document is wrong, or one of the two programs is.
@@ -604,10 +607,10 @@ def is_received(instance, message, node):
     return any(instance.processes[q].node == node for q in message.to)
 
 
-def table_lines(instance, plan, node):
-    """The lines of a node's table."""
+def table_lines(instance, plan, node, rounds=None):
+    """The lines of a node's table, of the cycle's rounds or of so many."""
     lines = []
-    for r in range(cycle_rounds(instance, plan)):
+    for r in range(rounds or cycle_rounds(instance, plan)):
         for k, n in enumerate(plan.order):
             words = ["row", r, k, instance.nodes[n].name, plan.caps[n]]
             for c in range(instance.channels):
@@ -623,10 +626,10 @@ def table_lines(instance, plan, node):
     return lines
 
 
-def window_lines(instance, plan, node):
-    """The lines of the windows of a node's slots."""
+def window_lines(instance, plan, node, rounds=None):
+    """The lines of the windows of a node's slots, in the cycle's rounds or in so many."""
     length, begins, durations = slot_times(instance, plan)
-    for r in range(cycle_rounds(instance, plan)):
+    for r in range(rounds or cycle_rounds(instance, plan)):
         start = r * length + begins[node]
         opens = start + instance.lead - instance.precision
         yield f"window {r} {instance.nodes[node].name} {opens} {start + durations[node] - instance.trail + instance.precision}"
@@ -637,21 +640,68 @@ def dispatch_rows(instance, plan, node):
     return (dispatch_row(instance, plan, p) for p in in_order(instance, plan, node))
 
 
-def loaded(instance, plan):
-    """The lines of the tables, node by node, and of the windows, in order of time."""
+def loaded(instance, plan, rounds):
+    """The lines of the tables of so many rounds, node by node, and of the windows, in order of time."""
     yield f"ttmedl {instance.channels}"
-    yield f"rounds {cycle_rounds(instance, plan)}"
+    yield f"rounds {rounds}"
     for n, node in enumerate(instance.nodes):
         yield f"node {node.name}"
-        yield from table_lines(instance, plan, n)
+        yield from table_lines(instance, plan, n, rounds)
     yield "ttguard 1"
-    for windows in zip(*(window_lines(instance, plan, n) for n in plan.order)):
+    for windows in zip(*(window_lines(instance, plan, n, rounds) for n in plan.order)):
         yield from windows
 
 
-def tables(instance, plan_text):
-    """The text of what is loaded into a cluster by a valid plan; raises Refused."""
-    return "\n".join(loaded(instance, verified(instance, plan_text)))
+def tables(instance, plan_text, rounds=None):
+    """The text of what is loaded into a cluster by a valid plan, of the rounds of its cycle or of so many; raises Refused."""
+    plan = verified(instance, plan_text)
+    needed = cycle_rounds(instance, plan)
+    if rounds is None:
+        rounds = needed
+    elif rounds < needed:
+        raise Refused(5, "tables rounds", needed, rounds)
+    elif rounds * len(instance.nodes) > TABLE_SLOTS_MOST:
+        raise Refused(5, "tables slots", rounds * len(instance.nodes))
+    return "\n".join(loaded(instance, plan, rounds))
+
+
+# A cycle that repeats
+
+
+TABLE_SLOTS_MOST, FITS_MOST, TRAIL_MOST = 1_000_000, 5, 10_000
+
+
+def fits(instance, dividing):
+    """Trails and rounds that divide a period, by rising trail and then by rising round."""
+    bytes_together = {0}
+    for node in instance.nodes:
+        bytes_together = {together + capacity for together in bytes_together for capacity in node.capacities}
+    for trail in range(instance.trail, TRAIL_MOST + 1):
+        beside = len(instance.nodes) * (instance.lead + instance.head + trail)
+        rounds = {beside + instance.per_byte * together for together in bytes_together}
+        for ticks in dividing:
+            if ticks in rounds:
+                yield trail, ticks
+
+
+def period_lines(instance, plan, period):
+    """How the rounds of a plan lie in a period; raises Refused."""
+    length, needed = slot_times(instance, plan)[0], cycle_rounds(instance, plan)
+    held, gap = divmod(period, length)
+    if held < needed:
+        raise Refused(5, "period rounds", needed, held)
+    yield "ttperiod 1"
+    yield from (f"period {period}", f"round {length}", f"rounds {held}", f"gap {gap}")
+    if gap:
+        dividing = [ticks for ticks in range(1, period + 1) if period % ticks == 0]
+        yield f"near {max(ticks for ticks in dividing if ticks <= length)} {min(ticks for ticks in dividing if ticks >= length)}"
+        for trail, ticks in itertools.islice(fits(instance, dividing), FITS_MOST):
+            yield f"fit {trail} {ticks}"
+
+
+def period(instance, plan_text, ticks):
+    """The text of a valid plan in a period; raises Refused."""
+    return "\n".join(period_lines(instance, verified(instance, plan_text), ticks))
 
 
 # What membership does
@@ -1638,7 +1688,8 @@ def why(words):
 
 USAGE = ("usage: second_check.py verify INSTANCE PLAN | check INSTANCE CERT | judge INSTANCE PLAN CERT"
          " | schedule INSTANCE PLAN [--table TABLE] | draw INSTANCE PLAN [--width PX] [--used]"
-         " | tables INSTANCE PLAN | replay INSTANCE PLAN [LOSS].."
+         " | tables INSTANCE PLAN [--rounds N] | period INSTANCE PLAN PERIOD"
+         " | replay INSTANCE PLAN [LOSS].."
          " | compare OLD_INSTANCE OLD_PLAN NEW_INSTANCE NEW_PLAN | limit INSTANCE ANSWER CERT [--reduced FILE] PROCESS.. | why INSTANCE [OPTION]..")
 COMMANDS = {"verify": (verify, "plan", PLAN_BYTES), "check": (check, "certificate", CERTIFICATE_BYTES),
             "tables": (tables, "plan", PLAN_BYTES)}
@@ -1775,9 +1826,22 @@ def command_of(words):
         return (lambda instance, text: schedule(instance, text, table)), "plan", PRINTED_BYTES
     if len(words) >= 3 and words[0] == "draw":
         return drawing_of(words[3:])
+    if len(words) == 4 and words[0] == "period":
+        ticks = number_of(words[3], 1, TICKS_MOST)
+        return (lambda instance, text: period(instance, text, ticks)), "plan", PLAN_BYTES
+    if len(words) == 5 and words[0] == "tables" and words[3] == "--rounds":
+        rounds = number_of(words[4], 0, NUMBER_MOST)
+        return (lambda instance, text: tables(instance, text, rounds)), "plan", PLAN_BYTES
     if len(words) != 3 or words[0] not in COMMANDS:
         raise Refused(2, USAGE)
     return COMMANDS[words[0]]
+
+
+def number_of(word, least, most):
+    """The number of a word, where it is within these bounds."""
+    if not word.isdecimal() or not least <= int(word) <= most:
+        raise Refused(2, USAGE)
+    return int(word)
 
 
 def drawing_of(words):

@@ -9,6 +9,7 @@ use command_streams::{End, report, status, take_input, write_text};
 use compare_command::{Compared, compare_run};
 use explain_command::{explain_certificate, explain_instance, explain_plan};
 use line_text::{NumberWord, cut, number_word, push_number, push_number_word};
+use period_command::{RoundsEnd, period_run, tables_run};
 use plan_commands::{
     check_run, draw_run, judge_run, replay_run, schedule_run, tables, verify, verify_bundle,
 };
@@ -19,6 +20,7 @@ use std::io::{Read, Write};
 use std::process::ExitCode;
 use std::str::{Utf8Error, from_utf8};
 use std::thread::Threads;
+use ttp_model::MOST_TICKS;
 
 /// The bytes of a header: a command's word and the lengths of its texts, each with a space behind it, and anything up to
 /// its end.
@@ -49,6 +51,8 @@ enum Command {
     Verify,
     Bundle,
     Tables,
+    Rounds,
+    Period,
     Replay,
     Check,
     Judge,
@@ -85,6 +89,7 @@ struct Case {
 #[derive(Drop)]
 enum Ended {
     End(End),
+    OfRounds(RoundsEnd),
     Compared(Compared),
 }
 
@@ -93,6 +98,8 @@ fn command_of(word: &[u8]) -> Option<Command> {
         b"verify" => Some(Command::Verify),
         b"bundle" => Some(Command::Bundle),
         b"tables" => Some(Command::Tables),
+        b"rounds" => Some(Command::Rounds),
+        b"period" => Some(Command::Period),
         b"replay" => Some(Command::Replay),
         b"check" => Some(Command::Check),
         b"judge" => Some(Command::Judge),
@@ -116,7 +123,12 @@ fn length_of(word: &[u8]) -> Option<u32> {
 /// How many texts a case has, or words in a text's place.
 fn texts_of(command: Command) -> u32 {
     match command {
-        Command::Replay | Command::Judge | Command::Schedule | Command::Draw => 3,
+        Command::Rounds
+        | Command::Period
+        | Command::Replay
+        | Command::Judge
+        | Command::Schedule
+        | Command::Draw => 3,
         Command::Compare => 4,
         _ => 2,
     }
@@ -223,6 +235,30 @@ fn shown_of(words: &[&str]) -> Shown {
     }
 }
 
+/// The number that the first word names; 1 where it names none.
+fn number_in(words: &[&str]) -> u32 {
+    let Some(word) = words.first() else {
+        return 1;
+    };
+    match number_word(word.as_bytes()) {
+        NumberWord::Number(number) => number,
+        _ => 1,
+    }
+}
+
+/// What is told of the rounds of a case's plan in the period that the first word names, brought into its range.
+fn period_of<W: Write>(alloc: Global, case: &Case, words: &[&str], out: &mut W) -> RoundsEnd {
+    let period = number_in(words).clamp(1, MOST_TICKS);
+    let (mut first, mut second) = (case.first.as_slice(), case.second.as_slice());
+    period_run(alloc, &mut first, &mut second, u64::from(period), out)
+}
+
+/// The tables of a case's plan in as many rounds as the first word names.
+fn rounds_of<W: Write>(alloc: Global, case: &Case, words: &[&str], out: &mut W) -> RoundsEnd {
+    let (mut first, mut second) = (case.first.as_slice(), case.second.as_slice());
+    tables_run(alloc, &mut first, &mut second, number_in(words), out)
+}
+
 /// How the comparison of a case's two instances with their plans ends.
 fn compared_of<W: Write>(alloc: Global, case: &Case, out: &mut W) -> Compared {
     compare_run(
@@ -248,6 +284,8 @@ fn end_of<W: Write>(
         Command::Verify => verify(alloc, &mut first, &mut second, out),
         Command::Bundle => verify_bundle(alloc, &mut first, out),
         Command::Tables => tables(alloc, &mut first, &mut second, out),
+        Command::Rounds => return Ended::OfRounds(rounds_of(alloc, case, words, out)),
+        Command::Period => return Ended::OfRounds(period_of(alloc, case, words, out)),
         Command::Replay => replay_run(alloc, &mut first, &mut second, words, out),
         Command::Check => check_run(rt, alloc, &mut first, &mut second, out),
         Command::Judge => {
@@ -280,6 +318,10 @@ fn told<W: Write>(ended: &Ended, error: &mut W) -> u8 {
             let _ = report(end, error);
             status(end)
         }
+        Ended::OfRounds(end) => {
+            let _ = period_command::report(end, error);
+            period_command::status(end)
+        }
         Ended::Compared(compared) => {
             let _ = compare_command::report(compared, error);
             compare_command::status(compared)
@@ -310,7 +352,11 @@ fn answer_of(
 /// The words of a case.
 fn words_of<'a>(alloc: Global, case: &'a Case) -> Result<Vec<&'a str>, Stopped> {
     match case.command {
-        Command::Replay | Command::Schedule | Command::Draw => {
+        Command::Rounds
+        | Command::Period
+        | Command::Replay
+        | Command::Schedule
+        | Command::Draw => {
             Ok(words_in(alloc, from_utf8(case.third.as_slice())?)?)
         }
         _ => Ok(Vec::new(alloc)),

@@ -1,6 +1,7 @@
 //! What is a person at a terminal told beside a line of codes?
 
 use command_streams::{Fault, Source, read_instance, status_of_fault};
+use period_command::RoundsEnd;
 use std::alloc::Global;
 use std::fmt;
 use std::fs::{self, File};
@@ -166,6 +167,35 @@ pub fn hint_at_none(rt: &HostRuntime, instance: &str) {
             "which constraints leave none: ttplan why {}",
             Word(instance)
         );
+    }
+}
+
+/// Says what the numbers of a refusal mean that tells of too few rounds or too many slots, where standard error is a terminal.
+pub fn hint_at_rounds(rt: &HostRuntime, end: &RoundsEnd) {
+    let mut err = rt.stderr();
+    if err.is_terminal() {
+        let _ = write_of_rounds(&mut err, end);
+    }
+}
+
+/// The line beside that of such a refusal.
+fn write_of_rounds(out: &mut impl Write, end: &RoundsEnd) -> io::Result<()> {
+    match end {
+        RoundsEnd::As(_) => Ok(()),
+        RoundsEnd::ShortPeriod(rounds) => writeln!(
+            out,
+            "the plan's cycle has {} rounds, and the period holds {} whole ones",
+            rounds.needed, rounds.held
+        ),
+        RoundsEnd::ShortTables(rounds) => writeln!(
+            out,
+            "the plan's cycle has {} rounds, and tables of {} would lack some",
+            rounds.needed, rounds.held
+        ),
+        RoundsEnd::ManySlots(slots) => writeln!(
+            out,
+            "so many rounds have {slots} slots, and tables have 1000000 at most"
+        ),
     }
 }
 

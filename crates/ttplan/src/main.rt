@@ -1,22 +1,25 @@
 //! The planner's program: which command the words ask for, and on which files it works.
 #![tactic(auto)]
 
-ghost use Rattle.command_words.specs.Requests.{IsSound, IsSoundTask};
+ghost use Rattle.command_words.specs.Requests.{IsSound, IsSoundRounds, IsSoundTask};
 
 mod files;
 mod hints;
 mod plan_file;
 
 use crate::files::{FileFault, Files, Named};
-use crate::hints::{Said, hint_at_fault, hint_at_none};
+use crate::hints::{Said, hint_at_fault, hint_at_none, hint_at_rounds};
 use crate::plan_file::shelf_of;
 pub use answer_files::FilesEnd;
 use command_streams::end_with;
 pub use command_streams::{End, Fault, SearchFault, Sink, Source, report, status};
-use command_words::{Explained, Limit, Request, Search, Task, VERSION, Why, refuse, request_in};
+use command_words::{
+    Explained, Limit, Request, RoundsTask, Search, Task, VERSION, Why, refuse, request_in,
+};
 pub use compare_command::{Compared, Release, compare_run};
 pub use explain_command::{explain_certificate, explain_instance, explain_plan};
 pub use limit_command::{Beside, limit_run};
+pub use period_command::{RoundsEnd, period_run, tables_run};
 pub use plan_commands::{
     check_run, draw_run, judge_run, replay_run, schedule_run, tables, verify, verify_bundle,
 };
@@ -77,6 +80,25 @@ fn run_on_files(rt: &HostRuntime, instance: &str, plan: &str, task: &Task) -> En
             *shown,
             &mut out,
         ),
+    }
+}
+
+/// Tells of the rounds of a plan's cycle: both files are open before either is read.
+fn run_of_rounds(rt: &HostRuntime, instance: &str, plan: &str, task: RoundsTask) -> RoundsEnd
+    requires { IsSoundRounds task }
+{
+    let (mut instance, mut plan) = match open_both(rt, instance, plan, Source::Plan) {
+        Ok(files) => files,
+        Err(source) => return RoundsEnd::As(End::Refused(Fault::Unread(source))),
+    };
+    let mut out = rt.stdout();
+    match task {
+        RoundsTask::Period(ticks) => {
+            period_run(rt.alloc(), &mut instance, &mut plan, ticks, &mut out)
+        }
+        RoundsTask::Tables(rounds) => {
+            tables_run(rt.alloc(), &mut instance, &mut plan, rounds, &mut out)
+        }
     }
 }
 
@@ -405,6 +427,16 @@ fn ended_comparing(rt: &HostRuntime, compared: &Compared, old: Said, new: Said) 
     compare_command::status(compared)
 }
 
+/// Says on standard error why nothing is told of a plan's rounds, and gives the status.
+fn ended_on_rounds(rt: &HostRuntime, end: &RoundsEnd, said: &Said) -> u8 {
+    let _ = period_command::report(end, &mut rt.stderr());
+    match end {
+        RoundsEnd::As(End::Refused(fault)) => hint_at_fault(rt, said, fault),
+        _ => hint_at_rounds(rt, end),
+    }
+    period_command::status(end)
+}
+
 /// Does what is asked for, says on standard error why it was refused, and gives the status. A search starts threads and waits for
 /// them, and so does the check of a certificate.
 fn run(rt: &HostRuntime, threads: &(impl Threads + Wait + Sync), request: Request) -> u8
@@ -419,6 +451,14 @@ fn run(rt: &HostRuntime, threads: &(impl Threads + Wait + Sync), request: Reques
             let end = run_on_files(rt, instance, plan, &task);
             let said = Said::files(instance, Some(plan), None);
             ended(rt, &end, &said.with_words(words_of(&task)))
+        }
+        Request::OfRounds {
+            instance,
+            plan,
+            task,
+        } => {
+            let end = run_of_rounds(rt, instance, plan, task);
+            ended_on_rounds(rt, &end, &Said::files(instance, Some(plan), None))
         }
         Request::Solve(search) => ended_solving(rt, threads, &search),
         Request::Why(why) => ended_asking(rt, threads, &why),
