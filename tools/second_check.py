@@ -560,6 +560,12 @@ def cycle_rounds(instance, plan):
     return -(-plan.delay // slot_times(instance, plan)[0])
 
 
+def cycle_line(instance, plan):
+    """What the last line says of a valid plan that is explained: its cycle."""
+    ticks, rounds = slot_times(instance, plan)[0], cycle_rounds(instance, plan)
+    return f"A round takes {ticks}, and the cycle has {rounds} of them: the next one may begin at {rounds * ticks}."
+
+
 def slot_rows(instance, plan):
     yield "round", "position", "channel", "node", "start", "frame", "frame_end", "end", "capacity", "used", "messages"
     length, begins, durations = slot_times(instance, plan)

@@ -6,6 +6,8 @@ use Rattle.ttp_model.specs.Instance.{Instance}
 use Rattle.ttp_model.specs.Plans.{IsValid}
 use Rattle.ttp_model.specs.Delays.{delay}
 use Rattle.ttp_model.specs.Faults.{IsFirstFault}
+use Rattle.ttp_model.specs.Slots.{round_length}
+use Rattle.tt_layout.specs.Cycle.{cycle_rounds}
 use Rattle.plan_format.specs.declared.fault.LineFault.{LineFault}
 use Rattle.plan_format.specs.declared.fault.PlanTextError.TheVariants.{At}
 use Rattle.plan_format.specs.Spelling.{SpellsPlan}
@@ -23,7 +25,7 @@ use Rattle.command_streams.specs.declared.ending.Fault.{Fault}
 use Rattle.command_streams.specs.declared.ending.Fault.TheVariants as fault
 use Rattle.plan_text_words.specs.Texts.{line_fault_text}
 use Rattle.explain_command.specs.Mistaken.{first_line_words}
-use Rattle.explain_command.specs.Telling.{line_of}
+use Rattle.explain_command.specs.Telling.{cycle_line, line_of}
 
 -- a plan that breaks a rule: which two things its first fault compares
 pub record TellsBroken (i : Instance) (plan : Plan) (text : List ℕ) : Type 0 where
@@ -39,13 +41,13 @@ pub record TellsMisstated (i : Instance) (plan : Plan) (stated : ℕ) (text : Li
   pub are : IsDelayText i plan stated words
   pub told : text ≡ line_of (fault.StatedDelay (delay i plan)) ++ words
 
--- a valid plan that states its own: why it ends when it does
+-- a valid plan that states its own: why it ends when it does, and how long its cycle is
 pub record TellsValid (i : Instance) (plan : Plan) (stated : ℕ) (text : List ℕ) : Type 0 where
   pub valid : IsValid i plan
   pub own : delay i plan ≡ stated
   pub words : List ℕ
   pub are : IsChainText i plan words
-  pub told : text ≡ valid_line stated ++ words
+  pub told : text ≡ valid_line stated ++ (words ++ cycle_line (cycle_rounds i plan) (round_length i.cluster plan.caps))
 
 -- a plan with the delay that it states
 abbrev pub TellsPlan : Instance → Plan → ℕ → List ℕ → Type 0

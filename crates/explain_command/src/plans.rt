@@ -1,23 +1,27 @@
 //! What is told of a plan?
 
-ghost use Rattle.std.specs.Prelude.{◌≡◌, ◌≢◌, ◌≤◌, Err, IfOk, OnOk, string_bytes};
+ghost use Rattle.std.specs.Prelude.{◌≡◌, ◌≢◌, ◌≤◌, ◌++◌, Err, IfOk, OnOk, string_bytes};
 ghost use Rattle.ttp_model.specs.Plans.{IsValid};
 ghost use Rattle.ttp_model.specs.Delays.{delay};
 ghost use Rattle.ttp_model.specs.Faults.{IsFirstFault};
+ghost use Rattle.ttp_model.specs.Slots.{round_length};
+ghost use Rattle.tt_layout.specs.Cycle.{cycle_rounds};
 ghost use Rattle.plan_words.specs.Gains.{Gains};
 ghost use Rattle.plan_format.specs.declared.fault.PlanTextError.TheVariants.{At};
 ghost use Rattle.plan_format.specs.Reading.{plan_at};
 ghost use Rattle.plan_commands.specs.Fronts.{BeginsWith};
+ghost use Rattle.explain_command.specs.Telling.{cycle_line};
 ghost use Rattle.explain_command.specs.Plans.{TellsBroken, TellsMisstated, TellsPlan, TellsPlanText, TellsPrinted, TellsUnspelled, TellsValid, bare_text};
 
 use crate::mistaken::first_line_words;
-use crate::telling::{put_line, put_valid_line};
+use crate::telling::{put_cycle_line, put_line, put_valid_line};
 use command_streams::Fault;
 use plan_commands::{Front, bare_fault};
 use plan_format::{LineFault, PlanTextError, read};
 use plan_text_words::put_line_fault;
 use plan_words::{put_delay, put_fault};
-use std::alloc::Global;
+use std::alloc::{AllocError, Global};
+use tt_layout::{Layout, cycle_rounds};
 use ttp_model::{Instance, MemoryFault, Plan, PlanFault};
 
 /// Tells which rule a plan breaks.
@@ -53,7 +57,17 @@ fn put_misstated(
     Ok(())
 }
 
-/// Tells why a valid plan ends at its delay, in ticks, which it states.
+/// Tells how long the cycle of a valid plan is.
+fn put_cycle(text: &mut String, instance: &Instance, plan: &Plan) -> Result<(), AllocError>
+    requires { IsValid instance.now plan.now }
+    ensures { OnOk result (string_bytes text.new ≡ string_bytes text.old
+        ++ cycle_line (cycle_rounds instance.now plan.now) (round_length instance.now.cluster plan.now.caps)) }
+{
+    let layout = Layout::of(instance, plan.order.as_slice(), plan.caps.as_slice());
+    put_cycle_line(text, cycle_rounds(instance, plan), layout.round_length())
+}
+
+/// Tells why a valid plan ends at its delay, in ticks, which it states, and how long its cycle is.
 fn put_valid(
     alloc: Global,
     text: &mut String,
@@ -68,6 +82,7 @@ fn put_valid(
     let chain = plan_chain::print(alloc, instance, plan)?;
     put_valid_line(text, stated)?;
     text.push_str(chain.as_str())?;
+    put_cycle(text, instance, plan)?;
     Ok(())
 }
 
