@@ -162,7 +162,7 @@ pub enum Request<'a> {
 
 /// The program's version, and those of the texts that it reads and writes.
 pub const VERSION: &str =
-    "ttplan 0.1.0\ntexts: ttplan 1, ttplan 2, ttcert 1, ttcert 2, ttmedl 1, ttmedl 2, ttguard 1, ttreplay 1, ttwhy 1\n";
+    "ttplan 0.1.0\ntexts: ttplan 1, ttplan 2, ttcert 1, ttcert 2, ttmedl 1, ttmedl 2, ttguard 1, ttreplay 1, ttperiod 1, ttwhy 1\n";
 
 /// The words that the program was called with. The error's kind is `InvalidData` where one is not UTF-8.
 pub fn all(rt: &(impl Env + AllocGlobal)) -> io::Result<Vec<String>> {
