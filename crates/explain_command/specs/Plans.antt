@@ -1,5 +1,5 @@
 -- What is told of a plan's bytes, for an instance.
-use Rattle.std.specs.Prelude.{◌≡◌, ◌≢◌, ◌⊎◌, ℕ, ◌+◌, List, ◌++◌, Err, codes}
+use Rattle.std.specs.Prelude.{◌≡◌, ◌≢◌, ◌⊎◌, ℕ, ◌+◌, ◌*◌, List, ◌++◌, Err, codes}
 use Rattle.ttp_model.specs.declared.fault.PlanFault.{PlanFault}
 use Rattle.ttp_model.specs.declared.plan.Plan.{Plan}
 use Rattle.ttp_model.specs.Instance.{Instance}
@@ -41,13 +41,17 @@ pub record TellsMisstated (i : Instance) (plan : Plan) (stated : ℕ) (text : Li
   pub are : IsDelayText i plan stated words
   pub told : text ≡ line_of (fault.StatedDelay (delay i plan)) ++ words
 
+-- how long the cycle of a plan is
+abbrev pub cycle_words : Instance → Plan → List ℕ
+cycle_words i plan = cycle_line (cycle_rounds i plan) (round_length i.cluster plan.caps) (cycle_rounds i plan * round_length i.cluster plan.caps)
+
 -- a valid plan that states its own: why it ends when it does, and how long its cycle is
 pub record TellsValid (i : Instance) (plan : Plan) (stated : ℕ) (text : List ℕ) : Type 0 where
   pub valid : IsValid i plan
   pub own : delay i plan ≡ stated
   pub words : List ℕ
   pub are : IsChainText i plan words
-  pub told : text ≡ valid_line stated ++ (words ++ cycle_line (cycle_rounds i plan) (round_length i.cluster plan.caps))
+  pub told : text ≡ valid_line stated ++ (words ++ cycle_words i plan)
 
 -- a plan with the delay that it states
 abbrev pub TellsPlan : Instance → Plan → ℕ → List ℕ → Type 0

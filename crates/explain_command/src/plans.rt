@@ -4,14 +4,11 @@ ghost use Rattle.std.specs.Prelude.{◌≡◌, ◌≢◌, ◌≤◌, ◌++◌, E
 ghost use Rattle.ttp_model.specs.Plans.{IsValid};
 ghost use Rattle.ttp_model.specs.Delays.{delay};
 ghost use Rattle.ttp_model.specs.Faults.{IsFirstFault};
-ghost use Rattle.ttp_model.specs.Slots.{round_length};
-ghost use Rattle.tt_layout.specs.Cycle.{cycle_rounds};
 ghost use Rattle.plan_words.specs.Gains.{Gains};
 ghost use Rattle.plan_format.specs.declared.fault.PlanTextError.TheVariants.{At};
 ghost use Rattle.plan_format.specs.Reading.{plan_at};
 ghost use Rattle.plan_commands.specs.Fronts.{BeginsWith};
-ghost use Rattle.explain_command.specs.Telling.{cycle_line};
-ghost use Rattle.explain_command.specs.Plans.{TellsBroken, TellsMisstated, TellsPlan, TellsPlanText, TellsPrinted, TellsUnspelled, TellsValid, bare_text};
+ghost use Rattle.explain_command.specs.Plans.{TellsBroken, TellsMisstated, TellsPlan, TellsPlanText, TellsPrinted, TellsUnspelled, TellsValid, bare_text, cycle_words};
 
 use crate::mistaken::first_line_words;
 use crate::telling::{put_cycle_line, put_line, put_valid_line};
@@ -60,11 +57,13 @@ fn put_misstated(
 /// Tells how long the cycle of a valid plan is.
 fn put_cycle(text: &mut String, instance: &Instance, plan: &Plan) -> Result<(), AllocError>
     requires { IsValid instance.now plan.now }
-    ensures { OnOk result (string_bytes text.new ≡ string_bytes text.old
-        ++ cycle_line (cycle_rounds instance.now plan.now) (round_length instance.now.cluster plan.now.caps)) }
+    ensures { OnOk result (string_bytes text.new ≡ string_bytes text.old ++ cycle_words instance.now plan.now) }
 {
     let layout = Layout::of(instance, plan.order.as_slice(), plan.caps.as_slice());
-    put_cycle_line(text, cycle_rounds(instance, plan), layout.round_length())
+    let round = layout.round_length();
+    let rounds = cycle_rounds(instance, plan);
+    let next = u64::from(rounds) * round;
+    put_cycle_line(text, rounds, round, next)
 }
 
 /// Tells why a valid plan ends at its delay, in ticks, which it states, and how long its cycle is.

@@ -1,7 +1,6 @@
 //! What stands above all sentences: the line that a command without them would give.
 
-ghost use Rattle.std.specs.Prelude.{◌≡◌, ◌≤◌, ◌++◌, OnOk, string_bytes};
-ghost use Rattle.ttp_model.specs.declared.limits.TheConstants.{MOST_ROUND, MOST_TICKS};
+ghost use Rattle.std.specs.Prelude.{◌≡◌, ◌++◌, OnOk, string_bytes};
 ghost use Rattle.plan_commands.specs.Verdicts.{valid_line};
 ghost use Rattle.explain_command.specs.Telling.{cycle_line, line_of};
 
@@ -23,14 +22,16 @@ pub fn put_valid_line(text: &mut String, delay: u32) -> Result<(), AllocError>
     writeln!(text, "valid {delay}")
 }
 
-/// Adds the line of a cycle of so many rounds, each of so many ticks.
+/// Adds the line of a cycle of so many rounds, each of so many ticks, and of when the next one may begin.
 #[tactic(auto, unfolding(crate::specs::Telling::cycle_line))]
-pub fn put_cycle_line(text: &mut String, rounds: u32, round: u64) -> Result<(), AllocError>
-    requires rounds { rounds ≤ MOST_TICKS }
-    requires round { round ≤ MOST_ROUND }
-    ensures { OnOk result (string_bytes text.new ≡ string_bytes text.old ++ cycle_line rounds round) }
+pub fn put_cycle_line(
+    text: &mut String,
+    rounds: u32,
+    round: u64,
+    next: u64,
+) -> Result<(), AllocError>
+    ensures { OnOk result (string_bytes text.new ≡ string_bytes text.old ++ cycle_line rounds round next) }
 {
-    let next = u64::from(rounds) * round;
     writeln!(
         text,
         "A round takes {round}, and the cycle has {rounds} of them: the next one may begin at {next}."
