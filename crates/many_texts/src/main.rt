@@ -352,11 +352,7 @@ fn answer_of(
 /// The words of a case.
 fn words_of<'a>(alloc: Global, case: &'a Case) -> Result<Vec<&'a str>, Stopped> {
     match case.command {
-        Command::Rounds
-        | Command::Period
-        | Command::Replay
-        | Command::Schedule
-        | Command::Draw => {
+        Command::Rounds | Command::Period | Command::Replay | Command::Schedule | Command::Draw => {
             Ok(words_in(alloc, from_utf8(case.third.as_slice())?)?)
         }
         _ => Ok(Vec::new(alloc)),
