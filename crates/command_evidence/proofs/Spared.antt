@@ -1,7 +1,7 @@
 -- A request that is sound spares the instance's file.
 use Rattle.std.proofs.Common.{◌≡◌, ◌++◌, ◌∙◌, ℕ, List, Option, None, Some, IfSome, Bor, codes, false, refl, ap, sym}
 use Rattle.command_words.specs.declared.words.Request.{Request}
-use Rattle.command_words.specs.declared.words.Request.TheVariants.{OnFiles, Solve, Why, Check, Judge, Compare, Explain, VerifyBundle, Version}
+use Rattle.command_words.specs.declared.words.Request.TheVariants.{OfRounds, OnFiles, Solve, Why, Check, Judge, Compare, Explain, VerifyBundle, Version}
 use Rattle.command_words.specs.declared.words.Request.TheVariants.{Limit as Limiting}
 use Rattle.command_words.specs.Names.{IsOtherFile, NameOneFile, is_rooted, parts}
 use Rattle.command_words.specs.declared.words.Search.{Search}
@@ -27,6 +27,7 @@ limited limit (Some file) apart = λ local is. apart (spelled_again limit.instan
 
 pub spares : (request : Request) → IsSound request → SparesInstance request
 spares (OnFiles instance plan task) sound = tt
+spares (OfRounds instance plan task) sound = tt
 spares (Solve search) sound = another search search.certificate sound.certificate
 spares (Why why) sound = tt
 spares (Limiting limit) sound = limited limit limit.certificate sound.certificate
