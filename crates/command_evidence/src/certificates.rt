@@ -2,7 +2,7 @@
 
 ghost use Rattle.std.specs.Prelude.{◌≡◌, IfOk};
 ghost use Rattle.certificate.specs.declared.version.Version.TheVariants.{One};
-ghost use Rattle.certificate.specs.Spelling.{SpellsCert};
+ghost use Rattle.certificate.specs.Spelling.{SpellsCert, cert_text};
 ghost use Rattle.certificate.specs.Trees.{IsTree};
 ghost use Rattle.certificate.specs.Versions.{Allows};
 ghost use Rattle.tree_gathering.specs.Gathering.{AreShallow, HaveGoals};
@@ -22,13 +22,11 @@ pub fn text_spells_what_is_read(alloc: Global, text: &[u8]) -> Result<Cert, Cert
     read(alloc, text)
 }
 
-/// What is read is one tree whose branches have all their children, few enough of them one below another.
+/// The text is that of one tree whose branches have all their children, few enough of them one below another.
 pub fn what_is_read_is_a_whole_tree(alloc: Global, text: &[u8]) -> Result<Cert, CertTextError>
-    ensures { IfOk result (λ cert. IsTree cert.tree) }
+    ensures { IfOk result (λ cert. IsTree cert.tree × (text.now ≡ cert_text cert)) }
 {
-    let cert = read(alloc, text)?;
-    let _nodes = cert.nodes();
-    Ok(cert)
+    read(alloc, text)
 }
 
 /// No line of a text of version 1 speaks of channels.
