@@ -9,7 +9,7 @@ use command_streams::{End, WriteFault, write_text};
 use std::io::Write;
 
 /// How a command ends that writes an instance beside its answer.
-#[derive(Debug, Drop)]
+#[derive(Drop)]
 pub enum FilesEnd {
     /// As other commands do.
     As(End),

@@ -8,7 +8,7 @@ use command_streams::{End, Fault, Sink, write_text};
 use std::io::Write;
 
 /// What is written: an answer, and beside it what is wanted, each to a writer of its own. What isn't wanted is empty.
-#[derive(Debug, Drop)]
+#[derive(Drop)]
 pub struct Texts {
     pub certificate: Vec<u8>,
     /// The instance that the certificate is for; none where no text of it reads back.

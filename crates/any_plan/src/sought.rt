@@ -14,7 +14,7 @@ use std::thread::Threads;
 use ttp_model::{Instance, Plan};
 
 /// What a search for any plan tells.
-#[derive(Debug, Drop)]
+#[derive(Drop)]
 pub enum Sought {
     /// A valid plan, with its delay in ticks.
     Found { delay: u64, plan: Plan },

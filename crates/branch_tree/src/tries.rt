@@ -13,7 +13,7 @@ const ENOUGH: u32 = 300_000;
 const SELDOM: u32 = 16;
 
 /// When two processes can run.
-#[derive(Clone, Copy, Debug, PartialEq, Eq)]
+#[derive(Clone, Copy, PartialEq, Eq)]
 struct Windows {
     first_from: u32,
     first_until: u32,

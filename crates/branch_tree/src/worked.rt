@@ -4,7 +4,7 @@ use subtree_tasks::Task;
 use ttp_model::{Kind, Leaf, Plan};
 
 /// What a task was worked into.
-#[derive(Debug, Drop)]
+#[derive(Drop)]
 pub enum Worked {
     /// A branch of its choice, with a task for each child, in order. Takes a goal above the path
     /// bound.

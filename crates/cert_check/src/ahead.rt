@@ -19,7 +19,7 @@ use std::alloc::Global;
 use std::io::Read;
 
 /// What stands ahead of the nodes that were taken.
-#[derive(Clone, Copy, Debug, PartialEq, Eq)]
+#[derive(Clone, Copy, PartialEq, Eq)]
 pub enum Ahead {
     /// Others, as far as is known.
     More,

@@ -9,7 +9,7 @@ use std::marker::Model;
 /// The version of its text, a bound, and a tree that is to show that no plan has a delay below it. Contracts see the tree;
 /// its nodes stand in one list, each in front of those below it, so nothing here goes down the tree
 /// by calls.
-#[derive(Debug, Drop)]
+#[derive(Drop)]
 pub struct Cert {
     version: Version,
     low: u32,

@@ -15,7 +15,7 @@ use tt_infer::{FewNumbers, Line, channel_line, plain_line};
 use ttp_model::Kind;
 
 /// What a node's line says: all of a branch, and of a leaf its goal and how many steps follow.
-#[derive(Clone, Copy, Debug, PartialEq, Eq)]
+#[derive(Clone, Copy, PartialEq, Eq)]
 pub enum Head {
     OfBranch(Branch),
     OfLeaf(u32, u32),

@@ -12,7 +12,7 @@ use line_text::{NumberWord, cut, number_word};
 use tt_infer::FewNumbers;
 
 /// One to four words, as numbers.
-#[derive(Clone, Copy, Debug, PartialEq, Eq)]
+#[derive(Clone, Copy, PartialEq, Eq)]
 pub enum FewWords {
     One(NumberWord),
     Two(NumberWord, NumberWord),

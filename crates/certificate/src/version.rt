@@ -12,7 +12,7 @@ use ttp_model::{Kind, Step};
 
 /// The version of a certificate's text, which its first line names. The second has all lines of the first, and those
 /// that speak of channels.
-#[derive(Clone, Copy, Debug, PartialEq, Eq)]
+#[derive(Clone, Copy, PartialEq, Eq)]
 pub enum Version {
     /// Of texts that begin with `ttcert 1`.
     One,

@@ -7,7 +7,7 @@ ghost use Rattle.told_bytes.specs.TextLines.{text_lines};
 use line_text::{NumberWord, after_keyword, cut, number_word};
 
 /// What has to stand in a line.
-#[derive(Clone, Copy, Debug, PartialEq, Eq)]
+#[derive(Clone, Copy, PartialEq, Eq)]
 pub enum LinePlace {
     /// The version.
     First,

@@ -12,7 +12,7 @@ use tree_check::CertFault;
 use ttp_model::{MemoryFault, ModelError, PlanFault};
 
 /// Where a command reads from.
-#[derive(Clone, Copy, Debug, PartialEq, Eq)]
+#[derive(Clone, Copy, PartialEq, Eq)]
 pub enum Source {
     Instance,
     Plan,
@@ -20,7 +20,7 @@ pub enum Source {
 }
 
 /// Where it writes to.
-#[derive(Clone, Copy, Debug, PartialEq, Eq)]
+#[derive(Clone, Copy, PartialEq, Eq)]
 pub enum Sink {
     Certificate,
     /// The file of the best plan so far.
@@ -29,7 +29,7 @@ pub enum Sink {
 }
 
 /// Why a search has no answer.
-#[derive(Clone, Copy, Debug, PartialEq, Eq)]
+#[derive(Clone, Copy, PartialEq, Eq)]
 pub enum SearchFault {
     /// When memory was refused before there was anything to answer.
     Memory,
@@ -38,7 +38,7 @@ pub enum SearchFault {
 }
 
 /// Why a command was refused.
-#[derive(Debug, Drop)]
+#[derive(Drop)]
 pub enum Fault {
     /// When a bundle has no line `%%`.
     NoMark,
@@ -102,7 +102,7 @@ impl<T: Drop> From<AllocFailed<T>> for Fault {
 }
 
 /// How a command ends.
-#[derive(Debug, Drop)]
+#[derive(Drop)]
 pub enum End {
     /// It did what it is for.
     Done,

@@ -17,7 +17,7 @@ use ttp_model::Instance;
 pub const INSTANCE_LIMIT: usize = 8_388_608;
 
 /// Why the taking ended.
-#[derive(Clone, Copy, Debug, PartialEq, Eq)]
+#[derive(Clone, Copy, PartialEq, Eq)]
 pub enum Stop {
     /// The reader gave all its bytes.
     AtEnd,
@@ -28,7 +28,7 @@ pub enum Stop {
 }
 
 /// What a reader gave.
-#[derive(Debug, Drop)]
+#[derive(Drop)]
 pub struct Taken {
     pub bytes: Vec<u8>,
     pub stop: Stop,

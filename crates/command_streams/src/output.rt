@@ -9,7 +9,7 @@ use crate::ending::{End, Fault, Sink};
 use std::io::Write;
 
 /// When a write failed, or took no byte, or there is no room for a line.
-#[derive(Clone, Copy, Debug, PartialEq, Eq)]
+#[derive(Clone, Copy, PartialEq, Eq)]
 pub struct WriteFault;
 
 /// Writes a text by single writes, each of what is left. A write that takes no byte has failed.

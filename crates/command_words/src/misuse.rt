@@ -13,7 +13,7 @@ use command_streams::Source;
 use std::alloc::{AllocError, Global};
 
 /// Why the values of a subcommand ask for nothing.
-#[derive(Debug, Drop)]
+#[derive(Drop)]
 pub enum Misuse<'a> {
     /// When one is missing, which `clap` has seen to.
     Missing,

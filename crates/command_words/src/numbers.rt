@@ -6,7 +6,7 @@ use plan_picture::{LEAST_WIDTH, MOST_WIDTH};
 use ttp_model::MOST_TICKS;
 
 /// A subcommand that has options with numbers.
-#[derive(Clone, Copy, Debug)]
+#[derive(Clone, Copy)]
 pub enum NumberedCommand {
     Solve,
     Draw,
@@ -17,7 +17,7 @@ pub enum NumberedCommand {
 }
 
 /// An option that takes a whole number within bounds.
-#[derive(Clone, Copy, Debug)]
+#[derive(Clone, Copy)]
 pub struct NumberOption {
     pub command: NumberedCommand,
     pub name: &'static str,

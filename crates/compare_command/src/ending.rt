@@ -9,14 +9,14 @@ use command_streams::{Fault, WriteFault, report_fault, status_of_fault};
 use std::io::Write;
 
 /// Which of the two that are compared.
-#[derive(Clone, Copy, Debug, PartialEq, Eq)]
+#[derive(Clone, Copy, PartialEq, Eq)]
 pub enum Release {
     Old,
     New,
 }
 
 /// How a comparison ends.
-#[derive(Debug, Drop)]
+#[derive(Drop)]
 pub enum Compared {
     /// Nothing is different.
     Same,

@@ -20,7 +20,7 @@ use std::thread::Threads;
 use ttp_model::{Instance, MemoryFault, Plan};
 
 /// A constraint that leaves no plan with others.
-#[derive(Clone, Copy, Debug, PartialEq, Eq)]
+#[derive(Clone, Copy, PartialEq, Eq)]
 pub struct Need {
     pub constraint: Constraint,
     /// Whether there is a plan without it, by the others.
@@ -28,7 +28,7 @@ pub struct Need {
 }
 
 /// Why an instance has no plan.
-#[derive(Debug, Drop)]
+#[derive(Drop)]
 pub enum Conflict {
     /// It has one, with this delay in ticks.
     Plan {

@@ -22,7 +22,7 @@ pub struct Halving {
 }
 
 /// What there is without some of the constraints.
-#[derive(Clone, Copy, Debug, PartialEq, Eq)]
+#[derive(Clone, Copy, PartialEq, Eq)]
 pub enum Without {
     /// A valid plan.
     SomePlan,

@@ -11,7 +11,7 @@ use ttp_model::MemoryFault;
 const WORD_LEVELS: u32 = 64;
 
 /// A set of levels of a path: of its branches, the root's being level 0.
-#[derive(Debug, Drop)]
+#[derive(Drop)]
 pub struct Levels {
     /// A bit for each level, 64 in a word, the first in its lowest bit.
     words: Vec<u64>,

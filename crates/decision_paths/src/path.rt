@@ -13,7 +13,7 @@ use tt_choice::{Decision, decision_at, is_of_places};
 use ttp_model::{BOTH_CHANNELS, Instance, Kind, MemoryFault};
 
 /// A decision, and what stood in its place.
-#[derive(Clone, Copy, Debug)]
+#[derive(Clone, Copy)]
 pub struct Taken {
     pub turn: Turn,
     pub stood: Stood,

@@ -31,7 +31,7 @@ pub struct Tables {
 }
 
 /// What stood where a decision tells: the levels of one or two branches, a bound, or a channel.
-#[derive(Clone, Copy, Debug)]
+#[derive(Clone, Copy)]
 pub struct Stood {
     pub level: Option<u32>,
     pub below: Option<u32>,

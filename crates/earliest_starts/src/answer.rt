@@ -4,7 +4,7 @@ use crate::clash::Clash;
 use ttp_model::Plan;
 
 /// The answer for a complete choice.
-#[derive(Debug, Drop, PartialEq)]
+#[derive(Drop)]
 pub enum Earliest {
     /// When the choice has a valid plan: the one whose starts are least in every place, with its
     /// delay in ticks.

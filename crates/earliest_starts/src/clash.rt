@@ -3,7 +3,7 @@
 use ttp_model::Numbers;
 
 /// What rules out each valid plan of a complete choice.
-#[derive(Debug, Drop, PartialEq)]
+#[derive(Drop)]
 pub enum Clash {
     /// When processes of one node wait for each other: each goes ahead of the next, and the last
     /// of the first, by the choice or by a link. There are two or three.

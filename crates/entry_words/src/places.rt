@@ -11,7 +11,7 @@ use told_bytes::Told;
 use ttp_model::Place;
 
 /// An entry of a list, by what it is and its index.
-#[derive(Clone, Copy, Debug)]
+#[derive(Clone, Copy)]
 pub struct Entry {
     pub kind: &'static str,
     pub index: u64,
@@ -28,7 +28,7 @@ impl fmt::Display for Entry {
 }
 
 /// A place of an instance, with the name that stands there, if one does.
-#[derive(Clone, Copy, Debug)]
+#[derive(Clone, Copy)]
 pub enum Spot<'a> {
     /// The top of a text.
     Top,

@@ -14,7 +14,7 @@ use ttp_model::{
 };
 
 /// A number that has a range.
-#[derive(Clone, Copy, Debug, PartialEq, Eq)]
+#[derive(Clone, Copy, PartialEq, Eq)]
 pub enum Quantity {
     Precision,
     Lead,
@@ -54,7 +54,7 @@ impl fmt::Display for Quantity {
 }
 
 /// A number that is outside its range.
-#[derive(Clone, Copy, Debug)]
+#[derive(Clone, Copy)]
 pub struct Outside {
     pub quantity: Quantity,
     pub value: u32,
@@ -130,7 +130,7 @@ pub fn outside_at(stated: Stated, place: Place) -> Option<Outside>
 }
 
 /// By how much a number is outside its range.
-#[derive(Clone, Copy, Debug)]
+#[derive(Clone, Copy)]
 struct Missed {
     outside: Outside,
 }
@@ -152,7 +152,7 @@ impl fmt::Display for Missed {
 }
 
 /// A number, and where it has to be.
-#[derive(Clone, Copy, Debug)]
+#[derive(Clone, Copy)]
 struct Bounds {
     outside: Outside,
 }

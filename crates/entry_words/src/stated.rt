@@ -65,7 +65,7 @@ pub fn node_of(stated: Stated, p: u32) -> u32
 }
 
 /// The times of a process, in ticks.
-#[derive(Clone, Copy, Debug)]
+#[derive(Clone, Copy)]
 pub struct Times {
     pub wcet: u32,
     pub release: u32,

@@ -10,7 +10,7 @@ use std::fmt;
 use told_bytes::Told;
 
 /// A number of ticks.
-#[derive(Clone, Copy, Debug)]
+#[derive(Clone, Copy)]
 struct Ticks {
     ticks: u64,
 }
@@ -30,7 +30,7 @@ impl fmt::Display for Ticks {
 }
 
 /// So many ticks that are lacking.
-#[derive(Clone, Copy, Debug)]
+#[derive(Clone, Copy)]
 struct Lacking {
     ticks: u64,
 }

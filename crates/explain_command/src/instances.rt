@@ -16,7 +16,7 @@ use std::alloc::Global;
 use ttp_model::{Instance, MemoryFault, ModelError};
 
 /// What came of an instance's bytes.
-#[derive(Debug, Drop)]
+#[derive(Drop)]
 pub enum Stated {
     /// They state this one.
     Instance(Instance),

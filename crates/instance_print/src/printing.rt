@@ -9,7 +9,7 @@ use std::alloc::{AllocError, Global};
 use ttp_model::Instance;
 
 /// Why no text of an instance is handed out.
-#[derive(Clone, Copy, Debug, PartialEq, Eq)]
+#[derive(Clone, Copy, PartialEq, Eq)]
 pub enum PrintFault {
     /// Memory was refused as the text was made.
     Memory,

@@ -117,7 +117,7 @@ impl fmt::Display for Key {
 /// The first fault of a text, in this order: the text, the top table with the items of its arrays,
 /// the cluster, the nodes, the processes, the links, the messages, and then the model's rules. In a
 /// table an unknown key goes first, then each key in turn.
-#[derive(Debug, Drop, PartialEq, Error)]
+#[derive(Debug, Drop, Error)]
 pub enum TextError {
     /// When the bytes are no TOML text, or no UTF-8.
     #[error("not TOML")]

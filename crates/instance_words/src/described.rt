@@ -29,7 +29,7 @@ fn has_room(bytes: u32, capacities: &[u32]) -> bool
 }
 
 /// A number of bytes.
-#[derive(Clone, Copy, Debug)]
+#[derive(Clone, Copy)]
 struct Bytes {
     bytes: u32,
 }

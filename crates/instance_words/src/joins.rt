@@ -30,7 +30,7 @@ fn receiver_there(stated: Stated, m: u32) -> u32
 }
 
 /// From where to where a message goes.
-#[derive(Clone, Copy, Debug)]
+#[derive(Clone, Copy)]
 struct Way<'a> {
     message: Told<'a>,
     sender: Told<'a>,
@@ -118,7 +118,7 @@ pub fn put_receiver_there(text: &mut String, stated: Stated, m: u32) -> Result<(
 }
 
 /// A process with its node.
-#[derive(Clone, Copy, Debug)]
+#[derive(Clone, Copy)]
 struct OnNode<'a> {
     process: Told<'a>,
     node: Told<'a>,

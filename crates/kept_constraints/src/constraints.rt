@@ -8,7 +8,7 @@ use std::alloc::{AllocError, Global};
 use ttp_model::{Instance, MOST_TICKS, MemoryFault, Message, Process};
 
 /// One constraint of an instance, those of a list by their index.
-#[derive(Clone, Copy, Debug, PartialEq, Eq)]
+#[derive(Clone, Copy, PartialEq, Eq)]
 pub enum Constraint {
     /// That all ends are within the horizon.
     Horizon,
@@ -25,7 +25,7 @@ pub enum Constraint {
 }
 
 /// What a constraint is on, but for the horizon.
-#[derive(Clone, Copy, Debug)]
+#[derive(Clone, Copy)]
 enum Kind {
     Deadline,
     Release,
@@ -35,7 +35,7 @@ enum Kind {
 }
 
 /// The constraints of an instance that are kept, by flags.
-#[derive(Debug, Drop)]
+#[derive(Drop)]
 pub struct Constraints {
     pub horizon: bool,
     /// By process.

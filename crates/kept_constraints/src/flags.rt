@@ -8,7 +8,7 @@ use std::marker::Model;
 use ttp_model::MemoryFault;
 
 /// A flag for each place of a list, which contracts see as the list of them.
-#[derive(Debug, Drop)]
+#[derive(Drop)]
 pub struct Flags {
     items: Vec<bool>,
 }

@@ -3,7 +3,7 @@
 use ttp_model::Plan;
 
 /// How many ticks later all has to end for there to be a plan: the horizon and all deadlines.
-#[derive(Debug, Drop)]
+#[derive(Drop)]
 pub enum Lateness {
     /// `late` ticks, and with fewer there is none.
     Least { late: u32, plan: Plan },

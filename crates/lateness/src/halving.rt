@@ -18,7 +18,7 @@ use std::thread::Threads;
 use ttp_model::{Instance, Plan};
 
 /// What is known of how late all has to end.
-#[derive(Debug, Drop)]
+#[derive(Drop)]
 pub struct Known {
     /// With fewer ticks there is no plan.
     pub low: u32,
@@ -28,7 +28,7 @@ pub struct Known {
 }
 
 /// How a search half way ends.
-#[derive(Clone, Copy, Debug, PartialEq, Eq)]
+#[derive(Clone, Copy, PartialEq, Eq)]
 pub enum HalfWay {
     /// It tells that there is a plan, or none.
     Decided,

@@ -23,7 +23,7 @@ use std::thread::Threads;
 use ttp_model::Instance;
 
 /// What searches say of how early processes can end, with the texts that tell it.
-#[derive(Debug, Drop)]
+#[derive(Drop)]
 pub struct Limited {
     pub limit: EndLimit,
     pub texts: Texts,

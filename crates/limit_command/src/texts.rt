@@ -14,7 +14,7 @@ use std::alloc::Global;
 use ttp_model::{Instance, MemoryFault};
 
 /// What is to be written beside the answer.
-#[derive(Clone, Copy, Debug, PartialEq, Eq)]
+#[derive(Clone, Copy, PartialEq, Eq)]
 pub struct Beside {
     pub certificate: bool,
     /// The instance that the certificate is for.

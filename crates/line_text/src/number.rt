@@ -12,7 +12,7 @@ use std::alloc::AllocError;
 const LIMIT: u64 = 1 << 32;
 
 /// What a word is as a number.
-#[derive(Clone, Copy, Debug, PartialEq, Eq)]
+#[derive(Clone, Copy, PartialEq, Eq)]
 pub enum NumberWord {
     /// The word is empty, has another byte than a digit, or a zero in front of other digits.
     Malformed,

@@ -11,7 +11,7 @@ use tt_layout::cycle_rounds;
 use ttp_model::{Instance, MemoryFault, Plan};
 
 /// The table of one node.
-#[derive(Debug, Drop)]
+#[derive(Drop)]
 struct Table {
     rows: Vec<Row>,
 }
@@ -27,7 +27,7 @@ impl Model for Table {
 
 /// The table of each node: for each slot of the cycle, in order of time, who sends and what the
 /// frame carries for the node.
-#[derive(Debug, Drop)]
+#[derive(Drop)]
 pub struct Medl {
     rounds: u32,
     tables: Vec<Table>,

@@ -5,7 +5,7 @@ ghost use Rattle.std.specs.Prelude.{◌≡◌};
 use std::marker::Model;
 
 /// A message of a frame on a channel.
-#[derive(Clone, Copy, Debug, PartialEq, Eq)]
+#[derive(Clone, Copy, PartialEq, Eq)]
 pub struct Entry {
     /// The message, by its index in the instance.
     pub message: u32,
@@ -16,7 +16,7 @@ pub struct Entry {
 }
 
 /// Messages of a frame, channel by channel and on each in the instance's order, which contracts see as that list.
-#[derive(Debug, Drop)]
+#[derive(Drop)]
 pub struct Entries {
     items: Vec<Entry>,
 }
@@ -47,7 +47,7 @@ impl Entries {
 }
 
 /// One slot of the cycle, as one node's table tells it.
-#[derive(Debug, Drop)]
+#[derive(Drop)]
 pub struct Row {
     /// The round, from 0.
     pub round: u32,

@@ -1,7 +1,7 @@
 //! Which frames are lost, and where?
 
 /// A frame that one node doesn't receive.
-#[derive(Clone, Copy, Debug, PartialEq, Eq)]
+#[derive(Clone, Copy, PartialEq, Eq)]
 pub struct Loss {
     /// The round of its slot, from 0.
     pub round: u32,

@@ -6,7 +6,7 @@ ghost use Rattle.membership_replay.specs.Machine.{is_same, state_after, step_of,
 use ttp_model::MOST_NODES;
 
 /// Where a node stands between its own slots.
-#[derive(Clone, Copy, Debug, PartialEq, Eq)]
+#[derive(Clone, Copy, PartialEq, Eq)]
 pub enum Phase {
     /// It doesn't wait for an acknowledgement.
     Idle,
@@ -17,7 +17,7 @@ pub enum Phase {
 }
 
 /// What a node knows.
-#[derive(Clone, Copy, Debug, PartialEq, Eq)]
+#[derive(Clone, Copy, PartialEq, Eq)]
 pub struct NodeState {
     /// Which nodes it counts as members, by their index.
     pub vector: [bool; MOST_NODES],
@@ -26,7 +26,7 @@ pub struct NodeState {
 }
 
 /// What a node does in a slot of another.
-#[derive(Clone, Copy, Debug, PartialEq, Eq)]
+#[derive(Clone, Copy, PartialEq, Eq)]
 pub enum Step {
     /// It agrees with the sender.
     Nothing,

@@ -4,7 +4,7 @@ use crate::state::NodeState;
 use std::marker::Model;
 
 /// Something that a node does in a slot of another.
-#[derive(Clone, Copy, Debug, PartialEq, Eq)]
+#[derive(Clone, Copy, PartialEq, Eq)]
 pub enum Event {
     /// The node learns that its own frame was received.
     Ack(u32),
@@ -19,7 +19,7 @@ pub enum Event {
 }
 
 /// Events one after another, which contracts see as that list.
-#[derive(Debug, Drop)]
+#[derive(Drop)]
 pub struct Events {
     items: Vec<Event>,
 }
@@ -52,7 +52,7 @@ impl Events {
 }
 
 /// One slot of a replay.
-#[derive(Debug, Drop)]
+#[derive(Drop)]
 pub struct Slot {
     /// The round, from 0.
     pub round: u32,
@@ -67,7 +67,7 @@ pub struct Slot {
 }
 
 /// What membership did in one cycle.
-#[derive(Debug, Drop)]
+#[derive(Drop)]
 pub struct Trace {
     slots: Vec<Slot>,
     states: Vec<NodeState>,

@@ -11,14 +11,14 @@ use std::fmt::Write;
 use std::{fmt, io};
 
 /// How many rounds a plan's cycle has, and how many there are for it.
-#[derive(Clone, Copy, Debug, PartialEq, Eq)]
+#[derive(Clone, Copy, PartialEq, Eq)]
 pub struct Rounds {
     pub needed: u64,
     pub held: u64,
 }
 
 /// How such a command ends.
-#[derive(Debug, Drop)]
+#[derive(Drop)]
 pub enum RoundsEnd {
     /// As other commands do.
     As(End),

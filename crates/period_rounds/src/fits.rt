@@ -16,7 +16,7 @@ use ttp_model::{Cluster, Instance, MOST_BUS_TICKS};
 pub const MOST_FITS: usize = 5;
 
 /// A trail with which some capacities that the nodes offer make a round that divides a period.
-#[derive(Clone, Copy, Debug, PartialEq, Eq)]
+#[derive(Clone, Copy, PartialEq, Eq)]
 pub struct Fit {
     pub trail: u32,
     /// The ticks of the round.

@@ -14,7 +14,7 @@ use tt_layout::Layout;
 use ttp_model::{Instance, MemoryFault, Plan};
 
 /// The rounds nearest to one that divide a period, in ticks.
-#[derive(Clone, Copy, Debug, PartialEq, Eq)]
+#[derive(Clone, Copy, PartialEq, Eq)]
 pub struct Near {
     /// The longest that takes no more ticks.
     pub below: u64,
@@ -23,7 +23,7 @@ pub struct Near {
 }
 
 /// Which rounds would divide a period.
-#[derive(Debug, Drop)]
+#[derive(Drop)]
 pub struct Dividing {
     pub near: Near,
     /// The first trails and rounds that fit, by rising trail and then by rising round.
@@ -31,7 +31,7 @@ pub struct Dividing {
 }
 
 /// How the rounds of a plan lie in a period; all but `rounds` in ticks.
-#[derive(Debug, Drop)]
+#[derive(Drop)]
 pub struct Repetition {
     pub period: u64,
     pub round: u64,

@@ -12,7 +12,7 @@ use std::alloc::{AllocError, Global};
 use ttp_model::{MemoryFault, Part};
 
 /// What an instance gives for each process, whenever it runs.
-#[derive(Clone, Copy, Debug, PartialEq, Eq)]
+#[derive(Clone, Copy, PartialEq, Eq)]
 pub enum Attribute {
     /// The node that it is on.
     Node,

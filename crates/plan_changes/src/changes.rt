@@ -14,7 +14,7 @@ use std::alloc::{AllocError, Global};
 use ttp_model::MemoryFault;
 
 /// What is told of a change.
-#[derive(Debug, Drop)]
+#[derive(Drop)]
 pub struct Changes {
     /// A line for each node of either, and then what is different of the plan.
     pub text: Vec<u8>,

@@ -7,7 +7,7 @@ use line_text::push_word;
 use std::alloc::AllocError;
 
 /// What becomes of a node.
-#[derive(Clone, Copy, Debug, PartialEq, Eq)]
+#[derive(Clone, Copy, PartialEq, Eq)]
 pub enum Fate {
     /// Its table and the windows of its slots are the same, byte for byte, and so is what its dispatcher is told of its processes.
     Same,

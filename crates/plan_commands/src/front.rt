@@ -7,7 +7,7 @@ ghost use Rattle.plan_commands.specs.declared.front.Front.{Front};
 use line_text::{NumberWord, after_keyword, cut, number_word};
 
 /// How a text in a plan's place begins.
-#[derive(Clone, Copy, Debug, PartialEq, Eq)]
+#[derive(Clone, Copy, PartialEq, Eq)]
 pub enum Front {
     /// As a plan does.
     Plan,

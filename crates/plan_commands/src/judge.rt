@@ -22,14 +22,14 @@ use std::thread::Threads;
 use ttp_model::Instance;
 
 /// An instance, and the delay in ticks of the plan that is given for it, or none where it is said that there is no plan.
-#[derive(Debug, Drop)]
+#[derive(Drop)]
 pub struct Standing {
     pub instance: Instance,
     pub best: Option<u64>,
 }
 
 /// What a certificate's bound says of what is given. Delays and bounds are in ticks.
-#[derive(Clone, Copy, Debug, PartialEq, Eq)]
+#[derive(Clone, Copy, PartialEq, Eq)]
 pub enum Judgement {
     /// No valid plan has a smaller delay than this one, which the given plan has.
     Least(u64),

@@ -13,7 +13,7 @@ use membership_replay::Loss;
 use std::alloc::{AllocError, Global};
 
 /// Where a frame is lost.
-#[derive(Clone, Copy, Debug, PartialEq, Eq)]
+#[derive(Clone, Copy, PartialEq, Eq)]
 pub enum Receivers {
     /// At one node, by its index.
     One(u32),
@@ -22,7 +22,7 @@ pub enum Receivers {
 }
 
 /// A loss as a word names it.
-#[derive(Clone, Copy, Debug, PartialEq, Eq)]
+#[derive(Clone, Copy, PartialEq, Eq)]
 pub struct LossWord {
     /// The round of the frame's slot, from 0.
     pub round: u32,

@@ -18,7 +18,7 @@ use ttp_model::{Instance, Plan};
 pub const PLAN_LIMIT: usize = 131_072;
 
 /// An instance, and a valid plan of it that states its own delay.
-#[derive(Debug, Drop)]
+#[derive(Drop)]
 pub struct Verified {
     pub instance: Instance,
     pub plan: Plan,

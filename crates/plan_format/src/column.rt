@@ -6,7 +6,7 @@ ghost use Rattle.plan_format.specs.Names.{part_of, keyword_of};
 use ttp_model::Part;
 
 /// What a line behind the order states.
-#[derive(Clone, Copy, Debug, PartialEq, Eq)]
+#[derive(Clone, Copy, PartialEq, Eq)]
 pub enum Column {
     /// The capacity of a node's frame.
     Capacity,

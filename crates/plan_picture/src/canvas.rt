@@ -34,7 +34,7 @@ const ROW: u32 = 34;
 const GAP: u32 = 5;
 
 /// The measures of a picture.
-#[derive(Clone, Copy, Debug)]
+#[derive(Clone, Copy)]
 pub struct Canvas {
     /// How wide it is, in pixels.
     pub width: u64,
@@ -81,7 +81,7 @@ pub fn top_of(row: u32) -> u64
 }
 
 /// So many tenths of a pixel: where a tick is, from the left of the picture.
-#[derive(Clone, Copy, Debug)]
+#[derive(Clone, Copy)]
 pub struct Tenths(pub u64);
 
 impl fmt::Display for Tenths {

@@ -13,7 +13,7 @@ use ttp_model::{Instance, Plan, end_of};
 
 /// A line of a message, from a tick to another: up from its sender's row to the channel's, or down from there to a
 /// receiver's.
-#[derive(Clone, Copy, Debug)]
+#[derive(Clone, Copy)]
 pub struct Line {
     /// Where it begins, in ticks.
     pub from: u64,

@@ -117,7 +117,7 @@ fn put_limits(text: &mut String, canvas: &Canvas, instance: &Instance) -> Result
 }
 
 /// The numbers of a plan, in words.
-#[derive(Clone, Copy, Debug)]
+#[derive(Clone, Copy)]
 struct Figures {
     delay: u64,
     round: u64,

@@ -8,7 +8,7 @@ use std::alloc::AllocError;
 use std::fmt;
 
 /// A rectangle of a row: a slot or a process.
-#[derive(Clone, Copy, Debug)]
+#[derive(Clone, Copy)]
 pub struct Rectangle {
     /// The row: first the channels, then the nodes.
     pub row: u32,
@@ -36,7 +36,7 @@ impl fmt::Display for Rectangle {
 
 /// What begins a text in a rectangle, which is cut off where it ends. Ticks have no height: the inner `svg` gives the text its
 /// pixels again.
-#[derive(Clone, Copy, Debug)]
+#[derive(Clone, Copy)]
 struct Opening {
     canvas: Canvas,
     rectangle: Rectangle,
@@ -64,7 +64,7 @@ impl fmt::Display for Opening {
 }
 
 /// An `svg` element at the ticks of a rectangle.
-#[derive(Clone, Copy, Debug)]
+#[derive(Clone, Copy)]
 struct Frame {
     start: u64,
     top: u64,
@@ -85,7 +85,7 @@ impl fmt::Display for Frame {
 }
 
 /// One whose units are pixels, with the beginning of a text on the colour of a node.
-#[derive(Clone, Copy, Debug)]
+#[derive(Clone, Copy)]
 struct Pixels {
     cycle: u64,
     across: u64,

@@ -16,7 +16,7 @@ use tt_layout::{Layout, cycle_rounds};
 use ttp_model::{Instance, MOST_NODES, MemoryFault, Plan};
 
 /// Which slots.
-#[derive(Clone, Copy, Debug, PartialEq, Eq)]
+#[derive(Clone, Copy, PartialEq, Eq)]
 pub enum Load {
     /// Those that carry nothing.
     Nothing,

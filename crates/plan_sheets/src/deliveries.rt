@@ -12,7 +12,7 @@ use tt_layout::Layout;
 use ttp_model::{BOTH_CHANNELS, Instance, MemoryFault, Plan, end_of};
 
 /// A message on its way to one of its receivers.
-#[derive(Clone, Copy, Debug)]
+#[derive(Clone, Copy)]
 pub struct Delivery {
     /// The message, by its index in the instance.
     pub message: u32,

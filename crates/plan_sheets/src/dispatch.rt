@@ -12,7 +12,7 @@ use std::alloc::Global;
 use ttp_model::{Instance, MemoryFault, Plan, end_of};
 
 /// What a dispatcher is told of a process.
-#[derive(Clone, Copy, Debug)]
+#[derive(Clone, Copy)]
 pub struct Dispatch {
     /// The node that the process is on, by its index in the instance.
     pub node: u32,

@@ -6,7 +6,7 @@ ghost use Rattle.pool_worker.specs.Goals.{goal_of};
 use ttp_model::Instance;
 
 /// How much better than the best plan a plan has to be for which a search looks, in ticks.
-#[derive(Clone, Copy, Debug, PartialEq, Eq)]
+#[derive(Clone, Copy, PartialEq, Eq)]
 pub struct Aims {
     /// A subtree is left as soon as no plan in it is better by more. With 0 all better ones are sought.
     pub gap: u32,

@@ -29,7 +29,7 @@ pub trait Gate {
 }
 
 /// Holds up nobody.
-#[derive(Clone, Copy, Debug)]
+#[derive(Clone, Copy)]
 pub struct FreeGate;
 
 impl Gate for FreeGate {

@@ -7,7 +7,7 @@ use steal_pool::{Hand, Searched};
 use ttp_model::Plan;
 
 /// What a worker that ended had in hand.
-#[derive(Debug, Drop)]
+#[derive(Drop)]
 pub enum Rest {
     Nothing,
     /// A task that it took and didn't work.
@@ -17,7 +17,7 @@ pub enum Rest {
 }
 
 /// Why a worker ended.
-#[derive(Clone, Copy, Debug, PartialEq, Eq)]
+#[derive(Clone, Copy, PartialEq, Eq)]
 pub enum Ending {
     /// It worked as many tasks as its budget allows.
     Budget,

@@ -18,7 +18,7 @@ use std::thread::Threads;
 use ttp_model::{Instance, Plan};
 
 /// What is known of the end of some processes.
-#[derive(Debug, Drop)]
+#[derive(Drop)]
 pub struct Known {
     /// In no valid plan they have all ended before, in ticks.
     pub low: u32,

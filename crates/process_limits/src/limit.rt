@@ -8,7 +8,7 @@ use certificate::Cert;
 use ttp_model::Plan;
 
 /// How early the last of some processes can end, in ticks, with the certificate of the last search.
-#[derive(Debug, Drop)]
+#[derive(Drop)]
 pub enum EndLimit {
     /// At `end` and not before; the plan does it, and none that does has a smaller delay.
     Least {

@@ -10,7 +10,7 @@ use subtree_tasks::Name;
 use ttp_model::{Kind, Leaf};
 
 /// What became of the task in a worker's hand.
-#[derive(Debug, Drop)]
+#[derive(Drop)]
 pub enum Worked {
     /// A branch of this kind, with so many children.
     Split(Kind, u32),
@@ -21,7 +21,7 @@ pub enum Worked {
 }
 
 /// One thing that a worker does. Workers are named by number, from 0.
-#[derive(Debug, Drop)]
+#[derive(Drop)]
 pub enum Event {
     /// Takes the last name of its own deque.
     Pop(u32),

@@ -9,7 +9,7 @@ use thiserror::Error;
 use ttp_model::MemoryFault;
 
 /// What an event that was done answers.
-#[derive(Debug, Drop)]
+#[derive(Drop)]
 pub enum Reply {
     /// The name that was taken.
     Name(Name),

@@ -8,7 +8,7 @@ use thiserror::Error;
 use ttp_model::{MemoryFault, Plan};
 
 /// How a search is to be done.
-#[derive(Clone, Copy, Debug)]
+#[derive(Clone, Copy)]
 pub struct Options {
     /// How many workers search, each in a thread of its own, from 1 to 16; 0 is read as 1.
     pub workers: u32,
@@ -19,7 +19,7 @@ pub struct Options {
 }
 
 /// Why a search stopped before it knew the least delay.
-#[derive(Clone, Copy, Debug, PartialEq, Eq)]
+#[derive(Clone, Copy, PartialEq, Eq)]
 pub enum Why {
     /// As many subtrees were worked as the budget allows.
     Budget,
@@ -32,7 +32,7 @@ pub enum Why {
 }
 
 /// What a search found. Delays and bounds are in ticks; each answer has a certificate that shows it.
-#[derive(Debug, Drop)]
+#[derive(Drop)]
 pub enum Outcome {
     /// A plan, settled, whose delay is the least.
     Optimal {

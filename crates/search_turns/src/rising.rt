@@ -16,7 +16,7 @@ const STEPS: u32 = 32;
 const TRIES: u64 = 16;
 
 /// Which of the tasks that are left is worked next.
-#[derive(Clone, Copy, Debug, PartialEq, Eq)]
+#[derive(Clone, Copy, PartialEq, Eq)]
 pub enum Order {
     /// The newest.
     Newest,

@@ -15,7 +15,7 @@ use std::alloc::Global;
 use ttp_model::{Instance, MOST_NODES, MemoryFault, Plan};
 
 /// What is worked, room for its nodes, and what is still open; the best plan that was found, settled, with its delay in ticks.
-#[derive(Debug, Drop)]
+#[derive(Drop)]
 pub struct Search {
     pub pieces: Vec<Piece>,
     pub room: Vec<Node>,

@@ -7,7 +7,7 @@ ghost use Rattle.search_watching.specs.declared.folder.Made.TheVariants.{Whole};
 use std::alloc::{AllocError, Global};
 
 /// What became of a file that was to be made.
-#[derive(Clone, Copy, Debug, PartialEq, Eq)]
+#[derive(Clone, Copy, PartialEq, Eq)]
 pub enum Made {
     /// It is there, with its whole text.
     Whole,

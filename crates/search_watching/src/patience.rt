@@ -22,7 +22,7 @@ pub fn is_enough(until: Option<u32>, best: Option<u64>) -> bool
 }
 
 /// When a search ends before it knows the least delay, though its budget isn't spent.
-#[derive(Clone, Copy, Debug, PartialEq, Eq)]
+#[derive(Clone, Copy, PartialEq, Eq)]
 pub struct Patience {
     /// Once a plan of at most so many ticks is found.
     pub until: Option<u32>,

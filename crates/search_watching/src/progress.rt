@@ -24,7 +24,7 @@ impl Follower for FreeGate {
 }
 
 /// How far a search is.
-#[derive(Clone, Copy, Debug, PartialEq, Eq)]
+#[derive(Clone, Copy, PartialEq, Eq)]
 pub struct Reading {
     /// How long the program has been at work.
     pub seconds: u64,
@@ -81,7 +81,7 @@ impl fmt::Display for Reading {
 }
 
 /// What the workers of a search have done, once it has ended.
-#[derive(Clone, Copy, Debug, PartialEq, Eq)]
+#[derive(Clone, Copy, PartialEq, Eq)]
 pub struct Summary {
     /// How many milliseconds passed from the first subtree that was taken to the last that a worker was done with.
     pub millis: u64,

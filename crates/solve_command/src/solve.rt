@@ -29,7 +29,7 @@ use std::thread::Threads;
 use ttp_model::{Instance, MemoryFault, Plan};
 
 /// An instance, and what a search of it found.
-#[derive(Debug, Drop)]
+#[derive(Drop)]
 pub struct Solved {
     pub instance: Instance,
     pub outcome: Outcome,

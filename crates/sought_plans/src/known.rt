@@ -13,7 +13,7 @@ use tt_choice::{Choice, Precedence};
 use ttp_model::{Instance, MemoryFault};
 
 /// Known on starts, ends and rounds, and which processes go before which.
-#[derive(Debug, Drop)]
+#[derive(Drop)]
 pub struct Known {
     /// By process, when it starts at least.
     es: Vec<u32>,

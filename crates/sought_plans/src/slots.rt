@@ -11,7 +11,7 @@ use ttp_model::{Instance, MemoryFault, slot_duration};
 
 /// The slot of one node, over all plans of a choice, with what its times are reckoned from. Times
 /// are ticks.
-#[derive(Clone, Copy, Debug)]
+#[derive(Clone, Copy)]
 pub struct SlotTimes {
     /// The least duration of a round.
     pub round_least: u64,

@@ -13,7 +13,7 @@ use ttp_model::{Instance, MemoryFault};
 
 /// A subtree that is to be searched: where it stands, and the decisions that lead there from the choice in which nothing is
 /// chosen.
-#[derive(Debug, Drop)]
+#[derive(Drop)]
 pub struct Task {
     name: Name,
     decisions: SharedList<Decision>,

@@ -8,7 +8,7 @@ use instance_text::{Key, Place};
 use toml::Value;
 
 /// What a value of a text is.
-#[derive(Clone, Copy, Debug, PartialEq, Eq)]
+#[derive(Clone, Copy, PartialEq, Eq)]
 pub enum Kind {
     Text,
     Number,
@@ -20,7 +20,7 @@ pub enum Kind {
 }
 
 /// What has to stand at a key.
-#[derive(Clone, Copy, Debug, PartialEq, Eq)]
+#[derive(Clone, Copy, PartialEq, Eq)]
 pub enum Shape {
     /// A value of this kind.
     One(Kind),
@@ -29,7 +29,7 @@ pub enum Shape {
 }
 
 /// What stands there.
-#[derive(Clone, Copy, Debug, PartialEq, Eq)]
+#[derive(Clone, Copy, PartialEq, Eq)]
 pub enum Found {
     /// A value of this kind.
     Whole(Kind),

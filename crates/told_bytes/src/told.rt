@@ -34,7 +34,7 @@ fn hex_digit(digit: u8) -> u8
 }
 
 /// A byte as it is told.
-#[derive(Clone, Copy, Debug)]
+#[derive(Clone, Copy)]
 struct ToldByte {
     byte: u8,
 }
@@ -56,7 +56,7 @@ impl fmt::Display for ToldByte {
 }
 
 /// A piece of a refused text, as much of it as is told. To print it takes time in the number of bytes told.
-#[derive(Clone, Copy, Debug)]
+#[derive(Clone, Copy)]
 pub struct Told<'a> {
     pub bytes: &'a [u8],
 }

@@ -15,7 +15,7 @@ use tt_choice::{Choice, Decision};
 use ttp_model::{Instance, MemoryFault};
 
 /// What leads to the next choice.
-#[derive(Clone, Copy, Debug, PartialEq, Eq)]
+#[derive(Clone, Copy, PartialEq, Eq)]
 pub enum Turn {
     /// It is the one that is there.
     Stay,

@@ -6,7 +6,7 @@ ghost use Rattle.tt_infer.specs.Lines.{channel_line, numbers_in, plain_line, row
 use ttp_model::Ring;
 
 /// One to four numbers.
-#[derive(Clone, Copy, Debug, PartialEq, Eq)]
+#[derive(Clone, Copy, PartialEq, Eq)]
 pub enum FewNumbers {
     One(u32),
     Two(u32, u32),

@@ -5,7 +5,7 @@ use std::alloc::{AllocError, AllocFailed};
 use thiserror::Error;
 
 /// One of the four lists of an instance.
-#[derive(Clone, Copy, Debug, PartialEq, Eq)]
+#[derive(Clone, Copy, Debug)]
 pub enum Part {
     Nodes,
     Processes,
@@ -14,7 +14,7 @@ pub enum Part {
 }
 
 /// A table of an instance: the cluster's, or one of a list with its index.
-#[derive(Clone, Copy, Debug, PartialEq, Eq)]
+#[derive(Clone, Copy, Debug)]
 pub enum Place {
     AtCluster,
     AtNode(u32),
@@ -42,7 +42,7 @@ impl<T: Drop> From<AllocFailed<T>> for MemoryFault {
 
 /// The first rule that tables break, at the first place, in the order of these variants. Places stand in the
 /// order cluster, nodes, processes, links, messages, and indices begin at 0.
-#[derive(Debug, Drop, PartialEq, Error)]
+#[derive(Debug, Drop, Error)]
 pub enum ModelError {
     /// When a list has too few or too many entries.
     #[error("{0:?} are too few or too many")]

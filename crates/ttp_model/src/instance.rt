@@ -17,7 +17,7 @@ use std::marker::Model;
 
 /// A cluster with what is to be scheduled on it. Limits, ranges and indices are kept, names are unique in
 /// their list, and no process waits for itself.
-#[derive(Debug, Drop)]
+#[derive(Drop)]
 pub struct Instance {
     parts: Parts,
     network: Network,

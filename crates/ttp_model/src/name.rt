@@ -8,7 +8,7 @@ use std::alloc::{AllocError, Global};
 use std::marker::Model;
 
 /// The name of a node, a process or a message, which contracts see as its bytes.
-#[derive(Debug, Drop)]
+#[derive(Drop)]
 pub struct Name {
     text: String,
 }

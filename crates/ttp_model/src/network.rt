@@ -12,7 +12,7 @@ use crate::parts::Parts;
 use std::alloc::{AllocError, Global};
 
 /// The links by their processes, each list rising.
-#[derive(Debug, Drop)]
+#[derive(Drop)]
 pub struct LinkLists {
     /// By the process that they lead from.
     pub before: Groups,
@@ -21,7 +21,7 @@ pub struct LinkLists {
 }
 
 /// The messages by their processes and nodes, each list rising.
-#[derive(Debug, Drop)]
+#[derive(Drop)]
 pub struct MessageLists {
     /// By the process that sends them.
     pub sender: Groups,
@@ -32,7 +32,7 @@ pub struct MessageLists {
 }
 
 /// The links, messages and processes by what they hang on, each list rising.
-#[derive(Debug, Drop)]
+#[derive(Drop)]
 pub struct Network {
     pub links: LinkLists,
     pub messages: MessageLists,

@@ -5,7 +5,7 @@ use crate::name::Name;
 use crate::numbers::Numbers;
 
 /// The numbers of a cluster, in ticks but for the channels.
-#[derive(Clone, Copy, Debug, PartialEq, Eq)]
+#[derive(Clone, Copy, PartialEq, Eq)]
 pub struct Cluster {
     /// The greatest difference between any two clocks, 0 to 10,000.
     pub precision: u32,
@@ -28,7 +28,7 @@ pub struct Cluster {
 }
 
 /// A node of the cluster.
-#[derive(Debug, Drop, PartialEq)]
+#[derive(Drop, PartialEq)]
 pub struct Node {
     pub name: Name,
     /// What its frame may hold, in bytes: 1 to 8 options, strictly rising, each 0 to 1,000.
@@ -36,7 +36,7 @@ pub struct Node {
 }
 
 /// A process on a node.
-#[derive(Debug, Drop, PartialEq)]
+#[derive(Drop, PartialEq)]
 pub struct Process {
     pub name: Name,
     /// The node's index, from 0.
@@ -50,14 +50,14 @@ pub struct Process {
 }
 
 /// Of two processes of one node, by their indices, one ends before the other starts.
-#[derive(Clone, Copy, Debug, PartialEq, Eq)]
+#[derive(Clone, Copy, PartialEq, Eq)]
 pub struct Link {
     pub before: u32,
     pub after: u32,
 }
 
 /// A message from a process to processes on other nodes, which its sender's node sends once.
-#[derive(Debug, Drop, PartialEq)]
+#[derive(Drop, PartialEq)]
 pub struct Message {
     pub name: Name,
     /// The sending process's index, from 0.
@@ -71,7 +71,7 @@ pub struct Message {
 }
 
 /// The tables that an instance is made of, before they are judged.
-#[derive(Debug, Drop)]
+#[derive(Drop)]
 pub struct Parts {
     pub cluster: Cluster,
     pub nodes: Vec<Node>,

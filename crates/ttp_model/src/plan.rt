@@ -3,7 +3,7 @@
 use crate::numbers::Numbers;
 
 /// A plan as a raw table of numbers: it may break any rule, and is tied to no instance.
-#[derive(Debug, Drop, PartialEq)]
+#[derive(Drop)]
 pub struct Plan {
     /// The nodes in the order of their slots.
     pub order: Numbers,

@@ -9,7 +9,7 @@ use std::io;
 use std::os::unix::fs::{FileTypeExt, MetadataExt};
 
 /// A command that searches, and the names of its files.
-#[derive(Clone, Copy, Debug)]
+#[derive(Clone, Copy)]
 pub struct Named<'a> {
     command: NumberedCommand,
     instance: &'a str,
@@ -58,7 +58,7 @@ impl<'a> Named<'a> {
 }
 
 /// An option that names a file which a command writes.
-#[derive(Clone, Copy, Debug)]
+#[derive(Clone, Copy)]
 pub enum Written {
     Certificate,
     Reduced,
@@ -77,7 +77,7 @@ impl Written {
 }
 
 /// Why a command can't have its files.
-#[derive(Clone, Copy, Debug)]
+#[derive(Clone, Copy)]
 pub enum FileFault<'a> {
     /// When this one can't be opened.
     Unread(Source),

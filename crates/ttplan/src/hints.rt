@@ -14,7 +14,7 @@ use ttp_model::Instance;
 const WANT_OF_MEMORY: u8 = 4;
 
 /// A word of the command line, as it can be written there again, and without a control byte.
-#[derive(Clone, Copy, Debug)]
+#[derive(Clone, Copy)]
 struct Word<'a>(&'a str);
 
 /// Whether a byte stands for itself in a shell.
@@ -44,7 +44,7 @@ impl fmt::Display for Word<'_> {
 }
 
 /// The words of a command line that a refusal is about.
-#[derive(Clone, Copy, Debug)]
+#[derive(Clone, Copy)]
 pub struct Said<'a, 'w> {
     pub instance: Option<&'a str>,
     pub plan: Option<&'a str>,

@@ -13,7 +13,7 @@ use std::alloc::Global;
 use ttp_model::{Instance, MemoryFault};
 
 /// What is to be told beside the constraints.
-#[derive(Clone, Copy, Debug, PartialEq, Eq)]
+#[derive(Clone, Copy, PartialEq, Eq)]
 pub struct Wanted {
     pub certificate: bool,
     /// The instance by the constraints that leave no plan.

@@ -21,7 +21,7 @@ use ttp_model::Instance;
 
 /// An instance, which of its constraints leave no plan, and how many ticks later all has to end where that is asked for, with the texts
 /// that tell it.
-#[derive(Debug, Drop)]
+#[derive(Drop)]
 pub struct Found {
     pub instance: Instance,
     pub conflict: Conflict,

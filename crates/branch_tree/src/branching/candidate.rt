@@ -5,7 +5,7 @@ ghost use Rattle.std.specs.Prelude.{◌≡◌, ◌⊎◌, Some};
 use ttp_model::Kind;
 
 /// A branch on a conflict, and how much freedom what is in conflict has.
-#[derive(Clone, Copy, Debug)]
+#[derive(Clone, Copy)]
 pub struct Candidate {
     pub kind: Kind,
     pub freedom: u64,

@@ -12,7 +12,7 @@ use tt_infer::Facts;
 use ttp_model::{Instance, Kind};
 
 /// A message in the plan at hand: how much failed on its node lately, and from which round to which it can be sent.
-#[derive(Clone, Copy, Debug)]
+#[derive(Clone, Copy)]
 struct Sending {
     failed: u64,
     first: u32,
@@ -32,7 +32,7 @@ impl Sending {
 }
 
 /// A branch on a message of an overfull frame.
-#[derive(Clone, Copy, Debug)]
+#[derive(Clone, Copy)]
 struct Crowd {
     kind: Kind,
     sending: Sending,
