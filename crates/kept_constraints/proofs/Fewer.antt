@@ -8,7 +8,7 @@ use Rattle.ttp_model.specs.Network.{indices}
 use Rattle.ttp_model.specs.Rules.{IsInstance}
 use Rattle.ttp_model.proofs.Indices.{picked}
 use Rattle.kept_constraints.specs.declared.constraints.Constraints.{Constraints}
-use Rattle.kept_constraints.specs.Constraints.{is_set}
+use Rattle.ttp_model.specs.Lists.{is_set}
 use Rattle.kept_constraints.specs.Only.{kept_links, kept_messages, process_of, message_of, only_processes, only_links, only_messages, only}
 use Rattle.kept_constraints.specs.Fewer.{AreSetAmong, AreAmong}
 use Rattle.kept_constraints.proofs.Places.{place_inside, places_rising, before, stands_behind, before_rising, picked_more}

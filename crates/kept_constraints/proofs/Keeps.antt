@@ -11,7 +11,8 @@ use Rattle.kept_constraints.specs.declared.constraints.Constraint.TheVariants as
 use Rattle.kept_constraints.specs.declared.constraints.Kind.{Kind}
 use Rattle.kept_constraints.specs.declared.constraints.Kind.TheVariants as kind
 use Rattle.kept_constraints.specs.declared.constraints.Constraints.{Constraints}
-use Rattle.kept_constraints.specs.Constraints.{is_set, keeps, listed, listed_of, of_kind, horizon_of, without, without_all}
+use Rattle.kept_constraints.specs.Constraints.{keeps, listed, listed_of, of_kind, horizon_of, without, without_all}
+use Rattle.ttp_model.specs.Lists.{is_set}
 use Rattle.kept_constraints.specs.Fewer.{AreAmong}
 use Rattle.kept_constraints.proofs.Leaving.{all_left_out}
 

@@ -9,7 +9,7 @@ use Rattle.ttp_model.specs.Instance.{Instance, no_process, no_link, no_message, 
 use Rattle.ttp_model.specs.Rules.{IsInstance}
 use Rattle.ttp_model.proofs.Indices.{length_indices}
 use Rattle.kept_constraints.specs.declared.constraints.Constraints.{Constraints}
-use Rattle.kept_constraints.specs.Constraints.{is_set}
+use Rattle.ttp_model.specs.Lists.{is_set}
 use Rattle.kept_constraints.specs.Only.{kept_links, kept_messages, process_of, message_of, only_processes, only_links, only_messages, only}
 use Rattle.kept_constraints.proofs.Places.{place_inside, places_rising}
 use Rattle.kept_constraints.proofs.Looser.{Loosened, IsLooserProcess, IsLooserMessage, IsLooser}

@@ -5,7 +5,8 @@ use Rattle.std.proofs.lemmas.List.{get_or-set_same, get_or-set_other, get_or_pas
 use Rattle.kept_constraints.specs.declared.constraints.Constraint.{Constraint}
 use Rattle.kept_constraints.specs.declared.constraints.Constraint.TheVariants as one
 use Rattle.kept_constraints.specs.declared.constraints.Constraints.{Constraints}
-use Rattle.kept_constraints.specs.Constraints.{is_set, without, without_all}
+use Rattle.kept_constraints.specs.Constraints.{without, without_all}
+use Rattle.ttp_model.specs.Lists.{is_set}
 use Rattle.kept_constraints.specs.Fewer.{AreSetAmong, AreAmong}
 
 pub among_same : (K : Constraints) → AreAmong K K

@@ -10,7 +10,8 @@ use Rattle.ttp_model.specs.Instance.{Instance, no_process, no_link, no_message, 
 use Rattle.ttp_model.specs.Network.{indices}
 use Rattle.ttp_model.specs.Rules.{IsInstance}
 use Rattle.ttp_model.proofs.Ranges.{range_more}
-use Rattle.kept_constraints.specs.Constraints.{is_set, has_deadline, has_release, is_on_both, all_of}
+use Rattle.kept_constraints.specs.Constraints.{has_deadline, has_release, is_on_both, all_of}
+use Rattle.ttp_model.specs.Lists.{is_set}
 use Rattle.kept_constraints.specs.Only.{cluster_with, process_with, process_of, message_of, only_processes, only_links, only_messages, only}
 use Rattle.std.proofs.lemmas.Bool.Decides.{nat_tests}
 use Rattle.kept_constraints.proofs.Places.{one_picked}

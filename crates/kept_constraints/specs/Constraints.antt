@@ -1,8 +1,9 @@
 -- The constraints of an instance, by flags, and what it is to leave one out. Own profile.
-use Rattle.std.specs.Prelude.{ℕ, ◌++◌, List, [], ◌∷◌, length, map, replicate, slice_set, slice_index_or, Bool, true, false, nat_lt, if◌then◌else◌}
+use Rattle.std.specs.Prelude.{ℕ, ◌++◌, List, [], ◌∷◌, length, map, replicate, slice_set, Bool, true, false, nat_lt, if◌then◌else◌}
 use Rattle.ttp_model.specs.declared.parts.Process.{Process}
 use Rattle.ttp_model.specs.declared.parts.Message.{Message}
 use Rattle.ttp_model.specs.Limits.{most_ticks}
+use Rattle.ttp_model.specs.Lists.{is_set}
 use Rattle.ttp_model.specs.Instance.{Instance}
 use Rattle.ttp_model.specs.Network.{indices}
 use Rattle.kept_constraints.specs.declared.constraints.Constraint.{Constraint}
@@ -10,10 +11,6 @@ use Rattle.kept_constraints.specs.declared.constraints.Constraint.TheVariants as
 use Rattle.kept_constraints.specs.declared.constraints.Kind.{Kind}
 use Rattle.kept_constraints.specs.declared.constraints.Kind.TheVariants as kind
 use Rattle.kept_constraints.specs.declared.constraints.Constraints.{Constraints}
-
--- a flag is set: none past the end
-abbrev pub is_set : List Bool → ℕ → Bool
-is_set flags place = slice_index_or flags place false
 
 -- a deadline of the most ticks is none
 abbrev pub has_deadline : Process → Bool

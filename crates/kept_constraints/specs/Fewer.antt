@@ -4,7 +4,7 @@ use Rattle.ttp_model.specs.declared.plan.Plan.{Plan}
 use Rattle.ttp_model.specs.Instance.{Instance}
 use Rattle.ttp_model.specs.Plans.{IsValid}
 use Rattle.kept_constraints.specs.declared.constraints.Constraints.{Constraints}
-use Rattle.kept_constraints.specs.Constraints.{is_set}
+use Rattle.ttp_model.specs.Lists.{is_set}
 
 -- each flag that is set is set among the others
 abbrev pub AreSetAmong : List Bool → List Bool → Type 0

@@ -11,7 +11,7 @@ use Rattle.ttp_model.specs.Instance.{Instance, instance_with, process_at, link_a
 use Rattle.ttp_model.specs.Network.{indices}
 use Rattle.ttp_model.specs.Plans.{round_of, channel_of}
 use Rattle.kept_constraints.specs.declared.constraints.Constraints.{Constraints}
-use Rattle.kept_constraints.specs.Constraints.{is_set}
+use Rattle.ttp_model.specs.Lists.{is_set}
 
 -- a cluster with its horizon, if it is kept: without it all may end as late as can be said
 abbrev pub cluster_with : Bool → Cluster → Cluster

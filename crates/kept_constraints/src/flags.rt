@@ -1,7 +1,7 @@
 //! Which places of a list are kept?
 
 ghost use Rattle.std.specs.Prelude.{◌≡◌, IfOk, length, replicate, slice_set, true, false};
-ghost use Rattle.kept_constraints.specs.Constraints.{is_set};
+ghost use Rattle.ttp_model.specs.Lists.{is_set};
 
 use std::alloc::Global;
 use std::marker::Model;

@@ -9,7 +9,7 @@ use crate::values::Values;
 use crate::weights::Weights;
 use std::alloc::Global;
 use tt_infer::{Fact, Facts};
-use ttp_model::{Instance, MemoryFault, Step};
+use ttp_model::{Instance, MemoryFault, Step, has_flag};
 
 /// The fact that a step sharpened, and how far it was known before the step.
 #[derive(Clone, Copy)]
@@ -54,7 +54,7 @@ pub struct Found {
 impl Marked for Fewest {
     /// Whether the closer needs the step of the log at a place.
     fn is_marked(&self, place: usize) -> bool {
-        self.marked.get(place) == Some(&true)
+        has_flag(self.marked.as_slice(), place)
     }
 }
 

@@ -4,7 +4,7 @@ use crate::counted::add_counted;
 use std::alloc::Global;
 use step_reads::FactSet;
 use tt_infer::{Fact, Facts, target};
-use ttp_model::{Instance, MemoryFault, Step};
+use ttp_model::{Instance, MemoryFault, Step, has_flag};
 
 /// Steps one after another, of which some are marked.
 pub trait Marked {
@@ -81,6 +81,6 @@ impl Marks {
 impl Marked for Marks {
     /// Whether the closer needs the step at a place.
     fn is_marked(&self, place: usize) -> bool {
-        self.marked.get(place) == Some(&true)
+        has_flag(self.marked.as_slice(), place)
     }
 }

@@ -2,7 +2,6 @@
 
 ghost use Rattle.std.specs.Prelude.{◌<◌, length};
 
-use crate::flags::{lower, raise};
 use crate::rings::ring_step;
 use crate::twins::{add_decided, add_twin_steps};
 use crate::waiting::Waiting;
@@ -13,7 +12,7 @@ use std::collections::VecDeque;
 use std::mem;
 use tt_choice::Decision;
 use tt_infer::{Fact, Facts};
-use ttp_model::{Instance, MOST_NODES, MOST_PROCESSES, MemoryFault, Step, has_link};
+use ttp_model::{Instance, MOST_NODES, MOST_PROCESSES, MemoryFault, Step, has_link, put_flag};
 
 /// After so many facts for each process and message rings are looked for again: a guess.
 const FACTS_BETWEEN_RINGS: u32 = 4;
@@ -242,7 +241,9 @@ impl Agenda {
             Fact::End(p) => self.note_end(facts, p),
             Fact::FirstRound(m) => self.note_frames(instance, m),
             Fact::LateRound(m) => self.note_late_round(instance, m),
-            Fact::Order(p, _) => raise(&mut self.unsettled, p),
+            Fact::Order(p, _) => {
+                put_flag(&mut self.unsettled, p as usize, true);
+            }
             Fact::Closed => {}
         }
         self.add(fact)
@@ -251,7 +252,7 @@ impl Agenda {
     /// Takes note of a later start of process `p`: its node may be too full.
     fn note_start(&mut self, instance: &Instance, p: u32) {
         if (p as usize) < instance.processes().len() {
-            raise(&mut self.runs, instance.node_of(p as usize));
+            put_flag(&mut self.runs, instance.node_of(p as usize) as usize, true);
         }
     }
 
@@ -263,11 +264,11 @@ impl Agenda {
             return;
         }
         let host = instance.node_of(p as usize);
-        raise(&mut self.runs, host);
-        raise(&mut self.sendings, host);
+        put_flag(&mut self.runs, host as usize, true);
+        put_flag(&mut self.sendings, host as usize, true);
         for q in instance.processes_on(host) {
             if *q != p && !facts.bef(*q, p) {
-                raise(&mut self.unsettled, *q);
+                put_flag(&mut self.unsettled, *q as usize, true);
             }
         }
     }
@@ -275,7 +276,11 @@ impl Agenda {
     /// Takes note of a later first round of message `m`, or of its channel: its frames may be too full.
     fn note_frames(&mut self, instance: &Instance, m: u32) {
         if (m as usize) < instance.messages().len() {
-            raise(&mut self.sendings, instance.source_of(m as usize));
+            put_flag(
+                &mut self.sendings,
+                instance.source_of(m as usize) as usize,
+                true,
+            );
         }
     }
 
@@ -285,9 +290,13 @@ impl Agenda {
         if m as usize >= instance.messages().len() {
             return;
         }
-        raise(&mut self.sendings, instance.source_of(m as usize));
+        put_flag(
+            &mut self.sendings,
+            instance.source_of(m as usize) as usize,
+            true,
+        );
         for q in instance.message_at(m as usize).receivers.as_slice() {
-            raise(&mut self.unsettled, *q);
+            put_flag(&mut self.unsettled, *q as usize, true);
         }
     }
 
@@ -339,7 +348,7 @@ impl Agenda {
     fn add_settled(&mut self, facts: &Facts, steps: &mut Vec<Step>) -> Result<(), MemoryFault> {
         let count = facts.instance().processes().len() as u32;
         for p in 0..count {
-            if lower(&mut self.unsettled, p) && !may_end_last(facts, p) {
+            if put_flag(&mut self.unsettled, p as usize, false) && !may_end_last(facts, p) {
                 steps.push(Step::UsSettled(p))?;
             }
         }
@@ -351,12 +360,12 @@ impl Agenda {
     fn add_loads(&mut self, facts: &Facts, steps: &mut Vec<Step>) -> Result<(), MemoryFault> {
         let count = facts.instance().nodes().len() as u32;
         for n in 0..count {
-            if lower(&mut self.runs, n) {
+            if put_flag(&mut self.runs, n as usize, false) {
                 if let Some(step) = node_load(facts, n) {
                     steps.push(step)?;
                 }
             }
-            if lower(&mut self.sendings, n) {
+            if put_flag(&mut self.sendings, n as usize, false) {
                 self.find_rounds(facts, n)?;
                 add_late(facts, n, self.rounds.as_slice(), steps)?;
                 if let Some(step) = frame_load(facts, n) {

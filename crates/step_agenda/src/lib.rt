@@ -2,7 +2,6 @@
 #![tactic(auto)]
 
 mod agenda;
-mod flags;
 mod rings;
 mod twins;
 mod waiting;

@@ -2,10 +2,9 @@
 
 ghost use Rattle.std.specs.Prelude.{◌<◌, length};
 
-use crate::flags::{is_up, lower, raise};
 use std::alloc::Global;
 use tt_infer::Facts;
-use ttp_model::{Instance, MOST_PROCESSES, MemoryFault, Ring, Step, has_link};
+use ttp_model::{Instance, MOST_PROCESSES, MemoryFault, Ring, Step, has_flag, has_link, put_flag};
 
 /// A number for each process.
 type Numbers = [u32; MOST_PROCESSES];
@@ -31,7 +30,7 @@ fn waiting(facts: &Facts) -> [bool; MOST_PROCESSES] {
     let mut waiting = [false; MOST_PROCESSES];
     let mut times = [0; MOST_PROCESSES];
     for p in 0..count {
-        raise(&mut waiting, p);
+        put_flag(&mut waiting, p as usize, true);
         count_later(facts, p, true, &mut times);
     }
     for _ in 0..count {
@@ -48,7 +47,7 @@ fn take_free(facts: &Facts, waiting: &mut [bool; MOST_PROCESSES], times: &mut Nu
     let mut taken = false;
     let count = facts.instance().processes().len() as u32;
     for p in 0..count {
-        if number(times, p) == 0 && lower(waiting, p) {
+        if number(times, p) == 0 && put_flag(waiting, p as usize, false) {
             count_later(facts, p, false, times);
             taken = true;
         }
@@ -139,7 +138,7 @@ fn one_before(facts: &Facts, waiting: &[bool; MOST_PROCESSES], q: u32) -> u32
 {
     let count = facts.instance().processes().len() as u32;
     for p in 0..count {
-        if is_up(waiting, p) && goes_before(facts, p, q) {
+        if has_flag(waiting, p as usize) && goes_before(facts, p, q) {
             return p;
         }
     }
@@ -171,10 +170,10 @@ fn entry(before: &Numbers, first: u32) -> u32 {
     let mut seen = [false; MOST_PROCESSES];
     let mut at = first;
     for _ in 0..MOST_PROCESSES {
-        if is_up(&seen, at) {
+        if has_flag(&seen, at as usize) {
             return at;
         }
-        raise(&mut seen, at);
+        put_flag(&mut seen, at as usize, true);
         at = number(before, at);
     }
     at

@@ -1,9 +1,8 @@
 //! Which steps of twins are tried, and when?
 
-use crate::flags::{is_up, raise};
 use tt_choice::Decision;
 use tt_infer::Facts;
-use ttp_model::{Instance, MOST_NODES, MOST_PROCESSES, MemoryFault, Step};
+use ttp_model::{Instance, MOST_NODES, MOST_PROCESSES, MemoryFault, Step, has_flag, put_flag};
 
 /// Adds the steps that no instance names beforehand and that read no fact: the orders of twins, and the closers of silent ones.
 pub fn add_twin_steps(facts: &Facts, steps: &mut Vec<Step>) -> Result<(), MemoryFault> {
@@ -33,7 +32,7 @@ fn add_twins(instance: &Instance, steps: &mut Vec<Step>) -> Result<(), MemoryFau
     let talks = talking(instance);
     let count = instance.processes().len() as u32;
     for p in 0..count {
-        if !is_up(&talks, p) {
+        if !has_flag(&talks, p as usize) {
             add_twins_of(instance, &talks, p, steps)?;
         }
     }
@@ -49,7 +48,7 @@ fn add_twins_of(
 ) -> Result<(), MemoryFault> {
     let count = instance.processes().len() as u32;
     for q in 0..count {
-        if !is_up(talks, q) && p < q && are_alike(instance, p, q) {
+        if !has_flag(talks, q as usize) && p < q && are_alike(instance, p, q) {
             add(steps, Step::OrdTwin(p, q))?;
         }
     }
@@ -74,7 +73,7 @@ fn are_alike(instance: &Instance, p: u32, q: u32) -> bool {
 fn talking(instance: &Instance) -> [bool; MOST_PROCESSES] {
     let mut talks = [false; MOST_PROCESSES];
     for message in instance.messages() {
-        raise(&mut talks, message.sender);
+        put_flag(&mut talks, message.sender as usize, true);
         raise_all(&mut talks, message.receivers.as_slice());
     }
     talks
@@ -83,7 +82,7 @@ fn talking(instance: &Instance) -> [bool; MOST_PROCESSES] {
 /// Sets the flags at these indices.
 fn raise_all(flags: &mut [bool], indices: &[u32]) {
     for k in indices {
-        raise(flags, *k);
+        put_flag(flags, *k as usize, true);
     }
 }
 
@@ -92,7 +91,7 @@ fn raise_all(flags: &mut [bool], indices: &[u32]) {
 fn add_silent_twins(facts: &Facts, steps: &mut Vec<Step>) -> Result<(), MemoryFault> {
     let sends = sending(facts.instance());
     for v in facts.choice().prefix() {
-        if !is_up(&sends, *v) {
+        if !has_flag(&sends, *v as usize) {
             add_silent_twins_of(&sends, *v, steps)?;
         }
     }
@@ -104,7 +103,7 @@ fn sending(instance: &Instance) -> [bool; MOST_NODES] {
     let mut sends = [false; MOST_NODES];
     let messages = instance.messages().len() as u32;
     for m in 0..messages {
-        raise(&mut sends, instance.source_of(m as usize));
+        put_flag(&mut sends, instance.source_of(m as usize) as usize, true);
     }
     sends
 }
@@ -112,7 +111,7 @@ fn sending(instance: &Instance) -> [bool; MOST_NODES] {
 /// Adds the closers of nodes before `v` that send nothing.
 fn add_silent_twins_of(sends: &[bool], v: u32, steps: &mut Vec<Step>) -> Result<(), MemoryFault> {
     for u in 0..v {
-        if !is_up(sends, u) {
+        if !has_flag(sends, u as usize) {
             add(steps, Step::XSilent(u, v))?;
         }
     }

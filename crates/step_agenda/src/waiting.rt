@@ -2,7 +2,7 @@
 
 use std::alloc::Global;
 use tt_infer::Fact;
-use ttp_model::{Instance, MemoryFault};
+use ttp_model::{Instance, MemoryFault, put_flag};
 
 /// No list has this place.
 const NOWHERE: usize = usize::MAX;
@@ -14,17 +14,6 @@ pub struct Waiting {
     processes: u32,
     /// The start and the end of each process, and then the two rounds of each message.
     flags: Vec<bool>,
-}
-
-/// Puts a flag, where it is there. What it was before.
-fn put(flags: &mut [bool], at: usize, value: bool) -> bool {
-    if at < flags.len() {
-        let before = flags[at];
-        flags[at] = value;
-        before
-    } else {
-        false
-    }
 }
 
 impl Waiting {
@@ -65,12 +54,12 @@ impl Waiting {
     /// A fact waits. Whether it did before.
     pub fn insert(&mut self, fact: Fact) -> bool {
         let place = self.place(fact);
-        put(self.flags.as_mut_slice(), place, true)
+        put_flag(self.flags.as_mut_slice(), place, true)
     }
 
     /// A fact waits no longer. Whether it did before.
     pub fn remove(&mut self, fact: Fact) -> bool {
         let place = self.place(fact);
-        put(self.flags.as_mut_slice(), place, false)
+        put_flag(self.flags.as_mut_slice(), place, false)
     }
 }

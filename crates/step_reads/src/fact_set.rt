@@ -2,7 +2,7 @@
 
 use std::alloc::Global;
 use tt_infer::Fact;
-use ttp_model::{Instance, MOST_MESSAGES, MOST_PROCESSES, MemoryFault};
+use ttp_model::{Instance, MOST_MESSAGES, MOST_PROCESSES, MemoryFault, has_flag, put_flag};
 
 /// A set of facts of an instance. Orders stay in it, and what no instance can have is never in it.
 #[derive(Drop)]
@@ -16,17 +16,6 @@ pub struct FactSet {
     /// A row of tests for each process, one row after another.
     orders: Vec<bool>,
     closed: bool,
-}
-
-/// Puts a flag, where it is there. What it was before.
-fn put(flags: &mut [bool], at: usize, value: bool) -> bool {
-    if at < flags.len() {
-        let before = flags[at];
-        flags[at] = value;
-        before
-    } else {
-        false
-    }
 }
 
 impl FactSet {
@@ -58,10 +47,10 @@ impl FactSet {
     /// Puts a fact into the set. Whether it was in it.
     pub fn insert(&mut self, fact: Fact) -> bool {
         match fact {
-            Fact::Start(p) => put(&mut self.starts, p as usize, true),
-            Fact::End(p) => put(&mut self.ends, p as usize, true),
-            Fact::FirstRound(m) => put(&mut self.first_rounds, m as usize, true),
-            Fact::LateRound(m) => put(&mut self.late_rounds, m as usize, true),
+            Fact::Start(p) => put_flag(&mut self.starts, p as usize, true),
+            Fact::End(p) => put_flag(&mut self.ends, p as usize, true),
+            Fact::FirstRound(m) => put_flag(&mut self.first_rounds, m as usize, true),
+            Fact::LateRound(m) => put_flag(&mut self.late_rounds, m as usize, true),
             Fact::Order(p, q) => self.insert_order(p, q),
             Fact::Closed => {
                 let before = self.closed;
@@ -83,7 +72,7 @@ impl FactSet {
     /// Puts an order into the set. Whether it was in it.
     fn insert_order(&mut self, p: u32, q: u32) -> bool {
         match self.place(p, q) {
-            Some(place) => put(&mut self.orders, place, true),
+            Some(place) => put_flag(&mut self.orders, place, true),
             None => false,
         }
     }
@@ -91,7 +80,7 @@ impl FactSet {
     /// Whether an order is in the set.
     fn has_order(&self, p: u32, q: u32) -> bool {
         match self.place(p, q) {
-            Some(place) => self.orders.get(place) == Some(&true),
+            Some(place) => has_flag(&self.orders, place),
             None => false,
         }
     }
@@ -99,10 +88,10 @@ impl FactSet {
     /// Takes a fact out of the set, orders excepted. Whether it was in it.
     pub fn remove(&mut self, fact: Fact) -> bool {
         match fact {
-            Fact::Start(p) => put(&mut self.starts, p as usize, false),
-            Fact::End(p) => put(&mut self.ends, p as usize, false),
-            Fact::FirstRound(m) => put(&mut self.first_rounds, m as usize, false),
-            Fact::LateRound(m) => put(&mut self.late_rounds, m as usize, false),
+            Fact::Start(p) => put_flag(&mut self.starts, p as usize, false),
+            Fact::End(p) => put_flag(&mut self.ends, p as usize, false),
+            Fact::FirstRound(m) => put_flag(&mut self.first_rounds, m as usize, false),
+            Fact::LateRound(m) => put_flag(&mut self.late_rounds, m as usize, false),
             Fact::Order(p, q) => self.has_order(p, q),
             Fact::Closed => self.closed,
         }

@@ -1,5 +1,5 @@
 -- Words on lists and indices that the definitions of instances and plans share.
-use Rattle.std.specs.Prelude.{◌≢◌, ℕ, ◌<◌, List, length, slice_index, max, fold, Option, None, Some}
+use Rattle.std.specs.Prelude.{◌≢◌, ℕ, ◌<◌, List, length, slice_index, slice_index_or, max, fold, Bool, false, Option, None, Some}
 
 -- P holds at each index below n
 abbrev pub EachBelow : ℕ → (ℕ → Type 0) → Type 0
@@ -23,3 +23,7 @@ HasNoRepeats xs = (j k : ℕ) → j < k → k < length xs → slice_index xs j �
 -- the greatest of the numbers, or 0 where there is none
 abbrev pub greatest : List ℕ → ℕ
 greatest xs = fold max 0 xs
+
+-- a flag is set: none is past the end
+abbrev pub is_set : List Bool → ℕ → Bool
+is_set flags place = slice_index_or flags place false

@@ -9,7 +9,8 @@ use Rattle.lateness.specs.outcome.Options.{Options}
 use Rattle.lateness.proofs.AnswerVersions.{answer_allows}
 use Rattle.kept_constraints.specs.declared.constraints.Constraint.{Constraint}
 use Rattle.kept_constraints.specs.declared.constraints.Constraint.TheVariants as one
-use Rattle.kept_constraints.specs.Constraints.{all_of, has_deadline, has_release, is_on_both, is_set, keeps}
+use Rattle.kept_constraints.specs.Constraints.{all_of, has_deadline, has_release, is_on_both, keeps}
+use Rattle.ttp_model.specs.Lists.{is_set}
 use Rattle.kept_constraints.proofs.Keeps.{kept_among, listed_kept}
 use Rattle.kept_constraints.proofs.KeptLaws.{rules_kept}
 use Rattle.conflicts.specs.Conflicts.{Answers}

@@ -1,7 +1,7 @@
 use Rattle.std.proofs.Common.{◌≡◌, map}
 use Rattle.ttp_model.specs.Instance.{link_at}
 use Rattle.ttp_model.specs.Network.{indices}
-use Rattle.kept_constraints.specs.Constraints.{is_set}
+use Rattle.ttp_model.specs.Lists.{is_set}
 use Rattle.kept_constraints.proofs.only.links.Given as goal
 
 abbrev pub invariant-loop-l : goal.invariant-loop-l

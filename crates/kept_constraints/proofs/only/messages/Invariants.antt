@@ -1,6 +1,6 @@
 use Rattle.std.proofs.Common.{◌≡◌, map}
 use Rattle.ttp_model.specs.Network.{indices}
-use Rattle.kept_constraints.specs.Constraints.{is_set}
+use Rattle.ttp_model.specs.Lists.{is_set}
 use Rattle.kept_constraints.specs.Only.{message_of}
 use Rattle.kept_constraints.proofs.only.messages.Given as goal
 
