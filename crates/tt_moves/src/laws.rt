@@ -1,12 +1,12 @@
 //! What follows from the definitions alone? These functions do nothing: their contracts are laws.
 
-ghost use Rattle.std.specs.Prelude.{◌<◌, ◌≤◌, IsTrue, ℕ, length};
+ghost use Rattle.std.specs.Prelude.{◌≡◌, ◌+◌, ◌<◌, ◌≤◌, IsTrue, ℕ, length};
 ghost use Rattle.ttp_model.specs.declared.plan.Plan.{Plan};
 ghost use Rattle.ttp_model.specs.Instance.{Instance};
 ghost use Rattle.ttp_model.specs.Rules.{IsInstance};
 ghost use Rattle.ttp_model.specs.Plans.{IsValid, round_of, start_of};
 ghost use Rattle.ttp_model.specs.Twins.{AreSilentTwins, AreTwins};
-ghost use Rattle.ttp_model.specs.Moves.{exchanged, leads_turned, sent, started, swapped, turned};
+ghost use Rattle.ttp_model.specs.Moves.{exchanged, leads_turned, sent, started, swapped, turned, weight};
 ghost use Rattle.tt_moves.specs.Earlier.{CanBeSent, CanStart};
 
 /// A plan stays valid where a process starts earlier, at a time by which all is over that it waits
@@ -43,4 +43,13 @@ pub fn turned_frames_stay_valid()
     ensures { (i : Instance) (plan : Plan) (m : ℕ)
         → IsInstance i → IsValid i plan → m < length i.messages → IsTrue (leads_turned i plan m)
         → IsValid i (turned i plan m) }
+{}
+
+/// To exchange the channels of a turned frame lowers the third part of a plan's weight by one, and leaves the first two.
+pub fn turned_frames_weigh_one_less()
+    ensures times { (i : Instance) (plan : Plan) (m : ℕ) → (weight i (turned i plan m)).times ≡ (weight i plan).times }
+    ensures twins { (i : Instance) (plan : Plan) (m : ℕ) → (weight i (turned i plan m)).twins ≡ (weight i plan).twins }
+    ensures frames { (i : Instance) (plan : Plan) (m : ℕ)
+        → m < length i.messages → IsTrue (leads_turned i plan m)
+        → (weight i (turned i plan m)).frames + 1 ≡ (weight i plan).frames }
 {}

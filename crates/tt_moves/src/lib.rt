@@ -7,5 +7,5 @@ mod laws;
 pub use exchanges::{silent_twins, twins};
 pub use laws::{
     earlier_rounds_stay_valid, earlier_starts_stay_valid, exchanged_silent_twins_stay_valid,
-    exchanged_twins_stay_valid, turned_frames_stay_valid,
+    exchanged_twins_stay_valid, turned_frames_stay_valid, turned_frames_weigh_one_less,
 };
