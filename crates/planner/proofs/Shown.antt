@@ -8,7 +8,8 @@ use Rattle.dropped_decisions.proofs.Bounds.{proved_bound, proved_none, proved_le
 use Rattle.search_turns.specs.declared.outcome.Options.{Options}
 use Rattle.search_turns.specs.declared.outcome.Outcome.{Outcome}
 use Rattle.search_turns.specs.declared.outcome.Outcome.TheVariants.{Optimal, Infeasible, Stopped}
-use Rattle.planner.specs.Answers.{IsOutcome, IsBestAbove, IsBestPlan, Shows}
+use Rattle.planner.specs.Answers.{IsOutcome, IsBestAbove, Shows}
+use Rattle.ttp_model.specs.Answers.{IsBestPlan}
 
 best_is_plan : (i : Instance) (low : ℕ) (best : Option (Plan × ℕ)) → IsBestAbove i low best → IsBestPlan i best
 best_is_plan i low None is = tt

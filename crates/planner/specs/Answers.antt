@@ -2,8 +2,7 @@
 use Rattle.std.specs.Prelude.{◌≡◌, ℕ, ◌+◌, ◌-◌, ◌≤◌, ◌<◌, ◌==◌, if◌then◌else◌, min, count_by, Bool, false, Option, None, Some, nat_le, Contains, All}
 use Rattle.ttp_model.specs.declared.plan.Plan.{Plan}
 use Rattle.ttp_model.specs.Instance.{Instance}
-use Rattle.ttp_model.specs.Delays.{delay, IsLowerBound, IsLeastDelay, HasNoPlan}
-use Rattle.ttp_model.specs.Plans.{IsValid}
+use Rattle.ttp_model.specs.Answers.{Answer, Least, NoPlan, Between, IsTrueOf}
 use Rattle.ttp_model.specs.Chains.{IsPathBound}
 use Rattle.certificate.specs.declared.node.Node.{Node}
 use Rattle.ttp_model.specs.declared.step.Leaf.{Leaf}
@@ -105,15 +104,12 @@ pub record IsOutcome (i : Instance) (options : Options) (outcome : Outcome) : Ty
   pub within : branches (cert_of outcome).tree ≤ options.budget
   pub says : Says i options outcome
 
--- a plan that was found before the search was stopped is valid, and has the delay that stands beside it
-abbrev pub IsBestPlan : Instance → Option (Plan × ℕ) → Type 0
-IsBestPlan i None = Unit {0}
-IsBestPlan i (Some best) = IsValid i best.0 × (best.1 ≡ delay i best.0)
+-- what an answer says to the question for a shortest plan, without what shows it
+abbrev pub answer_of : Outcome → Answer
+answer_of (Optimal plan ticks cert) = Least plan ticks
+answer_of (Infeasible cert) = NoPlan
+answer_of (Stopped why low best cert) = Between low best
 
--- What a caller learns. Of a plan that is called least: it is valid, has the delay stated, and no valid plan has a smaller one.
--- Of "no plan": there is no valid one. Of a search that was stopped: no valid plan is below the bound, and the plan beside it, if
--- there is one, is valid and has the delay stated.
+-- and what it says is true
 abbrev pub Shows : Instance → Outcome → Type 0
-Shows i (Optimal plan ticks cert) = IsValid i plan × (ticks ≡ delay i plan) × IsLeastDelay i ticks
-Shows i (Infeasible cert) = HasNoPlan i
-Shows i (Stopped why low best cert) = IsLowerBound i low × IsBestPlan i best
+Shows i outcome = IsTrueOf i (answer_of outcome)

@@ -8,7 +8,8 @@ use Rattle.certificate.specs.Cert.{Cert}
 use Rattle.any_plan.specs.outcome.Options.{Options}
 use Rattle.any_plan.specs.outcome.Outcome.TheVariants as outcome
 use Rattle.any_plan.specs.outcome.Why.{Why}
-use Rattle.any_plan.specs.Answers.{IsOutcome, IsBestPlan, Shows}
+use Rattle.any_plan.specs.Answers.{IsOutcome, Shows}
+use Rattle.ttp_model.specs.Answers.{IsBestPlan}
 use Rattle.cut_deadlines.specs.Cut.{CanEndBy, cut}
 use Rattle.cut_deadlines.specs.Ends.{AreThere, IsLeastEnd}
 use Rattle.cut_deadlines.proofs.CutPlans.{end_by_of_cut, valid_cut, valid_of_cut}

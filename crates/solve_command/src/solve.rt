@@ -11,7 +11,8 @@ ghost use Rattle.command_streams.specs.Outcomes.{IfRefused};
 ghost use Rattle.command_streams.specs.Streams.{TakesAtMost};
 ghost use Rattle.plan_commands.specs.Printed.{printed_limit};
 ghost use Rattle.planner.specs.Searching.{limit_of};
-ghost use Rattle.planner.specs.Answers.{best_of, cert_of, IsBestPlan, IsOutcome, Shows};
+ghost use Rattle.planner.specs.Answers.{best_of, cert_of, IsOutcome, Shows};
+ghost use Rattle.ttp_model.specs.Answers.{IsBestPlan};
 ghost use Rattle.solve_command.specs.Solved.{best_word, fault_of, stopped_line, why_word, IsAnswerText, IsNoSearch, IsSearchOf, IsSolveAnswer, IsSolved, IsSolvedFrom, IsStartedAnswer, IsStoppedText, IsUnsolved, IsUnsolvedFrom};
 ghost use Rattle.solve_command.specs.Telling.{end_told, held, left, IsCertifying, IsTellingOf, IsWritingTo};
 
