@@ -16,6 +16,7 @@ use Rattle.search_turns.specs.Pieces.{IsRight, StandsAt, AreRight}
 use Rattle.search_turns.specs.Account.{IsWholeTree}
 use Rattle.search_turns.specs.Work.{IsLeftClosed}
 use Rattle.search_turns.proofs.OneChoice.{stands_alone}
+use Rattle.search_turns.proofs.Children.{leaf_right}
 use Rattle.search_turns.specs.aims.Aims.{Aims}
 use Rattle.search_turns.specs.Tasks.{tasks_of}
 use Rattle.search_turns.specs.declared.outcome.Options.{Options}
@@ -89,7 +90,7 @@ module _ (i : Instance) (aims : Aims) (made : List Piece) (tasks : List Task) (f
       let one : ClosesOne i tasks limit p = All-contains (ClosesOne i tasks limit) closed p c.each there in
       let here : StandsAt i made one.task.name d = subst (λ (w : Name). StandsAt i made w d) one.is.name stands in
       let same : choice_of i one.task ≡ d = stands_alone i made (task_names tasks) one.task.name (choice_of i one.task) d made_whole (made_stands one.task one.there) here in
-      subst (λ (e : Choice). IsRight i e p.node) same (subst (IsRight i (choice_of i one.task)) (sym one.is.node) one.is.closes)
+      subst (λ (e : Choice). IsRight i e p.node) same (subst (IsRight i (choice_of i one.task)) (sym one.is.node) (leaf_right i (choice_of i one.task) one.is.leaf one.is.closes))
 
   pub ends : (options : Options) (why : Why) → length made ≤ options.budget → IsWorkedOut options.budget made why
       → IsSearched i options aims why found made closed low

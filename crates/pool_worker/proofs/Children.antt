@@ -1,8 +1,9 @@
--- The children of a split are those that its branch gives.
+-- The children of a split are those that its branch gives; and a leaf that is sharp is right.
 use Rattle.std.proofs.Common.{◌≡◌, ℕ, List, [], ◌∷◌, map, length, refl, sym, ap, ◌∙◌, subst}
 use Rattle.std.specs.List.{range_with_len}
 use Rattle.std.proofs.lemmas.Simd.{map-map}
 use Rattle.ttp_model.specs.declared.step.Kind.{Kind}
+use Rattle.ttp_model.specs.declared.step.Leaf.{Leaf}
 use Rattle.ttp_model.specs.Kinds.{children_of, HasOwnCount, HasOwnCount-children_of}
 use Rattle.ttp_model.specs.Instance.{Instance}
 use Rattle.tt_choice.specs.declared.decision.Decision.{Decision}
@@ -14,11 +15,12 @@ use Rattle.certificate.specs.Branch.{branch_of}
 use Rattle.certificate.specs.declared.node.Node.{Node}
 use Rattle.certificate.specs.declared.node.Node.TheVariants as node
 use Rattle.branch_tree.specs.Name.{Name, child_name}
-use Rattle.branch_tree.specs.Pieces.{IsRight, choice_below}
+use Rattle.branch_tree.specs.Pieces.{IsRight, IsSharp, choice_below}
 use Rattle.branch_tree.specs.Task.{Task, choice_of}
 use Rattle.branch_tree.specs.Work.{IsSplit}
 use Rattle.branch_tree.proofs.ChildTasks.{with_one}
 use Rattle.branch_tree.proofs.Chosen.{choice_after_child}
+use Rattle.used_decisions.proofs.RuledOut.{closes_sharply}
 use Rattle.pool_worker.specs.Tasks.{decisions_below, born}
 
 -- the choice of a child's task is the one that its parent's node leads to
@@ -71,3 +73,6 @@ module _ (i : Instance) (t : Task) (goal : ℕ) (k : Kind) (kids : List Task) (s
       let is : IsRight i (choice_of i t) (node.Branch (branch_of k (length kids)))
       = record { is_open = split.branch.is_open; just = many ∙ split.branch.just } in
       subst (λ (b' : Branch). IsRight i (choice_of i t) (node.Branch b')) (sym e) is
+
+pub leaf_right : (i : Instance) (c : Choice) (leaf : Leaf) → IsSharp i c (node.Leaf leaf) → IsRight i c (node.Leaf leaf)
+leaf_right i c leaf sharp = closes_sharply i c leaf sharp

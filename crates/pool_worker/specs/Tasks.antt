@@ -10,18 +10,19 @@ use Rattle.certificate.specs.Trees.{children}
 use Rattle.branch_tree.specs.piece.Piece.{Piece}
 use Rattle.branch_tree.specs.Name.{child_name}
 use Rattle.branch_tree.specs.Task.{Task, choice_of, IsTask}
-use Rattle.branch_tree.specs.Pieces.{IsRight}
+use Rattle.branch_tree.specs.Pieces.{IsRight, IsSharp}
 
 -- a task that was worked, and the piece that it became
 pub record Turn : Type 0 where
   pub task : Task
   pub piece : Piece
 
--- the piece has the task's name, and is right for its choice
+-- the piece has the task's name, is right for its choice, and is sharp where it is a leaf
 pub record IsTurn (i : Instance) (turn : Turn) : Type 0 where
   pub of : IsTask i turn.task
   pub name : turn.piece.name ≡ turn.task.name
   pub right : IsRight i (choice_of i turn.task) turn.piece.node
+  pub sharp : IsSharp i (choice_of i turn.task) turn.piece.node
 
 -- the decisions that lead to a child of a task's node: one more below a branch; the same below a leaf
 abbrev pub decisions_below : Instance → Task → Node → ℕ → List Decision

@@ -42,7 +42,6 @@ use Rattle.search_core.specs.Steps.{Step, IsThere, Runs}
 use Rattle.search_core.specs.Steps.Step.{pops, steals, looks, works, pushes, offers, rests}
 use Rattle.search_core.specs.Steps.Runs.{ends, goes, stops}
 use Rattle.search_core.specs.Bounds.{known, with_hand, least_with, IsDelay, IsTop, IsHonest, AreHonest, IsOpenPlan, Bounds}
-use Rattle.subtree_tasks.proofs.RuledOut.{closes_sharply}
 use Rattle.subtree_tasks.proofs.Weights.{weigh, same_or_other, only, only-other, contained, weighs}
 use Rattle.search_core.proofs.Effects.{openw, open_weight, put_weight, seat_other, there_still, piece_made, pops_open, looks_open, works_open, pushes_open, offers_open, rests_open, steals_open}
 use Rattle.search_core.proofs.Known.{known_best, least_put, least_found, least_given, least_best, IsOneOf, Each, Each-set, Each-weaker, Each-get_or, HasDelay, known_is}
@@ -400,7 +399,7 @@ worked i top m w (Closed leaf) t ok there p honest h =
       cover = λ plan settled below.
           let lower : delay i plan < known m = omega (arith, knows, below) in
           work_covers i m w (Closed leaf) t there p plan (known m)
-          (λ c choice within stands b. absurd (leaf_leaves_none i c leaf ok choice (closes_sharply i c leaf (honest.1 p.name c p.hand stands)) plan
+          (λ c choice within stands b. absurd (leaf_leaves_none i c leaf ok choice (honest.1 p.name c p.hand stands) plan
           (sought i c leaf.goal plan settled within (omega (arith, b, p.fits, before.seen)))))
           (h.cover plan settled lower) lower;
     }
@@ -425,7 +424,7 @@ worked i top m w (Found leaf v) t ok there p honest h =
       cover = λ plan settled below.
           let lower : delay i plan < known m = omega (arith, lowered, below) in
           work_covers i m w (Found leaf v) t there p plan (known n)
-          (λ c choice within stands b. absurd (leaf_leaves_none i c leaf ok choice (closes_sharply i c leaf (honest.1 p.name c p.hand stands)) plan
+          (λ c choice within stands b. absurd (leaf_leaves_none i c leaf ok choice (honest.1 p.name c p.hand stands) plan
           (sought i c leaf.goal plan settled within (omega (arith, b, least)))))
           (h.cover plan settled lower) below;
     }

@@ -6,5 +6,4 @@ pub mod Standing
 pub mod Cover
 pub mod Ledger
 pub mod Right
-pub mod OneLeaf
 pub mod OneMessage

@@ -5,7 +5,8 @@ use Rattle.ttp_model.specs.Delays.{IsLeastDelay}
 use Rattle.ttp_model.specs.Worked.{one_message, one_message_plan}
 use Rattle.ttp_model.proofs.OneMessagePlan.{plan_is_valid}
 use Rattle.tt_choice.specs.Choice.{Choice}
-use Rattle.tt_infer.specs.Leaves.{ClosesSharply}
+use Rattle.tt_infer.specs.Leaves.{ClosesLeaf}
+use Rattle.tt_infer.proofs.OneMessage.{closes_at_9}
 use Rattle.tt_infer.proofs.OneMessageRules.{one_message_is_instance}
 use Rattle.subtree_tasks.specs.declared.piece.Piece.{Piece}
 use Rattle.subtree_tasks.specs.Name.{Name, root_name}
@@ -21,7 +22,6 @@ use Rattle.search_core.specs.Steps.{Step, Runs}
 use Rattle.search_core.specs.Steps.Step.{pops, looks, works}
 use Rattle.search_core.specs.Steps.Runs.{ends, goes}
 use Rattle.search_core.specs.Bounds.{IsDelay, AreHonest, Bounds}
-use Rattle.search_core.proofs.OneLeaf.{closes_at_9}
 use Rattle.search_core.specs.Worked.{leaf_at_9, root_closed, all_closed}
 use Rattle.search_core.proofs.Right.{none_new, pieces_right}
 use Rattle.search_core.proofs.Cover.{bounded}
@@ -43,7 +43,7 @@ after_look : (m n : World) (r : Reply) → Step m (Look 0) n r → IsBare m → 
 after_look m _ _ (looks _ t there p) bare x h = bare x (none_new m 0 t there (ap (λ (s : Worker). s.pieces) p.after) x h)
 
 closes : (pieces : List Piece) → ((x : Piece) → ¬ Contains pieces x) → (name : Name) (c : Choice) → StandsAt one_message pieces name c
-    → ClosesSharply one_message c leaf_at_9
+    → ClosesLeaf one_message c leaf_at_9
 closes pieces none _ _ at_root = closes_at_9
 closes pieces none _ _ (at_child piece c k there stands inside) = absurd (none piece there)
 

@@ -1,7 +1,7 @@
 -- A small worked search: one worker closes the whole tree of the example with one message.
 use Rattle.std.specs.Prelude.{List, [], ◌∷◌}
 use Rattle.ttp_model.specs.declared.step.Leaf.{Leaf}
-use Rattle.ttp_model.specs.declared.step.Step.TheVariants.{LoSend, EsArrive, LeOwn, XWindow}
+use Rattle.ttp_model.specs.declared.step.Step.TheVariants.{EsRelease, LoSend, EsArrive, LeOwn, XWindow}
 use Rattle.certificate.specs.declared.node.Node.TheVariants as node
 use Rattle.subtree_tasks.specs.Name.{root_name}
 use Rattle.search_core.specs.declared.event.Event.{Event}
@@ -11,7 +11,7 @@ use Rattle.search_core.specs.World.{World, idle_seat}
 
 -- no plan has a delay below 9: the message is sent in round 1, and q ends at 9
 abbrev pub leaf_at_9 : Leaf
-leaf_at_9 = record { goal = 9; steps = LoSend 0 ∷ EsArrive 0 1 ∷ LeOwn 1 ∷ XWindow 1 ∷ [] }
+leaf_at_9 = record { goal = 9; steps = EsRelease 0 ∷ LoSend 0 ∷ EsArrive 0 1 ∷ LeOwn 1 ∷ XWindow 1 ∷ [] }
 
 -- the worker takes the root, sees the best delay, and closes it
 abbrev pub root_closed : List Event

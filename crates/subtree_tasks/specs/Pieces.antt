@@ -4,7 +4,7 @@ use Rattle.std.specs.List.{flat_map}
 use Rattle.ttp_model.specs.Instance.{Instance}
 use Rattle.tt_choice.specs.Choice.{Choice}
 use Rattle.tt_choice.specs.Branches.{IsBranch, root_choice, child}
-use Rattle.path_bounds.specs.Leaves.{ClosesSharply}
+use Rattle.path_bounds.specs.Leaves.{ClosesLeaf, ClosesSharply}
 use Rattle.certificate.specs.declared.node.Node.{Node}
 use Rattle.certificate.specs.declared.node.Node.TheVariants as node
 use Rattle.certificate.specs.Trees.{children}
@@ -25,7 +25,12 @@ all_below pieces = flat_map names_below pieces
 -- a node is right for a choice: an open branch with just its children, or a leaf that closes it
 abbrev pub IsRight : Instance → Choice → Node → Type 0
 IsRight i c (node.Branch branch) = IsBranch i c branch.kind branch.children
-IsRight i c (node.Leaf leaf) = ClosesSharply i c leaf
+IsRight i c (node.Leaf leaf) = ClosesLeaf i c leaf
+
+-- a leaf is sharp where each of its steps says more than is known before it
+abbrev pub IsSharp : Instance → Choice → Node → Type 0
+IsSharp i c (node.Branch branch) = Unit {0}
+IsSharp i c (node.Leaf leaf) = ClosesSharply i c leaf
 
 -- the choice that a node's branch leads to at a child; the same below a leaf
 abbrev pub choice_below : Instance → Choice → Node → ℕ → Choice

@@ -13,7 +13,6 @@ use Rattle.certificate.specs.Cert.{Cert}
 use Rattle.tree_check.specs.Proofs.{choices_below, Suits, AreProofs, Proves}
 use Rattle.subtree_tasks.specs.declared.piece.Piece.{Piece}
 use Rattle.subtree_tasks.specs.Name.{Name, child_name, root_name}
-use Rattle.subtree_tasks.proofs.RuledOut.{closes_sharply}
 use Rattle.subtree_tasks.specs.Pieces.{IsRight, choice_below, StandsAt, at_root, at_child, AreRight}
 use Rattle.tree_gathering.specs.Trees.{pieces_below, pieces_of}
 use Rattle.tree_gathering.specs.Gathering.{HasGoal, HaveGoals, IsGathered}
@@ -23,7 +22,7 @@ use Rattle.tree_gathering.proofs.Has.{Has, has_left, has_right, contains_from_ha
 
 suits : (i : Instance) (low : ℕ) (c : Choice) (node : Node) → IsRight i c node → HasGoal low node → Suits i low c node
 suits i low c (Branch branch) right goal = right
-suits i low c (Leaf leaf) right goal = record { goal = goal; closes = closes_sharply i c leaf right }
+suits i low c (Leaf leaf) right goal = record { goal = goal; closes = right }
 
 -- the choices below it are those of its children, in order
 below_is : (i : Instance) (c : Choice) (node : Node) → IsRight i c node

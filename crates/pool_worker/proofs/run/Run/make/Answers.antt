@@ -11,7 +11,7 @@ use Rattle.ttp_model.specs.Instance.{Instance}
 use Rattle.pool_worker.specs.Goals.{IsBelowGoals, IsReached}
 use Rattle.pool_worker.proofs.Goals.{below_goals, goal_below}
 use Rattle.pool_worker.specs.Run.{Pushes}
-use Rattle.pool_worker.proofs.Children.{kids_born, branch_right}
+use Rattle.pool_worker.proofs.Children.{kids_born, branch_right, leaf_right}
 use Rattle.pool_worker.proofs.Pushes.{none_pushed}
 use Rattle.pool_worker.proofs.Watches.{last, looked, offered, lower, one, follows_still}
 use Rattle.pool_worker.proofs.run.Run.make.Goals as goal
@@ -95,6 +95,7 @@ returns-in-Ok-Split-clause-made g c =
             name = search rules;
             right = branch_right i t c.goal_of-goal.result c.in-Ok-Split.kind kids split c.in-Ok.name
                 c.new.result made;
+            sharp = tt;
           };
       left = subst (λ (j : Instance). All (IsTask j) c.push_all-left.result.items) (sym c.requires.of) c.push_all-left.ensures.left;
       follows =
@@ -121,7 +122,7 @@ returns-in-Ok-Closed-clause-made g c =
           (none_pushed (pushed c.args.self.now.hand) []);
       pieces = c.make_room.ensures.same;
       spared = refl;
-      right = record { of = c.requires.task; name = search rules; right = closed.closes };
+      right = record { of = c.requires.task; name = search rules; right = leaf_right i (choice_of i t) leaf closed.closes; sharp = closed.closes };
       left = subst (All (IsTask i)) (sym c.new-in-Ok-Closed.ensures.items) (All-nil (IsTask i));
       follows = looked old new c.look-seen.result c.look-seen.ensures.same c.look-seen.ensures.seen c.look-seen.ensures.offers;
       below =
@@ -159,7 +160,7 @@ returns-in-Ok-Found-clause-made g c =
           (none_pushed (pushed c.args.self.now.hand) []);
       pieces = c.make_room.ensures.same;
       spared = refl;
-      right = record { of = c.requires.task; name = search rules; right = find.closes };
+      right = record { of = c.requires.task; name = search rules; right = leaf_right i (choice_of i t) leaf find.closes; sharp = find.closes };
       left = subst (All (IsTask i)) (sym c.new-in-Ok-Found.ensures.items) (All-nil (IsTask i));
       follows = follows_still old mid new looks offers_one;
       below =

@@ -10,7 +10,7 @@ use Rattle.pool_worker.proofs.Chosen.{task_choice}
 use Rattle.certificate.specs.declared.node.Node.TheVariants as node
 use Rattle.certificate.specs.Branch.{branch_of}
 use Rattle.pool_worker.specs.Tasks.{Turn}
-use Rattle.pool_worker.proofs.Children.{kids_born, branch_right}
+use Rattle.pool_worker.proofs.Children.{kids_born, branch_right, leaf_right}
 use Rattle.search_turns.specs.Searching.{aim_of, limit_of, IsSearching}
 use Rattle.pool_worker.proofs.Goals.{goal_below}
 use Rattle.search_turns.proofs.Searching.{last_there, works}
@@ -66,7 +66,7 @@ returns-in-Ok-Split-clause-searching g c =
     let named : turn.piece.name ≡ t.name = search rules in
     let all = kids_born i t c.aim-goal.result kind kids split c.in-Ok.name c.new.result made in
     let right = branch_right i t c.aim-goal.result kind kids split c.in-Ok.name c.new.result made in
-    let after = works i c.args.aims s.pieces.items front turn s.best s.best kids before (record { of = own; name = named; right = right }) all split.each (omega arith) tt start.found in
+    let after = works i c.args.aims s.pieces.items front turn s.best s.best kids before (record { of = own; name = named; right = right; sharp = tt }) all split.each (omega arith) tt start.found in
     let pieces : c.push_reserved-in-Ok-Split.new.self.items ≡ s.pieces.items ++ turn.piece ∷ [] = c.push_reserved-in-Ok-Split.ensures.items in
     let tasks : c.open_all.new.pending.items ≡ front ++ kids = c.open_all.ensures in
     rw pieces (rw tasks after)
@@ -86,7 +86,7 @@ returns-in-Ok-Closed-clause-searching g c =
     let turn : Turn = record { task = t; piece = record { name = c.in-Ok.name; node = node.Leaf leaf } } in
     let named : turn.piece.name ≡ t.name = search rules in
     let goal : aim_of i c.args.aims s.best ≤ leaf.goal = omega (arith, closed.at, c.aim-goal.ensures) in
-    let after = works i c.args.aims s.pieces.items front turn s.best s.best [] before (record { of = own; name = named; right = closed.closes }) refl (All-nil (IsTask i)) (omega arith) goal start.found in
+    let after = works i c.args.aims s.pieces.items front turn s.best s.best [] before (record { of = own; name = named; right = leaf_right i (choice_of i t) leaf closed.closes; sharp = closed.closes }) refl (All-nil (IsTask i)) (omega arith) goal start.found in
     let pieces : c.push_reserved-in-Ok-Closed.new.self.items ≡ s.pieces.items ++ turn.piece ∷ [] = c.push_reserved-in-Ok-Closed.ensures.items in
     rw pieces (subst (λ (l : List Task). IsSearching i c.args.aims (s.pieces.items ++ turn.piece ∷ []) l s.best) (append-nil front) after)
 
@@ -108,7 +108,7 @@ returns-in-Ok-Found-clause-searching g c =
     let lower : c.in-Ok-Found.delay ≤ limit_of i s.best =
     omega (arith, find.no_later, find.below, c.aim-goal.ensures, goal_below i c.args.aims (limit_of i s.best)) in
     let reached : aim_of i c.args.aims best ≤ leaf.goal = omega (arith, find.no_later, goal_below i c.args.aims c.in-Ok-Found.delay) in
-    let after = works i c.args.aims s.pieces.items front turn s.best best [] before (record { of = own; name = named; right = find.closes }) refl (All-nil (IsTask i)) lower reached (record { settled = find.settled; delay_is = find.delay_is }) in
+    let after = works i c.args.aims s.pieces.items front turn s.best best [] before (record { of = own; name = named; right = leaf_right i (choice_of i t) leaf find.closes; sharp = find.closes }) refl (All-nil (IsTask i)) lower reached (record { settled = find.settled; delay_is = find.delay_is }) in
     let pieces : c.push_reserved-in-Ok-Found.new.self.items ≡ s.pieces.items ++ turn.piece ∷ [] = c.push_reserved-in-Ok-Found.ensures.items in
     rw pieces (subst (λ (l : List Task). IsSearching i c.args.aims (s.pieces.items ++ turn.piece ∷ []) l best) (append-nil front) after)
 
