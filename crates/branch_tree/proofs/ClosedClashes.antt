@@ -19,7 +19,7 @@ use Rattle.tt_choice.specs.Choice.{Choice, IsChoice, IsComplete, fixed_channel, 
 use Rattle.tt_choice.specs.Extremes.{start_most, end_least, cap_most, dur_most}
 use Rattle.sought_plans.specs.Known.{first_facts, top_of}
 use Rattle.sought_plans.specs.Conclusions.{SentFrom, SentBefore, sharpened, capped}
-use Rattle.sought_plans.specs.Premises.{Receives, IsAhead, IsFirstChance, AreChances, least_ready, bytes_within, bytes_copied, bytes_counted, counts_on, is_fixed_on}
+use Rattle.sought_plans.specs.Premises.{GoesTo, IsAhead, IsFirstChance, AreChances, least_ready, bytes_within, bytes_copied, bytes_counted, counts_on, is_fixed_on}
 use Rattle.sought_plans.proofs.Channels.{total_copied_alone}
 use Rattle.tt_infer.proofs.Chances.{concludes_some}
 use Rattle.subtree_tasks.proofs.Complete.{start_exact, end_exact, cap_exact, one_round}
@@ -101,7 +101,7 @@ module _ (i : Instance) (c : Choice) (goal : ℕ) (w : IsInstance i) (ok : IsCho
   late_slot m es inside way late =
       let f = starting i c es in
       let q = slice_index (message_at i m).receivers 0 in
-      let receives : Receives i m q = (inside, Contains-get_or (message_at i m).receivers 0 0 (w.receivers m inside)) in
+      let receives : GoesTo i m q = (inside, Contains-get_or (message_at i m).receivers 0 0 (w.receivers m inside)) in
       let k = concludes_some i c goal f (HiArrive m q) w tt in
       let r = k.1.0 in
       let chances : AreChances i c f m q r = k.1.1 in

@@ -3,7 +3,7 @@ use Rattle.std.proofs.Common.{◌≡◌, ℕ, ◌+◌, ◌-◌, ◌<◌, List, l
 use Rattle.std.proofs.lemmas.Bool.{eq-eqb}
 use Rattle.tt_infer.specs.Sources.{Waits, Circle}
 use Rattle.ttp_model.specs.Instance.{node_of, source_of}
-use Rattle.ttp_model.specs.Network.{processes_on, received_by, is_on, is_received_by}
+use Rattle.ttp_model.specs.Network.{processes_on, received_by, is_process_of, is_received_by}
 use Rattle.sought_plans.specs.Dominance.{IsSentTo}
 use Rattle.sought_plans.proofs.Elsewhere.{among_received}
 use Rattle.tt_infer.specs.declared.fact.Fact.TheVariants.{LateRound, Order}
@@ -39,8 +39,8 @@ settled_read path given uses p rivals arrivals = record {
   facts = λ f known there fact reads. elim reads [
     | inl some ↦
         let x = some.0 in
-        let picks : is_on path.instance (node_of path.instance p) x ≡ true = eq-eqb (node_of path.instance x) (node_of path.instance p) some.2.0.one_node in
-        let told = told_of (λ uses x. TellsRival path given uses p x) (is_on path.instance (node_of path.instance p))
+        let picks : is_process_of path.instance (node_of path.instance p) x ≡ true = eq-eqb (node_of path.instance x) (node_of path.instance p) some.2.0.one_node in
+        let told = told_of (λ uses x. TellsRival path given uses p x) (is_process_of path.instance (node_of path.instance p))
         (length path.instance.processes) uses x (rivals there) some.1 picks in
         elim some.2.1 [
           | inl is ↦ subst (TellsFact path given uses) (sym is) (told there some.1 some.2.0.no_link)

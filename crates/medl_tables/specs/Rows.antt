@@ -4,15 +4,11 @@ use Rattle.std.specs.Prelude.{ℕ, List, map, filter, length, slice_index, Bool,
 use Rattle.std.specs.List.{flat_map, list_any, range_with_len}
 use Rattle.ttp_model.specs.declared.plan.Plan.{Plan}
 use Rattle.ttp_model.specs.Instance.{Instance, message_at, node_of, source_of}
-use Rattle.ttp_model.specs.Plans.{bytes_on, channel_of, is_on, round_of}
+use Rattle.ttp_model.specs.Plans.{bytes_on, is_in_frame_on}
 use Rattle.ttp_model.specs.Totals.{total}
 use Rattle.tt_layout.specs.Cycle.{cycle_rounds}
 use Rattle.medl_tables.specs.declared.row.Entry.{Entry}
 use Rattle.medl_tables.specs.declared.row.Row.{Row}
-
--- whether a message is in the frame of node n in round r on channel c
-abbrev pub is_in_frame : Instance → Plan → ℕ → ℕ → ℕ → ℕ → Bool
-is_in_frame i plan n r c m = (source_of i m == n && round_of plan m == r) && is_on c (channel_of plan m)
 
 -- whether it has a receiver on the node
 abbrev pub is_received_on : Instance → ℕ → ℕ → Bool
@@ -28,7 +24,7 @@ entry_of i plan n r c m = record { message = m; channel = c; offset = total (byt
 
 -- whether the node's table shows it as one of that frame
 abbrev pub is_entry : Instance → Plan → ℕ → ℕ → ℕ → ℕ → ℕ → Bool
-is_entry i plan node n r c m = is_in_frame i plan n r c m && is_shown_on i node m
+is_entry i plan node n r c m = is_in_frame_on i plan n r c m && is_shown_on i node m
 
 -- what the node's table shows of the frame of node n in round r on channel c, in the instance's order
 abbrev pub entries_on : Instance → Plan → ℕ → ℕ → ℕ → ℕ → List Entry

@@ -2,12 +2,12 @@
 
 ghost use Rattle.std.specs.Prelude.{◌≡◌, ◌<◌, ◌≤◌, ◌++◌, ◌↔◌, Contains, IfOk, IsTrue, OnOk, length};
 ghost use Rattle.ttp_model.specs.Plans.{HasLengths, IsValid};
-ghost use Rattle.medl_tables.specs.Rows.{entries_of, entries_on, is_entry, is_in_frame, is_received_on, is_shown_on, round_rows, row_of, rows_of};
+ghost use Rattle.medl_tables.specs.Rows.{entries_of, entries_on, is_entry, is_received_on, is_shown_on, round_rows, row_of, rows_of};
 
 use crate::row::{Entries, Entry, Row};
 use std::alloc::Global;
 use tt_layout::cycle_rounds;
-use ttp_model::{Instance, MOST_NODES, MemoryFault, Plan, bytes_on, is_on};
+use ttp_model::{Instance, MOST_NODES, MemoryFault, Plan, bytes_on, is_in_frame_on};
 
 /// The table of a node.
 pub fn rows_of(
@@ -138,18 +138,7 @@ fn is_entry(instance: &Instance, plan: &Plan, node: u32, n: u32, r: u32, c: u32,
     requires inside { m < length instance.now.messages }
     ensures { result ≡ is_entry instance.now plan.now node n r c m }
 {
-    is_in_frame(instance, plan, n, r, c, m) && is_shown_on(instance, node, m)
-}
-
-/// Whether a message is in the frame of node `n` in round `r` on channel `c`.
-fn is_in_frame(instance: &Instance, plan: &Plan, n: u32, r: u32, c: u32, m: usize) -> bool
-    requires lengths { HasLengths instance.now plan.now }
-    requires inside { m < length instance.now.messages }
-    ensures { result ≡ is_in_frame instance.now plan.now n r c m }
-{
-    let round = plan.rounds.as_slice()[m];
-    let number = plan.channels.as_slice()[m];
-    instance.source_of(m) == n && round == r && is_on(c, number)
+    is_in_frame_on(instance, plan, n, r, c, m) && is_shown_on(instance, node, m)
 }
 
 /// Whether the node's table shows a message of a frame.

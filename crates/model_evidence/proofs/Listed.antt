@@ -10,7 +10,8 @@ use Rattle.ttp_model.specs.Instance.{Instance, message_at, node_of, source_of}
 use Rattle.tt_layout.proofs.Ranges.{All-flat_map, flat_map-range_with_len_more}
 use Rattle.medl_tables.specs.declared.row.Entry.{Entry}
 use Rattle.medl_tables.specs.declared.row.Row.{Row}
-use Rattle.medl_tables.specs.Rows.{entries_on, entry_of, is_entry, is_in_frame, is_shown_on, round_rows, row_of, rows_of}
+use Rattle.medl_tables.specs.Rows.{entries_on, entry_of, is_entry, is_shown_on, round_rows, row_of, rows_of}
+use Rattle.ttp_model.specs.Plans.{is_in_frame_on}
 use Rattle.medl_tables.specs.Medl.{Medl, medl_of}
 use Rattle.model_evidence.specs.NodeTables.{Concerns, EachEntry, IsPlaced}
 
@@ -41,7 +42,7 @@ module _ (i : Instance) (plan : Plan) where
   is_entry-concerns node n r c m passes =
       let receivers = (message_at i m).receivers in
       concerned i node m (source_of i m == node) (list_any (λ q. node_of i q == node) receivers)
-      (second_true (is_in_frame i plan n r c m) (is_shown_on i node m) passes)
+      (second_true (is_in_frame_on i plan n r c m) (is_shown_on i node m) passes)
       (λ same. grind arith)
       (λ some. let one = Any-from_list_any (λ q. node_of i q == node) receivers some in (one.0, one.1, one.2, one.3, grind (arith, one.4)))
 

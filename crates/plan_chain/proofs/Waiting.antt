@@ -10,7 +10,8 @@ use Rattle.ttp_model.specs.Plans.{IsValid, end_of, start_of}
 use Rattle.ttp_model.proofs.Raising.{raised_least, raised_more, raised_same}
 use Rattle.tt_moves.specs.Earlier.{CanStart}
 use Rattle.plan_chain.specs.Causes.{IsFirstStart, MessageHolds, ProcessHolds, arrival}
-use Rattle.plan_chain.specs.Waits.{EndsBy, Receives}
+use Rattle.plan_chain.specs.Waits.{EndsBy}
+use Rattle.ttp_model.specs.Graph.{Receives}
 
 -- a time that is raised where the next one counts
 pub raised_if : (P : ℕ → Type 0) (time_of : ℕ → ℕ) (floor n time next : ℕ) (counts : Bool) → IsTrue counts ↔ P n

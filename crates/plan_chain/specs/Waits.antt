@@ -1,12 +1,8 @@
 -- What a process and a message wait for: private contracts alone cite it.
-use Rattle.std.specs.Prelude.{◌≡◌, ℕ, ◌+◌, ◌≤◌, Contains, IsTrue, slice_index}
+use Rattle.std.specs.Prelude.{◌≡◌, ℕ, ◌+◌, ◌≤◌, IsTrue, slice_index}
 use Rattle.ttp_model.specs.declared.plan.Plan.{Plan}
 use Rattle.ttp_model.specs.Instance.{Instance, message_at, node_of, source_of}
 use Rattle.ttp_model.specs.Plans.{channel_of, end_of, is_on, load_on, start_of}
-
--- p receives message m
-abbrev pub Receives : Instance → ℕ → ℕ → Type 0
-Receives i p m = Contains (message_at i m).receivers p
 
 -- process q of the same node ends by the start of p
 abbrev pub EndsBy : Instance → Plan → ℕ → ℕ → Type 0

@@ -4,7 +4,8 @@ ghost use Rattle.std.specs.Prelude.{◌≡◌, ◌<◌, ◌↔◌, IsTrue, if◌
 ghost use Rattle.ttp_model.specs.Raising.{IsRaised};
 ghost use Rattle.ttp_model.specs.Plans.{HasLengths, IsValid, end_of};
 ghost use Rattle.plan_chain.specs.Causes.{Finds, IsFirstStart, IsStartCause, LinkHolds, MessageHolds, ProcessHolds, arrival};
-ghost use Rattle.plan_chain.specs.Waits.{EndsBy, Receives};
+ghost use Rattle.plan_chain.specs.Waits.{EndsBy};
+ghost use Rattle.ttp_model.specs.Graph.{Receives};
 
 use crate::chain::StartCause;
 use tt_layout::Layout;

@@ -4,12 +4,11 @@ use Rattle.std.specs.Prelude.{nat_lt}
 use Rattle.std.proofs.lemmas.Bool.{and_parts, cases_eq, eqb-true, lt-ltb}
 use Rattle.ttp_model.specs.declared.plan.Plan.{Plan}
 use Rattle.ttp_model.specs.Instance.{Instance, source_of}
-use Rattle.ttp_model.specs.Plans.{bytes_on, channel_of, is_on, load_on, round_of, sent_from}
+use Rattle.ttp_model.specs.Plans.{bytes_on, channel_of, is_on, load_on, round_of, sent_from, is_in_frame_on}
 use Rattle.ttp_model.specs.Slots.{slot_start}
 use Rattle.ttp_model.specs.Totals.{total}
 use Rattle.ttp_model.proofs.Totals.{total_more}
 use Rattle.plan_sheets.specs.declared.slots.Slot.{Slot}
-use Rattle.plan_sheets.specs.Slots.{is_in_frame}
 use Rattle.plan_sheets.proofs.Least.{least-le}
 use Rattle.plan_picture.specs.declared.canvas.Canvas.{Canvas}
 use Rattle.plan_picture.specs.Names.{room_of, ticks_to}
@@ -25,7 +24,7 @@ some-term f (suc count) some = elim (cases_eq (f count) 0) [
 
 module _ (canvas : Canvas) (i : Instance) (plan : Plan) (s : Slot) (n r : ℕ) where
   -- to a message in the frame of node n in round r, where that slot comes later
-  ticks-there : (m : ℕ) → is_in_frame i plan n r s.channel m ≡ true → s.start < slot_start i.cluster plan.order plan.caps n r
+  ticks-there : (m : ℕ) → is_in_frame_on i plan n r s.channel m ≡ true → s.start < slot_start i.cluster plan.order plan.caps n r
       → ticks_to canvas i plan s m ≡ slot_start i.cluster plan.order plan.caps n r - s.start
   ticks-there m here later =
       let parts = and_parts (source_of i m == n && round_of plan m == r) (is_on s.channel (channel_of plan m)) here in

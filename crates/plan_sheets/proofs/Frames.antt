@@ -8,10 +8,10 @@ use Rattle.std.proofs.lemmas.List.Elements.{All-filter}
 use Rattle.std.proofs.lemmas.List.FromFn.{get_or-range_with_len, length-range_with_len}
 use Rattle.ttp_model.specs.declared.plan.Plan.{Plan}
 use Rattle.ttp_model.specs.Instance.{Instance, source_of}
-use Rattle.ttp_model.specs.Plans.{HasLengths, IsValid, bytes_in, bytes_on, load_on, round_of}
+use Rattle.ttp_model.specs.Plans.{HasLengths, IsValid, bytes_in, bytes_on, load_on, round_of, is_in_frame_on}
 use Rattle.ttp_model.proofs.Channels.{on_at_most}
 use Rattle.ttp_model.proofs.Totals.{total_none}
-use Rattle.plan_sheets.specs.Slots.{IsSlotRow, is_in_frame, messages_in, slot_of}
+use Rattle.plan_sheets.specs.Slots.{IsSlotRow, messages_in, slot_of}
 use Rattle.plan_sheets.proofs.Filters.{filter_none}
 
 module _ (i : Instance) (plan : Plan) (n r c : ℕ) where
@@ -21,7 +21,7 @@ module _ (i : Instance) (plan : Plan) (n r c : ℕ) where
     | inr differ ↦ and_right (source_of i m == n) (round_of plan m == r) differ.0
   ]
 
-  in_frame-other_round : (m : ℕ) → round_of plan m ≢ r → is_in_frame i plan n r c m ≡ false
+  in_frame-other_round : (m : ℕ) → round_of plan m ≢ r → is_in_frame_on i plan n r c m ≡ false
   in_frame-other_round m other = rw (other_round m other) refl
 
   bytes-other_round : (m : ℕ) → round_of plan m ≢ r → bytes_on i plan n r c m ≡ 0
@@ -39,10 +39,10 @@ module _ (i : Instance) (plan : Plan) (n r c : ℕ) where
     load_on-none = total_none (bytes_on i plan n r c) (length i.messages) (λ m inside. bytes-other_round m (sent_elsewhere m inside))
 
     pub messages_in-none : messages_in i plan n r c ≡ []
-    messages_in-none = filter_none (is_in_frame i plan n r c) (length i.messages) (λ m inside. in_frame-other_round m (sent_elsewhere m inside))
+    messages_in-none = filter_none (is_in_frame_on i plan n r c) (length i.messages) (λ m inside. in_frame-other_round m (sent_elsewhere m inside))
 
   pub messages-there : All (λ m. m < length i.messages) (messages_in i plan n r c)
-  messages-there = All-filter (is_in_frame i plan n r c) (λ m. m < length i.messages) (range_with_len 0 (length i.messages)) each
+  messages-there = All-filter (is_in_frame_on i plan n r c) (λ m. m < length i.messages) (range_with_len 0 (length i.messages)) each
     where
       each : All (λ m. m < length i.messages) (range_with_len 0 (length i.messages))
       each k d inside =

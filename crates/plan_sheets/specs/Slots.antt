@@ -1,22 +1,18 @@
 -- The table of slots: when each begins and ends, and what it carries. Own profile.
-use Rattle.std.specs.Prelude.{ℕ, ◌+◌, ◌<◌, ◌==◌, ◌&&◌, Bool, List, [], ◌∷◌, ◌++◌, All, codes, decimal, drop, filter, length, slice_index}
+use Rattle.std.specs.Prelude.{ℕ, ◌+◌, ◌<◌, List, [], ◌∷◌, ◌++◌, All, codes, decimal, drop, filter, length, slice_index}
 use Rattle.std.specs.List.{flat_map, range_with_len}
 use Rattle.ttp_model.specs.declared.plan.Plan.{Plan}
-use Rattle.ttp_model.specs.Instance.{Instance, message_at, node_at, source_of}
-use Rattle.ttp_model.specs.Plans.{channel_of, is_on, load_on, round_of}
+use Rattle.ttp_model.specs.Instance.{Instance, message_at, node_at}
+use Rattle.ttp_model.specs.Plans.{is_in_frame_on, load_on}
 use Rattle.ttp_model.specs.Slots.{frame_length, slot_end, slot_start}
 use Rattle.tt_layout.specs.Cycle.{cycle_rounds}
 use Rattle.line_text.specs.Words.{spaced}
 use Rattle.plan_sheets.specs.declared.slots.Slot.{Slot}
 use Rattle.plan_sheets.specs.Lines.{line_of}
 
--- whether a message is in the frame of node n in round r on channel c
-abbrev pub is_in_frame : Instance → Plan → ℕ → ℕ → ℕ → ℕ → Bool
-is_in_frame i plan n r c m = (source_of i m == n && round_of plan m == r) && is_on c (channel_of plan m)
-
--- the messages of that frame, in the instance's order
+-- the messages of the frame of node n in round r on channel c, in the instance's order
 abbrev pub messages_in : Instance → Plan → ℕ → ℕ → ℕ → List ℕ
-messages_in i plan n r c = filter (is_in_frame i plan n r c) (range_with_len 0 (length i.messages))
+messages_in i plan n r c = filter (is_in_frame_on i plan n r c) (range_with_len 0 (length i.messages))
 
 -- the slot of node n in round r, at position k of the order, on channel c
 abbrev pub slot_at : Instance → Plan → ℕ → ℕ → ℕ → ℕ → Slot

@@ -5,13 +5,15 @@ ghost use Rattle.ttp_model.specs.declared.limits.TheConstants.{MOST_BYTES, MOST_
 ghost use Rattle.ttp_model.specs.Plans.{HasLengths, IsValid, load_on};
 ghost use Rattle.tt_layout.specs.Layout.{timing};
 ghost use Rattle.plan_sheets.specs.Lines.{IsLineStart, IsSheet, IsTidy, cells_of, text_of};
-ghost use Rattle.plan_sheets.specs.Slots.{IsSlotRow, is_in_frame, messages_in, position_text, round_text, slot_line, slot_of, slots_text, spaced_names};
+ghost use Rattle.plan_sheets.specs.Slots.{IsSlotRow, messages_in, position_text, round_text, slot_line, slot_of, slots_text, spaced_names};
 
 use crate::sheet::Sheet;
 use line_text::push_word;
 use std::alloc::Global;
 use tt_layout::{Layout, cycle_rounds};
-use ttp_model::{Instance, MOST_NODES, MOST_TICKS, MemoryFault, Numbers, Plan, bytes_on, is_on};
+use ttp_model::{
+    Instance, MOST_NODES, MOST_TICKS, MemoryFault, Numbers, Plan, bytes_on, is_in_frame_on,
+};
 
 /// A slot of the cycle, on a channel.
 #[derive(Drop)]
@@ -179,22 +181,11 @@ fn messages_in(
     }
     let count = instance.messages().len();
     for m in 0..count {
-        if is_in_frame(instance, plan, n, r, channel, m) {
+        if is_in_frame_on(instance, plan, n, r, channel, m) {
             messages.push(m as u32)?;
         }
     }
     Ok(Numbers::new(messages))
-}
-
-/// Whether a message is in the frame of node `n` in round `r` on a channel.
-fn is_in_frame(instance: &Instance, plan: &Plan, n: u32, r: u32, channel: u32, m: usize) -> bool
-    requires lengths { HasLengths instance.now plan.now }
-    requires inside { m < length instance.now.messages }
-    ensures { result ≡ is_in_frame instance.now plan.now n r channel m }
-{
-    let round = plan.rounds.as_slice()[m];
-    let number = plan.channels.as_slice()[m];
-    instance.source_of(m) == n && round == r && is_on(channel, number)
 }
 
 /// Adds the line of a slot.

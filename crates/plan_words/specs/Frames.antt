@@ -1,12 +1,11 @@
 -- What is told of a frame that is too full. Own profile.
-use Rattle.std.specs.Prelude.{ℕ, ◌-◌, ◌==◌, ◌%◌, ◌&&◌, Bool, List, [], ◌++◌, codes, decimal, filter, if◌then◌else◌, length, min, slice_index}
+use Rattle.std.specs.Prelude.{ℕ, ◌-◌, ◌==◌, ◌%◌, List, [], ◌++◌, codes, decimal, filter, if◌then◌else◌, length, min, slice_index}
 use Rattle.std.specs.List.{flat_map, range_with_len}
 use Rattle.ttp_model.specs.declared.plan.Plan.{Plan}
 use Rattle.ttp_model.specs.Instance.{Instance, message_at}
-use Rattle.ttp_model.specs.Moves.{is_in_frame}
-use Rattle.ttp_model.specs.Plans.{channel_of, is_on, load_on}
+use Rattle.ttp_model.specs.Plans.{is_in_frame_on, load_on}
 use Rattle.process_words.specs.Counts.{bytes_words}
-use Rattle.process_words.specs.Names.{message_name, node_name}
+use Rattle.ttp_model.specs.Names.{message_name, node_name}
 
 -- how many items of a list are told, and in how many to a line
 abbrev pub most_items : ℕ
@@ -19,13 +18,9 @@ line_items = 4
 abbrev pub too_full_by : Instance → Plan → ℕ → ℕ → ℕ → ℕ
 too_full_by i plan n r c = load_on i plan n r c - slice_index plan.caps n
 
--- whether a message is in the frame of node n in round r on channel c
-abbrev pub is_on_channel : Instance → Plan → ℕ → ℕ → ℕ → ℕ → Bool
-is_on_channel i plan n r c m = is_in_frame i plan n r m && is_on c (channel_of plan m)
-
--- the messages of that frame, in the instance's order
+-- the messages of the frame of node n in round r on channel c, in the instance's order
 abbrev pub messages_in : Instance → Plan → ℕ → ℕ → ℕ → List ℕ
-messages_in i plan n r c = filter (is_on_channel i plan n r c) (range_with_len 0 (length i.messages))
+messages_in i plan n r c = filter (is_in_frame_on i plan n r c) (range_with_len 0 (length i.messages))
 
 -- that a frame is too full, on the channel that is told
 unfoldable pub full_frame_words : List ℕ → ℕ → List ℕ

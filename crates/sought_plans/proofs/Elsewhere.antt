@@ -5,14 +5,14 @@ use Rattle.std.proofs.lemmas.Bool.Decides.{eqb_tells}
 use Rattle.std.proofs.lemmas.List.{get_or_default}
 use Rattle.std.proofs.lemmas.List.Elements.{All-get_or}
 use Rattle.ttp_model.specs.Instance.{Instance, message_at, node_of, source_of}
-use Rattle.ttp_model.specs.Network.{is_on, is_message_of, is_received_by, received_by}
+use Rattle.ttp_model.specs.Network.{is_process_of, is_message_of, is_received_by, received_by}
 use Rattle.ttp_model.proofs.Indices.{picked, in_indices, indices_inside, Contains-from_any, any_from_Contains}
 use Rattle.tt_choice.specs.Choice.{Choice}
 use Rattle.sought_plans.specs.Known.{Known, top_of}
 use Rattle.sought_plans.specs.Premises.{load_within, bytes_within, copies, bytes_copied, counts_on, bytes_counted}
 use Rattle.sought_plans.specs.Dominance.{HasRounds, IsSentTo, MayGoBefore, bytes_beside}
 
-pub load_elsewhere : (i : Instance) (f : Known) (n a b p : ℕ) → p < length i.processes → is_on i n p ≡ false → load_within i f n a b p ≡ 0
+pub load_elsewhere : (i : Instance) (f : Known) (n a b p : ℕ) → p < length i.processes → is_process_of i n p ≡ false → load_within i f n a b p ≡ 0
 load_elsewhere i f n a b p inside off = rw off refl
 
 pub bytes_elsewhere : (i : Instance) (f : Known) (n a b m : ℕ) → m < length i.messages → is_message_of i n m ≡ false → bytes_within i f n a b m ≡ 0
@@ -46,7 +46,7 @@ pub bytes_beside_elsewhere : (i : Instance) (f : Known) (m r k : ℕ) → k < le
 bytes_beside_elsewhere i f m r k inside off = let itself = other_message i m k off in rw (itself, off) refl
 
 -- what may run before a process is on its node
-pub on_its_node : (i : Instance) (f : Known) (p x : ℕ) → x < length i.processes → MayGoBefore i f p x → is_on i (node_of i p) x ≡ true
+pub on_its_node : (i : Instance) (f : Known) (p x : ℕ) → x < length i.processes → MayGoBefore i f p x → is_process_of i (node_of i p) x ≡ true
 on_its_node i f p x inside may = elim (eqb_tells (node_of i x) (node_of i p)) [ inl is ↦ is.0 | inr other ↦ absurd (other.1 may.one_node) ]
 
 -- a message to a process is among those that it receives

@@ -9,7 +9,7 @@ use Rattle.ttp_model.specs.Totals.{total}
 use Rattle.tt_choice.specs.Choice.{Choice, fixed_channel}
 use Rattle.tt_choice.specs.Extremes.{start_least, end_most, cap_least}
 use Rattle.sought_plans.specs.Known.{Known, le_of, lo_of, top_of, bef_of}
-use Rattle.sought_plans.specs.Premises.{Receives, sender_of}
+use Rattle.sought_plans.specs.Premises.{GoesTo, sender_of}
 
 -- twins, told in order
 pub record AreTwinsInOrder (i : Instance) (p q : ℕ) : Type 0 where
@@ -25,7 +25,7 @@ pub record MayGoBefore (i : Instance) (f : Known) (p x : ℕ) : Type 0 where
 
 -- message m is sent to p
 abbrev pub IsSentTo : Instance → ℕ → ℕ → Type 0
-IsSentTo i p m = Receives i m p
+IsSentTo i p m = GoesTo i m p
 
 -- a round is left for each message to p
 abbrev pub HasRounds : Instance → Known → ℕ → Type 0

@@ -1,8 +1,8 @@
 -- What steps ask for: sums over what is known, and where times and rounds lead.
-use Rattle.std.specs.Prelude.{ℕ, ◌+◌, ◌-◌, ◌*◌, ◌<◌, ◌≤◌, ◌==◌, ◌&&◌, nat_le, if◌then◌else◌, Bool, false, IsTrue, List, length, slice_index, Option, None, Some, Contains, ◌⊎◌, ◌↔◌}
+use Rattle.std.specs.Prelude.{ℕ, ◌+◌, ◌-◌, ◌*◌, ◌<◌, ◌≤◌, ◌==◌, ◌&&◌, nat_le, if◌then◌else◌, Bool, false, IsTrue, List, length, slice_index, Option, None, Some, ◌⊎◌, ◌↔◌}
 use Rattle.ttp_model.specs.Limits.{both_channels}
 use Rattle.ttp_model.specs.Instance.{Instance, process_at, message_at, node_of, source_of}
-use Rattle.ttp_model.specs.Graph.{Leads}
+use Rattle.ttp_model.specs.Graph.{Leads, Receives}
 use Rattle.ttp_model.specs.Plans.{is_on}
 use Rattle.ttp_model.specs.Totals.{total}
 use Rattle.tt_choice.specs.Choice.{Choice, fixed_channel}
@@ -29,9 +29,9 @@ most_start i f p = le_of f p - wcet_of i p
 abbrev pub least_ready : Instance → Known → ℕ → ℕ
 least_ready i f m = least_end i f (sender_of i m) + i.cluster.copy_out
 
--- a message is received by a process
-abbrev pub Receives : Instance → ℕ → ℕ → Type 0
-Receives i m q = (m < length i.messages) × Contains (message_at i m).receivers q
+-- a message goes to a process: it is there, and the process receives it
+abbrev pub GoesTo : Instance → ℕ → ℕ → Type 0
+GoesTo i m q = (m < length i.messages) × Receives i q m
 
 -- the first round whose slot of the sender's node may begin once the message is copied out
 pub record IsFirstChance (i : Instance) (c : Choice) (f : Known) (m r : ℕ) : Type 0 where

@@ -24,7 +24,7 @@ use Rattle.ttp_model.proofs.Totals.{total_le, total_same}
 use Rattle.tt_infer.specs.Known.{Known, first_facts, es_of, lo_of as known_lo, top_of}
 use Rattle.tt_infer.specs.Facts.{Facts, AreFacts}
 use Rattle.tt_infer.specs.Conclusions.{NothingLeft}
-use Rattle.tt_infer.specs.Premises.{Receives, least_end, bytes_within, bytes_copied, bytes_counted, is_fixed_on}
+use Rattle.tt_infer.specs.Premises.{GoesTo, least_end, bytes_within, bytes_copied, bytes_counted, is_fixed_on}
 use Rattle.tt_infer.proofs.Channels.{total_copied_alone}
 use Rattle.tt_infer.specs.Known.{Fits}
 use Rattle.tt_infer.proofs.FirstFacts.{first_facts_fit}
@@ -175,7 +175,7 @@ module _ (s : Facts) (ok : AreFacts s) (left : IsFalse s.known.closed) (steps : 
       let pair = ok.choice.pairs p q holds in
       from s ok left steps more.chain idle q _ pair.second (same_after s ok left (EsBefore p q) _ (idle_of _ (more.orders p q holds)) pair (sharper.bef p q holds) refl)
 
-  arrives : (m q : ℕ) → Receives s.instance m q → slot_end s.instance.cluster s.choice.prefix (fixed_caps s.choice) (source_of s.instance m) (least_round s.choice m) + s.instance.cluster.copy_in ≤ es_of s.known q
+  arrives : (m q : ℕ) → GoesTo s.instance m q → slot_end s.instance.cluster s.choice.prefix (fixed_caps s.choice) (source_of s.instance m) (least_round s.choice m) + s.instance.cluster.copy_in ≤ es_of s.known q
   arrives m q receives =
       let known = from s ok left steps more.chain idle q _ (receiver_inside s ok left steps more.chain idle m q receives) (same_after s ok left (EsArrive m q) _ (idle_of _ (more.chain.messages m q receives).arrival) receives tt refl) in
       let exact = end_exact s.instance s.choice ok.instance ok.choice done (source_of s.instance m) (least_round s.choice m) (source_inside m receives.0) in

@@ -18,7 +18,7 @@ use Rattle.tt_choice.specs.Extremes.{least_option, dur_least}
 use Rattle.tt_infer.specs.Known.{Known, es_of, le_of, first_facts}
 use Rattle.tt_infer.specs.Conclusions.{Conclusion, StartsFrom, EndsUntil, NothingLeft, sharpened, capped}
 use Rattle.tt_infer.specs.Facts.{Facts, AreFacts}
-use Rattle.tt_infer.specs.Premises.{Receives, least_end}
+use Rattle.tt_infer.specs.Premises.{GoesTo, least_end}
 use Rattle.tt_infer.specs.Table.{rule}
 use Rattle.step_logs.specs.Journal.{Journal, Advances, SharpensNothing}
 use Rattle.step_logs.specs.Required.{HasChainSteps}
@@ -75,10 +75,10 @@ module _ (s : Facts) (ok : AreFacts s) (left : IsFalse s.known.closed) where
     pub linked : (l : ℕ) → l < length s.instance.links → least_end s.instance s.known (link_at s.instance l).before ≤ es_of s.known (link_at s.instance l).after
     linked l inside = from _ _ (ok.instance.indices (AtLink l) inside).1 (same_after (EsLink l) _ (idle_of _ (has.links l inside)) inside tt refl)
 
-    pub receiver_inside : (m q : ℕ) → Receives s.instance m q → q < length s.instance.processes
+    pub receiver_inside : (m q : ℕ) → GoesTo s.instance m q → q < length s.instance.processes
     receiver_inside m q receives = All-contains (IsProcess s.instance) (message_at s.instance m).receivers q ((ok.instance.indices (AtMessage m)) receives.0).1 receives.1
 
-    sent : (m q : ℕ) → Receives s.instance m q → least_end s.instance s.known (message_at s.instance m).sender + s.instance.cluster.copy_out + dur_least s.instance s.choice (source_of s.instance m) + s.instance.cluster.copy_in ≤ es_of s.known q
+    sent : (m q : ℕ) → GoesTo s.instance m q → least_end s.instance s.known (message_at s.instance m).sender + s.instance.cluster.copy_out + dur_least s.instance s.choice (source_of s.instance m) + s.instance.cluster.copy_in ≤ es_of s.known q
     sent m q receives = from q _ (receiver_inside m q receives) (same_after (EsMessage m q) _ (idle_of _ (has.messages m q receives).transfer) receives tt refl)
 
     least_duration-le : (n : ℕ) → n < length s.instance.nodes → least_duration s.instance n ≤ dur_least s.instance s.choice n

@@ -4,7 +4,7 @@ use Rattle.ttp_model.specs.declared.step.Step.{Step}
 use Rattle.ttp_model.specs.declared.step.Step.TheVariants.{EsRelease, EsLink, EsBefore, EsArrive, EsMessage, LeOwn, LeSend, XWindow, XRound, XFrames, XChannel}
 use Rattle.ttp_model.specs.Instance.{Instance, source_of}
 use Rattle.tt_choice.specs.Choice.{Choice, is_before, least_round}
-use Rattle.tt_infer.specs.Premises.{Receives}
+use Rattle.tt_infer.specs.Premises.{GoesTo}
 
 -- what is in a list stays in it
 abbrev pub KeepsSteps : List Step → List Step → Type 0
@@ -25,7 +25,7 @@ pub record HasReceiverSteps (steps : List Step) (m q : ℕ) : Type 0 where
 pub record HasChainSteps (i : Instance) (steps : List Step) : Type 0 where
   pub processes : (p : ℕ) → p < length i.processes → HasProcessSteps steps p
   pub links : (l : ℕ) → l < length i.links → Contains steps (EsLink l)
-  pub messages : (m q : ℕ) → Receives i m q → HasReceiverSteps steps m q
+  pub messages : (m q : ℕ) → GoesTo i m q → HasReceiverSteps steps m q
 
 -- the closers of the frame of node n in round r: of the whole where there is one channel, and of each of its halves where there are two
 pub record HasFrameSteps (count n r : ℕ) (steps : List Step) : Type 0 where

@@ -4,7 +4,7 @@ ghost use Rattle.std.specs.Prelude.{◌≡◌, ℕ, ◌+◌, ◌<◌, ◌^◌, C
 ghost use Rattle.ttp_model.specs.declared.step.Step.{Step};
 ghost use Rattle.ttp_model.specs.Instance.{message_at};
 ghost use Rattle.tt_choice.specs.Choice.{IsChoice, IsComplete, is_before};
-ghost use Rattle.tt_infer.specs.Premises.{Receives};
+ghost use Rattle.tt_infer.specs.Premises.{GoesTo};
 ghost use Rattle.step_logs.specs.Required.{KeepsSteps, HasProcessSteps, HasReceiverSteps, HasChainSteps, HasFrameSteps, HasRoundSteps, HasCompleteSteps};
 
 use crate::copies::add;
@@ -56,7 +56,7 @@ fn add_receiver_steps(receivers: &[u32], m: u32, steps: &mut Vec<Step>) -> Resul
 /// Adds the steps of each receiver of each message.
 fn add_message_steps(instance: &Instance, steps: &mut Vec<Step>) -> Result<(), MemoryFault>
     ensures kept { OnOk result (KeepsSteps steps.old.items steps.new.items) }
-    ensures added { OnOk result ((m q : ℕ) → Receives instance.now m q
+    ensures added { OnOk result ((m q : ℕ) → GoesTo instance.now m q
         → HasReceiverSteps steps.new.items m q) }
 {
     let count = instance.messages().len() as u32;

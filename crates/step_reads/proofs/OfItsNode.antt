@@ -3,7 +3,7 @@ use Rattle.std.proofs.Common.{◌≡◌, ℕ, ◌<◌, ◌==◌, ◌&&◌, nat_l
 use Rattle.std.proofs.lemmas.Bool.{and_parts}
 use Rattle.std.proofs.lemmas.Bool.Decides.{eqb_tells}
 use Rattle.ttp_model.specs.Instance.{Instance, node_of, source_of}
-use Rattle.ttp_model.specs.Network.{is_on, is_message_of, is_received_by}
+use Rattle.ttp_model.specs.Network.{is_process_of, is_message_of, is_received_by}
 use Rattle.tt_choice.specs.Choice.{Choice}
 use Rattle.tt_infer.specs.Known.{Known, es_of, le_of, lo_of, top_of}
 use Rattle.tt_infer.specs.Premises.{counts_on, sent_within}
@@ -14,7 +14,7 @@ use Rattle.tt_infer.specs.declared.fact.Fact.{Fact}
 test_of_same : (a b : ℕ) → a ≡ b → (a == b) ≡ true
 test_of_same a b same = elim (eqb_tells a b) [ inl is ↦ is.0 | inr other ↦ absurd (other.1 same) ]
 
-pub run_on_node : (i : Instance) (f : Known) (n a b x : ℕ) (fact : Fact) → x < length i.processes → BoundsRunWithin i f n a b x fact → is_on i n x ≡ true
+pub run_on_node : (i : Instance) (f : Known) (n a b x : ℕ) (fact : Fact) → x < length i.processes → BoundsRunWithin i f n a b x fact → is_process_of i n x ≡ true
 run_on_node i f n a b x fact inside is = (and_parts (node_of i x == n) (nat_le a (es_of f x) && nat_le (le_of f x) b) is.0).0
 
 pub sent_of_node : (i : Instance) (f : Known) (n a b x : ℕ) (fact : Fact) → x < length i.messages → BoundsSendingWithin i f n a b x fact → is_message_of i n x ≡ true
@@ -26,7 +26,7 @@ counted_of_node i c f k n a b x fact inside is = sent_of_node i f n a b x fact i
 pub other_of_node : (i : Instance) (f : Known) (m r x : ℕ) (fact : Fact) → x < length i.messages → KeepsOtherOut i f m r x fact → is_message_of i (source_of i m) x ≡ true
 other_of_node i f m r x fact inside is = test_of_same (source_of i x) (source_of i m) is.0.one_node
 
-pub rival_on_node : (i : Instance) (f : Known) (p x : ℕ) (fact : Fact) → x < length i.processes → TellsRivalWait i f p x fact → is_on i (node_of i p) x ≡ true
+pub rival_on_node : (i : Instance) (f : Known) (p x : ℕ) (fact : Fact) → x < length i.processes → TellsRivalWait i f p x fact → is_process_of i (node_of i p) x ≡ true
 rival_on_node i f p x fact inside is = test_of_same (node_of i x) (node_of i p) is.0.one_node
 
 pub arrival_received : (i : Instance) (p x : ℕ) (fact : Fact) → x < length i.messages → TellsArrival i p x fact → is_received_by i p x ≡ true

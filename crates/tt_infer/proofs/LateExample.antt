@@ -6,7 +6,7 @@ use Rattle.tt_choice.specs.Choice.{Choice}
 use Rattle.tt_choice.specs.Branches.{root_choice, at_least}
 use Rattle.sought_plans.specs.Known.{Known, first_facts, le_of}
 use Rattle.sought_plans.specs.Conclusions.{EndsUntil, NothingLeft, sharpened}
-use Rattle.sought_plans.specs.Premises.{Receives}
+use Rattle.sought_plans.specs.Premises.{GoesTo}
 use Rattle.sought_plans.specs.Dominance.{MayGoBefore, IsGreatestWait, CouldBeEarlier}
 use Rattle.tt_infer.specs.Table.{IsLawful}
 use Rattle.tt_infer.specs.Leaves.{ClosesLeaf}
@@ -25,7 +25,7 @@ abbrev closed : Known
 closed = sharpened one_message p_ended NothingLeft
 
 -- p is alone on its node and receives nothing
-p_receives_nothing : (m : ℕ) → ¬ Receives one_message m 0
+p_receives_nothing : (m : ℕ) → ¬ GoesTo one_message m 0
 p_receives_nothing zero (there, (zero, inside, is)) = omega (arith, is)
 p_receives_nothing zero (there, (suc k, inside, is)) = omega (arith, inside)
 p_receives_nothing (suc m) is = omega (arith, is.0)

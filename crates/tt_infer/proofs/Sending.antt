@@ -11,7 +11,7 @@ use Rattle.tt_choice.specs.Choice.{Choice, IsChoice, IsIn, Agrees}
 use Rattle.tt_choice.specs.Extremes.{start_most, end_least, dur_least, cap_most}
 use Rattle.tt_choice.proofs.Bounds.{start_between, end_between, duration_between, capacity_between}
 use Rattle.sought_plans.specs.Known.{IsSought}
-use Rattle.sought_plans.specs.Premises.{Receives, sender_of}
+use Rattle.sought_plans.specs.Premises.{GoesTo, sender_of}
 
 pub sender_is : (i : Instance) (m : ℕ) → IsInstance i → m < length i.messages → sender_of i m < length i.processes
 sender_is i m w h = (w.indices (AtMessage m) h).0
@@ -19,11 +19,11 @@ sender_is i m w h = (w.indices (AtMessage m) h).0
 pub source_is : (i : Instance) (m : ℕ) → IsInstance i → m < length i.messages → source_of i m < length i.nodes
 source_is i m w h = w.indices (AtProcess (sender_of i m)) (sender_is i m w h)
 
-pub receiver_is : (i : Instance) (m q : ℕ) → IsInstance i → Receives i m q → q < length i.processes
+pub receiver_is : (i : Instance) (m q : ℕ) → IsInstance i → GoesTo i m q → q < length i.processes
 receiver_is i m q w is = All-contains (IsProcess i) _ _ (w.indices (AtMessage m) is.0).1 is.1
 
 -- a message comes to its receiver before it starts
-pub comes : (i : Instance) (plan : Plan) (m q : ℕ) → IsValid i plan → Receives i m q → HasArrived i plan m q
+pub comes : (i : Instance) (plan : Plan) (m q : ℕ) → IsValid i plan → GoesTo i m q → HasArrived i plan m q
 comes i plan m q v is =
     let place = is.1.0 in
     let here : slice_index (message_at i m).receivers place ≡ q = sym (get_or_default_zero (message_at i m).receivers place q is.1.1) ∙ is.1.2 in

@@ -9,7 +9,7 @@ use Rattle.tt_choice.specs.Extremes.{start_most, end_least, cap_most, dur_least}
 use Rattle.sought_plans.specs.Known.{Known, le_of, lo_of, top_of, bef_of}
 use Rattle.sought_plans.specs.Conclusions.{Conclusion, StartsFrom, EndsUntil, SentFrom, SentBefore, GoesFirst, NothingLeft, sharpened}
 use Rattle.sought_plans.specs.Dominance.{AreTwinsInOrder, HasRounds, IsGreatestWait, CouldBeEarlier, StandTurned, IsMirrored}
-use Rattle.sought_plans.specs.Premises.{Receives, wcet_of, sender_of, least_end, most_start, least_ready, IsFirstChance, AreChances, IsRing, IsOverloaded, AreOverfull, AreOverfullOn}
+use Rattle.sought_plans.specs.Premises.{GoesTo, wcet_of, sender_of, least_end, most_start, least_ready, IsFirstChance, AreChances, IsRing, IsOverloaded, AreOverfull, AreOverfullOn}
 use Rattle.tt_infer.specs.Lines.{Words, Row, plain_line, channel_line}
 use Rattle.tt_infer.specs.declared.fact.Fact.{Fact}
 use Rattle.tt_infer.specs.declared.fact.Fact.TheVariants.{Start, End, FirstRound, LateRound, Order, Closed}
@@ -59,15 +59,15 @@ abbrev pub rule : Instance → Choice → ℕ → Known → Step → StepRow
 rule i c goal f (EsRelease p) = row (IsProcess i p) Always (Just (StartsFrom p (process_at i p).release))
 rule i c goal f (EsLink l) = row (IsLink i l) Always (Just (StartsFrom (link_at i l).after (least_end i f (link_at i l).before)))
 rule i c goal f (EsBefore p q) = row (ArePair i p q) (IsTrue (bef_of f p q)) (Just (StartsFrom q (least_end i f p)))
-rule i c goal f (EsArrive m q) = row (Receives i m q) Always (Just (StartsFrom q (end_least i c (source_of i m) (lo_of f m) + i.cluster.copy_in)))
-rule i c goal f (EsMessage m q) = row (Receives i m q) Always (Just (StartsFrom q (least_ready i f m + dur_least i c (source_of i m) + i.cluster.copy_in)))
+rule i c goal f (EsArrive m q) = row (GoesTo i m q) Always (Just (StartsFrom q (end_least i c (source_of i m) (lo_of f m) + i.cluster.copy_in)))
+rule i c goal f (EsMessage m q) = row (GoesTo i m q) Always (Just (StartsFrom q (least_ready i f m + dur_least i c (source_of i m) + i.cluster.copy_in)))
 rule i c goal f (LoSend m) = row (IsMessage i m) Always (λ k. (r : ℕ) × IsFirstChance i c f m r × (k ≡ SentFrom m r))
 rule i c goal f (LeOwn p) = row (IsProcess i p) Always (Just (EndsUntil p (min (min (process_at i p).deadline i.cluster.horizon) (goal - 1))))
 rule i c goal f (LeLink l) = row (IsLink i l) Always (Just (EndsUntil (link_at i l).before (most_start i f (link_at i l).after)))
 rule i c goal f (LeBefore p q) = row (ArePair i p q) (IsTrue (bef_of f p q)) (Just (EndsUntil p (most_start i f q)))
-rule i c goal f (LeMessage m q) = row (Receives i m q) Always (Just (EndsUntil (sender_of i m) (most_start i f q - i.cluster.copy_in - dur_least i c (source_of i m) - i.cluster.copy_out)))
+rule i c goal f (LeMessage m q) = row (GoesTo i m q) Always (Just (EndsUntil (sender_of i m) (most_start i f q - i.cluster.copy_in - dur_least i c (source_of i m) - i.cluster.copy_out)))
 rule i c goal f (LeSend m) = row (IsMessage i m) (1 ≤ top_of f m) (Just (EndsUntil (sender_of i m) (start_most i c (source_of i m) (top_of f m - 1) - i.cluster.copy_out)))
-rule i c goal f (HiArrive m q) = row (Receives i m q) Always (λ k. (r : ℕ) × AreChances i c f m q r × (k ≡ SentBefore m r))
+rule i c goal f (HiArrive m q) = row (GoesTo i m q) Always (λ k. (r : ℕ) × AreChances i c f m q r × (k ≡ SentBefore m r))
 rule i c goal f (OrdWindow p q) = row (ArePair i p q) (le_of f p < least_end i f q + wcet_of i p) (Just (GoesFirst p q))
 rule i c goal f (OrdTwin p q) = row (ArePair i p q) (AreTwinsInOrder i p q) (Just (GoesFirst p q))
 rule i c goal f (UsSettled p) = row (IsProcess i p) (HasRounds i f p) (λ k. (time : ℕ) × IsGreatestWait i c f p time × (k ≡ EndsUntil p (wcet_of i p + time)))

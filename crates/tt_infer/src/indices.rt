@@ -2,7 +2,7 @@
 
 ghost use Rattle.std.specs.Prelude.{ℕ, ◌<◌, ◌↔◌, length, IsTrue};
 ghost use Rattle.tt_choice.specs.Choice.{ArePair};
-ghost use Rattle.sought_plans.specs.Premises.{Receives};
+ghost use Rattle.sought_plans.specs.Premises.{GoesTo};
 
 use ttp_model::Instance;
 
@@ -19,7 +19,7 @@ pub fn are_pair(instance: &Instance, p: u32, q: u32) -> bool
 
 /// Whether message `m` is there, and process `q` receives it. One pass over its receivers.
 pub fn receives(instance: &Instance, m: u32, q: u32) -> bool
-    ensures is { IsTrue result ↔ Receives instance.now m q }
+    ensures is { IsTrue result ↔ GoesTo instance.now m q }
     ensures inside { IsTrue result → q < length instance.now.processes }
 {
     if m as usize >= instance.messages().len() {

@@ -6,8 +6,8 @@ use Rattle.ttp_model.specs.declared.error.Place.TheVariants.{AtCluster}
 use Rattle.ttp_model.specs.declared.plan.Plan.{Plan}
 use Rattle.ttp_model.specs.Instance.{Instance, message_at, source_of}
 use Rattle.ttp_model.specs.Rules.{IsInstance}
-use Rattle.ttp_model.specs.Plans.{IsValid, MayBeOn, bytes_in, bytes_on, channel_of, is_on, load_on, round_of}
-use Rattle.ttp_model.specs.Moves.{is_in_frame, leads_turned, other_channel, turned, turned_channel}
+use Rattle.ttp_model.specs.Plans.{IsValid, MayBeOn, bytes_in, bytes_on, channel_of, is_in_frame, is_on, load_on, round_of}
+use Rattle.ttp_model.specs.Moves.{leads_turned, other_channel, turned, turned_channel}
 use Rattle.ttp_model.proofs.Totals.{total_same}
 use Rattle.ttp_model.proofs.ValidPlans.{frames_fit_lem}
 use Rattle.ttp_model.proofs.TurnedFrames.{channel_elsewhere, channel_there, is_second, other_of_more}

@@ -14,7 +14,8 @@ use Rattle.ttp_model.proofs.Delays.{by_starts}
 use Rattle.tt_moves.specs.Earlier.{CanStart}
 use Rattle.tt_moves.proofs.EarlierStarts.{started_valid, starts_le}
 use Rattle.tt_settle.specs.Settling.{IsBetter, RestsAtStart}
-use Rattle.tt_settle.specs.Reasons.{IsWait, LeadsTo, Receives, arrival, link_end}
+use Rattle.tt_settle.specs.Reasons.{IsWait, LeadsTo, arrival, link_end}
+use Rattle.ttp_model.specs.Graph.{Receives}
 
 set_twice : (xs : List ℕ) (p a b : ℕ) → slice_set (slice_set xs p a) p b ≡ slice_set xs p b
 set_twice [] p a b = refl

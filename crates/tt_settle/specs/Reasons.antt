@@ -1,10 +1,11 @@
 -- What a process and a message of a plan wait for (our own profile).
-use Rattle.std.specs.Prelude.{◌≡◌, ℕ, ◌+◌, ◌<◌, ◌≤◌, IsTrue, Contains, List, length, slice_index}
+use Rattle.std.specs.Prelude.{◌≡◌, ℕ, ◌+◌, ◌<◌, ◌≤◌, IsTrue, List, length, slice_index}
 use Rattle.ttp_model.specs.declared.plan.Plan.{Plan}
 use Rattle.ttp_model.specs.Lists.{EachBelow}
 use Rattle.ttp_model.specs.Raising.{IsRaised}
 use Rattle.ttp_model.specs.Slots.{slot_start}
 use Rattle.ttp_model.specs.Instance.{Instance, process_at, link_at, message_at, node_of, source_of}
+use Rattle.ttp_model.specs.Graph.{Receives}
 use Rattle.ttp_model.specs.Plans.{start_of, end_of, round_of, channel_of, sent_until, is_on, load_on}
 
 -- link l leads to process p
@@ -14,10 +15,6 @@ LeadsTo i p l = (link_at i l).after ≡ p
 -- when its first process ends
 abbrev pub link_end : Instance → Plan → ℕ → ℕ
 link_end i plan l = end_of i plan (link_at i l).before
-
--- p receives message m
-abbrev pub Receives : Instance → ℕ → ℕ → Type 0
-Receives i p m = Contains (message_at i m).receivers p
 
 -- when the message has been copied in
 abbrev pub arrival : Instance → Plan → ℕ → ℕ

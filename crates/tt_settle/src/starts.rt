@@ -5,7 +5,8 @@ ghost use Rattle.ttp_model.specs.Raising.{IsRaised};
 ghost use Rattle.ttp_model.specs.Rules.{IsInstance};
 ghost use Rattle.ttp_model.specs.Plans.{HasLengths, IsValid, end_of};
 ghost use Rattle.tt_settle.specs.Settling.{IsTried, RestsAtStart};
-ghost use Rattle.tt_settle.specs.Reasons.{IsWait, LeadsTo, Receives, GoesBefore, link_end, arrival};
+ghost use Rattle.tt_settle.specs.Reasons.{IsWait, LeadsTo, GoesBefore, link_end, arrival};
+ghost use Rattle.ttp_model.specs.Graph.{Receives};
 
 use crate::changes::start_at;
 use tt_layout::Layout;

@@ -7,8 +7,8 @@ use Rattle.std.proofs.lemmas.List.Sums.{position_or_len_is, prefix_len-le-length
 use Rattle.ttp_model.specs.declared.plan.Plan.{Plan}
 use Rattle.ttp_model.specs.Limits.{both_channels}
 use Rattle.ttp_model.specs.Instance.{Instance, source_of}
-use Rattle.ttp_model.specs.Plans.{round_of, channel_of}
-use Rattle.ttp_model.specs.Moves.{is_in_frame, is_alone_in, first_alone, leads_turned, other_channel, turned_channel, turned, turned_frames}
+use Rattle.ttp_model.specs.Plans.{round_of, channel_of, is_in_frame}
+use Rattle.ttp_model.specs.Moves.{is_alone_in, first_alone, leads_turned, other_channel, turned_channel, turned, turned_frames}
 use Rattle.ttp_model.proofs.Totals.{total_one_less}
 
 in_range : (n j : ℕ) → j < n → slice_index (range_with_len 0 n) j ≡ j

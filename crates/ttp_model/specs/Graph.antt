@@ -10,6 +10,10 @@ pub record HasLink (i : Instance) (p q : ℕ) : Type 0 where
   pub before : (link_at i link).before ≡ p
   pub after : (link_at i link).after ≡ q
 
+-- q receives message m
+abbrev pub Receives : Instance → ℕ → ℕ → Type 0
+Receives i q m = Contains (message_at i m).receivers q
+
 -- a message of p has q as a receiver
 pub record HasMessage (i : Instance) (p q : ℕ) : Type 0 where
   pub message : ℕ

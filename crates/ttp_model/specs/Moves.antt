@@ -6,7 +6,7 @@ use Rattle.ttp_model.specs.declared.plan.Plan.{Plan}
 use Rattle.ttp_model.specs.Limits.{both_channels}
 use Rattle.ttp_model.specs.Instance.{Instance, source_of}
 use Rattle.ttp_model.specs.Totals.{total}
-use Rattle.ttp_model.specs.Plans.{IsValid, start_of, round_of, channel_of}
+use Rattle.ttp_model.specs.Plans.{IsValid, start_of, round_of, channel_of, is_in_frame}
 use Rattle.ttp_model.specs.Twins.{AreTwins, AreSilentTwins}
 
 -- where a node stands in the order: the order's length where it doesn't
@@ -29,11 +29,7 @@ swapped plan p q = record plan { starts = swap plan.starts p q }
 abbrev pub exchanged : Plan → ℕ → ℕ → Plan
 exchanged plan u v = record plan { order = swap plan.order (position_of plan u) (position_of plan v); caps = swap plan.caps u v }
 
--- message k is in the frame of node n in round r
-abbrev pub is_in_frame : Instance → Plan → ℕ → ℕ → ℕ → Bool
-is_in_frame i plan n r k = source_of i k == n && round_of plan k == r
-
--- and it is there on one channel alone
+-- message k is in the frame of node n in round r, on one channel alone
 abbrev pub is_alone_in : Instance → Plan → ℕ → ℕ → ℕ → Bool
 is_alone_in i plan n r k = is_in_frame i plan n r k && not (channel_of plan k == both_channels)
 

@@ -24,8 +24,8 @@ abbrev pub is_received_by : Instance → ℕ → ℕ → Bool
 is_received_by i q m = list_any (λ (r : ℕ). r == q) (message_at i m).receivers
 
 -- whether a process is on a node
-abbrev pub is_on : Instance → ℕ → ℕ → Bool
-is_on i n p = node_of i p == n
+abbrev pub is_process_of : Instance → ℕ → ℕ → Bool
+is_process_of i n p = node_of i p == n
 
 -- whether a node sends a message
 abbrev pub is_message_of : Instance → ℕ → ℕ → Bool
@@ -49,7 +49,7 @@ received_by i q = indices (is_received_by i q) (length i.messages)
 
 -- the processes on a node
 abbrev pub processes_on : Instance → ℕ → List ℕ
-processes_on i n = indices (is_on i n) (length i.processes)
+processes_on i n = indices (is_process_of i n) (length i.processes)
 
 -- the messages that a node sends
 abbrev pub messages_of : Instance → ℕ → List ℕ

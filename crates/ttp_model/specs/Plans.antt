@@ -114,6 +114,10 @@ HasArrivedAt i plan m k = HasArrived i plan m (slice_index (message_at i m).rece
 abbrev pub HasArrivedEverywhere : Instance → Plan → ℕ → Type 0
 HasArrivedEverywhere i plan m = EachBelow (length (message_at i m).receivers) (HasArrivedAt i plan m)
 
+-- message m is in the frame of node n in round r
+abbrev pub is_in_frame : Instance → Plan → ℕ → ℕ → ℕ → Bool
+is_in_frame i plan n r m = source_of i m == n && round_of plan m == r
+
 -- the bytes that message m puts into the frame of node n in round r, on whatever channel: none where it isn't sent there
 abbrev pub bytes_in : Instance → Plan → ℕ → ℕ → ℕ → ℕ
 bytes_in i plan n r m = if source_of i m == n && round_of plan m == r then (message_at i m).bytes else 0
@@ -125,6 +129,10 @@ load_of i plan n r = total (bytes_in i plan n r) (length i.messages)
 -- whether the number that stands in a plan is channel c, or says that a message is on both
 abbrev pub is_on : ℕ → ℕ → Bool
 is_on c number = number == c || number == both_channels
+
+-- message m is in the frame of node n in round r on channel c
+abbrev pub is_in_frame_on : Instance → Plan → ℕ → ℕ → ℕ → ℕ → Bool
+is_in_frame_on i plan n r c m = is_in_frame i plan n r m && is_on c (channel_of plan m)
 
 -- the bytes that message m puts into the frame of node n in round r on channel c: none where it isn't sent there
 abbrev pub bytes_on : Instance → Plan → ℕ → ℕ → ℕ → ℕ → ℕ

@@ -1,7 +1,7 @@
-//! How much does a message put into a frame?
+//! Which messages are in a frame, and how much do they put into it?
 
 ghost use Rattle.std.specs.Prelude.{◌≡◌, ◌<◌, ◌≤◌, length};
-ghost use Rattle.ttp_model.specs.Plans.{HasChannelsLength, HasRoundsLength, bytes_in, bytes_on, is_on};
+ghost use Rattle.ttp_model.specs.Plans.{HasChannelsLength, HasLengths, HasRoundsLength, bytes_in, bytes_on, is_in_frame_on, is_on};
 
 use crate::instance::Instance;
 use crate::limits::{BOTH_CHANNELS, MOST_BYTES};
@@ -12,6 +12,17 @@ pub fn is_on(c: u32, number: u32) -> bool
     ensures { result ≡ is_on c number }
 {
     number == c || number == BOTH_CHANNELS
+}
+
+/// Whether message `m` is in the frame of node `n` in round `r` on channel `c`. One step.
+pub fn is_in_frame_on(instance: &Instance, plan: &Plan, n: u32, r: u32, c: u32, m: usize) -> bool
+    requires lengths { HasLengths instance.now plan.now }
+    requires inside { m < length instance.now.messages }
+    ensures { result ≡ is_in_frame_on instance.now plan.now n r c m }
+{
+    let round = plan.rounds.as_slice()[m];
+    let number = plan.channels.as_slice()[m];
+    instance.source_of(m) == n && round == r && is_on(c, number)
 }
 
 /// The bytes that message `m` puts into the frame of node `n` in round `r`, on whatever channel: none

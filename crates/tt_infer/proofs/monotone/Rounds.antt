@@ -9,7 +9,7 @@ use Rattle.tt_infer.proofs.Chances.{first_chance, chances}
 use Rattle.tt_infer.proofs.monotone.Nested.{Nested, AreKnown, IsKept}
 use Rattle.tt_infer.proofs.monotone.Slots.{start_most_down, end_least_up}
 use Rattle.tt_infer.specs.Table.{IsMessage}
-use Rattle.sought_plans.specs.Premises.{Receives}
+use Rattle.sought_plans.specs.Premises.{GoesTo}
 
 -- the first chance comes no earlier
 first_chance_later : (s : Nested) (f h : Known) (m early late : ℕ) → AreKnown s f h → IsMessage s.instance m → IsFirstChance s.instance s.outer f m early → IsFirstChance s.instance s.inner h m late → early ≤ late
@@ -30,7 +30,7 @@ lo_send_kept s f h m t k there premise is =
     }
 
 -- and chances end no later
-chances_end_earlier : (s : Nested) (f h : Known) (m q late early : ℕ) → AreKnown s f h → Receives s.instance m q → AreChances s.instance s.outer f m q late → AreChances s.instance s.inner h m q early → early ≤ late
+chances_end_earlier : (s : Nested) (f h : Known) (m q late early : ℕ) → AreKnown s f h → GoesTo s.instance m q → AreChances s.instance s.outer f m q late → AreChances s.instance s.inner h m q early → early ≤ late
 chances_end_earlier s f h m q late early t there outside inside = elim (cases_lt late early) [
   | inl below ↦
       let chance = (inside late).0 below in

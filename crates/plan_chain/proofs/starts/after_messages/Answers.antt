@@ -1,5 +1,5 @@
 use Rattle.plan_chain.specs.Causes.{arrival}
-use Rattle.plan_chain.specs.Waits.{Receives}
+use Rattle.ttp_model.specs.Graph.{Receives}
 use Rattle.plan_chain.proofs.Waiting.{raised_if}
 use Rattle.plan_chain.proofs.starts.after_messages.Goals as goal
 

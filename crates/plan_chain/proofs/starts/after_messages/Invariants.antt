@@ -1,6 +1,6 @@
 use Rattle.ttp_model.specs.Raising.{IsRaised}
 use Rattle.plan_chain.specs.Causes.{arrival}
-use Rattle.plan_chain.specs.Waits.{Receives}
+use Rattle.ttp_model.specs.Graph.{Receives}
 use Rattle.plan_chain.proofs.starts.after_messages.Given as goal
 
 abbrev pub invariant-loop-m : goal.invariant-loop-m

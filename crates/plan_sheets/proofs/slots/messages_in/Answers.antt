@@ -1,9 +1,9 @@
 use Rattle.std.proofs.Common.{◌∙◌, refl, sym}
 use Rattle.std.proofs.lemmas.Bool.{false≢true}
-use Rattle.plan_sheets.specs.Slots.{is_in_frame}
+use Rattle.ttp_model.specs.Plans.{is_in_frame_on}
 use Rattle.plan_sheets.proofs.Filters.{filter_left, filter_taken}
 use Rattle.plan_sheets.proofs.Frames.{messages_in-none}
-use Rattle.plan_sheets.proofs.slots.messages_in.Goals.{then-is_in_frame+in_ok-push, else-is_in_frame}
+use Rattle.plan_sheets.proofs.slots.messages_in.Goals.{then-is_in_frame_on+in_ok-push, else-is_in_frame_on}
 use Rattle.plan_sheets.proofs.slots.messages_in.Goals as goal
 
 pub returns-then-not-sends : goal.returns-then-not-sends
@@ -13,9 +13,9 @@ returns-then-not-sends c =
 
 pub loop-m-preserved : goal.loop-m-preserved
 loop-m-preserved c =
-    let test = is_in_frame c.args.instance.now c.args.plan.now c.args.n c.args.r c.args.channel in
+    let test = is_in_frame_on c.args.instance.now c.args.plan.now c.args.n c.args.r c.args.channel in
     let m = c.loop-m.m in
-    elim c.if-is_in_frame.branch [
-      | then-is_in_frame+in_ok-push w ↦ rw (w.messages-is, w.in_ok-push.ensures.items) (filter_taken test c.loop-m.messages.items m (sym c.is_in_frame.ensures ∙ w.if-is_in_frame.true) c.loop-m.invariant)
-      | else-is_in_frame w ↦ rw w.messages-is (filter_left test c.loop-m.messages.items m (sym c.is_in_frame.ensures ∙ w.if-is_in_frame.false) c.loop-m.invariant)
+    elim c.if-is_in_frame_on.branch [
+      | then-is_in_frame_on+in_ok-push w ↦ rw (w.messages-is, w.in_ok-push.ensures.items) (filter_taken test c.loop-m.messages.items m (sym c.is_in_frame_on.ensures ∙ w.if-is_in_frame_on.true) c.loop-m.invariant)
+      | else-is_in_frame_on w ↦ rw w.messages-is (filter_left test c.loop-m.messages.items m (sym c.is_in_frame_on.ensures ∙ w.if-is_in_frame_on.false) c.loop-m.invariant)
     ]

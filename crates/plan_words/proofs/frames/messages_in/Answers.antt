@@ -1,8 +1,8 @@
 use Rattle.std.proofs.Common.{◌≡◌, ◌∙◌, ℕ, ◌<◌, List, [], ◌∷◌, ◌++◌, All, length, sym}
 use Rattle.std.proofs.lemmas.List.Elements.{All-append, All-cons, All-nil}
-use Rattle.plan_words.specs.Frames.{is_on_channel}
+use Rattle.ttp_model.specs.Plans.{is_in_frame_on}
 use Rattle.plan_words.proofs.Filters.{filter_left, filter_taken}
-use Rattle.plan_words.proofs.frames.messages_in.Goals.{then-is_on_channel+in_ok-push, else-is_on_channel}
+use Rattle.plan_words.proofs.frames.messages_in.Goals.{then-is_in_frame_on+in_ok-push, else-is_in_frame_on}
 use Rattle.plan_words.proofs.frames.messages_in.Goals as goal
 
 -- one more that is below the bound
@@ -13,17 +13,17 @@ one_more kept next n bound below is so_far =
 -- A message on the channel is taken, and another is left out.
 pub loop-m-preserved : goal.loop-m-preserved
 loop-m-preserved c =
-    let test = is_on_channel c.args.instance.now c.args.plan.now c.args.n c.args.r c.args.c in
+    let test = is_in_frame_on c.args.instance.now c.args.plan.now c.args.n c.args.r c.args.c in
     let m = c.loop-m.m in
     let kept = c.loop-m.messages.items in
     let below : m < length c.args.instance.now.messages = rw c.messages-count.ensures.value at c.loop-m-test.true in
-    elim c.if-is_on_channel.branch [
-      | then-is_on_channel+in_ok-push w ↦ rw w.messages-is record {
-        list = w.in_ok-push.ensures.items ∙ filter_taken test kept m (sym c.is_on_channel.ensures ∙ w.if-is_on_channel.true) c.loop-m.invariant.list;
+    elim c.if-is_in_frame_on.branch [
+      | then-is_in_frame_on+in_ok-push w ↦ rw w.messages-is record {
+        list = w.in_ok-push.ensures.items ∙ filter_taken test kept m (sym c.is_in_frame_on.ensures ∙ w.if-is_in_frame_on.true) c.loop-m.invariant.list;
         inside = one_more kept _ m _ below w.in_ok-push.ensures.items c.loop-m.invariant.inside;
       }
-      | else-is_on_channel w ↦ rw w.messages-is record {
-        list = filter_left test kept m (sym c.is_on_channel.ensures ∙ w.if-is_on_channel.false) c.loop-m.invariant.list;
+      | else-is_in_frame_on w ↦ rw w.messages-is record {
+        list = filter_left test kept m (sym c.is_in_frame_on.ensures ∙ w.if-is_in_frame_on.false) c.loop-m.invariant.list;
         inside = c.loop-m.invariant.inside;
       }
     ]

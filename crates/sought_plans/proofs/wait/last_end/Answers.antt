@@ -1,7 +1,7 @@
 use Rattle.std.proofs.Common.{ℕ, length, slice_index, arith}
 use Rattle.std.proofs.lemmas.Bool.{both_ways}
 use Rattle.ttp_model.specs.Instance.{process_at, node_of}
-use Rattle.ttp_model.specs.Network.{is_on}
+use Rattle.ttp_model.specs.Network.{is_process_of}
 use Rattle.ttp_model.proofs.Raising.{raised_none, raised_later, raised_same}
 use Rattle.ttp_model.proofs.Indices.{raised_listed}
 use Rattle.sought_plans.specs.Known.{le_of}
@@ -38,4 +38,4 @@ returns c =
     let i = c.args.instance.now in
     let f = c.args.known.now in
     let list = rw c.node_of.ensures.value at c.processes_on-x-items.ensures.value in
-    raised_listed (MayGoBefore i f c.args.p) (le_of f) (process_at i c.args.p).release (is_on i (node_of i c.args.p)) (length i.processes) c.loop-x.time c.loop-x.x-index _ (on_its_node i f c.args.p) list c.loop-x.invariant.within c.loop-x-test.false c.loop-x.invariant.raised
+    raised_listed (MayGoBefore i f c.args.p) (le_of f) (process_at i c.args.p).release (is_process_of i (node_of i c.args.p)) (length i.processes) c.loop-x.time c.loop-x.x-index _ (on_its_node i f c.args.p) list c.loop-x.invariant.within c.loop-x-test.false c.loop-x.invariant.raised

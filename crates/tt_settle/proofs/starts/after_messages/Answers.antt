@@ -2,7 +2,8 @@ use Rattle.std.proofs.Common.{ℕ, length, slice_index, arith}
 use Rattle.ttp_model.specs.Network.{is_received_by}
 use Rattle.ttp_model.proofs.Raising.{raised_none, raised_more}
 use Rattle.ttp_model.proofs.Indices.{raised_listed}
-use Rattle.tt_settle.specs.Reasons.{Receives, arrival}
+use Rattle.tt_settle.specs.Reasons.{arrival}
+use Rattle.ttp_model.specs.Graph.{Receives}
 use Rattle.tt_settle.proofs.Listed.{listed_is_received, received_is_listed}
 use Rattle.tt_settle.proofs.starts.after_messages.Goals as goal
 

@@ -1,6 +1,7 @@
 use Rattle.std.proofs.Common.{ℕ, ◌≤◌, length, slice_index}
 use Rattle.ttp_model.specs.Raising.{IsRaised}
-use Rattle.tt_settle.specs.Reasons.{Receives, arrival}
+use Rattle.tt_settle.specs.Reasons.{arrival}
+use Rattle.ttp_model.specs.Graph.{Receives}
 use Rattle.tt_settle.proofs.starts.after_messages.Given as goal
 
 abbrev pub invariant-loop-m : goal.invariant-loop-m

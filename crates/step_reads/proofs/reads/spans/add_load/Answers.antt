@@ -1,5 +1,5 @@
 use Rattle.std.proofs.Common.{ℕ, length, slice_index, arith}
-use Rattle.ttp_model.specs.Network.{is_on}
+use Rattle.ttp_model.specs.Network.{is_process_of}
 use Rattle.step_reads.specs.Added.{BoundsRunWithin}
 use Rattle.step_reads.proofs.AddedFacts.{adds_listed, adds_first, adds_more}
 use Rattle.step_reads.proofs.OfItsNode.{run_on_node}
@@ -24,4 +24,4 @@ pub returns : goal.returns
 returns c =
     let f = c.args.facts.now in
     let list = rw c.instance-instance.ensures.value at c.processes_on-p-items.ensures.value in
-    adds_listed (BoundsRunWithin f.instance f.known c.args.n c.args.a c.args.b) (is_on f.instance c.args.n) (length f.instance.processes) c.loop-p.p-index _ _ _ (run_on_node f.instance f.known c.args.n c.args.a c.args.b) list c.loop-p.invariant.within c.loop-p-test.false c.loop-p.invariant.adds
+    adds_listed (BoundsRunWithin f.instance f.known c.args.n c.args.a c.args.b) (is_process_of f.instance c.args.n) (length f.instance.processes) c.loop-p.p-index _ _ _ (run_on_node f.instance f.known c.args.n c.args.a c.args.b) list c.loop-p.invariant.within c.loop-p-test.false c.loop-p.invariant.adds

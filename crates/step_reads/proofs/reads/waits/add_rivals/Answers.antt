@@ -1,6 +1,6 @@
 use Rattle.std.proofs.Common.{ℕ, length, slice_index, arith}
 use Rattle.ttp_model.specs.Instance.{node_of}
-use Rattle.ttp_model.specs.Network.{is_on}
+use Rattle.ttp_model.specs.Network.{is_process_of}
 use Rattle.step_reads.specs.Added.{TellsRivalWait}
 use Rattle.step_reads.proofs.AddedFacts.{adds_listed, adds_first, adds_more}
 use Rattle.step_reads.proofs.OfItsNode.{rival_on_node}
@@ -25,4 +25,4 @@ pub returns : goal.returns
 returns c =
     let f = c.args.facts.now in
     let list = rw c.instance-instance.ensures.value at (rw c.node_of.ensures.value at c.processes_on-x-items.ensures.value) in
-    adds_listed (TellsRivalWait f.instance f.known c.args.p) (is_on f.instance (node_of f.instance c.args.p)) (length f.instance.processes) c.loop-x.x-index _ _ _ (rival_on_node f.instance f.known c.args.p) list c.loop-x.invariant.within c.loop-x-test.false c.loop-x.invariant.adds
+    adds_listed (TellsRivalWait f.instance f.known c.args.p) (is_process_of f.instance (node_of f.instance c.args.p)) (length f.instance.processes) c.loop-x.x-index _ _ _ (rival_on_node f.instance f.known c.args.p) list c.loop-x.invariant.within c.loop-x-test.false c.loop-x.invariant.adds

@@ -1,6 +1,6 @@
 use Rattle.std.proofs.Common.{length, arith}
 use Rattle.std.proofs.lemmas.List.Sums.{sum_by_more}
-use Rattle.ttp_model.specs.Network.{is_on}
+use Rattle.ttp_model.specs.Network.{is_process_of}
 use Rattle.ttp_model.proofs.Indices.{total_listed}
 use Rattle.sought_plans.specs.Premises.{load_within}
 use Rattle.sought_plans.proofs.Elsewhere.{load_elsewhere}
@@ -15,4 +15,4 @@ pub returns : goal.returns
 returns c =
     let i = c.args.instance.now in
     let f = c.args.known.now in
-    total_listed (load_within i f c.args.n c.args.a c.args.b) (is_on i c.args.n) (length i.processes) _ c.loop-p.p-index c.loop-p.sum (load_elsewhere i f c.args.n c.args.a c.args.b) c.processes_on-p-items.ensures.value c.loop-p-test.false c.loop-p.invariant.0
+    total_listed (load_within i f c.args.n c.args.a c.args.b) (is_process_of i c.args.n) (length i.processes) _ c.loop-p.p-index c.loop-p.sum (load_elsewhere i f c.args.n c.args.a c.args.b) c.processes_on-p-items.ensures.value c.loop-p-test.false c.loop-p.invariant.0
