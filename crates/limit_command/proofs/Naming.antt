@@ -1,11 +1,17 @@
 -- Words by their indices, and the processes that they name.
-use Rattle.std.proofs.Common.{◌≡◌, ℕ, ◌<◌, List, [], length, slice_index, slice_index_or, All, arith, sym, subst}
+use Rattle.std.proofs.Common.{◌≡◌, ◌∙◌, ℕ, ◌<◌, List, [], Option, None, Some, length, slice_index, slice_index_or, All, arith, ap, sym, subst}
+use Rattle.std.specs.Prelude.{MatchOption, bytes_eq, is_none}
 use Rattle.std.specs.Borrow.{Bor}
 use Rattle.std.proofs.lemmas.List.{get_or-map, length-map}
+use Rattle.std.proofs.lemmas.List.Quantifiers.{position-Some}
+use Rattle.std.proofs.lemmas.Slice.Eq.{bytes_eq-Decides}
 use Rattle.std.proofs.lemmas.Grind.{get_or_default_zero}
+use Rattle.ttp_model.specs.declared.error.Part.TheVariants.{Processes}
 use Rattle.ttp_model.specs.Lists.{EachBelow, IsFirstFailure}
-use Rattle.ttp_model.specs.Instance.{Instance}
+use Rattle.ttp_model.specs.Instance.{Instance, no_process}
+use Rattle.ttp_model.specs.Names.{index_named, names_in}
 use Rattle.ttp_model.specs.Rules.{IsProcess}
+use Rattle.ttp_model.proofs.Named.{is_found}
 use Rattle.limit_command.specs.Names.{AreNamed, HasName, IsFirst, NamesAnother, texts_of, word_at}
 
 -- the word that is read at an index
@@ -35,3 +41,18 @@ first_wrong i words ps k inside each once fails = record {
   fails = fails;
   holds_before = λ j before. record { process = slice_index ps j; has = each j before; first = once j before };
 }
+
+-- the first process of a name has it, and where there is no first none has
+pub told_by : (i : Instance) (name : List ℕ) (first : Option ℕ) → first ≡ index_named i Processes name
+    → MatchOption first (EachBelow (length i.processes) (λ p. ¬ HasName i name p)) (HasName i name)
+told_by i name None is = λ p inside has.
+    let there : p < length (names_in i Processes) = omega (arith, inside, length-map i.processes (λ q. q.name)) in
+    let named = get_or-map (λ q. q.name) i.processes p no_process name inside ∙ has.same in
+    absurd (cc (ap is_none is, is_found (names_in i Processes) name (p, there, named)))
+told_by i name (Some p) is =
+    let found = position-Some (λ n. bytes_eq n name) (names_in i Processes) p name (sym is) in
+    let inside : p < length i.processes = omega (arith, found.0, length-map i.processes (λ q. q.name)) in
+    record {
+      there = inside;
+      same = sym (get_or-map (λ q. q.name) i.processes p no_process name inside) ∙ (bytes_eq-Decides _ _).0 found.1;
+    }

@@ -7,7 +7,7 @@ ghost use Rattle.limit_command.specs.Names.{AreNamed, HasName, IsFirst, IsNameFa
 
 use command_streams::Fault;
 use std::alloc::Global;
-use ttp_model::Instance;
+use ttp_model::{Instance, Part};
 
 /// The process of a name.
 fn process_of(instance: &Instance, name: &str) -> Option<u32>
@@ -15,12 +15,7 @@ fn process_of(instance: &Instance, name: &str) -> Option<u32>
         (EachBelow (length instance.now.processes) (λ p. ¬ HasName instance.now name.now p))
         (HasName instance.now name.now) }
 {
-    for p in 0..instance.processes().len() {
-        if instance.process_at(p).name.as_bytes() == name.as_bytes() {
-            return Some(p as u32);
-        }
-    }
-    None
+    instance.index_named(Part::Processes, name.as_bytes())
 }
 
 /// Whether no word before that of an index is the same.

@@ -2,7 +2,8 @@
 -- Own profile.
 use Rattle.std.specs.Prelude.{ℕ, List, [], ◌∷◌, ◌++◌, Bool, codes, decimal, if◌then◌else◌, length}
 use Rattle.std.specs.List.{flat_map, range_with_len}
-use Rattle.ttp_model.specs.Instance.{Instance, message_at, node_at}
+use Rattle.ttp_model.specs.Instance.{Instance}
+use Rattle.ttp_model.specs.Names.{message_name, node_name}
 use Rattle.line_text.specs.Words.{spaced, spaced_words}
 use Rattle.membership_replay.specs.declared.state.NodeState.{NodeState}
 use Rattle.membership_replay.specs.declared.trace.Event.{Event}
@@ -15,17 +16,13 @@ use Rattle.membership_replay.specs.Trace.{Trace, state_at}
 abbrev pub line : List ℕ → List (List ℕ) → List ℕ
 line keyword words = keyword ++ spaced_words words ++ codes "\n"
 
--- a node's name: none where it isn't there, which no replay tells of
-abbrev pub node_name : Instance → ℕ → List ℕ
-node_name i n = (node_at i n).name
-
 -- the line of an event, nodes and messages by their names
 unfoldable pub event_line : Instance → Event → List ℕ
 event_line i (Ack n) = line (codes "ack") (node_name i n ∷ [])
 event_line i (Doubt n) = line (codes "doubt") (node_name i n ∷ [])
 event_line i (Leave n) = line (codes "leave") (node_name i n ∷ [])
 event_line i (Drop n s) = line (codes "drop") (node_name i n ∷ node_name i s ∷ [])
-event_line i (Deliver m n) = line (codes "deliver") ((message_at i m).name ∷ node_name i n ∷ [])
+event_line i (Deliver m n) = line (codes "deliver") (message_name i m ∷ node_name i n ∷ [])
 
 -- whether the slot's sender sent, as a word
 abbrev pub sent_word : Bool → List ℕ

@@ -2,8 +2,7 @@
 
 ghost use Rattle.std.specs.Prelude.{◌≡◌, ◌<◌, ◌≤◌, ◌∷◌, ◌++◌, [], IfOk, OnOk, length};
 ghost use Rattle.std.specs.List.{flat_map, range_with_len};
-ghost use Rattle.ttp_model.specs.Instance.{message_at};
-ghost use Rattle.membership_replay.specs.Text.{event_line, line, member_line, member_word, node_name, replay_text, sent_word, slot_text};
+ghost use Rattle.membership_replay.specs.Text.{event_line, line, member_line, member_word, replay_text, sent_word, slot_text};
 
 use crate::state::NodeState;
 use crate::trace::{Event, Slot, Trace};
@@ -32,7 +31,7 @@ fn push_slot(text: &mut Vec<u8>, instance: &Instance, slot: &Slot) -> Result<(),
     text.extend_from_slice(b"slot")?;
     push_number_word(text, slot.round as u64)?;
     push_number_word(text, slot.position as u64)?;
-    push_word(text, node_name(instance, slot.sender as usize))?;
+    push_word(text, instance.node_name(slot.sender as usize).as_bytes())?;
     push_word(text, sent_word(slot.sent))?;
     text.push(b'\n')?;
     push_events(text, instance, slot.events.as_slice())?;
@@ -63,23 +62,23 @@ fn push_event(text: &mut Vec<u8>, instance: &Instance, event: Event) -> Result<(
     ensures { OnOk result (text.new.items ≡ text.old.items ++ event_line instance.now event) }
 {
     match event {
-        Event::Ack(n) => push_one_word(text, b"ack", node_name(instance, n as usize)),
-        Event::Doubt(n) => push_one_word(text, b"doubt", node_name(instance, n as usize)),
-        Event::Leave(n) => push_one_word(text, b"leave", node_name(instance, n as usize)),
+        Event::Ack(n) => push_one_word(text, b"ack", instance.node_name(n as usize).as_bytes()),
+        Event::Doubt(n) => push_one_word(text, b"doubt", instance.node_name(n as usize).as_bytes()),
+        Event::Leave(n) => push_one_word(text, b"leave", instance.node_name(n as usize).as_bytes()),
         Event::Drop(n, s) => {
             push_two_words(
                 text,
                 b"drop",
-                node_name(instance, n as usize),
-                node_name(instance, s as usize),
+                instance.node_name(n as usize).as_bytes(),
+                instance.node_name(s as usize).as_bytes(),
             )
         }
         Event::Deliver(m, n) => {
             push_two_words(
                 text,
                 b"deliver",
-                message_name(instance, m as usize),
-                node_name(instance, n as usize),
+                instance.message_name(m as usize).as_bytes(),
+                instance.node_name(n as usize).as_bytes(),
             )
         }
     }
@@ -112,30 +111,6 @@ fn push_two_words(
     Ok(())
 }
 
-/// A node's name, or none where it isn't there.
-fn node_name(instance: &Instance, n: usize) -> &[u8]
-    ensures { result.now ≡ node_name instance.now n }
-{
-    let nodes = instance.nodes();
-    if n < nodes.len() {
-        nodes[n].name.as_bytes()
-    } else {
-        b""
-    }
-}
-
-/// A message's name, or none where it isn't there.
-fn message_name(instance: &Instance, m: usize) -> &[u8]
-    ensures { result.now ≡ (message_at instance.now m).name }
-{
-    let messages = instance.messages();
-    if m < messages.len() {
-        messages[m].name.as_bytes()
-    } else {
-        b""
-    }
-}
-
 /// Adds the line of each node's members.
 fn push_all_members(
     text: &mut Vec<u8>,
@@ -164,7 +139,7 @@ fn push_members(
 {
     let vector = states[n].vector;
     text.extend_from_slice(b"member")?;
-    push_word(text, node_name(instance, n))?;
+    push_word(text, instance.node_name(n).as_bytes())?;
     push_member_words(text, instance, &vector)?;
     text.push(b'\n')?;
     Ok(())
@@ -198,7 +173,7 @@ fn push_member_word(
         (text.new.items ≡ text.old.items ++ member_word instance.now vector.now n) }
 {
     if n < MOST_NODES && vector[n] {
-        push_word(text, node_name(instance, n))?;
+        push_word(text, instance.node_name(n).as_bytes())?;
     }
     Ok(())
 }

@@ -11,6 +11,7 @@ mod figures;
 mod lines;
 mod loads;
 mod membership;
+mod names;
 mod node_tables;
 mod pictures;
 mod plans;
@@ -38,6 +39,7 @@ pub use figures::{
 pub use lines::{lengths_of_parts, number_past_the_last};
 pub use loads::{fact_of_link, interval_that_is_not_full, interval_that_is_too_short};
 pub use membership::{lost_at_sender, lost_everywhere, without_agreement};
+pub use names::{index_of_the_first_name, name_past_the_last_node};
 pub use node_tables::{tables_of_frames, tables_of_own_messages, text_with_rows};
 pub use pictures::{
     picture_with_deliveries, picture_with_empty_slots, picture_with_processes, slots_just_too_many,

@@ -4,7 +4,7 @@ use Rattle.ttp_model.specs.Instance.{Instance, link_at, source_of}
 use Rattle.ttp_model.specs.Chains.{IsPathBound, least_transfer}
 use Rattle.plan_chain.specs.Lines.{arrival_words, link_words, process_words, release_words, span_text}
 use Rattle.process_words.specs.Counts.{ticks_words}
-use Rattle.process_words.specs.Names.{message_name, place_name, process_name, source_name}
+use Rattle.ttp_model.specs.Names.{source_name, place_name, message_name, process_name}
 use Rattle.path_words.specs.declared.chain.Cause.{Cause}
 use Rattle.path_words.specs.declared.chain.Cause.TheVariants.{Arrival, Link, Release}
 use Rattle.path_words.specs.declared.chain.ChainPart.{ChainPart}

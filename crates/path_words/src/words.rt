@@ -7,7 +7,7 @@ ghost use Rattle.path_words.specs.There.{HasCause, IsPartThere};
 use crate::chain::{Cause, ChainPart, chain_of};
 use longest_chains::least_transfer;
 use plan_chain::{put_arrival, put_link_cause, put_process, put_release, put_span};
-use process_words::{Ticks, message_name, source_name};
+use process_words::Ticks;
 use std::alloc::{AllocError, Global};
 use ttp_model::{Instance, MemoryFault};
 
@@ -113,8 +113,8 @@ fn put_sending(text: &mut String, instance: &Instance, m: u32, until: u64) -> Re
     put_span(text, until.saturating_sub(ticks), until)?;
     put_takes(
         text,
-        message_name(instance, at),
-        source_name(instance, at),
+        instance.message_name(at),
+        instance.source_name(at),
         ticks,
     )
 }
@@ -152,7 +152,7 @@ fn put_cause(
     match cause {
         Cause::Release => put_release(text, from),
         Cause::Link(l) => put_link_cause(text, instance, l),
-        Cause::Arrival(m) => put_arrival(text, message_name(instance, m as usize)),
+        Cause::Arrival(m) => put_arrival(text, instance.message_name(m as usize)),
     }
 }
 

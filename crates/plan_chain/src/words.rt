@@ -165,26 +165,14 @@ fn put_start_cause(
     match cause {
         StartCause::Release => put_release(text, from),
         StartCause::Link(l) => put_link_cause(text, instance, l),
-        StartCause::Behind(q) => put_behind(text, name_of(instance, q)),
-        StartCause::Arrival(m) => put_arrival(text, message_name(instance, m)),
-        StartCause::CouldStart(time) => put_could_start(text, name_of(instance, p), time),
+        StartCause::Behind(q) => put_behind(text, instance.process_name(q as usize)),
+        StartCause::Arrival(m) => put_arrival(text, instance.message_name(m as usize)),
+        StartCause::CouldStart(time) => put_could_start(
+            text,
+            instance.process_name(p as usize),
+            time,
+        ),
     }
-}
-
-/// The name of a process.
-fn name_of(instance: &Instance, p: u32) -> &str
-    requires { p < length instance.now.processes }
-    ensures { result.now ≡ (process_at instance.now p).name }
-{
-    instance.process_at(p as usize).name.as_str()
-}
-
-/// The name of a message.
-fn message_name(instance: &Instance, m: u32) -> &str
-    requires { m < length instance.now.messages }
-    ensures { result.now ≡ (message_at instance.now m).name }
-{
-    instance.message_at(m as usize).name.as_str()
 }
 
 /// Adds that it starts at its release.
@@ -202,7 +190,7 @@ pub fn put_link_cause(text: &mut String, instance: &Instance, l: u32) -> Result<
     ensures { OnOk result (string_bytes text.new ≡ string_bytes text.old
         ++ link_words (process_at instance.now (link_at instance.now l).before).name l) }
 {
-    let name = name_of(instance, instance.link_at(l as usize).before);
+    let name = instance.process_name(instance.link_at(l as usize).before as usize);
     writeln!(text, ", behind {name} by link {l}")
 }
 
@@ -263,7 +251,7 @@ fn put_message(
     ensures { OnOk result (string_bytes text.new ≡ string_bytes text.old
         ++ message_words (message_at instance.now m).name (round_of plan.now m) (node_at instance.now (source_of instance.now m)).name) }
 {
-    let name = message_name(instance, m);
+    let name = instance.message_name(m as usize);
     let round = plan.rounds.as_slice()[m as usize];
     let node = instance.nodes()[instance.source_of(m as usize) as usize]
         .name
@@ -287,7 +275,7 @@ fn put_round_cause(
     match cause {
         RoundCause::First => put_first(text, ready),
         RoundCause::Full(first) => put_full(text, ready, first, plan.rounds.as_slice()[m as usize]),
-        RoundCause::CouldGo(round) => put_could_go(text, message_name(instance, m), round),
+        RoundCause::CouldGo(round) => put_could_go(text, instance.message_name(m as usize), round),
     }
 }
 

@@ -12,7 +12,7 @@ use Rattle.ttp_model.specs.declared.error.Part.TheVariants.{Nodes, Processes}
 use Rattle.plan_format.specs.declared.column.Column.{Column}
 use Rattle.plan_format.specs.declared.column.Column.TheVariants.{Channel}
 use Rattle.plan_format.specs.Channels.{has_two_channels}
-use Rattle.plan_format.specs.Names.{names_in}
+use Rattle.ttp_model.specs.Names.{names_in}
 use Rattle.medl_tables.proofs.FrameEntries.{flat_map-none}
 use Rattle.plan_changes.specs.declared.fate.Fate.TheVariants.{Same}
 use Rattle.plan_changes.specs.Planned.{Planned}

@@ -10,7 +10,7 @@ use Rattle.ttp_model.specs.Rules.{IsInstance}
 use Rattle.ttp_model.specs.declared.error.Part.TheVariants.{Nodes}
 use Rattle.ttp_model.specs.declared.error.Place.TheVariants.{AtNode}
 use Rattle.ttp_model.specs.declared.parts.Node.{Node}
-use Rattle.plan_format.specs.Names.{names_in}
+use Rattle.ttp_model.specs.Names.{names_in}
 use Rattle.guardian_windows.proofs.Lists.{AllPairs-append}
 use Rattle.plan_changes.specs.Names.{gone_from, names_of_either, place_in}
 use Rattle.plan_changes.proofs.Places.{Contains-filter, place_in-tells, place_in-there}

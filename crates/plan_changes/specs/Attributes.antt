@@ -4,7 +4,7 @@ use Rattle.std.specs.List.{flat_map}
 use Rattle.ttp_model.specs.Instance.{Instance, node_at, node_of, process_at}
 use Rattle.ttp_model.specs.declared.error.Part.TheVariants.{Processes}
 use Rattle.line_text.specs.Words.{spaced}
-use Rattle.plan_format.specs.Names.{names_in}
+use Rattle.ttp_model.specs.Names.{names_in}
 use Rattle.plan_changes.specs.declared.attributes.Attribute.{Attribute}
 use Rattle.plan_changes.specs.declared.attributes.Attribute.TheVariants.{Node, Wcet}
 use Rattle.plan_changes.specs.Planned.{Planned}

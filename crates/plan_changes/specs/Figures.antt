@@ -6,7 +6,8 @@ use Rattle.ttp_model.specs.declared.plan.Plan.{Plan}
 use Rattle.line_text.specs.Words.{spaced}
 use Rattle.plan_format.specs.declared.column.Column.{Column}
 use Rattle.plan_format.specs.declared.column.Column.TheVariants.{Capacity, Start, Round, Channel}
-use Rattle.plan_format.specs.Names.{keyword_of, names_in, part_of}
+use Rattle.plan_format.specs.Names.{keyword_of, part_of}
+use Rattle.ttp_model.specs.Names.{names_in}
 use Rattle.plan_format.specs.Spelling.{value_word}
 use Rattle.plan_changes.specs.Planned.{Planned}
 use Rattle.plan_changes.specs.Names.{names_of_either, place_in}

@@ -4,7 +4,7 @@ use Rattle.std.specs.Prelude.{◌≡◌, ℕ, List, ◌++◌, Option, None, Some
 use Rattle.std.specs.List.{flat_map}
 use Rattle.ttp_model.specs.declared.error.Part.TheVariants.{Nodes}
 use Rattle.line_text.specs.Words.{spaced}
-use Rattle.plan_format.specs.Names.{names_in}
+use Rattle.ttp_model.specs.Names.{names_in}
 use Rattle.medl_tables.specs.Medl.{medl_of}
 use Rattle.medl_tables.specs.Text.{text_at}
 use Rattle.guardian_windows.specs.Windows.{cycle_windows}

@@ -7,7 +7,6 @@ ghost use Rattle.plan_changes.specs.Attributes.{attribute_difference, attribute_
 use crate::names::names_of_either;
 use crate::planned::Planned;
 use line_text::{push_number, push_word};
-use plan_format::place_of;
 use std::alloc::{AllocError, Global};
 use ttp_model::{MemoryFault, Part};
 
@@ -41,7 +40,7 @@ fn attribute_word(
     ensures { IfOk result (λ word. word.items ≡ attribute_word attribute planned.now name.now) }
 {
     let instance = planned.instance();
-    let Some(p) = place_of(instance, Part::Processes, name) else {
+    let Some(p) = instance.index_named(Part::Processes, name) else {
         return Vec::from_slice(alloc, b"-");
     };
     match attribute {

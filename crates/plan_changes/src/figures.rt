@@ -7,7 +7,7 @@ ghost use Rattle.plan_changes.specs.Figures.{difference_text, differences_text, 
 
 use crate::names::names_of_either;
 use crate::planned::Planned;
-use plan_format::{Column, keyword_of, part_of, place_of, push_value};
+use plan_format::{Column, keyword_of, part_of, push_value};
 use std::alloc::{AllocError, Global};
 use ttp_model::{MemoryFault, Plan};
 
@@ -28,7 +28,7 @@ fn figures_of<'a>(column: Column, plan: &'a Plan) -> &'a [u32]
 fn figure_for(column: Column, planned: &Planned, name: &[u8]) -> Option<u32>
     ensures { result ≡ figure_for column planned.now name.now }
 {
-    let place = place_of(planned.instance(), part_of(column), name)?;
+    let place = planned.instance().index_named(part_of(column), name)?;
     Some(figures_of(column, planned.plan())[place as usize])
 }
 

@@ -4,7 +4,7 @@ ghost use Rattle.std.specs.Prelude.{◌≡◌, ◌≢◌, ◌⊎◌, ◌↔◌, 
 ghost use Rattle.std.specs.List.{flat_map};
 ghost use Rattle.ttp_model.specs.Rules.{IsInstance};
 ghost use Rattle.ttp_model.specs.declared.error.Part.TheVariants.{Nodes};
-ghost use Rattle.plan_format.specs.Names.{names_in};
+ghost use Rattle.ttp_model.specs.Names.{names_in};
 ghost use Rattle.plan_changes.specs.declared.fate.Fate.TheVariants.{Same};
 ghost use Rattle.plan_changes.specs.Planned.{Planned};
 ghost use Rattle.plan_changes.specs.Units.{IsLoadedAlike, fate_line, fate_of, nodes_of_either};

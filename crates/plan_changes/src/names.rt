@@ -1,10 +1,9 @@
 //! Which names does either of two instances have?
 
 ghost use Rattle.std.specs.Prelude.{◌≡◌, ◌++◌, IfOk, OnOk, map};
-ghost use Rattle.plan_format.specs.Names.{names_in};
+ghost use Rattle.ttp_model.specs.Names.{names_in};
 ghost use Rattle.plan_changes.specs.Names.{gone_from, names_of_either};
 
-use plan_format::{count_of, name_of, place_of};
 use std::alloc::{AllocError, Global};
 use ttp_model::{Instance, MemoryFault, Part};
 
@@ -16,8 +15,8 @@ fn push_names<'a>(
 ) -> Result<(), AllocError>
     ensures { OnOk result (map (λ n. n.now) names.new.items ≡ map (λ n. n.now) names.old.items ++ names_in instance.now part) }
 {
-    for k in 0..count_of(instance, part) {
-        names.push(name_of(instance, part, k))?;
+    for k in 0..instance.name_count(part) {
+        names.push(instance.name_in(part, k))?;
     }
     Ok(())
 }
@@ -32,9 +31,9 @@ fn push_gone<'a>(
     ensures { OnOk result (map (λ n. n.now) names.new.items
         ≡ map (λ n. n.now) names.old.items ++ gone_from (names_in new.now part) (names_in old.now part)) }
 {
-    for k in 0..count_of(old, part) {
-        let name = name_of(old, part, k);
-        if place_of(new, part, name).is_none() {
+    for k in 0..old.name_count(part) {
+        let name = old.name_in(part, k);
+        if new.index_named(part, name).is_none() {
             names.push(name)?;
         }
     }

@@ -12,7 +12,6 @@ use crate::names::names_of_either;
 use crate::planned::Planned;
 use guardian_windows::{Window, windows};
 use medl_tables::print_node;
-use plan_format::place_of;
 use std::alloc::Global;
 use ttp_model::{MemoryFault, Part};
 
@@ -118,10 +117,10 @@ fn are_loaded_alike(
 fn fate_of(alloc: Global, old: &Planned, new: &Planned, name: &[u8]) -> Result<Fate, MemoryFault>
     ensures { IfOk result (λ fate. fate ≡ fate_of old.now new.now name.now) }
 {
-    let Some(k) = place_of(old.instance(), Part::Nodes, name) else {
+    let Some(k) = old.instance().index_named(Part::Nodes, name) else {
         return Ok(Fate::New);
     };
-    let Some(n) = place_of(new.instance(), Part::Nodes, name) else {
+    let Some(n) = new.instance().index_named(Part::Nodes, name) else {
         return Ok(Fate::Gone);
     };
     if are_loaded_alike(alloc, old, k, new, n)? {

@@ -17,7 +17,8 @@ use Rattle.plan_format.specs.declared.fault.LineFault.TheVariants.{EarlyEnd, For
 use Rattle.plan_format.specs.declared.fault.PlanTextError.TheVariants.{At, OutOfMemory}
 use Rattle.plan_format.specs.declared.column.Column.{Column}
 use Rattle.plan_format.specs.declared.column.Column.TheVariants.{Capacity, Start, Round, Channel}
-use Rattle.plan_format.specs.Names.{is_name, names_in, keyword_of}
+use Rattle.plan_format.specs.Names.{is_name, keyword_of}
+use Rattle.ttp_model.specs.Names.{names_in}
 use Rattle.plan_format.specs.Channels.{has_two_channels, first_line, channel_said}
 use Rattle.plan_format.specs.Reading.{Reading, line_at, number_of, value_of, head_at, delay_at, named_at, order_at, named_number, number_at, numbers_at, part_at, channels_line, channels_at, end_line, plan_at, places, words_of, is_distinct}
 

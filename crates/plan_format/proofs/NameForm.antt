@@ -10,7 +10,8 @@ use Rattle.ttp_model.specs.declared.error.Part.TheVariants.{Nodes, Processes, Li
 use Rattle.ttp_model.specs.declared.error.Place.TheVariants.{AtNode, AtProcess, AtMessage}
 use Rattle.ttp_model.specs.Instance.{Instance, no_node, no_process, no_message}
 use Rattle.ttp_model.specs.Rules.{IsInstance, IsName, continues_name}
-use Rattle.plan_format.specs.Names.{is_name, names_in}
+use Rattle.plan_format.specs.Names.{is_name}
+use Rattle.ttp_model.specs.Names.{names_in}
 
 IsName-from_test : (word : List ℕ) → is_name word ≡ true → IsName word
 IsName-from_test word h =

@@ -21,7 +21,7 @@ use Rattle.plan_format.specs.declared.fault.PlanTextError.TheVariants.{At}
 use Rattle.plan_format.specs.Names.{is_name}
 use Rattle.plan_format.specs.Reading.{line_at, words_of, places_with, places, is_distinct, named_at, order_at}
 use Rattle.plan_format.proofs.Lines.{line_takes, line_again}
-use Rattle.plan_format.proofs.WordLoop.{found_at}
+use Rattle.ttp_model.proofs.Named.{found_at}
 use Rattle.plan_format.proofs.NameForm.{name_lacks}
 
 -- the names at these places

@@ -10,7 +10,7 @@ use Rattle.ttp_model.specs.declared.plan.Plan.{Plan}
 use Rattle.ttp_model.specs.declared.error.Part.TheVariants.{Nodes, Processes, Messages}
 use Rattle.ttp_model.specs.Instance.{Instance, node_at, no_node}
 use Rattle.plan_format.specs.declared.column.Column.TheVariants.{Capacity, Start, Round}
-use Rattle.plan_format.specs.Names.{names_in}
+use Rattle.ttp_model.specs.Names.{names_in}
 use Rattle.plan_format.specs.Channels.{first_line}
 use Rattle.plan_format.specs.Spelling.{numbered, channel_lines, delay_line, order_line, plan_text}
 

@@ -8,7 +8,7 @@ use Rattle.ttp_model.specs.declared.error.Place.TheVariants.{AtCluster}
 use Rattle.ttp_model.specs.Instance.{Instance}
 use Rattle.ttp_model.specs.Rules.{IsInstance}
 use Rattle.plan_format.specs.declared.column.Column.TheVariants.{Channel}
-use Rattle.plan_format.specs.Names.{names_in}
+use Rattle.ttp_model.specs.Names.{names_in}
 use Rattle.plan_format.specs.Channels.{has_two_channels, CanBeTold}
 use Rattle.plan_format.specs.Spelling.{numbered, channel_lines}
 use Rattle.plan_format.specs.Reading.{Reading, part_at, channels_line, channels_at}

@@ -15,7 +15,8 @@ use Rattle.plan_format.specs.declared.fault.LineFault.TheVariants.{Trailing}
 use Rattle.plan_format.specs.declared.fault.PlanTextError.TheVariants.{At, OutOfMemory}
 use Rattle.plan_format.specs.declared.column.Column.{Column}
 use Rattle.plan_format.specs.declared.column.Column.TheVariants.{Capacity, Start, Round}
-use Rattle.plan_format.specs.Names.{names_in, part_of}
+use Rattle.plan_format.specs.Names.{part_of}
+use Rattle.ttp_model.specs.Names.{names_in}
 use Rattle.plan_format.specs.Channels.{first_line}
 use Rattle.plan_format.specs.Spelling.{HasWord, numbered, channel_lines, plan_lines, delay_line, order_line, plan_text, HasText, SpellsPlan}
 use Rattle.plan_format.specs.Reading.{Reading, IsAnswer, HasFront, head_at, delay_at, order_at, part_at, channels_at, end_line, plan_at}

@@ -1,29 +1,14 @@
 -- Going through the words of an order line one after the other, as loops do.
-use Rattle.std.proofs.Common.{◌≡◌, ℕ, ◌≤◌, ◌<◌, List, [], ◌∷◌, ◌++◌, length, get_or, refl, sym, ap, ◌∙◌, append_assoc, arith, Bool, true, false, ltb, Option, Some, None}
+use Rattle.std.proofs.Common.{◌≡◌, ℕ, List, [], ◌∷◌, ◌++◌, length, refl, sym, ap, ◌∙◌, append_assoc, Bool, true, false, Option, Some, None}
 use Rattle.std.specs.Prelude.{position, bytes_eq}
-use Rattle.std.specs.List.{position_or_len, list_all}
-use Rattle.std.proofs.lemmas.Bool.{lt-ltb, le-ltb}
+use Rattle.std.specs.List.{list_all}
 use Rattle.std.proofs.lemmas.List.{length-map}
-use Rattle.std.proofs.lemmas.List.Sums.{position_or_len_is}
 use Rattle.ttp_model.specs.declared.error.Part.TheVariants.{Nodes}
 use Rattle.ttp_model.specs.Instance.{Instance}
-use Rattle.plan_format.specs.Names.{is_name, names_in}
+use Rattle.plan_format.specs.Names.{is_name}
+use Rattle.ttp_model.specs.Names.{names_in}
 use Rattle.plan_format.specs.Reading.{words_of, places_with, places}
 use Rattle.plan_format.specs.Words.{words_with}
-
--- ---- a search
-
-pub found_at : (p : List ℕ → Bool) (names : List (List ℕ)) (k : ℕ) → k < length names → ((j : ℕ) → j < k → p (get_or names j []) ≡ false) → p (get_or names k []) ≡ true → position p names ≡ Some k
-found_at p names k lt before here =
-    let at : position_or_len p names ≡ k = position_or_len_is p names k [] (omega arith) before (λ _. here) in
-    let in_it : ltb k (length names) ≡ true = lt-ltb _ _ lt in
-    rw (at, in_it) refl
-
-pub not_found : (p : List ℕ → Bool) (names : List (List ℕ)) (k : ℕ) → length names ≤ k → ((j : ℕ) → j < k → p (get_or names j []) ≡ false) → position p names ≡ None
-not_found p names k le before =
-    let at : position_or_len p names ≡ length names = position_or_len_is p names (length names) [] (omega arith) (λ j lt. before j (omega arith)) (λ lt. absurd (omega arith)) in
-    let out : ltb (length names) (length names) ≡ false = le-ltb _ _ (omega arith) in
-    rw (at, out) refl
 
 pub nodes_named : (i : Instance) → length (names_in i Nodes) ≡ length i.nodes
 nodes_named i = simp length-map

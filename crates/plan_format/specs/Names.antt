@@ -1,8 +1,7 @@
--- The names of an instance's parts, and which words have the form of a name. Own profile.
-use Rattle.std.specs.Prelude.{ℕ, List, [], length, map, slice_index, Bool, ◌&&◌, not, ◌==◌, nat_le, codes}
+-- Which words have the form of a name, and what the lines of a plan's numbers name. Own profile.
+use Rattle.std.specs.Prelude.{ℕ, List, length, slice_index, Bool, ◌&&◌, not, ◌==◌, nat_le, codes}
 use Rattle.std.specs.List.{list_all}
 use Rattle.ttp_model.specs.Limits.{most_name_bytes}
-use Rattle.ttp_model.specs.Instance.{Instance}
 use Rattle.ttp_model.specs.Rules.{begins_name, continues_name}
 use Rattle.ttp_model.specs.declared.error.Part.{Part}
 use Rattle.ttp_model.specs.declared.error.Part.TheVariants.{Nodes, Processes, Messages}
@@ -14,13 +13,6 @@ abbrev pub is_name : List ℕ → Bool
 is_name word =
     not (length word == 0) && nat_le (length word) most_name_bytes
     && begins_name (slice_index word 0) && list_all continues_name word
-
--- the names in a list of the instance, in its order; links have none
-abbrev pub names_in : Instance → Part → List (List ℕ)
-names_in i Nodes = map (λ n. n.name) i.nodes
-names_in i Processes = map (λ p. p.name) i.processes
-names_in i Messages = map (λ m. m.name) i.messages
-names_in i _ = []
 
 -- the list of the parts that such lines name
 abbrev pub part_of : Column → Part

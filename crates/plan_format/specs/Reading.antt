@@ -12,7 +12,8 @@ use Rattle.ttp_model.specs.declared.plan.Plan.{Plan}
 use Rattle.ttp_model.specs.declared.error.Part.TheVariants.{Nodes}
 use Rattle.plan_format.specs.declared.column.Column.{Column}
 use Rattle.plan_format.specs.declared.column.Column.TheVariants.{Capacity, Start, Round, Channel}
-use Rattle.plan_format.specs.Names.{is_name, names_in, part_of, keyword_of}
+use Rattle.plan_format.specs.Names.{is_name, part_of, keyword_of}
+use Rattle.ttp_model.specs.Names.{names_in}
 use Rattle.plan_format.specs.Channels.{has_two_channels, first_line, channel_said}
 use Rattle.plan_format.specs.declared.fault.LineFault.TheVariants.{Form, Number, Name, Order, EarlyEnd, Trailing}
 use Rattle.plan_format.specs.declared.fault.PlanTextError.{PlanTextError}

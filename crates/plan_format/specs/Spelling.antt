@@ -8,7 +8,8 @@ use Rattle.ttp_model.specs.Instance.{Instance, node_at}
 use Rattle.ttp_model.specs.Plans.{HasLengths, IsNodeOrder}
 use Rattle.plan_format.specs.declared.column.Column.{Column}
 use Rattle.plan_format.specs.declared.column.Column.TheVariants.{Capacity, Start, Round, Channel}
-use Rattle.plan_format.specs.Names.{names_in, keyword_of}
+use Rattle.plan_format.specs.Names.{keyword_of}
+use Rattle.ttp_model.specs.Names.{names_in}
 use Rattle.plan_format.specs.Channels.{has_two_channels, first_line, channel_word, CanBeTold}
 
 -- the numbers that such a line can state

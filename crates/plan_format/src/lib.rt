@@ -7,7 +7,6 @@ mod fault;
 mod laws;
 mod line;
 mod order;
-mod part;
 mod printing;
 mod reading;
 
@@ -17,6 +16,5 @@ pub use laws::{
     faults_of_two_channels, spelling_is_of_one_plan, text_of_two_channels,
     word_is_a_name_by_the_model,
 };
-pub use part::{count_of, name_of, place_of};
 pub use printing::{print, push_value};
 pub use reading::read;

@@ -4,13 +4,13 @@ ghost use Rattle.std.specs.Prelude.{◌≡◌, ◌<◌, ◌==◌, ◌&&◌, leng
 ghost use Rattle.std.specs.List.{list_all};
 ghost use Rattle.line_text.specs.Parts.{seen_rest};
 ghost use Rattle.ttp_model.specs.declared.error.Part.TheVariants.{Nodes};
-ghost use Rattle.plan_format.specs.Names.{is_name, names_in};
+ghost use Rattle.plan_format.specs.Names.{is_name};
+ghost use Rattle.ttp_model.specs.Names.{names_in};
 ghost use Rattle.plan_format.specs.Reading.{IsAnswer, words_of, is_distinct, places, named_at, order_at};
 ghost use Rattle.plan_format.specs.Words.{words_with, items_of};
 
 use crate::fault::{LineFault, PlanTextError};
 use crate::line::{has_name_form, line_of};
-use crate::part::place_of;
 use line_text::{after_keyword, cut};
 use std::alloc::{AllocError, Global};
 use ttp_model::{Instance, Part};
@@ -60,7 +60,7 @@ fn places_of(
     let mut rest = text;
     'words: loop {
         let (word, next) = first_word(rest);
-        match place_of(instance, Part::Nodes, word) {
+        match instance.index_named(Part::Nodes, word) {
             None => return Ok(None),
             Some(place) => order.push(place)?,
         }

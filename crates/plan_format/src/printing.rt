@@ -3,13 +3,13 @@
 ghost use Rattle.std.specs.Prelude.{◌≡◌, ◌++◌, ◌∷◌, [], ◌<◌, length, All, IfOk, OnOk};
 ghost use Rattle.ttp_model.specs.Plans.{IsValid};
 ghost use Rattle.ttp_model.specs.Delays.{delay};
-ghost use Rattle.plan_format.specs.Names.{names_in, part_of};
+ghost use Rattle.plan_format.specs.Names.{part_of};
+ghost use Rattle.ttp_model.specs.Names.{names_in};
 ghost use Rattle.plan_format.specs.Channels.{first_line};
 ghost use Rattle.plan_format.specs.Spelling.{value_word, number_line, numbered, channel_lines, delay_line, order_line, SpellsPlan};
 
 use crate::channels::{channel_word, first_line, has_two_channels};
 use crate::column::{Column, keyword_of, part_of};
-use crate::part::name_of;
 use line_text::push_number;
 use std::alloc::{AllocError, Global};
 use ttp_model::{Instance, MemoryFault, Plan, delay};
@@ -74,7 +74,7 @@ fn push_lines(
 {
     let part = part_of(column);
     for k in 0..numbers.len() {
-        push_line(text, column, name_of(instance, part, k), numbers[k])?;
+        push_line(text, column, instance.name_in(part, k), numbers[k])?;
     }
     Ok(())
 }

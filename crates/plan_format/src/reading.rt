@@ -12,7 +12,6 @@ use crate::column::{Column, part_of};
 use crate::fault::{LineFault, PlanTextError};
 use crate::line::{line_of, number_in, number_of};
 use crate::order::order_of;
-use crate::part::{count_of, name_of};
 use line_text::after_keyword;
 use std::alloc::Global;
 use ttp_model::{Instance, Numbers, Plan};
@@ -62,8 +61,8 @@ fn numbers_of<'a>(
     let part = part_of(column);
     let mut numbers = Vec::new(alloc);
     let mut rest = text;
-    for k in 0..count_of(instance, part) {
-        let name = name_of(instance, part, k);
+    for k in 0..instance.name_count(part) {
+        let name = instance.name_in(part, k);
         let (number, after) = number_of(line + k as u32, column, name, rest)?;
         numbers.push(number)?;
         rest = after;

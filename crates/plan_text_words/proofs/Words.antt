@@ -4,8 +4,9 @@ use Rattle.std.specs.Prelude.{find, position}
 use Rattle.std.proofs.lemmas.Bool.{cases_lt}
 use Rattle.ttp_model.specs.declared.error.Part.TheVariants.{Nodes}
 use Rattle.ttp_model.specs.Instance.{Instance}
-use Rattle.plan_format.specs.Names.{names_in}
-use Rattle.plan_format.proofs.WordLoop.{found_at, nodes_named, not_found}
+use Rattle.ttp_model.specs.Names.{names_in}
+use Rattle.ttp_model.proofs.Named.{found_at, not_found}
+use Rattle.plan_format.proofs.WordLoop.{nodes_named}
 use Rattle.plan_format.specs.Reading.{words_of}
 use Rattle.plan_format.specs.Words.{words_with}
 

@@ -3,7 +3,7 @@ use Rattle.std.specs.Prelude.{ℕ, ◌-◌, List, [], ◌∷◌, ◌++◌, codes
 use Rattle.ttp_model.specs.declared.error.Part.TheVariants.{Messages, Nodes, Processes}
 use Rattle.ttp_model.specs.Instance.{Instance}
 use Rattle.plan_format.specs.Channels.{first_line, has_two_channels}
-use Rattle.plan_format.specs.Names.{names_in}
+use Rattle.ttp_model.specs.Names.{names_in}
 
 -- the line of a node's capacity
 unfoldable pub capacity_form : List ℕ → List ℕ

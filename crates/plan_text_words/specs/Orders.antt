@@ -4,7 +4,7 @@ use Rattle.std.specs.Prelude.{Option, None, Some, find, is_some, position}
 use Rattle.std.specs.List.{count_by}
 use Rattle.ttp_model.specs.declared.error.Part.TheVariants.{Nodes}
 use Rattle.ttp_model.specs.Instance.{Instance}
-use Rattle.plan_format.specs.Names.{names_in}
+use Rattle.ttp_model.specs.Names.{names_in}
 use Rattle.plan_format.specs.Reading.{words_of}
 use Rattle.told_bytes.specs.Told.{told}
 

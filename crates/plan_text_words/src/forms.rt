@@ -1,9 +1,7 @@
 //! What has to stand in each line of a plan's text?
 
 ghost use Rattle.std.specs.Prelude.{◌≡◌, ◌-◌, ◌++◌, ◌<◌, ◌^◌, OnOk, [], length, slice_index_or, string_bytes};
-ghost use Rattle.ttp_model.specs.declared.error.Part.TheVariants.{Messages, Nodes, Processes};
 ghost use Rattle.plan_format.specs.Channels.{first_line, has_two_channels};
-ghost use Rattle.plan_format.specs.Names.{names_in};
 ghost use Rattle.plan_format.specs.Reading.{end_line};
 ghost use Rattle.plan_text_words.specs.Forms.{capacity_form, capacity_forms, channel_form, channel_forms, form_of, round_form, round_forms, start_form, start_forms, told_channels};
 
@@ -45,37 +43,13 @@ fn has_two_channels(instance: &Instance) -> bool
     instance.cluster().channels == 2
 }
 
-/// The name of a node.
-pub fn node_name(instance: &Instance, k: usize) -> &str
-    requires { k < length instance.now.nodes }
-    ensures { result.now ≡ slice_index_or (names_in instance.now Nodes) k [] }
-{
-    instance.nodes()[k].name.as_str()
-}
-
-/// The name of a process.
-fn process_name(instance: &Instance, k: usize) -> &str
-    requires { k < length instance.now.processes }
-    ensures { result.now ≡ slice_index_or (names_in instance.now Processes) k [] }
-{
-    instance.processes()[k].name.as_str()
-}
-
-/// The name of a message.
-fn message_name(instance: &Instance, k: usize) -> &str
-    requires { k < length instance.now.messages }
-    ensures { result.now ≡ slice_index_or (names_in instance.now Messages) k [] }
-{
-    instance.messages()[k].name.as_str()
-}
-
 /// Adds the form of a line from the capacities on.
 fn put_capacity_form(text: &mut String, instance: &Instance, k: usize) -> Result<(), AllocError>
     ensures { OnOk result (string_bytes text.new ≡ string_bytes text.old ++ slice_index_or (capacity_forms instance.now) k []) }
 {
     let count = instance.nodes().len();
     if k < count {
-        put_capacity(text, node_name(instance, k))
+        put_capacity(text, instance.node_name(k))
     } else {
         put_start_form(text, instance, k - count)
     }
@@ -87,7 +61,7 @@ fn put_start_form(text: &mut String, instance: &Instance, k: usize) -> Result<()
 {
     let count = instance.processes().len();
     if k < count {
-        put_start(text, process_name(instance, k))
+        put_start(text, instance.process_name(k))
     } else {
         put_round_form(text, instance, k - count)
     }
@@ -99,7 +73,7 @@ fn put_round_form(text: &mut String, instance: &Instance, k: usize) -> Result<()
 {
     let count = instance.messages().len();
     if k < count {
-        put_round(text, message_name(instance, k))
+        put_round(text, instance.message_name(k))
     } else {
         put_channel_form(text, instance, k - count)
     }
@@ -111,7 +85,7 @@ fn put_channel_form(text: &mut String, instance: &Instance, k: usize) -> Result<
 {
     let count = channel_lines(instance);
     if k < count {
-        put_channel(text, message_name(instance, k))
+        put_channel(text, instance.message_name(k))
     } else if k == count {
         text.push_str("the end of the text")
     } else {

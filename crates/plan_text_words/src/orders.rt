@@ -4,17 +4,16 @@ ghost use Rattle.std.specs.Prelude.{◌≡◌, ◌<◌, ◌++◌, IfSome, OnOk, 
 ghost use Rattle.std.specs.List.{count_by};
 ghost use Rattle.ttp_model.specs.declared.error.Part.TheVariants.{Nodes};
 ghost use Rattle.line_text.specs.Parts.{seen_rest};
-ghost use Rattle.plan_format.specs.Names.{names_in};
+ghost use Rattle.ttp_model.specs.Names.{names_in};
 ghost use Rattle.plan_format.specs.Reading.{words_of};
 ghost use Rattle.plan_format.specs.Words.{words_with};
 ghost use Rattle.told_bytes.specs.Told.{told};
 ghost use Rattle.plan_text_words.specs.Orders.{first_uneven, is_stranger, named_text, stranger_text, stranger_words, times_named, times_words, told_uneven, uneven_text, unnamed_words};
 
-use crate::forms::node_name;
 use line_text::cut;
 use std::alloc::AllocError;
 use told_bytes::Told;
-use ttp_model::Instance;
+use ttp_model::{Instance, Part};
 
 /// How many bytes the keyword of an order line has, with the space behind it.
 const KEYWORD: usize = 6;
@@ -36,7 +35,7 @@ pub fn put_uneven(text: &mut String, instance: &Instance, line: &[u8]) -> Result
     match first_uneven(instance, line) {
         None => Ok(()),
         Some(n) => {
-            let name = node_name(instance, n);
+            let name = instance.node_name(n);
             put_times(text, name, times_named(line, name.as_bytes()))
         }
     }
@@ -64,23 +63,11 @@ fn first_word(text: &[u8]) -> (&[u8], Option<&[u8]>)
     }
 }
 
-/// The node with a name.
-fn node_named(instance: &Instance, name: &[u8]) -> Option<usize>
-    ensures { result ≡ position (λ n. bytes_eq n name.now) (names_in instance.now Nodes) }
-{
-    for n in 0..instance.nodes().len() {
-        if node_name(instance, n).as_bytes() == name {
-            return Some(n);
-        }
-    }
-    None
-}
-
 /// Whether a word is no node's name.
 fn is_stranger(instance: &Instance, word: &[u8]) -> bool
     ensures { result ≡ is_stranger instance.now word.now }
 {
-    node_named(instance, word).is_none()
+    instance.index_named(Part::Nodes, word).is_none()
 }
 
 /// The first word that is none.
@@ -132,7 +119,7 @@ fn first_uneven(instance: &Instance, line: &[u8]) -> Option<usize>
     ensures within { IfSome result (λ n. n < length instance.now.nodes) }
 {
     for n in 0..instance.nodes().len() {
-        if times_named(line, node_name(instance, n).as_bytes()) != 1 {
+        if times_named(line, instance.node_name(n).as_bytes()) != 1 {
             return Some(n);
         }
     }

@@ -5,7 +5,7 @@ use Rattle.ttp_model.specs.Delays.{delay}
 use Rattle.ttp_model.specs.Instance.{Instance}
 use Rattle.plan_chain.specs.Chain.{IsLastToEnd}
 use Rattle.process_words.specs.Counts.{apart, side_words, ticks_words}
-use Rattle.process_words.specs.Names.{place_name, process_name}
+use Rattle.ttp_model.specs.Names.{place_name, process_name}
 
 -- that another one is stated
 unfoldable pub stated_words : ℕ → List ℕ

@@ -8,7 +8,7 @@ use Rattle.ttp_model.specs.Slots.{offset, round_length, slot_start}
 use Rattle.ttp_model.specs.Plans.{channel_of, end_of, round_of, sent_from, sent_until, start_of}
 use Rattle.plan_chain.specs.Causes.{arrival, ready_at}
 use Rattle.process_words.specs.Counts.{ticks_words}
-use Rattle.process_words.specs.Names.{message_name, place_name, process_name, source_name}
+use Rattle.ttp_model.specs.Names.{source_name, place_name, message_name, process_name}
 
 -- by how much the slot of a message begins too early
 abbrev pub slot_early_by : Instance → Plan → ℕ → ℕ

@@ -6,7 +6,7 @@ ghost use Rattle.plan_words.specs.Gains.{Gains};
 ghost use Rattle.plan_words.specs.Delays.{IsDelayText, delay_tail, delay_words, own_words, stated_words};
 
 use plan_chain::last_to_end;
-use process_words::{Ticks, apart, place_name, process_name, side_of};
+use process_words::{Ticks, apart, side_of};
 use std::alloc::AllocError;
 use ttp_model::{Instance, Plan, delay};
 
@@ -21,7 +21,7 @@ pub fn put_delay(
     ensures { OnOk result (Gains (IsDelayText instance.now plan.now stated) (string_bytes text.old) (string_bytes text.new)) }
 {
     let last = last_to_end(instance, plan) as usize;
-    let (name, place) = (process_name(instance, last), place_name(instance, last));
+    let (name, place) = (instance.process_name(last), instance.place_name(last));
     let (stated, own) = (u64::from(stated), delay(instance, plan));
     let (by, side) = (apart(stated, own), side_of(stated, own));
     put_sentences(text, stated, name, place, own, by, side)

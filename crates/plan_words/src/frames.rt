@@ -5,13 +5,13 @@ ghost use Rattle.std.specs.List.{flat_map, range_with_len};
 ghost use Rattle.ttp_model.specs.Instance.{message_at};
 ghost use Rattle.ttp_model.specs.Plans.{HasLengths, load_on};
 ghost use Rattle.process_words.specs.Counts.{bytes_words};
-ghost use Rattle.process_words.specs.Names.{message_name};
-ghost use Rattle.plan_words.specs.Frames.{content_text, excess_words, full_on_text, full_frame_on_words, full_text, full_frame_words, is_on_channel, item_text, item_words, items_text, load_words, messages_in, more_words, most_items, rest_words, separator, too_full_by};
+ghost use Rattle.ttp_model.specs.Names.{message_name};
+ghost use Rattle.plan_words.specs.Frames.{content_text, excess_words, full_on_text, full_frame_on_words, full_text, full_frame_words, item_text, item_words, items_text, load_words, messages_in, more_words, most_items, rest_words, separator, too_full_by};
 
 use plan_check::load_on;
-use process_words::{Bytes, message_name, node_name};
+use process_words::Bytes;
 use std::alloc::{AllocError, Global};
-use ttp_model::{Instance, MemoryFault, Numbers, Plan, is_on};
+use ttp_model::{Instance, MemoryFault, Numbers, Plan, is_in_frame_on};
 
 /// How many items of a list are told.
 const MOST_ITEMS: usize = 12;
@@ -33,7 +33,7 @@ pub fn put_full(
     requires inside { n < length instance.now.nodes }
     ensures { OnOk result (string_bytes text.new ≡ string_bytes text.old ++ full_text instance.now plan.now n r) }
 {
-    put_full_head(text, node_name(instance, n as usize), r)?;
+    put_full_head(text, instance.node_name(n as usize), r)?;
     put_content(alloc, text, instance, plan, n, r, 0)
 }
 
@@ -52,7 +52,7 @@ pub fn put_full_on(
     requires inside { n < length instance.now.nodes }
     ensures { OnOk result (string_bytes text.new ≡ string_bytes text.old ++ full_on_text instance.now plan.now n r c) }
 {
-    put_full_on_head(text, node_name(instance, n as usize), r, c)?;
+    put_full_on_head(text, instance.node_name(n as usize), r, c)?;
     put_content(alloc, text, instance, plan, n, r, c)
 }
 
@@ -155,21 +155,11 @@ fn messages_in(
     let mut messages = Vec::new(alloc);
     let count = instance.messages().len();
     for m in 0..count {
-        if is_on_channel(instance, plan, n, r, c, m) {
+        if is_in_frame_on(instance, plan, n, r, c, m) {
             messages.push(m as u32)?;
         }
     }
     Ok(Numbers::new(messages))
-}
-
-/// Whether a message is in the frame of node `n` in round `r` on channel `c`.
-fn is_on_channel(instance: &Instance, plan: &Plan, n: u32, r: u32, c: u32, m: usize) -> bool
-    requires lengths { HasLengths instance.now plan.now }
-    requires inside { m < length instance.now.messages }
-    ensures { result ≡ is_on_channel instance.now plan.now n r c m }
-{
-    let (round, channel) = (plan.rounds.as_slice()[m], plan.channels.as_slice()[m]);
-    instance.source_of(m) == n && round == r && is_on(c, channel)
 }
 
 /// Adds the messages of a list, the first of them at least.
@@ -208,7 +198,7 @@ fn put_item(text: &mut String, instance: &Instance, m: usize, k: usize) -> Resul
         ++ item_words (separator k) (message_name instance.now m) (message_at instance.now m).bytes) }
 {
     let message = instance.message_at(m);
-    put_name(text, separator(k), message_name(instance, m), message.bytes)
+    put_name(text, separator(k), instance.message_name(m), message.bytes)
 }
 
 /// Adds its name and its bytes, behind what stands before it.

@@ -6,10 +6,10 @@ ghost use Rattle.ttp_model.specs.Lists.{EachBelow};
 ghost use Rattle.ttp_model.specs.Plans.{EndsInTime, HasLengths, end_of, round_of, sent_from, sent_until, start_of};
 ghost use Rattle.plan_chain.specs.Causes.{arrival, ready_at};
 ghost use Rattle.plan_words.specs.Slots.{CanBeLaid};
-ghost use Rattle.process_words.specs.Names.{place_name, process_name, source_name};
+ghost use Rattle.ttp_model.specs.Names.{source_name, place_name, process_name};
 ghost use Rattle.plan_words.specs.Messages.{allowed_words, copied_words, sender_words, slot_end_words, there_words, copied_in_words, channel_words, first_round, first_slot, receiver_early_by, slot_early_by, ready_words, receiver_words, first_round_words, slot_words, unheard_text, unheard_words, unready_text, unready_words, wrong_channel_text, wrong_channel_words};
 
-use process_words::{Ticks, message_name, place_name, process_name, source_name};
+use process_words::Ticks;
 use std::alloc::AllocError;
 use std::fmt;
 use tt_layout::Layout;
@@ -28,7 +28,7 @@ pub fn put_unready(
     requires inside { m < length instance.now.messages }
     ensures { OnOk result (string_bytes text.new ≡ string_bytes text.old ++ unready_text instance.now plan.now m) }
 {
-    put_unready_head(text, message_name(instance, m))?;
+    put_unready_head(text, instance.message_name(m))?;
     put_sender(text, instance, plan, m)?;
     put_slot_start(text, instance, plan, m)?;
     put_first_round(text, instance, plan, m)
@@ -67,7 +67,7 @@ fn put_sender(
         (end_of instance.now plan.now (message_at instance.now m).sender) instance.now.cluster.copy_out (ready_at instance.now plan.now m)) }
 {
     let p = instance.message_at(m).sender as usize;
-    let (sender, place) = (process_name(instance, p), source_name(instance, m));
+    let (sender, place) = (instance.process_name(p), instance.source_name(m));
     let copy_out = instance.cluster().copy_out;
     let (end, ready) = (end_of(instance, plan, p), ready_at(instance, plan, m));
     put_ready(text, sender, place, end, copy_out, ready)
@@ -124,7 +124,7 @@ fn put_slot_start(
     let round = plan.rounds.as_slice()[m];
     let start = layout.slot_start(instance.source_of(m), round);
     let by = ready_at(instance, plan, m).saturating_sub(start);
-    put_slot(text, source_name(instance, m), round, start, by)
+    put_slot(text, instance.source_name(m), round, start, by)
 }
 
 /// Adds the line of it.
@@ -202,7 +202,7 @@ pub fn put_unheard(
     requires receiver { q < length instance.now.processes }
     ensures { OnOk result (string_bytes text.new ≡ string_bytes text.old ++ unheard_text instance.now plan.now m q) }
 {
-    put_unheard_head(text, process_name(instance, q), message_name(instance, m))?;
+    put_unheard_head(text, instance.process_name(q), instance.message_name(m))?;
     put_slot_end(text, instance, plan, m)?;
     put_receiver(text, instance, plan, m, q)
 }
@@ -243,7 +243,7 @@ fn put_slot_end(
     let (end, copy_in) = (sent_until(instance, plan, m), instance.cluster().copy_in);
     put_arrival(
         text,
-        source_name(instance, m),
+        instance.source_name(m),
         round,
         end,
         copy_in,
@@ -305,8 +305,8 @@ fn put_receiver(
     let by = there.saturating_sub(start);
     put_receiver_start(
         text,
-        process_name(instance, q),
-        place_name(instance, q),
+        instance.process_name(q),
+        instance.place_name(q),
         start,
         by,
     )
@@ -346,7 +346,7 @@ pub fn put_wrong_channel(
     };
     put_channel(
         text,
-        message_name(instance, m),
+        instance.message_name(m),
         allowed(instance, m),
         channel,
     )

@@ -1,4 +1,3 @@
 pub mod Counts
-pub mod Names
 pub mod Lists
 pub mod Processes

@@ -6,7 +6,7 @@ use Rattle.ttp_model.specs.declared.fault.PlanPart.TheVariants as part
 use Rattle.ttp_model.specs.declared.plan.Plan.{Plan}
 use Rattle.ttp_model.specs.Instance.{Instance, node_at}
 use Rattle.process_words.specs.Counts.{apart, side_words}
-use Rattle.process_words.specs.Names.{node_name}
+use Rattle.ttp_model.specs.Names.{node_name}
 
 -- what each list has entries of
 abbrev pub entries_word : PlanPart → List ℕ

@@ -4,7 +4,7 @@ use Rattle.ttp_model.specs.declared.plan.Plan.{Plan}
 use Rattle.ttp_model.specs.Instance.{Instance, link_at, process_at}
 use Rattle.ttp_model.specs.Plans.{end_of, start_of}
 use Rattle.process_words.specs.Counts.{early_tail, ticks_words}
-use Rattle.process_words.specs.Names.{place_name, process_name}
+use Rattle.ttp_model.specs.Names.{place_name, process_name}
 
 -- by how much a process starts too early
 abbrev pub early_by : Instance → Plan → ℕ → ℕ

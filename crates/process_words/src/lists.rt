@@ -6,7 +6,6 @@ ghost use Rattle.ttp_model.specs.Plans.{HasCapacitiesLength, HasOrderLength};
 ghost use Rattle.process_words.specs.Lists.{capacity_text, capacity_words, entries_of, entries_word, first_position, length_text, length_words, numbers_words, offers_words, side_tail, uneven_words, no_node_words, node_words, option_words, order_text, owners_of, owners_word, repeated_words};
 
 use crate::counts::{apart, side_of};
-use crate::names::node_name;
 use std::alloc::AllocError;
 use ttp_model::{Instance, Plan, PlanPart};
 
@@ -130,7 +129,7 @@ pub fn put_order(
     let node = order[k];
     let count = instance.nodes().len();
     if (node as usize) < count {
-        let name = node_name(instance, node as usize);
+        let name = instance.node_name(node as usize);
         put_repeated(text, k, name, first_position(order, node))
     } else {
         let last = (count as u64).saturating_sub(1);
@@ -187,7 +186,7 @@ pub fn put_capacity(
     ensures { OnOk result (string_bytes text.new ≡ string_bytes text.old ++ capacity_text instance.now plan.now n) }
 {
     let options = instance.nodes()[n].capacities.as_slice();
-    put_own_capacity(text, node_name(instance, n), plan.caps.as_slice()[n])?;
+    put_own_capacity(text, instance.node_name(n), plan.caps.as_slice()[n])?;
     put_offers(text, options)
 }
 

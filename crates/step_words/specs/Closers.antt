@@ -5,7 +5,7 @@ use Rattle.ttp_model.specs.Instance.{Instance}
 use Rattle.sought_plans.specs.Known.{Known, le_of, lo_of, top_of}
 use Rattle.sought_plans.specs.Premises.{least_end}
 use Rattle.step_words.specs.Limits.{most_listed}
-use Rattle.step_words.specs.Names.{message_name, process_name}
+use Rattle.ttp_model.specs.Names.{message_name, process_name}
 
 -- a process can't end in time
 unfoldable pub window_words : Instance → Known → ℕ → List ℕ

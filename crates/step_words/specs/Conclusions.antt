@@ -3,7 +3,7 @@ use Rattle.std.specs.Prelude.{ℕ, ◌<◌, List, ◌++◌, codes, decimal, leng
 use Rattle.ttp_model.specs.Instance.{Instance}
 use Rattle.tt_infer.specs.declared.fact.Fact.{Fact}
 use Rattle.tt_infer.specs.declared.fact.Fact.TheVariants.{Start, End, FirstRound, LateRound, Order, Closed}
-use Rattle.step_words.specs.Names.{message_name, process_name}
+use Rattle.ttp_model.specs.Names.{message_name, process_name}
 
 -- when a process starts at least
 unfoldable pub start_words : Instance → ℕ → ℕ → ℕ → List ℕ

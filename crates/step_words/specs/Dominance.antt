@@ -5,7 +5,7 @@ use Rattle.tt_choice.specs.Choice.{Choice}
 use Rattle.tt_choice.specs.Extremes.{start_least}
 use Rattle.sought_plans.specs.Known.{Known, le_of}
 use Rattle.sought_plans.specs.Premises.{sender_of, wcet_of}
-use Rattle.step_words.specs.Names.{message_name, node_name, process_name, source_name}
+use Rattle.ttp_model.specs.Names.{source_name, message_name, process_name, node_name}
 
 -- a process would start a tick earlier
 unfoldable pub settled_words : Instance → ℕ → List ℕ

@@ -5,7 +5,7 @@ use Rattle.tt_choice.specs.Choice.{Choice}
 use Rattle.tt_choice.specs.Extremes.{start_most}
 use Rattle.sought_plans.specs.Known.{Known, top_of}
 use Rattle.sought_plans.specs.Premises.{most_start}
-use Rattle.step_words.specs.Names.{message_name, process_name, source_name}
+use Rattle.ttp_model.specs.Names.{source_name, message_name, process_name}
 use Rattle.step_words.specs.Starts.{under_way_words}
 
 -- it is due, and no plan is sought that takes longer

@@ -1,6 +1,5 @@
 pub mod Limits
 pub mod Counts
-pub mod Names
 pub mod Starts
 pub mod Rounds
 pub mod Ends

@@ -4,7 +4,7 @@ use Rattle.ttp_model.specs.Instance.{Instance, message_at, source_of}
 use Rattle.tt_choice.specs.Choice.{Choice}
 use Rattle.tt_choice.specs.Extremes.{cap_most}
 use Rattle.step_words.specs.Counts.{noun}
-use Rattle.step_words.specs.Names.{message_name, node_name, source_name}
+use Rattle.ttp_model.specs.Names.{source_name, message_name, node_name}
 
 -- what has to run on a node between two ticks takes longer
 unfoldable pub longer_words : List ℕ → ℕ → ℕ → List ℕ

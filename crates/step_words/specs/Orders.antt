@@ -3,7 +3,7 @@ use Rattle.std.specs.Prelude.{ℕ, List, ◌++◌, codes, decimal}
 use Rattle.ttp_model.specs.Instance.{Instance}
 use Rattle.sought_plans.specs.Known.{Known, le_of}
 use Rattle.sought_plans.specs.Premises.{least_end, wcet_of}
-use Rattle.step_words.specs.Names.{process_name}
+use Rattle.ttp_model.specs.Names.{process_name}
 
 -- the other way round it would end too late
 unfoldable pub window_order_words : Instance → Known → ℕ → ℕ → List ℕ

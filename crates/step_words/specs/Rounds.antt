@@ -3,7 +3,7 @@ use Rattle.std.specs.Prelude.{ℕ, List, ◌++◌, codes, decimal}
 use Rattle.ttp_model.specs.Instance.{Instance}
 use Rattle.sought_plans.specs.Known.{Known, le_of}
 use Rattle.sought_plans.specs.Premises.{least_ready, wcet_of}
-use Rattle.step_words.specs.Names.{message_name, process_name, source_name}
+use Rattle.ttp_model.specs.Names.{source_name, message_name, process_name}
 
 -- it is copied out so late
 unfoldable pub send_round_words : Instance → Known → ℕ → List ℕ

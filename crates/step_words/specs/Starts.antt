@@ -5,7 +5,7 @@ use Rattle.tt_choice.specs.Choice.{Choice}
 use Rattle.tt_choice.specs.Extremes.{dur_least, end_least}
 use Rattle.sought_plans.specs.Known.{Known, lo_of}
 use Rattle.sought_plans.specs.Premises.{least_end, sender_of}
-use Rattle.step_words.specs.Names.{message_name, process_name, sender_name, source_name}
+use Rattle.ttp_model.specs.Names.{sender_name, source_name, message_name, process_name}
 
 -- it is released
 unfoldable pub release_words : Instance → ℕ → List ℕ

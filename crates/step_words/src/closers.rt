@@ -3,7 +3,6 @@
 ghost use Rattle.std.specs.Prelude.{◌≡◌, ◌++◌, ◌<◌, All, OnOk, length, string_bytes};
 ghost use Rattle.step_words.specs.Closers.{cycle_words, first_names, more_words, round_words, spaced_name, window_words};
 
-use crate::names::{message_name, process_name};
 use crate::times::least_end;
 use std::alloc::AllocError;
 use tt_infer::Facts;
@@ -18,7 +17,7 @@ pub fn put_window(text: &mut String, facts: &Facts, p: u32) -> Result<(), AllocE
     requires { p < length facts.now.instance.processes }
     ensures { OnOk result (string_bytes text.new ≡ string_bytes text.old ++ window_words facts.now.instance facts.now.known p) }
 {
-    let name = process_name(facts.instance(), p);
+    let name = facts.instance().process_name(p as usize);
     let (least, most) = (least_end(facts, p), facts.le(p));
     write!(
         text,
@@ -32,7 +31,7 @@ pub fn put_round(text: &mut String, facts: &Facts, m: u32) -> Result<(), AllocEr
     requires { m < length facts.now.instance.messages }
     ensures { OnOk result (string_bytes text.new ≡ string_bytes text.old ++ round_words facts.now.instance facts.now.known m) }
 {
-    let name = message_name(facts.instance(), m);
+    let name = facts.instance().message_name(m as usize);
     let (least, late) = (facts.lo(m), facts.top(m));
     write!(
         text,
@@ -46,7 +45,7 @@ fn put_name(text: &mut String, instance: &Instance, p: u32) -> Result<(), AllocE
     requires { p < length instance.now.processes }
     ensures { OnOk result (string_bytes text.new ≡ string_bytes text.old ++ spaced_name instance.now p) }
 {
-    let name = process_name(instance, p);
+    let name = instance.process_name(p as usize);
     write!(text, " {name}")
 }
 

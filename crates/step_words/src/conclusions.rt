@@ -3,7 +3,6 @@
 ghost use Rattle.std.specs.Prelude.{◌≡◌, ◌++◌, ◌<◌, OnOk, length, string_bytes};
 ghost use Rattle.step_words.specs.Conclusions.{IsThere, closed_words, conclusion_words, end_words, first_round_words, late_round_words, order_words, start_words};
 
-use crate::names::{message_name, process_name};
 use std::alloc::AllocError;
 use tt_infer::Fact;
 use ttp_model::Instance;
@@ -20,7 +19,7 @@ fn put_start(
     requires { p < length instance.now.processes }
     ensures { OnOk result (string_bytes text.new ≡ string_bytes text.old ++ start_words instance.now p before after) }
 {
-    let name = process_name(instance, p);
+    let name = instance.process_name(p as usize);
     writeln!(text, "{name} starts at {after} or later (before: {before})")
 }
 
@@ -36,7 +35,7 @@ fn put_end(
     requires { p < length instance.now.processes }
     ensures { OnOk result (string_bytes text.new ≡ string_bytes text.old ++ end_words instance.now p before after) }
 {
-    let name = process_name(instance, p);
+    let name = instance.process_name(p as usize);
     writeln!(text, "{name} ends at {after} or earlier (before: {before})")
 }
 
@@ -52,7 +51,7 @@ fn put_first_round(
     requires { m < length instance.now.messages }
     ensures { OnOk result (string_bytes text.new ≡ string_bytes text.old ++ first_round_words instance.now m before after) }
 {
-    let name = message_name(instance, m);
+    let name = instance.message_name(m as usize);
     writeln!(
         text,
         "{name} is sent in round {after} or later (before: {before})"
@@ -71,7 +70,7 @@ fn put_late_round(
     requires { m < length instance.now.messages }
     ensures { OnOk result (string_bytes text.new ≡ string_bytes text.old ++ late_round_words instance.now m before after) }
 {
-    let name = message_name(instance, m);
+    let name = instance.message_name(m as usize);
     writeln!(
         text,
         "{name} is sent before round {after} (before: {before})"
@@ -85,8 +84,8 @@ fn put_order(text: &mut String, instance: &Instance, p: u32, q: u32) -> Result<(
     requires second { q < length instance.now.processes }
     ensures { OnOk result (string_bytes text.new ≡ string_bytes text.old ++ order_words instance.now p q) }
 {
-    let before = process_name(instance, p);
-    let after = process_name(instance, q);
+    let before = instance.process_name(p as usize);
+    let after = instance.process_name(q as usize);
     writeln!(text, "{before} ends before {after} starts")
 }
 

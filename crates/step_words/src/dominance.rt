@@ -4,7 +4,6 @@ ghost use Rattle.std.specs.Prelude.{◌≡◌, ◌↔◌, ◌++◌, ◌<◌, IsT
 ghost use Rattle.tt_infer.specs.Table.{IsDominance};
 ghost use Rattle.step_words.specs.Dominance.{late_words, mirror_words, settled_words, silent_words};
 
-use crate::names::{message_name, node_name, process_name, source_name};
 use crate::slots::start_least;
 use std::alloc::AllocError;
 use tt_infer::Facts;
@@ -50,7 +49,7 @@ pub fn put_settled(text: &mut String, facts: &Facts, p: u32) -> Result<(), Alloc
     ensures { OnOk result (string_bytes text.new ≡ string_bytes text.old ++ settled_words facts.now.instance p) }
 {
     let instance = facts.instance();
-    let name = process_name(instance, p);
+    let name = instance.process_name(p as usize);
     let wcet = instance.process_at(p as usize).wcet;
     write!(
         text,
@@ -66,8 +65,8 @@ pub fn put_late(text: &mut String, facts: &Facts, m: u32, r: u32) -> Result<(), 
         ++ late_words facts.now.instance facts.now.choice facts.now.known m r) }
 {
     let instance = facts.instance();
-    let name = message_name(instance, m);
-    let node = source_name(instance, m);
+    let name = instance.message_name(m as usize);
+    let node = instance.source_name(m as usize);
     let start = start_least(facts, instance.source_of(m as usize), r);
     let end = facts.le(instance.message_at(m as usize).sender);
     let ready = u64::from(end) + u64::from(instance.cluster().copy_out);
@@ -85,8 +84,8 @@ pub fn put_silent(text: &mut String, facts: &Facts, u: u32, v: u32) -> Result<()
     ensures { OnOk result (string_bytes text.new ≡ string_bytes text.old ++ silent_words facts.now.instance u v) }
 {
     let instance = facts.instance();
-    let name = node_name(instance, u);
-    let other = node_name(instance, v);
+    let name = instance.node_name(u as usize);
+    let other = instance.node_name(v as usize);
     write!(
         text,
         "  as {name} and {other} send nothing and may be exchanged, and {other} has the earlier slot, "
@@ -99,7 +98,7 @@ pub fn put_mirror(text: &mut String, facts: &Facts, m: u32) -> Result<(), AllocE
     requires { m < length facts.now.instance.messages }
     ensures { OnOk result (string_bytes text.new ≡ string_bytes text.old ++ mirror_words facts.now.instance m) }
 {
-    let name = message_name(facts.instance(), m);
+    let name = facts.instance().message_name(m as usize);
     write!(
         text,
         "  as {name} is the first of its slot on one channel alone, which is channel 1, and the channels may be exchanged, "

@@ -3,7 +3,6 @@
 ghost use Rattle.std.specs.Prelude.{◌≡◌, ◌++◌, ◌<◌, OnOk, length, string_bytes};
 ghost use Rattle.step_words.specs.Ends.{before_end_words, link_end_words, message_end_words, own_end_words, receiver_words, send_end_words};
 
-use crate::names::{message_name, process_name, source_name};
 use crate::slots::start_most;
 use crate::starts::put_under_way;
 use crate::times::most_start;
@@ -17,7 +16,7 @@ pub fn put_own_end(text: &mut String, facts: &Facts, p: u32) -> Result<(), Alloc
     ensures { OnOk result (string_bytes text.new ≡ string_bytes text.old ++ own_end_words facts.now.instance facts.now.goal p) }
 {
     let instance = facts.instance();
-    let name = process_name(instance, p);
+    let name = instance.process_name(p as usize);
     let deadline = instance.process_at(p as usize).deadline;
     let (horizon, goal) = (instance.cluster().horizon, facts.goal());
     write!(
@@ -34,8 +33,8 @@ pub fn put_link_end(text: &mut String, facts: &Facts, l: u32) -> Result<(), Allo
 {
     let instance = facts.instance();
     let link = instance.link_at(l as usize);
-    let before = process_name(instance, link.before);
-    let after = process_name(instance, link.after);
+    let before = instance.process_name(link.before as usize);
+    let after = instance.process_name(link.after as usize);
     let start = most_start(facts, link.after);
     write!(
         text,
@@ -51,8 +50,8 @@ pub fn put_before_end(text: &mut String, facts: &Facts, p: u32, q: u32) -> Resul
     ensures { OnOk result (string_bytes text.new ≡ string_bytes text.old ++ before_end_words facts.now.instance facts.now.known p q) }
 {
     let instance = facts.instance();
-    let before = process_name(instance, p);
-    let after = process_name(instance, q);
+    let before = instance.process_name(p as usize);
+    let after = instance.process_name(q as usize);
     let start = most_start(facts, q);
     write!(
         text,
@@ -66,7 +65,7 @@ fn put_receiver(text: &mut String, facts: &Facts, q: u32) -> Result<(), AllocErr
     requires { q < length facts.now.instance.processes }
     ensures { OnOk result (string_bytes text.new ≡ string_bytes text.old ++ receiver_words facts.now.instance facts.now.known q) }
 {
-    let receiver = process_name(facts.instance(), q);
+    let receiver = facts.instance().process_name(q as usize);
     let start = most_start(facts, q);
     write!(text, "  as {receiver} starts at {start} or earlier and ")
 }
@@ -91,8 +90,8 @@ pub fn put_send_end(text: &mut String, facts: &Facts, m: u32) -> Result<(), Allo
         ++ send_end_words facts.now.instance facts.now.choice facts.now.known m) }
 {
     let instance = facts.instance();
-    let name = message_name(instance, m);
-    let node = source_name(instance, m);
+    let name = instance.message_name(m as usize);
+    let node = instance.source_name(m as usize);
     let round = facts.top(m).saturating_sub(1);
     let start = start_most(facts, instance.source_of(m as usize), round);
     let copy_out = instance.cluster().copy_out;

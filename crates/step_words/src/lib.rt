@@ -8,7 +8,6 @@ mod dominance;
 mod ends;
 mod leaves;
 mod loads;
-mod names;
 mod orders;
 mod rounds;
 mod slots;

@@ -4,7 +4,6 @@ ghost use Rattle.std.specs.Prelude.{◌≡◌, ◌++◌, ◌<◌, ◌≤◌, OnO
 ghost use Rattle.step_words.specs.Loads.{carried_words, channel_room_words, channel_words, frame_words, frames_words, load_words, longer_words, on_channels, room_words, span_words, these_ticks, wide_words};
 
 use crate::counts::noun;
-use crate::names::{message_name, node_name, source_name};
 use crate::slots::cap_most;
 use std::alloc::AllocError;
 use tt_infer::Facts;
@@ -36,7 +35,7 @@ pub fn put_load(text: &mut String, facts: &Facts, n: u32, a: u32, b: u32) -> Res
     requires { n < length facts.now.instance.nodes }
     ensures { OnOk result (string_bytes text.new ≡ string_bytes text.old ++ load_words facts.now.instance n a b) }
 {
-    put_longer(text, node_name(facts.instance(), n), a, b)?;
+    put_longer(text, facts.instance().node_name(n as usize), a, b)?;
     put_these_ticks(text, b.saturating_sub(a))
 }
 
@@ -63,8 +62,8 @@ pub fn put_frame(text: &mut String, facts: &Facts, m: u32) -> Result<(), AllocEr
     ensures { OnOk result (string_bytes text.new ≡ string_bytes text.old ++ frame_words facts.now.instance facts.now.choice m) }
 {
     let instance = facts.instance();
-    let name = message_name(instance, m);
-    let node = source_name(instance, m);
+    let name = instance.message_name(m as usize);
+    let node = instance.source_name(m as usize);
     let bytes = instance.message_at(m as usize).bytes;
     let most = cap_most(facts, instance.source_of(m as usize));
     put_wide(text, name, bytes, node, most)
@@ -82,7 +81,7 @@ fn put_span(
     requires { n < length instance.now.nodes }
     ensures { OnOk result (string_bytes text.new ≡ string_bytes text.old ++ span_words instance.now n a b) }
 {
-    let name = node_name(instance, n);
+    let name = instance.node_name(n as usize);
     write!(
         text,
         "  as what {name} has to send from round {a} on and before round {b}"

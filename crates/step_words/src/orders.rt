@@ -3,7 +3,6 @@
 ghost use Rattle.std.specs.Prelude.{◌≡◌, ◌++◌, ◌<◌, OnOk, length, string_bytes};
 ghost use Rattle.step_words.specs.Orders.{twin_order_words, window_order_words};
 
-use crate::names::process_name;
 use crate::times::least_end;
 use std::alloc::AllocError;
 use tt_infer::Facts;
@@ -16,8 +15,8 @@ pub fn put_window_order(text: &mut String, facts: &Facts, p: u32, q: u32) -> Res
     ensures { OnOk result (string_bytes text.new ≡ string_bytes text.old ++ window_order_words facts.now.instance facts.now.known p q) }
 {
     let instance = facts.instance();
-    let name = process_name(instance, p);
-    let other = process_name(instance, q);
+    let name = instance.process_name(p as usize);
+    let other = instance.process_name(q as usize);
     let other_end = least_end(facts, q);
     let wcet = instance.process_at(p as usize).wcet;
     let end = facts.le(p);
@@ -35,8 +34,8 @@ pub fn put_twin_order(text: &mut String, facts: &Facts, p: u32, q: u32) -> Resul
     ensures { OnOk result (string_bytes text.new ≡ string_bytes text.old ++ twin_order_words facts.now.instance p q) }
 {
     let instance = facts.instance();
-    let name = process_name(instance, p);
-    let other = process_name(instance, q);
+    let name = instance.process_name(p as usize);
+    let other = instance.process_name(q as usize);
     write!(
         text,
         "  as {name} and {other} are twins, which may be exchanged, "

@@ -3,7 +3,6 @@
 ghost use Rattle.std.specs.Prelude.{◌≡◌, ◌++◌, ◌<◌, OnOk, length, string_bytes};
 ghost use Rattle.step_words.specs.Rounds.{arrive_round_words, send_round_words};
 
-use crate::names::{message_name, process_name, source_name};
 use crate::times::least_ready;
 use std::alloc::AllocError;
 use tt_infer::Facts;
@@ -15,8 +14,8 @@ pub fn put_send_round(text: &mut String, facts: &Facts, m: u32) -> Result<(), Al
     ensures { OnOk result (string_bytes text.new ≡ string_bytes text.old ++ send_round_words facts.now.instance facts.now.known m) }
 {
     let instance = facts.instance();
-    let name = message_name(instance, m);
-    let node = source_name(instance, m);
+    let name = instance.message_name(m as usize);
+    let node = instance.source_name(m as usize);
     let ready = least_ready(facts, m);
     write!(
         text,
@@ -32,8 +31,8 @@ pub fn put_arrive_round(text: &mut String, facts: &Facts, m: u32, q: u32) -> Res
     ensures { OnOk result (string_bytes text.new ≡ string_bytes text.old ++ arrive_round_words facts.now.instance facts.now.known m q) }
 {
     let instance = facts.instance();
-    let receiver = process_name(instance, q);
-    let name = message_name(instance, m);
+    let receiver = instance.process_name(q as usize);
+    let name = instance.message_name(m as usize);
     let wcet = instance.process_at(q as usize).wcet;
     let end = facts.le(q);
     let copy_in = instance.cluster().copy_in;

@@ -3,7 +3,6 @@
 ghost use Rattle.std.specs.Prelude.{◌≡◌, ◌++◌, ◌<◌, OnOk, length, string_bytes};
 ghost use Rattle.step_words.specs.Starts.{arrive_words, before_start_words, link_start_words, message_start_words, release_words, sender_words, under_way_words};
 
-use crate::names::{message_name, process_name, sender_name, source_name};
 use crate::slots::{dur_least, end_least};
 use crate::times::least_end;
 use std::alloc::AllocError;
@@ -16,7 +15,7 @@ pub fn put_release(text: &mut String, facts: &Facts, p: u32) -> Result<(), Alloc
     ensures { OnOk result (string_bytes text.new ≡ string_bytes text.old ++ release_words facts.now.instance p) }
 {
     let instance = facts.instance();
-    let name = process_name(instance, p);
+    let name = instance.process_name(p as usize);
     let release = instance.process_at(p as usize).release;
     write!(text, "  as {name} is released at {release}, ")
 }
@@ -29,8 +28,8 @@ pub fn put_link_start(text: &mut String, facts: &Facts, l: u32) -> Result<(), Al
 {
     let instance = facts.instance();
     let link = instance.link_at(l as usize);
-    let before = process_name(instance, link.before);
-    let after = process_name(instance, link.after);
+    let before = instance.process_name(link.before as usize);
+    let after = instance.process_name(link.after as usize);
     let end = least_end(facts, link.before);
     write!(
         text,
@@ -46,8 +45,8 @@ pub fn put_before_start(text: &mut String, facts: &Facts, p: u32, q: u32) -> Res
     ensures { OnOk result (string_bytes text.new ≡ string_bytes text.old ++ before_start_words facts.now.instance facts.now.known p q) }
 {
     let instance = facts.instance();
-    let before = process_name(instance, p);
-    let after = process_name(instance, q);
+    let before = instance.process_name(p as usize);
+    let after = instance.process_name(q as usize);
     let end = least_end(facts, p);
     write!(
         text,
@@ -63,8 +62,8 @@ pub fn put_arrive(text: &mut String, facts: &Facts, m: u32) -> Result<(), AllocE
         ++ arrive_words facts.now.instance facts.now.choice facts.now.known m) }
 {
     let instance = facts.instance();
-    let name = message_name(instance, m);
-    let node = source_name(instance, m);
+    let name = instance.message_name(m as usize);
+    let node = instance.source_name(m as usize);
     let round = facts.lo(m);
     let end = end_least(facts, instance.source_of(m as usize), round);
     let copy_in = instance.cluster().copy_in;
@@ -81,7 +80,7 @@ pub fn put_under_way(text: &mut String, facts: &Facts, m: u32) -> Result<(), All
     ensures { OnOk result (string_bytes text.new ≡ string_bytes text.old ++ under_way_words facts.now.instance facts.now.choice m) }
 {
     let instance = facts.instance();
-    let name = message_name(instance, m);
+    let name = instance.message_name(m as usize);
     let duration = dur_least(facts, instance.source_of(m as usize));
     let (copy_out, copy_in) = (instance.cluster().copy_out, instance.cluster().copy_in);
     write!(
@@ -97,7 +96,7 @@ fn put_sender(text: &mut String, facts: &Facts, m: u32) -> Result<(), AllocError
     ensures { OnOk result (string_bytes text.new ≡ string_bytes text.old ++ sender_words facts.now.instance facts.now.known m) }
 {
     let instance = facts.instance();
-    let sender = sender_name(instance, m);
+    let sender = instance.sender_name(m as usize);
     let end = least_end(facts, instance.message_at(m as usize).sender);
     write!(text, "  as {sender} ends at {end} or later and ")
 }

@@ -4,7 +4,7 @@ use Rattle.ttp_model.specs.Chains.{least_transfer}
 use Rattle.ttp_model.specs.Instance.{Instance, source_of}
 use Rattle.plan_chain.specs.Lines.{span_text}
 use Rattle.process_words.specs.Counts.{ticks_words}
-use Rattle.process_words.specs.Names.{message_name, source_name}
+use Rattle.ttp_model.specs.Names.{source_name, message_name}
 use Rattle.path_words.specs.declared.chain.Cause.{Cause}
 use Rattle.path_words.specs.declared.chain.Cause.TheVariants.{Arrival}
 use Rattle.path_words.specs.declared.chain.ChainPart.{ChainPart}

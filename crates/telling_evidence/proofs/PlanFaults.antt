@@ -6,7 +6,7 @@ use Rattle.ttp_model.specs.Delays.{delay}
 use Rattle.ttp_model.specs.Instance.{Instance}
 use Rattle.ttp_model.specs.Plans.{load_on, round_of, sent_until}
 use Rattle.process_words.specs.Counts.{bytes_words}
-use Rattle.process_words.specs.Names.{message_name, node_name, process_name, source_name}
+use Rattle.ttp_model.specs.Names.{source_name, message_name, process_name, node_name}
 use Rattle.plan_words.specs.Delays.{IsDelayText, delay_words, own_words, stated_words}
 use Rattle.plan_words.specs.Faults.{fault_text}
 use Rattle.plan_words.specs.Frames.{content_text, full_frame_on_words, full_on_text, load_words}

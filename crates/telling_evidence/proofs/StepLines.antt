@@ -15,7 +15,7 @@ use Rattle.step_words.specs.Counts.{noun}
 use Rattle.step_words.specs.Conclusions.{conclusion_words, start_words}
 use Rattle.step_words.specs.Ends.{link_end_words}
 use Rattle.step_words.specs.Leaves.{TellsLeaf, goal_line, more_steps, more_steps_words}
-use Rattle.step_words.specs.Names.{process_name}
+use Rattle.ttp_model.specs.Names.{process_name}
 use Rattle.step_words.specs.Steps.{reason_words, told_step}
 
 -- behind why it is so and the name of the process both times are told

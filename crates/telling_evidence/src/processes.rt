@@ -3,7 +3,7 @@
 ghost use Rattle.std.specs.Prelude.{◌≡◌, ℕ, ◌<◌, List, ◌++◌, OnOk, codes, decimal, length, string_bytes};
 ghost use Rattle.ttp_model.specs.Instance.{link_at, process_at};
 ghost use Rattle.ttp_model.specs.Plans.{HasLengths, end_of, start_of};
-ghost use Rattle.process_words.specs.Names.{place_name, process_name};
+ghost use Rattle.ttp_model.specs.Names.{place_name, process_name};
 
 use process_words::{put_broken_link, put_late, put_overlap};
 use std::alloc::AllocError;

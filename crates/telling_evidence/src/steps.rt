@@ -9,7 +9,7 @@ ghost use Rattle.sought_plans.specs.Premises.{wcet_of};
 ghost use Rattle.tt_infer.specs.declared.fact.Fact.TheVariants.{Start};
 ghost use Rattle.tt_infer.specs.Leaves.{ClosesLeaf};
 ghost use Rattle.tt_infer.specs.Table.{IsLawful, target};
-ghost use Rattle.step_words.specs.Names.{process_name};
+ghost use Rattle.ttp_model.specs.Names.{process_name};
 
 use std::alloc::{AllocError, Global};
 use step_words::{put_leaf, put_step};

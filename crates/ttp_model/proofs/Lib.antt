@@ -10,6 +10,7 @@ pub mod KeyedNumbers
 pub mod Indices
 pub mod NetworkLists
 pub mod LinkLists
+pub mod Named
 pub mod ValidPlans
 pub mod Times
 pub mod PlanNumbers

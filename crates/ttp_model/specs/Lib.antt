@@ -3,6 +3,7 @@ pub mod Limits
 pub mod Totals
 pub mod Raising
 pub mod Instance
+pub mod Names
 pub mod Groups
 pub mod Network
 pub mod Graph
@@ -15,6 +16,7 @@ pub mod Turns
 pub mod Slots
 pub mod Plans
 pub mod Delays
+pub mod Answers
 pub mod Faults
 pub mod Chains
 pub mod Walks

@@ -4,6 +4,7 @@
 mod ends;
 mod error;
 mod fault;
+mod flags;
 mod frames;
 mod graph;
 mod groups;
@@ -12,6 +13,7 @@ mod laws;
 mod limits;
 mod links;
 mod name;
+mod naming;
 mod network;
 mod numbers;
 mod parts;
@@ -24,7 +26,8 @@ mod worked;
 pub use ends::{delay, end_of};
 pub use error::{MemoryFault, ModelError, Part, Place};
 pub use fault::{PlanFault, PlanPart};
-pub use frames::{bytes_in, bytes_on, is_on};
+pub use flags::{has_flag, put_flag};
+pub use frames::{bytes_in, bytes_on, is_in_frame_on, is_on};
 pub use instance::Instance;
 pub use laws::{
     delay_is_an_end, each_instance_has_a_path_bound, every_node_has_a_slot,
@@ -44,6 +47,6 @@ pub use plan::Plan;
 pub use slots::slot_duration;
 pub use step::{Kind, Leaf, Ring, Step, Steps};
 pub use worked::{
-    figures_of_one_message, moves_of_three_alike, path_bound_of_one_message,
+    figures_of_one_message, move_of_two_messages, moves_of_three_alike, path_bound_of_one_message,
     plan_of_one_message_is_valid, slots_of_one_message, where_moves_of_three_alike_lead,
 };

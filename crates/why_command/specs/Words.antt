@@ -2,7 +2,7 @@
 use Rattle.std.specs.Prelude.{ℕ, ◌<◌, ◌==◌, ◌++◌, if◌then◌else◌, List, [], ◌∷◌, All, Bool, true, false, Option, None, Some, codes, decimal, length}
 use Rattle.std.specs.List.{flat_map}
 use Rattle.ttp_model.specs.Instance.{Instance, link_at, process_at}
-use Rattle.process_words.specs.Names.{message_name, process_name}
+use Rattle.ttp_model.specs.Names.{message_name, process_name}
 use Rattle.kept_constraints.specs.declared.constraints.Constraint.{Constraint}
 use Rattle.kept_constraints.specs.declared.constraints.Constraint.TheVariants as one
 use Rattle.conflicts.specs.declared.conflict.Need.{Need}

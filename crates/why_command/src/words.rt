@@ -8,7 +8,6 @@ use conflicts::{Conflict, Need};
 use kept_constraints::Constraint;
 use lateness::Lateness;
 use line_text::push_number;
-use process_words::{message_name, process_name};
 use std::alloc::{AllocError, Global};
 use ttp_model::Instance;
 
@@ -34,7 +33,7 @@ fn push_deadline(text: &mut Vec<u8>, instance: &Instance, p: usize) -> Result<()
     ensures { OnOk result (text.new.items ≡ text.old.items ++ deadline_words instance.now p) }
 {
     let deadline = instance.process_at(p).deadline;
-    push_ticks(text, b"deadline ", process_name(instance, p), deadline)
+    push_ticks(text, b"deadline ", instance.process_name(p), deadline)
 }
 
 fn push_release(text: &mut Vec<u8>, instance: &Instance, p: usize) -> Result<(), AllocError>
@@ -42,7 +41,7 @@ fn push_release(text: &mut Vec<u8>, instance: &Instance, p: usize) -> Result<(),
     ensures { OnOk result (text.new.items ≡ text.old.items ++ release_words instance.now p) }
 {
     let release = instance.process_at(p).release;
-    push_ticks(text, b"release ", process_name(instance, p), release)
+    push_ticks(text, b"release ", instance.process_name(p), release)
 }
 
 fn push_link(text: &mut Vec<u8>, instance: &Instance, l: usize) -> Result<(), AllocError>
@@ -51,9 +50,9 @@ fn push_link(text: &mut Vec<u8>, instance: &Instance, l: usize) -> Result<(), Al
 {
     let link = instance.link_at(l);
     text.extend_from_slice(b"link ")?;
-    text.extend_from_slice(process_name(instance, link.before as usize).as_bytes())?;
+    text.extend_from_slice(instance.process_name(link.before as usize).as_bytes())?;
     text.extend_from_slice(b" ")?;
-    text.extend_from_slice(process_name(instance, link.after as usize).as_bytes())
+    text.extend_from_slice(instance.process_name(link.after as usize).as_bytes())
 }
 
 fn push_message(text: &mut Vec<u8>, instance: &Instance, m: usize) -> Result<(), AllocError>
@@ -61,7 +60,7 @@ fn push_message(text: &mut Vec<u8>, instance: &Instance, m: usize) -> Result<(),
     ensures { OnOk result (text.new.items ≡ text.old.items ++ message_words instance.now m) }
 {
     text.extend_from_slice(b"message ")?;
-    text.extend_from_slice(message_name(instance, m).as_bytes())
+    text.extend_from_slice(instance.message_name(m).as_bytes())
 }
 
 fn push_both(text: &mut Vec<u8>, instance: &Instance, m: usize) -> Result<(), AllocError>
@@ -69,7 +68,7 @@ fn push_both(text: &mut Vec<u8>, instance: &Instance, m: usize) -> Result<(), Al
     ensures { OnOk result (text.new.items ≡ text.old.items ++ both_words instance.now m) }
 {
     text.extend_from_slice(b"both ")?;
-    text.extend_from_slice(message_name(instance, m).as_bytes())
+    text.extend_from_slice(instance.message_name(m).as_bytes())
 }
 
 /// Adds the words for a constraint.

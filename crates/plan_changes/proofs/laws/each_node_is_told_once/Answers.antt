@@ -1,5 +1,5 @@
 use Rattle.ttp_model.specs.declared.error.Part.TheVariants.{Nodes}
-use Rattle.plan_format.specs.Names.{names_in}
+use Rattle.ttp_model.specs.Names.{names_in}
 use Rattle.plan_changes.proofs.Once.{either-from, either-has, either-once}
 use Rattle.plan_changes.proofs.laws.each_node_is_told_once.Goals as goal
 

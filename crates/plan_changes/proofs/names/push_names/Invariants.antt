@@ -1,5 +1,5 @@
 use Rattle.std.proofs.Common.{◌≡◌, ◌++◌, map, take}
-use Rattle.plan_format.specs.Names.{names_in}
+use Rattle.ttp_model.specs.Names.{names_in}
 use Rattle.plan_changes.proofs.names.push_names.Given as goal
 
 abbrev pub invariant-loop-k : goal.invariant-loop-k

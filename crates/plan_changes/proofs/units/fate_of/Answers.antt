@@ -7,12 +7,12 @@ pub returns-then-branch : goal.returns-then-branch
 unfolding fate_of
 returns-then-branch c =
     let before = rw c.instance.ensures.value at c.in-Some.ensures.value in
-    let after = rw c.instance-2.ensures.value at c.in-Some-place_of.ensures.value in
+    let after = rw c.instance-2.ensures.value at c.in-Some-index_named.ensures.value in
     sym (fate_at-both c.args.old.now c.args.new.now _ _ _ _ true before after (sym c.if-branch.true ∙ c.in_ok-are_loaded_alike.ensures))
 
 pub returns-else-branch : goal.returns-else-branch
 unfolding fate_of
 returns-else-branch c =
     let before = rw c.instance.ensures.value at c.in-Some.ensures.value in
-    let after = rw c.instance-2.ensures.value at c.in-Some-place_of.ensures.value in
+    let after = rw c.instance-2.ensures.value at c.in-Some-index_named.ensures.value in
     sym (fate_at-both c.args.old.now c.args.new.now _ _ _ _ false before after (sym c.if-branch.false ∙ c.in_ok-are_loaded_alike.ensures))

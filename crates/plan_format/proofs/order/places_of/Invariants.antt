@@ -1,6 +1,6 @@
 use Rattle.std.proofs.Common.{◌≡◌, length}
 use Rattle.ttp_model.specs.declared.error.Part.TheVariants.{Nodes}
-use Rattle.plan_format.specs.Names.{names_in}
+use Rattle.ttp_model.specs.Names.{names_in}
 use Rattle.plan_format.specs.Reading.{places, words_of}
 use Rattle.plan_format.proofs.WordLoop.{before}
 use Rattle.plan_format.proofs.order.places_of.Given as goal

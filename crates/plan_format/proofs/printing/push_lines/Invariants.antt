@@ -1,5 +1,6 @@
 use Rattle.std.proofs.Common.{◌≡◌, ◌++◌, drop}
-use Rattle.plan_format.specs.Names.{names_in, part_of}
+use Rattle.plan_format.specs.Names.{part_of}
+use Rattle.ttp_model.specs.Names.{names_in}
 use Rattle.plan_format.specs.Spelling.{numbered}
 use Rattle.plan_format.proofs.printing.push_lines.Given as goal
 

@@ -1,4 +1,5 @@
-use Rattle.plan_format.specs.Names.{names_in, part_of}
+use Rattle.plan_format.specs.Names.{part_of}
+use Rattle.ttp_model.specs.Names.{names_in}
 use Rattle.plan_format.proofs.NumberLoop.{IsReadSoFar}
 use Rattle.plan_format.proofs.reading.numbers_of.Given as goal
 

@@ -3,7 +3,7 @@ use Rattle.std.specs.Prelude.{codes, if◌then◌else◌}
 use Rattle.ttp_model.specs.declared.error.Part.TheVariants.{Messages}
 use Rattle.ttp_model.specs.Instance.{no_message, no_node, no_process}
 use Rattle.plan_format.specs.Channels.{has_two_channels}
-use Rattle.plan_format.specs.Names.{names_in}
+use Rattle.ttp_model.specs.Names.{names_in}
 use Rattle.plan_format.specs.Reading.{channels_line, end_line}
 use Rattle.plan_text_words.specs.Forms.{capacity_form, channel_form, channel_forms, round_form, round_forms, start_form, start_forms}
 use Rattle.plan_text_words.proofs.FormLines.{behind, behind_rounds, here, last_form, later}

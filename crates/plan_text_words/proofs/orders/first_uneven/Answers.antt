@@ -2,6 +2,7 @@ use Rattle.std.proofs.Common.{◌≡◌, ◌∙◌, ◌≢◌, ℕ, ◌<◌, ◌
 use Rattle.std.specs.Prelude.{◌==◌}
 use Rattle.std.proofs.lemmas.Bool.{ne_eqb}
 use Rattle.plan_text_words.specs.Orders.{times_named}
+use Rattle.ttp_model.proofs.Named.{node_name_is}
 use Rattle.plan_text_words.proofs.Words.{node_absent, node_found, one_more}
 use Rattle.plan_text_words.proofs.orders.first_uneven.Goals as goal
 
@@ -19,12 +20,12 @@ pub returns-then-times_named-ne1-clause-value : goal.returns-then-times_named-ne
 returns-then-times_named-ne1-clause-value c =
     let inside : c.loop-n.n < length c.args.instance.now.nodes = rw c.nodes-n-end.ensures.value at c.loop-n-test.true in
     node_found c.args.instance.now (uneven c.args.line.now) c.loop-n.n c.loop-n.invariant c.as_bytes.result.now inside
-    (c.as_bytes.ensures.value ∙ c.node_name.ensures) (passes c.args.line.now c.as_bytes.result.now _ c.times_named.ensures c.if-times_named-ne1.true)
+    (c.as_bytes.ensures.value ∙ (c.node_name.ensures ∙ node_name_is c.args.instance.now c.loop-n.n)) (passes c.args.line.now c.as_bytes.result.now _ c.times_named.ensures c.if-times_named-ne1.true)
 
 pub loop-n-preserved : goal.loop-n-preserved
 loop-n-preserved c =
     one_more c.args.instance.now (uneven c.args.line.now) c.loop-n.n c.loop-n.invariant c.as_bytes.result.now
-    (c.as_bytes.ensures.value ∙ c.node_name.ensures) (fails c.args.line.now c.as_bytes.result.now _ c.times_named.ensures c.if-times_named-ne1.false)
+    (c.as_bytes.ensures.value ∙ (c.node_name.ensures ∙ node_name_is c.args.instance.now c.loop-n.n)) (fails c.args.line.now c.as_bytes.result.now _ c.times_named.ensures c.if-times_named-ne1.false)
 
 pub returns-clause-value : goal.returns-clause-value
 returns-clause-value c =

@@ -1,7 +1,7 @@
 use Rattle.std.proofs.Common.{◌≡◌, ℕ, ◌<◌, [], get_or, false, not}
 use Rattle.std.specs.Prelude.{◌==◌}
 use Rattle.ttp_model.specs.declared.error.Part.TheVariants.{Nodes}
-use Rattle.plan_format.specs.Names.{names_in}
+use Rattle.ttp_model.specs.Names.{names_in}
 use Rattle.plan_text_words.specs.Orders.{times_named}
 use Rattle.plan_text_words.proofs.orders.first_uneven.Given as goal
 

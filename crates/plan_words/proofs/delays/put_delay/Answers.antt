@@ -5,7 +5,7 @@ use Rattle.ttp_model.specs.Delays.{delay}
 use Rattle.ttp_model.specs.Instance.{Instance}
 use Rattle.plan_chain.specs.Chain.{IsLastToEnd}
 use Rattle.process_words.specs.Counts.{apart, side_words}
-use Rattle.process_words.specs.Names.{place_name, process_name}
+use Rattle.ttp_model.specs.Names.{place_name, process_name}
 use Rattle.plan_words.specs.Delays.{IsDelayText, delay_words}
 use Rattle.plan_words.specs.Gains.{Gains}
 use Rattle.plan_words.proofs.delays.put_delay.Goals as goal
