@@ -9,11 +9,11 @@ use Rattle.model_evidence.proofs.names.index_of_the_first_name.Goals as goal
 
 pub name_in-name-requires : goal.name_in-name-requires
 name_in-name-requires c =
-    omega (arith, c.processes-_processes.ensures.instance.limits.processes_least, length-map c.args.instance.now.processes (λ p. p.name))
+    omega (arith, c.processes-processes.ensures.instance.limits.processes_least, length-map c.args.instance.now.processes (λ p. p.name))
 
 pub returns : goal.returns
 returns c =
     let names = names_in c.args.instance.now Processes in
-    let some : 0 < length names = omega (arith, c.processes-_processes.ensures.instance.limits.processes_least, length-map c.args.instance.now.processes (λ p. p.name)) in
+    let some : 0 < length names = omega (arith, c.processes-processes.ensures.instance.limits.processes_least, length-map c.args.instance.now.processes (λ p. p.name)) in
     let same = (bytes_eq-Decides (get_or names 0 []) (get_or names 0 [])).1 refl in
     c.index_named.ensures.value ∙ (rw c.name_in-name.ensures (found_at (λ n. bytes_eq n (get_or names 0 [])) names 0 some (λ j below. absurd (omega (arith, below))) same))
