@@ -1,0 +1,5 @@
+pub mod Starting
+pub mod Rooms
+pub mod Listed
+pub mod Filters
+pub mod Silent

@@ -1,0 +1,6 @@
+pub mod Messages
+pub mod Earliest
+pub mod Frames
+pub mod Ends
+pub use Rattle.tt_layout.specs.Layout
+pub use Rattle.tt_moves.specs.Earlier
