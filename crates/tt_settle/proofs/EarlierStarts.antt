@@ -5,55 +5,34 @@ use Rattle.std.proofs.lemmas.List.Sums.{sum_by-set}
 use Rattle.std.proofs.lemmas.Grind.{common_steps}
 use Rattle.ttp_model.specs.declared.plan.Plan.{Plan}
 use Rattle.ttp_model.specs.declared.error.Place.TheVariants.{AtProcess}
-use Rattle.ttp_model.specs.Instance.{Instance, process_at, message_at, link_at, node_of}
+use Rattle.ttp_model.specs.Instance.{Instance, process_at, message_at, node_of}
 use Rattle.ttp_model.specs.Rules.{IsInstance}
-use Rattle.ttp_model.specs.Plans.{IsValid, start_of, end_of}
+use Rattle.ttp_model.specs.Plans.{EndsBefore, IsValid, start_of, end_of}
 use Rattle.ttp_model.specs.Moves.{StartsEarlier, MovesLead, none, one_more, started}
 use Rattle.ttp_model.proofs.ValidPlans.{two_apart}
 use Rattle.ttp_model.proofs.Delays.{by_starts}
 use Rattle.tt_moves.specs.Earlier.{CanStart}
 use Rattle.tt_moves.proofs.EarlierStarts.{started_valid, starts_le}
+use Rattle.plan_facts.specs.Earliest.{IsFirstStart}
+use Rattle.plan_facts.specs.Messages.{Receives, arrival}
+use Rattle.plan_facts.proofs.Starting.{can_start_later, can_start_now}
 use Rattle.tt_settle.specs.Settling.{IsBetter, RestsAtStart}
-use Rattle.tt_settle.specs.Reasons.{IsWait, LeadsTo, arrival, link_end}
-use Rattle.ttp_model.specs.Graph.{Receives}
 
 set_twice : (xs : List ℕ) (p a b : ℕ) → slice_set (slice_set xs p a) p b ≡ slice_set xs p b
 set_twice [] p a b = refl
 set_twice (x ∷ xs) zero a b = refl
 set_twice (x ∷ xs) (suc p) a b = ap (λ ys. x ∷ ys) (set_twice xs p a b)
 
-module _ (i : Instance) (plan : Plan) (p time : ℕ) (w : IsInstance i) (v : IsValid i plan) (hp : p < length i.processes) (wait : IsWait i plan p time) where
+module _ (i : Instance) (plan : Plan) (p time : ℕ) (w : IsInstance i) (v : IsValid i plan) (hp : p < length i.processes) (first : IsFirstStart i plan p time) where
   p_takes : 1 ≤ (process_at i p).wcet
   p_takes = (w.ranges (AtProcess p) hp).wcet_least
 
   -- what p waits for is over when it starts in the plan
-  linked_over : wait.linked ≤ start_of plan p
-  linked_over = elim wait.links.met [
-    | inl is ↦ omega (arith, is, wait.release_is, v.released p hp)
-    | inr is ↦ omega (arith, is.2.1, v.links is.0 is.1, ap (start_of plan) is.2.0)
-  ]
-
-  arrived_over : wait.arrived ≤ start_of plan p
-  arrived_over = elim wait.messages.met [
-    | inl is ↦ omega (arith, is, linked_over)
-    | inr is ↦
-        let place = is.2.0 in
-        let at : slice_index (message_at i is.0).receivers place.0 ≡ p = grind (arith, common_steps, place.2) in
-        omega (arith, is.2.1, v.arrived is.0 is.1 place.0 place.1, ap (start_of plan) at)
-  ]
-
   over : time ≤ start_of plan p
-  over = elim wait.others.met [
-    | inl is ↦ omega (arith, is, arrived_over)
-    | inr is ↦ omega (arith, is.2.1, is.2.0.1)
-  ]
+  over = first.least (start_of plan p) (can_start_now i plan p v hp)
 
   can_start : (late : ℕ) → time ≤ late → CanStart i plan p late
-  can_start late after = record {
-    released = omega (arith, wait.release_is, wait.links.least, wait.messages.least, wait.others.least, after);
-    others = λ x h node first. omega (arith, wait.others.each x h (node, first), after);
-    messages = λ m h receives. omega (arith, wait.messages.each m h receives, wait.others.least, after);
-  }
+  can_start late after = can_start_later i plan p time late first.can after
 
   -- a tick earlier and a tick earlier again
   tick : (late : ℕ) → time ≤ late → late < start_of plan p → StartsEarlier i (started plan p (late + 1)) (started plan p late)
@@ -89,8 +68,8 @@ module _ (i : Instance) (plan : Plan) (p time : ℕ) (w : IsInstance i) (v : IsV
     lighter = inl (omega (arith, sooner, sum_by-set (λ x. x) plan.starts p time 0 (omega (arith, hp, v.lengths.starts))));
   }
 
-  -- a process that starts no later than that can't start earlier
-  module _ (late : start_of plan p ≤ time) (above : 0 < start_of plan p) (v' : IsValid i (started plan p (start_of plan p - 1))) where
+  -- where the plan is valid with a start a tick earlier, all is over by then
+  module _ (above : 0 < start_of plan p) (v' : IsValid i (started plan p (start_of plan p - 1))) where
     moved : Plan
     moved = started plan p (start_of plan p - 1)
 
@@ -102,50 +81,27 @@ module _ (i : Instance) (plan : Plan) (p time : ℕ) (w : IsInstance i) (v : IsV
     unfolding moved
     rest q other = get_or-set_other plan.starts p q (start_of plan p - 1) 0 other
 
-    by_link : (l : ℕ) → l < length i.links → LeadsTo i p l → link_end i plan l ≡ start_of plan p → ⊥
+    released_by : (process_at i p).release ≤ start_of plan p - 1
     unfolding moved
-    by_link l h leads ends =
-        let other : (link_at i l).before ≢ p = λ is. (w.links l h).two (is ∙ sym leads) in
-        omega (arith, v'.links l h, ends, now, rest (link_at i l).before other, ap (start_of moved) leads, above)
+    released_by = omega (arith, v'.released p hp, now)
 
-    by_message : (m : ℕ) → m < length i.messages → Receives i p m → arrival i plan m ≡ start_of plan p → ⊥
+    others_by : (q : ℕ) → q < length i.processes → node_of i q ≡ node_of i p → EndsBefore i plan q p → end_of i plan q ≤ start_of plan p - 1
     unfolding moved
-    by_message m h place arrives =
-        let at : slice_index (message_at i m).receivers place.0 ≡ p = grind (arith, common_steps, place.2) in
-        omega (arith, v'.arrived m h place.0 place.1, arrives, now, ap (start_of moved) at, above)
-
-    by_other : (q : ℕ) → q < length i.processes → node_of i q ≡ node_of i p → end_of i plan q ≡ start_of plan p → ⊥
-    unfolding moved
-    by_other q h node ends =
+    others_by q h node ends =
         let other : q ≢ p = λ is. omega (arith, ends, ap (end_of i plan) is, p_takes) in
         elim (two_apart i moved q p v' h hp other node) [
-          | inl before ↦ omega (arith, before, ends, now, rest q other, above)
+          | inl before ↦ omega (arith, before, now, rest q other)
           | inr after ↦ omega (arith, after, ends, now, rest q other, above, p_takes, (w.ranges (AtProcess q) h).wcet_least)
         ]
 
-    by_release : (process_at i p).release ≡ start_of plan p → ⊥
+    there_by : (m : ℕ) → m < length i.messages → Receives i p m → arrival i plan m ≤ start_of plan p - 1
     unfolding moved
-    by_release is = omega (arith, v'.released p hp, is, now, above)
+    there_by m h place =
+        let at : slice_index (message_at i m).receivers place.0 ≡ p = grind (arith, common_steps, place.2) in
+        omega (arith, v'.arrived m h place.0 place.1, now, ap (start_of moved) at)
 
-    by_linked : wait.linked ≡ start_of plan p → ⊥
-    by_linked same = elim wait.links.met [
-      | inl is ↦ by_release (sym wait.release_is ∙ sym is ∙ same)
-      | inr is ↦ by_link is.0 is.1 is.2.0 (is.2.1 ∙ same)
-    ]
-
-    by_arrived : wait.arrived ≡ start_of plan p → ⊥
-    by_arrived same = elim wait.messages.met [
-      | inl is ↦ by_linked (sym is ∙ same)
-      | inr is ↦ by_message is.0 is.1 is.2.0 (is.2.1 ∙ same)
-    ]
-
-    no_earlier : ⊥
-    no_earlier =
-        let same : time ≡ start_of plan p = omega (arith, over, late) in
-        elim wait.others.met [
-          | inl is ↦ by_arrived (sym is ∙ same)
-          | inr is ↦ by_other is.0 is.1 is.2.0.0 (is.2.1 ∙ same)
-        ]
+    could_start : CanStart i plan p (start_of plan p - 1)
+    could_start = record { released = released_by; others = others_by; messages = there_by }
 
   pub rests_at_start : start_of plan p ≤ time → RestsAtStart i plan p
-  rests_at_start late above v' = no_earlier late above v'
+  rests_at_start late above v' = omega (arith, first.least (start_of plan p - 1) (could_start above v'), late, above)

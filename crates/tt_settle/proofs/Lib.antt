@@ -4,6 +4,5 @@ pub mod EarlierStarts
 pub mod EarlierRounds
 pub mod Swapping
 pub mod Passing
-pub mod Listed
 pub mod Turning
 pub mod Exchanging

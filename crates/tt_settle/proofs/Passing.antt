@@ -8,7 +8,7 @@ use Rattle.ttp_model.specs.Rules.{IsInstance}
 use Rattle.ttp_model.specs.Plans.{IsValid, start_of}
 use Rattle.ttp_model.proofs.PlanNumbers.{start_below_horizon, sender_inside}
 use Rattle.tt_settle.specs.Settling.{RestsBefore, RestsInTime, RestsWithMessages}
-use Rattle.tt_settle.specs.Reasons.{IsNextStart}
+use Rattle.tt_settle.specs.Settling.{IsNextStart}
 
 -- one more start is seen
 pub next_more : (starts : List ℕ) (from k time start : ℕ) → start ≡ slice_index starts k → IsNextStart starts from k time → IsNextStart starts from (k + 1) (min time start)

@@ -1,5 +1,5 @@
 -- What settling a plan reaches, kind of move by kind of move (our own profile).
-use Rattle.std.specs.Prelude.{◌≡◌, ℕ, ◌-◌, ◌<◌, ◌≤◌, Bool, IsTrue, IsFalse, length}
+use Rattle.std.specs.Prelude.{◌≡◌, ℕ, ◌-◌, ◌<◌, ◌≤◌, Bool, IsTrue, IsFalse, List, length, slice_index}
 use Rattle.ttp_model.specs.declared.plan.Plan.{Plan}
 use Rattle.ttp_model.specs.Lists.{EachBelow}
 use Rattle.ttp_model.specs.Instance.{Instance, message_at}
@@ -66,3 +66,7 @@ pub record IsTried (i : Instance) (plan : Plan) (Rests : Plan → Type 0) (next 
   pub better : IsTrue moved → IsBetter i plan next
   pub same : IsFalse moved → next ≡ plan
   pub rests : IsFalse moved → Rests plan
+
+-- a time is no later than each of the first starts of a list that is no earlier than another
+abbrev pub IsNextStart : List ℕ → ℕ → ℕ → ℕ → Type 0
+IsNextStart starts from count time = EachBelow count (λ k. from ≤ slice_index starts k → time ≤ slice_index starts k)

@@ -6,8 +6,7 @@ ghost use Rattle.ttp_model.specs.Lists.{EachBelow};
 ghost use Rattle.ttp_model.specs.Instance.{message_at};
 ghost use Rattle.ttp_model.specs.Rules.{IsInstance};
 ghost use Rattle.ttp_model.specs.Plans.{IsValid, start_of};
-ghost use Rattle.tt_settle.specs.Settling.{IsTried, RestsInRound, RestsInTime, RestsWithMessages};
-ghost use Rattle.tt_settle.specs.Reasons.{IsNextStart};
+ghost use Rattle.tt_settle.specs.Settling.{IsNextStart, IsTried, RestsInRound, RestsInTime, RestsWithMessages};
 
 use crate::rounds::send_one;
 use crate::starts::start_one;

@@ -3,7 +3,7 @@ use Rattle.ttp_model.specs.declared.parts.Cluster.{Cluster}
 use Rattle.ttp_model.specs.Lists.{EachBelow}
 use Rattle.ttp_model.specs.Plans.{start_of}
 use Rattle.tt_settle.specs.Settling.{RestsBefore, RestsInTime, RestsWithMessages}
-use Rattle.tt_settle.specs.Reasons.{IsNextStart}
+use Rattle.tt_settle.specs.Settling.{IsNextStart}
 use Rattle.tt_settle.proofs.Trying.{tried_as, tried_then, tried_valid}
 use Rattle.tt_settle.proofs.Passing.{rests_next, rests_all}
 use Rattle.tt_settle.proofs.passes.go_earlier.Goals as goal

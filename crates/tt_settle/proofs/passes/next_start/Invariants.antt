@@ -1,5 +1,5 @@
 use Rattle.std.proofs.Common.{◌≤◌}
-use Rattle.tt_settle.specs.Reasons.{IsNextStart}
+use Rattle.tt_settle.specs.Settling.{IsNextStart}
 use Rattle.tt_settle.proofs.passes.next_start.Given as goal
 
 abbrev pub invariant-loop-k : goal.invariant-loop-k
