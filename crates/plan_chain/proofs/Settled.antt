@@ -8,6 +8,7 @@ use Rattle.ttp_model.specs.Moves.{IsSettled, SendsEarlier, StartsEarlier, sent, 
 use Rattle.tt_moves.specs.Earlier.{CanBeSent, CanStart}
 use Rattle.tt_moves.proofs.EarlierRounds.{sent_valid}
 use Rattle.tt_moves.proofs.EarlierStarts.{started_valid}
+use Rattle.plan_facts.proofs.Starting.{can_start_later}
 use Rattle.plan_chain.specs.declared.chain.ChainLink.{ChainLink}
 use Rattle.plan_chain.specs.declared.chain.ChainLink.TheVariants.{Run, Sending}
 use Rattle.plan_chain.specs.declared.chain.RoundCause.TheVariants.{CouldGo, First, Full}
@@ -15,16 +16,9 @@ use Rattle.plan_chain.specs.declared.chain.StartCause.TheVariants.{Arrival, Behi
 use Rattle.plan_chain.specs.Chain.{IsLinkOf, StartsAtRelease, held_by}
 
 module _ (i : Instance) (plan : Plan) (w : IsInstance i) (s : IsSettled i plan) where
-  can_start_later : (p time late : ℕ) → CanStart i plan p time → time ≤ late → CanStart i plan p late
-  can_start_later p time late can after = record {
-    released = omega (arith, can.released, after);
-    others = λ x inside node ends. omega (arith, can.others x inside node ends, after);
-    messages = λ m inside receives. omega (arith, can.messages m inside receives, after);
-  }
-
   starts_no_earlier : (p time : ℕ) → p < length i.processes → time < start_of plan p → CanStart i plan p time → ⊥
   starts_no_earlier p time inside sooner can =
-      let by : CanStart i plan p (start_of plan p - 1) = can_start_later p time (start_of plan p - 1) can (omega (arith, sooner)) in
+      let by : CanStart i plan p (start_of plan p - 1) = can_start_later i plan p time (start_of plan p - 1) can (omega (arith, sooner)) in
       let move : StartsEarlier i plan (started plan p (start_of plan p - 1)) = record {
         process = p;
         is_there = inside;
@@ -46,4 +40,4 @@ module _ (i : Instance) (plan : Plan) (w : IsInstance i) (s : IsSettled i plan) 
   released (Run p from until (CouldStart time)) is none = absurd (starts_no_earlier p time is.is_there is.for_cause.0 is.for_cause.1.can)
   released (Sending m from until First) is none = absurd (cc)
   released (Sending m from until (Full first)) is none = absurd (cc)
-  released (Sending m from until (CouldGo r)) is none = goes_no_earlier m r is.is_there is.for_cause.0 is.for_cause.1
+  released (Sending m from until (CouldGo r)) is none = goes_no_earlier m r is.is_there is.for_cause.0 is.for_cause.1.can

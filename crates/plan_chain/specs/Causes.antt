@@ -1,11 +1,11 @@
 -- Why a process of a plan starts when it does, and why a message is sent in its round. Own profile.
-use Rattle.std.specs.Prelude.{◌≡◌, ◌≢◌, ℕ, ◌+◌, ◌<◌, ◌≤◌, Contains, Option, None, Some, length}
+use Rattle.std.specs.Prelude.{◌≡◌, ◌≢◌, ℕ, ◌<◌, Option, None, Some, length}
 use Rattle.ttp_model.specs.declared.plan.Plan.{Plan}
-use Rattle.ttp_model.specs.Instance.{Instance, link_at, message_at, node_of, process_at, source_of}
+use Rattle.ttp_model.specs.Instance.{Instance, link_at, node_of, process_at}
 use Rattle.ttp_model.specs.Lists.{EachBelow}
-use Rattle.ttp_model.specs.Plans.{end_of, round_of, sent_until, start_of}
-use Rattle.tt_layout.specs.Layout.{IsFirstRound, timing}
-use Rattle.tt_moves.specs.Earlier.{CanBeSent, CanStart}
+use Rattle.ttp_model.specs.Plans.{end_of, round_of, start_of}
+use Rattle.plan_facts.specs.Earliest.{CanBeSentFrom, IsFirstRoom, IsFirstStart}
+use Rattle.plan_facts.specs.Messages.{IsFirstInTime, Receives, arrival}
 use Rattle.plan_chain.specs.declared.chain.RoundCause.{RoundCause}
 use Rattle.plan_chain.specs.declared.chain.RoundCause.TheVariants.{CouldGo, First, Full}
 use Rattle.plan_chain.specs.declared.chain.StartCause.{StartCause}
@@ -22,14 +22,6 @@ abbrev pub Finds : ℕ → (ℕ → Type 0) → Option ℕ → Type 0
 Finds n P None = EachBelow n (λ k. ¬ P k)
 Finds n P (Some k) = IsFirst n P k
 
--- when message m has been copied out
-abbrev pub ready_at : Instance → Plan → ℕ → ℕ
-ready_at i plan m = end_of i plan (message_at i m).sender + i.cluster.copy_out
-
--- when it has been copied in
-abbrev pub arrival : Instance → Plan → ℕ → ℕ
-arrival i plan m = sent_until i plan m + i.cluster.copy_in
-
 -- link l leads to process p from one that ends when p starts
 abbrev pub LinkHolds : Instance → Plan → ℕ → ℕ → Type 0
 LinkHolds i plan p l = ((link_at i l).after ≡ p) × (end_of i plan (link_at i l).before ≡ start_of plan p)
@@ -40,12 +32,7 @@ ProcessHolds i plan p q = (node_of i q ≡ node_of i p) × (end_of i plan q ≡ 
 
 -- message m to p is there when p starts
 abbrev pub MessageHolds : Instance → Plan → ℕ → ℕ → Type 0
-MessageHolds i plan p m = Contains (message_at i m).receivers p × (arrival i plan m ≡ start_of plan p)
-
--- this is the first tick by which all is over that p waits for
-pub record IsFirstStart (i : Instance) (plan : Plan) (p time : ℕ) : Type 0 where
-  pub can : CanStart i plan p time
-  pub least : (other : ℕ) → CanStart i plan p other → time ≤ other
+MessageHolds i plan p m = Receives i p m × (arrival i plan m ≡ start_of plan p)
 
 -- What holds process p back, at its start: its release, else a link, else a process of its node, else a message. A link joins
 -- processes of one node, so it is told before them. Where nothing does, p could start at the tick that is told.
@@ -58,17 +45,9 @@ IsStartCause i plan p (Arrival m) =
     ((process_at i p).release ≢ start_of plan p) × Finds (length i.processes) (ProcessHolds i plan p) None × IsFirst (length i.messages) (MessageHolds i plan p) m
 IsStartCause i plan p (CouldStart time) = (time < start_of plan p) × IsFirstStart i plan p time
 
--- this is the first round whose slot begins once message m is ready
-abbrev pub IsFirstInTime : Instance → Plan → ℕ → ℕ → Type 0
-IsFirstInTime i plan m r = IsFirstRound (timing i.cluster plan.order plan.caps) (source_of i m) (ready_at i plan m) r
-
--- in each round before this one the slot of message m begins too early, or the frame is too full for it on its channels
-abbrev pub CanBeSentFrom : Instance → Plan → ℕ → ℕ → Type 0
-CanBeSentFrom i plan m r = (other : ℕ) → CanBeSent i plan m other → r ≤ other
-
 -- What holds message m back, in its round: it is the first in time, or those from the first in time on are too full for it. Where
 -- nothing does, m could be sent in the round that is told.
 abbrev pub IsRoundCause : Instance → Plan → ℕ → RoundCause → Type 0
 IsRoundCause i plan m First = IsFirstInTime i plan m (round_of plan m)
 IsRoundCause i plan m (Full first) = IsFirstInTime i plan m first × (first < round_of plan m) × CanBeSentFrom i plan m (round_of plan m)
-IsRoundCause i plan m (CouldGo r) = (r < round_of plan m) × CanBeSent i plan m r × CanBeSentFrom i plan m r
+IsRoundCause i plan m (CouldGo r) = (r < round_of plan m) × IsFirstRoom i plan m r

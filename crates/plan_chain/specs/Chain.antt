@@ -4,6 +4,7 @@ use Rattle.ttp_model.specs.declared.plan.Plan.{Plan}
 use Rattle.ttp_model.specs.Instance.{Instance, link_at, message_at, process_at}
 use Rattle.ttp_model.specs.Plans.{end_of, round_of, sent_from, sent_until, start_of}
 use Rattle.ttp_model.specs.Delays.{delay}
+use Rattle.plan_facts.specs.Earliest.{CanBeSentFrom}
 use Rattle.plan_chain.specs.declared.chain.ChainLink.{ChainLink}
 use Rattle.plan_chain.specs.declared.chain.ChainLink.TheVariants.{Run, Sending}
 use Rattle.plan_chain.specs.declared.chain.RoundCause.{RoundCause}
@@ -12,7 +13,7 @@ use Rattle.plan_chain.specs.declared.chain.StartCause.{StartCause}
 use Rattle.plan_chain.specs.declared.chain.StartCause.TheVariants.{Arrival, Behind, CouldStart, Link, Release}
 use Rattle.plan_chain.specs.declared.chain.Subject.{Subject}
 use Rattle.plan_chain.specs.declared.chain.Subject.TheVariants.{Message, Process}
-use Rattle.plan_chain.specs.Causes.{CanBeSentFrom, IsFirst, IsRoundCause, IsStartCause}
+use Rattle.plan_chain.specs.Causes.{IsFirst, IsRoundCause, IsStartCause}
 
 -- process p runs from this tick to that one, for this cause
 pub record IsRun (i : Instance) (plan : Plan) (p from until : ℕ) (cause : StartCause) : Type 0 where

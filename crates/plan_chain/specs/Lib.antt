@@ -2,4 +2,3 @@ pub mod Causes
 pub mod Chain
 pub mod Lines
 pub mod There
-pub mod Waits

@@ -10,7 +10,7 @@ use Rattle.plan_chain.specs.declared.chain.RoundCause.{RoundCause}
 use Rattle.plan_chain.specs.declared.chain.RoundCause.TheVariants.{CouldGo, First, Full}
 use Rattle.plan_chain.specs.declared.chain.StartCause.{StartCause}
 use Rattle.plan_chain.specs.declared.chain.StartCause.TheVariants.{Arrival, Behind, CouldStart, Link, Release}
-use Rattle.plan_chain.specs.Causes.{ready_at}
+use Rattle.plan_facts.specs.Messages.{ready_at}
 use Rattle.plan_chain.specs.Chain.{IsChain}
 
 -- what begins each line

@@ -7,7 +7,7 @@ ghost use Rattle.plan_chain.specs.Lines.{IsChainText, arrival_words, behind_word
 ghost use Rattle.plan_chain.specs.There.{HasCause, IsLinkThere};
 
 use crate::chain::{ChainLink, RoundCause, StartCause, chain_of};
-use crate::rounds::ready_at;
+use plan_facts::ready_at;
 use std::alloc::{AllocError, Global};
 use ttp_model::{Instance, MemoryFault, Plan, delay};
 

@@ -13,7 +13,7 @@ use Rattle.ttp_model.proofs.Times.{round-le-slot_start, round_length-positive}
 use Rattle.ttp_model.specs.Slots.{offset, round_length}
 use Rattle.tt_layout.specs.Layout.{IsFirstRound, Layout}
 use Rattle.plan_words.specs.Slots.{CanBeLaid}
-use Rattle.plan_chain.specs.Causes.{ready_at}
+use Rattle.plan_facts.specs.Messages.{ready_at}
 
 no_earlier : (round long rest r offset time : ℕ) → round * long < rest + long → rest ≡ time - offset → time ≤ r * long + offset → round ≤ r
 no_earlier round long rest r offset time below is late = elim (cases_lt r round) [

@@ -1,5 +1,4 @@
 pub mod Differences
-pub mod Filters
 pub mod FirstRounds
 pub mod Growing
 pub mod Places

@@ -1,11 +1,12 @@
 -- What is told of a frame that is too full. Own profile.
-use Rattle.std.specs.Prelude.{ℕ, ◌-◌, ◌==◌, ◌%◌, List, [], ◌++◌, codes, decimal, filter, if◌then◌else◌, length, min, slice_index}
+use Rattle.std.specs.Prelude.{ℕ, ◌-◌, ◌==◌, ◌%◌, List, [], ◌++◌, codes, decimal, if◌then◌else◌, length, min, slice_index}
 use Rattle.std.specs.List.{flat_map, range_with_len}
 use Rattle.ttp_model.specs.declared.plan.Plan.{Plan}
 use Rattle.ttp_model.specs.Instance.{Instance, message_at}
-use Rattle.ttp_model.specs.Plans.{is_in_frame_on, load_on}
+use Rattle.ttp_model.specs.Plans.{load_on}
+use Rattle.plan_facts.specs.Frames.{messages_on}
 use Rattle.process_words.specs.Counts.{bytes_words}
-use Rattle.ttp_model.specs.Names.{message_name, node_name}
+use Rattle.process_words.specs.Names.{message_name, node_name}
 
 -- how many items of a list are told, and in how many to a line
 abbrev pub most_items : ℕ
@@ -17,10 +18,6 @@ line_items = 4
 -- by how many bytes a frame is too full on a channel
 abbrev pub too_full_by : Instance → Plan → ℕ → ℕ → ℕ → ℕ
 too_full_by i plan n r c = load_on i plan n r c - slice_index plan.caps n
-
--- the messages of the frame of node n in round r on channel c, in the instance's order
-abbrev pub messages_in : Instance → Plan → ℕ → ℕ → ℕ → List ℕ
-messages_in i plan n r c = filter (is_in_frame_on i plan n r c) (range_with_len 0 (length i.messages))
 
 -- that a frame is too full, on the channel that is told
 unfoldable pub full_frame_words : List ℕ → ℕ → List ℕ
@@ -62,7 +59,7 @@ excess_words by = codes "\n  " ++ (bytes_words by ++ codes " too many\n")
 -- what is in the frame, and may be
 unfoldable pub content_text : Instance → Plan → ℕ → ℕ → ℕ → List ℕ
 content_text i plan n r c =
-    load_words (slice_index plan.caps n) (load_on i plan n r c) ++ (items_text i (messages_in i plan n r c) ++ excess_words (too_full_by i plan n r c))
+    load_words (slice_index plan.caps n) (load_on i plan n r c) ++ (items_text i (messages_on i plan n r c) ++ excess_words (too_full_by i plan n r c))
 
 -- in a cluster of one channel
 unfoldable pub full_text : Instance → Plan → ℕ → ℕ → List ℕ

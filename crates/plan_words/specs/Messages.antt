@@ -6,7 +6,7 @@ use Rattle.ttp_model.specs.Limits.{both_channels}
 use Rattle.ttp_model.specs.Instance.{Instance, message_at, source_of}
 use Rattle.ttp_model.specs.Slots.{offset, round_length, slot_start}
 use Rattle.ttp_model.specs.Plans.{channel_of, end_of, round_of, sent_from, sent_until, start_of}
-use Rattle.plan_chain.specs.Causes.{arrival, ready_at}
+use Rattle.plan_facts.specs.Messages.{arrival, ready_at}
 use Rattle.process_words.specs.Counts.{ticks_words}
 use Rattle.ttp_model.specs.Names.{source_name, place_name, message_name, process_name}
 

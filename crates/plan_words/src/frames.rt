@@ -1,17 +1,18 @@
 //! What is told of a frame that is too full?
 
-ghost use Rattle.std.specs.Prelude.{◌≡◌, ◌++◌, ◌<◌, ◌≤◌, All, IfOk, OnOk, length, slice_index, string_bytes};
+ghost use Rattle.std.specs.Prelude.{◌≡◌, ◌++◌, ◌<◌, ◌≤◌, All, OnOk, length, slice_index, string_bytes};
 ghost use Rattle.std.specs.List.{flat_map, range_with_len};
 ghost use Rattle.ttp_model.specs.Instance.{message_at};
 ghost use Rattle.ttp_model.specs.Plans.{HasLengths, load_on};
+ghost use Rattle.plan_facts.specs.Frames.{messages_on};
 ghost use Rattle.process_words.specs.Counts.{bytes_words};
-ghost use Rattle.ttp_model.specs.Names.{message_name};
-ghost use Rattle.plan_words.specs.Frames.{content_text, excess_words, full_on_text, full_frame_on_words, full_text, full_frame_words, item_text, item_words, items_text, load_words, messages_in, more_words, most_items, rest_words, separator, too_full_by};
+ghost use Rattle.process_words.specs.Names.{message_name};
+ghost use Rattle.plan_words.specs.Frames.{content_text, excess_words, full_on_text, full_frame_on_words, full_text, full_frame_words, item_text, item_words, items_text, load_words, more_words, most_items, rest_words, separator, too_full_by};
 
-use plan_check::load_on;
-use process_words::Bytes;
+use plan_facts::{load_on, messages_on};
+use process_words::{Bytes, message_name, node_name};
 use std::alloc::{AllocError, Global};
-use ttp_model::{Instance, MemoryFault, Numbers, Plan, is_in_frame_on};
+use ttp_model::{Instance, MemoryFault, Plan};
 
 /// How many items of a list are told.
 const MOST_ITEMS: usize = 12;
@@ -33,7 +34,7 @@ pub fn put_full(
     requires inside { n < length instance.now.nodes }
     ensures { OnOk result (string_bytes text.new ≡ string_bytes text.old ++ full_text instance.now plan.now n r) }
 {
-    put_full_head(text, instance.node_name(n as usize), r)?;
+    put_full_head(text, node_name(instance, n as usize), r)?;
     put_content(alloc, text, instance, plan, n, r, 0)
 }
 
@@ -52,7 +53,7 @@ pub fn put_full_on(
     requires inside { n < length instance.now.nodes }
     ensures { OnOk result (string_bytes text.new ≡ string_bytes text.old ++ full_on_text instance.now plan.now n r c) }
 {
-    put_full_on_head(text, instance.node_name(n as usize), r, c)?;
+    put_full_on_head(text, node_name(instance, n as usize), r, c)?;
     put_content(alloc, text, instance, plan, n, r, c)
 }
 
@@ -132,34 +133,11 @@ fn put_messages(
 ) -> Result<(), MemoryFault>
     requires lengths { HasLengths instance.now plan.now }
     ensures { OnOk result (string_bytes text.new ≡ string_bytes text.old
-        ++ items_text instance.now (messages_in instance.now plan.now n r c)) }
+        ++ items_text instance.now (messages_on instance.now plan.now n r c)) }
 {
-    let messages = messages_in(alloc, instance, plan, n, r, c)?;
+    let messages = messages_on(alloc, instance, plan, n, r, c)?;
     put_items(text, instance, messages.as_slice())?;
     Ok(())
-}
-
-/// The messages of a frame.
-fn messages_in(
-    alloc: Global,
-    instance: &Instance,
-    plan: &Plan,
-    n: u32,
-    r: u32,
-    c: u32,
-) -> Result<Numbers, MemoryFault>
-    requires lengths { HasLengths instance.now plan.now }
-    ensures list { IfOk result (λ messages. messages ≡ messages_in instance.now plan.now n r c) }
-    ensures inside { IfOk result (λ messages. All (λ m. m < length instance.now.messages) messages) }
-{
-    let mut messages = Vec::new(alloc);
-    let count = instance.messages().len();
-    for m in 0..count {
-        if is_in_frame_on(instance, plan, n, r, c, m) {
-            messages.push(m as u32)?;
-        }
-    }
-    Ok(Numbers::new(messages))
 }
 
 /// Adds the messages of a list, the first of them at least.
@@ -198,7 +176,7 @@ fn put_item(text: &mut String, instance: &Instance, m: usize, k: usize) -> Resul
         ++ item_words (separator k) (message_name instance.now m) (message_at instance.now m).bytes) }
 {
     let message = instance.message_at(m);
-    put_name(text, separator(k), instance.message_name(m), message.bytes)
+    put_name(text, separator(k), message_name(instance, m), message.bytes)
 }
 
 /// Adds its name and its bytes, behind what stands before it.

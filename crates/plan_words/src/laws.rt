@@ -7,7 +7,7 @@ ghost use Rattle.ttp_model.specs.Faults.{IsFirstFault};
 ghost use Rattle.ttp_model.specs.Instance.{Instance, source_of};
 ghost use Rattle.ttp_model.specs.Rules.{IsInstance};
 ghost use Rattle.tt_layout.specs.Layout.{IsFirstRound, timing};
-ghost use Rattle.plan_chain.specs.Causes.{ready_at};
+ghost use Rattle.plan_facts.specs.Messages.{ready_at};
 ghost use Rattle.plan_words.specs.Frames.{too_full_by};
 ghost use Rattle.plan_words.specs.Messages.{first_round, receiver_early_by, slot_early_by};
 

@@ -1,15 +1,16 @@
 //! What is told of messages that aren't ready or there in time, or are on another channel?
 
-ghost use Rattle.std.specs.Prelude.{◌≡◌, ◌^◌, ◌++◌, ◌<◌, OnOk, Some, length, string_bytes};
+ghost use Rattle.std.specs.Prelude.{◌≡◌, ◌++◌, ◌<◌, OnOk, Some, length, string_bytes};
 ghost use Rattle.ttp_model.specs.Instance.{message_at};
 ghost use Rattle.ttp_model.specs.Lists.{EachBelow};
 ghost use Rattle.ttp_model.specs.Plans.{EndsInTime, HasLengths, end_of, round_of, sent_from, sent_until, start_of};
-ghost use Rattle.plan_chain.specs.Causes.{arrival, ready_at};
+ghost use Rattle.plan_facts.specs.Messages.{arrival, ready_at};
 ghost use Rattle.plan_words.specs.Slots.{CanBeLaid};
-ghost use Rattle.ttp_model.specs.Names.{source_name, place_name, process_name};
+ghost use Rattle.process_words.specs.Names.{place_name, process_name, source_name};
 ghost use Rattle.plan_words.specs.Messages.{allowed_words, copied_words, sender_words, slot_end_words, there_words, copied_in_words, channel_words, first_round, first_slot, receiver_early_by, slot_early_by, ready_words, receiver_words, first_round_words, slot_words, unheard_text, unheard_words, unready_text, unready_words, wrong_channel_text, wrong_channel_words};
 
-use process_words::Ticks;
+use plan_facts::{arrival, first_in_time, ready_at};
+use process_words::{Ticks, message_name, place_name, process_name, source_name};
 use std::alloc::AllocError;
 use std::fmt;
 use tt_layout::Layout;
@@ -28,7 +29,7 @@ pub fn put_unready(
     requires inside { m < length instance.now.messages }
     ensures { OnOk result (string_bytes text.new ≡ string_bytes text.old ++ unready_text instance.now plan.now m) }
 {
-    put_unready_head(text, instance.message_name(m))?;
+    put_unready_head(text, message_name(instance, m))?;
     put_sender(text, instance, plan, m)?;
     put_slot_start(text, instance, plan, m)?;
     put_first_round(text, instance, plan, m)
@@ -40,17 +41,6 @@ fn put_unready_head(text: &mut String, name: &str) -> Result<(), AllocError>
     ensures { OnOk result (string_bytes text.new ≡ string_bytes text.old ++ unready_words name.now) }
 {
     writeln!(text, "Message {name} isn't ready when its slot begins.")
-}
-
-/// When message `m` has been copied out, in ticks.
-fn ready_at(instance: &Instance, plan: &Plan, m: usize) -> u64
-    requires lengths { HasLengths instance.now plan.now }
-    requires inside { m < length instance.now.messages }
-    ensures value { result ≡ ready_at instance.now plan.now m }
-    ensures bound { result < 2 ^ 34 }
-{
-    let end = end_of(instance, plan, instance.message_at(m).sender as usize);
-    end + u64::from(instance.cluster().copy_out)
 }
 
 /// Adds when its sender ends, and when it is ready.
@@ -67,7 +57,7 @@ fn put_sender(
         (end_of instance.now plan.now (message_at instance.now m).sender) instance.now.cluster.copy_out (ready_at instance.now plan.now m)) }
 {
     let p = instance.message_at(m).sender as usize;
-    let (sender, place) = (instance.process_name(p), instance.source_name(m));
+    let (sender, place) = (process_name(instance, p), source_name(instance, m));
     let copy_out = instance.cluster().copy_out;
     let (end, ready) = (end_of(instance, plan, p), ready_at(instance, plan, m));
     put_ready(text, sender, place, end, copy_out, ready)
@@ -124,7 +114,7 @@ fn put_slot_start(
     let round = plan.rounds.as_slice()[m];
     let start = layout.slot_start(instance.source_of(m), round);
     let by = ready_at(instance, plan, m).saturating_sub(start);
-    put_slot(text, instance.source_name(m), round, start, by)
+    put_slot(text, source_name(instance, m), round, start, by)
 }
 
 /// Adds the line of it.
@@ -172,8 +162,7 @@ fn first_round(instance: &Instance, plan: &Plan, m: usize) -> u32
 {
     let _nodes = instance.nodes();
     let layout = Layout::of(instance, plan.order.as_slice(), plan.caps.as_slice());
-    let ready = ready_at(instance, plan, m);
-    let round = layout.first_round_at(instance.source_of(m), ready);
+    let round = first_in_time(instance, plan, &layout, m);
     round as u32
 }
 
@@ -202,7 +191,7 @@ pub fn put_unheard(
     requires receiver { q < length instance.now.processes }
     ensures { OnOk result (string_bytes text.new ≡ string_bytes text.old ++ unheard_text instance.now plan.now m q) }
 {
-    put_unheard_head(text, instance.process_name(q), instance.message_name(m))?;
+    put_unheard_head(text, process_name(instance, q), message_name(instance, m))?;
     put_slot_end(text, instance, plan, m)?;
     put_receiver(text, instance, plan, m, q)
 }
@@ -213,17 +202,6 @@ fn put_unheard_head(text: &mut String, receiver: &str, name: &str) -> Result<(),
     ensures { OnOk result (string_bytes text.new ≡ string_bytes text.old ++ unheard_words receiver.now name.now) }
 {
     writeln!(text, "{receiver} starts before message {name} is there.")
-}
-
-/// When the slot of message `m` ends, in ticks.
-fn sent_until(instance: &Instance, plan: &Plan, m: usize) -> u64
-    requires laid { CanBeLaid instance.now plan.now }
-    requires inside { m < length instance.now.messages }
-    ensures value { result ≡ sent_until instance.now plan.now m }
-    ensures bound { result < 2 ^ 58 }
-{
-    let layout = Layout::of(instance, plan.order.as_slice(), plan.caps.as_slice());
-    layout.slot_end(instance.source_of(m), plan.rounds.as_slice()[m])
 }
 
 /// Adds when its slot ends, and when it is there.
@@ -239,15 +217,15 @@ fn put_slot_end(
         ++ copied_in_words (source_name instance.now m) (round_of plan.now m) (sent_until instance.now plan.now m)
         instance.now.cluster.copy_in (arrival instance.now plan.now m)) }
 {
+    let layout = Layout::of(instance, plan.order.as_slice(), plan.caps.as_slice());
     let round = plan.rounds.as_slice()[m];
-    let (end, copy_in) = (sent_until(instance, plan, m), instance.cluster().copy_in);
     put_arrival(
         text,
-        instance.source_name(m),
+        source_name(instance, m),
         round,
-        end,
-        copy_in,
-        end + u64::from(copy_in),
+        layout.slot_end(instance.source_of(m), round),
+        instance.cluster().copy_in,
+        arrival(instance, plan, &layout, m),
     )
 }
 
@@ -300,13 +278,13 @@ fn put_receiver(
     ensures { OnOk result (string_bytes text.new ≡ string_bytes text.old
         ++ receiver_words (process_name instance.now q) (place_name instance.now q) (start_of plan.now q) (receiver_early_by instance.now plan.now m q)) }
 {
+    let layout = Layout::of(instance, plan.order.as_slice(), plan.caps.as_slice());
     let start = u64::from(plan.starts.as_slice()[q]);
-    let there = sent_until(instance, plan, m) + u64::from(instance.cluster().copy_in);
-    let by = there.saturating_sub(start);
+    let by = arrival(instance, plan, &layout, m).saturating_sub(start);
     put_receiver_start(
         text,
-        instance.process_name(q),
-        instance.place_name(q),
+        process_name(instance, q),
+        place_name(instance, q),
         start,
         by,
     )
@@ -346,7 +324,7 @@ pub fn put_wrong_channel(
     };
     put_channel(
         text,
-        instance.message_name(m),
+        message_name(instance, m),
         allowed(instance, m),
         channel,
     )

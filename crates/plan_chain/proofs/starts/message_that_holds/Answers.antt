@@ -3,6 +3,9 @@ use Rattle.std.proofs.lemmas.Bool.{false≢true}
 use Rattle.plan_chain.specs.Causes.{MessageHolds}
 use Rattle.plan_chain.proofs.starts.message_that_holds.Goals as goal
 
+pub of-layout-requires-clause-capacities : goal.of-layout-requires-clause-capacities
+of-layout-requires-clause-capacities c = rw c.as_slice-2.ensures c.requires.valid.capacities
+
 pub loop-m-preserved : goal.loop-m-preserved
 loop-m-preserved c =
     below_more (λ k. ¬ MessageHolds c.args.instance.now c.args.plan.now c.args.p k) c.loop-m.m c.loop-m.invariant

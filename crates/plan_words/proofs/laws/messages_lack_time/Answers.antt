@@ -1,7 +1,7 @@
 use Rattle.std.proofs.Common.{arith}
 use Rattle.ttp_model.specs.Instance.{source_of}
 use Rattle.tt_layout.specs.Layout.{timing}
-use Rattle.plan_chain.specs.Causes.{ready_at}
+use Rattle.plan_facts.specs.Messages.{ready_at}
 use Rattle.process_words.proofs.Differences.{above}
 use Rattle.plan_words.proofs.Differences.{receiver_positive}
 use Rattle.plan_words.proofs.FirstRounds.{first_round, some_round}

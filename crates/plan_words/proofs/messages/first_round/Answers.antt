@@ -1,7 +1,7 @@
-use Rattle.std.proofs.Common.{arith, rules}
+use Rattle.std.proofs.Common.{arith}
 use Rattle.ttp_model.specs.Instance.{source_of}
 use Rattle.tt_layout.specs.Layout.{IsFirstRound, timing}
-use Rattle.plan_chain.specs.Causes.{ready_at}
+use Rattle.plan_facts.specs.Messages.{ready_at}
 use Rattle.plan_words.proofs.FirstRounds.{first_round-le, is_first_round, ready_early, some_round}
 use Rattle.plan_words.proofs.messages.first_round.Goals as goal
 
@@ -16,8 +16,8 @@ overflow_cast-result c =
     let t = timing i.cluster plan.order plan.caps in
     let n = source_of i c.args.m in
     let ready = ready_at i plan c.args.m in
-    let round = c.first_round_at-round.result in
-    let first : IsFirstRound t n ready round = search rules in
+    let round = c.first_in_time-round.result in
+    let first : IsFirstRound t n ready round = c.first_in_time-round.ensures in
     omega (
       arith,
       first_round-le t n ready (some_round i plan w c.requires.laid) round first,
@@ -31,6 +31,6 @@ returns c =
     let t = timing i.cluster plan.order plan.caps in
     let n = source_of i c.args.m in
     let ready = ready_at i plan c.args.m in
-    let round = c.first_round_at-round.result in
-    let first : IsFirstRound t n ready round = search rules in
+    let round = c.first_in_time-round.result in
+    let first : IsFirstRound t n ready round = c.first_in_time-round.ensures in
     is_first_round t n ready (some_round i plan c.nodes-nodes.ensures.instance c.requires.laid) round first

@@ -1,4 +1,4 @@
-use Rattle.plan_words.proofs.messages.sent_until.Goals as goal
+use Rattle.plan_words.proofs.messages.put_slot_end.Goals as goal
 
 pub of-layout-requires-clause-capacities : goal.of-layout-requires-clause-capacities
 of-layout-requires-clause-capacities c = rw c.as_slice-2.ensures c.requires.laid.capacities

@@ -1,6 +1,0 @@
-use Rattle.ttp_model.specs.Lists.{EachBelow}
-use Rattle.tt_moves.specs.Earlier.{CanBeSent}
-use Rattle.plan_chain.proofs.rounds.first_with_room.Given as goal
-
-abbrev pub invariant-loop-r : goal.invariant-loop-r
-invariant-loop-r l = EachBelow l.r (λ s. ¬ CanBeSent l.instance l.plan l.m s)
