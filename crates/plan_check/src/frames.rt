@@ -1,10 +1,11 @@
 //! Do the messages of each frame fit into its capacity?
 
-ghost use Rattle.std.specs.Prelude.{◌≡◌, ◌*◌, ◌<◌, ◌≤◌, ◌↔◌, IsTrue, MatchOption, length};
+ghost use Rattle.std.specs.Prelude.{◌<◌, ◌↔◌, IsTrue, MatchOption, length};
 ghost use Rattle.ttp_model.specs.Lists.{EachBelow, FindsFailure, IsFirstFailure};
-ghost use Rattle.ttp_model.specs.Plans.{FitsFrame, FitsOn, HasLengths, load_on};
+ghost use Rattle.ttp_model.specs.Plans.{FitsFrame, FitsOn, HasLengths};
 
-use ttp_model::{Instance, MOST_BYTES, MOST_MESSAGES, Plan, bytes_on, is_on};
+use plan_facts::load_on;
+use ttp_model::{Instance, Plan, is_on};
 
 /// The first message in an overfull frame, and the first channel of this message on which it is overfull.
 pub fn first_overfull(instance: &Instance, plan: &Plan) -> Option<(usize, u32)>
@@ -47,18 +48,4 @@ fn fits_on(instance: &Instance, plan: &Plan, m: usize, c: u32) -> bool
     let capacity = plan.caps.as_slice()[n as usize];
     !is_on(c, plan.channels.as_slice()[m])
         || load_on(instance, plan, n, r, c) <= u64::from(capacity)
-}
-
-/// The bytes of all messages of the frame of a node and a round on channel `c`. Takes no memory; one pass
-/// over the messages.
-pub fn load_on(instance: &Instance, plan: &Plan, n: u32, r: u32, c: u32) -> u64
-    requires { HasLengths instance.now plan.now }
-    ensures value { result ≡ load_on instance.now plan.now n r c }
-    ensures bound { result ≤ MOST_MESSAGES * MOST_BYTES }
-{
-    let mut load = 0;
-    for m in 0..instance.messages().len() {
-        load += u64::from(bytes_on(instance, plan, n, r, c, m));
-    }
-    load
 }

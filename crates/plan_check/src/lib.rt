@@ -8,6 +8,5 @@ mod lists;
 mod messages;
 mod processes;
 
-pub use frames::load_on;
 pub use judge::check;
 pub use ttp_model::{PlanFault, PlanPart};

@@ -1,14 +1,15 @@
 //! Is each message copied out before its slot begins, and copied in before its receivers start?
 
-ghost use Rattle.std.specs.Prelude.{◌≡◌, ◌+◌, ◌<◌, MatchOption, length};
+ghost use Rattle.std.specs.Prelude.{◌≡◌, ◌<◌, MatchOption, length};
 ghost use Rattle.ttp_model.specs.Lists.{EachBelow, FindsFailure};
 ghost use Rattle.ttp_model.specs.Instance.{message_at};
-ghost use Rattle.ttp_model.specs.Plans.{HasArrivedAt, HasArrivedEverywhere, HasLengths, IsReady, sent_until};
+ghost use Rattle.ttp_model.specs.Plans.{HasArrivedAt, HasArrivedEverywhere, HasLengths, IsReady};
 ghost use Rattle.ttp_model.specs.Faults.{IsFirstLate};
 ghost use Rattle.tt_layout.specs.Layout.{timing};
 
+use plan_facts::{arrival, ready_at};
 use tt_layout::Layout;
-use ttp_model::{Instance, Plan, end_of};
+use ttp_model::{Instance, Plan};
 
 /// The first message that isn't copied out when its slot begins.
 pub fn first_not_ready(instance: &Instance, plan: &Plan, layout: &Layout) -> Option<u32>
@@ -17,10 +18,8 @@ pub fn first_not_ready(instance: &Instance, plan: &Plan, layout: &Layout) -> Opt
     ensures { FindsFailure (length instance.now.messages) (IsReady instance.now plan.now) result }
 {
     let rounds = plan.rounds.as_slice();
-    let copy_out = u64::from(instance.cluster().copy_out);
     for m in 0..instance.messages().len() {
-        let end = end_of(instance, plan, instance.message_at(m).sender as usize);
-        if end + copy_out > layout.slot_start(instance.source_of(m), rounds[m]) {
+        if ready_at(instance, plan, m) > layout.slot_start(instance.source_of(m), rounds[m]) {
             return Some(m as u32);
         }
     }
@@ -58,22 +57,11 @@ fn first_early_receiver(
 {
     let starts = plan.starts.as_slice();
     let receivers = instance.message_at(m).receivers.as_slice();
-    let arrival = arrival_of(instance, plan, layout, m);
+    let there = arrival(instance, plan, layout, m);
     for k in 0..receivers.len() {
-        if arrival > u64::from(starts[receivers[k] as usize]) {
+        if there > u64::from(starts[receivers[k] as usize]) {
             return Some(k);
         }
     }
     None
-}
-
-/// When a message is copied in at its receivers.
-fn arrival_of(instance: &Instance, plan: &Plan, layout: &Layout, m: usize) -> u64
-    requires lengths { HasLengths instance.now plan.now }
-    requires layout { layout.now ≡ timing instance.now.cluster plan.now.order plan.now.caps }
-    requires inside { m < length instance.now.messages }
-    ensures { result ≡ sent_until instance.now plan.now m + instance.now.cluster.copy_in }
-{
-    let round = plan.rounds.as_slice()[m];
-    layout.slot_end(instance.source_of(m), round) + u64::from(instance.cluster().copy_in)
 }
