@@ -11,7 +11,8 @@ use Rattle.ttp_model.specs.Delays.{HasNoPlan}
 use Rattle.ttp_model.proofs.ValidPlans.{greatest_each, greatest_more}
 use Rattle.instance_copies.proofs.OtherEnds.{DifferInDeadlines, end_same, turned, valid_across}
 use Rattle.later_ends.specs.Later.{later, put_off}
-use Rattle.later_ends.specs.Lateness.{late_by, lateness}
+use Rattle.plan_facts.specs.Ends.{late_by}
+use Rattle.later_ends.specs.Lateness.{lateness}
 use Rattle.later_ends.proofs.LaterProcesses.{count, deadline_is, differ}
 
 -- the greatest of some numbers is at most what none of them is past

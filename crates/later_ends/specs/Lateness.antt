@@ -1,16 +1,13 @@
 -- By how many ticks a plan is late, and how late all has to end for there to be one. Times are ticks.
-use Rattle.std.specs.Prelude.{ℕ, ◌-◌, ◌<◌, length, map, min}
+use Rattle.std.specs.Prelude.{ℕ, ◌<◌, length, map}
 use Rattle.std.specs.List.{range_with_len}
 use Rattle.ttp_model.specs.declared.plan.Plan.{Plan}
 use Rattle.ttp_model.specs.Lists.{greatest}
-use Rattle.ttp_model.specs.Instance.{Instance, process_at}
-use Rattle.ttp_model.specs.Plans.{IsValid, end_of}
+use Rattle.ttp_model.specs.Instance.{Instance}
+use Rattle.ttp_model.specs.Plans.{IsValid}
 use Rattle.ttp_model.specs.Delays.{HasNoPlan}
+use Rattle.plan_facts.specs.Ends.{late_by}
 use Rattle.later_ends.specs.Later.{later}
-
--- by how much a process ends past its deadline or past the horizon; 0 where it ends in time
-abbrev pub late_by : Instance → Plan → ℕ → ℕ
-late_by i plan p = end_of i plan p - min (process_at i p).deadline i.cluster.horizon
 
 -- by how much a plan is late: the process that is the latest
 abbrev pub lateness : Instance → Plan → ℕ

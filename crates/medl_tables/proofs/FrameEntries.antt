@@ -1,14 +1,13 @@
 -- The entries of the messages so far, and those of a round in which none is sent.
-use Rattle.std.proofs.Common.{◌≡◌, ◌≢◌, ℕ, zero, suc, ◌+◌, ◌<◌, ◌==◌, ◌&&◌, Bool, true, false, List, [], ◌∷◌, ◌++◌, Contains, length, filter, map, append_assoc, arith, refl, ap, sym, inl, inr, add-one}
+use Rattle.std.proofs.Common.{◌≡◌, ℕ, zero, suc, ◌+◌, ◌<◌, Bool, true, false, List, [], ◌∷◌, ◌++◌, Contains, length, filter, map, append_assoc, arith, refl, ap, sym, add-one}
 use Rattle.std.specs.List.{flat_map, range_with_len}
-use Rattle.std.proofs.lemmas.Bool.Decides.{eqb_tells}
 use Rattle.std.proofs.lemmas.List.{append-nil}
-use Rattle.std.proofs.lemmas.Grind.{common_steps}
 use Rattle.std.proofs.lemmas.List.FromFn.{filter_of_map_range_with_len_more}
 use Rattle.ttp_model.specs.declared.plan.Plan.{Plan}
-use Rattle.ttp_model.specs.Instance.{Instance, source_of}
-use Rattle.ttp_model.specs.Plans.{HasLengths, channel_of, is_on, round_of}
-use Rattle.medl_tables.specs.Rows.{entries_of, entries_on, entry_of, is_entry, is_shown_on}
+use Rattle.ttp_model.specs.Instance.{Instance}
+use Rattle.ttp_model.specs.Plans.{HasLengths}
+use Rattle.plan_facts.proofs.Silent.{in_no_frame}
+use Rattle.medl_tables.specs.Rows.{entries_of, entries_on, entry_of, is_entry}
 
 module _ {X : Type 0} (p : X → Bool) (f : ℕ → X) where
   abbrev kept : ℕ → List X
@@ -30,17 +29,6 @@ module _ {X : Type 0} (p : X → Bool) (f : ℕ → X) where
       let more = rw add-one at (filter_of_map_range_with_len_more p f 0 n n (omega arith)) in
       rw (more, filter-none n (λ m inside. fails m (omega (arith, inside))), fails n (omega arith)) refl
 
-and-false : (a c d : Bool) → (((a && false) && c) && d) ≡ false
-and-false true c d = refl
-and-false false c d = refl
-
--- a message that isn't sent in the round is no entry
-is_entry-other_round : (i : Instance) (plan : Plan) (node n r c m : ℕ) → round_of plan m ≢ r → is_entry i plan node n r c m ≡ false
-is_entry-other_round i plan node n r c m other = elim (eqb_tells (round_of plan m) r) [
-  | inl same ↦ absurd (other same.1)
-  | inr differ ↦ rw differ.0 (and-false (source_of i m == n) (is_on c (channel_of plan m)) (is_shown_on i node m))
-]
-
 -- nothing of each is nothing of all
 pub flat_map-none : {X Y : Type 0} (f : X → List Y) (xs : List X) → ((x : X) → f x ≡ []) → flat_map f xs ≡ []
 flat_map-none f [] none = refl
@@ -50,9 +38,7 @@ pub entries_of-none : (i : Instance) (plan : Plan) (node n r : ℕ) → HasLengt
 entries_of-none i plan node n r lengths none = flat_map-none (entries_on i plan node n r) (range_with_len 0 i.cluster.channels) each_channel
   where
     each : (c m : ℕ) → m < length i.messages → is_entry i plan node n r c m ≡ false
-    each c m inside =
-        let there : m < length plan.rounds = omega (arith, inside, lengths.rounds) in
-        is_entry-other_round i plan node n r c m (λ same. none (m, there, grind (arith, common_steps)))
+    each c m inside = rw (in_no_frame i plan n r c lengths none m inside) refl
 
     each_channel : (c : ℕ) → entries_on i plan node n r c ≡ []
     each_channel c = filter-none (λ e. is_entry i plan node n r c e.message) (entry_of i plan n r c) (length i.messages) (each c)

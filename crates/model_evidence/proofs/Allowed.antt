@@ -3,7 +3,8 @@ use Rattle.std.proofs.Common.{◌≡◌, ℕ, ◌+◌, ◌<◌, ◌≤◌, lengt
 use Rattle.ttp_model.specs.declared.plan.Plan.{Plan}
 use Rattle.ttp_model.specs.Instance.{Instance, link_at, message_at}
 use Rattle.ttp_model.specs.Plans.{IsValid, end_of, sent_from, start_of}
-use Rattle.plan_sheets.specs.Slack.{last_end, slack}
+use Rattle.plan_facts.specs.Ends.{must_end_by}
+use Rattle.plan_sheets.specs.Slack.{slack}
 use Rattle.plan_sheets.proofs.Exact.{AllAllow, allowed-latest, end-le-latest, latest-allowed, link-allowed, link-allows, message-allowed, message-allows, process-allows}
 use Rattle.model_evidence.specs.Schedules.{NothingWaits}
 
@@ -22,9 +23,9 @@ module _ (i : Instance) (plan : Plan) (w : IsValid i plan) (p : ℕ) (inside : p
   to-slot m lt sends = message-allowed i plan p time m (omega (arith, w.ready m lt)) (all.messages m lt) sends
 
   module _ (nothing : NothingWaits i plan p) where
-    last-allowed : AllAllow i plan p (last_end i p)
+    last-allowed : AllAllow i plan p (must_end_by i p)
     last-allowed =
-        let last = last_end i p in
+        let last = must_end_by i p in
         let horizon : last ≤ i.cluster.horizon = omega arith in
         record {
           last = omega arith;
@@ -33,5 +34,5 @@ module _ (i : Instance) (plan : Plan) (w : IsValid i plan) (p : ℕ) (inside : p
           messages = λ m lt. message-allows i plan p last horizon m (λ sends. absurd (nothing.messages m lt sends));
         }
 
-    pub to-last : time ≡ last_end i p
-    to-last = omega (arith, all.last, latest-allowed i plan p (last_end i p) last-allowed, end-le-latest i plan w p inside)
+    pub to-last : time ≡ must_end_by i p
+    to-last = omega (arith, all.last, latest-allowed i plan p (must_end_by i p) last-allowed, end-le-latest i plan w p inside)

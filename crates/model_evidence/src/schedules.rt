@@ -5,7 +5,7 @@ ghost use Rattle.std.specs.List.{range_with_len};
 ghost use Rattle.std.specs.List.Sorted.{IsPermutation};
 ghost use Rattle.ttp_model.specs.Instance.{link_at, message_at, node_of};
 ghost use Rattle.ttp_model.specs.Plans.{end_of, sent_from, start_of};
-ghost use Rattle.plan_sheets.specs.Slack.{last_end};
+ghost use Rattle.plan_facts.specs.Ends.{must_end_by};
 ghost use Rattle.model_evidence.specs.Schedules.{NothingWaits};
 
 use plan_check::check;
@@ -16,7 +16,7 @@ use ttp_model::{Instance, MemoryFault, Plan};
 /// A process that nothing waits for may run longer up to its last end, and no tick past it.
 pub fn slack_up_to_the_last_end(instance: &Instance, plan: &Plan, p: usize) -> Option<u64>
     ensures { NothingWaits instance.now plan.now p
-        → IfSome result (λ ticks. end_of instance.now plan.now p + ticks ≡ last_end instance.now p) }
+        → IfSome result (λ ticks. end_of instance.now plan.now p + ticks ≡ must_end_by instance.now p) }
 {
     let Ok(_ticks) = check(instance, plan) else {
         return None;

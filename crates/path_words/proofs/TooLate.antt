@@ -11,7 +11,7 @@ use Rattle.ttp_model.specs.Plans.{IsValid}
 use Rattle.ttp_model.specs.Rules.{IsInstance}
 use Rattle.ttp_model.proofs.PlanNumbers.{chain-le}
 use Rattle.longest_chains.specs.Longest.{AreLongest}
-use Rattle.process_words.specs.Processes.{last_end}
+use Rattle.plan_facts.specs.Ends.{must_end_by}
 use Rattle.path_words.specs.declared.chain.Cause.{Cause}
 use Rattle.path_words.specs.declared.chain.Cause.TheVariants.{Arrival, Link, Release}
 use Rattle.path_words.specs.declared.chain.ChainPart.{ChainPart}
@@ -32,7 +32,7 @@ module _ (i : Instance) (ends : List ℕ) (w : IsInstance i) (longest : AreLonge
   in_time : (p from : ℕ) (cause : Cause) → p < length i.processes → ChainEnds i p (from + (process_at i p).wcet) → late_part i p from cause ≡ []
   in_time p from cause inside chain =
       let by = valid.in_time p inside in
-      let early : from + (process_at i p).wcet ≤ last_end i p = omega (arith, chain-le i plan w valid p _ chain, by.0, by.1) in
+      let early : from + (process_at i p).wcet ≤ must_end_by i p = omega (arith, chain-le i plan w valid p _ chain, by.0, by.1) in
       rw (le-leb _ _ early) refl
 
   released : (p : ℕ) → p < length i.processes → released_late i p ≡ []

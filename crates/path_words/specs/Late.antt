@@ -3,7 +3,7 @@ use Rattle.std.specs.Prelude.{ℕ, ◌+◌, List, [], ◌∷◌, ◌++◌, if◌
 use Rattle.std.specs.List.{flat_map, range_with_len}
 use Rattle.ttp_model.specs.Instance.{Instance, link_at, message_at, process_at, source_of}
 use Rattle.ttp_model.specs.Chains.{least_transfer}
-use Rattle.process_words.specs.Processes.{last_end}
+use Rattle.plan_facts.specs.Ends.{must_end_by}
 use Rattle.path_words.specs.declared.chain.Cause.{Cause}
 use Rattle.path_words.specs.declared.chain.Cause.TheVariants.{Arrival, Link, Release}
 use Rattle.path_words.specs.declared.chain.ChainPart.{ChainPart}
@@ -14,7 +14,7 @@ part_from i p from cause = record { process = p; from = from; until = from + (pr
 
 -- that, where it ends too late
 abbrev pub late_part : Instance → ℕ → ℕ → Cause → List ChainPart
-late_part i p from cause = if nat_le (from + (process_at i p).wcet) (last_end i p) then [] else part_from i p from cause ∷ []
+late_part i p from cause = if nat_le (from + (process_at i p).wcet) (must_end_by i p) then [] else part_from i p from cause ∷ []
 
 -- a process at its release
 abbrev pub released_late : Instance → ℕ → List ChainPart

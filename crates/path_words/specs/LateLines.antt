@@ -3,7 +3,8 @@ use Rattle.std.specs.Prelude.{◌≡◌, ℕ, ◌-◌, ◌==◌, List, [], ◌++
 use Rattle.std.specs.List.{flat_map}
 use Rattle.ttp_model.specs.Instance.{Instance}
 use Rattle.longest_chains.specs.Longest.{AreLongest}
-use Rattle.process_words.specs.Processes.{is_deadline, last_end, late_words, limit_words}
+use Rattle.plan_facts.specs.Ends.{must_end_by}
+use Rattle.process_words.specs.Processes.{is_deadline, late_words, limit_words}
 use Rattle.path_words.specs.declared.chain.ChainPart.{ChainPart}
 use Rattle.path_words.specs.Late.{late_parts}
 use Rattle.path_words.specs.Lines.{run_text}
@@ -19,7 +20,7 @@ late_head = codes "These end too late even at the earliest, so no plan is valid:
 -- by when a process has to end, and how much later it ends
 abbrev pub limit_line : Instance → ChainPart → List ℕ
 limit_line i part =
-    codes "  " ++ late_words (limit_words (is_deadline i part.process)) (last_end i part.process) (part.until - last_end i part.process)
+    codes "  " ++ late_words (limit_words (is_deadline i part.process)) (must_end_by i part.process) (part.until - must_end_by i part.process)
 
 -- the lines of one
 unfoldable pub late_line : Instance → ChainPart → List ℕ

@@ -8,7 +8,7 @@ ghost use Rattle.path_words.specs.There.{HasCause, IsPartThere};
 
 use crate::causes::arrival_of;
 use crate::chain::{Cause, ChainPart};
-use process_words::last_end;
+use plan_facts::must_end_by;
 use std::alloc::{AllocError, Global};
 use ttp_model::{Instance, MemoryFault};
 
@@ -28,7 +28,7 @@ fn push_late(
     ensures there { OnOk result (All (IsPartThere instance.now) parts.new.items) }
 {
     let until = from + u64::from(instance.process_at(p as usize).wcet);
-    if until <= last_end(instance, p as usize) {
+    if until <= u64::from(must_end_by(instance, p as usize)) {
         return Ok(());
     }
     parts.push(ChainPart {

@@ -9,7 +9,8 @@ use crate::chain::ChainPart;
 use crate::late::late_parts;
 use crate::words::put_run;
 use longest_chains::longest_chains;
-use process_words::{last_end, limit_name, put_limit};
+use plan_facts::must_end_by;
+use process_words::{limit_name, put_limit};
 use std::alloc::{AllocError, Global};
 use ttp_model::{Instance, MemoryFault};
 
@@ -94,7 +95,7 @@ fn put_limit_line(text: &mut String, instance: &Instance, part: ChainPart) -> Re
     ensures { OnOk result (string_bytes text.new ≡ string_bytes text.old ++ limit_line instance.now part) }
 {
     let p = part.process as usize;
-    let latest = last_end(instance, p);
+    let latest = u64::from(must_end_by(instance, p));
     text.push_str("  ")?;
     put_limit(
         text,

@@ -7,27 +7,28 @@ use Rattle.ttp_model.specs.declared.error.Place.TheVariants.{AtProcess}
 use Rattle.ttp_model.specs.Instance.{Instance, link_at, message_at, node_of, process_at, source_of}
 use Rattle.ttp_model.specs.Rules.{IsInstance}
 use Rattle.ttp_model.specs.Plans.{AreApart, EndsBefore, IsValid, end_of, round_of, sent_from, start_of}
-use Rattle.plan_sheets.specs.Slack.{last_end, latest_end, least, limit_of_link, limit_of_message, limit_of_process, longer, slack}
+use Rattle.plan_facts.specs.Ends.{must_end_by}
+use Rattle.plan_sheets.specs.Slack.{latest_end, least, limit_of_link, limit_of_message, limit_of_process, longer, slack}
 use Rattle.plan_sheets.proofs.Least.{le-least, least-le, least-le-top}
 use Rattle.plan_sheets.proofs.Longer.{deadline-kept, end-other, end-same, load-kept, node-kept, processes-length, release-kept, sent_from-kept, sent_until-kept, source-kept}
 
 -- what each limit asks of the time at which p ends
 pub record AllAllow (i : Instance) (plan : Plan) (p time : ℕ) : Type 0 where
-  pub last : time ≤ last_end i p
+  pub last : time ≤ must_end_by i p
   pub processes : (q : ℕ) → q < length i.processes → time ≤ limit_of_process i plan p q
   pub links : (l : ℕ) → l < length i.links → time ≤ limit_of_link i plan p l
   pub messages : (m : ℕ) → m < length i.messages → time ≤ limit_of_message i plan p m
 
 module _ (i : Instance) (plan : Plan) (p : ℕ) where
   abbrev of_processes : ℕ
-  of_processes = least (limit_of_process i plan p) (last_end i p) (length i.processes)
+  of_processes = least (limit_of_process i plan p) (must_end_by i p) (length i.processes)
 
   abbrev of_links : ℕ
   of_links = least (limit_of_link i plan p) of_processes (length i.links)
 
   pub latest-allowed : (time : ℕ) → AllAllow i plan p time → time ≤ latest_end i plan p
   latest-allowed time all =
-      let first = le-least (limit_of_process i plan p) (last_end i p) (length i.processes) time all.last all.processes in
+      let first = le-least (limit_of_process i plan p) (must_end_by i p) (length i.processes) time all.last all.processes in
       let second = le-least (limit_of_link i plan p) of_processes (length i.links) time first all.links in
       le-least (limit_of_message i plan p) of_links (length i.messages) time second all.messages
 
@@ -35,10 +36,10 @@ module _ (i : Instance) (plan : Plan) (p : ℕ) where
   allowed-latest time le =
       let third = least-le-top (limit_of_message i plan p) of_links (length i.messages) in
       let second = least-le-top (limit_of_link i plan p) of_processes (length i.links) in
-      let first = least-le-top (limit_of_process i plan p) (last_end i p) (length i.processes) in
+      let first = least-le-top (limit_of_process i plan p) (must_end_by i p) (length i.processes) in
       record {
         last = omega (arith, le, first, second, third);
-        processes = λ q lt. omega (arith, le, second, third, least-le (limit_of_process i plan p) (last_end i p) (length i.processes) q lt);
+        processes = λ q lt. omega (arith, le, second, third, least-le (limit_of_process i plan p) (must_end_by i p) (length i.processes) q lt);
         links = λ l lt. omega (arith, le, third, least-le (limit_of_link i plan p) of_processes (length i.links) l lt);
         messages = λ m lt. omega (arith, le, least-le (limit_of_message i plan p) of_links (length i.messages) m lt);
       }

@@ -1,47 +1,16 @@
--- What the frames of a round carry in which no message is sent, and that a slot names what is there.
-use Rattle.std.proofs.Common.{◌≡◌, ◌≢◌, ℕ, ◌<◌, ◌==◌, ◌&&◌, false, [], All, Contains, length, slice_index, arith, inl, inr, refl}
+-- A slot names what is there.
+use Rattle.std.proofs.Common.{ℕ, ◌<◌, All, length, slice_index, arith}
 use Rattle.std.specs.List.{range_with_len}
-use Rattle.std.proofs.lemmas.Bool.{and_right}
-use Rattle.std.proofs.lemmas.Bool.Decides.{eqb_tells}
-use Rattle.std.proofs.lemmas.Grind.{common_steps}
 use Rattle.std.proofs.lemmas.List.Elements.{All-filter}
 use Rattle.std.proofs.lemmas.List.FromFn.{get_or-range_with_len, length-range_with_len}
 use Rattle.ttp_model.specs.declared.plan.Plan.{Plan}
-use Rattle.ttp_model.specs.Instance.{Instance, source_of}
-use Rattle.ttp_model.specs.Plans.{HasLengths, IsValid, bytes_in, bytes_on, load_on, round_of, is_in_frame_on}
-use Rattle.ttp_model.proofs.Channels.{on_at_most}
-use Rattle.ttp_model.proofs.Totals.{total_none}
-use Rattle.plan_sheets.specs.Slots.{IsSlotRow, messages_in, slot_of}
-use Rattle.plan_sheets.proofs.Filters.{filter_none}
+use Rattle.ttp_model.specs.Instance.{Instance}
+use Rattle.ttp_model.specs.Plans.{IsValid}
+use Rattle.plan_facts.specs.Frames.{is_in_frame_on, messages_on}
+use Rattle.plan_sheets.specs.Slots.{IsSlotRow, slot_of}
 
 module _ (i : Instance) (plan : Plan) (n r c : ℕ) where
-  other_round : (m : ℕ) → round_of plan m ≢ r → (source_of i m == n && round_of plan m == r) ≡ false
-  other_round m other = elim (eqb_tells (round_of plan m) r) [
-    | inl same ↦ absurd (other same.1)
-    | inr differ ↦ and_right (source_of i m == n) (round_of plan m == r) differ.0
-  ]
-
-  in_frame-other_round : (m : ℕ) → round_of plan m ≢ r → is_in_frame_on i plan n r c m ≡ false
-  in_frame-other_round m other = rw (other_round m other) refl
-
-  bytes-other_round : (m : ℕ) → round_of plan m ≢ r → bytes_on i plan n r c m ≡ 0
-  bytes-other_round m other =
-      let none : bytes_in i plan n r m ≡ 0 = rw (other_round m other) refl in
-      omega (arith, on_at_most i plan n r c m, none)
-
-  module _ (lengths : HasLengths i plan) (none : ¬ Contains plan.rounds r) where
-    sent_elsewhere : (m : ℕ) → m < length i.messages → round_of plan m ≢ r
-    sent_elsewhere m inside = λ same.
-        let there : m < length plan.rounds = omega (arith, inside, lengths.rounds) in
-        none (m, there, grind (arith, common_steps))
-
-    pub load_on-none : load_on i plan n r c ≡ 0
-    load_on-none = total_none (bytes_on i plan n r c) (length i.messages) (λ m inside. bytes-other_round m (sent_elsewhere m inside))
-
-    pub messages_in-none : messages_in i plan n r c ≡ []
-    messages_in-none = filter_none (is_in_frame_on i plan n r c) (length i.messages) (λ m inside. in_frame-other_round m (sent_elsewhere m inside))
-
-  pub messages-there : All (λ m. m < length i.messages) (messages_in i plan n r c)
+  pub messages-there : All (λ m. m < length i.messages) (messages_on i plan n r c)
   messages-there = All-filter (is_in_frame_on i plan n r c) (λ m. m < length i.messages) (range_with_len 0 (length i.messages)) each
     where
       each : All (λ m. m < length i.messages) (range_with_len 0 (length i.messages))

@@ -1,5 +1,4 @@
 pub mod Growing
-pub mod Filters
 pub mod Frames
 pub mod Least
 pub mod Longer

@@ -1,10 +1,11 @@
 -- The table of messages: when each is ready, sent, and there for each of its receivers. Own profile.
-use Rattle.std.specs.Prelude.{ℕ, ◌+◌, ◌<◌, ◌≤◌, ◌==◌, if◌then◌else◌, List, [], ◌∷◌, ◌++◌, codes, decimal, length, slice_index}
+use Rattle.std.specs.Prelude.{ℕ, ◌<◌, ◌≤◌, ◌==◌, if◌then◌else◌, List, [], ◌∷◌, ◌++◌, codes, decimal, length, slice_index}
 use Rattle.std.specs.List.{flat_map, range_with_len}
 use Rattle.ttp_model.specs.declared.plan.Plan.{Plan}
 use Rattle.ttp_model.specs.Limits.{both_channels}
 use Rattle.ttp_model.specs.Instance.{Instance, message_at, node_at, process_at, source_of}
-use Rattle.ttp_model.specs.Plans.{channel_of, end_of, round_of, sent_from, sent_until, start_of}
+use Rattle.ttp_model.specs.Plans.{channel_of, round_of, sent_from, sent_until, start_of}
+use Rattle.plan_facts.specs.Messages.{arrival, ready_at}
 use Rattle.plan_sheets.specs.declared.deliveries.Delivery.{Delivery}
 use Rattle.plan_sheets.specs.Lines.{line_of}
 
@@ -18,10 +19,10 @@ delivery_of i plan m q = record {
   round = round_of plan m;
   channel = channel_of plan m;
   node = source_of i m;
-  ready = end_of i plan (message_at i m).sender + i.cluster.copy_out;
+  ready = ready_at i plan m;
   slot = sent_from i plan m;
   slot_end = sent_until i plan m;
-  arrived = sent_until i plan m + i.cluster.copy_in;
+  arrived = arrival i plan m;
   needed = start_of plan q;
 }
 

@@ -7,7 +7,8 @@ use Rattle.ttp_model.specs.Plans.{end_of, start_of}
 use Rattle.plan_sheets.specs.declared.dispatch.Dispatch.{Dispatch}
 use Rattle.plan_sheets.specs.Lines.{line_of}
 use Rattle.plan_sheets.specs.Order.{order_of}
-use Rattle.plan_sheets.specs.Slack.{last_end, slack}
+use Rattle.plan_facts.specs.Ends.{must_end_by}
+use Rattle.plan_sheets.specs.Slack.{slack}
 
 -- the row of a process
 abbrev pub dispatch_of : Instance → Plan → ℕ → Dispatch
@@ -17,7 +18,7 @@ dispatch_of i plan p = record {
   start = start_of plan p;
   end = end_of i plan p;
   release = (process_at i p).release;
-  deadline = last_end i p;
+  deadline = must_end_by i p;
   slack = slack i plan p;
 }
 

@@ -3,6 +3,7 @@ use Rattle.std.specs.Prelude.{ℕ, zero, suc, ◌+◌, ◌-◌, ◌==◌, ◌&&�
 use Rattle.ttp_model.specs.declared.plan.Plan.{Plan}
 use Rattle.ttp_model.specs.Instance.{Instance, link_at, message_at, node_of, process_at}
 use Rattle.ttp_model.specs.Plans.{end_of, sent_from, start_of}
+use Rattle.plan_facts.specs.Ends.{must_end_by}
 
 -- the least of f at the numbers below a count, and of top
 abbrev pub least : (ℕ → ℕ) → ℕ → ℕ → ℕ
@@ -24,14 +25,10 @@ abbrev pub limit_of_message : Instance → Plan → ℕ → ℕ → ℕ
 limit_of_message i plan p m =
     if (message_at i m).sender == p then sent_from i plan m - i.cluster.copy_out else i.cluster.horizon
 
--- by when p has to end at all
-abbrev pub last_end : Instance → ℕ → ℕ
-last_end i p = min (process_at i p).deadline i.cluster.horizon
-
 -- by when p has to end while all else of the plan stays: the least of these limits
 abbrev pub latest_end : Instance → Plan → ℕ → ℕ
 latest_end i plan p =
-    least (limit_of_message i plan p) (least (limit_of_link i plan p) (least (limit_of_process i plan p) (last_end i p) (length i.processes)) (length i.links)) (length i.messages)
+    least (limit_of_message i plan p) (least (limit_of_link i plan p) (least (limit_of_process i plan p) (must_end_by i p) (length i.processes)) (length i.links)) (length i.messages)
 
 -- by how many ticks p may run longer
 abbrev pub slack : Instance → Plan → ℕ → ℕ

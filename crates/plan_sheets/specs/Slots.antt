@@ -1,18 +1,15 @@
 -- The table of slots: when each begins and ends, and what it carries. Own profile.
-use Rattle.std.specs.Prelude.{ℕ, ◌+◌, ◌<◌, List, [], ◌∷◌, ◌++◌, All, codes, decimal, drop, filter, length, slice_index}
+use Rattle.std.specs.Prelude.{ℕ, ◌+◌, ◌<◌, List, [], ◌∷◌, ◌++◌, All, codes, decimal, drop, length, slice_index}
 use Rattle.std.specs.List.{flat_map, range_with_len}
 use Rattle.ttp_model.specs.declared.plan.Plan.{Plan}
 use Rattle.ttp_model.specs.Instance.{Instance, message_at, node_at}
-use Rattle.ttp_model.specs.Plans.{is_in_frame_on, load_on}
+use Rattle.ttp_model.specs.Plans.{load_on}
 use Rattle.ttp_model.specs.Slots.{frame_length, slot_end, slot_start}
 use Rattle.tt_layout.specs.Cycle.{cycle_rounds}
+use Rattle.plan_facts.specs.Frames.{messages_on}
 use Rattle.line_text.specs.Words.{spaced}
 use Rattle.plan_sheets.specs.declared.slots.Slot.{Slot}
 use Rattle.plan_sheets.specs.Lines.{line_of}
-
--- the messages of the frame of node n in round r on channel c, in the instance's order
-abbrev pub messages_in : Instance → Plan → ℕ → ℕ → ℕ → List ℕ
-messages_in i plan n r c = filter (is_in_frame_on i plan n r c) (range_with_len 0 (length i.messages))
 
 -- the slot of node n in round r, at position k of the order, on channel c
 abbrev pub slot_at : Instance → Plan → ℕ → ℕ → ℕ → ℕ → Slot
@@ -27,7 +24,7 @@ slot_at i plan r k c n = record {
   end = slot_end i.cluster plan.order plan.caps n r;
   capacity = slice_index plan.caps n;
   used = load_on i plan n r c;
-  messages = messages_in i plan n r c;
+  messages = messages_on i plan n r c;
 }
 
 -- the slot at position k of the order in round r, on channel c

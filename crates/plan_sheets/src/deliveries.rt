@@ -7,9 +7,10 @@ ghost use Rattle.plan_sheets.specs.Deliveries.{IsDeliveryRow, channel_word, deli
 ghost use Rattle.plan_sheets.specs.Lines.{IsLineStart, IsSheet, IsTidy, cells_of, text_of};
 
 use crate::sheet::Sheet;
+use plan_facts::{arrival, ready_at};
 use std::alloc::Global;
 use tt_layout::Layout;
-use ttp_model::{BOTH_CHANNELS, Instance, MemoryFault, Plan, end_of};
+use ttp_model::{BOTH_CHANNELS, Instance, MemoryFault, Plan};
 
 /// A message on its way to one of its receivers.
 #[derive(Clone, Copy)]
@@ -86,12 +87,10 @@ fn delivery_of(instance: &Instance, plan: &Plan, layout: &Layout, m: usize, q: u
     ensures row { result ≡ delivery_of instance.now plan.now m q }
     ensures there { IsDeliveryRow instance.now result }
 {
-    let cluster = instance.cluster();
     let message = instance.message_at(m);
     let node = instance.source_of(m);
     let round = plan.rounds.as_slice()[m];
     let channel = plan.channels.as_slice()[m];
-    let slot_end = layout.slot_end(node, round);
     Delivery {
         message: m as u32,
         sender: message.sender,
@@ -100,10 +99,10 @@ fn delivery_of(instance: &Instance, plan: &Plan, layout: &Layout, m: usize, q: u
         round,
         channel,
         node,
-        ready: end_of(instance, plan, message.sender as usize) + u64::from(cluster.copy_out),
+        ready: ready_at(instance, plan, m),
         slot: layout.slot_start(node, round),
-        slot_end,
-        arrived: slot_end + u64::from(cluster.copy_in),
+        slot_end: layout.slot_end(node, round),
+        arrived: arrival(instance, plan, layout, m),
         needed: plan.starts.as_slice()[q],
     }
 }

@@ -7,7 +7,8 @@ ghost use Rattle.plan_sheets.specs.Lines.{IsLineStart, IsSheet, text_of};
 
 use crate::order::order_of;
 use crate::sheet::Sheet;
-use crate::slack::{last_end, slack_of};
+use crate::slack::slack_of;
+use plan_facts::must_end_by;
 use std::alloc::Global;
 use ttp_model::{Instance, MemoryFault, Plan, end_of};
 
@@ -78,7 +79,7 @@ fn dispatch_of(instance: &Instance, plan: &Plan, p: u32) -> Dispatch
         start: plan.starts.as_slice()[p as usize],
         end: end_of(instance, plan, p as usize),
         release: process.release,
-        deadline: last_end(instance, p as usize),
+        deadline: must_end_by(instance, p as usize),
         slack: slack_of(instance, plan, p as usize),
     }
 }

@@ -4,8 +4,9 @@ ghost use Rattle.std.specs.Prelude.{◌≡◌, ◌<◌, ◌≤◌, length};
 ghost use Rattle.tt_layout.specs.Layout.{timing};
 ghost use Rattle.ttp_model.specs.declared.limits.TheConstants.{MOST_TICKS};
 ghost use Rattle.ttp_model.specs.Plans.{IsValid};
-ghost use Rattle.plan_sheets.specs.Slack.{last_end, latest_end, least, limit_of_link, limit_of_message, limit_of_process, slack};
+ghost use Rattle.plan_sheets.specs.Slack.{latest_end, least, limit_of_link, limit_of_message, limit_of_process, slack};
 
+use plan_facts::must_end_by;
 use tt_layout::Layout;
 use ttp_model::{Instance, Plan, end_of};
 
@@ -26,21 +27,10 @@ fn latest_end(instance: &Instance, plan: &Plan, p: usize) -> u64
     ensures { result ≡ latest_end instance.now plan.now p }
 {
     let layout = Layout::of(instance, plan.order.as_slice(), plan.caps.as_slice());
-    let top = u64::from(last_end(instance, p));
+    let top = u64::from(must_end_by(instance, p));
     let top = least_of_processes(instance, plan, p, top);
     let top = least_of_links(instance, plan, p, top);
     least_of_messages(instance, plan, &layout, p, top)
-}
-
-/// By when the process has to end, whatever else the plan says: its deadline or the horizon.
-pub fn last_end(instance: &Instance, p: usize) -> u32
-    requires { p < length instance.now.processes }
-    ensures { result ≡ last_end instance.now p }
-{
-    instance
-        .process_at(p)
-        .deadline
-        .min(instance.cluster().horizon)
 }
 
 /// The least of these limits that processes set.

@@ -4,19 +4,19 @@ ghost use Rattle.std.specs.Prelude.{◌≡◌, ◌<◌, ◌≤◌, ◌++◌, ◌
 ghost use Rattle.ttp_model.specs.declared.limits.TheConstants.{MOST_BYTES, MOST_MESSAGES};
 ghost use Rattle.ttp_model.specs.Plans.{HasLengths, IsValid, load_on};
 ghost use Rattle.tt_layout.specs.Layout.{timing};
+ghost use Rattle.plan_facts.specs.Frames.{messages_on};
 ghost use Rattle.plan_sheets.specs.Lines.{IsLineStart, IsSheet, IsTidy, cells_of, text_of};
-ghost use Rattle.plan_sheets.specs.Slots.{IsSlotRow, messages_in, position_text, round_text, slot_line, slot_of, slots_text, spaced_names};
+ghost use Rattle.plan_sheets.specs.Slots.{IsSlotRow, position_text, round_text, slot_line, slot_of, slots_text, spaced_names};
 
 use crate::sheet::Sheet;
 use line_text::push_word;
+use plan_facts::{load_on, messages_on};
 use std::alloc::Global;
 use tt_layout::{Layout, cycle_rounds};
-use ttp_model::{
-    Instance, MOST_NODES, MOST_TICKS, MemoryFault, Numbers, Plan, bytes_on, is_in_frame_on,
-};
+use ttp_model::{Instance, MOST_NODES, MOST_TICKS, MemoryFault, Numbers, Plan};
 
 /// A slot of the cycle, on a channel.
-#[derive(Drop)]
+#[derive(Debug, Drop)]
 pub struct Slot {
     /// The round, from 0.
     pub round: u32,
@@ -139,13 +139,13 @@ pub fn slot_of(
         frame_end: end - u64::from(cluster.trail),
         end,
         capacity: plan.caps.as_slice()[node as usize],
-        used: load_on(instance, plan, node, round, channel, sends),
-        messages: messages_in(alloc, instance, plan, node, round, channel, sends)?,
+        used: used_in(instance, plan, node, round, channel, sends),
+        messages: carried_in(alloc, instance, plan, node, round, channel, sends)?,
     })
 }
 
 /// How many bytes the messages of a frame have. Where no message is sent in the round, none is looked at.
-fn load_on(instance: &Instance, plan: &Plan, n: u32, r: u32, channel: u32, sends: bool) -> u32
+fn used_in(instance: &Instance, plan: &Plan, n: u32, r: u32, channel: u32, sends: bool) -> u32
     requires lengths { HasLengths instance.now plan.now }
     requires sends { IsTrue sends ↔ Contains plan.now.rounds r }
     ensures { result ≡ load_on instance.now plan.now n r channel }
@@ -153,16 +153,11 @@ fn load_on(instance: &Instance, plan: &Plan, n: u32, r: u32, channel: u32, sends
     if !sends {
         return 0;
     }
-    let count = instance.messages().len();
-    let mut load = 0;
-    for m in 0..count {
-        load += bytes_on(instance, plan, n, r, channel, m);
-    }
-    load
+    load_on(instance, plan, n, r, channel) as u32
 }
 
 /// The messages of a frame. Where no message is sent in the round, none is looked at.
-fn messages_in(
+fn carried_in(
     alloc: Global,
     instance: &Instance,
     plan: &Plan,
@@ -173,19 +168,13 @@ fn messages_in(
 ) -> Result<Numbers, MemoryFault>
     requires lengths { HasLengths instance.now plan.now }
     requires sends { IsTrue sends ↔ Contains plan.now.rounds r }
-    ensures { IfOk result (λ messages. messages ≡ messages_in instance.now plan.now n r channel) }
+    ensures { IfOk result (λ messages. messages ≡ messages_on instance.now plan.now n r channel) }
 {
-    let mut messages = Vec::new(alloc);
     if !sends {
-        return Ok(Numbers::new(messages));
+        let none = Vec::new(alloc);
+        return Ok(Numbers::new(none));
     }
-    let count = instance.messages().len();
-    for m in 0..count {
-        if is_in_frame_on(instance, plan, n, r, channel, m) {
-            messages.push(m as u32)?;
-        }
-    }
-    Ok(Numbers::new(messages))
+    messages_on(alloc, instance, plan, n, r, channel)
 }
 
 /// Adds the line of a slot.

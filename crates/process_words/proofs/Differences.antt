@@ -8,7 +8,8 @@ use Rattle.ttp_model.specs.Rules.{IsInstance}
 use Rattle.ttp_model.specs.Plans.{EndsInTime, end_of, start_of}
 use Rattle.ttp_model.specs.Faults.{IsFirstOverlap}
 use Rattle.process_words.specs.Counts.{apart}
-use Rattle.process_words.specs.Processes.{late_by, together}
+use Rattle.plan_facts.specs.Ends.{late_by}
+use Rattle.process_words.specs.Processes.{together}
 
 -- one number is above another where it isn't at most that
 pub above : (a b : ℕ) → ¬ (a ≤ b) → b < a

@@ -3,6 +3,7 @@ use Rattle.std.specs.Prelude.{ℕ, ◌-◌, Bool, List, ◌++◌, codes, decimal
 use Rattle.ttp_model.specs.declared.plan.Plan.{Plan}
 use Rattle.ttp_model.specs.Instance.{Instance, link_at, process_at}
 use Rattle.ttp_model.specs.Plans.{end_of, start_of}
+use Rattle.plan_facts.specs.Ends.{late_by, must_end_by}
 use Rattle.process_words.specs.Counts.{early_tail, ticks_words}
 use Rattle.ttp_model.specs.Names.{place_name, process_name}
 
@@ -22,21 +23,13 @@ early_words name place start release by = early_start_words name place start rel
 abbrev pub early_text : Instance → Plan → ℕ → List ℕ
 early_text i plan p = early_words (process_name i p) (place_name i p) (start_of plan p) (process_at i p).release (early_by i plan p)
 
--- by when a process has to end, at the latest
-abbrev pub last_end : Instance → ℕ → ℕ
-last_end i p = min (process_at i p).deadline i.cluster.horizon
-
--- whether that is its deadline
+-- whether what it has to end by is its deadline
 abbrev pub is_deadline : Instance → ℕ → Bool
 is_deadline i p = nat_le (process_at i p).deadline i.cluster.horizon
 
 -- which of both it is
 abbrev pub limit_words : Bool → List ℕ
 limit_words deadline = if deadline then codes "its deadline" else codes "the horizon"
-
--- by how much it ends too late
-abbrev pub late_by : Instance → Plan → ℕ → ℕ
-late_by i plan p = end_of i plan p - last_end i p
 
 -- that it ends after that
 unfoldable pub past_words : List ℕ → List ℕ → List ℕ → List ℕ
@@ -57,7 +50,7 @@ late_words limit time by = codes "  " ++ (limit ++ (codes " is " ++ (decimal tim
 unfoldable pub late_text : Instance → Plan → ℕ → List ℕ
 late_text i plan p =
     end_words (process_name i p) (place_name i p) (limit_words (is_deadline i p)) (start_of plan p) (process_at i p).wcet (end_of i plan p)
-    ++ late_words (limit_words (is_deadline i p)) (last_end i p) (late_by i plan p)
+    ++ late_words (limit_words (is_deadline i p)) (must_end_by i p) (late_by i plan p)
 
 -- for how long two processes run together
 abbrev pub together : Instance → Plan → ℕ → ℕ → ℕ

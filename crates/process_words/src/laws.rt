@@ -9,7 +9,8 @@ ghost use Rattle.ttp_model.specs.Instance.{Instance};
 ghost use Rattle.ttp_model.specs.Rules.{IsInstance};
 ghost use Rattle.process_words.specs.Counts.{apart};
 ghost use Rattle.process_words.specs.Lists.{entries_of, owners_of};
-ghost use Rattle.process_words.specs.Processes.{early_by, late_by, link_early_by, together};
+ghost use Rattle.plan_facts.specs.Ends.{late_by};
+ghost use Rattle.process_words.specs.Processes.{early_by, link_early_by, together};
 
 /// What is told as too many or too few of a list, or of a delay, is above 0.
 pub fn lists_differ()

@@ -3,8 +3,9 @@ use Rattle.std.proofs.Common.{◌≡◌, ℕ, Bool, true, List, ◌++◌, codes,
 use Rattle.ttp_model.specs.declared.plan.Plan.{Plan}
 use Rattle.ttp_model.specs.Instance.{Instance, link_at, process_at}
 use Rattle.ttp_model.specs.Plans.{end_of, start_of}
-use Rattle.ttp_model.specs.Names.{place_name, process_name}
-use Rattle.process_words.specs.Processes.{both_words, broken_link_text, end_words, first_run_words, is_deadline, last_end, late_by, late_text}
+use Rattle.plan_facts.specs.Ends.{late_by, must_end_by}
+use Rattle.process_words.specs.Names.{place_name, process_name}
+use Rattle.process_words.specs.Processes.{both_words, broken_link_text, end_words, first_run_words, is_deadline, late_text}
 use Rattle.process_words.specs.Processes.{late_words, limit_words, overlap_text, overlap_words, past_words, run_words, wait_words}
 use Rattle.telling_evidence.proofs.Joined.{of_four}
 
@@ -16,7 +17,7 @@ unfolding late_text end_words past_words
 after_its_deadline i plan p old new same e =
     let due : is_deadline i p ≡ true = grind (arith, same) in
     let rest : List ℕ = codes ".\n" ++ (run_words (start_of plan p) (process_at i p).wcet (end_of i plan p)
-    ++ late_words (limit_words (is_deadline i p)) (last_end i p) (late_by i plan p)) in (
+    ++ late_words (limit_words (is_deadline i p)) (must_end_by i p) (late_by i plan p)) in (
       rest,
       e ∙ ap (λ t. old ++ t) (of_four (process_name i p) _ _ _ ∙ ap (λ t. process_name i p ++ (codes " on " ++ t)) (of_four (place_name i p) _ _ _
           ∙ ap (λ t. place_name i p ++ (codes " ends after " ++ t)) (of_four (limit_words (is_deadline i p)) _ _ _

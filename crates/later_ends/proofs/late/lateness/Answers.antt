@@ -2,7 +2,7 @@ use Rattle.std.proofs.Common.{max, map, arith}
 use Rattle.std.specs.List.{range_with_len}
 use Rattle.std.proofs.lemmas.List.FromFn.{map-range_with_len_more}
 use Rattle.std.proofs.lemmas.List.Sums.{fold_push}
-use Rattle.later_ends.specs.Lateness.{late_by}
+use Rattle.plan_facts.specs.Ends.{late_by}
 use Rattle.later_ends.proofs.late.lateness.Goals as goal
 
 pub loop-p-preserved : goal.loop-p-preserved

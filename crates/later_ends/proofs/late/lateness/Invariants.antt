@@ -1,7 +1,7 @@
 use Rattle.std.proofs.Common.{◌≡◌, ◌^◌, ◌<◌, map}
 use Rattle.std.specs.List.{range_with_len}
 use Rattle.ttp_model.specs.Lists.{greatest}
-use Rattle.later_ends.specs.Lateness.{late_by}
+use Rattle.plan_facts.specs.Ends.{late_by}
 use Rattle.later_ends.proofs.late.lateness.Given as goal
 
 abbrev pub invariant-loop-p : goal.invariant-loop-p
