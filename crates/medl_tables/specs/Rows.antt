@@ -4,10 +4,9 @@ use Rattle.std.specs.Prelude.{ℕ, List, map, filter, length, slice_index, Bool,
 use Rattle.std.specs.List.{flat_map, list_any, range_with_len}
 use Rattle.ttp_model.specs.declared.plan.Plan.{Plan}
 use Rattle.ttp_model.specs.Instance.{Instance, message_at, node_of, source_of}
-use Rattle.ttp_model.specs.Plans.{bytes_on}
+use Rattle.ttp_model.specs.Plans.{bytes_on, is_in_frame_on}
 use Rattle.ttp_model.specs.Totals.{total}
 use Rattle.tt_layout.specs.Cycle.{cycle_rounds}
-use Rattle.plan_facts.specs.Frames.{is_in_frame_on}
 use Rattle.medl_tables.specs.declared.row.Entry.{Entry}
 use Rattle.medl_tables.specs.declared.row.Row.{Row}
 

@@ -5,10 +5,9 @@ ghost use Rattle.ttp_model.specs.Plans.{HasLengths, IsValid};
 ghost use Rattle.medl_tables.specs.Rows.{entries_of, entries_on, is_entry, is_received_on, is_shown_on, round_rows, row_of, rows_of};
 
 use crate::row::{Entries, Entry, Row};
-use plan_facts::is_in_frame_on;
 use std::alloc::Global;
 use tt_layout::cycle_rounds;
-use ttp_model::{Instance, MOST_NODES, MemoryFault, Plan, bytes_on};
+use ttp_model::{Instance, MOST_NODES, MemoryFault, Plan, bytes_on, is_in_frame_on};
 
 /// The table of a node.
 pub fn rows_of(

@@ -7,10 +7,10 @@ use Rattle.std.proofs.lemmas.List.Folds.{Any-from_list_any}
 use Rattle.std.proofs.lemmas.List.FromFn.{get_or-map-range_with_len, length-map-range_with_len}
 use Rattle.ttp_model.specs.declared.plan.Plan.{Plan}
 use Rattle.ttp_model.specs.Instance.{Instance, message_at, node_of, source_of}
+use Rattle.ttp_model.specs.Plans.{is_in_frame_on}
 use Rattle.tt_layout.proofs.Ranges.{All-flat_map, flat_map-range_with_len_more}
 use Rattle.medl_tables.specs.declared.row.Entry.{Entry}
 use Rattle.medl_tables.specs.declared.row.Row.{Row}
-use Rattle.plan_facts.specs.Frames.{is_in_frame_on}
 use Rattle.medl_tables.specs.Rows.{entries_on, entry_of, is_entry, is_shown_on, round_rows, row_of, rows_of}
 use Rattle.medl_tables.specs.Medl.{Medl, medl_of}
 use Rattle.model_evidence.specs.NodeTables.{Concerns, EachEntry, IsPlaced}

@@ -1,11 +1,12 @@
 -- Why a process of a plan starts when it does, and why a message is sent in its round. Own profile.
 use Rattle.std.specs.Prelude.{◌≡◌, ◌≢◌, ℕ, ◌<◌, Option, None, Some, length}
 use Rattle.ttp_model.specs.declared.plan.Plan.{Plan}
+use Rattle.ttp_model.specs.Graph.{Receives}
 use Rattle.ttp_model.specs.Instance.{Instance, link_at, node_of, process_at}
 use Rattle.ttp_model.specs.Lists.{EachBelow}
 use Rattle.ttp_model.specs.Plans.{end_of, round_of, start_of}
 use Rattle.plan_facts.specs.Earliest.{CanBeSentFrom, IsFirstRoom, IsFirstStart}
-use Rattle.plan_facts.specs.Messages.{IsFirstInTime, Receives, arrival}
+use Rattle.plan_facts.specs.Messages.{IsFirstInTime, arrival}
 use Rattle.plan_chain.specs.declared.chain.RoundCause.{RoundCause}
 use Rattle.plan_chain.specs.declared.chain.RoundCause.TheVariants.{CouldGo, First, Full}
 use Rattle.plan_chain.specs.declared.chain.StartCause.{StartCause}

@@ -1,9 +1,9 @@
 //! Why does a process start when it does?
 
 ghost use Rattle.std.specs.Prelude.{◌≡◌, ◌<◌, ◌↔◌, IsTrue, length};
+ghost use Rattle.ttp_model.specs.Graph.{Receives};
 ghost use Rattle.ttp_model.specs.Plans.{HasLengths, IsValid};
 ghost use Rattle.tt_layout.specs.Layout.{timing};
-ghost use Rattle.plan_facts.specs.Messages.{Receives};
 ghost use Rattle.plan_chain.specs.Causes.{Finds, IsStartCause, LinkHolds, MessageHolds, ProcessHolds};
 
 use crate::chain::StartCause;

@@ -3,10 +3,10 @@ use Rattle.std.proofs.Common.{◌≡◌, ℕ, Bool, ◌<◌, true, List, length,
 use Rattle.std.proofs.lemmas.Bool.{eqb-true, eq-eqb}
 use Rattle.ttp_model.specs.declared.plan.Plan.{Plan}
 use Rattle.ttp_model.specs.Instance.{Instance, message_at, node_of}
-use Rattle.ttp_model.specs.Network.{indices, is_received_by, is_on, received_by, processes_on}
+use Rattle.ttp_model.specs.Graph.{Receives}
+use Rattle.ttp_model.specs.Network.{indices, is_received_by, is_process_of, received_by, processes_on}
 use Rattle.ttp_model.proofs.Indices.{picked, Contains-from_any, any_from_Contains}
 use Rattle.plan_facts.specs.Earliest.{GoesBefore}
-use Rattle.plan_facts.specs.Messages.{Receives}
 
 -- each entry was picked
 picked_listed : (test : ℕ → Bool) (count k : ℕ) (list : List ℕ) → list ≡ indices test count → k < length list → test (slice_index list k) ≡ true
@@ -22,7 +22,7 @@ pub received_is_listed : (i : Instance) (p m : ℕ) → Receives i p m → is_re
 received_is_listed i p m receives = any_from_Contains (message_at i m).receivers p receives
 
 pub listed_is_on : (i : Instance) (n k : ℕ) (list : List ℕ) → list ≡ processes_on i n → k < length list → node_of i (slice_index list k) ≡ n
-listed_is_on i n k list is inside = eqb-true (node_of i (slice_index list k)) n (picked_listed (is_on i n) (length i.processes) k list is inside)
+listed_is_on i n k list is inside = eqb-true (node_of i (slice_index list k)) n (picked_listed (is_process_of i n) (length i.processes) k list is inside)
 
-pub before_is_on : (i : Instance) (plan : Plan) (p q : ℕ) → GoesBefore i plan p q → is_on i (node_of i p) q ≡ true
+pub before_is_on : (i : Instance) (plan : Plan) (p q : ℕ) → GoesBefore i plan p q → is_process_of i (node_of i p) q ≡ true
 before_is_on i plan p q goes = eq-eqb (node_of i q) (node_of i p) goes.0

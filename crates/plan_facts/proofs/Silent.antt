@@ -5,10 +5,10 @@ use Rattle.std.proofs.lemmas.Bool.Decides.{eqb_tells}
 use Rattle.std.proofs.lemmas.Grind.{common_steps}
 use Rattle.ttp_model.specs.declared.plan.Plan.{Plan}
 use Rattle.ttp_model.specs.Instance.{Instance, source_of}
-use Rattle.ttp_model.specs.Plans.{HasLengths, bytes_in, bytes_on, load_on, round_of}
+use Rattle.ttp_model.specs.Plans.{HasLengths, bytes_in, bytes_on, is_in_frame_on, load_on, round_of}
 use Rattle.ttp_model.proofs.Channels.{on_at_most}
 use Rattle.ttp_model.proofs.Totals.{total_none}
-use Rattle.plan_facts.specs.Frames.{is_in_frame_on, messages_on}
+use Rattle.plan_facts.specs.Frames.{messages_on}
 use Rattle.plan_facts.proofs.Filters.{filter_none}
 
 module _ (i : Instance) (plan : Plan) (n r c : ℕ) where

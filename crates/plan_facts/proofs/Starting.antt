@@ -3,12 +3,13 @@ use Rattle.std.proofs.Common.{◌≡◌, ℕ, ◌+◌, ◌<◌, ◌≤◌, lengt
 use Rattle.std.proofs.lemmas.Grind.{common_steps}
 use Rattle.ttp_model.specs.declared.plan.Plan.{Plan}
 use Rattle.ttp_model.specs.Instance.{Instance, message_at, process_at}
+use Rattle.ttp_model.specs.Graph.{Receives}
 use Rattle.ttp_model.specs.Raising.{IsRaised}
 use Rattle.ttp_model.specs.Plans.{IsValid, end_of, start_of}
 use Rattle.ttp_model.proofs.Raising.{raised_least}
 use Rattle.tt_moves.specs.Earlier.{CanStart}
 use Rattle.plan_facts.specs.Earliest.{GoesBefore, IsFirstStart}
-use Rattle.plan_facts.specs.Messages.{Receives, arrival}
+use Rattle.plan_facts.specs.Messages.{arrival}
 
 module _ (i : Instance) (plan : Plan) (p : ℕ) where
   pub first_start : (release arrived time : ℕ) → release ≡ (process_at i p).release

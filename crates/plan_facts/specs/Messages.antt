@@ -1,13 +1,9 @@
 -- When a message of a plan is ready, and when it is there. Own profile.
-use Rattle.std.specs.Prelude.{ℕ, ◌+◌, Contains}
+use Rattle.std.specs.Prelude.{ℕ, ◌+◌}
 use Rattle.ttp_model.specs.declared.plan.Plan.{Plan}
 use Rattle.ttp_model.specs.Instance.{Instance, message_at, source_of}
 use Rattle.ttp_model.specs.Plans.{end_of, sent_until}
 use Rattle.tt_layout.specs.Layout.{IsFirstRound, timing}
-
--- p receives message m
-abbrev pub Receives : Instance → ℕ → ℕ → Type 0
-Receives i p m = Contains (message_at i m).receivers p
 
 -- when message m has been copied out
 abbrev pub ready_at : Instance → Plan → ℕ → ℕ

@@ -2,23 +2,15 @@
 
 ghost use Rattle.std.specs.Prelude.{◌≡◌, ◌*◌, ◌<◌, ◌≤◌, All, IfOk, length};
 ghost use Rattle.ttp_model.specs.Plans.{HasLengths, load_on};
-ghost use Rattle.plan_facts.specs.Frames.{is_in_frame_on, messages_on};
+ghost use Rattle.plan_facts.specs.Frames.{messages_on};
 
 use std::alloc::Global;
-use ttp_model::{Instance, MOST_BYTES, MOST_MESSAGES, MemoryFault, Numbers, Plan, bytes_on, is_on};
+use ttp_model::{
+    Instance, MOST_BYTES, MOST_MESSAGES, MemoryFault, Numbers, Plan, bytes_on, is_in_frame_on,
+};
 
-/// Whether message `m` is in the frame of node `n` in round `r` on channel `c`. One step.
-pub fn is_in_frame_on(instance: &Instance, plan: &Plan, n: u32, r: u32, c: u32, m: usize) -> bool
-    requires lengths { HasLengths instance.now plan.now }
-    requires inside { m < length instance.now.messages }
-    ensures { result ≡ is_in_frame_on instance.now plan.now n r c m }
-{
-    let round = plan.rounds.as_slice()[m];
-    let number = plan.channels.as_slice()[m];
-    instance.source_of(m) == n && round == r && is_on(c, number)
-}
-
-/// The messages of that frame on that channel, in the instance's order. Takes memory for them; one pass over the messages.
+/// The messages of the frame of node `n` in round `r` on channel `c`, in the instance's order. Takes memory for them; one
+/// pass over the messages.
 pub fn messages_on(
     alloc: Global,
     instance: &Instance,

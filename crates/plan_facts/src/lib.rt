@@ -9,7 +9,7 @@ mod rounds;
 mod starts;
 
 pub use ends::{late_by, must_end_by};
-pub use frames::{is_in_frame_on, load_on, messages_on};
+pub use frames::{load_on, messages_on};
 pub use messages::{arrival, first_in_time, ready_at};
 pub use rounds::first_room;
 pub use starts::first_start;

@@ -1,11 +1,12 @@
 //! How early can a process start, where nothing else changes?
 
 ghost use Rattle.std.specs.Prelude.{◌≡◌, ◌<◌, length};
+ghost use Rattle.ttp_model.specs.Graph.{Receives};
 ghost use Rattle.ttp_model.specs.Raising.{IsRaised};
 ghost use Rattle.ttp_model.specs.Plans.{HasLengths, IsValid, end_of};
 ghost use Rattle.tt_layout.specs.Layout.{timing};
 ghost use Rattle.plan_facts.specs.Earliest.{GoesBefore, IsFirstStart};
-ghost use Rattle.plan_facts.specs.Messages.{Receives, arrival};
+ghost use Rattle.plan_facts.specs.Messages.{arrival};
 
 use crate::messages::arrival;
 use tt_layout::Layout;

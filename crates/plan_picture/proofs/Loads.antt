@@ -5,10 +5,9 @@ use Rattle.std.proofs.lemmas.List.{append-nil}
 use Rattle.std.proofs.lemmas.Bool.{cases_Bool, false≢true}
 use Rattle.ttp_model.specs.declared.plan.Plan.{Plan}
 use Rattle.ttp_model.specs.Instance.{Instance, message_at, source_of}
-use Rattle.ttp_model.specs.Plans.{bytes_on, channel_of, is_on, round_of}
+use Rattle.ttp_model.specs.Plans.{bytes_on, channel_of, is_in_frame_on, is_on, round_of}
 use Rattle.ttp_model.specs.Totals.{total}
 use Rattle.ttp_model.proofs.Totals.{total_more}
-use Rattle.plan_facts.specs.Frames.{is_in_frame_on}
 use Rattle.plan_facts.proofs.Filters.{filter_more}
 
 -- what is asked for in two steps is there where both hold

@@ -4,12 +4,11 @@ use Rattle.std.specs.Prelude.{nat_lt}
 use Rattle.std.proofs.lemmas.Bool.{and_parts, cases_eq, eqb-true, lt-ltb}
 use Rattle.ttp_model.specs.declared.plan.Plan.{Plan}
 use Rattle.ttp_model.specs.Instance.{Instance, source_of}
-use Rattle.ttp_model.specs.Plans.{bytes_on, channel_of, is_on, load_on, round_of, sent_from}
+use Rattle.ttp_model.specs.Plans.{bytes_on, channel_of, is_in_frame_on, is_on, load_on, round_of, sent_from}
 use Rattle.ttp_model.specs.Slots.{slot_start}
 use Rattle.ttp_model.specs.Totals.{total}
 use Rattle.ttp_model.proofs.Totals.{total_more}
 use Rattle.plan_sheets.specs.declared.slots.Slot.{Slot}
-use Rattle.plan_facts.specs.Frames.{is_in_frame_on}
 use Rattle.plan_sheets.proofs.Least.{least-le}
 use Rattle.plan_picture.specs.declared.canvas.Canvas.{Canvas}
 use Rattle.plan_picture.specs.Names.{room_of, ticks_to}

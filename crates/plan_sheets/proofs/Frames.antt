@@ -5,8 +5,8 @@ use Rattle.std.proofs.lemmas.List.Elements.{All-filter}
 use Rattle.std.proofs.lemmas.List.FromFn.{get_or-range_with_len, length-range_with_len}
 use Rattle.ttp_model.specs.declared.plan.Plan.{Plan}
 use Rattle.ttp_model.specs.Instance.{Instance}
-use Rattle.ttp_model.specs.Plans.{IsValid}
-use Rattle.plan_facts.specs.Frames.{is_in_frame_on, messages_on}
+use Rattle.ttp_model.specs.Plans.{IsValid, is_in_frame_on}
+use Rattle.plan_facts.specs.Frames.{messages_on}
 use Rattle.plan_sheets.specs.Slots.{IsSlotRow, slot_of}
 
 module _ (i : Instance) (plan : Plan) (n r c : ℕ) where

@@ -16,7 +16,7 @@ use tt_layout::{Layout, cycle_rounds};
 use ttp_model::{Instance, MOST_NODES, MOST_TICKS, MemoryFault, Numbers, Plan};
 
 /// A slot of the cycle, on a channel.
-#[derive(Debug, Drop)]
+#[derive(Drop)]
 pub struct Slot {
     /// The round, from 0.
     pub round: u32,

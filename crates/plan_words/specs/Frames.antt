@@ -3,10 +3,10 @@ use Rattle.std.specs.Prelude.{ℕ, ◌-◌, ◌==◌, ◌%◌, List, [], ◌++�
 use Rattle.std.specs.List.{flat_map, range_with_len}
 use Rattle.ttp_model.specs.declared.plan.Plan.{Plan}
 use Rattle.ttp_model.specs.Instance.{Instance, message_at}
+use Rattle.ttp_model.specs.Names.{message_name, node_name}
 use Rattle.ttp_model.specs.Plans.{load_on}
 use Rattle.plan_facts.specs.Frames.{messages_on}
 use Rattle.process_words.specs.Counts.{bytes_words}
-use Rattle.process_words.specs.Names.{message_name, node_name}
 
 -- how many items of a list are told, and in how many to a line
 abbrev pub most_items : ℕ

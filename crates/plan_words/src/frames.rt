@@ -3,14 +3,14 @@
 ghost use Rattle.std.specs.Prelude.{◌≡◌, ◌++◌, ◌<◌, ◌≤◌, All, OnOk, length, slice_index, string_bytes};
 ghost use Rattle.std.specs.List.{flat_map, range_with_len};
 ghost use Rattle.ttp_model.specs.Instance.{message_at};
+ghost use Rattle.ttp_model.specs.Names.{message_name};
 ghost use Rattle.ttp_model.specs.Plans.{HasLengths, load_on};
 ghost use Rattle.plan_facts.specs.Frames.{messages_on};
 ghost use Rattle.process_words.specs.Counts.{bytes_words};
-ghost use Rattle.process_words.specs.Names.{message_name};
 ghost use Rattle.plan_words.specs.Frames.{content_text, excess_words, full_on_text, full_frame_on_words, full_text, full_frame_words, item_text, item_words, items_text, load_words, more_words, most_items, rest_words, separator, too_full_by};
 
 use plan_facts::{load_on, messages_on};
-use process_words::{Bytes, message_name, node_name};
+use process_words::Bytes;
 use std::alloc::{AllocError, Global};
 use ttp_model::{Instance, MemoryFault, Plan};
 
@@ -34,7 +34,7 @@ pub fn put_full(
     requires inside { n < length instance.now.nodes }
     ensures { OnOk result (string_bytes text.new ≡ string_bytes text.old ++ full_text instance.now plan.now n r) }
 {
-    put_full_head(text, node_name(instance, n as usize), r)?;
+    put_full_head(text, instance.node_name(n as usize), r)?;
     put_content(alloc, text, instance, plan, n, r, 0)
 }
 
@@ -53,7 +53,7 @@ pub fn put_full_on(
     requires inside { n < length instance.now.nodes }
     ensures { OnOk result (string_bytes text.new ≡ string_bytes text.old ++ full_on_text instance.now plan.now n r c) }
 {
-    put_full_on_head(text, node_name(instance, n as usize), r, c)?;
+    put_full_on_head(text, instance.node_name(n as usize), r, c)?;
     put_content(alloc, text, instance, plan, n, r, c)
 }
 
@@ -176,7 +176,7 @@ fn put_item(text: &mut String, instance: &Instance, m: usize, k: usize) -> Resul
         ++ item_words (separator k) (message_name instance.now m) (message_at instance.now m).bytes) }
 {
     let message = instance.message_at(m);
-    put_name(text, separator(k), message_name(instance, m), message.bytes)
+    put_name(text, separator(k), instance.message_name(m), message.bytes)
 }
 
 /// Adds its name and its bytes, behind what stands before it.

@@ -3,14 +3,14 @@
 ghost use Rattle.std.specs.Prelude.{◌≡◌, ◌++◌, ◌<◌, OnOk, Some, length, string_bytes};
 ghost use Rattle.ttp_model.specs.Instance.{message_at};
 ghost use Rattle.ttp_model.specs.Lists.{EachBelow};
+ghost use Rattle.ttp_model.specs.Names.{place_name, process_name, source_name};
 ghost use Rattle.ttp_model.specs.Plans.{EndsInTime, HasLengths, end_of, round_of, sent_from, sent_until, start_of};
 ghost use Rattle.plan_facts.specs.Messages.{arrival, ready_at};
 ghost use Rattle.plan_words.specs.Slots.{CanBeLaid};
-ghost use Rattle.process_words.specs.Names.{place_name, process_name, source_name};
 ghost use Rattle.plan_words.specs.Messages.{allowed_words, copied_words, sender_words, slot_end_words, there_words, copied_in_words, channel_words, first_round, first_slot, receiver_early_by, slot_early_by, ready_words, receiver_words, first_round_words, slot_words, unheard_text, unheard_words, unready_text, unready_words, wrong_channel_text, wrong_channel_words};
 
 use plan_facts::{arrival, first_in_time, ready_at};
-use process_words::{Ticks, message_name, place_name, process_name, source_name};
+use process_words::Ticks;
 use std::alloc::AllocError;
 use std::fmt;
 use tt_layout::Layout;
@@ -29,7 +29,7 @@ pub fn put_unready(
     requires inside { m < length instance.now.messages }
     ensures { OnOk result (string_bytes text.new ≡ string_bytes text.old ++ unready_text instance.now plan.now m) }
 {
-    put_unready_head(text, message_name(instance, m))?;
+    put_unready_head(text, instance.message_name(m))?;
     put_sender(text, instance, plan, m)?;
     put_slot_start(text, instance, plan, m)?;
     put_first_round(text, instance, plan, m)
@@ -57,7 +57,7 @@ fn put_sender(
         (end_of instance.now plan.now (message_at instance.now m).sender) instance.now.cluster.copy_out (ready_at instance.now plan.now m)) }
 {
     let p = instance.message_at(m).sender as usize;
-    let (sender, place) = (process_name(instance, p), source_name(instance, m));
+    let (sender, place) = (instance.process_name(p), instance.source_name(m));
     let copy_out = instance.cluster().copy_out;
     let (end, ready) = (end_of(instance, plan, p), ready_at(instance, plan, m));
     put_ready(text, sender, place, end, copy_out, ready)
@@ -114,7 +114,7 @@ fn put_slot_start(
     let round = plan.rounds.as_slice()[m];
     let start = layout.slot_start(instance.source_of(m), round);
     let by = ready_at(instance, plan, m).saturating_sub(start);
-    put_slot(text, source_name(instance, m), round, start, by)
+    put_slot(text, instance.source_name(m), round, start, by)
 }
 
 /// Adds the line of it.
@@ -191,7 +191,7 @@ pub fn put_unheard(
     requires receiver { q < length instance.now.processes }
     ensures { OnOk result (string_bytes text.new ≡ string_bytes text.old ++ unheard_text instance.now plan.now m q) }
 {
-    put_unheard_head(text, process_name(instance, q), message_name(instance, m))?;
+    put_unheard_head(text, instance.process_name(q), instance.message_name(m))?;
     put_slot_end(text, instance, plan, m)?;
     put_receiver(text, instance, plan, m, q)
 }
@@ -221,7 +221,7 @@ fn put_slot_end(
     let round = plan.rounds.as_slice()[m];
     put_arrival(
         text,
-        source_name(instance, m),
+        instance.source_name(m),
         round,
         layout.slot_end(instance.source_of(m), round),
         instance.cluster().copy_in,
@@ -283,8 +283,8 @@ fn put_receiver(
     let by = arrival(instance, plan, &layout, m).saturating_sub(start);
     put_receiver_start(
         text,
-        process_name(instance, q),
-        place_name(instance, q),
+        instance.process_name(q),
+        instance.place_name(q),
         start,
         by,
     )
@@ -324,7 +324,7 @@ pub fn put_wrong_channel(
     };
     put_channel(
         text,
-        message_name(instance, m),
+        instance.message_name(m),
         allowed(instance, m),
         channel,
     )

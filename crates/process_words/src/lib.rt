@@ -4,11 +4,9 @@
 mod counts;
 mod laws;
 mod lists;
-mod names;
 mod processes;
 
 pub use counts::{Bytes, Ticks, apart, put_early_by, side_of};
 pub use laws::{lists_differ, processes_lack_time};
 pub use lists::{put_capacity, put_length, put_order};
-pub use names::{message_name, node_name, place_name, process_name, source_name};
 pub use processes::{limit_name, put_broken_link, put_early, put_late, put_limit, put_overlap};

@@ -6,7 +6,6 @@ ghost use Rattle.process_words.specs.Counts.{ticks_words};
 ghost use Rattle.process_words.specs.Processes.{both_words, ends_words, first_run_words, other_words, past_words, run_words, early_start_words, together_tail, broken_link_text, early_text, early_words, end_words, is_deadline, late_text, late_words, limit_words, both_ticks_words, overlap_text, overlap_words, together, wait_words};
 
 use crate::counts::{Ticks, put_early_by};
-use crate::names::{place_name, process_name};
 use plan_facts::{late_by, must_end_by};
 use std::alloc::AllocError;
 use ttp_model::{Instance, Plan, end_of};
@@ -40,8 +39,8 @@ pub fn put_early(
     let by = release.saturating_sub(start);
     put_early_start(
         text,
-        process_name(instance, p),
-        place_name(instance, p),
+        instance.process_name(p),
+        instance.place_name(p),
         start,
         release,
         by,
@@ -100,8 +99,8 @@ pub fn put_late(
     let by = late_by(instance, plan, p);
     put_end(
         text,
-        process_name(instance, p),
-        place_name(instance, p),
+        instance.process_name(p),
+        instance.place_name(p),
         limit,
         start,
         wcet,
@@ -181,10 +180,10 @@ pub fn put_overlap(
     requires second { q < length instance.now.processes }
     ensures { OnOk result (string_bytes text.new ≡ string_bytes text.old ++ overlap_text instance.now plan.now p q) }
 {
-    let (name, other) = (process_name(instance, p), process_name(instance, q));
+    let (name, other) = (instance.process_name(p), instance.process_name(q));
     let (start, end) = span_of(instance, plan, p);
     let (other_start, other_end) = span_of(instance, plan, q);
-    put_overlapping(text, name, other, place_name(instance, p))?;
+    put_overlapping(text, name, other, instance.place_name(p))?;
     let by = end.min(other_end).saturating_sub(start.max(other_start));
     put_both(text, name, start, end, other, other_start, other_end, by)
 }
@@ -260,8 +259,8 @@ pub fn put_broken_link(
 {
     let link = instance.link_at(l);
     let (p, q) = (link.before as usize, link.after as usize);
-    let (before, after) = (process_name(instance, p), process_name(instance, q));
-    put_wait(text, after, place_name(instance, q), before, l)?;
+    let (before, after) = (instance.process_name(p), instance.process_name(q));
+    put_wait(text, after, instance.place_name(q), before, l)?;
     let end = end_of(instance, plan, p);
     let start = u64::from(plan.starts.as_slice()[q]);
     put_link(text, before, end, after, start, end.saturating_sub(start))

@@ -2,9 +2,9 @@
 use Rattle.std.proofs.Common.{◌≡◌, ℕ, Bool, true, List, ◌++◌, codes, decimal, sym, ap, ◌∙◌, append_assoc, arith}
 use Rattle.ttp_model.specs.declared.plan.Plan.{Plan}
 use Rattle.ttp_model.specs.Instance.{Instance, link_at, process_at}
+use Rattle.ttp_model.specs.Names.{place_name, process_name}
 use Rattle.ttp_model.specs.Plans.{end_of, start_of}
 use Rattle.plan_facts.specs.Ends.{late_by, must_end_by}
-use Rattle.process_words.specs.Names.{place_name, process_name}
 use Rattle.process_words.specs.Processes.{both_words, broken_link_text, end_words, first_run_words, is_deadline, late_text}
 use Rattle.process_words.specs.Processes.{late_words, limit_words, overlap_text, overlap_words, past_words, run_words, wait_words}
 use Rattle.telling_evidence.proofs.Joined.{of_four}

@@ -6,8 +6,8 @@ use Rattle.ttp_model.specs.declared.step.Step.TheVariants.{XMirror}
 use Rattle.ttp_model.specs.Limits.{both_channels}
 use Rattle.ttp_model.specs.Instance.{Instance, source_of}
 use Rattle.ttp_model.specs.Rules.{IsInstance}
-use Rattle.ttp_model.specs.Plans.{channel_of, round_of}
-use Rattle.ttp_model.specs.Moves.{IsSettled, TurnsFrame, is_alone_in, is_in_frame, first_alone, leads_turned, turned}
+use Rattle.ttp_model.specs.Plans.{channel_of, is_in_frame, round_of}
+use Rattle.ttp_model.specs.Moves.{IsSettled, TurnsFrame, is_alone_in, first_alone, leads_turned, turned}
 use Rattle.ttp_model.proofs.TurnedFrames.{first_is}
 use Rattle.tt_moves.proofs.TurnedFrames.{turned_valid}
 use Rattle.tt_choice.specs.Choice.{Choice, IsFixedTo, IsIn, fixed_channel}

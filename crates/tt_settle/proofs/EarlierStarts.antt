@@ -5,6 +5,7 @@ use Rattle.std.proofs.lemmas.List.Sums.{sum_by-set}
 use Rattle.std.proofs.lemmas.Grind.{common_steps}
 use Rattle.ttp_model.specs.declared.plan.Plan.{Plan}
 use Rattle.ttp_model.specs.declared.error.Place.TheVariants.{AtProcess}
+use Rattle.ttp_model.specs.Graph.{Receives}
 use Rattle.ttp_model.specs.Instance.{Instance, process_at, message_at, node_of}
 use Rattle.ttp_model.specs.Rules.{IsInstance}
 use Rattle.ttp_model.specs.Plans.{EndsBefore, IsValid, start_of, end_of}
@@ -14,7 +15,7 @@ use Rattle.ttp_model.proofs.Delays.{by_starts}
 use Rattle.tt_moves.specs.Earlier.{CanStart}
 use Rattle.tt_moves.proofs.EarlierStarts.{started_valid, starts_le}
 use Rattle.plan_facts.specs.Earliest.{IsFirstStart}
-use Rattle.plan_facts.specs.Messages.{Receives, arrival}
+use Rattle.plan_facts.specs.Messages.{arrival}
 use Rattle.plan_facts.proofs.Starting.{can_start_later, can_start_now}
 use Rattle.tt_settle.specs.Settling.{IsBetter, RestsAtStart}
 

@@ -1,6 +1,6 @@
 use Rattle.std.proofs.Common.{◌≡◌, ◌∙◌, ℕ, ◌<◌, List, [], ◌∷◌, ◌++◌, All, length, sym}
 use Rattle.std.proofs.lemmas.List.Elements.{All-append, All-cons, All-nil}
-use Rattle.plan_facts.specs.Frames.{is_in_frame_on}
+use Rattle.ttp_model.specs.Plans.{is_in_frame_on}
 use Rattle.plan_facts.proofs.Filters.{filter_left, filter_taken}
 use Rattle.plan_facts.proofs.frames.messages_on.Goals.{then-is_in_frame_on+in_ok-push, else-is_in_frame_on}
 use Rattle.plan_facts.proofs.frames.messages_on.Goals as goal

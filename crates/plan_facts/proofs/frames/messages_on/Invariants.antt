@@ -1,6 +1,6 @@
 use Rattle.std.proofs.Common.{◌≡◌, ◌<◌, All, filter, length}
 use Rattle.std.specs.List.{range_with_len}
-use Rattle.plan_facts.specs.Frames.{is_in_frame_on}
+use Rattle.ttp_model.specs.Plans.{is_in_frame_on}
 use Rattle.plan_facts.proofs.frames.messages_on.Given as goal
 
 abbrev pub invariant-loop-m : goal.invariant-loop-m

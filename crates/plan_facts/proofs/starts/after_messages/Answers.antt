@@ -1,8 +1,9 @@
 use Rattle.std.proofs.Common.{ℕ, length, slice_index, arith}
+use Rattle.ttp_model.specs.Graph.{Receives}
 use Rattle.ttp_model.specs.Network.{is_received_by}
 use Rattle.ttp_model.proofs.Raising.{raised_none, raised_more}
 use Rattle.ttp_model.proofs.Indices.{raised_listed}
-use Rattle.plan_facts.specs.Messages.{Receives, arrival}
+use Rattle.plan_facts.specs.Messages.{arrival}
 use Rattle.plan_facts.proofs.Listed.{listed_is_received, received_is_listed}
 use Rattle.plan_facts.proofs.starts.after_messages.Goals as goal
 

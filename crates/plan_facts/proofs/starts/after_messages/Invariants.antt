@@ -1,6 +1,7 @@
 use Rattle.std.proofs.Common.{ℕ, ◌≤◌, length, slice_index}
+use Rattle.ttp_model.specs.Graph.{Receives}
 use Rattle.ttp_model.specs.Raising.{IsRaised}
-use Rattle.plan_facts.specs.Messages.{Receives, arrival}
+use Rattle.plan_facts.specs.Messages.{arrival}
 use Rattle.plan_facts.proofs.starts.after_messages.Given as goal
 
 abbrev pub invariant-loop-m : goal.invariant-loop-m

@@ -1,6 +1,6 @@
 use Rattle.std.proofs.Common.{◌≡◌, ◌∙◌, ℕ, length, slice_index, arith, ap}
 use Rattle.ttp_model.specs.Instance.{node_of}
-use Rattle.ttp_model.specs.Network.{is_on}
+use Rattle.ttp_model.specs.Network.{is_process_of}
 use Rattle.ttp_model.specs.Plans.{end_of, start_of}
 use Rattle.ttp_model.proofs.Raising.{raised_none, raised_same, raised_more}
 use Rattle.ttp_model.proofs.Indices.{raised_listed}
@@ -37,4 +37,4 @@ returns c =
     let i = c.args.instance.now in
     let plan = c.args.plan.now in
     let list = rw c.node_of.ensures.value at c.processes_on-q-items.ensures.value in
-    raised_listed (GoesBefore i plan c.args.p) (end_of i plan) c.args.floor (is_on i (node_of i c.args.p)) (length i.processes) c.loop-q.time c.loop-q.q-index _ (λ q _. before_is_on i plan c.args.p q) list c.loop-q.invariant.within c.loop-q-test.false c.loop-q.invariant.raised
+    raised_listed (GoesBefore i plan c.args.p) (end_of i plan) c.args.floor (is_process_of i (node_of i c.args.p)) (length i.processes) c.loop-q.time c.loop-q.q-index _ (λ q _. before_is_on i plan c.args.p q) list c.loop-q.invariant.within c.loop-q-test.false c.loop-q.invariant.raised
