@@ -3,13 +3,13 @@ use Rattle.std.proofs.Common.{◌≡◌, ℕ, List, Option, None, Some, Result, 
 use Rattle.ttp_model.specs.Instance.{Instance}
 use Rattle.ttp_model.specs.Rules.{IsInstance}
 use Rattle.certificate.specs.Versions.{Allows}
-use Rattle.process_limits.specs.outcome.Options.{Options}
-use Rattle.process_limits.specs.declared.limit.EndLimit.{EndLimit}
-use Rattle.process_limits.specs.declared.limit.EndLimit.TheVariants.{Least, Reached, Between, Unknown, Infeasible}
-use Rattle.process_limits.specs.Answers.{cert_of, tick_of, IsEndLimit}
-use Rattle.process_limits.specs.Cut.{CanEndBy}
-use Rattle.process_limits.specs.Ends.{AreThere}
-use Rattle.process_limits.proofs.Texts as limits
+use Rattle.plan_questions.specs.outcome.Options.{Options}
+use Rattle.plan_questions.specs.declared.limits.limit.EndLimit.{EndLimit}
+use Rattle.plan_questions.specs.declared.limits.limit.EndLimit.TheVariants.{Least, Reached, Between, Unknown, Infeasible}
+use Rattle.plan_questions.specs.EndAnswers.{cert_of, tick_of, IsEndLimit}
+use Rattle.plan_questions.specs.Cut.{CanEndBy}
+use Rattle.plan_questions.specs.Ends.{AreThere}
+use Rattle.plan_questions.proofs.Texts as limits
 use Rattle.command_streams.specs.declared.ending.Fault.{Fault}
 use Rattle.command_streams.specs.declared.ending.Fault.TheVariants.{Memory, NoSuchProcess, Search}
 use Rattle.command_streams.specs.Instances.{HasInstance}

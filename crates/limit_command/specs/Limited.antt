@@ -7,10 +7,10 @@ use Rattle.ttp_model.specs.Instance.{Instance}
 use Rattle.ttp_model.specs.Plans.{IsValid}
 use Rattle.ttp_model.specs.Delays.{delay}
 use Rattle.plan_format.specs.Spelling.{SpellsPlan}
-use Rattle.process_limits.specs.outcome.Options.{Options}
-use Rattle.process_limits.specs.declared.limit.EndLimit.{EndLimit}
-use Rattle.process_limits.specs.declared.limit.EndLimit.TheVariants.{Least, Reached, Between, Unknown, Infeasible}
-use Rattle.process_limits.specs.Answers.{cert_of, searched, IsEndLimit}
+use Rattle.plan_questions.specs.outcome.Options.{Options}
+use Rattle.plan_questions.specs.declared.limits.limit.EndLimit.{EndLimit}
+use Rattle.plan_questions.specs.declared.limits.limit.EndLimit.TheVariants.{Least, Reached, Between, Unknown, Infeasible}
+use Rattle.plan_questions.specs.EndAnswers.{cert_of, searched, IsEndLimit}
 use Rattle.certificate.specs.Spelling.{SpellsCert}
 use Rattle.command_streams.specs.declared.ending.Source.TheVariants as source
 use Rattle.command_streams.specs.declared.ending.Fault.{Fault}

@@ -5,7 +5,7 @@ ghost use Rattle.answer_files.specs.Writing.{IsToldAt};
 ghost use Rattle.limit_command.specs.Limited.{end_told, first_line, line_of, plan_of, HasValidPlan, IsLimitText};
 
 use command_streams::End;
-use process_limits::EndLimit;
+use plan_questions::EndLimit;
 use std::alloc::{AllocError, Global};
 use std::fmt;
 use ttp_model::{Instance, MemoryFault, Plan};

@@ -7,5 +7,5 @@ mod names;
 mod texts;
 
 pub use limits::limit_run;
-pub use process_limits::Options;
+pub use plan_questions::Options;
 pub use texts::Beside;

@@ -3,7 +3,7 @@
 ghost use Rattle.std.specs.Prelude.{◌≡◌, ◌+◌, IfOk, IfSome, MatchResult};
 ghost use Rattle.command_streams.specs.Limits.{instance_limit};
 ghost use Rattle.command_streams.specs.Streams.{TakesAtMost};
-ghost use Rattle.process_limits.specs.Ends.{AreThere};
+ghost use Rattle.plan_questions.specs.Ends.{AreThere};
 ghost use Rattle.answer_files.specs.Writing.{IsWritingOf};
 ghost use Rattle.limit_command.specs.Names.{texts_of};
 ghost use Rattle.limit_command.specs.Limited.{end_told, IsLimitAnswer, IsLimitBy, IsLimited, IsLimitedOf, IsNoLimitOf, IsUnlimited, IsUnsearched};
@@ -13,7 +13,7 @@ use crate::names::processes_of;
 use crate::texts::{Beside, texts_of};
 use answer_files::{FilesEnd, Texts, write_texts};
 use command_streams::{End, Fault, read_instance};
-use process_limits::{EndLimit, Options, least_end};
+use plan_questions::{EndLimit, Options, least_end};
 use solve_command::fault_of;
 use std::alloc::Global;
 use std::io::{Read, Write};

@@ -2,14 +2,14 @@
 
 ghost use Rattle.std.specs.Prelude.{IfOk, IfSome};
 ghost use Rattle.certificate.specs.Versions.{Allows};
-ghost use Rattle.process_limits.specs.Answers.{cert_of, cut_to, tick_of};
-ghost use Rattle.process_limits.specs.Cut.{CanEndBy};
+ghost use Rattle.plan_questions.specs.EndAnswers.{cert_of, cut_to, tick_of};
+ghost use Rattle.plan_questions.specs.Cut.{CanEndBy};
 ghost use Rattle.answer_files.specs.Writing.{IsTextOf};
 ghost use Rattle.limit_command.specs.Limited.{AreTextsOf, HasValidPlan, IsCertificateText, IsSearchedText, plan_of};
 
 use crate::answer::answer_text;
 use answer_files::{Texts, instance_text};
-use process_limits::{EndLimit, cert_of, tick_of, with_deadlines};
+use plan_questions::{EndLimit, cert_of, tick_of, with_deadlines};
 use std::alloc::Global;
 use ttp_model::{Instance, MemoryFault};
 

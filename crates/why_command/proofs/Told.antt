@@ -5,18 +5,18 @@ use Rattle.std.proofs.lemmas.List.{get_or-map, get_or_past, length-map, length-r
 use Rattle.std.proofs.lemmas.List.Elements.{All-weaker}
 use Rattle.ttp_model.specs.Instance.{Instance}
 use Rattle.ttp_model.specs.Rules.{IsInstance}
-use Rattle.lateness.specs.outcome.Options.{Options}
-use Rattle.lateness.proofs.AnswerVersions.{answer_allows}
-use Rattle.kept_constraints.specs.declared.constraints.Constraint.{Constraint}
-use Rattle.kept_constraints.specs.declared.constraints.Constraint.TheVariants as one
-use Rattle.kept_constraints.specs.Constraints.{all_of, has_deadline, has_release, is_on_both, keeps}
+use Rattle.plan_questions.specs.outcome.Options.{Options}
+use Rattle.plan_questions.proofs.AnswerVersions.{answer_allows}
+use Rattle.instance_variants.specs.declared.kept.constraints.Constraint.{Constraint}
+use Rattle.instance_variants.specs.declared.kept.constraints.Constraint.TheVariants as one
+use Rattle.instance_variants.specs.Constraints.{all_of, has_deadline, has_release, is_on_both, keeps}
 use Rattle.ttp_model.specs.Lists.{is_set}
-use Rattle.kept_constraints.proofs.Keeps.{kept_among, listed_kept}
-use Rattle.kept_constraints.proofs.KeptLaws.{rules_kept}
-use Rattle.conflicts.specs.Conflicts.{Answers}
-use Rattle.conflicts.specs.declared.conflict.Need.{Need}
-use Rattle.conflicts.specs.declared.conflict.Conflict.{Conflict}
-use Rattle.conflicts.specs.declared.conflict.Conflict.TheVariants as told
+use Rattle.instance_variants.proofs.Keeps.{kept_among, listed_kept}
+use Rattle.instance_variants.proofs.KeptLaws.{rules_kept}
+use Rattle.plan_questions.specs.Conflicts.{Answers}
+use Rattle.plan_questions.specs.declared.conflicts.conflict.Need.{Need}
+use Rattle.plan_questions.specs.declared.conflicts.conflict.Conflict.{Conflict}
+use Rattle.plan_questions.specs.declared.conflicts.conflict.Conflict.TheVariants as told
 use Rattle.command_streams.specs.Instances.{HasInstance}
 use Rattle.why_command.specs.declared.texts.Wanted.{Wanted}
 use Rattle.answer_files.specs.declared.ending.FilesEnd.{FilesEnd}

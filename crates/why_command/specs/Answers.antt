@@ -5,15 +5,15 @@ use Rattle.std.specs.Io.KnownBytes.{Keeps}
 use Rattle.ttp_model.specs.Instance.{Instance}
 use Rattle.certificate.specs.Spelling.{SpellsCert}
 use Rattle.certificate.specs.Versions.{Allows}
-use Rattle.lateness.specs.outcome.Options.{Options}
-use Rattle.lateness.specs.outcome.SolveFault.{SolveFault}
-use Rattle.lateness.specs.outcome.SolveFault.TheVariants as solving
-use Rattle.kept_constraints.specs.Only.{only}
-use Rattle.conflicts.specs.Conflicts.{Answers}
-use Rattle.conflicts.specs.declared.conflict.Conflict.{Conflict}
-use Rattle.conflicts.specs.declared.conflict.Conflict.TheVariants as told
-use Rattle.lateness.specs.Answers.{IsLateness}
-use Rattle.lateness.specs.declared.answer.Lateness.{Lateness}
+use Rattle.plan_questions.specs.outcome.Options.{Options}
+use Rattle.plan_questions.specs.outcome.SolveFault.{SolveFault}
+use Rattle.plan_questions.specs.outcome.SolveFault.TheVariants as solving
+use Rattle.instance_variants.specs.Only.{only}
+use Rattle.plan_questions.specs.Conflicts.{Answers}
+use Rattle.plan_questions.specs.declared.conflicts.conflict.Conflict.{Conflict}
+use Rattle.plan_questions.specs.declared.conflicts.conflict.Conflict.TheVariants as told
+use Rattle.plan_questions.specs.LateAnswers.{IsLateness}
+use Rattle.plan_questions.specs.declared.late.answer.Lateness.{Lateness}
 use Rattle.command_streams.specs.declared.ending.Source.TheVariants as source
 use Rattle.command_streams.specs.declared.ending.SearchFault.{SearchFault}
 use Rattle.command_streams.specs.declared.ending.SearchFault.TheVariants as search

@@ -3,13 +3,13 @@ use Rattle.std.specs.Prelude.{ℕ, ◌<◌, ◌==◌, ◌++◌, if◌then◌else
 use Rattle.std.specs.List.{flat_map}
 use Rattle.ttp_model.specs.Instance.{Instance, link_at, process_at}
 use Rattle.ttp_model.specs.Names.{message_name, process_name}
-use Rattle.kept_constraints.specs.declared.constraints.Constraint.{Constraint}
-use Rattle.kept_constraints.specs.declared.constraints.Constraint.TheVariants as one
-use Rattle.conflicts.specs.declared.conflict.Need.{Need}
-use Rattle.conflicts.specs.declared.conflict.Conflict.{Conflict}
-use Rattle.conflicts.specs.declared.conflict.Conflict.TheVariants as told
-use Rattle.lateness.specs.declared.answer.Lateness.{Lateness}
-use Rattle.lateness.specs.declared.answer.Lateness.TheVariants.{Least, Between, Unknown, Never}
+use Rattle.instance_variants.specs.declared.kept.constraints.Constraint.{Constraint}
+use Rattle.instance_variants.specs.declared.kept.constraints.Constraint.TheVariants as one
+use Rattle.plan_questions.specs.declared.conflicts.conflict.Need.{Need}
+use Rattle.plan_questions.specs.declared.conflicts.conflict.Conflict.{Conflict}
+use Rattle.plan_questions.specs.declared.conflicts.conflict.Conflict.TheVariants as told
+use Rattle.plan_questions.specs.declared.late.answer.Lateness.{Lateness}
+use Rattle.plan_questions.specs.declared.late.answer.Lateness.TheVariants.{Least, Between, Unknown, Never}
 
 -- what a constraint is on is there
 abbrev pub IsOf : Instance → Constraint → Type 0

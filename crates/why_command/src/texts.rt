@@ -6,9 +6,8 @@ ghost use Rattle.why_command.specs.Words.{AreToldOf};
 
 use crate::words::why_text;
 use answer_files::{Texts, instance_text};
-use conflicts::Conflict;
-use kept_constraints::with_only;
-use lateness::Lateness;
+use instance_variants::with_only;
+use plan_questions::{Conflict, Lateness};
 use std::alloc::Global;
 use ttp_model::{Instance, MemoryFault};
 

@@ -1,7 +1,7 @@
 //! What does `why` say of an instance, and what does it write?
 
 ghost use Rattle.std.specs.Prelude.{◌≡◌, ◌+◌, IfOk, IfSome, MatchResult};
-ghost use Rattle.conflicts.specs.Conflicts.{Answers};
+ghost use Rattle.plan_questions.specs.Conflicts.{Answers};
 ghost use Rattle.command_streams.specs.Limits.{instance_limit};
 ghost use Rattle.command_streams.specs.Streams.{TakesAtMost};
 ghost use Rattle.answer_files.specs.Writing.{IsToldAt, IsWritingOf};
@@ -10,8 +10,7 @@ ghost use Rattle.why_command.specs.Answers.{IsExplained, IsFound, IsLate, IsSear
 use crate::texts::{Wanted, texts_of};
 use answer_files::{FilesEnd, Texts, write_texts};
 use command_streams::{End, Fault, SearchFault, read_instance};
-use conflicts::{Conflict, find_conflict};
-use lateness::{Lateness, Options, SolveFault, least_lateness};
+use plan_questions::{Conflict, Lateness, Options, SolveFault, find_conflict, least_lateness};
 use std::alloc::Global;
 use std::io::{Read, Write};
 use std::marker::Sync;

@@ -4,10 +4,9 @@ ghost use Rattle.std.specs.Prelude.{◌≡◌, ◌<◌, ◌++◌, All, IfOk, OnO
 ghost use Rattle.std.specs.List.{flat_map};
 ghost use Rattle.why_command.specs.Words.{AreToldOf, IsOf, both_words, constraint_words, deadline_words, horizon_words, late_text, late_words, link_words, message_words, need_line, need_word, needs_text, none_text, plan_text, release_words, why_text};
 
-use conflicts::{Conflict, Need};
-use kept_constraints::Constraint;
-use lateness::Lateness;
+use instance_variants::Constraint;
 use line_text::push_number;
+use plan_questions::{Conflict, Lateness, Need};
 use std::alloc::{AllocError, Global};
 use ttp_model::Instance;
 

@@ -1,4 +1,4 @@
-use Rattle.conflicts.proofs.Told.{conflict_shows}
+use Rattle.plan_questions.proofs.Told.{conflict_shows}
 use Rattle.why_command.proofs.why.late_of.Goals as goal
 
 pub least_lateness-requires-after_bounds : goal.least_lateness-requires-after_bounds

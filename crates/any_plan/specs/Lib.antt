@@ -1,3 +1,0 @@
-pub mod Searches
-pub use Rattle.planner.specs.Answers
-pub use Rattle.planner.specs.outcome

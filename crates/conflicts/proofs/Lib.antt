@@ -1,2 +1,0 @@
-pub mod Halved
-pub mod Told

@@ -1,2 +1,0 @@
-pub mod Conflicts
-pub mod Halving

@@ -1,2 +1,0 @@
-pub mod OtherEnds
-pub mod OtherEndsRules

@@ -1,0 +1,20 @@
+pub mod Places
+pub mod Varied
+pub mod VariedRules
+pub mod VariedPlans
+pub mod Looser
+mod OneOf
+pub mod CutProcesses
+pub mod CutPlans
+pub mod CutEnds
+pub mod CutRules
+pub mod LaterProcesses
+pub mod LaterPlans
+pub mod LaterRules
+pub mod Listed
+pub mod KeptVariants
+pub mod Fewer
+pub mod KeptLaws
+pub mod Whole
+pub mod Leaving
+pub mod Keeps

@@ -1,8 +1,0 @@
-use Rattle.std.proofs.Common.{◌≡◌, map}
-use Rattle.ttp_model.specs.Instance.{link_at}
-use Rattle.ttp_model.specs.Network.{indices}
-use Rattle.ttp_model.specs.Lists.{is_set}
-use Rattle.kept_constraints.proofs.only.links.Given as goal
-
-abbrev pub invariant-loop-l : goal.invariant-loop-l
-invariant-loop-l l = l.all.items ≡ map (link_at l.instance) (indices (is_set l.constraints.links) l.l)

@@ -1,8 +1,0 @@
-use Rattle.std.proofs.Common.{◌≡◌, map}
-use Rattle.ttp_model.specs.Network.{indices}
-use Rattle.ttp_model.specs.Lists.{is_set}
-use Rattle.kept_constraints.specs.Only.{message_of}
-use Rattle.kept_constraints.proofs.only.messages.Given as goal
-
-abbrev pub invariant-loop-m : goal.invariant-loop-m
-invariant-loop-m l = l.all.items ≡ map (message_of l.instance l.constraints) (indices (is_set l.constraints.messages) l.m)

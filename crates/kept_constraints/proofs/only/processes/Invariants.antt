@@ -1,7 +1,0 @@
-use Rattle.std.proofs.Common.{◌≡◌, map}
-use Rattle.std.specs.List.{range_with_len}
-use Rattle.kept_constraints.specs.Only.{process_of}
-use Rattle.kept_constraints.proofs.only.processes.Given as goal
-
-abbrev pub invariant-loop-p : goal.invariant-loop-p
-invariant-loop-p l = l.all.items ≡ map (process_of l.instance l.constraints) (range_with_len 0 l.p)

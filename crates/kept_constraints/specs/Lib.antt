@@ -1,3 +1,0 @@
-pub mod Constraints
-pub mod Only
-pub mod Fewer

@@ -1,2 +1,0 @@
-mod Halves
-pub use Rattle.any_plan.proofs.AnswerVersions

@@ -1,3 +1,0 @@
-mod LaterProcesses
-pub mod LaterPlans
-pub mod LaterRules

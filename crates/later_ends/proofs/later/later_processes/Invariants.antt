@@ -1,6 +1,0 @@
-use Rattle.std.proofs.Common.{◌≡◌, map, take}
-use Rattle.later_ends.specs.Later.{later_process}
-use Rattle.later_ends.proofs.later.later_processes.Given as goal
-
-abbrev pub invariant-loop-process : goal.invariant-loop-process
-invariant-loop-process l = l.all.items ≡ map (later_process l.x) (take l.process-index l.processes)

@@ -1,2 +1,0 @@
-pub mod Lateness
-pub mod Later

@@ -1,0 +1,11 @@
+pub mod Searches
+pub mod Cuts
+pub mod Halving
+pub mod EndAnswers
+pub mod LateAnswers
+pub mod Conflicts
+pub mod LeavingOut
+pub use Rattle.planner.specs.Answers
+pub use Rattle.planner.specs.outcome
+pub use Rattle.instance_variants.specs.Cut
+pub use Rattle.instance_variants.specs.Ends

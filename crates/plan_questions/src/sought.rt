@@ -1,0 +1,60 @@
+//! Is there any plan of an instance, and which?
+
+ghost use Rattle.std.specs.Prelude.{IfOk};
+ghost use Rattle.planner.specs.Answers.{IsOutcome, Shows};
+ghost use Rattle.plan_questions.specs.Searches.{Tells};
+
+use crate::first_plan::FirstPlan;
+use certificate::Cert;
+use planner::{Options, Outcome, SolveFault, solve_with};
+use std::alloc::Global;
+use std::marker::Sync;
+use std::sync::Wait;
+use std::thread::Threads;
+use ttp_model::{Instance, Plan};
+
+/// What a search for any plan tells.
+#[derive(Drop)]
+pub enum Sought {
+    /// A valid plan, with its delay in ticks.
+    Found { delay: u64, plan: Plan },
+    /// There is none, as the certificate shows.
+    Absent { cert: Cert },
+    /// The search was stopped, and had found none: the certificate shows how far it got.
+    Open { cert: Cert },
+}
+
+/// What an answer says of whether there is a plan.
+fn told(instance: &Instance, options: Options, outcome: Outcome) -> Sought
+    requires answer { IsOutcome instance.now options outcome }
+    requires shows { Shows instance.now outcome }
+    ensures { Tells instance.now options result }
+{
+    match outcome {
+        Outcome::Optimal { plan, delay, cert } => {
+            drop(cert);
+            Sought::Found { delay, plan }
+        }
+        Outcome::Infeasible { cert } => Sought::Absent { cert },
+        Outcome::Stopped { best, cert, .. } => match best {
+            Some((plan, delay)) => {
+                drop(cert);
+                Sought::Found { delay, plan }
+            }
+            None => Sought::Open { cert },
+        },
+    }
+}
+
+/// Looks for any plan of an instance. The search ends once it has found one: each worker takes no further subtree then.
+pub fn any_plan<R: Threads + Wait + Sync>(
+    rt: &R,
+    alloc: Global,
+    instance: &Instance,
+    options: Options,
+) -> Result<Sought, SolveFault>
+    ensures { IfOk result (Tells instance.now options) }
+{
+    let outcome = solve_with(rt, alloc, instance, options, &FirstPlan::new())?;
+    Ok(told(instance, options, outcome))
+}

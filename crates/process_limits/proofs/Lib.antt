@@ -1,4 +1,0 @@
-mod Bounds
-mod Halves
-mod Shortest
-pub mod Texts

@@ -1,5 +1,0 @@
-use Rattle.process_limits.proofs.Texts.{limit_allows}
-use Rattle.process_limits.proofs.laws.limits_have_certificate_texts.Goals as goal
-
-pub returns : goal.returns
-returns c = λ i ps options limit w are. limit_allows i ps options w are limit
