@@ -11,6 +11,7 @@ mod judgements;
 mod names;
 mod plans;
 mod propagations;
+mod questions;
 mod searches;
 mod smaller_trees;
 mod streams;
@@ -48,6 +49,10 @@ pub use plans::{
 pub use propagations::{
     bound_counts_a_transfer, closed_is_told_of_steps_that_close, log_of_an_order_leads_there,
     refused_decision_is_not_kept, supposed_order_is_not_known, what_was_known_is_known_again,
+};
+pub use questions::{
+    absence_is_told_of_no_plan, any_plan_is_valid, none_ends_before_the_least_end,
+    none_is_less_late, unknown_lateness_is_a_tick_at_least,
 };
 pub use searches::{
     answer_is_no_later_than_the_start, found_plan_is_settled, leaf_of_a_find_is_below_the_goal,

@@ -14,3 +14,4 @@ pub mod Allowed
 pub mod TwoChannels
 pub mod TwoMessages
 pub mod Changed
+pub mod LongerProcess

@@ -1,6 +1,6 @@
 //! What the lower crates answer just where a wrong answer would differ: each function calls one of
 //! theirs, and its contract doesn't follow from a weaker one. Those of `edges` and most of `two_channels` call nothing, and say which
-//! plans are valid.
+//! plans are valid; one of `variants` says of which instance the rules are kept.
 #![tactic(auto)]
 
 mod changes;
@@ -23,6 +23,7 @@ mod starts;
 mod steps;
 mod texts;
 mod two_channels;
+mod variants;
 mod windows;
 
 pub use changes::starts_before_and_after;
@@ -69,4 +70,8 @@ pub use texts::{
     node_of_first_process, precision_past_32_bits, process_without_node_and_time, unknown_key,
 };
 pub use two_channels::{faults_on_two_channels, frames_on_two_channels, plans_on_two_channels};
+pub use variants::{
+    all_messages_are_copied, horizon_is_put_off_too, longer_process_keeps_the_rules,
+    only_these_deadlines_are_cut, plan_in_time_is_not_late,
+};
 pub use windows::permits_its_end;
