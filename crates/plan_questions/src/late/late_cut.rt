@@ -1,6 +1,6 @@
 //! How is an instance cut by a number of ticks that all may end later?
 
-ghost use Rattle.std.specs.Prelude.{◌≡◌, ◌≤◌};
+ghost use Rattle.std.specs.Prelude.{◌≡◌};
 ghost use Rattle.ttp_model.specs.Plans.{IsValid};
 ghost use Rattle.instance_variants.specs.Later.{later};
 ghost use Rattle.instance_variants.specs.Lateness.{lateness};

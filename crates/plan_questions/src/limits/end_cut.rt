@@ -1,6 +1,6 @@
 //! How is an instance cut by a tick by which some processes have to end?
 
-ghost use Rattle.std.specs.Prelude.{◌≡◌, ◌≤◌};
+ghost use Rattle.std.specs.Prelude.{◌≡◌, IfOk};
 ghost use Rattle.ttp_model.specs.Rules.{IsInstance};
 ghost use Rattle.ttp_model.specs.Plans.{IsValid};
 ghost use Rattle.instance_variants.specs.Cut.{cut};

@@ -6,6 +6,6 @@ pub any_at-requires-clause-rules : goal.any_at-requires-clause-rules
 any_at-requires-clause-rules g c = λ κs alive. c.requires.cutting.most_rules
 
 pub least_below-requires-clause-known : goal.least_below-requires-clause-known
-least_below-requires-clause-known g c =
+least_below-requires-clause-known g c = λ κs alive.
     known_first (g.C.Cut.cutting c.args.cut.now) c.requires.cutting c.in-Found.plan _ _ (rw c.in-Found.is at c.in_ok-plan.ensures).0
     c.least-low.ensures c.measured-high.ensures refl

@@ -9,12 +9,12 @@ any_at-requires-clause-rules g c =
 pub returns-in-Found-clause-known : goal.returns-in-Found-clause-known
 returns-in-Found-clause-known g c =
     (known_found (g.C.Cut.cutting c.args.cut.now) c.requires.cutting c.args.known.now c.requires.known c.middle-number.result _
-    c.in-Found.plan (rw c.in-Found.is at c.in_ok-plan.ensures).0 refl c.measured.ensures refl).0
+    c.in-Found.plan (rw c.in-Found.is at c.in_ok-plan.ensures).0 refl c.measured-known.ensures refl).0
 
 pub returns-in-Found-clause-closer : goal.returns-in-Found-clause-closer
 returns-in-Found-clause-closer g c =
     let found = known_found (g.C.Cut.cutting c.args.cut.now) c.requires.cutting c.args.known.now c.requires.known c.middle-number.result _
-    c.in-Found.plan (rw c.in-Found.is at c.in_ok-plan.ensures).0 refl c.measured.ensures refl in
+    c.in-Found.plan (rw c.in-Found.is at c.in_ok-plan.ensures).0 refl c.measured-known.ensures refl in
     omega (arith, found.1, c.middle-number.ensures, c.requires.apart)
 
 pub returns-in-Absent-clause-known : goal.returns-in-Absent-clause-known

@@ -15,5 +15,5 @@ pub returns-in-Open : goal.returns-in-Open
 returns-in-Open g c =
     late_unknown c.args.instance.now c.args.options c.in-Open.cert c.nodes-nodes.ensures.instance c.requires (rw c.in-Open.is at c.in_ok-least.ensures)
 
-pub returns-in-Never : goal.returns-in-Never
-returns-in-Never g c = never c.args.instance.now c.args.options c.in-Never.cert (rw c.in-Never.is at c.in_ok-least.ensures)
+pub returns : goal.returns
+returns g c = never c.args.instance.now c.args.options c.in-Never.cert (rw c.in-Never.is at c.in_ok-least.ensures)
