@@ -1,6 +1,6 @@
 //! What is known of the plans of a choice, which steps lead there, and what is known again once a decision is taken back.
 
-ghost use Rattle.std.specs.Prelude.{◌≡◌, ℕ, ◌+◌, ◌<◌, ◌≤◌, IfOk, IfSome, IsFalse, OnErr, OnOk, length};
+ghost use Rattle.std.specs.Prelude.{◌≡◌, ℕ, ◌+◌, ◌<◌, ◌≤◌, [], ◌∷◌, ◌++◌, IfOk, IfSome, IsFalse, OnErr, OnOk, length};
 ghost use Rattle.ttp_model.specs.Chains.{least_transfer};
 ghost use Rattle.ttp_model.specs.Graph.{HasMessage};
 ghost use Rattle.ttp_model.specs.Instance.{node_of, process_at};
@@ -58,7 +58,8 @@ pub fn what_was_known_is_known_again(
     Ok(())
 }
 
-/// After an order was decided the steps of the log lead from what is known at first to what is known then.
+/// After an order was decided the steps of the log lead from what is known at first, of that order and the decisions before it, to
+/// what is known then.
 pub fn log_of_an_order_leads_there(
     alloc: Global,
     propagator: &mut Propagator,
@@ -67,9 +68,9 @@ pub fn log_of_an_order_leads_there(
 ) -> Result<(), MemoryFault>
     requires left { IsFalse propagator.old.current.facts.known.closed }
     requires is_open { IsOpenDecision propagator.old.instance propagator.old.current.facts.choice (Before p q) }
-    ensures { OnOk result (LeadSharply propagator.new.instance
-        (chosen propagator.new.instance propagator.new.decisions) propagator.new.goal
-        (first_facts propagator.new.instance (chosen propagator.new.instance propagator.new.decisions))
+    ensures { OnOk result (LeadSharply propagator.old.instance
+        (chosen propagator.old.instance (propagator.old.decisions ++ Before p q ∷ [])) propagator.old.goal
+        (first_facts propagator.old.instance (chosen propagator.old.instance (propagator.old.decisions ++ Before p q ∷ [])))
         propagator.new.current.steps propagator.new.current.facts.known) }
 {
     propagator.decide(alloc, Decision::Before(p, q))?;

@@ -7,7 +7,9 @@ use Rattle.medl_tables.specs.Medl.{AreTables, Medl, medl_of}
 use Rattle.medl_tables.proofs.TableParts.{tables-length}
 use Rattle.membership_replay.specs.declared.loss.Loss.{Loss}
 use Rattle.membership_replay.specs.declared.fault.ReplayFault.TheVariants as replay
-use Rattle.membership_replay.specs.Losses.{IsFault}
+use Rattle.membership_replay.specs.Losses.{CanBeReplayed, IsFault}
+use Rattle.membership_replay.specs.Text.{replay_text}
+use Rattle.membership_replay.specs.Trace.{replay_of}
 use Rattle.plan_commands.specs.declared.losses.LossWord.{LossWord}
 use Rattle.plan_commands.specs.declared.verdict.Verified.{Verified}
 use Rattle.command_streams.specs.declared.ending.Source.TheVariants as source
@@ -15,12 +17,12 @@ use Rattle.command_streams.specs.declared.ending.Fault.{Fault}
 use Rattle.command_streams.specs.declared.ending.Fault.TheVariants.{NoMark, LossForm, InstanceText, Memory, PlanText, Plan, StatedDelay, CertificateText, Certificate, TooFewNodes, WrongLoss, NoSuchProcess, TooManySlots, Search, TooLong, Unread, Unwritten}
 use Rattle.command_streams.specs.declared.ending.End.TheVariants.{Refused}
 use Rattle.plan_commands.specs.LossWords.{AllSpell, AreLossWords, HasNodes, IsWordOfLoss, losses_of_words}
-use Rattle.plan_commands.specs.Traces.{IsReplayAnswer, IsTraceFault}
+use Rattle.plan_commands.specs.Traces.{IsReplayAnswer, IsTraceFault, IsTraceOf}
 use Rattle.plan_commands.specs.Verdicts.{IsRefused, IsVerified}
 use Rattle.command_streams.proofs.Outcomes.{keeps}
 use Rattle.plan_commands.proofs.LossPlaces.{first_wrong_word}
 
-module _ (i : Instance) (plan : Table) (t : Medl) (w : IsInstance i) (tables : AreTables i t) where
+module _ (i : Instance) (t : Medl) (w : IsInstance i) (tables : AreTables i t) where
   pub has_nodes : HasNodes t
   has_nodes = record {
     some = omega (arith, tables-length i t tables, w.limits.nodes_least);
@@ -30,9 +32,13 @@ module _ (i : Instance) (plan : Table) (t : Medl) (w : IsInstance i) (tables : A
   pub too_few : length t.rows < 3 → length i.nodes < 3
   too_few few = omega (arith, tables-length i t tables, few)
 
-  pub wrong_word : t ≡ medl_of i plan → (words : List LossWord) (losses : List Loss) (loss k : ℕ) → losses ≡ losses_of_words t words
+  pub traced : (plan : Table) → t ≡ medl_of i plan → (words : List LossWord) (losses : List Loss) (text : List ℕ) → losses ≡ losses_of_words t words
+      → CanBeReplayed t losses → text ≡ replay_text i (replay_of t losses) → IsTraceOf words i plan text
+  traced plan of words losses text are can is = record { can_be = rw (← of, ← are) can; is = rw (← of, ← are) is }
+
+  pub wrong_word : (plan : Table) → t ≡ medl_of i plan → (words : List LossWord) (losses : List Loss) (loss k : ℕ) → losses ≡ losses_of_words t words
       → IsFault t losses (replay.WrongLoss loss) → IsWordOfLoss t words loss k → IsTraceFault words i plan (WrongLoss k)
-  wrong_word of words losses loss k are wrong from =
+  wrong_word plan of words losses loss k are wrong from =
       (omega (arith, tables-length i t tables, wrong.0), rw (← of) (first_wrong_word t words losses are loss k wrong.1 from))
 
 module _ (words : List (List ℕ)) (instance plan : List ℕ) (old : Option (List ℕ)) where

@@ -1,23 +1,66 @@
 //! What `replay` says of an instance, a plan and lost frames.
 
-ghost use Rattle.std.specs.Prelude.{◌+◌, IfErr, IfSome, MatchResult};
+ghost use Rattle.std.specs.Prelude.{◌≡◌, ◌+◌, IfErr, IfSome, MatchResult};
+ghost use Rattle.ttp_model.specs.declared.plan.Plan.{Plan as Table};
 ghost use Rattle.ttp_model.specs.Plans.{IsValid};
+ghost use Rattle.medl_tables.specs.Medl.{AreTables, medl_of};
+ghost use Rattle.membership_replay.specs.Losses.{CanBeReplayed, IsFault};
+ghost use Rattle.membership_replay.specs.Trace.{replay_of};
 ghost use Rattle.std.specs.Io.KnownBytes.{Keeps};
 ghost use Rattle.command_streams.specs.Limits.{instance_limit, plan_limit};
 ghost use Rattle.command_streams.specs.Streams.{TakesAtMost};
 ghost use Rattle.command_streams.specs.Instances.{IsOfInstance};
 ghost use Rattle.command_streams.specs.Outcomes.{IfRefused};
-ghost use Rattle.plan_commands.specs.LossWords.{bytes_of};
+ghost use Rattle.plan_commands.specs.LossWords.{bytes_of, losses_of_words};
 ghost use Rattle.plan_commands.specs.Traces.{IsReplayAnswer, IsTraceFault, IsTraceOf};
 
 use crate::losses::{LossWord, losses_in, losses_of_words, word_of_loss};
 use crate::verdict::verified_of_readers;
 use command_streams::{End, Fault, end_with};
 use medl_tables::Medl;
-use membership_replay::{ReplayFault, print, replay};
+use membership_replay::{Loss, ReplayFault, Trace, print, replay};
 use std::alloc::Global;
 use std::io::{Read, Write};
 use ttp_model::{Instance, Plan};
+
+/// The replay of tables in which frames are lost, or why there is none.
+fn replayed(
+    alloc: Global,
+    instance: &Instance,
+    medl: &Medl,
+    losses: &[Loss],
+) -> Result<Trace, ReplayFault>
+    requires { AreTables instance.now medl.now }
+    ensures { MatchResult result
+        (λ trace. CanBeReplayed medl.now losses.now × (trace ≡ replay_of medl.now losses.now))
+        (IsFault medl.now losses.now) }
+{
+    replay(alloc, instance, medl, losses)
+}
+
+/// The text of the replay of a valid plan's tables, in which the words' frames are lost.
+fn text_of_losses(
+    alloc: Global,
+    instance: &Instance,
+    medl: &Medl,
+    words: &[LossWord],
+    losses: &[Loss],
+) -> Result<Vec<u8>, Fault>
+    requires tables { AreTables instance.now medl.now }
+    requires losses { losses.now ≡ losses_of_words medl.now words.now }
+    ensures judged { (plan : Table) → medl.now ≡ medl_of instance.now plan → MatchResult result
+        (λ text. IsTraceOf words.now instance.now plan text.items)
+        (IsTraceFault words.now instance.now plan) }
+    ensures later { IfErr result (λ fault. ¬ IsOfInstance fault) }
+{
+    let _nodes = instance.nodes();
+    match replayed(alloc, instance, medl, losses) {
+        Ok(trace) => Ok(print(alloc, instance, &trace)?),
+        Err(ReplayFault::TooFewNodes) => Err(Fault::TooFewNodes),
+        Err(ReplayFault::WrongLoss(k)) => Err(Fault::WrongLoss(word_of_loss(medl, words, k))),
+        Err(ReplayFault::OutOfMemory) => Err(Fault::Memory),
+    }
+}
 
 /// The text of the replay of a valid plan's cycle, in which the words' frames are lost.
 fn trace_text(
@@ -35,12 +78,7 @@ fn trace_text(
     let _nodes = instance.nodes();
     let medl = Medl::of(alloc, instance, plan)?;
     let losses = losses_of_words(alloc, &medl, words)?;
-    match replay(alloc, instance, &medl, losses.as_slice()) {
-        Ok(trace) => Ok(print(alloc, instance, &trace)?),
-        Err(ReplayFault::TooFewNodes) => Err(Fault::TooFewNodes),
-        Err(ReplayFault::WrongLoss(k)) => Err(Fault::WrongLoss(word_of_loss(&medl, words, k))),
-        Err(ReplayFault::OutOfMemory) => Err(Fault::Memory),
-    }
+    text_of_losses(alloc, instance, &medl, words, losses.as_slice())
 }
 
 /// Reads the words of lost frames, each `ROUND/SLOT/NODE`, or `ROUND/SLOT/*` for all receivers of that slot; then
