@@ -4,7 +4,7 @@ ghost use Rattle.std.specs.Prelude.{IfOk};
 ghost use Rattle.answer_files.specs.Writing.{IsTextOf};
 
 use command_streams::INSTANCE_LIMIT;
-use instance_print::{PrintFault, print};
+use instance_text::{PrintFault, print};
 use std::alloc::Global;
 use ttp_model::{Instance, MemoryFault};
 

@@ -14,7 +14,7 @@ use Rattle.tree_check.specs.declared.walk.Walk.{Walk}
 use Rattle.tree_check.specs.Faults.{told_line}
 use Rattle.tree_check.specs.Seen.{IsSeen, TellsFirst, line_behind}
 use Rattle.tree_check.proofs.Seen.{node_fails, branch_tells}
-use Rattle.held_leaves.specs.declared.leaves.HeldLeaf.{HeldLeaf}
+use Rattle.cert_check.specs.declared.leaves.HeldLeaf.{HeldLeaf}
 use Rattle.cert_check.specs.declared.ahead.Ahead.{Ahead}
 use Rattle.cert_check.specs.declared.ahead.Ahead.TheVariants.{More, End, Fault}
 use Rattle.cert_check.specs.declared.fault.StreamFault.{StreamFault}

@@ -22,7 +22,7 @@ use Rattle.certificate.specs.Streams.{stream_version, next_line, still_to_come, 
 use Rattle.tree_check.specs.declared.walk.Walk.{Walk}
 use Rattle.tree_check.specs.Seen.{TellsBranch}
 use Rattle.tree_check.specs.Turns.{IsWalk}
-use Rattle.held_leaves.specs.declared.leaves.HeldLeaf.{HeldLeaf}
+use Rattle.cert_check.specs.declared.leaves.HeldLeaf.{HeldLeaf}
 use Rattle.cert_check.specs.declared.ahead.Ahead.{Ahead}
 use Rattle.cert_check.specs.declared.ahead.Ahead.TheVariants.{More, End, Fault}
 use Rattle.cert_check.specs.declared.fault.StreamFault.{StreamFault}

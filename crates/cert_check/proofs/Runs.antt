@@ -13,7 +13,7 @@ use Rattle.tree_check.specs.declared.fault.CertFault.{CertFault}
 use Rattle.tree_check.specs.declared.fault.CertFault.TheVariants.{LowTooGreat, At, OutOfMemory}
 use Rattle.cert_check.specs.declared.fault.StreamFault.{StreamFault}
 use Rattle.cert_check.specs.declared.fault.StreamFault.TheVariants.{Read, TooLong, Text, Cert as InCert}
-use Rattle.held_leaves.specs.declared.leaves.HeldLeaf.{HeldLeaf}
+use Rattle.cert_check.specs.declared.leaves.HeldLeaf.{HeldLeaf}
 use Rattle.tree_check.specs.Seen.{ReadLeaf, IsHeld, AllClose, IsFirstHeldFault, TellsHeld}
 use Rattle.cert_check.specs.Waiting.{Waits, steps_of, leaf_with, AreRead, IsUnread, IsLeafAnswer, TellsOrUnread, TellsBefore, Judges, Finishes, RunCloses, run_at}
 use Rattle.cert_check.specs.declared.shares.TheConstants.{RUN}

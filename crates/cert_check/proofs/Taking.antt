@@ -21,7 +21,7 @@ use Rattle.tree_check.specs.declared.walk.Walk.{Walk}
 use Rattle.tree_check.specs.Turns.{IsWalk}
 use Rattle.tree_check.specs.Seen.{ReadLeaf, IsSeen}
 use Rattle.tree_check.proofs.Seen.{line_more, seen_none, seen_node, seen_leaf, seen_judged}
-use Rattle.held_leaves.specs.declared.leaves.HeldLeaf.{HeldLeaf}
+use Rattle.cert_check.specs.declared.leaves.HeldLeaf.{HeldLeaf}
 use Rattle.cert_check.specs.Waiting.{Waits, leaf_with, held_leaf, AreRead, IsUnread, Judges}
 use Rattle.cert_check.specs.declared.ahead.Ahead.{Ahead}
 use Rattle.cert_check.specs.declared.ahead.Ahead.TheVariants.{More}

@@ -2,7 +2,7 @@
 use Rattle.std.proofs.Common.{◌≡◌, ◌⊎◌, List, [], ◌∷◌, ◌++◌, Ok, Err, inl, inr, refl, ap}
 use Rattle.ttp_model.specs.declared.step.Step.{Step}
 use Rattle.certificate.specs.declared.fault.CertTextError.{CertTextError}
-use Rattle.held_leaves.specs.declared.leaves.HeldLeaf.{HeldLeaf}
+use Rattle.cert_check.specs.declared.leaves.HeldLeaf.{HeldLeaf}
 use Rattle.tree_check.specs.Seen.{ReadLeaf}
 use Rattle.cert_check.specs.Waiting.{steps_of, leaf_with, AreRead, IsUnread}
 

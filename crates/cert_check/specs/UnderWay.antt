@@ -22,7 +22,7 @@ use Rattle.tree_check.specs.declared.walk.Walk.{Walk}
 use Rattle.tree_check.specs.Proofs.{AreProofs}
 use Rattle.tree_check.specs.Turns.{IsWalk}
 use Rattle.tree_check.specs.Seen.{ReadLeaf, IsSeen, TellsBranch, TellsFirst, line_behind}
-use Rattle.held_leaves.specs.declared.leaves.HeldLeaf.{HeldLeaf}
+use Rattle.cert_check.specs.declared.leaves.HeldLeaf.{HeldLeaf}
 use Rattle.cert_check.specs.declared.ahead.Ahead.{Ahead}
 use Rattle.cert_check.specs.declared.ahead.Ahead.TheVariants.{More, End, Fault}
 use Rattle.cert_check.specs.declared.batches.Batches.{Batches}

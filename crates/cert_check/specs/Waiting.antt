@@ -16,7 +16,7 @@ use Rattle.certificate.specs.RawLines.{steps_in}
 use Rattle.tree_check.specs.declared.fault.CertFault.{CertFault}
 use Rattle.cert_check.specs.declared.fault.StreamFault.{StreamFault}
 use Rattle.cert_check.specs.declared.fault.StreamFault.TheVariants.{Read, TooLong, Text, Cert as InCert}
-use Rattle.held_leaves.specs.declared.leaves.HeldLeaf.{HeldLeaf}
+use Rattle.cert_check.specs.declared.leaves.HeldLeaf.{HeldLeaf}
 use Rattle.cert_check.specs.declared.shares.TheConstants.{RUN}
 use Rattle.tree_check.specs.declared.walk.Walk.{Walk}
 use Rattle.tree_check.specs.Turns.{IsWalk}

@@ -9,7 +9,7 @@ ghost use Rattle.certificate.specs.Sources.{Origin};
 ghost use Rattle.certificate.specs.Streams.{LeavesNodes, StreamIsFrom, bytes_taken};
 ghost use Rattle.tree_check.specs.declared.walk.Walk.{Walk};
 ghost use Rattle.cert_check.specs.declared.ahead.Ahead.TheVariants.{More};
-ghost use Rattle.held_leaves.specs.declared.leaves.HeldLeaf.{HeldLeaf};
+ghost use Rattle.cert_check.specs.declared.leaves.HeldLeaf.{HeldLeaf};
 ghost use Rattle.cert_check.specs.Waiting.{Finishes, Judges};
 ghost use Rattle.cert_check.specs.UnderWay.{AnswersAll, IsAhead, IsLinesFault, LeavesRest, Stands, told_of};
 

@@ -6,7 +6,7 @@ ghost use Rattle.tt_choice.specs.Choice.{Choice, bare};
 ghost use Rattle.certificate.specs.declared.stream.CertStream.{CertStream};
 ghost use Rattle.certificate.specs.Sources.{Origin};
 ghost use Rattle.certificate.specs.Streams.{StreamIsFrom, bytes_taken};
-ghost use Rattle.held_leaves.specs.declared.leaves.HeldLeaf.{HeldLeaf};
+ghost use Rattle.cert_check.specs.declared.leaves.HeldLeaf.{HeldLeaf};
 ghost use Rattle.tree_check.specs.Turns.{IsWalk};
 ghost use Rattle.cert_check.specs.declared.ahead.Ahead.TheVariants.{More};
 ghost use Rattle.cert_check.specs.Waiting.{Judges, TakeFails, Takes, Waits, held_leaf};
@@ -15,8 +15,8 @@ ghost use Rattle.cert_check.specs.UnderWay.{AnswersAll, GoesOn, IsFirst, IsSomew
 use crate::ahead::Ahead;
 use crate::fault::StreamFault;
 use crate::judge::told_before;
+use crate::leaves::{HeldLeaf, HeldLeaves};
 use certificate::{CertStream, CertTextError, Head, Version};
-use held_leaves::{HeldLeaf, HeldLeaves};
 use std::alloc::Global;
 use std::io::Read;
 use tree_check::Walk;

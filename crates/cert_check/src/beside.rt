@@ -10,9 +10,9 @@ ghost use Rattle.cert_check.specs.UnderWay.{AnswersAll, GoesOn, IsBegun, IsSomew
 use crate::batches::Batches;
 use crate::fault::StreamFault;
 use crate::judge::Judge;
+use crate::leaves::HeldLeaf;
 use crate::shares::{are_many, places_of_both};
 use certificate::CertStream;
-use held_leaves::HeldLeaf;
 use rayon::join_mut;
 use std::io::Read;
 use std::sync::atomic::AtomicUsize;

@@ -7,8 +7,8 @@ ghost use Rattle.cert_check.specs.declared.fault.StreamFault.TheVariants.{Text};
 ghost use Rattle.cert_check.specs.Waiting.{IsLeafAnswer, Judges, TellsBefore, Waits};
 
 use crate::fault::StreamFault;
+use crate::leaves::HeldLeaf;
 use certificate::{CertTextError, read_steps};
-use held_leaves::HeldLeaf;
 use rayon::current_num_threads;
 use std::alloc::Global;
 use std::thread::Threads;

@@ -5,8 +5,8 @@ ghost use Rattle.cert_check.specs.Waiting.{Judges, MarksOnly, RunCloses, Waits, 
 
 use crate::fault::StreamFault;
 use crate::judge::Judge;
+use crate::leaves::HeldLeaf;
 use certificate::CertTextError;
-use held_leaves::HeldLeaf;
 use std::alloc::Global;
 use std::sync::atomic::{AtomicUsize, Ordering};
 

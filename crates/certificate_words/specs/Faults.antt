@@ -16,7 +16,7 @@ use Rattle.tree_check.specs.declared.fault.NodeFault.{NodeFault}
 use Rattle.tree_check.specs.declared.fault.NodeFault.TheVariants.{ChildCount, NotOpen, LowGoal, RefusedStep, NotClosed}
 use Rattle.certificate_words.specs.Branches.{child_count_words, not_open_words}
 use Rattle.step_words.specs.Steps.{may_say}
-use Rattle.told_bytes.specs.TextLines.{line_words}
+use Rattle.line_text.specs.TextLines.{line_words}
 
 -- ---- a leaf
 

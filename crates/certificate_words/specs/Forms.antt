@@ -8,7 +8,7 @@ use Rattle.certificate.specs.Limits.{most_branches_above}
 use Rattle.certificate_words.specs.declared.places.LinePlace.{LinePlace}
 use Rattle.certificate_words.specs.declared.places.LinePlace.TheVariants as place
 use Rattle.certificate_words.specs.Places.{awaited_at}
-use Rattle.told_bytes.specs.TextLines.{line_words}
+use Rattle.line_text.specs.TextLines.{line_words}
 
 -- the forms of the first two lines
 unfoldable pub first_form : List ℕ

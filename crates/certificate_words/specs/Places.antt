@@ -6,7 +6,7 @@ use Rattle.line_text.specs.Parts.{after_keyword, cut}
 use Rattle.certificate.specs.Reading.{value_of}
 use Rattle.certificate_words.specs.declared.places.LinePlace.{LinePlace}
 use Rattle.certificate_words.specs.declared.places.LinePlace.TheVariants.{First, Low, Node, Step}
-use Rattle.told_bytes.specs.TextLines.{text_lines}
+use Rattle.line_text.specs.TextLines.{text_lines}
 
 -- the number behind a space
 abbrev pub count_behind : Option (List ℕ × List ℕ) → ℕ

@@ -10,7 +10,7 @@ use crate::whole::read_whole;
 use certificate::{Branch, Cert, Node};
 use std::alloc::{AllocError, Global};
 use step_words::may_say;
-use told_bytes::put_line;
+use line_text::put_line;
 use tree_check::{CertFault, NodeFault};
 use ttp_model::{Instance, Leaf, MemoryFault, Step};
 

@@ -6,7 +6,7 @@ ghost use Rattle.certificate_words.specs.Forms.{branch_forms, channel_branch_for
 use crate::places::{LinePlace, awaited_at};
 use certificate::{CertTextError, LineFault, MOST_BRANCHES_ABOVE};
 use std::alloc::AllocError;
-use told_bytes::put_line;
+use line_text::put_line;
 
 /// The forms of the first line.
 #[tactic(auto, unfolding(crate::specs::Forms::first_form))]

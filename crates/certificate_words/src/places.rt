@@ -2,7 +2,7 @@
 
 ghost use Rattle.std.specs.Prelude.{◌≡◌, ◌-◌, take};
 ghost use Rattle.certificate_words.specs.Places.{awaited_at, steps_due, steps_named, due_behind};
-ghost use Rattle.told_bytes.specs.TextLines.{text_lines};
+ghost use Rattle.line_text.specs.TextLines.{text_lines};
 
 use line_text::{NumberWord, after_keyword, cut, number_word};
 

@@ -6,7 +6,7 @@ ghost use Rattle.used_decisions.specs.Needs.{HoldUpTo};
 ghost use Rattle.used_decisions.specs.Proved.{all_kept};
 ghost use Rattle.used_decisions.specs.RuledOut.{IsRuledOut};
 
-use held_leaves::{HeldLeaf, HeldLeaves};
+use cert_check::{HeldLeaf, HeldLeaves};
 use tt_choice::Decision;
 use ttp_model::MemoryFault;
 use used_decisions::Needs;

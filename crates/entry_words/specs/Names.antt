@@ -1,7 +1,7 @@
 -- Of names that are malformed, or stand twice. Own profile.
 use Rattle.std.specs.Prelude.{ℕ, ◌+◌, ◌-◌, Bool, ◌&&◌, List, [], ◌∷◌, ◌++◌, codes, decimal, length, slice_index, not, ◌==◌, nat_lt, if◌then◌else◌, Option, None, Some, is_some, position, bytes_eq}
 use Rattle.std.specs.List.{flat_map, range_with_len}
-use Rattle.told_bytes.specs.Told.{told}
+use Rattle.line_text.specs.Told.{told}
 use Rattle.ttp_model.specs.Limits.{most_name_bytes}
 use Rattle.ttp_model.specs.Rules.{begins_name, continues_name}
 use Rattle.ttp_model.specs.declared.error.Place.{Place}

@@ -3,7 +3,7 @@ use Rattle.std.specs.Prelude.{ℕ, List, ◌++◌, codes, decimal, length, ◌==
 use Rattle.ttp_model.specs.declared.error.Place.{Place}
 use Rattle.ttp_model.specs.declared.error.Place.TheVariants.{AtCluster, AtNode, AtProcess, AtLink, AtMessage}
 use Rattle.ttp_model.specs.Instance.{Instance, node_at, process_at, message_at}
-use Rattle.told_bytes.specs.Told.{told}
+use Rattle.line_text.specs.Told.{told}
 
 -- an entry of a list, by what it is and its index
 unfoldable pub entry_text : List ℕ → ℕ → List ℕ

@@ -1,6 +1,6 @@
 -- Of times that are too short: by how many ticks. Own profile.
 use Rattle.std.specs.Prelude.{ℕ, ◌+◌, ◌-◌, ◌*◌, List, ◌++◌, codes, decimal, ◌==◌, if◌then◌else◌}
-use Rattle.told_bytes.specs.Told.{told}
+use Rattle.line_text.specs.Told.{told}
 
 -- a number of ticks
 unfoldable pub ticks_text : ℕ → List ℕ

@@ -11,7 +11,7 @@ use crate::lists::excess;
 use crate::places::{Entry, Spot};
 use crate::stated::{Stated, message_name, node_name, process_name};
 use std::alloc::AllocError;
-use told_bytes::{Told, put_told};
+use line_text::{Told, put_told};
 use ttp_model::{MOST_NAME_BYTES, Place};
 
 /// The name at a place, or an empty one where it has none.

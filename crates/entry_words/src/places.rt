@@ -7,7 +7,7 @@ ghost use Rattle.entry_words.specs.Spots.{spot_text};
 
 use crate::stated::{Stated, message_name, node_name, process_name};
 use std::fmt;
-use told_bytes::Told;
+use line_text::Told;
 use ttp_model::Place;
 
 /// An entry of a list, by what it is and its index.

@@ -7,7 +7,7 @@ use crate::lists::excess;
 use crate::stated::Times;
 use std::alloc::AllocError;
 use std::fmt;
-use told_bytes::Told;
+use line_text::Told;
 
 /// A number of ticks.
 #[derive(Clone, Copy)]

@@ -1,7 +1,7 @@
 -- What a text begins like that stands in place of another one. Own profile.
 use Rattle.std.specs.Prelude.{ℕ, ◌==◌, Bool, ◌||◌, List, [], codes, if◌then◌else◌, nat_eq}
 use Rattle.std.specs.List.{starts_with}
-use Rattle.told_bytes.specs.TextLines.{numbered_line}
+use Rattle.line_text.specs.TextLines.{numbered_line}
 
 -- a text begins like a plan, or like a certificate
 abbrev pub is_like_plan : List ℕ → Bool

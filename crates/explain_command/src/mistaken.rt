@@ -3,7 +3,7 @@
 ghost use Rattle.std.specs.Prelude.{◌≡◌};
 ghost use Rattle.explain_command.specs.Mistaken.{first_line_words, in_place_of_instance, in_place_of_plan, is_like_certificate, is_like_instance, is_like_plan};
 
-use told_bytes::numbered_line;
+use line_text::numbered_line;
 
 /// That a text begins like a certificate.
 const CERTIFICATE_WORDS: &str =

@@ -7,3 +7,4 @@ pub mod ArrayLaws
 pub mod IndexLaws
 pub mod CutLaws
 pub mod CutIndices
+pub mod Alike

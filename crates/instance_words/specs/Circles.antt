@@ -1,7 +1,7 @@
 -- Of processes that wait for each other: the circle, step by step. Own profile.
 use Rattle.std.specs.Prelude.{ℕ, ◌-◌, List, [], ◌++◌, codes, decimal, length, slice_index, min, Bool, ◌&&◌, ◌==◌, nat_lt, if◌then◌else◌, Option, None, Some, is_some, position}
 use Rattle.std.specs.List.{flat_map, range_with_len}
-use Rattle.told_bytes.specs.Told.{told}
+use Rattle.line_text.specs.Told.{told}
 use Rattle.ttp_model.specs.declared.parts.Link.{Link}
 use Rattle.ttp_model.specs.declared.parts.Message.{Message}
 use Rattle.ttp_model.specs.Instance.{Instance, process_at, message_at}

@@ -1,7 +1,7 @@
 -- What is told of an instance that keeps its rules. Own profile.
 use Rattle.std.specs.Prelude.{ℕ, List, [], ◌++◌, codes, decimal, length, Bool, ◌==◌, nat_le, if◌then◌else◌}
 use Rattle.std.specs.List.{flat_map, list_any, range_with_len}
-use Rattle.told_bytes.specs.Told.{told}
+use Rattle.line_text.specs.Told.{told}
 use Rattle.ttp_model.specs.Instance.{Instance, node_at, message_at, source_of}
 
 -- how much there is

@@ -1,7 +1,7 @@
 -- Of links and messages that join what they must not join. Own profile.
 use Rattle.std.specs.Prelude.{ℕ, List, ◌++◌, codes, decimal, length, slice_index, Bool, false, ◌==◌, nat_lt, if◌then◌else◌, Option, None, Some, position}
 use Rattle.std.specs.List.{position_or_len, range_with_len}
-use Rattle.told_bytes.specs.Told.{told}
+use Rattle.line_text.specs.Told.{told}
 use Rattle.entry_words.specs.Numbers.{number_at}
 use Rattle.ttp_model.specs.Instance.{Instance, node_at, process_at, link_at, message_at, node_of, source_of}
 

@@ -5,7 +5,7 @@ ghost use Rattle.instance_words.specs.Described.{bytes_text, counts_text, descri
 
 use std::alloc::{AllocError, Global};
 use std::fmt;
-use told_bytes::Told;
+use line_text::Told;
 use ttp_model::{Instance, MemoryFault};
 
 /// Says how much there is.

@@ -11,7 +11,7 @@ use entry_words::{
 };
 use std::alloc::AllocError;
 use std::fmt;
-use told_bytes::Told;
+use line_text::Told;
 
 /// Where the first of these processes stands that is on a node.
 fn place_there(stated: Stated, processes: &[u32], node: u32) -> Option<usize>

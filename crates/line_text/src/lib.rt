@@ -1,9 +1,12 @@
-//! Texts of lines: cutting them, their keywords and numbers, and writing words and numbers.
+//! Texts of lines: cutting them, their keywords and numbers, writing words and numbers, and telling pieces of a refused text.
 #![tactic(auto)]
 
 mod laws;
 mod number;
 mod parts;
+mod told;
+mod told_laws;
+mod told_lines;
 mod words;
 
 pub use laws::{
@@ -12,4 +15,9 @@ pub use laws::{
 };
 pub use number::{NumberWord, number_word, push_number};
 pub use parts::{after_keyword, cut};
+pub use told::{MOST_TOLD, Told, put_told};
+pub use told_laws::{
+    printable_is_told_as_it_is, told_is_a_beginning, told_is_printable, told_is_short,
+};
+pub use told_lines::{numbered_line, put_line};
 pub use words::{push_number_word, push_word};

@@ -3,7 +3,7 @@
 ghost use Rattle.std.specs.Prelude.{Ok, IfOk};
 ghost use Rattle.instance_text.specs.Faults.{States};
 
-use instance_print::{PrintFault, print};
+use instance_text::{PrintFault, print};
 use std::alloc::Global;
 use ttp_model::Instance;
 

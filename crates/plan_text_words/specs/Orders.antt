@@ -6,7 +6,7 @@ use Rattle.ttp_model.specs.declared.error.Part.TheVariants.{Nodes}
 use Rattle.ttp_model.specs.Instance.{Instance}
 use Rattle.ttp_model.specs.Names.{names_in}
 use Rattle.plan_format.specs.Reading.{words_of}
-use Rattle.told_bytes.specs.Told.{told}
+use Rattle.line_text.specs.Told.{told}
 
 -- the words of an order line behind its keyword
 abbrev pub named_words : List ℕ → List (List ℕ)

@@ -4,9 +4,9 @@ use Rattle.ttp_model.specs.Instance.{Instance}
 use Rattle.plan_format.specs.declared.fault.LineFault.{LineFault}
 use Rattle.plan_format.specs.declared.fault.LineFault.TheVariants.{Form, Number, Name, Order, EarlyEnd, Trailing}
 use Rattle.plan_format.specs.Reading.{end_line}
-use Rattle.told_bytes.specs.Told.{told}
+use Rattle.line_text.specs.Told.{told}
 use Rattle.plan_text_words.specs.Forms.{form_of}
-use Rattle.told_bytes.specs.TextLines.{numbered_line}
+use Rattle.line_text.specs.TextLines.{numbered_line}
 use Rattle.plan_text_words.specs.Orders.{stranger_text, uneven_text}
 
 -- what stands before the line's number

@@ -7,12 +7,12 @@ ghost use Rattle.line_text.specs.Parts.{seen_rest};
 ghost use Rattle.ttp_model.specs.Names.{names_in};
 ghost use Rattle.plan_format.specs.Reading.{words_of};
 ghost use Rattle.plan_format.specs.Words.{words_with};
-ghost use Rattle.told_bytes.specs.Told.{told};
+ghost use Rattle.line_text.specs.Told.{told};
 ghost use Rattle.plan_text_words.specs.Orders.{first_uneven, is_stranger, named_text, stranger_text, stranger_words, times_named, times_words, told_uneven, uneven_text, unnamed_words};
 
 use line_text::cut;
 use std::alloc::AllocError;
-use told_bytes::Told;
+use line_text::Told;
 use ttp_model::{Instance, Part};
 
 /// How many bytes the keyword of an order line has, with the space behind it.

@@ -1,16 +1,16 @@
 //! What is told of a line that is at fault?
 
 ghost use Rattle.std.specs.Prelude.{◌≡◌, ◌+◌, ◌<◌, ◌≤◌, ◌^◌, ◌++◌, OnOk, codes, string_bytes};
-ghost use Rattle.told_bytes.specs.Told.{told};
+ghost use Rattle.line_text.specs.Told.{told};
 ghost use Rattle.plan_text_words.specs.Forms.{form_of};
-ghost use Rattle.told_bytes.specs.TextLines.{numbered_line};
+ghost use Rattle.line_text.specs.TextLines.{numbered_line};
 ghost use Rattle.plan_text_words.specs.Texts.{before_number, behind_number, count_words, fault_words, is_empty_words, is_text, is_words, line_fault_text, more_text, should_be_text};
 
 use crate::forms::{last_line, put_form};
 use crate::orders::{put_stranger, put_uneven};
 use plan_format::LineFault;
 use std::alloc::AllocError;
-use told_bytes::{Told, numbered_line};
+use line_text::{Told, numbered_line};
 use ttp_model::Instance;
 
 /// The number of the order line.

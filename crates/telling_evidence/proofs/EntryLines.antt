@@ -2,7 +2,7 @@
 use Rattle.std.proofs.Common.{◌≡◌, ℕ, List, [], ◌∷◌, codes, refl, ap}
 use Rattle.std.specs.Fmt.{digits}
 use Rattle.std.specs.Prelude.{Some, bytes_eq, position, slice_index_or}
-use Rattle.told_bytes.specs.Told.{told, told_byte}
+use Rattle.line_text.specs.Told.{told, told_byte}
 use Rattle.ttp_model.specs.declared.error.Place.TheVariants.{AtNode}
 use Rattle.ttp_model.specs.declared.parts.Node.{Node}
 use Rattle.ttp_model.specs.Instance.{Instance, no_node}

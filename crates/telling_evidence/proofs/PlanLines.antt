@@ -3,8 +3,8 @@ use Rattle.std.proofs.Common.{◌≡◌, ℕ, Bool, true, if◌then◌else◌, S
 use Rattle.std.specs.Fmt.{digits}
 use Rattle.ttp_model.specs.Instance.{Instance}
 use Rattle.plan_format.specs.declared.fault.LineFault.TheVariants.{Form, Name}
-use Rattle.told_bytes.specs.Told.{told, told_byte}
-use Rattle.told_bytes.specs.TextLines.{numbered_line}
+use Rattle.line_text.specs.Told.{told, told_byte}
+use Rattle.line_text.specs.TextLines.{numbered_line}
 use Rattle.plan_text_words.specs.Orders.{is_stranger, stranger_text, stranger_words, told_stranger}
 use Rattle.plan_text_words.specs.Texts.{fault_words, is_text, is_words, line_fault_text, more_text, should_be_text}
 

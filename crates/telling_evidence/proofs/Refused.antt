@@ -1,6 +1,6 @@
 -- What is told of these refusals, piece by piece.
 use Rattle.std.proofs.Common.{◌≡◌, ℕ, List, [], ◌∷◌, ◌++◌, codes, ap, ◌∙◌}
-use Rattle.told_bytes.specs.Told.{told}
+use Rattle.line_text.specs.Told.{told}
 use Rattle.ttp_model.specs.declared.error.ModelError.{ModelError}
 use Rattle.ttp_model.specs.declared.error.ModelError.TheVariants.{Cycle, ReceiverTwice}
 use Rattle.ttp_model.specs.Instance.{Instance, message_at, process_at}

@@ -4,7 +4,7 @@ use Rattle.std.specs.Fmt.{digits}
 use Rattle.std.specs.Str.{chars}
 use Rattle.strsim.specs.Edits.{rows, next_row, cost_at}
 use Rattle.toml.specs.Data.{Data, array, integer, item, member, no_items, no_members, string, table}
-use Rattle.told_bytes.specs.Told.{told, told_byte}
+use Rattle.line_text.specs.Told.{told, told_byte}
 use Rattle.entry_words.specs.Places.{called_text, entry_text, named_text}
 use Rattle.instance_text.specs.declared.error.Key.TheVariants.{Capacities, From, Horizon, To}
 use Rattle.instance_text.specs.declared.error.Key.TheVariants as key

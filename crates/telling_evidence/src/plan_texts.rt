@@ -1,7 +1,7 @@
 //! What is told of a line at fault of a plan's text?
 
 ghost use Rattle.std.specs.Prelude.{◌≡◌, ℕ, true, List, ◌++◌, OnOk, codes, string_bytes};
-ghost use Rattle.told_bytes.specs.TextLines.{numbered_line};
+ghost use Rattle.line_text.specs.TextLines.{numbered_line};
 ghost use Rattle.plan_text_words.specs.Orders.{is_stranger};
 
 use plan_format::LineFault;

@@ -1,7 +1,7 @@
 //! What is told of an instance that the model refuses?
 
 ghost use Rattle.std.specs.Prelude.{◌≡◌, ℕ, ◌∷◌, [], List, ◌++◌, OnOk, codes, string_bytes};
-ghost use Rattle.told_bytes.specs.Told.{told};
+ghost use Rattle.line_text.specs.Told.{told};
 ghost use Rattle.ttp_model.specs.Instance.{message_at, process_at};
 ghost use Rattle.ttp_model.specs.declared.error.ModelError.TheVariants.{Cycle, ReceiverTwice};
 ghost use Rattle.entry_words.specs.Stated.{instance_of};

@@ -4,8 +4,8 @@ use Rattle.std.specs.List.{All, list_all}
 use Rattle.std.proofs.lemmas.Bool.{cases_Bool, or_left}
 use Rattle.std.proofs.lemmas.List.Folds.{list_all-append}
 use Rattle.line_text.specs.Parts.{cut}
-use Rattle.told_bytes.specs.Limits.{most_told}
-use Rattle.told_bytes.specs.Told.{is_printable, told}
+use Rattle.line_text.specs.Limits.{most_told}
+use Rattle.line_text.specs.Told.{is_printable, told}
 use Rattle.text_faults.specs.Grammar.{IsNoTomlText, IsShown, heading_text, is_shown, last_line, line_and_others, most_lines, said_line, said_lines}
 
 -- one behind the other

@@ -2,8 +2,8 @@
 use Rattle.std.specs.Prelude.{◌≡◌, ℕ, zero, suc, Bool, true, ◌||◌, List, [], ◌++◌, codes, take, drop, length, ◌==◌, if◌then◌else◌, Option, None, Some}
 use Rattle.std.specs.List.{list_all}
 use Rattle.line_text.specs.Parts.{cut}
-use Rattle.told_bytes.specs.Limits.{most_told}
-use Rattle.told_bytes.specs.Told.{is_printable, told}
+use Rattle.line_text.specs.Limits.{most_told}
+use Rattle.line_text.specs.Told.{is_printable, told}
 
 -- the most lines that are told of what it says
 abbrev pub most_lines : ℕ

@@ -2,7 +2,7 @@
 use Rattle.std.specs.Prelude.{ℕ, ℤ, List, [], ◌++◌, codes, if◌then◌else◌, Option, None, Some}
 use Rattle.std.specs.Fmt.{signed_decimal}
 use Rattle.entry_words.specs.Names.{has_name_bytes}
-use Rattle.told_bytes.specs.Told.{told}
+use Rattle.line_text.specs.Told.{told}
 use Rattle.instance_text.specs.declared.error.Key.{Key}
 use Rattle.instance_text.specs.declared.error.Key.TheVariants as key
 use Rattle.text_faults.specs.declared.values.Found.{Found}

@@ -6,7 +6,7 @@ ghost use Rattle.text_faults.specs.Grammar.{HasNoTomlText, heading_text, last_li
 use line_text::cut;
 use std::alloc::{AllocError, Global};
 use std::str;
-use told_bytes::{MOST_TOLD, Told};
+use line_text::{MOST_TOLD, Told};
 
 /// How many lines are told of what the reader of TOML says.
 const MOST_LINES: usize = 60;

@@ -12,7 +12,7 @@ ghost use Rattle.text_faults.specs.Reading.{shape_of};
 ghost use Rattle.text_faults.specs.Unknown.{is_known, unknown_key, unknown_name};
 ghost use Rattle.text_faults.specs.Values.{wanted};
 
-use told_bytes::told_is_printable;
+use line_text::told_is_printable;
 
 /// What is told as near is one of the names, and at most two characters away.
 pub fn near_names_are_there()

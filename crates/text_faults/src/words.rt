@@ -10,7 +10,7 @@ use entry_words::{Spot, has_name_bytes};
 use instance_text::Key;
 use std::alloc::AllocError;
 use std::fmt;
-use told_bytes::Told;
+use line_text::Told;
 
 /// A piece of a text as it is told.
 fn told<'a>(name: &'a str) -> Told<'a>

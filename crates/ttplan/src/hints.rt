@@ -7,7 +7,7 @@ use std::fmt;
 use std::fs::{self, File};
 use std::io::{self, IsTerminal, Write};
 use text_faults::nearest;
-use told_bytes::Told;
+use line_text::Told;
 use ttp_model::Instance;
 
 /// The status of a command to which memory was refused, whatever text it was for.

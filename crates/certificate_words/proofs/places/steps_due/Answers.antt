@@ -3,7 +3,7 @@ use Rattle.std.proofs.lemmas.Iterator.{YieldsList-from_take}
 use Rattle.std.proofs.lemmas.Iterator.Consumers.{fold_from_yields_List}
 use Rattle.std.proofs.lemmas.Iterator.Splits.{YieldsList-from_slice_split}
 use Rattle.certificate_words.specs.Places.{steps_due, due_behind}
-use Rattle.told_bytes.specs.TextLines.{text_lines}
+use Rattle.line_text.specs.TextLines.{text_lines}
 use Rattle.certificate_words.proofs.places.steps_due.Goals as goal
 
 -- the lines before the one of a number

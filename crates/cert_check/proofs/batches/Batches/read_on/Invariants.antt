@@ -1,6 +1,6 @@
 use Rattle.std.proofs.Common.{◌≡◌, ◌<◌, ◌≤◌, ◌++◌, ℕ, List, length}
 use Rattle.certificate.specs.declared.stream.CertStream.{CertStream}
-use Rattle.held_leaves.specs.declared.leaves.HeldLeaf.{HeldLeaf}
+use Rattle.cert_check.specs.declared.leaves.HeldLeaf.{HeldLeaf}
 use Rattle.cert_check.specs.UnderWay.{Stands, to_come}
 use Rattle.cert_check.proofs.batches.Batches.read_on.Given as goal
 

@@ -1,5 +1,5 @@
 use Rattle.std.proofs.Common.{List, All, ◌++◌, sym, subst}
-use Rattle.held_leaves.specs.declared.leaves.HeldLeaf.{HeldLeaf}
+use Rattle.cert_check.specs.declared.leaves.HeldLeaf.{HeldLeaf}
 use Rattle.cert_check.specs.Waiting.{TellsBefore, Waits}
 use Rattle.cert_check.proofs.Runs.{told_once, told_further}
 use Rattle.cert_check.proofs.Taking.{waits_behind}

@@ -1,6 +1,6 @@
 use Rattle.std.proofs.Common.{List, Ok, subst}
 use Rattle.std.proofs.lemmas.List.Elements.{All-push}
-use Rattle.held_leaves.specs.declared.leaves.HeldLeaf.{HeldLeaf}
+use Rattle.cert_check.specs.declared.leaves.HeldLeaf.{HeldLeaf}
 use Rattle.cert_check.specs.Waiting.{Judges, RunCloses, Waits}
 use Rattle.cert_check.proofs.Runs.{run_of}
 use Rattle.cert_check.proofs.judge.Judge.closed_runs.Goals as goal

@@ -1,6 +1,6 @@
 use Rattle.std.proofs.Common.{◌≡◌, ◌++◌, [], List, arith, length, ap, sym, subst, ◌∙◌}
 use Rattle.std.proofs.lemmas.List.{append-nil}
-use Rattle.held_leaves.specs.declared.leaves.HeldLeaf.{HeldLeaf}
+use Rattle.cert_check.specs.declared.leaves.HeldLeaf.{HeldLeaf}
 use Rattle.cert_check.specs.UnderWay.{Stands}
 use Rattle.cert_check.proofs.Pieces.{nothing_to_come}
 use Rattle.cert_check.proofs.Taking.{stands_first, front_closes}

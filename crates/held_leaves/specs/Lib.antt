@@ -1,1 +1,0 @@
-pub use Rattle.tt_choice.specs.Choice

@@ -1,7 +1,0 @@
-use Rattle.std.proofs.Common.{◌∙◌, sym}
-use Rattle.instance_print.proofs.Alike.{lists_same, node_same}
-use Rattle.instance_print.proofs.same.are_same_nodes.Goals as goal
-
--- src/same.rt
-pub returns : goal.returns
-returns c = λ alike. lists_same node_same c.args.some.now c.args.others.now (sym c.eq.ensures ∙ alike)

@@ -1,2 +1,0 @@
-mod Tellings
-pub mod TextLines
