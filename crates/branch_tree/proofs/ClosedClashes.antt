@@ -22,7 +22,7 @@ use Rattle.sought_plans.specs.Conclusions.{SentFrom, SentBefore, sharpened, capp
 use Rattle.sought_plans.specs.Premises.{GoesTo, IsAhead, IsFirstChance, AreChances, least_ready, bytes_within, bytes_copied, bytes_counted, counts_on, is_fixed_on}
 use Rattle.sought_plans.proofs.Channels.{total_copied_alone}
 use Rattle.tt_infer.proofs.Chances.{concludes_some}
-use Rattle.subtree_tasks.proofs.Complete.{start_exact, end_exact, cap_exact, one_round}
+use Rattle.search_trees.proofs.Complete.{start_exact, end_exact, cap_exact, one_round}
 use Rattle.earliest_starts.specs.declared.clash.Clash.{Clash}
 use Rattle.earliest_starts.specs.declared.clash.Clash.TheVariants.{Cycle, Round, Window, Frame}
 use Rattle.earliest_starts.specs.Fixed.{GoesAhead, plan_of, fixed_bytes}

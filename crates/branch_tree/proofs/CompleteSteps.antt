@@ -13,7 +13,7 @@ use Rattle.sought_plans.specs.Conclusions.{StartsFrom, EndsUntil, NothingLeft, s
 use Rattle.tt_infer.specs.Table.{IsDominance, rule, IsLawful}
 use Rattle.tt_infer.specs.Leaves.{Lead}
 use Rattle.tt_infer.proofs.Leaves.{Lead-append}
-use Rattle.subtree_tasks.proofs.Complete.{end_exact}
+use Rattle.search_trees.proofs.Complete.{end_exact}
 use Rattle.earliest_starts.specs.Clashes.{WaitsUntil, released, arrived, after}
 use Rattle.branch_tree.specs.Closers.{IsClosedBy}
 

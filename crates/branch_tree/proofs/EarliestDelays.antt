@@ -7,7 +7,7 @@ use Rattle.ttp_model.specs.Plans.{IsValid, end_of}
 use Rattle.ttp_model.specs.Delays.{delay}
 use Rattle.ttp_model.proofs.ValidPlans.{greatest_each, greatest_reached}
 use Rattle.tt_choice.specs.Choice.{Choice, IsIn}
-use Rattle.subtree_tasks.specs.PlansBelow.{IsPlanBelow}
+use Rattle.search_trees.specs.PlansBelow.{IsPlanBelow}
 use Rattle.earliest_starts.specs.Answers.{IsEarliest}
 
 pub earliest_delay : (i : Instance) (c : Choice) (plan other : Plan) → IsInstance i → IsEarliest i c plan → IsValid i other → IsIn i c other

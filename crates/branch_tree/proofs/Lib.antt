@@ -6,6 +6,6 @@ pub mod CompleteSteps
 pub mod ClosedClashes
 pub mod OneMessageChoices
 pub mod RootBounds
-pub use Rattle.subtree_tasks.proofs.ChildTasks
-pub use Rattle.subtree_tasks.proofs.Chosen
-pub use Rattle.subtree_tasks.proofs.OneChoice
+pub use Rattle.search_trees.proofs.ChildTasks
+pub use Rattle.search_trees.proofs.Chosen
+pub use Rattle.search_trees.proofs.OneChoice

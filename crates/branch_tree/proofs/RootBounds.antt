@@ -10,7 +10,7 @@ use Rattle.tt_choice.specs.Branches.{root_choice}
 use Rattle.tt_choice.proofs.Root.{IsChoice-root, IsIn-root}
 use Rattle.tt_infer.specs.Leaves.{ClosesSharply}
 use Rattle.tt_infer.proofs.Leaves.{leaf_leaves_none}
-use Rattle.subtree_tasks.proofs.RuledOut.{closes_sharply}
+use Rattle.search_trees.proofs.RuledOut.{closes_sharply}
 
 -- each valid plan leads to a settled one that ends no later, and the leaf leaves none of those below its goal
 pub root_leaf_bounds : (i : Instance) (leaf : Leaf) → IsInstance i → ClosesSharply i (root_choice i) leaf → IsLowerBound i leaf.goal

@@ -16,13 +16,13 @@ use Rattle.tt_choice.specs.Sizes.{size_left, Halves}
 use Rattle.tt_choice.proofs.Children.{child-IsIn}
 use Rattle.tt_choice.proofs.Decisions.{open-more, decision_is_open}
 use Rattle.tt_choice.proofs.Smaller.{size_left-child}
-use Rattle.subtree_tasks.specs.Name.{Name, child_name, root_name}
-use Rattle.subtree_tasks.specs.Task.{Task, choice_of, IsTask, root_task, AreChildren}
+use Rattle.search_trees.specs.Name.{Name, child_name, root_name}
+use Rattle.search_trees.specs.Task.{Task, choice_of, IsTask, root_task, AreChildren}
 use Rattle.branch_tree.specs.Work.{Cover, IsSplit}
 use Rattle.branch_tree.specs.Branching.{IsBranching}
-use Rattle.subtree_tasks.proofs.Chosen.{task_choice, choice_after_child}
-use Rattle.subtree_tasks.proofs.ChildTasks.{with_one}
-use Rattle.subtree_tasks.proofs.DecisionLists.{length-decisions_of, decision_at}
+use Rattle.search_trees.proofs.Chosen.{task_choice, choice_after_child}
+use Rattle.search_trees.proofs.ChildTasks.{with_one}
+use Rattle.search_trees.proofs.DecisionLists.{length-decisions_of, decision_at}
 use Rattle.branch_tree.proofs.Incomplete.{open_incomplete}
 
 module _ (i : Instance) (t : Task) (kind : Kind) (tasks : List Task) (are : AreChildren i t kind tasks) where

@@ -9,10 +9,10 @@ use Rattle.tt_choice.specs.Branches.{root_choice}
 use Rattle.tt_choice.specs.Decisions.{IsOpenDecision, AreOpenDecisions, chosen}
 use Rattle.tt_infer.specs.Facts.{Facts}
 use Rattle.tt_infer.specs.Leaves.{ClosesSharply}
-use Rattle.subtree_tasks.specs.Propagator.{Propagator, IsPropagation, IsLog, IsStarted}
-use Rattle.subtree_tasks.specs.Trials.{IsLeft, ClosesAt}
+use Rattle.search_trees.specs.Propagator.{Propagator, IsPropagation, IsLog, IsStarted}
+use Rattle.search_trees.specs.Trials.{IsLeft, ClosesAt}
 use Rattle.branch_tree.specs.Workbench.{ComesTo, IsAt}
-use Rattle.subtree_tasks.proofs.Chosen.{open_at}
+use Rattle.search_trees.proofs.Chosen.{open_at}
 
 -- the first of a list are no more than all
 pub no_more : (xs ds : List Decision) → xs ≡ take (length xs) ds → length xs ≤ length ds

@@ -3,8 +3,8 @@ pub mod Workbench
 pub mod Branching
 pub mod Closers
 pub mod Examples
-pub use Rattle.subtree_tasks.specs.Account
-pub use Rattle.subtree_tasks.specs.Name
-pub use Rattle.subtree_tasks.specs.Pieces
-pub use Rattle.subtree_tasks.specs.Task
-pub use Rattle.subtree_tasks.specs.declared.piece
+pub use Rattle.search_trees.specs.Account
+pub use Rattle.search_trees.specs.Name
+pub use Rattle.search_trees.specs.Pieces
+pub use Rattle.search_trees.specs.Task
+pub use Rattle.search_trees.specs.declared.piece

@@ -15,11 +15,11 @@ use Rattle.tt_choice.specs.Sizes.{size_left}
 use Rattle.tt_infer.specs.Leaves.{ClosesSharply}
 use Rattle.earliest_starts.specs.Answers.{IsEarliest}
 use Rattle.certificate.specs.declared.node.Node.TheVariants.{Leaf as AsLeaf}
-use Rattle.subtree_tasks.specs.declared.piece.Piece.{Piece}
+use Rattle.search_trees.specs.declared.piece.Piece.{Piece}
 use Rattle.branch_tree.specs.declared.worked.Worked.{Worked}
 use Rattle.branch_tree.specs.declared.worked.Worked.TheVariants.{Split, Closed, Found}
-use Rattle.subtree_tasks.specs.Task.{Task, choice_of, root_task, IsTask, AreChildren}
-pub use Rattle.subtree_tasks.specs.Trials.{ClosesAt}
+use Rattle.search_trees.specs.Task.{Task, choice_of, root_task, IsTask, AreChildren}
+pub use Rattle.search_trees.specs.Trials.{ClosesAt}
 
 -- each valid plan of the task is in a child
 abbrev pub Cover : Instance → Task → List Task → Type 0

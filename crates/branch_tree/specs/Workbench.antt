@@ -2,7 +2,7 @@
 use Rattle.std.specs.Prelude.{◌≡◌, ℕ, ◌<◌, List, length, take, IfSome, IsTrue}
 use Rattle.ttp_model.specs.Instance.{Instance}
 use Rattle.tt_choice.specs.declared.decision.Decision.{Decision}
-use Rattle.subtree_tasks.specs.Propagator.{Propagator}
+use Rattle.search_trees.specs.Propagator.{Propagator}
 use Rattle.branch_tree.specs.declared.workbench.Workbench.{Workbench}
 
 -- what is kept, if anything, is a propagation of this instance

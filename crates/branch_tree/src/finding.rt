@@ -6,15 +6,15 @@ ghost use Rattle.ttp_model.specs.Plans.{IsValid};
 ghost use Rattle.ttp_model.specs.Delays.{delay};
 ghost use Rattle.ttp_model.specs.Moves.{IsSettled, MovesLead};
 ghost use Rattle.tt_choice.specs.Choice.{IsChoice, IsIn, IsComplete};
-ghost use Rattle.subtree_tasks.specs.PlansBelow.{IsPlanBelow};
+ghost use Rattle.search_trees.specs.PlansBelow.{IsPlanBelow};
 ghost use Rattle.earliest_starts.specs.Answers.{IsEarliest};
-ghost use Rattle.subtree_tasks.specs.Trials.{ClosesAt};
+ghost use Rattle.search_trees.specs.Trials.{ClosesAt};
 ghost use Rattle.branch_tree.specs.Work.{IsWorkedFind};
 
 use crate::worked::Worked;
 use earliest_starts::{Earliest, earliest};
+use search_trees::{Trial, tried};
 use std::alloc::Global;
-use subtree_tasks::{Trial, tried};
 use tt_choice::Choice;
 use tt_settle::settle;
 use ttp_model::{Instance, Leaf, MemoryFault, Plan, delay};

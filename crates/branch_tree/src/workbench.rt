@@ -6,9 +6,9 @@ ghost use Rattle.tt_choice.specs.Decisions.{AreOpenDecisions};
 ghost use Rattle.branch_tree.specs.Workbench.{IsWorkbenchOf, IsAt, ComesTo};
 
 use crate::lessons::Lessons;
+use search_trees::Propagator;
 use std::alloc::Global;
 use std::mem;
-use subtree_tasks::Propagator;
 use tt_choice::Decision;
 use ttp_model::{Instance, MemoryFault};
 

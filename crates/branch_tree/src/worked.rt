@@ -1,6 +1,6 @@
 //! What became of a task?
 
-use subtree_tasks::Task;
+use search_trees::Task;
 use ttp_model::{Kind, Leaf, Plan};
 
 /// What a task was worked into.

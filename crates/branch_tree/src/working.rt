@@ -7,9 +7,9 @@ ghost use Rattle.ttp_model.specs.Chains.{IsPathBound};
 ghost use Rattle.ttp_model.specs.Delays.{IsLowerBound};
 ghost use Rattle.tt_choice.specs.Choice.{IsChoice, IsComplete};
 ghost use Rattle.tt_infer.specs.Leaves.{ClosesSharply};
-ghost use Rattle.subtree_tasks.specs.PlansBelow.{IsPlanBelow};
+ghost use Rattle.search_trees.specs.PlansBelow.{IsPlanBelow};
 ghost use Rattle.branch_tree.specs.Branching.{Branches};
-ghost use Rattle.subtree_tasks.specs.Task.{choice_of, root_task, IsTask};
+ghost use Rattle.search_trees.specs.Task.{choice_of, root_task, IsTask};
 ghost use Rattle.branch_tree.specs.Work.{IsWorked, IsLeftClosed};
 ghost use Rattle.branch_tree.specs.Workbench.{IsWorkbenchOf, ComesTo};
 
@@ -20,10 +20,10 @@ use crate::lessons::Lessons;
 use crate::workbench::Workbench;
 use crate::worked::Worked;
 use certificate::Node;
-use std::alloc::Global;
-use subtree_tasks::{
+use search_trees::{
     Agenda, Piece, Propagator, Task, Trial, best_goal, child_tasks, leaf_by, tried,
 };
+use std::alloc::Global;
 use tt_choice::Choice;
 use ttp_model::{Instance, Kind, Leaf, MemoryFault, Step};
 

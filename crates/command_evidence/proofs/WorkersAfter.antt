@@ -1,7 +1,7 @@
 -- What the table of events says of the worker that does one.
 use Rattle.std.proofs.Common.{◌≡◌, ℕ, List, [], ◌∷◌, ◌++◌, Result, Ok, Err, IfOk, OnOk, refl, ap, sym, ◌∙◌}
 use Rattle.std.proofs.lemmas.List.{get_or-set_same}
-use Rattle.subtree_tasks.specs.Name.{Name}
+use Rattle.search_trees.specs.Name.{Name}
 use Rattle.ttp_model.specs.declared.step.Leaf.{Leaf}
 use Rattle.search_core.specs.declared.event.Event.TheVariants.{Pop, Look, Work}
 use Rattle.search_core.specs.declared.event.Worked.TheVariants.{Closed}

@@ -1,6 +1,6 @@
 -- What a worker is left with after a pop.
 use Rattle.std.specs.Prelude.{◌≡◌, [], ◌∷◌, ◌++◌}
-use Rattle.subtree_tasks.specs.Name.{Name}
+use Rattle.search_trees.specs.Name.{Name}
 use Rattle.search_core.specs.declared.hand.Hand.TheVariants.{Task}
 use Rattle.search_core.specs.declared.reply.Reply.{Reply}
 use Rattle.search_core.specs.declared.reply.Reply.TheVariants as reply

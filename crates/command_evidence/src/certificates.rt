@@ -5,8 +5,8 @@ ghost use Rattle.certificate.specs.declared.version.Version.TheVariants.{One};
 ghost use Rattle.certificate.specs.Spelling.{SpellsCert, cert_text};
 ghost use Rattle.certificate.specs.Trees.{IsTree};
 ghost use Rattle.certificate.specs.Versions.{Allows};
-ghost use Rattle.tree_gathering.specs.Gathering.{AreShallow, HaveGoals};
-ghost use Rattle.tree_gathering.specs.Trees.{IsTreeOf};
+ghost use Rattle.search_trees.specs.Gathering.{AreShallow, HaveGoals};
+ghost use Rattle.search_trees.specs.Trees.{IsTreeOf};
 ghost use Rattle.command_evidence.specs.Channels.{SpeaksOfNoChannel};
 
 use branch_tree::Piece;

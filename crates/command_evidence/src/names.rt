@@ -3,8 +3,8 @@
 ghost use Rattle.std.specs.Prelude.{◌≡◌, IfOk, IsTrue, Some, length};
 ghost use Rattle.ttp_model.specs.Graph.{HasLink};
 
+use search_trees::Name;
 use std::alloc::Global;
-use subtree_tasks::Name;
 use tt_moves::twins;
 use ttp_model::{Instance, MemoryFault};
 

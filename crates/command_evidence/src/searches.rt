@@ -7,7 +7,7 @@ ghost use Rattle.ttp_model.specs.Delays.{delay, IsLeastDelay};
 ghost use Rattle.ttp_model.specs.Moves.{IsSettled};
 ghost use Rattle.ttp_model.specs.Plans.{IsValid};
 ghost use Rattle.certificate.specs.declared.node.Node.TheVariants.{Leaf as AsLeaf};
-ghost use Rattle.subtree_tasks.specs.Task.{IsTask};
+ghost use Rattle.search_trees.specs.Task.{IsTask};
 
 use branch_tree::{Piece, Task, Worked, close_left, work};
 use planner::{FreeGate, Options, Outcome, SolveFault, solve, solve_towards};

@@ -2,11 +2,11 @@
 
 ghost use Rattle.std.specs.Prelude.{◌≡◌};
 ghost use Rattle.incumbent.specs.Watch.{IsOther};
-ghost use Rattle.pool_worker.specs.Report.{HasAccount};
-ghost use Rattle.pool_worker.specs.declared.report.Ending.TheVariants as ending;
+ghost use Rattle.search_workers.specs.Report.{HasAccount};
+ghost use Rattle.search_workers.specs.declared.report.Ending.TheVariants as ending;
 
 use incumbent::{Incumbent, Watch};
-use pool_worker::{FreeGate, Report, run_worker};
+use search_workers::{FreeGate, Report, run_worker};
 use std::alloc::Global;
 use steal_pool::{Hand, Searched};
 use ttp_model::Instance;

@@ -11,8 +11,8 @@ use Rattle.certificate.specs.Cert.{Cert}
 use Rattle.certificate.proofs.Versions.{two_allows_all}
 use Rattle.dropped_decisions.specs.Proofs.{Proves}
 use Rattle.dropped_decisions.proofs.OneChannel.{one_channel_is_allowed}
-use Rattle.search_turns.specs.declared.outcome.Options.{Options}
-use Rattle.search_turns.specs.declared.outcome.Outcome.{Outcome}
+use Rattle.search_workers.specs.declared.outcome.Options.{Options}
+use Rattle.search_workers.specs.declared.outcome.Outcome.{Outcome}
 use Rattle.planner.specs.Answers.{cert_of, IsOutcome}
 
 by_channels : (i : Instance) (cert : Cert) (alone : Bool) → (i.cluster.channels == 1) ≡ alone → IsInstance i → Proves i cert → Allows (cond alone One Two) cert.tree

@@ -7,20 +7,20 @@ use Rattle.ttp_model.specs.Instance.{Instance}
 use Rattle.ttp_model.specs.Rules.{IsInstance}
 use Rattle.certificate.specs.declared.node.Node.{Node}
 use Rattle.certificate.specs.declared.node.Node.TheVariants as node
-use Rattle.search_turns.specs.piece.Piece.{Piece}
-use Rattle.search_turns.specs.Task.{Task, IsTask}
+use Rattle.search_workers.specs.piece.Piece.{Piece}
+use Rattle.search_workers.specs.Task.{Task, IsTask}
 use Rattle.incumbent.specs.declared.word.Incumbent.{Incumbent}
 use Rattle.incumbent.specs.Watch.{first_value, seen, offers, IsLeast}
 use Rattle.steal_pool.specs.Hand.{all_pushed, all_taken}
-use Rattle.search_turns.specs.aims.Aims.{Aims}
-use Rattle.search_turns.specs.Goals.{goals_of, goals_at, IsReached}
-use Rattle.search_turns.specs.Tasks.{tasks_of, all_born}
+use Rattle.search_workers.specs.aims.Aims.{Aims}
+use Rattle.search_workers.specs.Goals.{goals_of, goals_at, IsReached}
+use Rattle.search_workers.specs.Tasks.{tasks_of, all_born}
 use Rattle.planner.specs.declared.crew.Crew.{Crew}
-use Rattle.search_turns.specs.Searching.{aim_of, limit_of, IsSearching}
-use Rattle.search_turns.proofs.Goals.{goal_rises}
-use Rattle.search_turns.specs.Gathering.{HasGoal, HaveGoals}
+use Rattle.search_workers.specs.Searching.{aim_of, limit_of, IsSearching}
+use Rattle.search_workers.proofs.Goals.{goal_rises}
+use Rattle.search_workers.specs.Gathering.{HasGoal, HaveGoals}
 use Rattle.planner.specs.Crew.{HasLeft, HaveEnded}
-use Rattle.search_turns.proofs.Searching.{first_is, then_is}
+use Rattle.search_workers.proofs.Searching.{first_is, then_is}
 use Rattle.planner.proofs.Crews.{none_below}
 
 -- one task more is drained

@@ -9,23 +9,23 @@ use Rattle.std.proofs.lemmas.List.Sorted.{IsPermutation-refl, IsPermutation-sym,
 use Rattle.ttp_model.specs.declared.plan.Plan.{Plan}
 use Rattle.ttp_model.specs.Instance.{Instance}
 use Rattle.ttp_model.specs.Rules.{IsInstance}
-use Rattle.search_turns.specs.piece.Piece.{Piece}
-use Rattle.search_turns.specs.Task.{Task, IsTask}
+use Rattle.search_workers.specs.piece.Piece.{Piece}
+use Rattle.search_workers.specs.Task.{Task, IsTask}
 use Rattle.incumbent.specs.declared.word.Incumbent.{Incumbent}
 use Rattle.incumbent.specs.Watch.{seen, offers, out_count, IsOpening}
 use Rattle.steal_pool.specs.declared.hand.Hand.{Hand}
 use Rattle.steal_pool.specs.Hand.{pushed, taken, IsSameHand, all_pushed, all_taken}
-use Rattle.search_turns.specs.aims.Aims.{Aims}
-use Rattle.search_turns.specs.report.Report.{Report}
-use Rattle.search_turns.specs.Tasks.{Turn, IsTurn, tasks_of, pieces_of, all_born, born}
-use Rattle.search_turns.specs.Goals.{goals_of, goals_at, IsReached}
-use Rattle.search_turns.specs.Best.{IsBestOf}
-use Rattle.search_turns.specs.Report.{held, unpushed}
+use Rattle.search_workers.specs.aims.Aims.{Aims}
+use Rattle.search_workers.specs.report.Report.{Report}
+use Rattle.search_workers.specs.Tasks.{Turn, IsTurn, tasks_of, pieces_of, all_born, born}
+use Rattle.search_workers.specs.Goals.{goals_of, goals_at, IsReached}
+use Rattle.search_workers.specs.Best.{IsBestOf}
+use Rattle.search_workers.specs.Report.{held, unpushed}
 use Rattle.planner.specs.declared.crew.Job.{Job}
 use Rattle.planner.specs.declared.crew.Crew.{Crew}
-use Rattle.search_turns.specs.Searching.{limit_of, IsFound}
+use Rattle.search_workers.specs.Searching.{limit_of, IsFound}
 use Rattle.planner.specs.Crew.{AreSameHands, AreTogether, Gathers, IsBetter, IsJob, IsReportOfJob, tasks_in, told}
-use Rattle.search_turns.proofs.Searching.{first_is, then_is, found_small, one_only}
+use Rattle.search_workers.proofs.Searching.{first_is, then_is, found_small, one_only}
 
 -- ---- lists
 

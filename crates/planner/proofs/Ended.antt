@@ -12,17 +12,17 @@ use Rattle.certificate.specs.declared.node.Node.TheVariants as node
 use Rattle.certificate.specs.Trees.{Trees, none, grow, preorder}
 use Rattle.certificate.specs.Cert.{Cert}
 use Rattle.dropped_decisions.specs.Proofs.{choices_below, Suits, AreProofs, Proves}
-use Rattle.search_turns.specs.Gathering.{HasGoal}
-use Rattle.search_turns.specs.aims.Aims.{Aims}
-use Rattle.search_turns.proofs.Goals.{goal_near, goal_past}
-use Rattle.search_turns.specs.declared.outcome.Options.{Options}
-use Rattle.search_turns.specs.declared.outcome.Outcome.{Outcome}
-use Rattle.search_turns.specs.declared.outcome.Outcome.TheVariants.{Optimal, Infeasible, Stopped}
-use Rattle.search_turns.specs.declared.outcome.Why.{Why}
-use Rattle.search_turns.specs.declared.outcome.Why.TheVariants.{Budget, Memory, CalledOff, Gap}
-use Rattle.search_turns.specs.Searching.{aim_of, limit_of, IsFound}
-use Rattle.search_turns.specs.Ends.{IsAnswerOf, IsCauseTold, IsFar}
-use Rattle.search_turns.proofs.Searching.{aim_below, weaker_goal}
+use Rattle.search_workers.specs.Gathering.{HasGoal}
+use Rattle.search_workers.specs.aims.Aims.{Aims}
+use Rattle.search_workers.proofs.Goals.{goal_near, goal_past}
+use Rattle.search_workers.specs.declared.outcome.Options.{Options}
+use Rattle.search_workers.specs.declared.outcome.Outcome.{Outcome}
+use Rattle.search_workers.specs.declared.outcome.Outcome.TheVariants.{Optimal, Infeasible, Stopped}
+use Rattle.search_workers.specs.declared.outcome.Why.{Why}
+use Rattle.search_workers.specs.declared.outcome.Why.TheVariants.{Budget, Memory, CalledOff, Gap}
+use Rattle.search_workers.specs.Searching.{aim_of, limit_of, IsFound}
+use Rattle.search_workers.specs.Ends.{IsAnswerOf, IsCauseTold, IsFar}
+use Rattle.search_workers.proofs.Searching.{aim_below, weaker_goal}
 use Rattle.dropped_decisions.specs.Branches.{branches}
 use Rattle.planner.specs.Answers.{answer_version, from_low, IsBestAbove, IsCause, IsOutcome}
 use Rattle.planner.specs.Searched.{AreAims, IsEndTree, IsExhausted, IsLowest, IsReason, HasLeafAt}

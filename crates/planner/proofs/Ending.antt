@@ -9,25 +9,25 @@ use Rattle.ttp_model.specs.Chains.{IsPathBound}
 use Rattle.tt_choice.specs.Choice.{Choice}
 use Rattle.certificate.specs.declared.limits.TheConstants.{MOST_BRANCHES_ABOVE}
 use Rattle.certificate.specs.declared.node.Node.TheVariants as node
-use Rattle.search_turns.specs.piece.Piece.{Piece}
-use Rattle.search_turns.specs.Name.{Name}
-use Rattle.search_turns.specs.Task.{Task, choice_of, IsTask}
-use Rattle.search_turns.specs.Pieces.{IsRight, StandsAt, AreRight}
-use Rattle.search_turns.specs.Account.{IsWholeTree}
-use Rattle.search_turns.specs.Work.{IsLeftClosed}
-use Rattle.search_turns.proofs.OneChoice.{stands_alone}
-use Rattle.search_turns.proofs.Children.{leaf_right}
-use Rattle.search_turns.specs.aims.Aims.{Aims}
-use Rattle.search_turns.specs.Tasks.{tasks_of}
-use Rattle.search_turns.specs.declared.outcome.Options.{Options}
-use Rattle.search_turns.specs.Searching.{aim_of, IsWorkedOut, task_names, IsSearching}
-use Rattle.search_turns.specs.Gathering.{HasGoal, HaveGoals, AreShallow, IsLeafPiece}
+use Rattle.search_workers.specs.piece.Piece.{Piece}
+use Rattle.search_workers.specs.Name.{Name}
+use Rattle.search_workers.specs.Task.{Task, choice_of, IsTask}
+use Rattle.search_workers.specs.Pieces.{IsRight, StandsAt, AreRight}
+use Rattle.search_workers.specs.Account.{IsWholeTree}
+use Rattle.search_workers.specs.Work.{IsLeftClosed}
+use Rattle.search_workers.proofs.OneChoice.{stands_alone}
+use Rattle.search_workers.proofs.Children.{leaf_right}
+use Rattle.search_workers.specs.aims.Aims.{Aims}
+use Rattle.search_workers.specs.Tasks.{tasks_of}
+use Rattle.search_workers.specs.declared.outcome.Options.{Options}
+use Rattle.search_workers.specs.Searching.{aim_of, IsWorkedOut, task_names, IsSearching}
+use Rattle.search_workers.specs.Gathering.{HasGoal, HaveGoals, AreShallow, IsLeafPiece}
 use Rattle.planner.specs.Searched.{IsSearched, IsClosedLeaf, ReachesGoal}
 use Rattle.planner.specs.Closing.{ClosesOne, AreClosed}
-use Rattle.search_turns.specs.declared.outcome.Why.{Why}
-use Rattle.search_turns.proofs.Searching.{last_there, one_only, weaker_goal}
+use Rattle.search_workers.specs.declared.outcome.Why.{Why}
+use Rattle.search_workers.proofs.Searching.{last_there, one_only, weaker_goal}
 use Rattle.planner.proofs.Standing.{whole, right, shallow, stands}
-use Rattle.search_turns.proofs.Leaves.{closed_whole, closed_right}
+use Rattle.search_workers.proofs.Leaves.{closed_whole, closed_right}
 
 pub end_low : (low limit : ℕ) (closed : List Piece) → (low ≡ limit) ⊎ ((low < limit) × ReachesGoal low closed) → low ≤ limit
 end_low low limit closed (inl e) = omega (arith, e)

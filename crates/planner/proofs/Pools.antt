@@ -3,14 +3,14 @@ use Rattle.std.proofs.Common.{◌≡◌, ℕ, zero, suc, List, [], ◌∷◌, �
 use Rattle.std.specs.List.Sorted.{IsPermutation}
 use mathlib.Core.Option.{some, some-injective, some-ne-none}
 use lib.ListN.{get_elem?}
-use Rattle.search_turns.specs.Task.{Task}
+use Rattle.search_workers.specs.Task.{Task}
 use Rattle.steal_pool.specs.declared.hand.Hand.{Hand}
 use Rattle.steal_pool.specs.Door.{DequeId}
 use Rattle.steal_pool.specs.Hand.{pushed, taken, IsSameHand, IsHandOf, IsPool, ChangesAt, all_pushed, all_taken}
 use Rattle.steal_pool.proofs.Orders.{more_in_one, same_in_all}
 use Rattle.steal_pool.proofs.Pools.{each_change}
 use Rattle.planner.specs.Crew.{AreSameHands}
-use Rattle.search_turns.proofs.Searching.{first_is, then_is}
+use Rattle.search_workers.proofs.Searching.{first_is, then_is}
 
 module _ {J : Type 0} where
   hand_of_still : (ids : List DequeId) (place : ℕ) (g h : Hand J) → IsSameHand g h → IsHandOf ids place g → IsHandOf ids place h

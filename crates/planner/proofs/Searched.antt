@@ -17,21 +17,21 @@ use Rattle.certificate.specs.declared.node.Node.TheVariants as node
 use Rattle.certificate.specs.Trees.{Trees, preorder}
 use Rattle.certificate.specs.Cert.{Cert}
 use Rattle.dropped_decisions.specs.Proofs.{Proves}
-use Rattle.search_turns.specs.piece.Piece.{Piece}
-use Rattle.search_turns.specs.declared.outcome.Options.{Options}
-use Rattle.search_turns.specs.declared.outcome.Why.{Why}
-use Rattle.search_turns.specs.declared.outcome.Why.TheVariants.{Budget, Memory, CalledOff, Gap}
-use Rattle.search_turns.specs.Trees.{IsTreeOf, pieces_of}
-use Rattle.search_turns.specs.Gathering.{HasGoal, HaveGoals, IsGathered}
+use Rattle.search_workers.specs.piece.Piece.{Piece}
+use Rattle.search_workers.specs.declared.outcome.Options.{Options}
+use Rattle.search_workers.specs.declared.outcome.Why.{Why}
+use Rattle.search_workers.specs.declared.outcome.Why.TheVariants.{Budget, Memory, CalledOff, Gap}
+use Rattle.search_workers.specs.Trees.{IsTreeOf, pieces_of}
+use Rattle.search_workers.specs.Gathering.{HasGoal, HaveGoals, IsGathered}
 use Rattle.dropped_decisions.specs.Branches.{is_branch, branches}
 use Rattle.planner.specs.Answers.{is_closed_at, worked_at, in_answer}
-use Rattle.search_turns.specs.Searching.{aim_of, limit_of, IsFound, IsWorkedOut}
+use Rattle.search_workers.specs.Searching.{aim_of, limit_of, IsFound, IsWorkedOut}
 use Rattle.planner.specs.Searched.{AreAims, IsClosedLeaf, IsEndTree, IsReason, IsSearched}
-use Rattle.search_turns.specs.aims.Aims.{Aims}
-use Rattle.search_turns.proofs.Goals.{goal_near}
-use Rattle.search_turns.proofs.Searching.{aim_below, weaker_goal}
-use Rattle.search_turns.proofs.Existence.{tree_nodes}
-use Rattle.search_turns.proofs.Proving.{gathered_proves}
+use Rattle.search_workers.specs.aims.Aims.{Aims}
+use Rattle.search_workers.proofs.Goals.{goal_near}
+use Rattle.search_workers.proofs.Searching.{aim_below, weaker_goal}
+use Rattle.search_workers.proofs.Existence.{tree_nodes}
+use Rattle.search_workers.proofs.Proving.{gathered_proves}
 
 abbrev nodes_of : List Piece → List Node
 nodes_of pieces = map (λ (p : Piece). p.node) pieces

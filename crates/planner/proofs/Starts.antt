@@ -4,11 +4,11 @@ use Rattle.ttp_model.specs.declared.plan.Plan.{Plan}
 use Rattle.ttp_model.specs.Instance.{Instance}
 use Rattle.ttp_model.specs.Delays.{delay}
 use Rattle.certificate.specs.Cert.{Cert}
-use Rattle.search_turns.specs.declared.outcome.Outcome.{Outcome}
-use Rattle.search_turns.specs.declared.outcome.Outcome.TheVariants.{Optimal, Infeasible, Stopped}
-use Rattle.search_turns.specs.declared.outcome.Why.{Why}
-use Rattle.search_turns.specs.Searching.{limit_of}
-use Rattle.search_turns.specs.Ends.{IsAnswerOf}
+use Rattle.search_workers.specs.declared.outcome.Outcome.{Outcome}
+use Rattle.search_workers.specs.declared.outcome.Outcome.TheVariants.{Optimal, Infeasible, Stopped}
+use Rattle.search_workers.specs.declared.outcome.Why.{Why}
+use Rattle.search_workers.specs.Searching.{limit_of}
+use Rattle.search_workers.specs.Ends.{IsAnswerOf}
 use Rattle.planner.specs.Answers.{best_of, certified_by}
 
 -- an answer has the best plan that the search knew

@@ -13,15 +13,15 @@ use Rattle.certificate.specs.Trees.{Trees, preorder}
 use Rattle.certificate.specs.Cert.{Cert}
 use Rattle.dropped_decisions.specs.Proofs.{Proves}
 use Rattle.dropped_decisions.specs.Branches.{branches}
-use Rattle.search_turns.specs.Best.{IsPlanFound}
-use Rattle.search_turns.specs.declared.outcome.Options.{Options}
-use Rattle.search_turns.specs.declared.outcome.Outcome.{Outcome}
-use Rattle.search_turns.specs.declared.outcome.Outcome.TheVariants.{Optimal, Infeasible, Stopped}
-use Rattle.search_turns.specs.declared.outcome.Why.{Why}
-use Rattle.search_turns.specs.declared.outcome.Why.TheVariants.{Budget, Memory, CalledOff, Gap}
-use Rattle.search_turns.specs.Searching.{limit_of}
-use Rattle.search_turns.specs.Ends.{IsFar, IsNear}
-use Rattle.search_turns.specs.Gathering.{HasGoal}
+use Rattle.search_workers.specs.Best.{IsPlanFound}
+use Rattle.search_workers.specs.declared.outcome.Options.{Options}
+use Rattle.search_workers.specs.declared.outcome.Outcome.{Outcome}
+use Rattle.search_workers.specs.declared.outcome.Outcome.TheVariants.{Optimal, Infeasible, Stopped}
+use Rattle.search_workers.specs.declared.outcome.Why.{Why}
+use Rattle.search_workers.specs.declared.outcome.Why.TheVariants.{Budget, Memory, CalledOff, Gap}
+use Rattle.search_workers.specs.Searching.{limit_of}
+use Rattle.search_workers.specs.Ends.{IsFar, IsNear}
+use Rattle.search_workers.specs.Gathering.{HasGoal}
 
 -- a leaf at the limit or past it
 abbrev pub is_closed_at : ℕ → Node → Bool

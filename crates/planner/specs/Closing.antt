@@ -2,12 +2,12 @@
 use Rattle.std.specs.Prelude.{◌≡◌, ℕ, ◌<◌, ◌⊎◌, List, ◌++◌, All, Contains}
 use Rattle.ttp_model.specs.Instance.{Instance}
 use Rattle.certificate.specs.Cert.{Cert}
-use Rattle.search_turns.specs.piece.Piece.{Piece}
-use Rattle.search_turns.specs.Task.{Task}
-use Rattle.search_turns.specs.Pieces.{names_of}
-use Rattle.search_turns.specs.Work.{IsLeftClosed}
-use Rattle.search_turns.specs.Gathering.{HaveGoals, IsGathered}
-use Rattle.search_turns.specs.Searching.{task_names}
+use Rattle.search_workers.specs.piece.Piece.{Piece}
+use Rattle.search_workers.specs.Task.{Task}
+use Rattle.search_workers.specs.Pieces.{names_of}
+use Rattle.search_workers.specs.Work.{IsLeftClosed}
+use Rattle.search_workers.specs.Gathering.{HaveGoals, IsGathered}
+use Rattle.search_workers.specs.Searching.{task_names}
 use Rattle.planner.specs.Searched.{ReachesGoal}
 
 -- a piece closes one of these tasks

@@ -2,22 +2,22 @@
 use Rattle.std.specs.Prelude.{◌≡◌, ◌⊎◌, ℕ, ◌+◌, ◌-◌, ◌≤◌, List, [], ◌∷◌, ◌++◌, map, length, sum_by, All, Option, None, Some, IsPermutation}
 use Rattle.ttp_model.specs.declared.plan.Plan.{Plan}
 use Rattle.ttp_model.specs.Instance.{Instance}
-use Rattle.search_turns.specs.Task.{Task, IsTask, root_task}
+use Rattle.search_workers.specs.Task.{Task, IsTask, root_task}
 use Rattle.incumbent.specs.declared.word.Incumbent.{Incumbent}
 use Rattle.incumbent.specs.declared.word.Watch.{Watch}
 use Rattle.incumbent.specs.Watch.{first_value, offers, out_count, IsOpening, IsOther, IsSameWatch}
 use Rattle.steal_pool.specs.declared.hand.Hand.{Hand}
 use Rattle.steal_pool.specs.Hand.{IsPool, IsSameHand, all_pushed, all_taken}
-use Rattle.search_turns.specs.aims.Aims.{Aims}
-use Rattle.search_turns.specs.report.Report.{Report}
-use Rattle.search_turns.specs.Tasks.{Turn, IsTurn, tasks_of, pieces_of, all_born}
-use Rattle.search_turns.specs.Goals.{goals_of, AreGoals, IsReached}
-use Rattle.search_turns.specs.Best.{OffersBest}
-use Rattle.search_turns.specs.report.Rest.{Rest}
-use Rattle.search_turns.specs.Report.{HasAccount, held, unpushed}
+use Rattle.search_workers.specs.aims.Aims.{Aims}
+use Rattle.search_workers.specs.report.Report.{Report}
+use Rattle.search_workers.specs.Tasks.{Turn, IsTurn, tasks_of, pieces_of, all_born}
+use Rattle.search_workers.specs.Goals.{goals_of, AreGoals, IsReached}
+use Rattle.search_workers.specs.Best.{OffersBest}
+use Rattle.search_workers.specs.report.Rest.{Rest}
+use Rattle.search_workers.specs.Report.{HasAccount, held, unpushed}
 use Rattle.planner.specs.declared.crew.Job.{Job}
 use Rattle.planner.specs.declared.crew.Crew.{Crew}
-use Rattle.search_turns.specs.Searching.{limit_of, IsFound}
+use Rattle.search_workers.specs.Searching.{limit_of, IsFound}
 
 -- the report of a run with these aims that began with this job
 pub record IsReportOfJob {J : Type 0} (i : Instance) (aims : Aims) (job : Job J) (report : Report J) : Type 0 where

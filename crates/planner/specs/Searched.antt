@@ -10,16 +10,16 @@ use Rattle.certificate.specs.Trees.{preorder}
 use Rattle.certificate.specs.Cert.{Cert}
 use Rattle.dropped_decisions.specs.Proofs.{Proves}
 use Rattle.dropped_decisions.specs.Branches.{branches}
-use Rattle.search_turns.specs.piece.Piece.{Piece}
-use Rattle.search_turns.specs.Pieces.{AreRight}
-use Rattle.search_turns.specs.Account.{IsWholeTree}
-use Rattle.search_turns.specs.declared.outcome.Options.{Options}
-use Rattle.search_turns.specs.declared.outcome.Why.{Why}
-use Rattle.search_turns.specs.declared.outcome.Why.TheVariants.{Budget, Memory, CalledOff, Gap}
-use Rattle.search_turns.specs.aims.Aims.{Aims}
-use Rattle.search_turns.specs.Goals.{goal_of}
-use Rattle.search_turns.specs.Searching.{aim_of, limit_of, IsFound, IsWorkedOut}
-use Rattle.search_turns.specs.Gathering.{HasGoal, HaveGoals}
+use Rattle.search_workers.specs.piece.Piece.{Piece}
+use Rattle.search_workers.specs.Pieces.{AreRight}
+use Rattle.search_workers.specs.Account.{IsWholeTree}
+use Rattle.search_workers.specs.declared.outcome.Options.{Options}
+use Rattle.search_workers.specs.declared.outcome.Why.{Why}
+use Rattle.search_workers.specs.declared.outcome.Why.TheVariants.{Budget, Memory, CalledOff, Gap}
+use Rattle.search_workers.specs.aims.Aims.{Aims}
+use Rattle.search_workers.specs.Goals.{goal_of}
+use Rattle.search_workers.specs.Searching.{aim_of, limit_of, IsFound, IsWorkedOut}
+use Rattle.search_workers.specs.Gathering.{HasGoal, HaveGoals}
 use Rattle.planner.specs.Answers.{answer_version, worked_at}
 
 -- a goal at which propagation closes the whole tree: at least the path bound, within one tick past the horizon

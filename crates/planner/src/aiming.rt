@@ -4,7 +4,7 @@ ghost use Rattle.std.specs.Prelude.{IfOk};
 ghost use Rattle.planner.specs.Searched.{AreAims, IsFloor};
 
 use crate::closing::{close, lowered};
-use search_turns::{Agenda, Aims, Task};
+use search_workers::{Agenda, Aims, Task};
 use std::alloc::Global;
 use ttp_model::{Instance, MemoryFault};
 

@@ -2,17 +2,17 @@
 
 ghost use Rattle.std.specs.Prelude.{◌≡◌, ◌≤◌, ◌+◌, [], ◌∷◌, ◌++◌, IfOk, OnOk, IfErr, IsPermutation, length, All};
 ghost use Rattle.ttp_model.specs.Rules.{IsInstance};
-ghost use Rattle.search_turns.specs.Task.{root_task, IsTask};
+ghost use Rattle.search_workers.specs.Task.{root_task, IsTask};
 ghost use Rattle.incumbent.specs.Watch.{first_value, offers, out_count, IsOpening, IsWatchOf};
 ghost use Rattle.steal_pool.specs.Hand.{all_pushed, all_taken, IsPool};
-ghost use Rattle.search_turns.specs.Searching.{limit_of, IsFound, IsSearching};
-ghost use Rattle.search_turns.specs.aims.Aims.{Aims};
+ghost use Rattle.search_workers.specs.Searching.{limit_of, IsFound, IsSearching};
+ghost use Rattle.search_workers.specs.aims.Aims.{Aims};
 ghost use Rattle.planner.specs.Crew.{budget_of, hands_of, told, AreDealt, AreReportsOf, HasLeft, HaveEnded, IsJob, IsNobody};
 
 use crate::crew::{Crew, Job, run_all};
 use crate::reserve::Reserve;
 use incumbent::{Incumbent, Watch};
-use search_turns::{Aims, Gate, Manner, Options, Report, Search, SolveFault, Task};
+use search_workers::{Aims, Gate, Manner, Options, Report, Search, SolveFault, Task};
 use std::alloc::Global;
 use std::marker::{Send, Sync};
 use std::sync::Wait;

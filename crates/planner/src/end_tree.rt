@@ -1,12 +1,12 @@
 //! What does the tree of a search at its end say?
 
 ghost use Rattle.std.specs.Prelude.{◌≡◌};
-ghost use Rattle.search_turns.specs.Searching.{IsFound};
+ghost use Rattle.search_workers.specs.Searching.{IsFound};
 ghost use Rattle.planner.specs.Answers.{best_of, IsOutcome};
 ghost use Rattle.planner.specs.Searched.{IsEndTree, IsLowest};
 
 use certificate::{Cert, Node};
-use search_turns::{Options, Outcome, Why, answer, cause, limit};
+use search_workers::{Options, Outcome, Why, answer, cause, limit};
 use ttp_model::{Instance, Plan};
 
 /// The lesser of a limit and the least goal of the leaves among nodes, in ticks.

@@ -4,7 +4,7 @@ ghost use Rattle.std.specs.Prelude.{◌≡◌, ◌+◌, ◌++◌, OnOk, length};
 ghost use Rattle.planner.specs.Crew.{AreTogether};
 
 use certificate::Node;
-use search_turns::Piece;
+use search_workers::Piece;
 use std::mem;
 use ttp_model::MemoryFault;
 

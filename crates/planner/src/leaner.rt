@@ -2,16 +2,16 @@
 
 ghost use Rattle.std.specs.Prelude.{◌≡◌, ◌≤◌, IfOk, IfSome, length};
 ghost use Rattle.certificate.specs.Cert.{Cert};
-ghost use Rattle.search_turns.specs.declared.outcome.Options.{Options};
-ghost use Rattle.search_turns.specs.declared.outcome.Why.TheVariants.{Gap};
+ghost use Rattle.search_workers.specs.declared.outcome.Options.{Options};
+ghost use Rattle.search_workers.specs.declared.outcome.Why.TheVariants.{Gap};
 ghost use Rattle.planner.specs.Answers.{certified_by, IsOutcome};
 ghost use Rattle.planner.specs.Searched.{AreAims, IsEndTree};
-ghost use Rattle.search_turns.specs.Searching.{IsFound};
+ghost use Rattle.search_workers.specs.Searching.{IsFound};
 
 use crate::versions::answer_version;
 use certificate::Cert;
 use dropped_decisions::{Standing, proof_of, without_unused};
-use search_turns::{Aims, Manner, Options, Outcome, Search, aim};
+use search_workers::{Aims, Manner, Options, Outcome, Search, aim};
 use std::alloc::Global;
 use ttp_model::{Instance, MemoryFault};
 

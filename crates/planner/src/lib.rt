@@ -15,7 +15,7 @@ mod solving;
 mod versions;
 
 pub use laws::{answers_have_certificate_texts, answers_show, searches_answer};
-pub use search_turns::{
+pub use search_workers::{
     FreeGate, Gate, GatherFault, Manner, Name, Options, Outcome, SolveFault, Why, gather,
     gathered_certificates_have_texts, leaves_close_a_tree, names_make_one_tree, root_bound,
     whole_trees_prove,

@@ -1,6 +1,6 @@
 //! When do workers end who can't all begin?
 
-use search_turns::{Gate, Name};
+use search_workers::{Gate, Name};
 use std::sync::atomic::{AtomicBool, Ordering};
 use ttp_model::{Instance, Plan};
 

@@ -4,14 +4,14 @@ ghost use Rattle.std.specs.Prelude.{◌≡◌, ◌≤◌, ◌+◌, ℕ, IfOk, If
 ghost use Rattle.ttp_model.specs.Delays.{delay};
 ghost use Rattle.ttp_model.specs.Instance.{Instance};
 ghost use Rattle.ttp_model.specs.Plans.{IsValid};
-ghost use Rattle.search_turns.specs.Account.{IsWholeTree};
-ghost use Rattle.search_turns.specs.Task.{IsTask};
-ghost use Rattle.search_turns.specs.Gathering.{AreShallow, HaveGoals, IsGathered};
-ghost use Rattle.search_turns.specs.declared.outcome.SolveFault.TheVariants as fault;
+ghost use Rattle.search_workers.specs.Account.{IsWholeTree};
+ghost use Rattle.search_workers.specs.Task.{IsTask};
+ghost use Rattle.search_workers.specs.Gathering.{AreShallow, HaveGoals, IsGathered};
+ghost use Rattle.search_workers.specs.declared.outcome.SolveFault.TheVariants as fault;
 ghost use Rattle.planner.specs.Answers.{best_of, IsOutcome, Shows};
 ghost use Rattle.planner.specs.Closing.{AreClosedBehind, IsClosedTree};
 ghost use Rattle.planner.specs.Searched.{AreAims};
-ghost use Rattle.search_turns.specs.Searching.{aim_of, limit_of, IsFound, IsWorkedOut, IsSearching};
+ghost use Rattle.search_workers.specs.Searching.{aim_of, limit_of, IsFound, IsWorkedOut, IsSearching};
 
 use crate::aiming::aims_of;
 use crate::closing::close_all;
@@ -24,7 +24,7 @@ use crate::reserve::Reserve;
 use crate::versions::answer_version;
 use certificate::{Cert, Node};
 use good_plan::good_plan;
-use search_turns::{
+use search_workers::{
     Aims, FreeGate, Gate, Manner, Options, Order, Outcome, Piece, Search, SolveFault, Task, Why,
     aim, gather_whole, usual_manner,
 };

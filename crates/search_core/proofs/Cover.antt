@@ -24,10 +24,10 @@ use Rattle.sought_plans.specs.Known.{IsSought}
 use Rattle.tt_infer.proofs.Leaves.{leaf_leaves_none}
 use Rattle.certificate.specs.Trees.{children}
 use Rattle.certificate.specs.declared.node.Node.TheVariants as node
-use Rattle.subtree_tasks.specs.declared.piece.Piece.{Piece}
-use Rattle.subtree_tasks.specs.Name.{Name, root_name, child_name, child_names}
-use Rattle.subtree_tasks.specs.Pieces.{names_below, StandsAt}
-use Rattle.subtree_tasks.specs.Pieces.StandsAt.{at_root, at_child}
+use Rattle.search_trees.specs.declared.piece.Piece.{Piece}
+use Rattle.search_trees.specs.Name.{Name, root_name, child_name, child_names}
+use Rattle.search_trees.specs.Pieces.{names_below, StandsAt}
+use Rattle.search_trees.specs.Pieces.StandsAt.{at_root, at_child}
 use Rattle.search_core.specs.declared.event.Event.{Event}
 use Rattle.search_core.specs.declared.event.Event.TheVariants.{Work}
 use Rattle.search_core.specs.declared.event.Worked.{Worked}
@@ -42,10 +42,10 @@ use Rattle.search_core.specs.Steps.{Step, IsThere, Runs}
 use Rattle.search_core.specs.Steps.Step.{pops, steals, looks, works, pushes, offers, rests}
 use Rattle.search_core.specs.Steps.Runs.{ends, goes, stops}
 use Rattle.search_core.specs.Bounds.{known, with_hand, least_with, IsDelay, IsTop, IsHonest, AreHonest, IsOpenPlan, Bounds}
-use Rattle.subtree_tasks.proofs.Weights.{weigh, same_or_other, only, only-other, contained, weighs}
+use Rattle.search_trees.proofs.Weights.{weigh, same_or_other, only, only-other, contained, weighs}
 use Rattle.search_core.proofs.Effects.{openw, open_weight, put_weight, seat_other, there_still, piece_made, pops_open, looks_open, works_open, pushes_open, offers_open, rests_open, steals_open}
 use Rattle.search_core.proofs.Known.{known_best, least_put, least_found, least_given, least_best, IsOneOf, Each, Each-set, Each-weaker, Each-get_or, HasDelay, known_is}
-use Rattle.subtree_tasks.proofs.OneChoice.{stands_still}
+use Rattle.search_trees.proofs.OneChoice.{stands_still}
 use Rattle.search_core.proofs.Standing.{pieces_of, pieces_put, pieces_new}
 
 -- a settled plan below a goal is sought in a choice that it is in

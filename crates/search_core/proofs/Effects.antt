@@ -1,15 +1,15 @@
 -- What an event changes of the open names and of the pieces, by weights.
 use Rattle.std.proofs.Common.{◌≡◌, ◌≢◌, ℕ, ◌+◌, List, [], ◌∷◌, ◌++◌, refl, ap, ◌∙◌, arith}
 use Rattle.std.proofs.lemmas.List.{get_or-set_other, length-set}
-use Rattle.subtree_tasks.specs.declared.piece.Piece.{Piece}
-use Rattle.subtree_tasks.specs.Name.{Name, child_names}
-use Rattle.subtree_tasks.specs.Pieces.{names_below, names_of, all_below}
+use Rattle.search_trees.specs.declared.piece.Piece.{Piece}
+use Rattle.search_trees.specs.Name.{Name, child_names}
+use Rattle.search_trees.specs.Pieces.{names_below, names_of, all_below}
 use Rattle.search_core.specs.declared.event.Worked.{Worked}
 use Rattle.search_core.specs.declared.event.Worked.TheVariants.{Split, Closed, Found}
 use Rattle.search_core.specs.World.{Worker, World, idle_seat, worker_at, put, held_names, open_of, open_names, all_pieces}
 use Rattle.search_core.specs.Turns.{Pops, LosesFirst, TakesName, Looks, Works, Pushes, Offers, Rests, IsFitting, node_made, hand_after, children_left}
 use Rattle.search_core.specs.Steps.{IsThere}
-use Rattle.subtree_tasks.proofs.Weights.{weigh, weigh-append, weigh-map, weigh-flat_map, weigh-set}
+use Rattle.search_trees.proofs.Weights.{weigh, weigh-append, weigh-map, weigh-flat_map, weigh-set}
 
 pub weigh-same : {A : Type 0} (f g : A → ℕ) (xs : List A) → ((x : A) → f x ≡ g x) → weigh f xs ≡ weigh g xs
 weigh-same f g [] h = refl

@@ -3,9 +3,9 @@ use Rattle.std.proofs.Common.{◌≡◌, ◌≢◌, ℕ, zero, suc, ◌+◌, Lis
 use Rattle.std.specs.List.{flat_map}
 use Rattle.std.proofs.lemmas.Bool.{cases_eq, eq-eqb, ne_eqb}
 use Rattle.std.proofs.lemmas.List.{get_or-set_same}
-use Rattle.subtree_tasks.specs.declared.piece.Piece.{Piece}
-use Rattle.subtree_tasks.specs.Name.{Name}
-use Rattle.subtree_tasks.specs.Pieces.{names_below, names_of, all_below}
+use Rattle.search_trees.specs.declared.piece.Piece.{Piece}
+use Rattle.search_trees.specs.Name.{Name}
+use Rattle.search_trees.specs.Pieces.{names_below, names_of, all_below}
 use Rattle.search_core.specs.declared.event.Event.{Event}
 use Rattle.search_core.specs.declared.event.Event.TheVariants.{Pop, Steal, Look, Work, Push, Offer, Rest}
 use Rattle.search_core.specs.declared.event.Worked.{Worked}
@@ -21,7 +21,7 @@ use Rattle.search_core.specs.Steps.Step.{pops, steals, looks, works, pushes, off
 use Rattle.search_core.specs.Steps.Runs.{ends, goes, stops}
 use Rattle.search_core.specs.Ledger.{Done, Goes, name_told, name_pushed, of_worker, taken, pushed, IsAccount}
 use Rattle.search_core.specs.Ledger.Goes.{none, more}
-use Rattle.subtree_tasks.proofs.Weights.{weigh, weigh-append, weigh-map, weigh-flat_map, same_names}
+use Rattle.search_trees.proofs.Weights.{weigh, weigh-append, weigh-map, weigh-flat_map, same_names}
 use Rattle.search_core.proofs.Effects.{namew, beloww, seat_other, there_still, piece_made, hand_below}
 
 -- a hand's task, and its children

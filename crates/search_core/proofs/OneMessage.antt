@@ -8,10 +8,10 @@ use Rattle.tt_choice.specs.Choice.{Choice}
 use Rattle.tt_infer.specs.Leaves.{ClosesLeaf}
 use Rattle.tt_infer.proofs.OneMessage.{closes_at_9}
 use Rattle.tt_infer.proofs.OneMessageRules.{one_message_is_instance}
-use Rattle.subtree_tasks.specs.declared.piece.Piece.{Piece}
-use Rattle.subtree_tasks.specs.Name.{Name, root_name}
-use Rattle.subtree_tasks.specs.Pieces.{StandsAt, AreRight}
-use Rattle.subtree_tasks.specs.Pieces.StandsAt.{at_root, at_child}
+use Rattle.search_trees.specs.declared.piece.Piece.{Piece}
+use Rattle.search_trees.specs.Name.{Name, root_name}
+use Rattle.search_trees.specs.Pieces.{StandsAt, AreRight}
+use Rattle.search_trees.specs.Pieces.StandsAt.{at_root, at_child}
 use Rattle.search_core.specs.declared.hand.Hand.TheVariants.{Task}
 use Rattle.search_core.specs.declared.event.Event.TheVariants.{Pop, Look, Work}
 use Rattle.search_core.specs.declared.event.Worked.TheVariants.{Closed}

@@ -4,10 +4,10 @@ use Rattle.std.specs.List.{flat_map, Contains}
 use Rattle.std.proofs.lemmas.List.Elements.{Contains-append_cases, Contains-append_left, Contains-append_right, Contains-push_cases}
 use Rattle.ttp_model.specs.Instance.{Instance}
 use Rattle.tt_choice.specs.Choice.{Choice}
-use Rattle.subtree_tasks.specs.declared.piece.Piece.{Piece}
-use Rattle.subtree_tasks.specs.Name.{Name}
-use Rattle.subtree_tasks.specs.Pieces.{names_of, StandsAt, IsRight, AreRight}
-use Rattle.subtree_tasks.specs.Account.{IsWholeTree}
+use Rattle.search_trees.specs.declared.piece.Piece.{Piece}
+use Rattle.search_trees.specs.Name.{Name}
+use Rattle.search_trees.specs.Pieces.{names_of, StandsAt, IsRight, AreRight}
+use Rattle.search_trees.specs.Account.{IsWholeTree}
 use Rattle.search_core.specs.declared.event.Event.{Event}
 use Rattle.search_core.specs.declared.event.Worked.{Worked}
 use Rattle.search_core.specs.declared.reply.Reply.{Reply}
@@ -20,11 +20,11 @@ use Rattle.search_core.specs.Steps.Step.{pops, steals, looks, works, pushes, off
 use Rattle.search_core.specs.Steps.Runs.{ends, goes, stops}
 use Rattle.search_core.specs.Bounds.{IsHonest, AreHonest}
 use Rattle.search_core.proofs.Effects.{openw, open_weight, seat_other, there_still, piece_made}
-use Rattle.subtree_tasks.proofs.OneChoice.{piece_named, stands_somehow, stands_alone, stands_still}
+use Rattle.search_trees.proofs.OneChoice.{piece_named, stands_somehow, stands_alone, stands_still}
 use Rattle.search_core.proofs.Standing.{pieces_of, pieces_at}
 use Rattle.search_core.proofs.Cover.{put_pieces, same_pieces, work_keeps, work_pieces}
 use Rattle.search_core.proofs.Tree.{Balanced, tree_at, step_kept, start_balanced}
-use Rattle.subtree_tasks.proofs.Weights.{weigh, weigh-get_or, only, only-same, contained}
+use Rattle.search_trees.proofs.Weights.{weigh, weigh-get_or, only, only-same, contained}
 
 -- Pieces after an event: those before it, and the one that work makes.
 

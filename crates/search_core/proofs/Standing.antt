@@ -3,7 +3,7 @@ use Rattle.std.proofs.Common.{ℕ, zero, suc, ◌<◌, List, [], ◌∷◌, leng
 use Rattle.std.specs.List.{flat_map, Contains}
 use Rattle.std.proofs.lemmas.List.{get_or-set_same}
 use Rattle.std.proofs.lemmas.List.Elements.{Contains-append_cases, Contains-append_left, Contains-append_right}
-use Rattle.subtree_tasks.specs.declared.piece.Piece.{Piece}
+use Rattle.search_trees.specs.declared.piece.Piece.{Piece}
 use Rattle.search_core.specs.World.{Worker}
 
 -- the pieces of workers

@@ -1,9 +1,9 @@
 -- After any events the pieces' names and the open names are those of a tree.
 use Rattle.std.proofs.Common.{◌≡◌, ℕ, zero, suc, ◌+◌, ◌≤◌, List, [], ◌∷◌, ◌++◌, replicate, refl, ap, ◌∙◌, arith, Result}
-use Rattle.subtree_tasks.specs.declared.piece.Piece.{Piece}
-use Rattle.subtree_tasks.specs.Name.{Name, root_name}
-use Rattle.subtree_tasks.specs.Pieces.{names_below, names_of, all_below}
-use Rattle.subtree_tasks.specs.Account.{IsWholeTree}
+use Rattle.search_trees.specs.declared.piece.Piece.{Piece}
+use Rattle.search_trees.specs.Name.{Name, root_name}
+use Rattle.search_trees.specs.Pieces.{names_below, names_of, all_below}
+use Rattle.search_trees.specs.Account.{IsWholeTree}
 use Rattle.search_core.specs.declared.event.Event.{Event}
 use Rattle.search_core.specs.declared.event.Worked.{Worked}
 use Rattle.search_core.specs.declared.reply.Reply.{Reply}
@@ -13,7 +13,7 @@ use Rattle.search_core.specs.Turns.{Works}
 use Rattle.search_core.specs.Steps.{Step, IsThere, Runs}
 use Rattle.search_core.specs.Steps.Step.{pops, steals, looks, works, pushes, offers, rests}
 use Rattle.search_core.specs.Steps.Runs.{ends, goes, stops}
-use Rattle.subtree_tasks.proofs.Weights.{weigh, weigh-append, same_names}
+use Rattle.search_trees.proofs.Weights.{weigh, weigh-append, same_names}
 use Rattle.search_core.proofs.Effects.{openw, namew, beloww, open_weight, name_weight, below_weight, put_weight, piece_made, pops_open, looks_open, works_open, pushes_open, offers_open, rests_open, steals_open, steals_pieces}
 
 -- by one weight, workers have what a tree has

@@ -2,7 +2,7 @@
 use Rattle.std.proofs.Common.{Result, zero, suc, ◌≡◌, ◌≢◌, ℕ, ◌+◌, ◌<◌, ◌-◌, min, List, [], ◌∷◌, ◌++◌, length, get_or, set, map, drop, replicate, ◌≤◌, refl, sym, ap, subst, ◌∙◌, arith, Ok, Err}
 use Rattle.std.specs.List.{range_with_len}
 use Rattle.std.proofs.lemmas.List.{get_or_default, set-get_or, get_or-set_other}
-use Rattle.subtree_tasks.specs.Name.{Name, root_name, child_name}
+use Rattle.search_trees.specs.Name.{Name, root_name, child_name}
 use Rattle.search_core.specs.declared.event.Event.{Event}
 use Rattle.search_core.specs.declared.event.Event.TheVariants.{Pop, Steal, Look, Work, Push, Offer, Rest}
 use Rattle.search_core.specs.declared.event.Worked.{Worked}

@@ -8,9 +8,9 @@ use Rattle.ttp_model.specs.Delays.{delay, IsLeastDelay, HasNoPlan}
 use Rattle.ttp_model.specs.Moves.{IsSettled}
 use Rattle.tt_choice.specs.Choice.{Choice, IsIn}
 use Rattle.certificate.specs.declared.node.Node.TheVariants as node
-use Rattle.subtree_tasks.specs.declared.piece.Piece.{Piece}
-use Rattle.subtree_tasks.specs.Name.{Name}
-use Rattle.subtree_tasks.specs.Pieces.{StandsAt, IsRight}
+use Rattle.search_trees.specs.declared.piece.Piece.{Piece}
+use Rattle.search_trees.specs.Name.{Name}
+use Rattle.search_trees.specs.Pieces.{StandsAt, IsRight}
 use Rattle.search_core.specs.declared.event.Event.{Event}
 use Rattle.search_core.specs.declared.event.Event.TheVariants.{Pop, Steal, Look, Work, Push, Offer, Rest}
 use Rattle.search_core.specs.declared.event.Worked.{Worked}

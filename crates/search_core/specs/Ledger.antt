@@ -2,9 +2,9 @@
 use Rattle.std.specs.Prelude.{ℕ, ◌==◌, if◌then◌else◌, List, [], ◌∷◌, ◌++◌, take}
 use Rattle.std.specs.List.{flat_map}
 use Rattle.std.specs.List.Sorted.{IsPermutation}
-use Rattle.subtree_tasks.specs.Name.{Name}
-use Rattle.subtree_tasks.specs.Pieces.{names_of, all_below}
-use Rattle.subtree_tasks.specs.Account.{IsReportOf}
+use Rattle.search_trees.specs.Name.{Name}
+use Rattle.search_trees.specs.Pieces.{names_of, all_below}
+use Rattle.search_trees.specs.Account.{IsReportOf}
 use Rattle.search_core.specs.declared.event.Event.{Event}
 use Rattle.search_core.specs.declared.event.Event.TheVariants.{Pop, Steal, Look, Work, Push, Offer, Rest}
 use Rattle.search_core.specs.declared.reply.Reply.{Reply}

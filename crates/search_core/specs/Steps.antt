@@ -1,6 +1,6 @@
 -- The table of events: what each does to the core, and why one is refused. Own profile.
 use Rattle.std.specs.Prelude.{◌≡◌, ◌≢◌, ℕ, ◌<◌, min, List, [], ◌∷◌, length, Result, Ok, Err}
-use Rattle.subtree_tasks.specs.Name.{Name}
+use Rattle.search_trees.specs.Name.{Name}
 use Rattle.search_core.specs.declared.event.Event.{Event}
 use Rattle.search_core.specs.declared.event.Event.TheVariants.{Pop, Steal, Look, Work, Push, Offer, Rest}
 use Rattle.search_core.specs.declared.event.Worked.{Worked}

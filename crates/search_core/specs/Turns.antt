@@ -4,7 +4,7 @@ use Rattle.ttp_model.specs.Kinds.{HasOwnCount}
 use Rattle.certificate.specs.Branch.{branch_of}
 use Rattle.certificate.specs.declared.node.Node.{Node}
 use Rattle.certificate.specs.declared.node.Node.TheVariants as node
-use Rattle.subtree_tasks.specs.Name.{Name, child_names}
+use Rattle.search_trees.specs.Name.{Name, child_names}
 use Rattle.search_core.specs.declared.event.Worked.{Worked}
 use Rattle.search_core.specs.declared.event.Worked.TheVariants.{Split, Closed, Found}
 use Rattle.search_core.specs.declared.hand.Hand.{Hand}

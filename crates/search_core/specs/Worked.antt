@@ -3,7 +3,7 @@ use Rattle.std.specs.Prelude.{List, [], ◌∷◌}
 use Rattle.ttp_model.specs.declared.step.Leaf.{Leaf}
 use Rattle.ttp_model.specs.declared.step.Step.TheVariants.{EsRelease, LoSend, EsArrive, LeOwn, XWindow}
 use Rattle.certificate.specs.declared.node.Node.TheVariants as node
-use Rattle.subtree_tasks.specs.Name.{root_name}
+use Rattle.search_trees.specs.Name.{root_name}
 use Rattle.search_core.specs.declared.event.Event.{Event}
 use Rattle.search_core.specs.declared.event.Event.TheVariants.{Pop, Look, Work}
 use Rattle.search_core.specs.declared.event.Worked.TheVariants.{Closed}

@@ -1,8 +1,8 @@
 -- What the search core is at one moment. Own profile.
 use Rattle.std.specs.Prelude.{ℕ, List, [], ◌∷◌, ◌++◌, replicate, slice_index_or, slice_set}
 use Rattle.std.specs.List.{flat_map}
-use Rattle.subtree_tasks.specs.declared.piece.Piece.{Piece}
-use Rattle.subtree_tasks.specs.Name.{Name, root_name}
+use Rattle.search_trees.specs.declared.piece.Piece.{Piece}
+use Rattle.search_trees.specs.Name.{Name, root_name}
 use Rattle.search_core.specs.declared.hand.Hand.{Hand}
 use Rattle.search_core.specs.declared.hand.Hand.TheVariants.{Empty, Task, Children, Value}
 

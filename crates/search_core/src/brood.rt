@@ -1,11 +1,11 @@
 //! Which children of a branch are still in hand?
 
 ghost use Rattle.std.specs.Prelude.{◌≡◌, ◌≢◌, ◌≤◌, ◌∷◌, [], drop, length, IfOk, MatchOption};
-ghost use Rattle.subtree_tasks.specs.Name.{child_names};
+ghost use Rattle.search_trees.specs.Name.{child_names};
 
+use search_trees::Name;
 use std::alloc::Global;
 use std::marker::Model;
-use subtree_tasks::Name;
 use ttp_model::MemoryFault;
 
 /// The names of a branch's children, rising, from one of them on: at least one name. Each is made
@@ -20,7 +20,7 @@ pub struct Brood {
 impl Model for Brood {
     ghost use Rattle.std.specs.Prelude.{List, ◌-◌, ◌<◌, map};
     ghost use Rattle.std.specs.List.{range_with_len};
-    ghost use Rattle.subtree_tasks.specs.Name.{Name, child_name};
+    ghost use Rattle.search_trees.specs.Name.{Name, child_name};
 
     ghost Value = { List Name };
 

@@ -6,7 +6,7 @@ ghost use Rattle.search_core.specs.Turns.{IsFitting, node_made, hand_after};
 use crate::brood::Brood;
 use crate::hand::Hand;
 use certificate::{Branch, Node};
-use subtree_tasks::Name;
+use search_trees::Name;
 use ttp_model::{Kind, Leaf};
 
 /// What became of the task in a worker's hand.

@@ -6,8 +6,8 @@ ghost use Rattle.search_core.specs.Turns.{children_left, HasNames, IsUnmet};
 
 use crate::brood::Brood;
 use crate::reply::Illegal;
+use search_trees::Name;
 use std::alloc::Global;
-use subtree_tasks::Name;
 
 /// What a worker holds between two events.
 #[derive(Debug, Drop)]

@@ -3,8 +3,8 @@
 ghost use Rattle.std.specs.Prelude.{◌≡◌, ℕ, List, ◌++◌, ◌≤◌, Result, map};
 ghost use Rattle.ttp_model.specs.Instance.{Instance};
 ghost use Rattle.ttp_model.specs.Rules.{IsInstance};
-ghost use Rattle.subtree_tasks.specs.Pieces.{AreRight};
-ghost use Rattle.subtree_tasks.specs.Account.{IsWholeTree};
+ghost use Rattle.search_trees.specs.Pieces.{AreRight};
+ghost use Rattle.search_trees.specs.Account.{IsWholeTree};
 ghost use Rattle.search_core.specs.declared.event.Event.{Event};
 ghost use Rattle.search_core.specs.declared.reply.Illegal.{Illegal};
 ghost use Rattle.search_core.specs.World.{World, start, worker_at, open_names, all_pieces};

@@ -3,8 +3,8 @@
 ghost use Rattle.std.specs.Prelude.{◌≡◌};
 ghost use Rattle.search_core.specs.declared.reply.Illegal.TheVariants.{OutOfMemory};
 
+use search_trees::Name;
 use std::alloc::{AllocError, AllocFailed};
-use subtree_tasks::Name;
 use thiserror::Error;
 use ttp_model::MemoryFault;
 

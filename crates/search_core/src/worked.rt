@@ -4,7 +4,7 @@ ghost use Rattle.std.specs.Prelude.{◌≡◌, [], Ok};
 ghost use Rattle.ttp_model.specs.Rules.{IsInstance};
 ghost use Rattle.ttp_model.specs.Delays.{IsLeastDelay};
 ghost use Rattle.ttp_model.specs.Worked.{one_message};
-ghost use Rattle.subtree_tasks.specs.Pieces.{AreRight};
+ghost use Rattle.search_trees.specs.Pieces.{AreRight};
 ghost use Rattle.search_core.specs.World.{start, open_names, all_pieces};
 ghost use Rattle.search_core.specs.Bounds.{IsTop, AreHonest, Bounds, known};
 ghost use Rattle.search_core.specs.Steps.{Runs};

@@ -4,16 +4,16 @@ ghost use Rattle.std.specs.Prelude.{◌≡◌, ◌≢◌, [], ◌∷◌, ◌++�
 ghost use Rattle.search_core.specs.World.{idle_seat};
 ghost use Rattle.search_core.specs.Turns.{Pops, LosesFirst, TakesName, Looks, Works, Pushes, Offers, Rests, IsUnmet, HasTask, HasChildren, HasValue, HasNames, IsFitting};
 ghost use Rattle.search_core.specs.declared.hand.Hand.TheVariants.{Empty};
-ghost use Rattle.subtree_tasks.specs.Name.{Name};
+ghost use Rattle.search_trees.specs.Name.{Name};
 
 use crate::event::Worked;
 use crate::hand::Hand;
 use crate::reply::Illegal;
+use search_trees::{Name, Piece};
 use std::alloc::Global;
 use std::collections::VecDeque;
 use std::marker::Model;
 use std::mem;
-use subtree_tasks::{Name, Piece};
 use ttp_model::MemoryFault;
 
 /// A worker: its deque, its hand, the best delay in ticks that it saw last, the pieces that it made,

@@ -8,10 +8,10 @@ ghost use Rattle.search_core.specs.declared.event.Event.TheVariants.{Pop, Steal,
 use crate::event::{Event, Worked};
 use crate::reply::{Illegal, Reply};
 use crate::worker::Worker;
+use search_trees::Name;
 use std::alloc::Global;
 use std::collections::VecDeque;
 use std::marker::Model;
-use subtree_tasks::Name;
 use ttp_model::MemoryFault;
 
 /// A search at one moment: the best delay in ticks, and the workers.

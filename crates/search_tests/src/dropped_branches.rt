@@ -2,9 +2,9 @@
 
 use certificate::{Cert, Version, print, read};
 use dropped_decisions::{Standing, proof_of, without_unused};
+use search_trees::Name;
 use std::alloc::Global;
 use std::test::Fail;
-use subtree_tasks::Name;
 use tree_check::check;
 use ttp_model::Instance;
 use worked_instances::{PLAIN, one_message};

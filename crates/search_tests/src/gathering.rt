@@ -1,7 +1,7 @@
 //! Pieces made by hand: which tree they are, and what is first wrong with others.
 
 ghost use Rattle.std.specs.Prelude.{◌≤◌, ◌↔◌, IsTrue, IfOk, MatchBool, length};
-ghost use Rattle.tree_gathering.specs.Gathering.{AreShallow};
+ghost use Rattle.search_trees.specs.Gathering.{AreShallow};
 
 use branch_tree::{Name, Piece};
 use certificate::{Branch, MOST_BRANCHES_ABOVE, Node, print};

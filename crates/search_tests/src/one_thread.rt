@@ -1,7 +1,7 @@
 //! What workers share, by steps on one thread: each sees what the other did.
 
 ghost use Rattle.std.specs.Prelude.{◌≡◌, All, IfOk};
-ghost use Rattle.subtree_tasks.specs.Task.{IsTask};
+ghost use Rattle.search_trees.specs.Task.{IsTask};
 
 use crate::books::Books;
 use crate::instances::{ONE_MESSAGE, ONE_OF_THREE, Sample};
@@ -9,7 +9,7 @@ use branch_tree::{Piece, Task, Worked, work};
 use certificate::Node;
 use incumbent::Incumbent;
 use planner::Manner;
-use pool_worker::{Aims, Ending, Report, run_worker, run_worker_in};
+use search_workers::{Aims, Ending, Report, run_worker, run_worker_in};
 use std::alloc::Global;
 use std::marker::Brand;
 use std::test::Fail;

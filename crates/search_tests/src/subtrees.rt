@@ -1,7 +1,7 @@
 //! Searches of small instances by a plain loop: the least delay, and the tree that was gone through.
 
 ghost use Rattle.std.specs.Prelude.{All, IfOk, OnOk};
-ghost use Rattle.subtree_tasks.specs.Task.{IsTask};
+ghost use Rattle.search_trees.specs.Task.{IsTask};
 ghost use Rattle.branch_tree.specs.Work.{IsWorked};
 
 use crate::instances::{ALONE, LEAST_DELAYS, NO_FRAME, ONE_MESSAGE, SHORT_RECEIVER, Sample};

@@ -11,7 +11,7 @@ use mathlib.Core.Option.{some, some-injective, some-ne-none}
 use lib.ListN.{get_elem?}
 use Rattle.crossbeam_deque.specs.Tasks as deque
 use Rattle.crossbeam_deque.proofs.Lists.{at_set, at_snoc, set_here, set_else}
-use Rattle.subtree_tasks.specs.Task.{Task}
+use Rattle.search_trees.specs.Task.{Task}
 use Rattle.steal_pool.specs.declared.account.Tally.{Tally}
 use Rattle.steal_pool.specs.Account.{Fits, FitsAt, FitsEach, HasSources, Pushed, Took, IsEmptied, IsWithin, opened, newcomer, spent, one_more_out, taken_in, with_pushed, with_taken, live_count, all_pushed, all_taken}
 use Rattle.steal_pool.proofs.Orders.{then_same, first_same, second_first, more_in_one, less_in_one, only_one, same_in_all}

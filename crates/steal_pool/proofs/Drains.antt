@@ -10,8 +10,8 @@ use Rattle.std.proofs.lemmas.List.Sorted.{length_permutation, Contains-permutati
 use mathlib.Core.Option.{some, some-injective}
 use lib.ListN.{get_elem?}
 use Rattle.crossbeam_deque.proofs.Lists.{set_again, set_here}
-use Rattle.subtree_tasks.specs.Account.{IsSourced}
-use Rattle.subtree_tasks.specs.Task.{Task}
+use Rattle.search_trees.specs.Account.{IsSourced}
+use Rattle.search_trees.specs.Task.{Task}
 use Rattle.steal_pool.specs.declared.door.Door.{Door}
 use Rattle.steal_pool.specs.declared.hand.Hand.{Hand}
 use Rattle.steal_pool.specs.Door.{DequeId, deque_of, deques_of, taken_by}

@@ -4,10 +4,10 @@ use Rattle.std.specs.Prelude.{IsPermutation, Option, Some, None, MatchOption, If
 use Rattle.std.specs.List.{flat_map}
 use Rattle.std.proofs.lemmas.List.Sorted.{IsPermutation-trans, IsPermutation-append_right, IsPermutation-middle}
 use Rattle.crossbeam_deque.proofs.Lists.{at_index}
-use Rattle.subtree_tasks.specs.Task.{Task}
+use Rattle.search_trees.specs.Task.{Task}
 use Rattle.steal_pool.specs.declared.door.Door.{Door}
 use Rattle.steal_pool.specs.declared.account.Tally.{Tally}
-use Rattle.subtree_tasks.specs.Account.{IsSourced}
+use Rattle.search_trees.specs.Account.{IsSourced}
 use Rattle.steal_pool.specs.Account.{HasSources, Took}
 use Rattle.steal_pool.specs.Door.{deque_of, deques_of, taken_by}
 use Rattle.steal_pool.proofs.Orders.{first_same, more_in_one, same_in_all, same_map}

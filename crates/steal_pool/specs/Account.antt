@@ -4,8 +4,8 @@ use Rattle.std.specs.List.{flat_map}
 use mathlib.Core.Option.{some}
 use lib.ListN.{get_elem?}
 use Rattle.ttp_model.specs.Instance.{Instance, instance_with}
-use Rattle.subtree_tasks.specs.Account.{IsSourced}
-use Rattle.subtree_tasks.specs.Task.{Task}
+use Rattle.search_trees.specs.Account.{IsSourced}
+use Rattle.search_trees.specs.Task.{Task}
 use Rattle.steal_pool.specs.declared.account.Tally.{Tally}
 
 -- nothing at all; whoever makes a pool picks another

@@ -3,7 +3,7 @@ use Rattle.std.specs.Prelude.{List, map}
 use Rattle.std.specs.declared.alloc.Global.{Global}
 use Rattle.atomic_blocks.specs.Lent.{RowsId}
 use Rattle.crossbeam_deque.specs.Handles.{view, stealer_deque}
-use Rattle.subtree_tasks.specs.Task.{Task}
+use Rattle.search_trees.specs.Task.{Task}
 use Rattle.steal_pool.specs.declared.door.Door.{Door}
 
 -- which deque one is

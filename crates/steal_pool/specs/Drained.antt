@@ -1,6 +1,6 @@
 -- What a clause says of the hands of a pool that is drained.
 use Rattle.std.specs.Prelude.{ℕ, ◌-◌, List, length}
-use Rattle.subtree_tasks.specs.Task.{Task}
+use Rattle.search_trees.specs.Task.{Task}
 use Rattle.steal_pool.specs.declared.drained.Drained.{Drained}
 use Rattle.steal_pool.specs.Hand.{all_pushed, all_taken}
 

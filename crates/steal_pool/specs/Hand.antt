@@ -4,8 +4,8 @@ use Rattle.std.specs.List.{flat_map}
 use mathlib.Core.Option.{some}
 use lib.ListN.{get_elem?, set}
 use Rattle.crossbeam_deque.specs.Handles.{worker_view, worker_deque}
-use Rattle.subtree_tasks.specs.Account.{IsSourced}
-use Rattle.subtree_tasks.specs.Task.{Task}
+use Rattle.search_trees.specs.Account.{IsSourced}
+use Rattle.search_trees.specs.Task.{Task}
 use Rattle.steal_pool.specs.declared.door.Door.{Door}
 use Rattle.steal_pool.specs.declared.hand.Hand.{Hand}
 use Rattle.steal_pool.specs.Door.{DequeId, deque_of, deques_of, taken_by}

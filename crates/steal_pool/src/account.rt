@@ -3,10 +3,10 @@
 
 use crossbeam_deque::protocol::{Join, Lesson, Outcome, Protocol, Split};
 use crossbeam_deque::{Pass, Stealer, Worker};
+use search_trees::Task;
 use std::alloc::Global;
 use std::collections::LinkedList;
 use std::marker::{Brand, PhantomData};
-use subtree_tasks::Task;
 
 /// The instance whose tasks a pool holds. It exists in proofs alone, and who makes a pool picks it.
 pub trait Searched {
@@ -37,7 +37,7 @@ pub struct Fair<J: Searched> {
 }
 
 impl<J: Searched> Protocol<Task, Tally> for Fair<J> {
-    ghost use Rattle.subtree_tasks.specs.Task.{IsTask};
+    ghost use Rattle.search_trees.specs.Task.{IsTask};
     ghost use Rattle.steal_pool.specs.Account.{Fits, opened, spent};
 
     ghost holds = { λ items views. Fits (IsTask J.instance) items views };
@@ -62,7 +62,7 @@ pub struct Takes<J: Searched> {
 }
 
 impl<J: Searched> Outcome<Task, Tally> for Takes<J> {
-    ghost use Rattle.subtree_tasks.specs.Task.{IsTask};
+    ghost use Rattle.search_trees.specs.Task.{IsTask};
     ghost use Rattle.steal_pool.specs.Account.{Took, IsEmptied};
 
     ghost then = { λ v tasks w. Took (IsTask J.instance) v tasks w };

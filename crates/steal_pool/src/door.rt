@@ -4,7 +4,7 @@ ghost use Rattle.crossbeam_deque.specs.Handles.{view, IsPassOf, stealer_deque};
 
 use crate::account::{Searched, Takes, Thief, Ticket};
 use crossbeam_deque::Steal;
-use subtree_tasks::Task;
+use search_trees::Task;
 
 /// A stealer of a deque, and a pass for it.
 #[derive(Drop)]
@@ -18,7 +18,7 @@ pub struct Door<J: Searched> {
 
 impl<J: Searched> Door<J> {
     ghost use Rattle.std.specs.Prelude.{◌≡◌, [], ◌∷◌, ◌++◌, IfSome, MatchOption};
-    ghost use Rattle.subtree_tasks.specs.Task.{IsTask};
+    ghost use Rattle.search_trees.specs.Task.{IsTask};
     ghost use Rattle.steal_pool.specs.Door.{deque_of, taken_by};
 
     /// The task at the front, if there was one and nobody else took it.

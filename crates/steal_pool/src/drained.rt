@@ -5,7 +5,7 @@ ghost use Rattle.steal_pool.specs.Hand.{AllWithin, IsClosed};
 use crate::account::Searched;
 use crate::hand::Hand;
 use crate::hands::next_of;
-use subtree_tasks::Task;
+use search_trees::Task;
 
 /// All hands of a pool, whose passes are joined: nobody else can take what is left.
 #[derive(Drop)]
@@ -17,8 +17,8 @@ pub struct Drained<J: Searched> {
 
 impl<J: Searched> Drained<J> {
     ghost use Rattle.std.specs.Prelude.{◌≡◌, ◌∷◌, ◌<◌, IfNone, IfSome, IsPermutation};
-    ghost use Rattle.subtree_tasks.specs.Account.{IsBalanced, IsSourced};
-    ghost use Rattle.subtree_tasks.specs.Task.{IsTask, Task};
+    ghost use Rattle.search_trees.specs.Account.{IsBalanced, IsSourced};
+    ghost use Rattle.search_trees.specs.Task.{IsTask, Task};
     ghost use Rattle.steal_pool.specs.Drained.{left_there, pushed_there, taken_there};
 
     /// A task that is still in a deque, by its owner's pop, which was pushed; none once all are empty. Then each task was taken as

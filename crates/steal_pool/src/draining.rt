@@ -1,8 +1,8 @@
 //! How are the hands of a pool joined again, so that what is left can be had?
 
 ghost use Rattle.std.specs.Prelude.{◌≡◌, IsPermutation};
-ghost use Rattle.subtree_tasks.specs.Account.{IsSourced};
-ghost use Rattle.subtree_tasks.specs.Task.{Task};
+ghost use Rattle.search_trees.specs.Account.{IsSourced};
+ghost use Rattle.search_trees.specs.Task.{Task};
 ghost use Rattle.steal_pool.specs.Drained.{pushed_there, taken_there};
 ghost use Rattle.steal_pool.specs.Hand.{all_pushed, all_taken, IsPool};
 

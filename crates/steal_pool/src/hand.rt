@@ -4,8 +4,8 @@ ghost use Rattle.crossbeam_deque.specs.Handles.{worker_view, worker_flavor};
 
 use crate::account::{Counts, Owner, Parts, Pushes, Searched, Takes};
 use crate::door::Door;
+use search_trees::Task;
 use std::alloc::Global;
-use subtree_tasks::Task;
 use ttp_model::MemoryFault;
 
 /// What a worker pushes and takes with: the owner's end of its own deque, and a way into each deque of the pool.
@@ -21,7 +21,7 @@ pub struct Hand<J: Searched> {
 
 impl<J: Searched> Hand<J> {
     ghost use Rattle.std.specs.Prelude.{◌≡◌, ◌+◌, ◌-◌, [], ◌∷◌, ◌++◌, IfOk, OnOk, IfErr, IfSome, IfNone, OnErr, IsPermutation, vec_len, vec_capacity, ◌<◌, ◌≤◌};
-    ghost use Rattle.subtree_tasks.specs.Task.{IsTask};
+    ghost use Rattle.search_trees.specs.Task.{IsTask};
     ghost use Rattle.steal_pool.specs.Hand.{pushed, taken, own_taken, own_deque, out_count, IsSameHand, IsFresh, OpensDoor, ClosesDoor, CountsOwn, HasSources, IsWithin, BalancesAlone};
     ghost use Rattle.steal_pool.specs.Door.{deque_of, taken_by, deques_of};
 

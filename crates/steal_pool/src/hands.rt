@@ -2,15 +2,15 @@
 ghost use Rattle.std.specs.Prelude.{◌≡◌, ℕ, ◌<◌, [], ◌∷◌, length, vec_len, Contains, IfOk, OnOk, IfSome, IfNone, MatchOption, IsPermutation};
 ghost use mathlib.Core.Option.{some};
 ghost use lib.ListN.{get_elem?};
-ghost use Rattle.subtree_tasks.specs.Task.{IsTask};
+ghost use Rattle.search_trees.specs.Task.{IsTask};
 ghost use Rattle.steal_pool.specs.Door.{deque_of};
 ghost use Rattle.steal_pool.specs.Hand.{own_deque, IsPool, all_pushed, all_taken, ChangesAt, AddsDoor, OpensDoor, ClosesDoor, PopsTask, PopsNone, CountsOwn, IsClosed, AllWithin};
 
 use crate::account::Searched;
 use crate::door::Door;
 use crate::hand::Hand;
+use search_trees::Task;
 use std::alloc::Global;
-use subtree_tasks::Task;
 use ttp_model::{Instance, MemoryFault};
 
 /// A way into the deque of this hand.

@@ -13,4 +13,4 @@ pub use drained::Drained;
 pub use draining::drain;
 pub use hand::Hand;
 pub use hands::pool;
-pub use subtree_tasks::Task;
+pub use search_trees::Task;

@@ -6,8 +6,8 @@ ghost use Rattle.branch_tree.specs.Branching.{MayBranch};
 
 use crate::branching::overlaps::overlapping_pairs;
 use crate::tries::Tries;
+use search_trees::Propagator;
 use std::alloc::Global;
-use subtree_tasks::Propagator;
 use ttp_model::{Instance, Kind, MOST_NODES, MemoryFault};
 
 /// How many pairs are tried on each node: a guess.

@@ -1,6 +1,6 @@
 use Rattle.std.proofs.Common.{subst}
-use Rattle.subtree_tasks.specs.declared.trial.Trial.{Trial}
-use Rattle.subtree_tasks.specs.Trials.{IsTrial, IsLeft}
+use Rattle.search_trees.specs.declared.trial.Trial.{Trial}
+use Rattle.search_trees.specs.Trials.{IsTrial, IsLeft}
 use Rattle.branch_tree.proofs.EarliestDelays.{none_better}
 use Rattle.branch_tree.proofs.finding.closed_at.Goals as goal
 

@@ -1,6 +1,6 @@
 use Rattle.std.proofs.Common.{subst}
 use Rattle.tt_infer.specs.Leaves.{ClosesSharply}
-use Rattle.subtree_tasks.specs.Task.{Task, choice_of}
+use Rattle.search_trees.specs.Task.{Task, choice_of}
 use Rattle.branch_tree.proofs.RootBounds.{root_leaf_bounds}
 use Rattle.branch_tree.proofs.working.root_bound.Goals as goal
 

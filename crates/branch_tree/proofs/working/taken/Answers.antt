@@ -1,7 +1,7 @@
 use Rattle.std.proofs.Common.{subst, sym, ◌∙◌, Option}
 use Rattle.ttp_model.specs.declared.step.Kind.{Kind}
 use Rattle.tt_choice.specs.Choice.{Choice}
-use Rattle.subtree_tasks.specs.Task.{choice_of}
+use Rattle.search_trees.specs.Task.{choice_of}
 use Rattle.branch_tree.specs.Branching.{IsBranching, Branches}
 use Rattle.branch_tree.proofs.Splits.{split_of, some_place}
 use Rattle.branch_tree.proofs.working.taken.Goals as goal

@@ -1,6 +1,6 @@
 use Rattle.std.proofs.Common.{◌∙◌, ap, sym}
 use Rattle.tt_infer.specs.Facts.{Facts}
-use Rattle.subtree_tasks.specs.Propagator.{Propagator}
+use Rattle.search_trees.specs.Propagator.{Propagator}
 use Rattle.branch_tree.proofs.Workbenches.{choice_at, closes_at, left_at}
 use Rattle.branch_tree.proofs.working.worked_from.Goals as goal
 

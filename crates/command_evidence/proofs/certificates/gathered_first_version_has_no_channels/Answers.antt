@@ -1,5 +1,5 @@
 use Rattle.std.proofs.lemmas.Result.{IfOk-weaker}
-use Rattle.tree_gathering.proofs.Gathered.{gathered_allows}
+use Rattle.search_trees.proofs.Gathered.{gathered_allows}
 use Rattle.command_evidence.proofs.ChannelLines.{first_version_speaks_of_none}
 use Rattle.command_evidence.proofs.certificates.gathered_first_version_has_no_channels.Goals as goal
 

@@ -1,5 +1,5 @@
 use Rattle.std.proofs.Common.{refl, arith}
-use Rattle.search_turns.proofs.Goals.{goal_above}
+use Rattle.search_workers.proofs.Goals.{goal_above}
 use Rattle.planner.proofs.aiming.aims_of.Goals as goal
 
 pub returns : goal.returns

@@ -1,6 +1,6 @@
 use Rattle.std.proofs.Common.{rules, ◌<◌, ◌∷◌, [], length, slice_set, subst}
 use Rattle.std.specs.List.Sorted.{IsPermutation}
-use Rattle.search_turns.specs.Task.{Task}
+use Rattle.search_workers.specs.Task.{Task}
 use Rattle.steal_pool.specs.Hand.{all_pushed}
 use Rattle.steal_pool.proofs.Pools.{changed}
 use Rattle.planner.proofs.Pools.{IsGiven, pool_given, pushed_given, taken_given}

@@ -1,7 +1,7 @@
 use Rattle.std.proofs.Common.{arith, ◌≡◌, ◌≤◌, length, ap, sym, subst}
 use Rattle.ttp_model.specs.Instance.{Instance}
 use Rattle.ttp_model.specs.Rules.{IsInstance}
-use Rattle.search_turns.specs.Searching.{limit_of}
+use Rattle.search_workers.specs.Searching.{limit_of}
 use Rattle.planner.specs.Crew.{IsNobody}
 use Rattle.planner.proofs.collecting.searched.Goals as goal
 

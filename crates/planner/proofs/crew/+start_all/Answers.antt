@@ -1,7 +1,7 @@
 use Rattle.std.proofs.Common.{rules, ◌≡◌, ◌++◌, ◌∷◌, [], List, All, sym, subst}
 use Rattle.std.proofs.lemmas.Result.{on_ok_weaker}
 use Rattle.planner.specs.declared.crew.Job.{Job}
-use Rattle.search_turns.proofs.Searching.{front_of}
+use Rattle.search_workers.proofs.Searching.{front_of}
 use Rattle.planner.specs.Crew.{AreReportsOf, IsJob, IsReportOfJob}
 use Rattle.planner.proofs.Reports.{one_more_report}
 use Rattle.planner.proofs.crew.+start_all.Goals as goal

@@ -1,6 +1,6 @@
 use Rattle.std.proofs.Common.{ℕ, Option, sym, subst}
 use Rattle.ttp_model.specs.declared.plan.Plan.{Plan}
-use Rattle.search_turns.specs.Searching.{IsFound}
+use Rattle.search_workers.specs.Searching.{IsFound}
 use Rattle.planner.specs.Crew.{IsBetter}
 use Rattle.planner.proofs.crew.keep_better.Goals as goal
 

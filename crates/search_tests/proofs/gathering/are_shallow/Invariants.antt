@@ -1,6 +1,6 @@
 use Rattle.std.proofs.Common.{◌≤◌, length}
 use Rattle.std.specs.List.{AllWithin}
-use Rattle.subtree_tasks.specs.declared.piece.Piece.{Piece}
+use Rattle.search_trees.specs.declared.piece.Piece.{Piece}
 use Rattle.certificate.specs.declared.limits.TheConstants.{MOST_BRANCHES_ABOVE}
 use Rattle.search_tests.proofs.gathering.are_shallow.Given as goal
 

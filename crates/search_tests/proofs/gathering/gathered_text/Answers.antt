@@ -1,4 +1,4 @@
-use Rattle.tree_gathering.proofs.Gathered.{gathered_allows}
+use Rattle.search_trees.proofs.Gathered.{gathered_allows}
 use Rattle.search_tests.proofs.gathering.gathered_text.Goals as goal
 
 pub print-requires : goal.print-requires

@@ -1,5 +1,5 @@
 use Rattle.std.proofs.Common.{Bool, MatchBool, subst}
-use Rattle.tree_gathering.specs.Gathering.{AreShallow}
+use Rattle.search_trees.specs.Gathering.{AreShallow}
 use Rattle.search_tests.proofs.gathering.gathers.Goals as goal
 
 pub gathered_text-requires : goal.gathered_text-requires

@@ -1,6 +1,6 @@
 use Rattle.std.proofs.Common.{◌≡◌, ◌-◌, ◌<◌, All, arith, subst, sym, refl, slice_index_or, vec_len}
 use Rattle.std.proofs.lemmas.List.Elements.{All-take}
-use Rattle.subtree_tasks.specs.Task.{IsTask}
+use Rattle.search_trees.specs.Task.{IsTask}
 use Rattle.search_tests.proofs.subtrees.begun.Goals as goal
 
 pub turn-requires-clause-task : goal.turn-requires-clause-task

@@ -1,5 +1,5 @@
 use Rattle.std.proofs.Common.{All}
-use Rattle.subtree_tasks.specs.Task.{IsTask}
+use Rattle.search_trees.specs.Task.{IsTask}
 use Rattle.search_tests.proofs.subtrees.begun.Given as goal
 
 abbrev pub invariant-turns : goal.invariant-turns

@@ -1,7 +1,7 @@
 use Rattle.std.proofs.Common.{All, subst, sym}
 use Rattle.std.proofs.lemmas.List.Elements.{All-append}
 use Rattle.branch_tree.specs.declared.worked.Worked.{Worked}
-use Rattle.subtree_tasks.specs.Task.{IsTask}
+use Rattle.search_trees.specs.Task.{IsTask}
 use Rattle.branch_tree.specs.Work.{IsWorked, IsSplit}
 use Rattle.search_tests.proofs.subtrees.turn.Goals as goal
 

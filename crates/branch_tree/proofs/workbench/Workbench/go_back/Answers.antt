@@ -1,6 +1,6 @@
 use Rattle.std.proofs.Common.{◌≡◌, length, take}
 use Rattle.std.proofs.lemmas.Result.{IfOk-weaker}
-use Rattle.subtree_tasks.specs.Propagator.{Propagator, IsStarted}
+use Rattle.search_trees.specs.Propagator.{Propagator, IsStarted}
 use Rattle.branch_tree.specs.Workbench.{IsAt}
 use Rattle.branch_tree.proofs.Workbenches.{none_made, started_at}
 use Rattle.branch_tree.proofs.workbench.Workbench.go_back.Goals as goal

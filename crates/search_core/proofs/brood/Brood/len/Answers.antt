@@ -1,6 +1,6 @@
 use Rattle.std.proofs.Common.{sym, ap, ◌∙◌, length, ◌-◌}
 use Rattle.std.proofs.lemmas.List.FromFn.{length-map-range_with_len}
-use Rattle.subtree_tasks.specs.Name.{child_name}
+use Rattle.search_trees.specs.Name.{child_name}
 use Rattle.search_core.proofs.brood.Brood.len.Goals as goal
 
 pub returns : goal.returns

@@ -1,5 +1,5 @@
 use Rattle.std.proofs.Common.{arith, ap, ◌∙◌, ◌≡◌, ◌∷◌, []}
-use Rattle.subtree_tasks.specs.Name.{root_name}
+use Rattle.search_trees.specs.Name.{root_name}
 use Rattle.search_core.specs.World.{World, idle_seat}
 use Rattle.search_core.proofs.Turned.{worker_more, start_is}
 use Rattle.search_core.proofs.world.World.start.Goals as goal

@@ -1,5 +1,5 @@
 use Rattle.std.proofs.Common.{◌≡◌, ◌∷◌, [], ◌-◌, replicate}
-use Rattle.subtree_tasks.specs.Name.{root_name}
+use Rattle.search_trees.specs.Name.{root_name}
 use Rattle.search_core.specs.World.{idle_seat}
 use Rattle.search_core.proofs.world.World.start.Given as goal
 

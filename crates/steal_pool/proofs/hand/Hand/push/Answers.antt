@@ -1,5 +1,5 @@
 use Rattle.steal_pool.proofs.Balance.{pushes}
-use Rattle.subtree_tasks.specs.Task.{IsTask}
+use Rattle.search_trees.specs.Task.{IsTask}
 use Rattle.steal_pool.proofs.OneHand.{one_task}
 use Rattle.steal_pool.proofs.hand.Hand.push.Goals as goal
 

@@ -1,7 +1,0 @@
-use Rattle.std.proofs.lemmas.List.Elements.{All-push}
-use Rattle.pool_worker.specs.Report.{IsSpared}
-use Rattle.pool_worker.proofs.run.Run.spare.Goals as goal
-
-pub returns-clause-spared : goal.returns-clause-spared
-returns-clause-spared g c = λ made all one.
-    rw (c.push_reserved.ensures.items, c.reserve.ensures.items) (All-push (IsSpared g.J.Searched.instance made) c.args.self.now.spared.items c.args.task all one)

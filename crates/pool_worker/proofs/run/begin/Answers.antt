@@ -1,5 +1,0 @@
-use Rattle.pool_worker.proofs.Spared.{at_first}
-use Rattle.pool_worker.proofs.run.begin.Goals as goal
-
-pub returns-in-Err-clause-at : goal.returns-in-Err-clause-at
-returns-in-Err-clause-at c = at_first c.args.instance.now c.args.task.now.decisions c.new.result.way c.new.ensures

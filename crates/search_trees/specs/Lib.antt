@@ -1,0 +1,12 @@
+pub mod Name
+pub mod Task
+pub mod Pieces
+pub mod Account
+pub mod Once
+pub mod Trials
+pub mod Stretches
+pub mod Trees
+pub mod Gathering
+pub mod Order
+pub use Rattle.path_bounds.specs.PlansBelow
+pub use Rattle.path_bounds.specs.Propagator

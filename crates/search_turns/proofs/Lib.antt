@@ -1,9 +1,0 @@
-pub mod Searching
-pub use Rattle.pool_worker.proofs.Children
-pub use Rattle.pool_worker.proofs.Goals
-pub use Rattle.pool_worker.proofs.OneChoice
-pub use Rattle.tree_gathering.proofs.Existence
-pub use Rattle.tree_gathering.proofs.Has
-pub use Rattle.tree_gathering.proofs.Leaves
-pub use Rattle.tree_gathering.proofs.Proving
-pub use Rattle.tree_gathering.proofs.Whole

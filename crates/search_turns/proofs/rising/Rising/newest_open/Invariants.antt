@@ -1,5 +1,0 @@
-use Rattle.pool_worker.specs.Workbench.{IsWorkbenchOf}
-use Rattle.search_turns.proofs.rising.Rising.newest_open.Given as goal
-
-abbrev pub invariant-loop-at : goal.invariant-loop-at
-invariant-loop-at l = IsWorkbenchOf l.instance l.self.bench

@@ -1,0 +1,16 @@
+pub mod Children
+pub mod Goals
+pub mod Watches
+pub mod Turns
+pub mod Spared
+pub mod Begun
+pub mod Pushes
+pub mod Searching
+pub use Rattle.branch_tree.proofs.ChildTasks
+pub use Rattle.branch_tree.proofs.Chosen
+pub use Rattle.branch_tree.proofs.OneChoice
+pub use Rattle.search_trees.proofs.Existence
+pub use Rattle.search_trees.proofs.Has
+pub use Rattle.search_trees.proofs.Leaves
+pub use Rattle.search_trees.proofs.Proving
+pub use Rattle.search_trees.proofs.Whole

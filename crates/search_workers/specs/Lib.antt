@@ -1,0 +1,16 @@
+pub mod Tasks
+pub mod Goals
+pub mod Best
+pub mod Report
+pub mod Run
+pub mod Searching
+pub mod Ends
+pub use Rattle.branch_tree.specs.Account
+pub use Rattle.branch_tree.specs.Name
+pub use Rattle.branch_tree.specs.Pieces
+pub use Rattle.branch_tree.specs.Task
+pub use Rattle.branch_tree.specs.Work
+pub use Rattle.branch_tree.specs.Workbench
+pub use Rattle.branch_tree.specs.piece
+pub use Rattle.search_trees.specs.Gathering
+pub use Rattle.search_trees.specs.Trees

@@ -1,0 +1,50 @@
+-- A search as it stands: what was made of the tree so far, what is left, and the best plan found.
+use Rattle.std.specs.Prelude.{◌≡◌, ℕ, ◌+◌, ◌<◌, List, ◌∷◌, ◌++◌, map, length, All, Option, None, Some, IsPermutation}
+use Rattle.ttp_model.specs.declared.plan.Plan.{Plan}
+use Rattle.ttp_model.specs.Instance.{Instance}
+use Rattle.search_workers.specs.piece.Piece.{Piece}
+use Rattle.search_workers.specs.Name.{Name}
+use Rattle.search_workers.specs.Task.{Task, IsTask, root_task}
+use Rattle.search_workers.specs.Best.{IsPlanFound}
+use Rattle.search_workers.specs.declared.aims.Aims.{Aims}
+use Rattle.search_workers.specs.Goals.{goal_of}
+use Rattle.search_workers.specs.Tasks.{Turn, IsTurn, tasks_of, pieces_of, all_born}
+use Rattle.search_trees.specs.Gathering.{HaveGoals}
+use Rattle.search_workers.specs.declared.outcome.Why.{Why}
+use Rattle.search_workers.specs.declared.outcome.Why.TheVariants.{Budget, Memory, CalledOff, Gap}
+
+-- the delay that the search had to beat: that of the best plan found, or one tick past the horizon
+abbrev pub limit_of : Instance → Option (Plan × ℕ) → ℕ
+limit_of i None = i.cluster.horizon + 1
+limit_of i (Some best) = best.1
+
+-- the goal at which it works then
+abbrev pub aim_of : Instance → Aims → Option (Plan × ℕ) → ℕ
+aim_of i aims best = goal_of i aims (limit_of i best)
+
+-- the plan that was found, where one was, is settled and has its delay
+abbrev pub IsFound : Instance → Option (Plan × ℕ) → Type 0
+IsFound i None = Unit {0}
+IsFound i (Some best) = IsPlanFound i best.0 best.1
+
+abbrev pub task_names : List Task → List Name
+task_names tasks = map (λ (t : Task). t.name) tasks
+
+-- Each piece is right for a task of the instance. These tasks and the open ones are the root and the children of all
+-- branches, each as often. No leaf's goal is below the one at which the search works.
+pub record IsSearching (i : Instance) (aims : Aims) (made : List Piece) (tasks : List Task) (best : Option (Plan × ℕ)) : Type 0 where
+  pub turns : List Turn
+  pub each : All (IsTurn i) turns
+  pub pieces : pieces_of turns ≡ made
+  pub account : IsPermutation (tasks_of turns ++ tasks) (root_task ∷ all_born i turns)
+  pub open_tasks : All (IsTask i) tasks
+  pub goals : HaveGoals (aim_of i aims best) made
+  pub found : IsFound i best
+
+-- how many were worked: as many as the budget allows where it was the cause, and fewer where memory was, or the search was called off; no turn ends
+-- by the gap
+abbrev pub IsWorkedOut : ℕ → List Piece → Why → Type 0
+IsWorkedOut budget worked Budget = length worked ≡ budget
+IsWorkedOut budget worked Memory = length worked < budget
+IsWorkedOut budget worked CalledOff = length worked < budget
+IsWorkedOut budget worked Gap = ⊥

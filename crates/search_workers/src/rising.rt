@@ -1,0 +1,175 @@
+//! Which task is worked next, where the bound of a search is to rise?
+
+ghost use Rattle.std.specs.Prelude.{◌≡◌, All};
+ghost use Rattle.search_workers.specs.Task.{IsTask};
+ghost use Rattle.search_workers.specs.Workbench.{IsWorkbenchOf};
+
+use search_workers::{Task, Workbench, is_closed_below, root_bound};
+use std::alloc::Global;
+use ttp_model::{Instance, MemoryFault};
+
+/// In so many steps the goal rises from the bound of the whole tree to the delay that has to be beaten: a guess.
+const STEPS: u32 = 32;
+
+/// So many tasks are tried at most for each that is worked. After 8,000 subtrees 8 raise `layer10` to 546 and `chain11` to 480, 16
+/// to 557 and 485, and 32 `layer10` to 575 in ten seconds more.
+const TRIES: u64 = 16;
+
+/// Which of the tasks that are left is worked next.
+#[derive(Clone, Copy, PartialEq, Eq)]
+pub enum Order {
+    /// The newest.
+    Newest,
+    /// The newest that propagation doesn't close at a goal above the bound of the whole tree; once it closes all there the goal rises,
+    /// and so does the bound.
+    Rising,
+}
+
+/// The goal to which the bound is to rise next, and of the tasks that are left which are closed there.
+#[derive(Drop)]
+pub struct Rising<'a> {
+    bench: Workbench<'a>,
+    /// The bound of the whole tree and the delay that has to be beaten, in ticks.
+    least: u32,
+    most: u32,
+    step: u32,
+    /// For each task the last step at which propagation closed it; 0 where it closed it at none.
+    closed: Vec<u32>,
+    /// How many tasks may still be tried.
+    tries: u64,
+}
+
+impl<'a> Rising<'a> {
+    /// Begins at the bound of the whole tree, for so many turns. Where the newest is worked, and where memory is refused for that
+    /// bound, no task is tried.
+    pub fn new(alloc: Global, instance: &'a Instance, order: Order, most: u32, turns: u64) -> Self
+        ensures { IsWorkbenchOf instance.now result.bench }
+    {
+        let (least, tries) = match order {
+            Order::Newest => (most, 0),
+            Order::Rising => (
+                root_bound(alloc, instance, most).unwrap_or(most),
+                turns.saturating_mul(TRIES),
+            ),
+        };
+        Rising {
+            bench: Workbench::new(),
+            least,
+            most,
+            step: 1,
+            closed: Vec::new(alloc),
+            tries,
+        }
+    }
+
+    /// The goal of a step, in ticks.
+    fn goal(&self, step: u32) -> u32 {
+        let gap = self.most.saturating_sub(self.least) as u64;
+        let risen = gap.saturating_mul(step as u64) / STEPS as u64;
+        (self.least as u64)
+            .saturating_add(risen)
+            .min(self.most as u64) as u32
+    }
+
+    /// Whether propagation closes a task at the goal of a step.
+    fn closes(
+        &mut self,
+        alloc: Global,
+        instance: &'a Instance,
+        task: &Task,
+        step: u32,
+    ) -> Result<bool, MemoryFault>
+        requires task { IsTask instance.now task.now }
+        requires bench { IsWorkbenchOf instance.now self.old.bench }
+        ensures { IsWorkbenchOf instance.now self.new.bench }
+    {
+        self.tries = self.tries.saturating_sub(1);
+        let goal = self.goal(step);
+        is_closed_below(alloc, instance, &mut self.bench, task, goal)
+    }
+
+    /// Whether a task is known to be closed at the goal of a step.
+    fn is_closed(&self, at: usize, step: u32) -> bool {
+        match self.closed.get(at) {
+            Some(closed) => *closed >= step,
+            None => false,
+        }
+    }
+
+    /// Notes that a task is closed at the goal of a step.
+    fn note(&mut self, at: usize, step: u32)
+        ensures { self.new.bench ≡ self.old.bench }
+    {
+        if let Some(closed) = self.closed.get_mut(at) {
+            *closed = step;
+        }
+    }
+
+    /// The newest task that propagation doesn't close at the goal of a step.
+    fn newest_open(
+        &mut self,
+        alloc: Global,
+        instance: &'a Instance,
+        tasks: &[Task],
+        step: u32,
+    ) -> Result<Option<usize>, MemoryFault>
+        requires tasks { All (IsTask instance.now) tasks.now }
+        requires bench { IsWorkbenchOf instance.now self.old.bench }
+        ensures { IsWorkbenchOf instance.now self.new.bench }
+    {
+        for at in (0..tasks.len()).rev() {
+            if self.tries > 0 && !self.is_closed(at, step) {
+                if !self.closes(alloc, instance, &tasks[at], step)? {
+                    return Ok(Some(at));
+                }
+                self.note(at, step);
+            }
+        }
+        Ok(None)
+    }
+
+    /// The newest task that isn't closed at the goal, which rises as long as all are.
+    fn open_task(
+        &mut self,
+        alloc: Global,
+        instance: &'a Instance,
+        tasks: &[Task],
+    ) -> Result<Option<usize>, MemoryFault>
+        requires tasks { All (IsTask instance.now) tasks.now }
+        requires bench { IsWorkbenchOf instance.now self.old.bench }
+        ensures { IsWorkbenchOf instance.now self.new.bench }
+    {
+        self.closed.resize(tasks.len(), 0)?;
+        for step in self.step..STEPS {
+            self.step = step;
+            let found = self.newest_open(alloc, instance, tasks, step)?;
+            if found.is_some() {
+                return Ok(found);
+            }
+        }
+        self.step = STEPS;
+        Ok(None)
+    }
+
+    /// The place of the task that is to be worked next: the newest that propagation doesn't close at the goal, which rises as long as
+    /// all are closed there. It is the newest of all where the goal has come to the delay that has to be beaten, where no more may be
+    /// tried, or where memory is refused. The last task takes the place of this one, which is no longer left.
+    pub fn pick(&mut self, alloc: Global, instance: &'a Instance, tasks: &[Task]) -> usize
+        requires tasks { All (IsTask instance.now) tasks.now }
+        requires bench { IsWorkbenchOf instance.now self.old.bench }
+        ensures { IsWorkbenchOf instance.now self.new.bench }
+    {
+        let newest = tasks.len().saturating_sub(1);
+        if self.tries == 0 {
+            return newest;
+        }
+        let at = match self.open_task(alloc, instance, tasks) {
+            Ok(Some(at)) => at,
+            Ok(None) | Err(_) => newest,
+        };
+        if at < self.closed.len() {
+            let _last = self.closed.swap_remove(at);
+        }
+        at
+    }
+}

@@ -1,0 +1,206 @@
+//! The caller's part of a search: it works what is left of the tree.
+
+ghost use Rattle.std.specs.Prelude.{◌≡◌, ◌≤◌, ◌<◌, ◌+◌, ◌++◌, All, OnOk, cond, length, vec_len, vec_capacity};
+ghost use Rattle.ttp_model.specs.declared.limits.TheConstants.{MOST_NODES};
+ghost use Rattle.search_workers.specs.Task.{IsTask};
+ghost use Rattle.search_workers.specs.Workbench.{IsWorkbenchOf};
+ghost use Rattle.search_workers.specs.declared.aims.Aims.{Aims};
+ghost use Rattle.search_workers.specs.Searching.{aim_of, limit_of, IsFound, IsWorkedOut, IsSearching};
+
+use crate::outcome::Why;
+use crate::rising::{Order, Rising};
+use certificate::{Branch, Node};
+use search_workers::{Aims, Gate, Piece, Task, Workbench, Worked, goal_of, work_on};
+use std::alloc::Global;
+use ttp_model::{Instance, MOST_NODES, MemoryFault, Plan};
+
+/// What is worked, room for its nodes, and what is still open; the best plan that was found, settled, with its delay in ticks.
+#[derive(Drop)]
+pub struct Search {
+    pub pieces: Vec<Piece>,
+    pub room: Vec<Node>,
+    pub tasks: Vec<Task>,
+    /// How many of them needn't be worked, as far as was seen.
+    pub spared: usize,
+    pub best: Option<(Plan, u64)>,
+}
+
+/// The delay that has to be beaten.
+pub fn limit(instance: &Instance, best: &Option<(Plan, u64)>) -> u32
+    requires { IsFound instance.now best.now }
+    ensures { result ≡ limit_of instance.now best.now }
+{
+    let _nodes = instance.nodes();
+    match best {
+        Some((_, delay)) => *delay as u32,
+        None => instance.past_horizon(),
+    }
+}
+
+/// The goal at which it works then, in ticks.
+pub fn aim(instance: &Instance, aims: Aims, best: &Option<(Plan, u64)>) -> u32
+    requires { IsFound instance.now best.now }
+    ensures { result ≡ aim_of instance.now aims best.now }
+{
+    goal_of(instance, aims, limit(instance, best))
+}
+
+/// Puts tasks behind those that are open, in the room that there is.
+fn open_all(pending: &mut Vec<Task>, tasks: Vec<Task>)
+    requires { vec_len pending.old + vec_len tasks ≤ vec_capacity pending.old }
+    ensures { pending.new.items ≡ pending.old.items ++ tasks.items }
+{
+    let mut tasks = tasks;
+    match pending.append(&mut tasks) {
+        Ok(()) => {}
+        Err(_) => unreachable!(),
+    }
+}
+
+impl Search {
+    /// Asks for room: in the list of pieces for one more, and for leaves of all that is open once it is made; beside it for the
+    /// nodes of all these; and in that of tasks for all that one of them can be split into.
+    fn make_room(&mut self) -> Result<(), MemoryFault>
+        ensures pieces { self.new.pieces.items ≡ self.old.pieces.items }
+        ensures tasks { self.new.tasks.items ≡ self.old.tasks.items }
+        ensures best { self.new.best ≡ self.old.best }
+        ensures one { OnOk result (vec_len self.new.pieces < vec_capacity self.new.pieces) }
+        ensures split { OnOk result (vec_len self.new.tasks + MOST_NODES ≤ vec_capacity self.new.tasks) }
+    {
+        let made = self.pieces.len();
+        let more = self.tasks.len() + MOST_NODES + 1;
+        self.pieces.reserve(more)?;
+        self.room.reserve(made + more)?;
+        self.tasks.reserve(MOST_NODES)?;
+        Ok(())
+    }
+
+    /// Works the newest task, where there is one, on from the last one: whether it was worked. Where memory is refused, it is
+    /// left. A gate is told of the plan that was found.
+    fn turn<'a, G: Gate>(
+        &mut self,
+        alloc: Global,
+        instance: &'a Instance,
+        bench: &mut Workbench<'a>,
+        aims: Aims,
+        gate: &G,
+    ) -> bool
+        requires searching { IsSearching instance.now aims self.old.pieces.items self.old.tasks.items self.old.best }
+        requires bench { IsWorkbenchOf instance.now bench.old }
+        ensures searching { IsSearching instance.now aims self.new.pieces.items self.new.tasks.items self.new.best }
+        ensures one { length self.new.pieces.items ≡ length self.old.pieces.items + cond result 1 0 }
+        ensures no_later { limit_of instance.now self.new.best ≤ limit_of instance.now self.old.best }
+        ensures bench { IsWorkbenchOf instance.now bench.new }
+    {
+        let _nodes = instance.nodes();
+        if self.make_room().is_err() {
+            return false;
+        }
+        let Some(task) = self.tasks.pop() else {
+            return false;
+        };
+        let goal = aim(instance, aims, &self.best);
+        let Ok(name) = task.name().copy(alloc) else {
+            self.tasks.push_reserved(task);
+            return false;
+        };
+        match work_on(alloc, instance, bench, task, goal) {
+            Ok(Worked::Split(kind, tasks)) => {
+                let node = Node::Branch(Branch::new(kind, tasks.len() as u32));
+                open_all(&mut self.tasks, tasks);
+                self.pieces.push_reserved(Piece { name, node });
+                true
+            }
+            Ok(Worked::Closed(leaf)) => {
+                let node = Node::Leaf(leaf);
+                self.pieces.push_reserved(Piece { name, node });
+                true
+            }
+            Ok(Worked::Found(plan, delay, leaf)) => {
+                let node = Node::Leaf(leaf);
+                gate.found(instance, &plan, delay);
+                self.best = Some((plan, delay));
+                self.pieces.push_reserved(Piece { name, node });
+                true
+            }
+            Err((task, _)) => {
+                self.tasks.push_reserved(task);
+                false
+            }
+        }
+    }
+
+    /// Makes the task that is to be worked next the newest.
+    fn bring<'a>(&mut self, alloc: Global, instance: &'a Instance, rising: &mut Rising<'a>)
+        requires tasks { All (IsTask instance.now) self.old.tasks.items }
+        requires bench { IsWorkbenchOf instance.now rising.old.bench }
+        ensures searching { (aims : Aims) → IsSearching instance.now aims self.old.pieces.items self.old.tasks.items self.old.best
+            → IsSearching instance.now aims self.new.pieces.items self.new.tasks.items self.new.best }
+        ensures pieces { self.new.pieces.items ≡ self.old.pieces.items }
+        ensures best { self.new.best ≡ self.old.best }
+        ensures bench { IsWorkbenchOf instance.now rising.new.bench }
+    {
+        let at = rising.pick(alloc, instance, self.tasks.as_slice());
+        let count = self.tasks.len();
+        if at < count {
+            self.tasks.swap(at, count - 1);
+        }
+    }
+
+    /// Works so many tasks, each time the one that is to be next, unless memory is refused or the gate says that it doesn't go on before. Why it
+    /// ended, where tasks are left.
+    fn take_turns<'a, G: Gate>(
+        &mut self,
+        alloc: Global,
+        instance: &'a Instance,
+        bench: &mut Workbench<'a>,
+        rising: &mut Rising<'a>,
+        turns: u64,
+        aims: Aims,
+        gate: &G,
+    ) -> Why
+        requires searching { IsSearching instance.now aims self.old.pieces.items self.old.tasks.items self.old.best }
+        requires bench { IsWorkbenchOf instance.now bench.old }
+        requires rising { IsWorkbenchOf instance.now rising.old.bench }
+        ensures searching { IsSearching instance.now aims self.new.pieces.items self.new.tasks.items self.new.best }
+        ensures within { length self.new.pieces.items ≤ length self.old.pieces.items + turns }
+        ensures cause { IsWorkedOut (length self.old.pieces.items + turns) self.new.pieces.items result }
+        ensures no_later { limit_of instance.now self.new.best ≤ limit_of instance.now self.old.best }
+    {
+        for _turn in 0..turns {
+            if !gate.goes_on(0) {
+                return Why::CalledOff;
+            }
+            self.bring(alloc, instance, rising);
+            if !self.turn(alloc, instance, bench, aims, gate) {
+                return Why::Memory;
+            }
+        }
+        Why::Budget
+    }
+
+    /// Works tasks in this order until `budget` pieces are made, memory is refused, or the gate says that it doesn't go on. Why it ended, where
+    /// tasks are left.
+    pub fn go<G: Gate>(
+        &mut self,
+        alloc: Global,
+        instance: &Instance,
+        budget: u64,
+        order: Order,
+        aims: Aims,
+        gate: &G,
+    ) -> Why
+        requires searching { IsSearching instance.now aims self.old.pieces.items self.old.tasks.items self.old.best }
+        requires within { length self.old.pieces.items ≤ budget }
+        ensures searching { IsSearching instance.now aims self.new.pieces.items self.new.tasks.items self.new.best }
+        ensures within { length self.new.pieces.items ≤ budget }
+        ensures cause { IsWorkedOut budget self.new.pieces.items result }
+        ensures no_later { limit_of instance.now self.new.best ≤ limit_of instance.now self.old.best }
+    {
+        let mut bench = Workbench::new();
+        let turns = budget - self.pieces.len() as u64;
+        let most = aim(instance, aims, &self.best);
+        let mut rising = Rising::new(alloc, instance, order, most, turns);
+        self.take_turns(alloc, instance, &mut bench, &mut rising, turns, aims, gate)
+    }
+}

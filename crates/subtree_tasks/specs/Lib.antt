@@ -1,9 +1,0 @@
-pub mod Name
-pub mod Task
-pub mod Pieces
-pub mod Account
-pub mod Once
-pub mod Trials
-pub mod Stretches
-pub use Rattle.path_bounds.specs.PlansBelow
-pub use Rattle.path_bounds.specs.Propagator

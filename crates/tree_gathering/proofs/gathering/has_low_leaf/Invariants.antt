@@ -1,7 +1,0 @@
-use Rattle.std.specs.List.{AllWithin}
-use Rattle.subtree_tasks.specs.declared.piece.Piece.{Piece}
-use Rattle.tree_gathering.specs.Gathering.{HasGoal}
-use Rattle.tree_gathering.proofs.gathering.has_low_leaf.Given as goal
-
-abbrev pub invariant-loop-piece : goal.invariant-loop-piece
-invariant-loop-piece l = AllWithin (λ (p : Piece). HasGoal l.low p.node) l.pieces 0 l.piece-index

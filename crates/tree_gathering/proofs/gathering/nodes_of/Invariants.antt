@@ -1,6 +1,0 @@
-use Rattle.std.proofs.Common.{◌≡◌, map}
-use Rattle.subtree_tasks.specs.declared.piece.Piece.{Piece}
-use Rattle.tree_gathering.proofs.gathering.nodes_of.Given as goal
-
-abbrev pub invariant-loop-piece : goal.invariant-loop-piece
-invariant-loop-piece l = l.nodes.items ≡ map (λ (p : Piece). p.node) l.yielded
