@@ -4,7 +4,7 @@ import pathlib
 import re
 
 ROOT = pathlib.Path(__file__).resolve().parent.parent
-FOLDERS = [ROOT / "crates/many_texts/rows", ROOT / "examples", ROOT / "examples/tutorial", ROOT / "bench/instances", ROOT / "tests/texts"]
+FOLDERS = [ROOT / "crates/many_texts/rows", ROOT / "examples", ROOT / "examples/small", ROOT / "examples/tutorial", ROOT / "bench/instances", ROOT / "tests/texts"]
 TOKEN = re.compile(r"\((?P<inner>[^()]*)\)|\\x(?P<byte>[0-9a-f]{2})|\\(?P<escape>[nrt\\])|(?P<plain>[^()\\]+)")
 NAMED = re.compile(r"(?P<name>[a-z0-9-]+(\.[a-z]+)?)(: *(?P<edits>.*))?")
 REPEATED = re.compile(r"(?P<text>.+) \* (?P<many>\d+)")

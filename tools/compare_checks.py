@@ -264,9 +264,9 @@ def made_certificate(dice, instance):
 
 def example_cases():
     """The examples' instances with the plans and certificates that go with them by name."""
-    folder = ROOT / "examples"
-    for instance in sorted(folder.glob("*.toml")):
-        plans, certificates = ([text.read_bytes() for text in sorted(folder.glob(f"*.{kind}")) if text.stem.startswith(instance.stem)]
+    folders = ROOT / "examples", ROOT / "examples/small"
+    for instance in sorted(file for folder in folders for file in folder.glob("*.toml")):
+        plans, certificates = ([text.read_bytes() for text in sorted(instance.parent.glob(f"*.{kind}")) if text.stem.startswith(instance.stem)]
                                for kind in ("plan", "cert"))
         yield from (("verify", instance.read_bytes(), plan) for plan in plans)
         yield from (("check", instance.read_bytes(), certificate) for certificate in certificates)

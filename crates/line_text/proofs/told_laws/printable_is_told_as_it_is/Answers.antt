@@ -1,5 +1,5 @@
 use Rattle.line_text.proofs.Tellings.{told-same}
-use Rattle.line_text.proofs.laws.printable_is_told_as_it_is.Goals as goal
+use Rattle.line_text.proofs.told_laws.printable_is_told_as_it_is.Goals as goal
 
 pub returns : goal.returns
 returns c = told-same

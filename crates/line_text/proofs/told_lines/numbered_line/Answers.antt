@@ -2,7 +2,7 @@ use Rattle.std.proofs.Common.{rules, tests, refl}
 use Rattle.std.proofs.lemmas.Iterator.Consumers.{nth_from_yields_List}
 use Rattle.std.proofs.lemmas.Iterator.Splits.{YieldsList-from_slice_split}
 use Rattle.line_text.proofs.TextLines.{line_found}
-use Rattle.line_text.proofs.lines.numbered_line.Goals as goal
+use Rattle.line_text.proofs.told_lines.numbered_line.Goals as goal
 
 pub returns : goal.returns
 returns c =
