@@ -28,6 +28,29 @@ pub mod prelude {
     /// In the kit each type has it.
     pub trait Drop {}
     impl<T: ?Sized> Drop for T {}
+
+    /// The kit's `unwrap`, which needn't say what it didn't want.
+    pub trait KitUnwrap {
+        type Wanted;
+
+        fn kit_unwrap(self) -> Self::Wanted;
+    }
+
+    impl<T> KitUnwrap for Option<T> {
+        type Wanted = T;
+
+        fn kit_unwrap(self) -> T {
+            self.unwrap()
+        }
+    }
+
+    impl<T, E> KitUnwrap for Result<T, E> {
+        type Wanted = T;
+
+        fn kit_unwrap(self) -> T {
+            self.ok().unwrap()
+        }
+    }
 }
 
 pub mod std {

@@ -15,6 +15,7 @@ NUMBER = re.compile(r"[0-9][A-Za-z0-9_]*")
 PIECES = [COMMENT, STRING, CHAR, LIFETIME, WORD, NUMBER, SPACE]
 KEPT_ATTRIBUTES = re.compile(r"#\[(derive|cfg|inline)\b")
 PLAIN_DERIVES = {"Clone", "Copy", "Debug", "Default", "Eq", "Hash", "Ord", "PartialEq", "PartialOrd"}
+LEFT_OUT = {"line_text": ("told", "told_laws", "told_lines")}  # modules that tell of refused texts, which no planner does
 SORTS = {"sort_unstable", "sort_unstable_by", "sort_unstable_by_key"}
 
 
@@ -138,6 +139,8 @@ def new_word(out, place, modules):
         return modules[word]
     if word in SORTS and comes_after(out, place, "."):
         return f"kit_{word}"
+    if word == "unwrap" and comes_after(out, place, "."):
+        return "kit_unwrap"
     if word == "vec" and out[place + 1:place + 2] == ["!"] and not comes_after(out, place, "::"):
         return "kit_vec"
     return word
@@ -148,13 +151,21 @@ def translated(text, crate, own, of_kit):
     return "use crate::kit::prelude::*;\n" + re.sub(r"\n\s*\n+", "\n", body)
 
 
+def without_modules(text, left_out):
+    """The head of a crate without these modules and what it hands on of them."""
+    for name in left_out:
+        text = re.sub(rf"^(pub )?(mod {name}|use {name}::[^;]*);\n", "", text, flags=re.M)
+    return text
+
+
 def translate(top, root):
     """The files of plain Rust, by their paths, that stand for the crate `root` of the repository at `top`."""
     own, of_kit = crates_of(top, root)
     files = {"crates.rs": "".join(f'#[path = "{name}/mod.rs"]\npub mod {name};\n' for name in sorted(own))}
     for crate in sorted(own):
         folder = top / "crates" / crate / "src"
-        for path in sorted(folder.rglob("*.rt")):
+        left_out = LEFT_OUT.get(crate, ())
+        for path in sorted(path for path in folder.rglob("*.rt") if path.stem not in left_out):
             name = "mod" if path.name == "lib.rt" else str(path.relative_to(folder).with_suffix(""))
-            files[f"{crate}/{name}.rs"] = translated(path.read_text(), crate, own, of_kit)
+            files[f"{crate}/{name}.rs"] = translated(without_modules(path.read_text(), left_out), crate, own, of_kit)
     return files

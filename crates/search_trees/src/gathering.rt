@@ -8,10 +8,10 @@ ghost use Rattle.search_trees.specs.Trees.{IsTreeOf};
 ghost use Rattle.search_trees.specs.Gathering.{AreShallow, HasGoal, HasLowLeaf, HasTreeNames, HaveGoals, IsFirstGatherFault, IsGathered};
 ghost use Rattle.search_trees.specs.Order.{IsSorted, IsSound};
 
+use crate::Piece;
 use crate::fault::GatherFault;
 use crate::names::{has_doubled_name, has_stray_name, lacks_name, sort_by_name};
 use certificate::{Cert, Node, Version};
-use search_trees::Piece;
 use std::alloc::Global;
 use ttp_model::MemoryFault;
 

@@ -11,7 +11,7 @@ ghost use Rattle.search_trees.specs.Pieces.{names_of, all_below};
 ghost use Rattle.search_trees.specs.Gathering.{HasDoubledName, LacksName, HasStrayName, HasWantedNames, IsOwn};
 ghost use Rattle.search_trees.specs.Order.{compare, IsSorted, Rises, IsSameAsBefore, IsWanted, HasEachChild, LacksChild};
 
-use search_trees::Piece;
+use crate::Piece;
 use std::alloc::Global;
 use std::cmp::Ordering;
 use ttp_model::MemoryFault;

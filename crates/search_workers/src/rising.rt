@@ -4,7 +4,7 @@ ghost use Rattle.std.specs.Prelude.{◌≡◌, All};
 ghost use Rattle.search_workers.specs.Task.{IsTask};
 ghost use Rattle.search_workers.specs.Workbench.{IsWorkbenchOf};
 
-use search_workers::{Task, Workbench, is_closed_below, root_bound};
+use crate::{Task, Workbench, is_closed_below, root_bound};
 use std::alloc::Global;
 use ttp_model::{Instance, MemoryFault};
 

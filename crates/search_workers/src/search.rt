@@ -9,8 +9,8 @@ ghost use Rattle.search_workers.specs.Searching.{aim_of, limit_of, IsFound, IsWo
 
 use crate::outcome::Why;
 use crate::rising::{Order, Rising};
+use crate::{Aims, Gate, Piece, Task, Workbench, Worked, goal_of, work_on};
 use certificate::{Branch, Node};
-use search_workers::{Aims, Gate, Piece, Task, Workbench, Worked, goal_of, work_on};
 use std::alloc::Global;
 use ttp_model::{Instance, MOST_NODES, MemoryFault, Plan};
 
