@@ -44,6 +44,8 @@ impl Gate for Phases {
     fn leave(&self, _worker: usize, _name: &Name) {
         self.0.lock().unwrap().left = Instant::now();
     }
+
+    fn found(&self, _instance: &Instance, _plan: &Plan, _delay: u64) {}
 }
 
 /// The numbers of an instance, one after the other.

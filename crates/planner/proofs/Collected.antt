@@ -12,7 +12,7 @@ use Rattle.search_workers.specs.Task.{Task, IsTask}
 use Rattle.incumbent.specs.declared.word.Incumbent.{Incumbent}
 use Rattle.incumbent.specs.Watch.{first_value, seen, offers, IsLeast}
 use Rattle.steal_pool.specs.Hand.{all_pushed, all_taken}
-use Rattle.search_workers.specs.aims.Aims.{Aims}
+use Rattle.search_workers.specs.declared.aims.Aims.{Aims}
 use Rattle.search_workers.specs.Goals.{goals_of, goals_at, IsReached}
 use Rattle.search_workers.specs.Tasks.{tasks_of, all_born}
 use Rattle.planner.specs.declared.crew.Crew.{Crew}

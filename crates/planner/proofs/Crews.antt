@@ -15,8 +15,8 @@ use Rattle.incumbent.specs.declared.word.Incumbent.{Incumbent}
 use Rattle.incumbent.specs.Watch.{seen, offers, out_count, IsOpening}
 use Rattle.steal_pool.specs.declared.hand.Hand.{Hand}
 use Rattle.steal_pool.specs.Hand.{pushed, taken, IsSameHand, all_pushed, all_taken}
-use Rattle.search_workers.specs.aims.Aims.{Aims}
-use Rattle.search_workers.specs.report.Report.{Report}
+use Rattle.search_workers.specs.declared.aims.Aims.{Aims}
+use Rattle.search_workers.specs.declared.report.Report.{Report}
 use Rattle.search_workers.specs.Tasks.{Turn, IsTurn, tasks_of, pieces_of, all_born, born}
 use Rattle.search_workers.specs.Goals.{goals_of, goals_at, IsReached}
 use Rattle.search_workers.specs.Best.{IsBestOf}

@@ -13,7 +13,7 @@ use Rattle.certificate.specs.Trees.{Trees, none, grow, preorder}
 use Rattle.certificate.specs.Cert.{Cert}
 use Rattle.dropped_decisions.specs.Proofs.{choices_below, Suits, AreProofs, Proves}
 use Rattle.search_workers.specs.Gathering.{HasGoal}
-use Rattle.search_workers.specs.aims.Aims.{Aims}
+use Rattle.search_workers.specs.declared.aims.Aims.{Aims}
 use Rattle.search_workers.proofs.Goals.{goal_near, goal_past}
 use Rattle.search_workers.specs.declared.outcome.Options.{Options}
 use Rattle.search_workers.specs.declared.outcome.Outcome.{Outcome}

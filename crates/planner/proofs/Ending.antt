@@ -17,7 +17,7 @@ use Rattle.search_workers.specs.Account.{IsWholeTree}
 use Rattle.search_workers.specs.Work.{IsLeftClosed}
 use Rattle.search_workers.proofs.OneChoice.{stands_alone}
 use Rattle.search_workers.proofs.Children.{leaf_right}
-use Rattle.search_workers.specs.aims.Aims.{Aims}
+use Rattle.search_workers.specs.declared.aims.Aims.{Aims}
 use Rattle.search_workers.specs.Tasks.{tasks_of}
 use Rattle.search_workers.specs.declared.outcome.Options.{Options}
 use Rattle.search_workers.specs.Searching.{aim_of, IsWorkedOut, task_names, IsSearching}

@@ -4,8 +4,8 @@ use Rattle.std.proofs.lemmas.List.Elements.{All-head, All-tail, All-cons, All-ni
 use Rattle.ttp_model.specs.Instance.{Instance}
 use Rattle.incumbent.specs.declared.word.Incumbent.{Incumbent}
 use Rattle.incumbent.specs.Watch.{IsWatchOf}
-use Rattle.search_workers.specs.aims.Aims.{Aims}
-use Rattle.search_workers.specs.report.Report.{Report}
+use Rattle.search_workers.specs.declared.aims.Aims.{Aims}
+use Rattle.search_workers.specs.declared.report.Report.{Report}
 use Rattle.planner.specs.declared.crew.Job.{Job}
 use Rattle.planner.specs.Crew.{AreReportsOf, IsJob, IsReportOfJob}
 use Rattle.search_workers.proofs.Searching.{front_of, last_there}

@@ -24,11 +24,11 @@ use Rattle.search_workers.specs.declared.outcome.Why.TheVariants.{Budget, Memory
 use Rattle.search_workers.specs.Trees.{IsTreeOf, pieces_of}
 use Rattle.search_workers.specs.Gathering.{HasGoal, HaveGoals, IsGathered}
 use Rattle.dropped_decisions.specs.Branches.{is_branch, branches}
-use Rattle.planner.specs.Answers.{is_closed_at, worked_at, in_answer}
+use Rattle.planner.specs.Answers.{is_closed_at, worked_at, worked_goal, in_answer}
 use Rattle.search_workers.specs.Searching.{aim_of, limit_of, IsFound, IsWorkedOut}
 use Rattle.planner.specs.Searched.{AreAims, IsClosedLeaf, IsEndTree, IsReason, IsSearched}
-use Rattle.search_workers.specs.aims.Aims.{Aims}
-use Rattle.search_workers.proofs.Goals.{goal_near}
+use Rattle.search_workers.specs.declared.aims.Aims.{Aims}
+use Rattle.search_workers.proofs.Goals.{goal_near, goal_past}
 use Rattle.search_workers.proofs.Searching.{aim_below, weaker_goal}
 use Rattle.search_workers.proofs.Existence.{tree_nodes}
 use Rattle.search_workers.proofs.Proving.{gathered_proves}
@@ -124,6 +124,10 @@ lower_goals : (high low : ℕ) → low ≤ high → (pieces : List Piece) → Ha
 lower_goals high low le pieces goals =
     All-weaker (λ (q : Piece). HasGoal high q.node) (λ (q : Piece). HasGoal low q.node) (λ q. weaker_goal high low le q.node) pieces goals
 
+goal_is : (i : Instance) (aims : Aims) (gap : ℕ) (best : Option (Plan × ℕ)) → aims.gap ≡ gap → worked_goal i gap best ≤ aim_of i aims best
+goal_is i aims gap None same = omega (arith, goal_past i aims (i.cluster.horizon + 1) (omega arith))
+goal_is i aims gap (Some best) same = omega (arith, same, goal_near i aims best.1)
+
 leaf_path : (i : Instance) (aim low limit bound : ℕ) → IsPathBound i bound → min bound limit ≤ aim → (p : Piece) → IsClosedLeaf i aim low p
     → HasGoal (min bound limit) p.node
 leaf_path i aim low limit bound is high p leaf = subst (HasGoal (min bound limit)) (sym leaf.is) (omega (arith, leaf.path bound is, high))
@@ -152,11 +156,11 @@ module _ (i : Instance) (options : Options) (aims : Aims) (why : Why) (best : Op
       All-append (λ (q : Piece). HasGoal (min bound limit) q.node) worked closed (lower_goals aim (min bound limit) high worked is.goals)
       (All-weaker (IsClosedLeaf i aim low) (λ (q : Piece). HasGoal (min bound limit) q.node) (leaf_path i aim low limit bound path high) closed is.leaves)
 
-  near_goals : HaveGoals (limit - options.gap) worked
-  near_goals = lower_goals aim (limit - options.gap) (omega (arith, goal_near i aims limit, right.gap_is)) worked is.goals
+  near_goals : HaveGoals (worked_goal i options.gap best) worked
+  near_goals = lower_goals aim (worked_goal i options.gap best) (goal_is i aims options.gap best right.gap_is) worked is.goals
 
   reason_is : (cause : Why) → IsWorkedOut options.budget worked cause → IsReason i options best (in_answer i cert) cause
-  reason_is Budget all = omega (arith, all_worked (limit - options.gap) worked closed cert.tree gathered.tree near_goals, all)
+  reason_is Budget all = omega (arith, all_worked (worked_goal i options.gap best) worked closed cert.tree gathered.tree near_goals, all)
   reason_is Memory all = omega (arith, within_budget i aim low worked closed cert.tree gathered.tree is.leaves, all)
   reason_is CalledOff all = omega (arith, within_budget i aim low worked closed cert.tree gathered.tree is.leaves, all)
   reason_is Gap all = absurd all

@@ -32,6 +32,11 @@ is_closed_at limit _ = false
 abbrev pub worked_at : ℕ → Trees → ℕ
 worked_at limit tree = branches tree + count_by (is_closed_at limit) (preorder tree)
 
+-- no search with this gap works at a lower goal: that of the best plan is less by the gap at most, and where there is none it is past the horizon
+abbrev pub worked_goal : Instance → ℕ → Option (Plan × ℕ) → ℕ
+worked_goal i gap None = i.cluster.horizon + 1
+worked_goal i gap (Some best) = best.1 - gap
+
 -- the best plan found, where there is one, is a settled plan with its delay, which is above the bound
 abbrev pub IsBestAbove : Instance → ℕ → Option (Plan × ℕ) → Type 0
 IsBestAbove i low None = Unit {0}
@@ -46,7 +51,7 @@ pub record IsLeastGoal (tree : Trees) (low : ℕ) : Type 0 where
 
 -- the cause of a stop: by the gap, where the best plan is within it; else by what was worked
 abbrev pub IsCause : Instance → Options → ℕ → Option (Plan × ℕ) → Cert → Why → Type 0
-IsCause i options low best cert Budget = IsFar options.gap low best × (options.budget ≤ worked_at (limit_of i best - options.gap) cert.tree)
+IsCause i options low best cert Budget = IsFar options.gap low best × (options.budget ≤ worked_at (worked_goal i options.gap best) cert.tree)
 IsCause i options low best cert Memory = IsFar options.gap low best × (branches cert.tree < options.budget)
 IsCause i options low best cert CalledOff = IsFar options.gap low best × (branches cert.tree < options.budget)
 IsCause i options low best cert Gap = IsNear options.gap low best
@@ -77,6 +82,12 @@ abbrev pub best_of : Outcome → Option (Plan × ℕ)
 best_of (Optimal plan ticks cert) = Some (plan, ticks)
 best_of (Infeasible cert) = None
 best_of (Stopped why low best cert) = best
+
+-- the answer says that the search was called off
+abbrev pub IsCalledOff : Outcome → Type 0
+IsCalledOff (Optimal plan ticks cert) = ⊥
+IsCalledOff (Infeasible cert) = ⊥
+IsCalledOff (Stopped why low best cert) = why ≡ CalledOff
 
 -- the answer with this certificate in place of its own; that of a search that was stopped keeps its own
 abbrev pub certified_by : Cert → Outcome → Outcome

@@ -1,5 +1,5 @@
 -- What workers begin with, and what they come to together. Only private contracts ask for it.
-use Rattle.std.specs.Prelude.{◌≡◌, ◌⊎◌, ℕ, ◌+◌, ◌-◌, ◌≤◌, List, [], ◌∷◌, ◌++◌, map, length, sum_by, All, Option, None, Some, IsPermutation}
+use Rattle.std.specs.Prelude.{◌≡◌, ◌⊎◌, ℕ, ◌+◌, ◌-◌, ◌/◌, ◌≤◌, List, [], ◌∷◌, ◌++◌, map, length, sum_by, All, Option, None, Some, IsPermutation}
 use Rattle.ttp_model.specs.declared.plan.Plan.{Plan}
 use Rattle.ttp_model.specs.Instance.{Instance}
 use Rattle.search_workers.specs.Task.{Task, IsTask, root_task}
@@ -8,16 +8,23 @@ use Rattle.incumbent.specs.declared.word.Watch.{Watch}
 use Rattle.incumbent.specs.Watch.{first_value, offers, out_count, IsOpening, IsOther, IsSameWatch}
 use Rattle.steal_pool.specs.declared.hand.Hand.{Hand}
 use Rattle.steal_pool.specs.Hand.{IsPool, IsSameHand, all_pushed, all_taken}
-use Rattle.search_workers.specs.aims.Aims.{Aims}
-use Rattle.search_workers.specs.report.Report.{Report}
+use Rattle.search_workers.specs.declared.aims.Aims.{Aims}
+use Rattle.search_workers.specs.declared.report.Report.{Report}
 use Rattle.search_workers.specs.Tasks.{Turn, IsTurn, tasks_of, pieces_of, all_born}
 use Rattle.search_workers.specs.Goals.{goals_of, AreGoals, IsReached}
 use Rattle.search_workers.specs.Best.{OffersBest}
-use Rattle.search_workers.specs.report.Rest.{Rest}
+use Rattle.search_workers.specs.declared.report.Rest.{Rest}
 use Rattle.search_workers.specs.Report.{HasAccount, held, unpushed}
 use Rattle.planner.specs.declared.crew.Job.{Job}
 use Rattle.planner.specs.declared.crew.Crew.{Crew}
 use Rattle.search_workers.specs.Searching.{limit_of, IsFound}
+use Rattle.search_workers.specs.manner.Manner.{Manner}
+use Rattle.search_workers.specs.manner.Manner.TheVariants.{Plain, Sparing}
+
+-- how much of a budget the workers have: all of it in a plain search, and else all but the last quarter
+abbrev pub workers_part : Manner → ℕ → ℕ
+workers_part Plain budget = budget
+workers_part Sparing budget = budget - budget / 4
 
 -- the report of a run with these aims that began with this job
 pub record IsReportOfJob {J : Type 0} (i : Instance) (aims : Aims) (job : Job J) (report : Report J) : Type 0 where

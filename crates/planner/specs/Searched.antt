@@ -16,11 +16,11 @@ use Rattle.search_workers.specs.Account.{IsWholeTree}
 use Rattle.search_workers.specs.declared.outcome.Options.{Options}
 use Rattle.search_workers.specs.declared.outcome.Why.{Why}
 use Rattle.search_workers.specs.declared.outcome.Why.TheVariants.{Budget, Memory, CalledOff, Gap}
-use Rattle.search_workers.specs.aims.Aims.{Aims}
+use Rattle.search_workers.specs.declared.aims.Aims.{Aims}
 use Rattle.search_workers.specs.Goals.{goal_of}
 use Rattle.search_workers.specs.Searching.{aim_of, limit_of, IsFound, IsWorkedOut}
 use Rattle.search_workers.specs.Gathering.{HasGoal, HaveGoals}
-use Rattle.planner.specs.Answers.{answer_version, worked_at}
+use Rattle.planner.specs.Answers.{answer_version, worked_at, worked_goal}
 
 -- a goal at which propagation closes the whole tree: at least the path bound, within one tick past the horizon
 abbrev pub IsFloor : Instance → ℕ → Type 0
@@ -75,7 +75,7 @@ IsExhausted i gap (Some best) low = best.1 ≤ low + gap
 
 -- how much a tree shows was worked where a search ended for a reason
 abbrev pub IsReason : Instance → Options → Option (Plan × ℕ) → Cert → Why → Type 0
-IsReason i options best cert Budget = options.budget ≤ worked_at (limit_of i best - options.gap) cert.tree
+IsReason i options best cert Budget = options.budget ≤ worked_at (worked_goal i options.gap best) cert.tree
 IsReason i options best cert Memory = branches cert.tree < options.budget
 IsReason i options best cert CalledOff = branches cert.tree < options.budget
 IsReason i options best cert Gap = IsExhausted i options.gap best cert.low

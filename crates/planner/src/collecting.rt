@@ -1,12 +1,12 @@
 //! How do workers begin, and what is left of the tree once all have ended?
 
-ghost use Rattle.std.specs.Prelude.{◌≡◌, ◌≤◌, ◌+◌, [], ◌∷◌, ◌++◌, IfOk, OnOk, IfErr, IsPermutation, length, All};
+ghost use Rattle.std.specs.Prelude.{◌≡◌, ◌≤◌, ◌+◌, [], ◌∷◌, ◌++◌, IfOk, OnOk, IfErr, IsPermutation, length, vec_len, All};
 ghost use Rattle.ttp_model.specs.Rules.{IsInstance};
 ghost use Rattle.search_workers.specs.Task.{root_task, IsTask};
 ghost use Rattle.incumbent.specs.Watch.{first_value, offers, out_count, IsOpening, IsWatchOf};
 ghost use Rattle.steal_pool.specs.Hand.{all_pushed, all_taken, IsPool};
 ghost use Rattle.search_workers.specs.Searching.{limit_of, IsFound, IsSearching};
-ghost use Rattle.search_workers.specs.aims.Aims.{Aims};
+ghost use Rattle.search_workers.specs.declared.aims.Aims.{Aims};
 ghost use Rattle.planner.specs.Crew.{budget_of, hands_of, told, AreDealt, AreReportsOf, HasLeft, HaveEnded, IsJob, IsNobody};
 
 use crate::crew::{Crew, Job, run_all};
@@ -31,6 +31,7 @@ fn planted<J: Searched>(
     ensures pool { IfOk result (λ hands. IsPool hands.items) }
     ensures pushed { IfOk result (λ hands. IsPermutation (all_pushed hands.items) (root_task ∷ [])) }
     ensures taken { IfOk result (λ hands. all_taken hands.items ≡ []) }
+    ensures many { IfOk result (λ hands. vec_len hands ≡ workers) }
 {
     let mut hands = pool::<J>(alloc, instance, workers)?;
     let root = Task::root(alloc, instance)?;
@@ -221,7 +222,7 @@ fn crewed<J: Searched + Send + Sync, G: Gate + Sync, R: Threads + Wait>(
     ensures within { OnOk result (length crew.new.pieces.items ≤ options.budget) }
     ensures no_later { OnOk result (limit_of J.instance crew.new.best ≤ limit_of J.instance crew.old.best) }
 {
-    let hands = planted::<J>(alloc, instance, options.workers.max(1) as usize)?;
+    let hands = planted::<J>(alloc, instance, options.crew() as usize)?;
     let jobs = deal(alloc, word, &mut crew.watch, hands, options.budget)?;
     let reports = reported(rt, alloc, instance, word, gate, manner, aims, jobs)?;
     crew.add_all(word, reports)?;
@@ -264,7 +265,7 @@ pub fn searched<J: Searched + Send + Sync, G: Gate + Sync, R: Threads + Wait>(
     ensures no_later { IfOk result (λ s. limit_of instance.now s.best ≤ limit_of instance.now first) }
 {
     let _nodes = instance.nodes();
-    let (word, crew) = begun::<J>(alloc, instance, options.workers.max(1) as usize, first)?;
+    let (word, crew) = begun::<J>(alloc, instance, options.crew() as usize, first)?;
     let mut crew = crew;
     crewed(
         rt, alloc, instance, options, manner, aims, &word, gate, &mut crew,

@@ -5,7 +5,7 @@ ghost use Rattle.ttp_model.specs.Instance.{Instance};
 ghost use Rattle.ttp_model.specs.Rules.{IsInstance};
 ghost use Rattle.incumbent.specs.Watch.{IsOpening, IsWatchOf};
 ghost use Rattle.steal_pool.specs.declared.hand.Hand.{Hand};
-ghost use Rattle.search_workers.specs.aims.Aims.{Aims};
+ghost use Rattle.search_workers.specs.declared.aims.Aims.{Aims};
 ghost use Rattle.planner.specs.declared.crew.Job.{Job};
 ghost use Rattle.search_workers.specs.declared.outcome.SolveFault.TheVariants as fault;
 ghost use Rattle.search_workers.specs.Searching.{IsFound};

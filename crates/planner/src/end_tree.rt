@@ -2,7 +2,8 @@
 
 ghost use Rattle.std.specs.Prelude.{◌≡◌};
 ghost use Rattle.search_workers.specs.Searching.{IsFound};
-ghost use Rattle.planner.specs.Answers.{best_of, IsOutcome};
+ghost use Rattle.search_workers.specs.declared.outcome.Why.TheVariants as causes;
+ghost use Rattle.planner.specs.Answers.{best_of, IsCalledOff, IsOutcome};
 ghost use Rattle.planner.specs.Searched.{IsEndTree, IsLowest};
 
 use certificate::{Cert, Node};
@@ -36,6 +37,7 @@ pub fn ended(
     requires tree { IsEndTree instance.now options why best cert }
     ensures answer { IsOutcome instance.now options result }
     ensures best { best_of result ≡ best }
+    ensures called_off { IsCalledOff result → why ≡ causes.CalledOff }
 {
     let _nodes = instance.nodes();
     let limit = limit(instance, &best);

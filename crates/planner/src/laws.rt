@@ -11,7 +11,7 @@ ghost use Rattle.search_workers.specs.Gathering.{IsGathered};
 ghost use Rattle.search_workers.specs.declared.outcome.Options.{Options};
 ghost use Rattle.search_workers.specs.declared.outcome.Outcome.{Outcome};
 ghost use Rattle.search_workers.specs.declared.outcome.Why.{Why};
-ghost use Rattle.search_workers.specs.aims.Aims.{Aims};
+ghost use Rattle.search_workers.specs.declared.aims.Aims.{Aims};
 ghost use Rattle.certificate.specs.Trees.{preorder};
 ghost use Rattle.planner.specs.Answers.{cert_of, from_low, in_answer, IsOutcome, Shows};
 ghost use Rattle.planner.specs.Searched.{AreAims, IsEndTree, IsLowest, IsSearched};

@@ -27,6 +27,8 @@ impl<'a, G: Gate> Muster<'a, G> {
 }
 
 impl<'a, G: Gate> Gate for Muster<'a, G> {
+    ghost heard = { λ x. G.heard x.gate.now };
+
     fn start(&self, worker: usize) {
         self.gate.start(worker);
     }
@@ -41,6 +43,10 @@ impl<'a, G: Gate> Gate for Muster<'a, G> {
 
     fn goes_on(&self, worker: usize) -> bool {
         !self.lacks_one.load(Ordering::SeqCst) && self.gate.goes_on(worker)
+    }
+
+    fn is_late(&self) -> bool {
+        self.gate.is_late()
     }
 
     fn found(&self, instance: &Instance, plan: &Plan, delay: u64) {

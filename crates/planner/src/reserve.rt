@@ -1,7 +1,10 @@
 //! What is kept so that a search can end where memory runs out?
 
+ghost use Rattle.std.specs.Prelude.{◌≡◌, ◌*◌, ◌^◌, ◌-◌, length, min, IfOk, vec_capacity};
+ghost use Rattle.planner.specs.Held.{held_back, receivers_in};
+
 use std::alloc::Global;
-use ttp_model::{Instance, MemoryFault};
+use ttp_model::{Instance, MemoryFault, Message};
 
 /// How many bytes at least: the lists of some ten thousand open tasks, a propagation, or the tables of a subtree that is closed take
 /// a part of them. What grows with the tree is kept beside its pieces, as room in their list.
@@ -20,19 +23,23 @@ const RECEIVER_STEPS: usize = 2;
 const TIMES: usize = 4;
 
 /// How many receivers messages have in all.
-fn receivers(instance: &Instance) -> usize {
+fn receivers(messages: &[Message]) -> usize
+    ensures { result ≡ min (receivers_in messages.now) (2 ^ 64 - 1) }
+{
     let mut count: usize = 0;
-    for message in instance.messages() {
+    for message in messages {
         count = count.saturating_add(message.receivers.as_slice().len());
     }
     count
 }
 
 /// How many bytes are kept: what a propagation may take, with steps for each receiver and one for each order of two processes.
-fn bytes(instance: &Instance) -> usize {
+fn bytes(instance: &Instance) -> usize
+    ensures { result ≡ held_back instance.now }
+{
     let processes = instance.processes().len();
     let orders = processes.saturating_mul(processes);
-    let steps = receivers(instance)
+    let steps = receivers(instance.messages())
         .saturating_mul(RECEIVER_STEPS)
         .saturating_add(orders);
     steps
@@ -49,7 +56,9 @@ pub struct Reserve {
 }
 
 impl Reserve {
-    pub fn begin(alloc: Global, instance: &Instance) -> Result<Self, MemoryFault> {
+    pub fn begin(alloc: Global, instance: &Instance) -> Result<Self, MemoryFault>
+        ensures { IfOk result (λ kept. vec_capacity kept.room ≡ held_back instance.now) }
+    {
         let room = Vec::with_capacity(alloc, bytes(instance))?;
         Ok(Reserve { room })
     }

@@ -8,8 +8,10 @@ ghost use Rattle.search_workers.specs.Account.{IsWholeTree};
 ghost use Rattle.search_workers.specs.Task.{IsTask};
 ghost use Rattle.search_workers.specs.Gathering.{AreShallow, HaveGoals, IsGathered};
 ghost use Rattle.search_workers.specs.declared.outcome.SolveFault.TheVariants as fault;
-ghost use Rattle.planner.specs.Answers.{best_of, IsOutcome, Shows};
+ghost use Rattle.search_workers.specs.declared.outcome.Why.TheVariants as causes;
+ghost use Rattle.planner.specs.Answers.{best_of, IsCalledOff, IsOutcome, Shows};
 ghost use Rattle.planner.specs.Closing.{AreClosedBehind, IsClosedTree};
+ghost use Rattle.planner.specs.Crew.{workers_part};
 ghost use Rattle.planner.specs.Searched.{AreAims};
 ghost use Rattle.search_workers.specs.Searching.{aim_of, limit_of, IsFound, IsWorkedOut, IsSearching};
 
@@ -25,8 +27,8 @@ use crate::versions::answer_version;
 use certificate::{Cert, Node};
 use good_plan::good_plan;
 use search_workers::{
-    Aims, FreeGate, Gate, Manner, Options, Order, Outcome, Piece, Search, SolveFault, Task, Why,
-    aim, gather_whole, usual_manner,
+    Aims, FreeGate, Gate, Manner, Options, Outcome, Piece, Search, SolveFault, Task, Why, aim,
+    gather_whole, usual_manner,
 };
 use std::alloc::Global;
 use std::marker::{Brand, Sync};
@@ -46,7 +48,7 @@ fn first_plan<R: Threads + Sync>(
     ensures { IfOk result (IsFound instance.now) }
 {
     match manner {
-        Manner::Sparing if options.budget > 0 => good_plan(rt, alloc, instance, options.workers),
+        Manner::Sparing if options.budget > 0 => good_plan(rt, alloc, instance, options.crew()),
         _ => Ok(None),
     }
 }
@@ -92,11 +94,12 @@ fn begun_with<R: Threads + Sync>(
     Ok(better(known, good))
 }
 
-/// Tells a gate of the plan to begin with, where there is one.
-fn tell_first<G: Gate>(instance: &Instance, first: &Option<(Plan, u64)>, gate: &G)
-    requires { IsFound instance.now first.now }
+/// Tells a gate of a plan, where there is one.
+fn tell<G: Gate>(instance: &Instance, best: &Option<(Plan, u64)>, gate: &G)
+    requires { IsFound instance.now best.now }
+    ensures { IfSome best.now (λ best. G.heard gate.now instance.now best.0 best.1) }
 {
-    if let Some((plan, delay)) = first {
+    if let Some((plan, delay)) = best {
         gate.found(instance, plan, *delay);
     }
 }
@@ -168,6 +171,7 @@ fn concluded(
     requires cause { IsWorkedOut options.budget search.pieces.items why }
     ensures answer { IfOk result (IsOutcome instance.now options) }
     ensures best { IfOk result (λ outcome. best_of outcome ≡ search.best) }
+    ensures called_off { IfOk result (λ outcome. IsCalledOff outcome → why ≡ causes.CalledOff) }
     ensures err { IfErr result (λ e. e ≡ fault.Memory) }
 {
     let _nodes = instance.nodes();
@@ -186,37 +190,12 @@ fn concluded(
 /// What of a budget the workers have: in a search that isn't plain the last quarter is for the bound. Another share
 /// wasn't measured.
 fn workers_part(budget: u64, manner: Manner) -> u64
-    ensures { result ≤ budget }
+    ensures part { result ≡ workers_part manner budget }
+    ensures most { result ≤ budget }
 {
     match manner {
         Manner::Plain => budget,
         Manner::Sparing => budget - budget / 4,
-    }
-}
-
-/// Works what workers left of a tree: with what they had of the budget on as they did, and with the rest so that the bound rises.
-fn go_on<G: Gate>(
-    alloc: Global,
-    instance: &Instance,
-    aims: Aims,
-    budget: u64,
-    search: &mut Search,
-    part: u64,
-    gate: &G,
-) -> Why
-    requires searching { IsSearching instance.now aims search.old.pieces.items search.old.tasks.items search.old.best }
-    requires within { length search.old.pieces.items ≤ part }
-    requires part { part ≤ budget }
-    ensures searching { IsSearching instance.now aims search.new.pieces.items search.new.tasks.items search.new.best }
-    ensures within { length search.new.pieces.items ≤ budget }
-    ensures cause { IsWorkedOut budget search.new.pieces.items result }
-    ensures no_later { limit_of instance.now search.new.best ≤ limit_of instance.now search.old.best }
-{
-    match search.go(alloc, instance, part, Order::Newest, aims, gate) {
-        Why::Budget => search.go(alloc, instance, budget, Order::Rising, aims, gate),
-        Why::Memory => Why::Memory,
-        Why::CalledOff => Why::CalledOff,
-        Why::Gap => Why::Gap,
     }
 }
 
@@ -238,14 +217,17 @@ fn worked_out<G: Gate>(
     requires part { part ≤ options.budget }
     ensures answer { IfOk result (IsOutcome instance.now options) }
     ensures shows { IfOk result (Shows instance.now) }
+    ensures called_off { IfOk result (λ outcome. IsCalledOff outcome → G.ends gate.now) }
+    ensures told { IfOk result (λ outcome. IfSome (best_of outcome) (λ best. G.heard gate.now instance.now best.0 best.1)) }
     ensures no_later { IfOk result (λ outcome. limit_of instance.now (best_of outcome) ≤ limit_of instance.now search.best) }
     ensures err { IfErr result (λ e. e ≡ fault.Memory) }
 {
     let _nodes = instance.nodes();
     let mut search = search;
     let budget = options.budget;
-    let why = go_on(alloc, instance, aims, budget, &mut search, part, gate);
+    let why = search.go(alloc, instance, part, budget, aims, gate);
     reserve.give_back();
+    tell(instance, &search.best, gate);
     let outcome = concluded(alloc, instance, options, aims, search, why)?;
     match manner {
         Manner::Plain => Ok(outcome),
@@ -264,6 +246,8 @@ pub fn solve_in<R: Threads + Wait + Sync, G: Gate + Sync>(
 ) -> Result<Outcome, SolveFault>
     ensures answer { IfOk result (IsOutcome instance.now options) }
     ensures shows { IfOk result (Shows instance.now) }
+    ensures called_off { IfOk result (λ outcome. IsCalledOff outcome → G.ends gate.now) }
+    ensures told { IfOk result (λ outcome. IfSome (best_of outcome) (λ best. G.heard gate.now instance.now best.0 best.1)) }
 {
     solve_from(rt, alloc, instance, options, manner, None, gate)
 }
@@ -281,13 +265,15 @@ fn solve_from<R: Threads + Wait + Sync, G: Gate + Sync>(
     requires { IfSome start (IsValid instance.now) }
     ensures answer { IfOk result (IsOutcome instance.now options) }
     ensures shows { IfOk result (Shows instance.now) }
+    ensures called_off { IfOk result (λ outcome. IsCalledOff outcome → G.ends gate.now) }
+    ensures told { IfOk result (λ outcome. IfSome (best_of outcome) (λ best. G.heard gate.now instance.now best.0 best.1)) }
     ensures start { IfOk result (λ outcome. IfSome start (λ plan. limit_of instance.now (best_of outcome) ≤ delay instance.now plan)) }
 {
     let _nodes = instance.nodes();
     let aims = aims_of(alloc, instance, options.gap)?;
     let reserve = Reserve::begin(alloc, instance)?;
     let first = begun_with(rt, alloc, instance, options, manner, start)?;
-    tell_first(instance, &first, gate);
+    tell(instance, &first, gate);
     let part = workers_part(options.budget, manner);
     let theirs = Options {
         budget: part,
@@ -295,7 +281,10 @@ fn solve_from<R: Threads + Wait + Sync, G: Gate + Sync>(
     };
     let search = searched::<Brand, G, R>(rt, alloc, instance, theirs, manner, aims, first, gate)?;
     match lean_proof(alloc, instance, options, manner, aims, &search) {
-        Some(cert) => Ok(ended(instance, options, Why::Gap, search.best, cert)),
+        Some(cert) => {
+            tell(instance, &search.best, gate);
+            Ok(ended(instance, options, Why::Gap, search.best, cert))
+        }
         None => worked_out(
             alloc, instance, options, aims, search, part, reserve, manner, gate,
         ),
@@ -304,7 +293,7 @@ fn solve_from<R: Threads + Wait + Sync, G: Gate + Sync>(
 
 /// Searches for the shortest plan of an instance, as `solve` does, and calls a gate as workers go on: `start` once for each,
 /// first, and `enter` and `leave` for each task that they work. The caller's thread calls none of these. Both tell the gate of each plan that
-/// they find by `found`, and ask it by `goes_on` before they take a task. Where it says no to all, no further subtree is worked, and what is left is closed
+/// they find by `found`, and ask it by `goes_on` before they take a task. The plan that is answered is told last. Where it says no to all, no further subtree is worked, and what is left is closed
 /// as with a spent budget. Whatever it says, the answer's bounds hold.
 pub fn solve_with<R: Threads + Wait + Sync, G: Gate + Sync>(
     rt: &R,
@@ -315,6 +304,8 @@ pub fn solve_with<R: Threads + Wait + Sync, G: Gate + Sync>(
 ) -> Result<Outcome, SolveFault>
     ensures answer { IfOk result (IsOutcome instance.now options) }
     ensures shows { IfOk result (Shows instance.now) }
+    ensures called_off { IfOk result (λ outcome. IsCalledOff outcome → G.ends gate.now) }
+    ensures told { IfOk result (λ outcome. IfSome (best_of outcome) (λ best. G.heard gate.now instance.now best.0 best.1)) }
 {
     let manner = usual_manner(alloc, instance)?;
     solve_in(rt, alloc, instance, options, manner, gate)
@@ -333,6 +324,8 @@ pub fn solve_towards<R: Threads + Wait + Sync, G: Gate + Sync>(
     requires { IfSome start (IsValid instance.now) }
     ensures answer { IfOk result (IsOutcome instance.now options) }
     ensures shows { IfOk result (Shows instance.now) }
+    ensures called_off { IfOk result (λ outcome. IsCalledOff outcome → G.ends gate.now) }
+    ensures told { IfOk result (λ outcome. IfSome (best_of outcome) (λ best. G.heard gate.now instance.now best.0 best.1)) }
     ensures start { IfOk result (λ outcome. IfSome start (λ plan. limit_of instance.now (best_of outcome) ≤ delay instance.now plan)) }
 {
     let manner = usual_manner(alloc, instance)?;
@@ -354,6 +347,7 @@ pub fn solve<R: Threads + Wait + Sync>(
 ) -> Result<Outcome, SolveFault>
     ensures answer { IfOk result (IsOutcome instance.now options) }
     ensures shows { IfOk result (Shows instance.now) }
+    ensures called_off { IfOk result (λ outcome. ¬ IsCalledOff outcome) }
 {
     solve_with(rt, alloc, instance, options, &FreeGate)
 }

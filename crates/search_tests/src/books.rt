@@ -4,6 +4,7 @@ use branch_tree::Name;
 use planner::Gate;
 use std::alloc::{AllocError, Global};
 use std::sync::atomic::{AtomicU64, Ordering};
+use ttp_model::{Instance, Plan};
 
 /// A number by which the names of small trees are told apart; 0 of no name.
 fn mark_of(name: &Name) -> u64 {
@@ -123,4 +124,6 @@ impl Gate for Books {
             None => false,
         });
     }
+
+    fn found(&self, _instance: &Instance, _plan: &Plan, _delay: u64) {}
 }

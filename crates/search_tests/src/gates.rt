@@ -5,6 +5,7 @@ use crossbeam_utils::Backoff;
 use planner::Gate;
 use std::alloc::{AllocError, Global};
 use std::sync::atomic::{AtomicU64, Ordering};
+use ttp_model::{Instance, Plan};
 
 /// How many turns a wait has at most.
 const TURNS: u32 = 20_000_000;
@@ -86,6 +87,8 @@ impl Gate for LeftBelow {
             _ => {}
         }
     }
+
+    fn found(&self, _instance: &Instance, _plan: &Plan, _delay: u64) {}
 }
 
 /// Has two workers search one after the other: the first one the subtree of the root's second child, and then the second
@@ -144,6 +147,8 @@ impl Gate for InTurn {
             _ => {}
         }
     }
+
+    fn found(&self, _instance: &Instance, _plan: &Plan, _delay: u64) {}
 }
 
 /// Has two workers meet: the second one begins once the root was left, and who enters a child of the root first waits
@@ -202,6 +207,8 @@ impl Gate for Meeting {
             own.add();
         }
     }
+
+    fn found(&self, _instance: &Instance, _plan: &Plan, _delay: u64) {}
 }
 
 /// The names that a worker left, and those of them that stand below the root.
@@ -279,4 +286,6 @@ impl Gate for Assembly {
                 .hold_until(self.left.len() as u64, &self.limits_met);
         }
     }
+
+    fn found(&self, _instance: &Instance, _plan: &Plan, _delay: u64) {}
 }

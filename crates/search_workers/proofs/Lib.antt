@@ -1,4 +1,5 @@
 pub mod Children
+pub mod Cut
 pub mod Goals
 pub mod Watches
 pub mod Turns

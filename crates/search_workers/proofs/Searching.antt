@@ -6,6 +6,7 @@ use Rattle.std.proofs.lemmas.List.{append-nil, map-append}
 use Rattle.std.proofs.lemmas.List.Elements.{All-head, All-tail, All-cons, All-nil, All-append, All-push, All-weaker, Contains-append_right}
 use Rattle.std.proofs.lemmas.List.Sorted.{IsPermutation-sym, IsPermutation-trans, IsPermutation-append_left, IsPermutation-append_right, IsPermutation-append_comm, All-permutation}
 use Rattle.ttp_model.specs.declared.plan.Plan.{Plan}
+use Rattle.ttp_model.specs.declared.step.Leaf.{Leaf}
 use Rattle.ttp_model.specs.Instance.{Instance}
 use Rattle.ttp_model.specs.Rules.{IsInstance}
 use Rattle.ttp_model.proofs.PlanNumbers.{delay_small}
@@ -15,6 +16,7 @@ use Rattle.search_workers.specs.piece.Piece.{Piece}
 use Rattle.search_workers.specs.Task.{Task, IsTask, root_task}
 use Rattle.search_workers.specs.Best.{IsPlanFound}
 use Rattle.search_workers.specs.declared.aims.Aims.{Aims}
+use Rattle.search_workers.specs.Goals.{goals_at}
 use Rattle.search_workers.specs.Tasks.{Turn, IsTurn, tasks_of, born, all_born}
 use Rattle.search_workers.specs.Searching.{aim_of, limit_of, IsFound, IsSearching}
 use Rattle.search_workers.proofs.Goals.{goal_below, goal_rises}
@@ -46,6 +48,14 @@ moves_over a f k t =
     first_is _ _ _ first (then_is _ _ _ swapped (sym (append_assoc a (f ++ t ∷ []) k)))
 
 -- ---- a task is worked
+
+-- a branch has no goal
+pub branch_goal : (low : ℕ) (n : Node) → goals_at n ≡ [] → HasGoal low n
+branch_goal low (node.Branch branch) none = tt
+branch_goal low (node.Leaf leaf) none = absurd cc
+
+pub leaf_goal : (low : ℕ) (n : Node) (leaf : Leaf) → n ≡ node.Leaf leaf → low ≤ leaf.goal → HasGoal low n
+leaf_goal low n leaf is le = subst (HasGoal low) (sym is) le
 
 pub weaker_goal : (limit lower : ℕ) → lower ≤ limit → (n : Node) → HasGoal limit n → HasGoal lower n
 weaker_goal limit lower le (node.Branch branch) h = tt

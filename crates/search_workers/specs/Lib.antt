@@ -2,9 +2,11 @@ pub mod Tasks
 pub mod Goals
 pub mod Best
 pub mod Report
+pub mod Gains
 pub mod Run
 pub mod Searching
 pub mod Ends
+pub mod Workers
 pub use Rattle.branch_tree.specs.Account
 pub use Rattle.branch_tree.specs.Name
 pub use Rattle.branch_tree.specs.Pieces
@@ -14,3 +16,4 @@ pub use Rattle.branch_tree.specs.Workbench
 pub use Rattle.branch_tree.specs.piece
 pub use Rattle.search_trees.specs.Gathering
 pub use Rattle.search_trees.specs.Trees
+pub use Rattle.used_decisions.specs.declared.manner

@@ -1,5 +1,5 @@
 -- A run of a worker between two turns, and what a turn changes. Only private contracts ask for it.
-use Rattle.std.specs.Prelude.{◌≡◌, ◌≢◌, ℕ, ◌≤◌, ◌⊎◌, List, [], ◌∷◌, ◌++◌, All, Some, IsPermutation}
+use Rattle.std.specs.Prelude.{◌≡◌, ◌≢◌, ℕ, ◌+◌, ◌-◌, ◌*◌, ◌^◌, min, ◌≤◌, ◌⊎◌, List, [], ◌∷◌, ◌++◌, All, Some, IsPermutation}
 use Rattle.ttp_model.specs.declared.plan.Plan.{Plan}
 use Rattle.ttp_model.specs.Instance.{Instance}
 use Rattle.branch_tree.specs.Task.{Task, IsTask}
@@ -17,6 +17,10 @@ use Rattle.search_workers.specs.Tasks.{Turn, IsTurn, born}
 use Rattle.search_workers.specs.Goals.{goals_at, goals_of, AreGoals, Follows, IsBelowGoals, IsReached}
 use Rattle.search_workers.specs.Best.{IsPlanFound, OffersBest}
 use Rattle.search_workers.specs.Report.{HasAccount, held, unpushed}
+
+-- for how many pieces a worker keeps room that made and left so many: for as many of each worker and 4096 more, as far as a list can be long
+abbrev pub room_kept : ℕ → ℕ → ℕ
+room_kept ends workers = min (ends * workers + 4096) (2 ^ 64 - 1)
 
 -- a run with these aims that began with this hand and this watch, and has this in hand
 pub record IsRun {J : Type 0} (i : Instance) (aims : Aims) (hand : Hand J) (watch : Watch) (run : Run J) (rest : Rest) : Type 0 where

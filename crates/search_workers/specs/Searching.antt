@@ -48,3 +48,10 @@ IsWorkedOut budget worked Budget = length worked ≡ budget
 IsWorkedOut budget worked Memory = length worked < budget
 IsWorkedOut budget worked CalledOff = length worked < budget
 IsWorkedOut budget worked Gap = ⊥
+
+-- why turns ended before so many were worked: memory was refused, or they were called off
+abbrev pub IsCutShort : ℕ → List Piece → Why → Type 0
+IsCutShort most worked Memory = length worked < most
+IsCutShort most worked CalledOff = length worked < most
+IsCutShort most worked Budget = ⊥
+IsCutShort most worked Gap = ⊥

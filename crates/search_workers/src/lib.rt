@@ -10,6 +10,7 @@ mod report;
 mod rising;
 mod run;
 mod search;
+mod turn;
 mod worker;
 
 pub use aims::{Aims, goal_of};
@@ -20,9 +21,8 @@ pub use branch_tree::{
 pub use ends::{answer, cause};
 pub use gate::{FreeGate, Gate};
 pub use laws::spared_tasks_have_no_plan;
-pub use outcome::{Options, Outcome, SolveFault, Why};
+pub use outcome::{MOST_WORKERS, Options, Outcome, SolveFault, Why};
 pub use report::{Ending, Report, Rest};
-pub use rising::Order;
 pub use search::{Search, aim, limit};
 pub use search_trees::{
     GatherFault, gather, gather_whole, gathered_certificates_have_texts, leaves_close_a_tree,

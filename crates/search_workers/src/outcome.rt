@@ -1,21 +1,34 @@
 //! What is asked of a search, and what does it answer?
 
 ghost use Rattle.std.specs.Prelude.{◌≡◌};
+ghost use Rattle.search_workers.specs.Workers.{workers_of};
 ghost use Rattle.search_workers.specs.declared.outcome.SolveFault.TheVariants as fault;
 
 use certificate::Cert;
 use thiserror::Error;
 use ttp_model::{MemoryFault, Plan};
 
+/// How many workers search at most.
+pub const MOST_WORKERS: u32 = 16;
+
 /// How a search is to be done.
 #[derive(Clone, Copy)]
 pub struct Options {
-    /// How many workers search, each in a thread of its own, from 1 to 16; 0 is read as 1.
+    /// How many workers search, each in a thread of its own: from 1 to 16, and else the nearer of these.
     pub workers: u32,
     /// How many subtrees are worked at most.
     pub budget: u64,
     /// A subtree is left as soon as no plan in it is better than the best one by more ticks. With 0 all are sought.
     pub gap: u32,
+}
+
+impl Options {
+    /// How many workers search.
+    pub fn crew(self) -> u32
+        ensures { result ≡ workers_of self.workers }
+    {
+        self.workers.clamp(1, MOST_WORKERS)
+    }
 }
 
 /// Why a search stopped before it knew the least delay.

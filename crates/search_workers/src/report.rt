@@ -27,6 +27,8 @@ pub enum Ending {
     Idle,
     /// The gate said that it doesn't go on.
     CalledOff,
+    /// The gate said that it is late.
+    Late,
 }
 
 /// What a worker gives back.

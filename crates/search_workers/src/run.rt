@@ -1,7 +1,8 @@
 //! What does a worker do in one turn?
 
 ghost use Rattle.std.specs.Prelude.{◌≡◌, ◌≢◌, false, ◌<◌, ◌≤◌, ◌+◌, ◌++◌, ℕ, List, All, IsTrue, IfOk, OnOk, OnErr, IfErr, IsPermutation, length, vec_len, vec_capacity};
-ghost use Rattle.branch_tree.specs.Task.{IsTask};
+ghost use Rattle.branch_tree.specs.Pieces.{IsRight, IsSharp};
+ghost use Rattle.branch_tree.specs.Task.{Task, choice_of, IsTask};
 ghost use Rattle.branch_tree.specs.Workbench.{IsWorkbenchOf};
 ghost use Rattle.incumbent.specs.Watch.{IsOther};
 ghost use Rattle.steal_pool.specs.Hand.{pushed, taken, IsSameHand};
@@ -13,13 +14,14 @@ ghost use Rattle.tt_choice.specs.declared.decision.Decision.{Decision};
 ghost use Rattle.ttp_model.specs.Instance.{Instance};
 ghost use Rattle.search_workers.specs.Goals.{goals_at};
 ghost use Rattle.search_workers.specs.Report.{IsReachedBy, IsSpared, AreSpared};
-ghost use Rattle.search_workers.specs.Run.{GoesOn, Pushes, Refuses, Spares, Works, rest_after};
+ghost use Rattle.search_workers.specs.Run.{GoesOn, Pushes, Refuses, Spares, Works, rest_after, room_kept};
 
 use crate::aims::{Aims, goal_of};
 use crate::gate::Gate;
 use crate::report::Rest;
-use branch_tree::{Piece, Task, Workbench, Worked, work_on};
-use certificate::{Branch, Node};
+use crate::turn::{Gain, work_task};
+use branch_tree::{Piece, Task, Workbench};
+use certificate::Node;
 use incumbent::{Incumbent, Watch};
 use std::alloc::Global;
 use steal_pool::{Hand, Searched};
@@ -89,7 +91,8 @@ fn push_all<J: Searched>(hand: &mut Hand<J>, kind: Kind, tasks: Vec<Task>) -> Ve
 
 /// Asks for room for so many in a list: where there is less, for an eighth more.
 fn widen<T: Drop>(list: &mut Vec<T>, all: usize) -> Result<(), MemoryFault>
-    ensures { list.new.items ≡ list.old.items }
+    ensures items { list.new.items ≡ list.old.items }
+    ensures room { OnOk result (all ≤ vec_capacity list.new) }
 {
     if list.capacity() < all {
         let more = all.saturating_add(all / 8);
@@ -109,6 +112,8 @@ fn make_room(
 ) -> Result<(), MemoryFault>
     ensures same { pieces.new.items ≡ pieces.old.items }
     ensures one { OnOk result (vec_len pieces.new < vec_capacity pieces.new) }
+    ensures pieces { OnOk result (room_kept (vec_len pieces.old + left) workers ≤ vec_capacity pieces.new) }
+    ensures nodes { OnOk result (room_kept (vec_len pieces.old + left) workers ≤ vec_capacity room.new) }
 {
     let ends = pieces.len().saturating_add(left);
     let all = ends.saturating_mul(workers).saturating_add(AHEAD);
@@ -171,6 +176,18 @@ fn begin<'a>(alloc: Global, instance: &'a Instance, needs: &mut Needs<'a>, task:
     }
 }
 
+/// Tells what is known of needs what the task that is worked became.
+fn note(alloc: Global, needs: &mut Needs<'_>, node: &Node)
+    requires { (i : Instance) × (task : Task) × IsTask i task × AreAt i task.decisions needs.old × IsSharp i (choice_of i task) node.now
+        × IsRight i (choice_of i task) node.now }
+    ensures { (i : Instance) (low : ℕ) → All (λ goal. low ≤ goal) (goals_at node.now) → HoldUpTo i low needs.old → HoldUpTo i low needs.new }
+{
+    match node {
+        Node::Branch(branch) => needs.split(alloc, branch.kind, branch.children),
+        Node::Leaf(leaf) => needs.close(alloc, leaf),
+    }
+}
+
 impl<J: Searched> Run<J> {
     /// Works a task at the goal of the best delay so far, on from the last one, and pushes its children, or offers the delay of the plan
     /// that was found and tells the gate of it: what became of the task, and the children that couldn't be pushed. All memory is asked for before the
@@ -200,39 +217,27 @@ impl<J: Searched> Run<J> {
         ensures back { IfErr result (λ back. (back ≡ task) × Refuses self.old self.new) }
         ensures bench { IsWorkbenchOf instance.now bench.new }
     {
-        let _nodes = instance.nodes();
         let seen = word.look(&mut self.watch);
         let goal = goal_of(instance, aims, seen);
         let left = self.spared.len();
         if make_room(&mut self.pieces, &mut self.room, left, self.workers).is_err() {
             return Err(task);
         }
-        let Ok(name) = task.name().copy(alloc) else {
-            return Err(task);
-        };
         begin(alloc, instance, needs, &task);
-        match work_on(alloc, instance, bench, task, goal) {
-            Ok(Worked::Split(kind, tasks)) => {
-                let count = tasks.len() as u32;
-                let node = Node::Branch(Branch::new(kind, count));
-                needs.split(alloc, kind, count);
+        let (piece, gain) = work_task(alloc, instance, bench, task, goal)?;
+        note(alloc, needs, &piece.node);
+        match gain {
+            Gain::Children(kind, tasks) => {
                 let left = push_all(&mut self.hand, kind, tasks);
-                Ok((Piece { name, node }, left))
+                Ok((piece, left))
             }
-            Ok(Worked::Closed(leaf)) => {
-                needs.close(alloc, &leaf);
-                let node = Node::Leaf(leaf);
-                Ok((Piece { name, node }, Vec::new(alloc)))
-            }
-            Ok(Worked::Found(plan, delay, leaf)) => {
+            Gain::Nothing => Ok((piece, Vec::new(alloc))),
+            Gain::Found(plan, delay) => {
                 word.offer(&mut self.watch, delay as u32);
                 gate.found(instance, &plan, delay);
                 self.best = Some((plan, delay));
-                needs.close(alloc, &leaf);
-                let node = Node::Leaf(leaf);
-                Ok((Piece { name, node }, Vec::new(alloc)))
+                Ok((piece, Vec::new(alloc)))
             }
-            Err((task, _)) => Err(task),
         }
     }
 

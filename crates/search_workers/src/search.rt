@@ -1,16 +1,20 @@
 //! The caller's part of a search: it works what is left of the tree.
 
-ghost use Rattle.std.specs.Prelude.{◌≡◌, ◌≤◌, ◌<◌, ◌+◌, ◌++◌, All, OnOk, cond, length, vec_len, vec_capacity};
+ghost use Rattle.std.specs.Prelude.{◌≡◌, ◌≤◌, ◌<◌, ◌+◌, ◌++◌, [], ◌∷◌, All, IfSome, None, OnOk, Some, cond, length, vec_len, vec_capacity};
 ghost use Rattle.ttp_model.specs.declared.limits.TheConstants.{MOST_NODES};
-ghost use Rattle.search_workers.specs.Task.{IsTask};
+ghost use Rattle.search_workers.specs.Gains.{IsGain};
+ghost use Rattle.search_workers.specs.Task.{Task, IsTask};
 ghost use Rattle.search_workers.specs.Workbench.{IsWorkbenchOf};
 ghost use Rattle.search_workers.specs.declared.aims.Aims.{Aims};
-ghost use Rattle.search_workers.specs.Searching.{aim_of, limit_of, IsFound, IsWorkedOut, IsSearching};
+ghost use Rattle.search_workers.specs.Searching.{aim_of, limit_of, IsCutShort, IsFound, IsWorkedOut, IsSearching};
+ghost use Rattle.search_workers.specs.declared.outcome.Why.TheVariants as why;
+ghost use Rattle.search_workers.specs.declared.rising.Order.TheVariants as orders;
 
 use crate::outcome::Why;
 use crate::rising::{Order, Rising};
-use crate::{Aims, Gate, Piece, Task, Workbench, Worked, goal_of, work_on};
-use certificate::{Branch, Node};
+use crate::turn::{Gain, work_task};
+use crate::{Aims, Gate, Piece, Task, Workbench, goal_of};
+use certificate::Node;
 use std::alloc::Global;
 use ttp_model::{Instance, MOST_NODES, MemoryFault, Plan};
 
@@ -64,7 +68,8 @@ impl Search {
         ensures pieces { self.new.pieces.items ≡ self.old.pieces.items }
         ensures tasks { self.new.tasks.items ≡ self.old.tasks.items }
         ensures best { self.new.best ≡ self.old.best }
-        ensures one { OnOk result (vec_len self.new.pieces < vec_capacity self.new.pieces) }
+        ensures ends { OnOk result (vec_len self.new.pieces + vec_len self.new.tasks + MOST_NODES + 1 ≤ vec_capacity self.new.pieces) }
+        ensures nodes { OnOk result (vec_len self.new.pieces + vec_len self.new.tasks + MOST_NODES + 1 ≤ vec_capacity self.new.room) }
         ensures split { OnOk result (vec_len self.new.tasks + MOST_NODES ≤ vec_capacity self.new.tasks) }
     {
         let made = self.pieces.len();
@@ -73,6 +78,28 @@ impl Search {
         self.room.reserve(made + more)?;
         self.tasks.reserve(MOST_NODES)?;
         Ok(())
+    }
+
+    /// Adds what a task became that was worked at the search's goal, in the room that there is, and what is gained by that. A gate is told of a plan.
+    fn add<G: Gate>(&mut self, instance: &Instance, piece: Piece, gain: Gain, gate: &G)
+        requires one { vec_len self.old.pieces < vec_capacity self.old.pieces }
+        requires split { vec_len self.old.tasks + MOST_NODES ≤ vec_capacity self.old.tasks }
+        requires worked { (aims : Aims) × (task : Task) × IsGain instance.now (aim_of instance.now aims self.old.best) (record { task = task; piece = piece }) gain }
+        ensures searching { (aims : Aims) (task : Task) → IsGain instance.now (aim_of instance.now aims self.old.best) (record { task = task; piece = piece }) gain
+            → IsSearching instance.now aims self.old.pieces.items (self.old.tasks.items ++ task ∷ []) self.old.best
+            → IsSearching instance.now aims self.new.pieces.items self.new.tasks.items self.new.best }
+        ensures one { length self.new.pieces.items ≡ length self.old.pieces.items + 1 }
+        ensures no_later { limit_of instance.now self.new.best ≤ limit_of instance.now self.old.best }
+    {
+        self.pieces.push_reserved(piece);
+        match gain {
+            Gain::Children(_, tasks) => open_all(&mut self.tasks, tasks),
+            Gain::Nothing => {}
+            Gain::Found(plan, delay) => {
+                gate.found(instance, &plan, delay);
+                self.best = Some((plan, delay));
+            }
+        }
     }
 
     /// Works the newest task, where there is one, on from the last one: whether it was worked. Where memory is refused, it is
@@ -92,7 +119,6 @@ impl Search {
         ensures no_later { limit_of instance.now self.new.best ≤ limit_of instance.now self.old.best }
         ensures bench { IsWorkbenchOf instance.now bench.new }
     {
-        let _nodes = instance.nodes();
         if self.make_room().is_err() {
             return false;
         }
@@ -100,30 +126,12 @@ impl Search {
             return false;
         };
         let goal = aim(instance, aims, &self.best);
-        let Ok(name) = task.name().copy(alloc) else {
-            self.tasks.push_reserved(task);
-            return false;
-        };
-        match work_on(alloc, instance, bench, task, goal) {
-            Ok(Worked::Split(kind, tasks)) => {
-                let node = Node::Branch(Branch::new(kind, tasks.len() as u32));
-                open_all(&mut self.tasks, tasks);
-                self.pieces.push_reserved(Piece { name, node });
+        match work_task(alloc, instance, bench, task, goal) {
+            Ok((piece, gain)) => {
+                self.add(instance, piece, gain, gate);
                 true
             }
-            Ok(Worked::Closed(leaf)) => {
-                let node = Node::Leaf(leaf);
-                self.pieces.push_reserved(Piece { name, node });
-                true
-            }
-            Ok(Worked::Found(plan, delay, leaf)) => {
-                let node = Node::Leaf(leaf);
-                gate.found(instance, &plan, delay);
-                self.best = Some((plan, delay));
-                self.pieces.push_reserved(Piece { name, node });
-                true
-            }
-            Err((task, _)) => {
+            Err(task) => {
                 self.tasks.push_reserved(task);
                 false
             }
@@ -147,8 +155,8 @@ impl Search {
         }
     }
 
-    /// Works so many tasks, each time the one that is to be next, unless memory is refused or the gate says that it doesn't go on before. Why it
-    /// ended, where tasks are left.
+    /// Works so many tasks, each time the one that is to be next in this order. Why it ended before, where memory was refused, or the gate said that it
+    /// doesn't go on; where it is late the newest aren't worked any more.
     fn take_turns<'a, G: Gate>(
         &mut self,
         alloc: Global,
@@ -156,32 +164,37 @@ impl Search {
         bench: &mut Workbench<'a>,
         rising: &mut Rising<'a>,
         turns: u64,
+        order: Order,
         aims: Aims,
         gate: &G,
-    ) -> Why
+    ) -> Option<Why>
         requires searching { IsSearching instance.now aims self.old.pieces.items self.old.tasks.items self.old.best }
         requires bench { IsWorkbenchOf instance.now bench.old }
         requires rising { IsWorkbenchOf instance.now rising.old.bench }
         ensures searching { IsSearching instance.now aims self.new.pieces.items self.new.tasks.items self.new.best }
         ensures within { length self.new.pieces.items ≤ length self.old.pieces.items + turns }
-        ensures cause { IsWorkedOut (length self.old.pieces.items + turns) self.new.pieces.items result }
+        ensures cut { IfSome result (IsCutShort (length self.old.pieces.items + turns) self.new.pieces.items) }
+        ensures all { result ≡ None → order ≡ orders.Rising → length self.new.pieces.items ≡ length self.old.pieces.items + turns }
+        ensures called_off { result ≡ Some why.CalledOff → G.ends gate.now }
         ensures no_later { limit_of instance.now self.new.best ≤ limit_of instance.now self.old.best }
     {
         for _turn in 0..turns {
             if !gate.goes_on(0) {
-                return Why::CalledOff;
+                return Some(Why::CalledOff);
+            }
+            if order == Order::Newest && gate.is_late() {
+                return None;
             }
             self.bring(alloc, instance, rising);
             if !self.turn(alloc, instance, bench, aims, gate) {
-                return Why::Memory;
+                return Some(Why::Memory);
             }
         }
-        Why::Budget
+        None
     }
 
-    /// Works tasks in this order until `budget` pieces are made, memory is refused, or the gate says that it doesn't go on. Why it ended, where
-    /// tasks are left.
-    pub fn go<G: Gate>(
+    /// Works tasks in this order until `budget` pieces are made, or it is late for it. Why it ended before.
+    fn work<G: Gate>(
         &mut self,
         alloc: Global,
         instance: &Instance,
@@ -189,18 +202,58 @@ impl Search {
         order: Order,
         aims: Aims,
         gate: &G,
-    ) -> Why
+    ) -> Option<Why>
         requires searching { IsSearching instance.now aims self.old.pieces.items self.old.tasks.items self.old.best }
         requires within { length self.old.pieces.items ≤ budget }
         ensures searching { IsSearching instance.now aims self.new.pieces.items self.new.tasks.items self.new.best }
         ensures within { length self.new.pieces.items ≤ budget }
-        ensures cause { IsWorkedOut budget self.new.pieces.items result }
+        ensures cut { IfSome result (IsCutShort budget self.new.pieces.items) }
+        ensures all { result ≡ None → order ≡ orders.Rising → length self.new.pieces.items ≡ budget }
+        ensures called_off { result ≡ Some why.CalledOff → G.ends gate.now }
         ensures no_later { limit_of instance.now self.new.best ≤ limit_of instance.now self.old.best }
     {
         let mut bench = Workbench::new();
         let turns = budget - self.pieces.len() as u64;
         let most = aim(instance, aims, &self.best);
         let mut rising = Rising::new(alloc, instance, order, most, turns);
-        self.take_turns(alloc, instance, &mut bench, &mut rising, turns, aims, gate)
+        self.take_turns(
+            alloc,
+            instance,
+            &mut bench,
+            &mut rising,
+            turns,
+            order,
+            aims,
+            gate,
+        )
+    }
+
+    /// Works tasks, the newest first until `part` pieces are made or the gate says that it is late, and then so that the bound rises. It ends where
+    /// `budget` pieces are made, memory is refused, or the gate says that it doesn't go on. Why it ended, where tasks are left.
+    pub fn go<G: Gate>(
+        &mut self,
+        alloc: Global,
+        instance: &Instance,
+        part: u64,
+        budget: u64,
+        aims: Aims,
+        gate: &G,
+    ) -> Why
+        requires searching { IsSearching instance.now aims self.old.pieces.items self.old.tasks.items self.old.best }
+        requires within { length self.old.pieces.items ≤ part }
+        requires part { part ≤ budget }
+        ensures searching { IsSearching instance.now aims self.new.pieces.items self.new.tasks.items self.new.best }
+        ensures within { length self.new.pieces.items ≤ budget }
+        ensures cause { IsWorkedOut budget self.new.pieces.items result }
+        ensures called_off { result ≡ why.CalledOff → G.ends gate.now }
+        ensures no_later { limit_of instance.now self.new.best ≤ limit_of instance.now self.old.best }
+    {
+        if let Some(why) = self.work(alloc, instance, part, Order::Newest, aims, gate) {
+            return why;
+        }
+        match self.work(alloc, instance, budget, Order::Rising, aims, gate) {
+            Some(why) => why,
+            None => Why::Budget,
+        }
     }
 }

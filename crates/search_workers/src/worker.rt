@@ -91,12 +91,16 @@ impl<J: Searched> Run<J> {
         ensures plain { manner ≡ Plain → self.new.spared.items ≡ self.old.spared.items }
         ensures within { vec_len self.new.pieces ≤ budget }
         ensures ending { result.1 ≡ ending.Budget → vec_len self.new.pieces ≡ budget }
+        ensures called_off { result.1 ≡ ending.CalledOff → G.ends gate.now }
     {
         let (mut idle, mut spared) = (0, 0);
         let backoff = Backoff::new();
         while (self.pieces.len() as u64) < budget && idle < SWEEPS && spared < MOST_SPARED {
             if !gate.goes_on(self.hand.number()) {
                 return (Rest::Nothing, Ending::CalledOff);
+            }
+            if gate.is_late() {
+                return (Rest::Nothing, Ending::Late);
             }
             match self.turn(alloc, instance, bench, needs, word, manner, aims, gate) {
                 Sweep::Idle => {
@@ -150,6 +154,7 @@ pub fn run_worker_in<J: Searched, G: Gate>(
     ensures worked { result.worked ≡ vec_len result.pieces }
     ensures within { result.worked ≤ budget }
     ensures ending { result.ending ≡ ending.Budget → result.worked ≡ budget }
+    ensures called_off { result.ending ≡ ending.CalledOff → G.ends gate.now }
 {
     gate.start(hand.number());
     let mut run = Run {
@@ -171,7 +176,7 @@ pub fn run_worker_in<J: Searched, G: Gate>(
 }
 
 /// Takes tasks of a pool and works them, each at the best delay that is known by then, until `budget` of them are worked,
-/// memory is refused, none was found for long, a million were left one after another, or the gate says that it doesn't go on. A task that stands below a branch which another
+/// memory is refused, none was found for long, a million were left one after another, or the gate says that it doesn't go on or is late. A task that stands below a branch which another
 /// child was seen to prove is left, unless the root leaves at most 32 to choose: then each is worked.
 /// It never waits for another worker. Where memory is refused, the lists that
 /// it reports have room for what so many workers come to that make no more than it did.
@@ -197,6 +202,7 @@ pub fn run_worker<J: Searched, G: Gate>(
     ensures worked { result.worked ≡ vec_len result.pieces }
     ensures within { result.worked ≤ budget }
     ensures ending { result.ending ≡ ending.Budget → result.worked ≡ budget }
+    ensures called_off { result.ending ≡ ending.CalledOff → G.ends gate.now }
 {
     let manner = usual_manner(alloc, instance).unwrap_or(Manner::Plain);
     let aims = Aims::all();

@@ -6,7 +6,7 @@ use Rattle.search_workers.specs.Ends.{IsAnswerOf}
 use Rattle.planner.specs.Searched.{IsLowest}
 use Rattle.planner.proofs.Ended.{end_answers}
 use Rattle.planner.proofs.Lowest.{below_limit}
-use Rattle.planner.proofs.Starts.{answer_best}
+use Rattle.planner.proofs.Starts.{answer_best, called_off_only}
 use Rattle.planner.proofs.end_tree.ended.Goals as goal
 
 pub returns-clause-answer : goal.returns-clause-answer
@@ -29,4 +29,13 @@ returns-clause-best c =
     let lowest : IsLowest (limit_of i c.args.best) (preorder c.args.cert.tree) low = rw (← c.limit-limit.ensures, ← c.nodes.ensures.nodes) c.lowest-low.ensures in
     let least = below_limit (limit_of i c.args.best) (preorder c.args.cert.tree) low lowest in
     answer_best i c.cause-cause.result c.args.best low c.with_low.result c.answer.result
+    (c.answer.ensures i c.limit-limit.ensures (subst (λ n. low ≤ n) (sym c.limit-limit.ensures) least))
+
+pub returns-clause-called_off : goal.returns-clause-called_off
+returns-clause-called_off c =
+    let i = c.args.instance.now in
+    let low = c.lowest-low.result in
+    let lowest : IsLowest (limit_of i c.args.best) (preorder c.args.cert.tree) low = rw (← c.limit-limit.ensures, ← c.nodes.ensures.nodes) c.lowest-low.ensures in
+    let least = below_limit (limit_of i c.args.best) (preorder c.args.cert.tree) low lowest in
+    called_off_only i c.args.why c.cause-cause.result c.args.options.gap low c.args.best c.with_low.result c.answer.result c.cause-cause.ensures
     (c.answer.ensures i c.limit-limit.ensures (subst (λ n. low ≤ n) (sym c.limit-limit.ensures) least))

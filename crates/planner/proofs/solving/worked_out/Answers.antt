@@ -1,4 +1,5 @@
 use Rattle.planner.proofs.Shown.{answer_shows}
+use Rattle.planner.proofs.Starts.{same_best, same_call}
 use Rattle.planner.proofs.solving.worked_out.Goals as goal
 
 pub returns-in-Plain-clause-shows : goal.returns-in-Plain-clause-shows
@@ -14,3 +15,16 @@ returns-in-Sparing-clause-shows g c =
 
 pub leaner-requires : goal.leaner-requires
 leaner-requires g c = (c.args.options, c.in_ok-outcome.ensures.answer)
+
+pub returns-in-Sparing-clause-called_off : goal.returns-in-Sparing-clause-called_off
+returns-in-Sparing-clause-called_off g c = λ off.
+    c.go-why.ensures.called_off
+    (c.in_ok-outcome.ensures.called_off (same_call c.leaner.ensures.same.0 c.in_ok-outcome.outcome c.leaner.result c.leaner.ensures.same.1 off))
+
+pub returns-in-Plain-clause-told : goal.returns-in-Plain-clause-told
+returns-in-Plain-clause-told g c = rw c.in_ok-outcome.ensures.best c.tell.ensures
+
+pub returns-in-Sparing-clause-told : goal.returns-in-Sparing-clause-told
+returns-in-Sparing-clause-told g c =
+    let same = same_best c.leaner.ensures.same.0 c.in_ok-outcome.outcome c.leaner.result c.leaner.ensures.same.1 in
+    rw same (rw c.in_ok-outcome.ensures.best c.tell.ensures)

@@ -2,7 +2,7 @@ use Rattle.std.proofs.Common.{ℕ, ◌+◌, ◌≤◌, List, [], length}
 use Rattle.std.specs.Prelude.{All}
 use Rattle.ttp_model.specs.Rules.{IsInstance}
 use Rattle.incumbent.specs.Watch.{IsOpening}
-use Rattle.search_workers.specs.aims.Aims.{Aims}
+use Rattle.search_workers.specs.declared.aims.Aims.{Aims}
 use Rattle.planner.specs.declared.crew.Job.{Job}
 use Rattle.search_workers.specs.Searching.{IsFound}
 use Rattle.planner.specs.Crew.{AreReportsOf, Gathers, IsJob, IsNoLater, budget_of, hands_of}

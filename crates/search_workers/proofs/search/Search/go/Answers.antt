@@ -1,8 +1,11 @@
-use Rattle.std.proofs.Common.{ℕ, ◌≡◌, ◌+◌, ◌-◌, arith, length, subst}
-use Rattle.search_workers.specs.Searching.{IsWorkedOut}
+use Rattle.std.proofs.Common.{arith}
+use Rattle.search_workers.proofs.Cut.{cut_out}
 use Rattle.search_workers.proofs.search.Search.go.Goals as goal
 
-pub returns-clause-cause : goal.returns-clause-cause
-returns-clause-cause g c =
-    let all : length c.args.self.now.pieces.items + (c.args.budget - c.len.result) ≡ c.args.budget = omega (arith, c.len.ensures, c.requires.within) in
-    subst (λ (n : ℕ). IsWorkedOut n c.take_turns.new.self.pieces.items c.take_turns.result) all c.take_turns.ensures.cause
+pub returns-in-Some-clause-cause : goal.returns-in-Some-clause-cause
+returns-in-Some-clause-cause g c =
+    cut_out c.args.part c.args.budget c.work.new.self.pieces.items c.in-Some.why c.requires.part c.in-Some.ensures.cut
+
+pub returns-in-Some-work-clause-cause : goal.returns-in-Some-work-clause-cause
+returns-in-Some-work-clause-cause g c =
+    cut_out c.args.budget c.args.budget c.work-2.new.self.pieces.items c.in-Some-work.why (omega arith) c.in-Some-work.ensures.cut
