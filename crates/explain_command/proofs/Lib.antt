@@ -1,2 +1,1 @@
-mod Stated
 mod Told

@@ -12,7 +12,7 @@ use Rattle.command_streams.specs.declared.ending.End.TheVariants.{Refused}
 use Rattle.command_streams.specs.declared.ending.Sink.TheVariants.{Out}
 use Rattle.command_streams.specs.declared.ending.Source.TheVariants as source
 use Rattle.command_streams.specs.declared.ending.Fault.{Fault}
-use Rattle.command_streams.specs.declared.ending.Fault.TheVariants.{NoMark, LossForm, InstanceText, Memory, PlanText, Plan, StatedDelay, CertificateText, Certificate, TooFewNodes, WrongLoss, NoSuchProcess, TooManySlots, Search, TooLong, Unread, Unwritten}
+use Rattle.command_streams.specs.declared.ending.Fault.TheVariants.{Memory, TooLong, Unread, Unwritten}
 use Rattle.command_streams.proofs.Outcomes.{written_outcome}
 use Rattle.plan_commands.proofs.Tellings.{refused_outcome}
 use Rattle.explain_command.specs.declared.instances.Stated.{Stated}
@@ -55,24 +55,7 @@ plan_untold : (i p : List ℕ) (problem : Instance) (fault : Fault) → HasInsta
 plan_untold i p problem Memory has is = tt
 plan_untold i p problem (Unread source.Plan) has is = record { problem = problem; has_instance = has }
 plan_untold i p problem (TooLong source.Plan) has is = (record { problem = problem; has_instance = has }, is)
-plan_untold i p problem (Unread source.Instance) has is = absurd is
-plan_untold i p problem (Unread source.Certificate) has is = absurd is
-plan_untold i p problem (TooLong source.Instance) has is = absurd is
-plan_untold i p problem (TooLong source.Certificate) has is = absurd is
-plan_untold i p problem NoMark has is = absurd is
-plan_untold i p problem (LossForm k) has is = absurd is
-plan_untold i p problem (InstanceText error) has is = absurd is
-plan_untold i p problem (PlanText error) has is = absurd is
-plan_untold i p problem (Plan fault) has is = absurd is
-plan_untold i p problem (StatedDelay d) has is = absurd is
-plan_untold i p problem (CertificateText error) has is = absurd is
-plan_untold i p problem (Certificate fault) has is = absurd is
-plan_untold i p problem TooFewNodes has is = absurd is
-plan_untold i p problem (TooManySlots count) has is = absurd is
-plan_untold i p problem (NoSuchProcess k) has is = absurd is
-plan_untold i p problem (WrongLoss k) has is = absurd is
-plan_untold i p problem (Search fault) has is = absurd is
-plan_untold i p problem (Unwritten sink) has is = absurd is
+plan_untold i p problem fault has is = absurd is
 
 -- why a printed plan isn't read
 pub plan_unread : (b : Option (List ℕ)) (fault : Fault) → IsReadFault source.Plan printed_limit b fault → IfSome b (λ p. IsPlanUnread p fault)
@@ -95,24 +78,7 @@ certificate_untold : (i c : List ℕ) (problem : Instance) (fault : Fault) → H
 certificate_untold i c problem Memory has is = tt
 certificate_untold i c problem (Unread source.Certificate) has is = record { problem = problem; has_instance = has }
 certificate_untold i c problem (TooLong source.Certificate) has is = (record { problem = problem; has_instance = has }, is)
-certificate_untold i c problem (Unread source.Instance) has is = absurd is
-certificate_untold i c problem (Unread source.Plan) has is = absurd is
-certificate_untold i c problem (TooLong source.Instance) has is = absurd is
-certificate_untold i c problem (TooLong source.Plan) has is = absurd is
-certificate_untold i c problem NoMark has is = absurd is
-certificate_untold i c problem (LossForm k) has is = absurd is
-certificate_untold i c problem (InstanceText error) has is = absurd is
-certificate_untold i c problem (PlanText error) has is = absurd is
-certificate_untold i c problem (Plan fault) has is = absurd is
-certificate_untold i c problem (StatedDelay d) has is = absurd is
-certificate_untold i c problem (CertificateText error) has is = absurd is
-certificate_untold i c problem (Certificate fault) has is = absurd is
-certificate_untold i c problem TooFewNodes has is = absurd is
-certificate_untold i c problem (TooManySlots count) has is = absurd is
-certificate_untold i c problem (NoSuchProcess k) has is = absurd is
-certificate_untold i c problem (WrongLoss k) has is = absurd is
-certificate_untold i c problem (Search fault) has is = absurd is
-certificate_untold i c problem (Unwritten sink) has is = absurd is
+certificate_untold i c problem fault has is = absurd is
 
 pub certificates_untold : (a b : Option (List ℕ)) (problem : Instance) (fault : Fault) → IfSome a (λ i. HasInstance i problem)
     → IfSome b (λ c. IsUnreadable c fault) → IfSome a (λ i. IfSome b (λ c. IsCertificateUntold i c fault))

@@ -6,7 +6,7 @@ use Rattle.certificate_words.specs.Faults.{TellsFault}
 use Rattle.certificate_words.specs.Forms.{text_fault_words}
 use Rattle.certificate_words.specs.Proofs.{TellsProof}
 use Rattle.plan_commands.specs.Certified.{HasBound, IsCertificateFault, bound_line}
-use Rattle.command_streams.specs.Limits.{certificate_limit}
+use Rattle.command_streams.specs.declared.limits.TheConstants.{CERTIFICATE_LIMIT}
 use Rattle.command_streams.specs.declared.ending.Source.TheVariants as source
 use Rattle.command_streams.specs.declared.ending.Fault.{Fault}
 use Rattle.command_streams.specs.declared.ending.Fault.TheVariants as fault
@@ -43,5 +43,5 @@ TellsCertificateBytes i bytes text = TellsUnwritten i bytes text ⊎ (TellsUnpro
 abbrev pub IsUnreadable : List ℕ → Fault → Type 0
 IsUnreadable bytes fault.Memory = Unit {0}
 IsUnreadable bytes (fault.Unread source.Certificate) = Unit {0}
-IsUnreadable bytes (fault.TooLong source.Certificate) = certificate_limit < length bytes
+IsUnreadable bytes (fault.TooLong source.Certificate) = CERTIFICATE_LIMIT < length bytes
 IsUnreadable bytes _ = ⊥

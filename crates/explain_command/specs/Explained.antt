@@ -1,7 +1,7 @@
 -- What the command tells, and why it tells nothing.
 use Rattle.std.specs.Prelude.{ℕ, ◌<◌, ◌⊎◌, List, length, Option}
 use Rattle.ttp_model.specs.Instance.{Instance}
-use Rattle.command_streams.specs.Limits.{certificate_limit, instance_limit}
+use Rattle.command_streams.specs.declared.limits.TheConstants.{CERTIFICATE_LIMIT, INSTANCE_LIMIT}
 use Rattle.command_streams.specs.Instances.{HasInstance, StatesSome}
 use Rattle.command_streams.specs.Outcomes.{IsCommandAnswer, OnDone}
 use Rattle.command_streams.specs.declared.ending.Source.TheVariants as source
@@ -27,7 +27,7 @@ TellsBoth Tells instance bytes text = TellsRefused instance text ⊎ TellsBehind
 abbrev pub IsUntold : List ℕ → Fault → Type 0
 IsUntold instance Memory = Unit {0}
 IsUntold instance (Unread source.Instance) = Unit {0}
-IsUntold instance (TooLong source.Instance) = instance_limit < length instance
+IsUntold instance (TooLong source.Instance) = INSTANCE_LIMIT < length instance
 IsUntold instance _ = ⊥
 
 -- of an instance and a plan
@@ -39,7 +39,7 @@ IsPlanUntold instance plan fault = IsUntold instance fault
 -- of an instance and a certificate
 abbrev pub IsCertificateUntold : List ℕ → List ℕ → Fault → Type 0
 IsCertificateUntold instance certificate (Unread source.Certificate) = StatesSome instance
-IsCertificateUntold instance certificate (TooLong source.Certificate) = StatesSome instance × (certificate_limit < length certificate)
+IsCertificateUntold instance certificate (TooLong source.Certificate) = StatesSome instance × (CERTIFICATE_LIMIT < length certificate)
 IsCertificateUntold instance certificate fault = IsUntold instance fault
 
 -- what `explain` answers of an instance alone, and what it writes

@@ -4,8 +4,11 @@ use Rattle.ttp_model.specs.Instance.{Instance}
 use Rattle.instance_text.specs.declared.error.TextError.{TextError}
 use Rattle.instance_words.specs.Described.{description}
 use Rattle.instance_words.specs.Explained.{IsExplanation}
-use Rattle.path_words.specs.LateLines.{IsLateText}
-use Rattle.path_words.specs.Lines.{IsChainText}
+use Rattle.path_words.specs.declared.late_lines.LateProcesses.{LateProcesses}
+use Rattle.path_words.specs.declared.lines.PathChain.{PathChain}
+use Rattle.path_words.specs.LateLines.{AreLate}
+use Rattle.path_words.specs.Lines.{IsPathChain}
+use Rattle.sentences.specs.Shown.{Gains, IsShown}
 use Rattle.command_streams.specs.Endings.{fault_status}
 use Rattle.command_streams.specs.Instances.{HasInstance, IsInstanceFault}
 use Rattle.command_streams.specs.declared.ending.Fault.TheVariants as fault
@@ -26,11 +29,11 @@ pub record TellsRefused (bytes text : List ℕ) : Type 0 where
 -- an instance that keeps its rules: how large it is, which messages fit into no frame, why no plan ends before its path bound, and which
 -- processes end too late whatever the plan
 pub record TellsSizes (i : Instance) (text : List ℕ) : Type 0 where
-  pub words : List ℕ
-  pub are : IsChainText i words
-  pub late : List ℕ
-  pub are_late : IsLateText i late
-  pub told : text ≡ (description i ++ words) ++ late
+  pub chain : PathChain
+  pub is_chain : IsPathChain i chain
+  pub late : LateProcesses
+  pub are_late : AreLate i late
+  pub told : Gains IsShown (description i) text
 
 -- bytes that state one
 pub record TellsGood (bytes text : List ℕ) : Type 0 where

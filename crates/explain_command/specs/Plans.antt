@@ -1,20 +1,26 @@
 -- What is told of a plan's bytes, for an instance.
-use Rattle.std.specs.Prelude.{◌≡◌, ◌≢◌, ◌⊎◌, ℕ, ◌+◌, ◌*◌, List, ◌++◌, Err, codes}
+use Rattle.std.specs.Prelude.{◌≡◌, ◌≢◌, ◌⊎◌, ℕ, ◌+◌, List, ◌++◌, Err, codes}
 use Rattle.ttp_model.specs.declared.fault.PlanFault.{PlanFault}
 use Rattle.ttp_model.specs.declared.plan.Plan.{Plan}
 use Rattle.ttp_model.specs.Instance.{Instance}
 use Rattle.ttp_model.specs.Plans.{IsValid}
 use Rattle.ttp_model.specs.Delays.{delay}
 use Rattle.ttp_model.specs.Faults.{IsFirstFault}
-use Rattle.ttp_model.specs.Slots.{round_length}
-use Rattle.tt_layout.specs.Cycle.{cycle_rounds}
 use Rattle.plan_format.specs.declared.fault.LineFault.{LineFault}
 use Rattle.plan_format.specs.declared.fault.PlanTextError.TheVariants.{At}
 use Rattle.plan_format.specs.Spelling.{SpellsPlan}
 use Rattle.plan_format.specs.Reading.{plan_at}
-use Rattle.plan_chain.specs.Lines.{IsChainText}
-use Rattle.plan_words.specs.Faults.{fault_text}
-use Rattle.plan_words.specs.Delays.{IsDelayText}
+use Rattle.plan_chain.specs.declared.lines.PlanChain.{PlanChain}
+use Rattle.plan_chain.specs.Lines.{IsChainReason}
+use Rattle.plan_reasons.specs.declared.cycles.Cycle.{Cycle}
+use Rattle.plan_reasons.specs.declared.delays.OtherDelay.{OtherDelay}
+use Rattle.plan_reasons.specs.declared.lines.LineReason.{LineReason}
+use Rattle.plan_reasons.specs.declared.reason.PlanReason.{PlanReason}
+use Rattle.plan_reasons.specs.Cycles.{IsCycle}
+use Rattle.plan_reasons.specs.Delays.{IsOtherDelay}
+use Rattle.plan_reasons.specs.Lines.{IsLineReason}
+use Rattle.plan_reasons.specs.Reasons.{IsReasonOf}
+use Rattle.sentences.specs.Shown.{Gains, IsShown}
 use Rattle.plan_commands.specs.Verdicts.{valid_line}
 use Rattle.plan_commands.specs.declared.front.Front.{Front}
 use Rattle.plan_commands.specs.declared.front.Front.TheVariants as front
@@ -23,35 +29,34 @@ use Rattle.plan_commands.specs.Printed.{IsTooLong, bare_fault}
 use Rattle.command_streams.specs.declared.ending.Source.TheVariants as source
 use Rattle.command_streams.specs.declared.ending.Fault.{Fault}
 use Rattle.command_streams.specs.declared.ending.Fault.TheVariants as fault
-use Rattle.plan_text_words.specs.Texts.{line_fault_text}
 use Rattle.explain_command.specs.Mistaken.{first_line_words}
-use Rattle.explain_command.specs.Telling.{cycle_line, line_of}
+use Rattle.explain_command.specs.Telling.{line_of}
 
--- a plan that breaks a rule: which two things its first fault compares
+-- a plan that breaks a rule: the line of its first fault, and sentences on the reason
 pub record TellsBroken (i : Instance) (plan : Plan) (text : List ℕ) : Type 0 where
   pub broken : PlanFault
   pub first : IsFirstFault i plan broken
-  pub told : text ≡ line_of (fault.Plan broken) ++ fault_text i plan broken
+  pub reason : PlanReason
+  pub is : IsReasonOf i plan broken reason
+  pub told : Gains IsShown (line_of (fault.Plan broken)) text
 
 -- a valid plan that states another delay than its own
 pub record TellsMisstated (i : Instance) (plan : Plan) (stated : ℕ) (text : List ℕ) : Type 0 where
   pub valid : IsValid i plan
   pub other : delay i plan ≢ stated
-  pub words : List ℕ
-  pub are : IsDelayText i plan stated words
-  pub told : text ≡ line_of (fault.StatedDelay (delay i plan)) ++ words
-
--- how long the cycle of a plan is
-abbrev pub cycle_words : Instance → Plan → List ℕ
-cycle_words i plan = cycle_line (cycle_rounds i plan) (round_length i.cluster plan.caps) (cycle_rounds i plan * round_length i.cluster plan.caps)
+  pub reason : OtherDelay
+  pub is : IsOtherDelay i plan stated reason
+  pub told : Gains IsShown (line_of (fault.StatedDelay (delay i plan))) text
 
 -- a valid plan that states its own: why it ends when it does, and how long its cycle is
 pub record TellsValid (i : Instance) (plan : Plan) (stated : ℕ) (text : List ℕ) : Type 0 where
   pub valid : IsValid i plan
   pub own : delay i plan ≡ stated
-  pub words : List ℕ
-  pub are : IsChainText i plan words
-  pub told : text ≡ valid_line stated ++ (words ++ cycle_words i plan)
+  pub reason : PlanChain
+  pub is : IsChainReason i plan reason
+  pub cycle : Cycle
+  pub is_cycle : IsCycle i plan cycle
+  pub told : Gains IsShown (valid_line stated) text
 
 -- a plan with the delay that it states
 abbrev pub TellsPlan : Instance → Plan → ℕ → List ℕ → Type 0
@@ -69,7 +74,11 @@ pub record TellsUnspelled (i : Instance) (before : ℕ) (bytes text : List ℕ) 
   pub line : ℕ
   pub wrong : LineFault
   pub first : plan_at i bytes ≡ Err (At line wrong)
-  pub told : text ≡ (line_of (fault.PlanText (At (before + line) wrong)) ++ line_fault_text i bytes before line wrong) ++ first_line_words bytes (before + line)
+  pub reason : LineReason
+  pub is : IsLineReason i bytes before line wrong reason
+  pub words : List ℕ
+  pub are : Gains IsShown (line_of (fault.PlanText (At (before + line) wrong))) words
+  pub told : text ≡ words ++ first_line_words bytes (before + line)
 
 -- the bytes of a plan's text, behind so many lines
 abbrev pub TellsPlanText : Instance → ℕ → List ℕ → List ℕ → Type 0

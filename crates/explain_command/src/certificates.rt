@@ -3,7 +3,7 @@
 ghost use Rattle.std.specs.Prelude.{◌≡◌, ◌++◌, IfErr, IfOk, OnOk, string_bytes};
 ghost use Rattle.command_streams.specs.declared.ending.Fault.TheVariants as fault;
 ghost use Rattle.plan_commands.specs.Certified.{HasBound, IsCertificateFault, bound_line};
-ghost use Rattle.plan_words.specs.Gains.{Gains};
+ghost use Rattle.sentences.specs.Shown.{Gains};
 ghost use Rattle.explain_command.specs.Certificates.{IsUnreadable, TellsCertificateBytes, TellsProved, TellsUnproved, TellsUnwritten};
 
 use crate::telling::put_line;

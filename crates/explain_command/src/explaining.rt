@@ -3,7 +3,6 @@
 ghost use Rattle.std.specs.Prelude.{◌≡◌, ◌+◌, IfErr, IfOk, IfSome, string_bytes};
 ghost use Rattle.std.specs.Io.KnownBytes.{Keeps};
 ghost use Rattle.command_streams.specs.Instances.{IsOfInstance, StatesSome};
-ghost use Rattle.command_streams.specs.Limits.{certificate_limit, instance_limit};
 ghost use Rattle.command_streams.specs.Outcomes.{IfRefused};
 ghost use Rattle.command_streams.specs.Streams.{TakesAtMost};
 ghost use Rattle.command_streams.specs.declared.ending.Fault.TheVariants.{Memory};
@@ -16,22 +15,23 @@ ghost use Rattle.explain_command.specs.Plans.{IsPlanUnread, TellsPlanBytes};
 use crate::certificates::told_certificate;
 use crate::instances::{Stated, stated_of_bytes};
 use crate::plans::told_printed;
-use command_streams::{End, Fault, INSTANCE_LIMIT, Source, end_with, read_all};
+use command_streams::{
+    CERTIFICATE_LIMIT, End, Fault, INSTANCE_LIMIT, PLAN_LIMIT, Source, end_with, read_all,
+};
 use instance_words::describe_instance;
-use plan_commands::{PLAN_LIMIT, front_of, read_printed};
+use path_words::{chain_reason, late_reason};
+use plan_commands::{front_of, read_printed};
+use sentences::put;
 use std::alloc::Global;
 use std::io::{Read, Write};
 use std::thread::Threads;
 use ttp_model::Instance;
 
-/// The bytes of a certificate, at most.
-const CERTIFICATE_LIMIT: usize = 268_435_456;
-
 /// What came of the bytes of an instance's reader.
 fn stated_of_reader<I: Read>(alloc: Global, instance: &mut I) -> Result<Stated, Fault>
     ensures ok { IfSome (I.remaining instance.old) (λ bytes. IfOk result (IsStatedOf bytes)) }
     ensures err { IfSome (I.remaining instance.old) (λ bytes. IfErr result (IsUntold bytes)) }
-    ensures most { TakesAtMost (instance_limit + 1) (I.remaining instance.old) (I.remaining instance.new) }
+    ensures most { TakesAtMost (INSTANCE_LIMIT + 1) (I.remaining instance.old) (I.remaining instance.new) }
 {
     let bytes = read_all(alloc, instance, INSTANCE_LIMIT, Source::Instance)?;
     stated_of_bytes(alloc, bytes.as_slice())
@@ -42,11 +42,11 @@ fn described(alloc: Global, instance: &Instance) -> Result<String, Fault>
     ensures ok { IfOk result (λ text. TellsSizes instance.now (string_bytes text)) }
     ensures err { IfErr result (λ wrong. wrong ≡ Memory) }
 {
-    let chain = path_words::print(alloc, instance)?;
-    let late = path_words::print_late(alloc, instance)?;
+    let chain = chain_reason(alloc, instance)?;
+    let late = late_reason(alloc, instance)?;
     let mut text = describe_instance(alloc, instance)?;
-    text.push_str(chain.as_str())?;
-    text.push_str(late.as_str())?;
+    put(alloc, &mut text, &chain)?;
+    put(alloc, &mut text, &late)?;
     Ok(text)
 }
 
@@ -54,7 +54,7 @@ fn described(alloc: Global, instance: &Instance) -> Result<String, Fault>
 fn instance_told<I: Read>(alloc: Global, instance: &mut I) -> Result<String, Fault>
     ensures ok { IfSome (I.remaining instance.old) (λ bytes. IfOk result (λ text. TellsInstance bytes (string_bytes text))) }
     ensures err { IfSome (I.remaining instance.old) (λ bytes. IfErr result (IsUntold bytes)) }
-    ensures most { TakesAtMost (instance_limit + 1) (I.remaining instance.old) (I.remaining instance.new) }
+    ensures most { TakesAtMost (INSTANCE_LIMIT + 1) (I.remaining instance.old) (I.remaining instance.new) }
 {
     match stated_of_reader(alloc, instance)? {
         Stated::Refused(text) => Ok(text),
@@ -71,7 +71,7 @@ fn instance_told<I: Read>(alloc: Global, instance: &mut I) -> Result<String, Fau
 /// anything else ends the command nothing is written, and after a failed write a prefix of the text stands.
 pub fn explain_instance<I: Read, W: Write>(alloc: Global, instance: &mut I, out: &mut W) -> End
     ensures answer { IfSome (I.remaining instance.old) (λ i. IsInstanceExplained i (W.contents out.old) (W.contents out.new) result) }
-    ensures instance { TakesAtMost (instance_limit + 1) (I.remaining instance.old) (I.remaining instance.new) }
+    ensures instance { TakesAtMost (INSTANCE_LIMIT + 1) (I.remaining instance.old) (I.remaining instance.new) }
 {
     match instance_told(alloc, instance) {
         Ok(text) => end_with(out, text.as_bytes()),
@@ -113,7 +113,7 @@ fn plan_told<I: Read, P: Read>(
     ensures ok { IfSome (I.remaining instance.old) (λ i. IfSome (P.remaining plan.old) (λ p.
         IfOk result (λ text. TellsBoth TellsPlanBytes i p (string_bytes text)))) }
     ensures err { IfSome (I.remaining instance.old) (λ i. IfSome (P.remaining plan.old) (λ p. IfErr result (IsPlanUntold i p))) }
-    ensures instance { TakesAtMost (instance_limit + 1) (I.remaining instance.old) (I.remaining instance.new) }
+    ensures instance { TakesAtMost (INSTANCE_LIMIT + 1) (I.remaining instance.old) (I.remaining instance.new) }
     ensures plan { TakesAtMost (printed_limit + 1) (P.remaining plan.old) (P.remaining plan.new) }
     ensures order { IfErr result (λ fault. IsOfInstance fault → Keeps (P.remaining plan.old) (P.remaining plan.new)) }
     ensures unread { IfSome (I.remaining instance.old) (λ i. ¬ StatesSome i → Keeps (P.remaining plan.old) (P.remaining plan.new)) }
@@ -139,7 +139,7 @@ pub fn explain_plan<I: Read, P: Read, W: Write>(
 ) -> End
     ensures answer { IfSome (I.remaining instance.old) (λ i. IfSome (P.remaining plan.old) (λ p.
         IsPlanExplained i p (W.contents out.old) (W.contents out.new) result)) }
-    ensures instance { TakesAtMost (instance_limit + 1) (I.remaining instance.old) (I.remaining instance.new) }
+    ensures instance { TakesAtMost (INSTANCE_LIMIT + 1) (I.remaining instance.old) (I.remaining instance.new) }
     ensures plan { TakesAtMost (printed_limit + 1) (P.remaining plan.old) (P.remaining plan.new) }
     ensures order { IfRefused result (λ fault. IsOfInstance fault → Keeps (P.remaining plan.old) (P.remaining plan.new)) }
     ensures unread { IfSome (I.remaining instance.old) (λ i. ¬ StatesSome i → Keeps (P.remaining plan.old) (P.remaining plan.new)) }
@@ -160,7 +160,7 @@ fn told_of_certificate<C: Read>(
     ensures ok { IfSome (C.remaining certificate.old) (λ c. IfOk result (λ text. TellsCertificateBytes instance.now c (string_bytes text))) }
     ensures err { IfSome (C.remaining certificate.old) (λ c. IfErr result (IsUnreadable c)) }
     ensures later { IfErr result (λ fault. ¬ IsOfInstance fault) }
-    ensures certificate { TakesAtMost (certificate_limit + 1) (C.remaining certificate.old) (C.remaining certificate.new) }
+    ensures certificate { TakesAtMost (CERTIFICATE_LIMIT + 1) (C.remaining certificate.old) (C.remaining certificate.new) }
 {
     let bytes = read_all(alloc, certificate, CERTIFICATE_LIMIT, Source::Certificate)?;
     told_certificate(rt, alloc, instance, bytes.as_slice())
@@ -176,8 +176,8 @@ fn certificate_told<I: Read, C: Read>(
     ensures ok { IfSome (I.remaining instance.old) (λ i. IfSome (C.remaining certificate.old) (λ c.
         IfOk result (λ text. TellsBoth TellsCertificateBytes i c (string_bytes text)))) }
     ensures err { IfSome (I.remaining instance.old) (λ i. IfSome (C.remaining certificate.old) (λ c. IfErr result (IsCertificateUntold i c))) }
-    ensures instance { TakesAtMost (instance_limit + 1) (I.remaining instance.old) (I.remaining instance.new) }
-    ensures certificate { TakesAtMost (certificate_limit + 1) (C.remaining certificate.old) (C.remaining certificate.new) }
+    ensures instance { TakesAtMost (INSTANCE_LIMIT + 1) (I.remaining instance.old) (I.remaining instance.new) }
+    ensures certificate { TakesAtMost (CERTIFICATE_LIMIT + 1) (C.remaining certificate.old) (C.remaining certificate.new) }
     ensures order { IfErr result (λ fault. IsOfInstance fault → Keeps (C.remaining certificate.old) (C.remaining certificate.new)) }
     ensures unread { IfSome (I.remaining instance.old) (λ i. ¬ StatesSome i → Keeps (C.remaining certificate.old) (C.remaining certificate.new)) }
 {
@@ -204,8 +204,8 @@ pub fn explain_certificate<I: Read, C: Read, W: Write>(
 ) -> End
     ensures answer { IfSome (I.remaining instance.old) (λ i. IfSome (C.remaining certificate.old) (λ c.
         IsCertificateExplained i c (W.contents out.old) (W.contents out.new) result)) }
-    ensures instance { TakesAtMost (instance_limit + 1) (I.remaining instance.old) (I.remaining instance.new) }
-    ensures certificate { TakesAtMost (certificate_limit + 1) (C.remaining certificate.old) (C.remaining certificate.new) }
+    ensures instance { TakesAtMost (INSTANCE_LIMIT + 1) (I.remaining instance.old) (I.remaining instance.new) }
+    ensures certificate { TakesAtMost (CERTIFICATE_LIMIT + 1) (C.remaining certificate.old) (C.remaining certificate.new) }
     ensures order { IfRefused result (λ fault. IsOfInstance fault → Keeps (C.remaining certificate.old) (C.remaining certificate.new)) }
     ensures unread { IfSome (I.remaining instance.old) (λ i. ¬ StatesSome i → Keeps (C.remaining certificate.old) (C.remaining certificate.new)) }
 {

@@ -1,124 +1,115 @@
 //! What is told of a plan?
 
-ghost use Rattle.std.specs.Prelude.{◌≡◌, ◌≢◌, ◌≤◌, ◌++◌, Err, IfOk, OnOk, string_bytes};
+ghost use Rattle.std.specs.Prelude.{◌≡◌, ◌≢◌, ◌≤◌, Err, IfOk, string_bytes};
 ghost use Rattle.ttp_model.specs.Plans.{IsValid};
 ghost use Rattle.ttp_model.specs.Delays.{delay};
 ghost use Rattle.ttp_model.specs.Faults.{IsFirstFault};
-ghost use Rattle.plan_words.specs.Gains.{Gains};
 ghost use Rattle.plan_format.specs.declared.fault.PlanTextError.TheVariants.{At};
 ghost use Rattle.plan_format.specs.Reading.{plan_at};
 ghost use Rattle.plan_commands.specs.Fronts.{BeginsWith};
-ghost use Rattle.explain_command.specs.Plans.{TellsBroken, TellsMisstated, TellsPlan, TellsPlanText, TellsPrinted, TellsUnspelled, TellsValid, bare_text, cycle_words};
+ghost use Rattle.explain_command.specs.Plans.{TellsBroken, TellsMisstated, TellsPlan, TellsPlanText, TellsPrinted, TellsUnspelled, TellsValid, bare_text};
 
 use crate::mistaken::first_line_words;
-use crate::telling::{put_cycle_line, put_line, put_valid_line};
+use crate::telling::{put_line, put_valid_line};
 use command_streams::Fault;
+use plan_chain::chain_reason;
 use plan_commands::{Front, bare_fault};
 use plan_format::{LineFault, PlanTextError, read};
-use plan_text_words::put_line_fault;
-use plan_words::{put_delay, put_fault};
-use std::alloc::{AllocError, Global};
-use tt_layout::{Layout, cycle_rounds};
+use plan_reasons::{cycle_of, line_reason, other_delay, reason_of};
+use sentences::put;
+use std::alloc::Global;
 use ttp_model::{Instance, MemoryFault, Plan, PlanFault};
 
-/// Tells which rule a plan breaks.
-fn put_broken(
+/// What is told of a plan that breaks a rule.
+fn told_broken(
     alloc: Global,
-    text: &mut String,
     instance: &Instance,
     plan: &Plan,
     broken: PlanFault,
-) -> Result<(), MemoryFault>
+) -> Result<String, MemoryFault>
     requires { IsFirstFault instance.now plan.now broken }
-    ensures { OnOk result (Gains (TellsBroken instance.now plan.now) (string_bytes text.old) (string_bytes text.new)) }
+    ensures { IfOk result (λ text. TellsBroken instance.now plan.now (string_bytes text)) }
 {
-    put_line(text, &Fault::Plan(broken))?;
-    put_fault(alloc, text, instance, plan, broken)
+    let reason = reason_of(alloc, instance, plan, broken)?;
+    let mut text = String::new(alloc);
+    put_line(&mut text, &Fault::Plan(broken))?;
+    put(alloc, &mut text, &reason)?;
+    Ok(text)
 }
 
-/// Tells that a valid plan states another delay than its own, in ticks.
-fn put_misstated(
-    text: &mut String,
+/// What is told of a valid plan that states another delay than its own, in ticks.
+fn told_misstated(
+    alloc: Global,
     instance: &Instance,
     plan: &Plan,
     own: u64,
     stated: u32,
-) -> Result<(), MemoryFault>
+) -> Result<String, MemoryFault>
     requires valid { IsValid instance.now plan.now }
     requires own { own ≡ delay instance.now plan.now }
     requires other { own ≢ stated }
-    ensures { OnOk result (Gains (TellsMisstated instance.now plan.now stated) (string_bytes text.old) (string_bytes text.new)) }
+    ensures { IfOk result (λ text. TellsMisstated instance.now plan.now stated (string_bytes text)) }
 {
-    put_line(text, &Fault::StatedDelay(own))?;
-    put_delay(text, instance, plan, stated)?;
-    Ok(())
+    let reason = other_delay(instance, plan, stated);
+    let mut text = String::new(alloc);
+    put_line(&mut text, &Fault::StatedDelay(own))?;
+    put(alloc, &mut text, &reason)?;
+    Ok(text)
 }
 
-/// Tells how long the cycle of a valid plan is.
-fn put_cycle(text: &mut String, instance: &Instance, plan: &Plan) -> Result<(), AllocError>
-    requires { IsValid instance.now plan.now }
-    ensures { OnOk result (string_bytes text.new ≡ string_bytes text.old ++ cycle_words instance.now plan.now) }
-{
-    let layout = Layout::of(instance, plan.order.as_slice(), plan.caps.as_slice());
-    let round = layout.round_length();
-    let rounds = cycle_rounds(instance, plan);
-    let next = u64::from(rounds) * round;
-    put_cycle_line(text, rounds, round, next)
-}
-
-/// Tells why a valid plan ends at its delay, in ticks, which it states, and how long its cycle is.
-fn put_valid(
+/// What is told of a valid plan that states its own delay, in ticks: why it ends then, and how long its cycle is.
+fn told_valid(
     alloc: Global,
-    text: &mut String,
     instance: &Instance,
     plan: &Plan,
     stated: u32,
-) -> Result<(), MemoryFault>
+) -> Result<String, MemoryFault>
     requires valid { IsValid instance.now plan.now }
     requires own { delay instance.now plan.now ≡ stated }
-    ensures { OnOk result (Gains (TellsValid instance.now plan.now stated) (string_bytes text.old) (string_bytes text.new)) }
+    ensures { IfOk result (λ text. TellsValid instance.now plan.now stated (string_bytes text)) }
 {
-    let chain = plan_chain::print(alloc, instance, plan)?;
-    put_valid_line(text, stated)?;
-    text.push_str(chain.as_str())?;
-    put_cycle(text, instance, plan)?;
-    Ok(())
+    let reason = chain_reason(alloc, instance, plan)?;
+    let cycle = cycle_of(instance, plan);
+    let mut text = String::new(alloc);
+    put_valid_line(&mut text, stated)?;
+    put(alloc, &mut text, &reason)?;
+    put(alloc, &mut text, &cycle)?;
+    Ok(text)
 }
 
-/// Tells what is to be said of a plan and the delay in ticks that it states.
-fn put_plan(
+/// What is told of a plan and the delay in ticks that it states.
+fn told_judged(
     alloc: Global,
-    text: &mut String,
     instance: &Instance,
     plan: &Plan,
     stated: u32,
-) -> Result<(), MemoryFault>
-    ensures { OnOk result (Gains (TellsPlan instance.now plan.now stated) (string_bytes text.old) (string_bytes text.new)) }
+) -> Result<String, MemoryFault>
+    ensures { IfOk result (λ text. TellsPlan instance.now plan.now stated (string_bytes text)) }
 {
     match plan_check::check(instance, plan) {
-        Err(broken) => put_broken(alloc, text, instance, plan, broken),
+        Err(broken) => told_broken(alloc, instance, plan, broken),
         Ok(own) => {
             if own == u64::from(stated) {
-                put_valid(alloc, text, instance, plan, stated)
+                told_valid(alloc, instance, plan, stated)
             } else {
-                put_misstated(text, instance, plan, own, stated)
+                told_misstated(alloc, instance, plan, own, stated)
             }
         }
     }
 }
 
-/// Tells which line of a plan's text is at fault, in front of which so many lines stand.
-fn put_unspelled(
-    text: &mut String,
+/// What is told of a line at fault of a plan's text, in front of which so many lines stand.
+fn told_unspelled(
+    alloc: Global,
     instance: &Instance,
     bytes: &[u8],
     before: u32,
     line: u32,
     wrong: LineFault,
-) -> Result<(), MemoryFault>
+) -> Result<String, MemoryFault>
     requires at { plan_at instance.now bytes.now ≡ Err (At line wrong) }
     requires most { before ≤ 1 }
-    ensures { OnOk result (Gains (TellsUnspelled instance.now before bytes.now) (string_bytes text.old) (string_bytes text.new)) }
+    ensures { IfOk result (λ text. TellsUnspelled instance.now before bytes.now (string_bytes text)) }
 {
     let _nodes = instance.nodes();
     let counted = before + line;
@@ -126,10 +117,12 @@ fn put_unspelled(
         line: counted,
         fault: wrong,
     };
-    put_line(text, &Fault::PlanText(error))?;
-    put_line_fault(text, instance, bytes, before, line, wrong)?;
+    let reason = line_reason(instance, bytes, before, line, wrong);
+    let mut text = String::new(alloc);
+    put_line(&mut text, &Fault::PlanText(error))?;
+    put(alloc, &mut text, &reason)?;
     text.push_str(first_line_words(bytes, counted))?;
-    Ok(())
+    Ok(text)
 }
 
 /// What is told of the bytes of a plan's text, in front of which so many lines stand.
@@ -142,15 +135,17 @@ fn told_plan(
     requires { before ≤ 1 }
     ensures { IfOk result (λ text. TellsPlanText instance.now before bytes.now (string_bytes text)) }
 {
-    let mut text = String::new(alloc);
     match read(alloc, instance, bytes) {
-        Ok((plan, stated)) => put_plan(alloc, &mut text, instance, &plan, stated)?,
-        Err(PlanTextError::At { line, fault }) => {
-            put_unspelled(&mut text, instance, bytes, before, line, fault)?
+        Ok((plan, stated)) => {
+            let told = told_judged(alloc, instance, &plan, stated);
+            drop(plan);
+            told
         }
-        Err(PlanTextError::OutOfMemory) => return Err(MemoryFault),
+        Err(PlanTextError::At { line, fault }) => {
+            told_unspelled(alloc, instance, bytes, before, line, fault)
+        }
+        Err(PlanTextError::OutOfMemory) => Err(MemoryFault),
     }
-    Ok(text)
 }
 
 /// What is told of a line that says that no plan was found, with what stands behind it.

@@ -2,7 +2,7 @@
 
 ghost use Rattle.std.specs.Prelude.{◌≡◌, ◌++◌, OnOk, string_bytes};
 ghost use Rattle.plan_commands.specs.Verdicts.{valid_line};
-ghost use Rattle.explain_command.specs.Telling.{cycle_line, line_of};
+ghost use Rattle.explain_command.specs.Telling.{line_of};
 
 use command_streams::Fault;
 use std::alloc::AllocError;
@@ -20,20 +20,4 @@ pub fn put_valid_line(text: &mut String, delay: u32) -> Result<(), AllocError>
     ensures { OnOk result (string_bytes text.new ≡ string_bytes text.old ++ valid_line delay) }
 {
     writeln!(text, "valid {delay}")
-}
-
-/// Adds the line of a cycle of so many rounds, each of so many ticks, and of when the next one may begin.
-#[tactic(auto, unfolding(crate::specs::Telling::cycle_line))]
-pub fn put_cycle_line(
-    text: &mut String,
-    rounds: u32,
-    round: u64,
-    next: u64,
-) -> Result<(), AllocError>
-    ensures { OnOk result (string_bytes text.new ≡ string_bytes text.old ++ cycle_line rounds round next) }
-{
-    writeln!(
-        text,
-        "A round takes {round}, and the cycle has {rounds} of them: the next one may begin at {next}."
-    )
 }

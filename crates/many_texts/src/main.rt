@@ -6,12 +6,12 @@ ghost use Rattle.std.specs.Prelude.{◌≤◌};
 ghost use Rattle.plan_picture.specs.Limits.{least_width, most_width};
 
 use command_streams::{End, report, status, take_input, write_text};
-use compare_command::{Compared, compare_run};
 use explain_command::{explain_certificate, explain_instance, explain_plan};
 use line_text::{NumberWord, cut, number_word, push_number, push_number_word};
-use period_command::{RoundsEnd, period_run, tables_run};
+use period_command::{period_run, tables_run};
 use plan_commands::{
-    check_run, draw_run, judge_run, replay_run, schedule_run, tables, verify, verify_bundle,
+    check_run, compare_run, draw_run, judge_run, replay_run, schedule_run, tables, verify,
+    verify_bundle,
 };
 use plan_picture::{LEAST_WIDTH, MOST_WIDTH, Shown};
 use plan_sheets::Table;
@@ -83,14 +83,6 @@ struct Case {
     second: Vec<u8>,
     third: Vec<u8>,
     fourth: Vec<u8>,
-}
-
-/// How a command ends.
-#[derive(Drop)]
-enum Ended {
-    End(End),
-    OfRounds(RoundsEnd),
-    Compared(Compared),
 }
 
 fn command_of(word: &[u8]) -> Option<Command> {
@@ -247,20 +239,20 @@ fn number_in(words: &[&str]) -> u32 {
 }
 
 /// What is told of the rounds of a case's plan in the period that the first word names, brought into its range.
-fn period_of<W: Write>(alloc: Global, case: &Case, words: &[&str], out: &mut W) -> RoundsEnd {
+fn period_of<W: Write>(alloc: Global, case: &Case, words: &[&str], out: &mut W) -> End {
     let period = number_in(words).clamp(1, MOST_TICKS);
     let (mut first, mut second) = (case.first.as_slice(), case.second.as_slice());
     period_run(alloc, &mut first, &mut second, u64::from(period), out)
 }
 
 /// The tables of a case's plan in as many rounds as the first word names.
-fn rounds_of<W: Write>(alloc: Global, case: &Case, words: &[&str], out: &mut W) -> RoundsEnd {
+fn rounds_of<W: Write>(alloc: Global, case: &Case, words: &[&str], out: &mut W) -> End {
     let (mut first, mut second) = (case.first.as_slice(), case.second.as_slice());
     tables_run(alloc, &mut first, &mut second, number_in(words), out)
 }
 
 /// How the comparison of a case's two instances with their plans ends.
-fn compared_of<W: Write>(alloc: Global, case: &Case, out: &mut W) -> Compared {
+fn compared_of<W: Write>(alloc: Global, case: &Case, out: &mut W) -> End {
     compare_run(
         alloc,
         &mut case.first.as_slice(),
@@ -278,14 +270,14 @@ fn end_of<W: Write>(
     case: &Case,
     words: &[&str],
     out: &mut W,
-) -> Ended {
+) -> End {
     let (mut first, mut second) = (case.first.as_slice(), case.second.as_slice());
-    let end = match case.command {
+    match case.command {
         Command::Verify => verify(alloc, &mut first, &mut second, out),
         Command::Bundle => verify_bundle(alloc, &mut first, out),
         Command::Tables => tables(alloc, &mut first, &mut second, out),
-        Command::Rounds => return Ended::OfRounds(rounds_of(alloc, case, words, out)),
-        Command::Period => return Ended::OfRounds(period_of(alloc, case, words, out)),
+        Command::Rounds => rounds_of(alloc, case, words, out),
+        Command::Period => period_of(alloc, case, words, out),
         Command::Replay => replay_run(alloc, &mut first, &mut second, words, out),
         Command::Check => check_run(rt, alloc, &mut first, &mut second, out),
         Command::Judge => {
@@ -306,26 +298,7 @@ fn end_of<W: Write>(
         Command::ExplainCertificate => {
             explain_certificate(rt, alloc, &mut first, &mut second, out)
         }
-        Command::Compare => return Ended::Compared(compared_of(alloc, case, out)),
-    };
-    Ended::End(end)
-}
-
-/// Tells why a command was refused, and gives its status.
-fn told<W: Write>(ended: &Ended, error: &mut W) -> u8 {
-    match ended {
-        Ended::End(end) => {
-            let _ = report(end, error);
-            status(end)
-        }
-        Ended::OfRounds(end) => {
-            let _ = period_command::report(end, error);
-            period_command::status(end)
-        }
-        Ended::Compared(compared) => {
-            let _ = compare_command::report(compared, error);
-            compare_command::status(compared)
-        }
+        Command::Compare => compared_of(alloc, case, out),
     }
 }
 
@@ -337,10 +310,10 @@ fn answer_of(
     words: &[&str],
 ) -> Result<Vec<u8>, AllocError> {
     let (mut out, mut error) = (Vec::new(alloc), Vec::new(alloc));
-    let ended = end_of(rt, alloc, case, words, &mut out);
-    let status = told(&ended, &mut error);
+    let end = end_of(rt, alloc, case, words, &mut out);
+    let _ = report(&end, &mut error);
     let mut answer = Vec::new(alloc);
-    push_number(&mut answer, u64::from(status))?;
+    push_number(&mut answer, u64::from(status(&end)))?;
     push_number_word(&mut answer, out.len() as u64)?;
     push_number_word(&mut answer, error.len() as u64)?;
     answer.push(b'\n')?;

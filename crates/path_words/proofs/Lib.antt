@@ -3,6 +3,6 @@ pub mod Falling
 pub mod Leading
 pub mod OneChain
 pub mod Short
-pub mod Telling
 mod Growing
+mod AllLate
 mod TooLate

@@ -1,4 +1,4 @@
--- There is one chain that makes the path bound, and one text of it.
+-- There is one chain that makes the path bound.
 use Rattle.std.proofs.Common.{◌≡◌, ℕ, List, [], ◌∷◌, Option, None, Some, length, slice_index, arith, ap, inl, inr, refl, subst, sym, ◌∙◌}
 use Rattle.std.proofs.lemmas.Bool.{cases_lt}
 use Rattle.std.proofs.lemmas.List.{ext_get_or}
@@ -10,7 +10,6 @@ use Rattle.path_words.specs.declared.chain.Cause.{Cause}
 use Rattle.path_words.specs.declared.chain.Cause.TheVariants.{Arrival, Link, Release}
 use Rattle.path_words.specs.declared.chain.ChainPart.{ChainPart}
 use Rattle.path_words.specs.Chain.{IsCause, IsChain, IsPart, LeadsBack, held_by}
-use Rattle.path_words.specs.Lines.{IsChainText, chain_text}
 
 one_first : (n : ℕ) (P : ℕ → Type 0) (a b : ℕ) → IsFirst n P a → IsFirst n P b → a ≡ b
 one_first n P a b is was = elim (cases_lt a b) [
@@ -27,9 +26,6 @@ module _ (i : Instance) where
       let one = are.each k (omega (arith, within, are.all)) in
       let other = were.each k (omega (arith, within, are.all)) in
       omega (arith, one.greatest (slice_index b k) other.reached, other.greatest (slice_index a k) one.reached))
-
-  pub one_bound : (a b : ℕ) → IsPathBound i a → IsPathBound i b → a ≡ b
-  one_bound a b is was = omega (arith, is.greatest was.last b was.reached, was.greatest is.last a is.reached)
 
   module _ (ends : List ℕ) where
     one_cause : (p from : ℕ) (a b : Cause) → IsCause i ends p from a → IsCause i ends p from b → a ≡ b
@@ -68,8 +64,3 @@ module _ (i : Instance) where
       let last = one_first (length i.processes) _ was.last is.last first is.ends_last in
       let leads = subst (λ (e : List ℕ). LeadsBack i e (Some was.last) b) ends was.leads_back in
       one_way is.ends (Some is.last) a b is.leads_back (subst (λ (p : ℕ). LeadsBack i is.ends (Some p) b) last leads)
-
-  pub one_text : (a b : List ℕ) → IsChainText i a → IsChainText i b → a ≡ b
-  one_text a b is was =
-      is.words ∙ ap (λ (bound : ℕ). chain_text i bound is.parts) (one_bound is.bound was.bound is.is_bound was.is_bound)
-      ∙ ap (chain_text i was.bound) (one_chain is.parts was.parts is.chain was.chain) ∙ sym was.words

@@ -1,71 +1,56 @@
--- The chain that makes the path bound in words, from its first process to its last. Own profile.
-use Rattle.std.specs.Prelude.{◌≡◌, ℕ, ◌-◌, List, [], ◌∷◌, ◌++◌, codes, decimal, if◌then◌else◌, nat_lt}
-use Rattle.ttp_model.specs.Instance.{Instance, link_at, source_of}
+-- What is told of the chain that makes the path bound: names in place of indices, and all ticks. Own profile.
+use Rattle.std.specs.Prelude.{◌≡◌, ℕ, ◌+◌, ◌-◌, ◌<◌, ◌≤◌, List, Option, None, Some}
 use Rattle.ttp_model.specs.Chains.{IsPathBound, least_transfer}
-use Rattle.plan_chain.specs.Lines.{arrival_words, link_words, process_words, release_words, span_text}
-use Rattle.process_words.specs.Counts.{ticks_words}
-use Rattle.ttp_model.specs.Names.{source_name, place_name, message_name, process_name}
+use Rattle.ttp_model.specs.Instance.{Instance, source_of}
+use Rattle.ttp_model.specs.Names.{message_name, source_name}
+use Rattle.sentences.specs.Lists.{AreTold}
+use Rattle.plan_chain.specs.declared.chain.StartCause.{StartCause}
+use Rattle.plan_chain.specs.declared.chain.StartCause.TheVariants as start
+use Rattle.plan_chain.specs.Lines.{IsRunLine}
 use Rattle.path_words.specs.declared.chain.Cause.{Cause}
 use Rattle.path_words.specs.declared.chain.Cause.TheVariants.{Arrival, Link, Release}
 use Rattle.path_words.specs.declared.chain.ChainPart.{ChainPart}
+use Rattle.path_words.specs.declared.lines.PathChain.{PathChain}
+use Rattle.path_words.specs.declared.lines.PathPart.{PathPart}
+use Rattle.path_words.specs.declared.lines.Transfer.{Transfer}
 use Rattle.path_words.specs.Chain.{IsChain}
 
--- a message from its node, and how long it takes
-unfoldable pub takes_words : List ℕ → List ℕ → ℕ → List ℕ
-takes_words name node ticks = name ++ (codes " from " ++ (node ++ (codes ", which takes " ++ (ticks_words ticks ++ codes " at least\n"))))
+-- what a process waits for, as in a plan
+abbrev pub start_cause : Cause → StartCause
+start_cause Release = start.Release
+start_cause (Link l) = start.Link l
+start_cause (Arrival m) = start.Arrival m
 
--- the line of a message that is there at this tick
-unfoldable pub sending_text : Instance → ℕ → ℕ → List ℕ
-sending_text i m until =
-    span_text (until - least_transfer i (source_of i m)) until
-    ++ takes_words (message_name i m) (source_name i m) (least_transfer i (source_of i m))
+-- message m is there at this tick, as many ticks after its sender as it takes at least
+pub record IsTransfer (i : Instance) (m until : ℕ) (x : Transfer) : Type 0 where
+  pub until_is : x.until ≡ until
+  pub from_is : x.from ≡ until - x.ticks
+  pub message_is : x.message.now ≡ message_name i m
+  pub node_is : x.node.now ≡ source_name i m
+  pub ticks_are : x.ticks ≡ least_transfer i (source_of i m)
 
--- the line above that of a process, where it waits for a message
-abbrev pub above_text : Instance → ℕ → Cause → List ℕ
-above_text i from Release = []
-above_text i from (Link l) = []
-above_text i from (Arrival m) = sending_text i m from
+-- the message that a process waits for, where it is one
+abbrev pub IsAbove : Instance → ℕ → Cause → Option Transfer → Type 0
+IsAbove i from Release None = Unit {0}
+IsAbove i from (Link l) None = Unit {0}
+IsAbove i from (Arrival m) (Some x) = IsTransfer i m from x
+IsAbove i from _ _ = ⊥
 
--- why a process begins at its tick
-abbrev pub cause_words : Instance → ℕ → Cause → List ℕ
-cause_words i from Release = release_words from
-cause_words i from (Link l) = link_words (process_name i (link_at i l).before) l
-cause_words i from (Arrival m) = arrival_words (message_name i m)
+-- what is told of a part
+pub record IsPathPart (i : Instance) (part : ChainPart) (x : PathPart) : Type 0 where
+  pub transfer_is : IsAbove i part.from part.cause x.transfer
+  pub run_is : IsRunLine i part.process part.from part.until (start_cause part.cause) x.run
 
--- the line of a process
-unfoldable pub run_text : Instance → ChainPart → List ℕ
-run_text i part =
-    span_text part.from part.until ++ (process_words (process_name i part.process) (place_name i part.process) ++ cause_words i part.from part.cause)
+-- by how much a bound is past the horizon: by some, where it is
+abbrev pub IsPast : ℕ → ℕ → Option ℕ → Type 0
+IsPast bound horizon None = bound ≤ horizon
+IsPast bound horizon (Some by) = (0 < by) × (horizon + by ≡ bound)
 
--- the lines of a part
-unfoldable pub part_text : Instance → ChainPart → List ℕ
-part_text i part = above_text i part.from part.cause ++ run_text i part
-
--- the lines of parts, the last one first
-abbrev pub parts_text : Instance → List ChainPart → List ℕ
-parts_text i [] = []
-parts_text i (part ∷ parts) = parts_text i parts ++ part_text i part
-
--- what stands above them
-unfoldable pub head_text : ℕ → List ℕ
-head_text bound = codes "No plan ends before " ++ (decimal bound ++ codes ", by this chain:\n")
-
--- that the bound is after the horizon
-unfoldable pub late_words : ℕ → ℕ → List ℕ
-late_words horizon by = codes "  the horizon is " ++ (decimal horizon ++ (codes ": " ++ (ticks_words by ++ codes " too late, so no plan is valid\n")))
-
--- what stands below them, where it is
-abbrev pub horizon_text : ℕ → ℕ → List ℕ
-horizon_text horizon bound = if nat_lt horizon bound then late_words horizon (bound - horizon) else []
-
--- parts in words, for this bound
-unfoldable pub chain_text : Instance → ℕ → List ChainPart → List ℕ
-chain_text i bound parts = head_text bound ++ (parts_text i parts ++ horizon_text i.cluster.horizon bound)
-
--- The chain that makes the path bound in words.
-pub record IsChainText (i : Instance) (text : List ℕ) : Type 0 where
-  pub bound : ℕ
-  pub is_bound : IsPathBound i bound
-  pub parts : List ChainPart
-  pub chain : IsChain i parts
-  pub words : text ≡ chain_text i bound parts
+-- Why no plan ends before the path bound: each part of the chain that adds up to it.
+pub record IsPathChain (i : Instance) (r : PathChain) : Type 0 where
+  pub bound_is : IsPathBound i r.bound
+  pub horizon_is : r.horizon ≡ i.cluster.horizon
+  pub past_is : IsPast r.bound r.horizon r.past
+  pub chain : List ChainPart
+  pub is_chain : IsChain i chain
+  pub parts_are : AreTold (IsPathPart i) chain r.parts.items

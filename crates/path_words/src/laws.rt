@@ -9,7 +9,6 @@ ghost use Rattle.longest_chains.specs.Longest.{AreLongest};
 ghost use Rattle.path_words.specs.declared.chain.ChainPart.{ChainPart};
 ghost use Rattle.path_words.specs.Chain.{AreJoined, BeginsAtRelease, IsChain};
 ghost use Rattle.path_words.specs.Late.{late_parts};
-ghost use Rattle.path_words.specs.Lines.{IsChainText};
 
 /// A chain has a part, and its last process, which is told first, ends at the path bound.
 pub fn chains_end_at_the_path_bound()
@@ -44,8 +43,7 @@ pub fn late_processes_leave_no_plan()
     ensures { (i : Instance) (ends : List ℕ) → IsInstance i → AreLongest i ends → late_parts i ends ≢ [] → HasNoPlan i }
 {}
 
-/// There is one such chain, and one text of it.
+/// There is one such chain.
 pub fn one_chain_is_told()
-    ensures chain { (i : Instance) (a b : List ChainPart) → IsChain i a → IsChain i b → a ≡ b }
-    ensures text { (i : Instance) (a b : List ℕ) → IsChainText i a → IsChainText i b → a ≡ b }
+    ensures { (i : Instance) (a b : List ChainPart) → IsChain i a → IsChain i b → a ≡ b }
 {}

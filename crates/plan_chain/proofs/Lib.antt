@@ -4,4 +4,3 @@ pub mod Waiting
 pub mod Rooms
 pub mod Settled
 pub mod Short
-pub mod Telling

@@ -3,13 +3,13 @@
 
 mod chain;
 mod laws;
+mod lines;
 mod rounds;
 mod starts;
-mod words;
 
 pub use chain::{ChainLink, RoundCause, StartCause, chain_of, last_to_end};
 pub use laws::{
     chains_are_short, chains_begin_at_a_release, chains_end_at_the_delay, links_are_joined,
 };
+pub use lines::{ChainLine, PlanChain, RunLine, SendingLine, StartReason, chain_reason, run_line};
 pub use ttp_model::MemoryFault;
-pub use words::{print, put_arrival, put_link_cause, put_process, put_release, put_span};

@@ -6,6 +6,3 @@ of_four a b c d = simp append_assoc
 
 pub of_five : (a b c d e : List ℕ) → (((a ++ b) ++ c) ++ d) ++ e ≡ a ++ (((b ++ c) ++ d) ++ e)
 of_five a b c d e = simp append_assoc
-
-pub from_the_left : (a b c d e f : List ℕ) → a ++ (b ++ (c ++ (d ++ (e ++ f)))) ≡ (a ++ (b ++ (c ++ (d ++ e)))) ++ f
-from_the_left a b c d e f = simp append_assoc

@@ -1,9 +1,6 @@
 mod ChainLines
 mod EntryLines
 mod Joined
-mod PlanFaults
-mod PlanLines
-mod ProcessLines
 mod Refused
 mod StepLines
 mod TextFaults

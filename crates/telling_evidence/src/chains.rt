@@ -1,14 +1,13 @@
 //! What is told of the chain that makes the path bound?
 
-ghost use Rattle.std.specs.Prelude.{◌≡◌, ℕ, ◌∷◌, List, ◌++◌, IfOk, codes, string_bytes};
+ghost use Rattle.std.specs.Prelude.{◌≡◌, ℕ, ◌∷◌, IfOk, List, Some};
 ghost use Rattle.ttp_model.specs.Chains.{least_transfer};
 ghost use Rattle.ttp_model.specs.Instance.{source_of};
-ghost use Rattle.process_words.specs.Counts.{ticks_words};
-ghost use Rattle.path_words.specs.declared.chain.Cause.TheVariants.{Arrival};
-ghost use Rattle.path_words.specs.declared.chain.ChainPart.{ChainPart};
-ghost use Rattle.path_words.specs.Chain.{IsChain};
+ghost use Rattle.ttp_model.specs.Names.{message_name};
+ghost use Rattle.path_words.specs.declared.lines.PathPart.{PathPart};
+ghost use Rattle.path_words.specs.declared.lines.Transfer.{Transfer};
 
-use path_words::{MemoryFault, print};
+use path_words::{MemoryFault, PathChain, chain_reason};
 use std::alloc::Global;
 use ttp_model::Instance;
 
@@ -16,11 +15,9 @@ use ttp_model::Instance;
 pub fn all_ticks_of_a_transfer_are_told(
     alloc: Global,
     instance: &Instance,
-) -> Result<String, MemoryFault>
-    ensures { IfOk result (λ text. (parts : List ChainPart) × IsChain instance.now parts
-        × ((part : ChainPart) (others : List ChainPart) (m : ℕ) → parts ≡ part ∷ others → part.cause ≡ Arrival m
-        → (front rest : List ℕ) × (string_bytes text ≡ front ++ (codes ", which takes "
-        ++ (ticks_words (least_transfer instance.now (source_of instance.now m)) ++ rest))))) }
+) -> Result<PathChain<'_>, MemoryFault>
+    ensures { IfOk result (λ r. (part : PathPart) (others : List PathPart) (x : Transfer) → r.parts.items ≡ part ∷ others → part.transfer ≡ Some x
+        → (m : ℕ) × (x.message.now ≡ message_name instance.now m) × (x.ticks ≡ least_transfer instance.now (source_of instance.now m))) }
 {
-    print(alloc, instance)
+    chain_reason(alloc, instance)
 }

@@ -1,4 +1,4 @@
-use Rattle.std.proofs.Common.{◌∙◌, below_more, sym}
+use Rattle.std.proofs.Common.{◌∙◌, ap, arith, below_more, length, sym}
 use Rattle.std.proofs.lemmas.Bool.{false≢true}
 use Rattle.plan_chain.specs.Causes.{MessageHolds}
 use Rattle.plan_chain.proofs.starts.message_that_holds.Goals as goal
@@ -10,3 +10,6 @@ pub loop-m-preserved : goal.loop-m-preserved
 loop-m-preserved c =
     below_more (λ k. ¬ MessageHolds c.args.instance.now c.args.plan.now c.args.p k) c.loop-m.m c.loop-m.invariant
     (λ holds. false≢true (sym c.if-message_holds.false ∙ c.message_holds.ensures.1 holds))
+
+pub returns : goal.returns
+returns c = λ k inside holds. c.loop-m.invariant k (omega (arith, inside, ap length c.messages-m-end.ensures.value, c.loop-m-test.false)) holds

@@ -1,0 +1,5 @@
+pub mod Failing
+pub mod FirstRounds
+pub mod Places
+pub mod Positions
+pub mod Words

@@ -1,0 +1,13 @@
+pub mod Differences
+pub mod Limits
+pub mod Lists
+pub mod Processes
+pub mod Slots
+pub mod Messages
+pub mod Frames
+pub mod Delays
+pub mod Cycles
+pub mod Forms
+pub mod Orders
+pub mod Lines
+pub mod Reasons

@@ -1,2 +1,0 @@
-pub mod FormLines
-pub mod Words

@@ -1,4 +1,0 @@
-pub mod Differences
-pub mod FirstRounds
-pub mod Growing
-pub mod Places
