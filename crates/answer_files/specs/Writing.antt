@@ -7,17 +7,15 @@ use Rattle.instance_text.specs.Faults.{States}
 use Rattle.command_streams.specs.declared.ending.Sink.TheVariants as sink
 use Rattle.command_streams.specs.declared.ending.Fault.TheVariants.{Unwritten}
 use Rattle.command_streams.specs.declared.ending.End.{End}
-use Rattle.command_streams.specs.declared.ending.End.TheVariants.{Refused}
-use Rattle.command_streams.specs.Limits.{instance_limit}
+use Rattle.command_streams.specs.declared.ending.End.TheVariants.{Refused, RefusedOf}
+use Rattle.command_streams.specs.declared.limits.TheConstants.{INSTANCE_LIMIT}
 use Rattle.command_streams.specs.Streams.{AppendsPart}
-use Rattle.answer_files.specs.declared.ending.FilesEnd.{FilesEnd}
-use Rattle.answer_files.specs.declared.ending.FilesEnd.TheVariants.{As, Unreduced}
 use Rattle.answer_files.specs.declared.texts.Texts.{Texts}
 
 -- a text that states an instance, and isn't too long to be read as a file
 pub record IsFileOf (i : Instance) (text : List ℕ) : Type 0 where
   pub states : States text (Ok i)
-  pub within : length text ≤ instance_limit
+  pub within : length text ≤ INSTANCE_LIMIT
 
 -- a text that was made is one of the instance; there may be none that reads back as it
 abbrev pub IsTextOf : Instance → Option (Vec ℕ) → Type 0
@@ -36,6 +34,7 @@ bytes_of (Some text) = text.items
 -- an end at which a command tells its answer
 abbrev pub IsToldAt : End → Type 0
 IsToldAt (Refused fault) = ⊥
+IsToldAt (RefusedOf release fault) = ⊥
 IsToldAt _ = Unit {0}
 
 -- How texts are written: the certificate to a file that held `from`, the instance to one that held `before`, and then the answer.
@@ -65,12 +64,12 @@ module _ (texts : Texts) (from to before after old new : Option (List ℕ)) wher
     pub answer : AppendsPart old new texts.answer.items
 
   -- how that ends: at its last end; or where a writer fails; or, with all written, where there is no text of the instance
-  abbrev pub IsWritingTo : End → FilesEnd → Type 0
-  IsWritingTo last Unreduced = IsUnreduced ⊎ ((texts.reduced ≡ None) × AreWritten)
-  IsWritingTo last (As (Refused (Unwritten sink.Certificate))) = IsUncertified
-  IsWritingTo last (As (Refused (Unwritten sink.Out))) = IsCutOff
-  IsWritingTo last (As end) = (end ≡ last) × AreWritten
+  abbrev pub IsWritingTo : End → End → Type 0
+  IsWritingTo last (Refused (Unwritten sink.Certificate)) = IsUncertified
+  IsWritingTo last (Refused (Unwritten sink.Reduced)) = IsUnreduced ⊎ ((texts.reduced ≡ None) × AreWritten)
+  IsWritingTo last (Refused (Unwritten sink.Out)) = IsCutOff
+  IsWritingTo last end = (end ≡ last) × AreWritten
 
 -- the same with the end behind the texts
-abbrev pub IsWritingOf : Texts → End → (from to before after old new : Option (List ℕ)) → FilesEnd → Type 0
+abbrev pub IsWritingOf : Texts → End → (from to before after old new : Option (List ℕ)) → End → Type 0
 IsWritingOf texts last from to before after old new end = IsWritingTo texts from to before after old new last end

@@ -1,10 +1,8 @@
 //! How an answer is written, with a certificate and an instance beside it in files of their own.
 #![tactic(auto)]
 
-mod ending;
 mod instance;
 mod texts;
 
-pub use ending::{FilesEnd, report, status};
 pub use instance::instance_text;
 pub use texts::{Texts, write_texts};

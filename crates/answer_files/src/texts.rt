@@ -3,7 +3,6 @@
 ghost use Rattle.std.specs.Prelude.{◌≡◌};
 ghost use Rattle.answer_files.specs.Writing.{IsToldAt, IsWritingOf, bytes_of};
 
-use crate::ending::FilesEnd;
 use command_streams::{End, Fault, Sink, write_text};
 use std::io::Write;
 
@@ -35,23 +34,23 @@ pub fn write_texts<C: Write, S: Write, W: Write>(
     certificate: &mut C,
     reduced: &mut S,
     out: &mut W,
-) -> FilesEnd
+) -> End
     requires { IsToldAt last }
     ensures { IsWritingOf texts.now last
         (C.contents certificate.old) (C.contents certificate.new) (S.contents reduced.old) (S.contents reduced.new)
         (W.contents out.old) (W.contents out.new) result }
 {
     if write_text(certificate, texts.certificate.as_slice()).is_err() {
-        return FilesEnd::As(End::Refused(Fault::Unwritten(Sink::Certificate)));
+        return End::Refused(Fault::Unwritten(Sink::Certificate));
     }
     if write_text(reduced, bytes_of(&texts.reduced)).is_err() {
-        return FilesEnd::Unreduced;
+        return End::Refused(Fault::Unwritten(Sink::Reduced));
     }
     if write_text(out, texts.answer.as_slice()).is_err() {
-        return FilesEnd::As(End::Refused(Fault::Unwritten(Sink::Out)));
+        return End::Refused(Fault::Unwritten(Sink::Out));
     }
     match texts.reduced {
-        Some(_) => FilesEnd::As(last),
-        None => FilesEnd::Unreduced,
+        Some(_) => last,
+        None => End::Refused(Fault::Unwritten(Sink::Reduced)),
     }
 }

@@ -9,9 +9,9 @@ use Rattle.command_streams.specs.declared.input.Stop.TheVariants.{OverLimit}
 use Rattle.command_streams.specs.declared.ending.Source.{Source}
 use Rattle.command_streams.specs.declared.ending.Source.TheVariants as source
 use Rattle.command_streams.specs.declared.ending.Fault.{Fault}
-use Rattle.command_streams.specs.declared.ending.Fault.TheVariants.{NoMark, LossForm, InstanceText, Memory, PlanText, Plan, StatedDelay, CertificateText, Certificate, TooFewNodes, WrongLoss, NoSuchProcess, TooManySlots, Search, TooLong, Unread, Unwritten}
+use Rattle.command_streams.specs.declared.ending.Fault.TheVariants.{InstanceText, Memory, TooLong, Unread}
 use Rattle.command_streams.specs.Endings.{IsNotOfTexts}
-use Rattle.command_streams.specs.Limits.{instance_limit}
+use Rattle.command_streams.specs.declared.limits.TheConstants.{INSTANCE_LIMIT}
 use Rattle.command_streams.specs.Instances.{HasInstance, IsInstanceFault}
 use Rattle.command_streams.specs.Streams.{IsReadFault, IsTaken}
 
@@ -45,35 +45,22 @@ module _ (Holds : Fault → Type 0) (of : Source) (limit : ℕ) (known : Option 
   by_read_fault Memory is = memory
   by_read_fault (Unread other) is = subst (λ (s : Source). Holds (Unread s)) (sym is) unread
   by_read_fault (TooLong other) is = subst (λ (s : Source). Holds (TooLong s)) (sym is.0) (long is.1)
-  by_read_fault NoMark is = absurd is
-  by_read_fault (LossForm k) is = absurd is
-  by_read_fault (InstanceText error) is = absurd is
-  by_read_fault (PlanText error) is = absurd is
-  by_read_fault (Plan fault) is = absurd is
-  by_read_fault (StatedDelay d) is = absurd is
-  by_read_fault (CertificateText error) is = absurd is
-  by_read_fault (Certificate fault) is = absurd is
-  by_read_fault TooFewNodes is = absurd is
-  by_read_fault (TooManySlots count) is = absurd is
-  by_read_fault (NoSuchProcess k) is = absurd is
-  by_read_fault (WrongLoss k) is = absurd is
-  by_read_fault (Search fault) is = absurd is
-  by_read_fault (Unwritten sink) is = absurd is
+  by_read_fault fault is = absurd is
 
-pub unread_judged : (known : Option (List ℕ)) (fault : Fault) → IsReadFault source.Instance instance_limit known fault
+pub unread_judged : (known : Option (List ℕ)) (fault : Fault) → IsReadFault source.Instance INSTANCE_LIMIT known fault
     → IfSome known (λ bytes. IsInstanceFault bytes fault)
 unread_judged None fault is = tt
-unread_judged (Some bytes) fault is = by_read_fault (IsInstanceFault bytes) source.Instance instance_limit (Some bytes) tt tt (λ long. long) fault is
+unread_judged (Some bytes) fault is = by_read_fault (IsInstanceFault bytes) source.Instance INSTANCE_LIMIT (Some bytes) tt tt (λ long. long) fault is
 
 -- such a fault is none of a text that states an instance, which is within the limit
-no_longer : (bytes : List ℕ) (i : Instance) → HasInstance bytes i → instance_limit < length bytes → ⊥
+no_longer : (bytes : List ℕ) (i : Instance) → HasInstance bytes i → INSTANCE_LIMIT < length bytes → ⊥
 no_longer bytes i has long = omega (arith, long, has.within)
 
-pub unread_only : (known : Option (List ℕ)) (fault : Fault) → IsReadFault source.Instance instance_limit known fault
+pub unread_only : (known : Option (List ℕ)) (fault : Fault) → IsReadFault source.Instance INSTANCE_LIMIT known fault
     → IfSome known (λ bytes. (i : Instance) → HasInstance bytes i → IsNotOfTexts fault)
 unread_only None fault is = tt
 unread_only (Some bytes) fault is =
-    λ i has. by_read_fault IsNotOfTexts source.Instance instance_limit (Some bytes) refl tt (λ long. absurd (no_longer bytes i has long)) fault is
+    λ i has. by_read_fault IsNotOfTexts source.Instance INSTANCE_LIMIT (Some bytes) refl tt (λ long. absurd (no_longer bytes i has long)) fault is
 
 -- what is read of a reader's bytes is so of all that it had
 pub read_only : (known : Option (List ℕ)) (read : List ℕ) (result : Result Instance Fault) → IfSome known (λ bytes. read ≡ bytes)

@@ -7,9 +7,9 @@ use Rattle.certificate.specs.declared.fault.CertTextError.TheVariants as certifi
 use Rattle.tree_check.specs.declared.fault.CertFault.TheVariants as certificate
 use Rattle.command_streams.specs.declared.ending.SearchFault.TheVariants as search
 use Rattle.command_streams.specs.declared.ending.Fault.{Fault}
-use Rattle.command_streams.specs.declared.ending.Fault.TheVariants.{NoMark, LossForm, InstanceText, Memory, PlanText, Plan, StatedDelay, CertificateText, Certificate, TooFewNodes, WrongLoss, NoSuchProcess, TooManySlots, Search, TooLong, Unread, Unwritten}
+use Rattle.command_streams.specs.declared.ending.Fault.TheVariants.{NoMark, LossForm, InstanceText, Memory, PlanText, Plan, StatedDelay, CertificateText, Certificate, TooFewNodes, WrongLoss, NoSuchProcess, TooManySlots, ShortPeriod, ShortTables, LongTables, Search, TooLong, Unread, Unwritten}
 use Rattle.command_streams.specs.declared.ending.End.{End}
-use Rattle.command_streams.specs.declared.ending.End.TheVariants.{Done, Absent, Stopped, Refused}
+use Rattle.command_streams.specs.declared.ending.End.TheVariants.{Done, Different, Absent, Stopped, Refused, RefusedOf}
 
 -- of a refusal: 2 usage, 3 the instance, 4 memory, 5 the plan, the certificate or a loss, 6 a file, 7 the search
 abbrev pub fault_status : Fault → ℕ
@@ -29,6 +29,9 @@ fault_status (Certificate certificate.OutOfMemory) = 4
 fault_status (Certificate _) = 5
 fault_status TooFewNodes = 5
 fault_status (TooManySlots count) = 5
+fault_status (ShortPeriod rounds) = 5
+fault_status (ShortTables rounds) = 5
+fault_status (LongTables count) = 5
 fault_status (NoSuchProcess k) = 5
 fault_status (WrongLoss k) = 5
 fault_status (Search search.Memory) = 4
@@ -43,9 +46,11 @@ IsNotOfTexts (Unread source) = Unit {0}
 IsNotOfTexts (Unwritten sink) = Unit {0}
 IsNotOfTexts fault = fault_status fault ≡ 4
 
--- of every end: 0 where the command did what it is for
+-- of every end: 0 where the command did what it is for, and 1 where something is different of two
 abbrev pub status_of : End → ℕ
 status_of Done = 0
+status_of Different = 1
 status_of Absent = 10
 status_of Stopped = 11
 status_of (Refused fault) = fault_status fault
+status_of (RefusedOf release fault) = fault_status fault

@@ -1,4 +1,3 @@
-pub mod Limits
 pub mod Streams
 pub mod Endings
 pub mod Lines

@@ -1,5 +1,5 @@
 -- The line that the program writes on standard error for each fault.
-use Rattle.std.specs.Prelude.{ℕ, List, [], ◌∷◌, ◌++◌, codes, decimal}
+use Rattle.std.specs.Prelude.{ℕ, List, [], ◌∷◌, ◌++◌, ◌==◌, if◌then◌else◌, codes, decimal}
 use Rattle.std.specs.List.{flat_map}
 use Rattle.ttp_model.specs.declared.error.Part.{Part}
 use Rattle.ttp_model.specs.declared.error.Part.TheVariants as part
@@ -35,9 +35,13 @@ use Rattle.command_streams.specs.declared.ending.Sink.TheVariants as sink
 use Rattle.command_streams.specs.declared.ending.SearchFault.{SearchFault}
 use Rattle.command_streams.specs.declared.ending.SearchFault.TheVariants as search
 use Rattle.command_streams.specs.declared.ending.Fault.{Fault}
-use Rattle.command_streams.specs.declared.ending.Fault.TheVariants.{NoMark, LossForm, InstanceText, Memory, PlanText, Plan, StatedDelay, CertificateText, Certificate, TooFewNodes, WrongLoss, NoSuchProcess, TooManySlots, Search, TooLong, Unread, Unwritten}
+use Rattle.command_streams.specs.declared.ending.Fault.TheVariants.{NoMark, LossForm, InstanceText, Memory, PlanText, Plan, StatedDelay, CertificateText, Certificate, TooFewNodes, WrongLoss, NoSuchProcess, TooManySlots, ShortPeriod, ShortTables, LongTables, Search, TooLong, Unread, Unwritten}
 use Rattle.command_streams.specs.declared.ending.End.{End}
-use Rattle.command_streams.specs.declared.ending.End.TheVariants.{Done, Absent, Stopped, Refused}
+use Rattle.command_streams.specs.declared.ending.End.TheVariants.{Done, Different, Absent, Stopped, Refused, RefusedOf}
+use Rattle.command_streams.specs.declared.ending.Release.{Release}
+use Rattle.command_streams.specs.declared.ending.Release.TheVariants.{New, Old}
+use Rattle.command_streams.specs.declared.ending.Rounds.{Rounds}
+use Rattle.command_streams.specs.Endings.{fault_status}
 
 -- the word for a list of the instance
 abbrev pub part_word : Part → List ℕ
@@ -176,8 +180,13 @@ source_word source.Certificate = codes "certificate"
 -- the word for what could not be written
 abbrev pub sink_word : Sink → List ℕ
 sink_word sink.Certificate = codes "certificate"
+sink_word sink.Reduced = codes "reduced"
 sink_word sink.Plan = codes "plan"
 sink_word sink.Out = codes "out"
+
+-- the words for the rounds of a plan's cycle and those that there are for it
+abbrev pub rounds_words : Rounds → List ℕ
+rounds_words rounds = decimal rounds.needed ++ (codes " " ++ decimal rounds.held)
 
 -- the line of every fault, without its end
 abbrev pub fault_line : Fault → List ℕ
@@ -192,6 +201,9 @@ fault_line (CertificateText error) = certificate_text_line error
 fault_line (Certificate fault) = certificate_line fault
 fault_line TooFewNodes = codes "replay N1"
 fault_line (TooManySlots count) = codes "draw slots " ++ decimal count
+fault_line (ShortPeriod rounds) = codes "period rounds " ++ rounds_words rounds
+fault_line (ShortTables rounds) = codes "tables rounds " ++ rounds_words rounds
+fault_line (LongTables count) = codes "tables slots " ++ decimal count
 fault_line (NoSuchProcess k) = codes "limit name " ++ decimal k
 fault_line (WrongLoss k) = codes "replay N2 " ++ decimal k
 fault_line (Search fault) = search_line fault
@@ -203,9 +215,20 @@ fault_line (Unwritten sink) = codes "write " ++ sink_word sink
 abbrev pub line_behind : List ℕ → Fault → List ℕ
 line_behind words fault = words ++ (fault_line fault ++ 10 ∷ [])
 
+-- the word for a release
+abbrev pub release_word : Release → List ℕ
+release_word Old = codes "old "
+release_word New = codes "new "
+
+-- what stands before the line of a fault of a release: nothing where memory was refused, which is no matter of a release
+abbrev pub release_words : Release → Fault → List ℕ
+release_words release fault = if fault_status fault == 4 then [] else release_word release
+
 -- what is written on standard error at each end
 abbrev pub report_of : End → List ℕ
 report_of Done = []
+report_of Different = []
 report_of Absent = []
 report_of Stopped = []
 report_of (Refused fault) = fault_line fault ++ 10 ∷ []
+report_of (RefusedOf release fault) = line_behind (release_words release fault) fault

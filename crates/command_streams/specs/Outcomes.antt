@@ -5,7 +5,7 @@ use Rattle.command_streams.specs.declared.ending.Sink.TheVariants.{Out}
 use Rattle.command_streams.specs.declared.ending.Fault.{Fault}
 use Rattle.command_streams.specs.declared.ending.Fault.TheVariants.{Memory, Unwritten}
 use Rattle.command_streams.specs.declared.ending.End.{End}
-use Rattle.command_streams.specs.declared.ending.End.TheVariants.{Done, Absent, Stopped, Refused}
+use Rattle.command_streams.specs.declared.ending.End.TheVariants.{Done, Different, Absent, Stopped, Refused, RefusedOf}
 use Rattle.command_streams.specs.Endings.{IsNotOfTexts}
 use Rattle.command_streams.specs.Streams.{AppendsPart}
 
@@ -28,9 +28,8 @@ IsWritingUnlessMemory text old new end = IsWriting text old new end
 -- a text is written, unless a reader or a writer failed or memory was refused
 abbrev pub IsWritingUnlessStopped : List ℕ → Option (List ℕ) → Option (List ℕ) → End → Type 0
 IsWritingUnlessStopped text old new Done = Appends old new text
-IsWritingUnlessStopped text old new Absent = ⊥
-IsWritingUnlessStopped text old new Stopped = ⊥
 IsWritingUnlessStopped text old new (Refused fault) = IsNotOfTexts fault
+IsWritingUnlessStopped text old new _ = ⊥
 
 -- the writer gained a text of these
 pub record IsWritten (IsText : List ℕ → Type 0) (old new : Option (List ℕ)) : Type 0 where
@@ -46,13 +45,15 @@ pub record IsCutShort (IsTextAt : End → List ℕ → Type 0) (old new : Option
   pub part : AppendsPart old new text
 
 -- The whole answer: the text of that end, or a prefix of one where the writer failed, or why there is none, and then
--- nothing is written.
+-- nothing is written. It is that of a command which compares no two.
 abbrev pub IsCommandAnswer : (End → List ℕ → Type 0) → (Fault → Type 0) → Option (List ℕ) → Option (List ℕ) → End → Type 0
 IsCommandAnswer IsTextAt IsRefusedBy old new Done = IsWritten (IsTextAt Done) old new
+IsCommandAnswer IsTextAt IsRefusedBy old new Different = IsWritten (IsTextAt Different) old new
 IsCommandAnswer IsTextAt IsRefusedBy old new Absent = IsWritten (IsTextAt Absent) old new
 IsCommandAnswer IsTextAt IsRefusedBy old new Stopped = IsWritten (IsTextAt Stopped) old new
 IsCommandAnswer IsTextAt IsRefusedBy old new (Refused (Unwritten Out)) = IsCutShort IsTextAt old new
 IsCommandAnswer IsTextAt IsRefusedBy old new (Refused fault) = IsRefusedBy fault × Keeps old new
+IsCommandAnswer IsTextAt IsRefusedBy old new (RefusedOf release fault) = ⊥
 
 -- the texts of a command that writes one when it is done, and has no other end without a fault
 abbrev pub OnDone : (List ℕ → Type 0) → End → List ℕ → Type 0

@@ -23,9 +23,25 @@ pub enum Source {
 #[derive(Clone, Copy, PartialEq, Eq)]
 pub enum Sink {
     Certificate,
+    /// The file of an instance beside the answer.
+    Reduced,
     /// The file of the best plan so far.
     Plan,
     Out,
+}
+
+/// Which of two that are compared.
+#[derive(Clone, Copy, PartialEq, Eq)]
+pub enum Release {
+    Old,
+    New,
+}
+
+/// How many rounds a plan's cycle has, and how many there are for it.
+#[derive(Clone, Copy, PartialEq, Eq)]
+pub struct Rounds {
+    pub needed: u64,
+    pub held: u64,
 }
 
 /// Why a search has no answer.
@@ -67,13 +83,20 @@ pub enum Fault {
     NoSuchProcess(usize),
     /// When a picture would show this many slots, more than it may.
     TooManySlots(u64),
+    /// When a period holds fewer rounds than the cycle has.
+    ShortPeriod(Rounds),
+    /// When tables of fewer rounds than the cycle has were asked for.
+    ShortTables(Rounds),
+    /// When tables of this many slots were asked for, more than may be.
+    LongTables(u64),
     /// When the search has no answer.
     Search(SearchFault),
     /// When a reader failed, or a file could not be opened. Of a bundle also where one of its parts has more bytes than its limit.
     Unread(Source),
     /// When a reader had more bytes than its limit.
     TooLong(Source),
-    /// When a writer failed, or took no byte.
+    /// When a writer failed, or took no byte. Of an instance beside the answer also where no text was made that reads back as it; then the
+    /// answer is written all the same.
     Unwritten(Sink),
 }
 
@@ -104,14 +127,18 @@ impl<T: Drop> From<AllocFailed<T>> for Fault {
 /// How a command ends.
 #[derive(Drop)]
 pub enum End {
-    /// It did what it is for.
+    /// It did what it is for; of a comparison, that nothing is different.
     Done,
+    /// Something is different of two that are compared.
+    Different,
     /// There is no plan.
     Absent,
     /// Less is known than was asked: the search was stopped by its budget or for want of memory, or a certificate's bound is
     /// below what it was held against.
     Stopped,
     Refused(Fault),
+    /// One of two that are compared is refused.
+    RefusedOf(Release, Fault),
 }
 
 /// The status of a refusal.
@@ -137,6 +164,9 @@ pub fn status_of_fault(fault: &Fault) -> u8
         Fault::WrongLoss(_) => 5,
         Fault::NoSuchProcess(_) => 5,
         Fault::TooManySlots(_) => 5,
+        Fault::ShortPeriod(_) => 5,
+        Fault::ShortTables(_) => 5,
+        Fault::LongTables(_) => 5,
         Fault::Search(SearchFault::Memory) => 4,
         Fault::Search(_) => 7,
         Fault::Unread(_) => 6,
@@ -151,8 +181,10 @@ pub fn status(end: &End) -> u8
 {
     match end {
         End::Done => 0,
+        End::Different => 1,
         End::Absent => 10,
         End::Stopped => 11,
         End::Refused(fault) => status_of_fault(fault),
+        End::RefusedOf(_, fault) => status_of_fault(fault),
     }
 }

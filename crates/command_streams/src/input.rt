@@ -4,17 +4,14 @@ ghost use Rattle.std.specs.Prelude.{◌≡◌, ◌+◌, ◌<◌, ◌≤◌, ◌^
 ghost use Rattle.std.specs.Io.KnownBytes.{Consumes};
 ghost use Rattle.ttp_model.specs.Instance.{Instance};
 ghost use Rattle.command_streams.specs.Endings.{IsNotOfTexts};
-ghost use Rattle.command_streams.specs.Limits.{instance_limit};
 ghost use Rattle.command_streams.specs.Streams.{IsOfReadBytes, IsReadFault, IsTaken, TakesAtMost};
 ghost use Rattle.command_streams.specs.Instances.{HasInstance, IsInstanceFault};
 
 use crate::ending::{Fault, Source};
+use crate::limits::INSTANCE_LIMIT;
 use std::alloc::{AllocError, Global};
 use std::io::Read;
 use ttp_model::Instance;
-
-/// The bytes of an instance's text, at most.
-pub const INSTANCE_LIMIT: usize = 8_388_608;
 
 /// Why the taking ended.
 #[derive(Clone, Copy, PartialEq, Eq)]
@@ -109,7 +106,7 @@ pub fn read_instance<R: Read>(alloc: Global, reader: &mut R) -> Result<Instance,
         (IsInstanceFault bytes)) }
     ensures only { IfSome (R.remaining reader.old) (λ bytes. (i : Instance) → HasInstance bytes i
         → MatchResult result (λ read. read ≡ i) IsNotOfTexts) }
-    ensures most { TakesAtMost (instance_limit + 1) (R.remaining reader.old) (R.remaining reader.new) }
+    ensures most { TakesAtMost (INSTANCE_LIMIT + 1) (R.remaining reader.old) (R.remaining reader.new) }
 {
     let bytes = read_all(alloc, reader, INSTANCE_LIMIT, Source::Instance)?;
     instance_of_text(alloc, bytes.as_slice())

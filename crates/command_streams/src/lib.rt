@@ -3,13 +3,13 @@
 
 mod ending;
 mod input;
+mod limits;
 mod lines;
 mod output;
 mod reporting;
 
-pub use ending::{End, Fault, SearchFault, Sink, Source, status, status_of_fault};
-pub use input::{
-    INSTANCE_LIMIT, Stop, Taken, instance_of_text, read_all, read_instance, take_input,
-};
+pub use ending::{End, Fault, Release, Rounds, SearchFault, Sink, Source, status, status_of_fault};
+pub use input::{Stop, Taken, instance_of_text, read_all, read_instance, take_input};
+pub use limits::{CERTIFICATE_LIMIT, INSTANCE_LIMIT, PLAN_LIMIT};
 pub use output::{WriteFault, end_with, write_text};
-pub use reporting::{report, report_fault};
+pub use reporting::report;

@@ -2,9 +2,9 @@
 
 ghost use Rattle.std.specs.Prelude.{◌≡◌, Some, OnOk};
 ghost use Rattle.std.specs.List.{flat_map};
-ghost use Rattle.command_streams.specs.Lines.{spaced, plan_list_number, part_word, place_words, table_words, line_code, certificate_line_code, certificate_text_line, node_code, certificate_line, model_line, text_line, plan_text_line, plan_line, search_line, source_word, sink_word, fault_line};
+ghost use Rattle.command_streams.specs.Lines.{spaced, plan_list_number, part_word, place_words, table_words, line_code, certificate_line_code, certificate_text_line, node_code, certificate_line, model_line, text_line, plan_text_line, plan_line, search_line, source_word, sink_word, rounds_words, fault_line};
 
-use crate::ending::{Fault, SearchFault, Sink, Source};
+use crate::ending::{Fault, Rounds, SearchFault, Sink, Source};
 use certificate::CertTextError;
 use instance_text::TextError;
 use plan_format::{LineFault, PlanTextError};
@@ -307,9 +307,22 @@ impl fmt::Display for SinkWord {
     fn fmt<W: fmt::Write>(&self, f: &mut fmt::Formatter<W>) -> fmt::Result {
         match self.0 {
             Sink::Certificate => write!(f, "certificate"),
+            Sink::Reduced => write!(f, "reduced"),
             Sink::Plan => write!(f, "plan"),
             Sink::Out => write!(f, "out"),
         }
+    }
+}
+
+#[derive(Drop)]
+struct RoundsWords(Rounds);
+
+impl fmt::Display for RoundsWords {
+    ghost output = { λ x. Some (rounds_words x.0) };
+
+    fn fmt<W: fmt::Write>(&self, f: &mut fmt::Formatter<W>) -> fmt::Result {
+        let (needed, held) = (self.0.needed, self.0.held);
+        write!(f, "{needed} {held}")
     }
 }
 
@@ -331,6 +344,9 @@ impl fmt::Display for Fault {
             Fault::WrongLoss(k) => write!(f, "replay N2 {k}"),
             Fault::NoSuchProcess(k) => write!(f, "limit name {k}"),
             Fault::TooManySlots(count) => write!(f, "draw slots {count}"),
+            Fault::ShortPeriod(rounds) => write!(f, "period rounds {}", RoundsWords(*rounds)),
+            Fault::ShortTables(rounds) => write!(f, "tables rounds {}", RoundsWords(*rounds)),
+            Fault::LongTables(count) => write!(f, "tables slots {count}"),
             Fault::Search(fault) => write!(f, "{}", SearchLine(*fault)),
             Fault::Unread(source) | Fault::TooLong(source) => {
                 write!(f, "read {}", SourceWord(*source))

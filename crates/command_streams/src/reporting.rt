@@ -2,10 +2,10 @@
 
 ghost use Rattle.std.specs.Prelude.{◌≡◌, ◌≢◌, ◌++◌, ◌∷◌, [], IfErr, IfOk, OnErr, OnOk};
 ghost use Rattle.std.specs.Io.KnownBytes.{Appends};
-ghost use Rattle.command_streams.specs.Lines.{line_behind, report_of};
+ghost use Rattle.command_streams.specs.Lines.{line_behind, release_word, release_words, report_of};
 ghost use Rattle.command_streams.specs.Streams.{AppendsPart};
 
-use crate::ending::{End, Fault};
+use crate::ending::{End, Fault, Release, status_of_fault};
 use crate::output::{WriteFault, write_text};
 use arrayvec::ArrayString;
 use std::fmt::Write;
@@ -13,6 +13,9 @@ use std::{fmt, io};
 
 /// The bytes of a line, at most. The longest that a command can tell names a cycle of all processes.
 const MOST_LINE_BYTES: usize = 1024;
+
+/// The status where memory was refused, which is no matter of a release.
+const WANT_OF_MEMORY: u8 = 4;
 
 /// The line of a fault behind words, with its end.
 fn line_of(words: &str, fault: &Fault) -> Result<ArrayString<MOST_LINE_BYTES>, fmt::Error>
@@ -23,8 +26,8 @@ fn line_of(words: &str, fault: &Fault) -> Result<ArrayString<MOST_LINE_BYTES>, f
     Ok(line)
 }
 
-/// Writes the line of a fault behind words. Takes no memory. After a failed write a prefix of the line stands.
-pub fn report_fault<W: io::Write>(words: &str, fault: &Fault, out: &mut W) -> Result<(), WriteFault>
+/// Writes the line of a fault behind words.
+fn report_fault<W: io::Write>(words: &str, fault: &Fault, out: &mut W) -> Result<(), WriteFault>
     ensures ok { OnOk result (Appends (W.contents out.old) (W.contents out.new) (line_behind words.now fault.now)) }
     ensures err { OnErr result (AppendsPart (W.contents out.old) (W.contents out.new) (line_behind words.now fault.now)) }
 {
@@ -34,7 +37,27 @@ pub fn report_fault<W: io::Write>(words: &str, fault: &Fault, out: &mut W) -> Re
     write_text(out, line.as_bytes())
 }
 
-/// Writes the line of a refusal, and nothing for any other end. Takes no memory. After a failed write a prefix of the
+/// The word for a release, with a space behind it.
+fn release_word(release: Release) -> &'static str
+    ensures { result.now ≡ release_word release }
+{
+    match release {
+        Release::Old => "old ",
+        Release::New => "new ",
+    }
+}
+
+/// What stands before the line of a fault of a release.
+fn release_words(release: Release, fault: &Fault) -> &'static str
+    ensures { result.now ≡ release_words release fault.now }
+{
+    if status_of_fault(fault) == WANT_OF_MEMORY {
+        return "";
+    }
+    release_word(release)
+}
+
+/// Writes the line of a refusal, behind the word for its release where there are two, and nothing for any other end. Takes no memory. After a failed write a prefix of the
 /// line stands.
 pub fn report<W: io::Write>(end: &End, out: &mut W) -> Result<(), WriteFault>
     ensures ok { OnOk result (Appends (W.contents out.old) (W.contents out.new) (report_of end.now)) }
@@ -42,8 +65,11 @@ pub fn report<W: io::Write>(end: &End, out: &mut W) -> Result<(), WriteFault>
     // It fails only where there is a line.
     ensures some { IfErr result (λ _. report_of end.now ≢ []) }
 {
-    let End::Refused(fault) = end else {
-        return Ok(());
-    };
-    report_fault("", fault, out)
+    match end {
+        End::Refused(fault) => report_fault("", fault, out),
+        End::RefusedOf(release, fault) => {
+            report_fault(release_words(*release, fault), fault, out)
+        }
+        End::Done | End::Different | End::Absent | End::Stopped => Ok(()),
+    }
 }

@@ -13,7 +13,7 @@ use Rattle.plan_questions.proofs.Texts as limits
 use Rattle.command_streams.specs.declared.ending.Fault.{Fault}
 use Rattle.command_streams.specs.declared.ending.Fault.TheVariants.{Memory, NoSuchProcess, Search}
 use Rattle.command_streams.specs.Instances.{HasInstance}
-use Rattle.answer_files.specs.declared.ending.FilesEnd.{FilesEnd}
+use Rattle.command_streams.specs.declared.ending.End.{End}
 use Rattle.answer_files.specs.Writing.{IsWritingOf}
 use Rattle.limit_command.specs.declared.limits.Limited.{Limited}
 use Rattle.limit_command.specs.declared.texts.Beside.{Beside}
@@ -79,7 +79,7 @@ judged_of_bytes (Some bytes) words options beside i (Err fault) has is = unlimit
 
 -- what was found of a reader's bytes is the answer, once it is written
 pub told_limit : (known : Option (List ℕ)) (words : List (List ℕ)) (options : Options) (beside : Beside) (limited : Limited)
-    (from to before after old new : Option (List ℕ)) (end : FilesEnd) → IfSome known (λ bytes. IsLimited bytes words options beside limited)
+    (from to before after old new : Option (List ℕ)) (end : End) → IfSome known (λ bytes. IsLimited bytes words options beside limited)
     → IsWritingOf limited.texts (end_told limited.limit) from to before after old new end
     → IfSome known (λ bytes. IsLimitAnswer bytes words options beside from to before after old new end)
 told_limit None words options beside limited from to before after old new end is writing = tt

@@ -17,10 +17,8 @@ use Rattle.command_streams.specs.declared.ending.Fault.{Fault}
 use Rattle.command_streams.specs.declared.ending.Fault.TheVariants.{InstanceText, Memory, NoSuchProcess, Search, TooLong, Unread}
 use Rattle.command_streams.specs.declared.ending.End.{End}
 use Rattle.command_streams.specs.declared.ending.End.TheVariants.{Done, Absent, Refused, Stopped}
-use Rattle.command_streams.specs.Limits.{instance_limit}
+use Rattle.command_streams.specs.declared.limits.TheConstants.{INSTANCE_LIMIT}
 use Rattle.command_streams.specs.Instances.{HasInstance, IsInstanceFault}
-use Rattle.answer_files.specs.declared.ending.FilesEnd.{FilesEnd}
-use Rattle.answer_files.specs.declared.ending.FilesEnd.TheVariants.{As}
 use Rattle.answer_files.specs.declared.texts.Texts.{Texts}
 use Rattle.answer_files.specs.Writing.{IsNothing, IsTextOf, IsWritingOf}
 use Rattle.limit_command.specs.declared.texts.Beside.{Beside}
@@ -130,28 +128,28 @@ pub record IsUnanswered (bytes : List ℕ) (words : List (List ℕ)) (fault : Fa
 abbrev pub IsUnlimited : List ℕ → List (List ℕ) → Fault → Type 0
 IsUnlimited bytes words Memory = Unit {0}
 IsUnlimited bytes words (Unread source.Instance) = Unit {0}
-IsUnlimited bytes words (TooLong source.Instance) = instance_limit < length bytes
+IsUnlimited bytes words (TooLong source.Instance) = INSTANCE_LIMIT < length bytes
 IsUnlimited bytes words (InstanceText error) = IsInstanceFault bytes (InstanceText error)
 IsUnlimited bytes words (NoSuchProcess k) = IsUnanswered bytes words (NoSuchProcess k)
 IsUnlimited bytes words (Search fault) = IsUnanswered bytes words (Search fault)
 IsUnlimited bytes words _ = ⊥
 
 -- an answer is told
-pub record IsToldLimit (bytes : List ℕ) (words : List (List ℕ)) (options : Options) (beside : Beside) (from to before after old new : Option (List ℕ)) (end : FilesEnd) : Type 0 where
+pub record IsToldLimit (bytes : List ℕ) (words : List (List ℕ)) (options : Options) (beside : Beside) (from to before after old new : Option (List ℕ)) (end : End) : Type 0 where
   pub limited : Limited
   pub is : IsLimited bytes words options beside limited
   pub writing : IsWritingOf limited.texts (end_told limited.limit) from to before after old new end
 
 -- nothing is told, for this fault, and nothing is written
-pub record IsUntold (bytes : List ℕ) (words : List (List ℕ)) (from to before after old new : Option (List ℕ)) (end : FilesEnd) : Type 0 where
+pub record IsUntold (bytes : List ℕ) (words : List (List ℕ)) (from to before after old new : Option (List ℕ)) (end : End) : Type 0 where
   pub fault : Fault
   pub lacking : IsUnlimited bytes words fault
-  pub ends : end ≡ As (Refused fault)
+  pub ends : end ≡ Refused fault
   pub certificate : Keeps from to
   pub reduced : Keeps before after
   pub answer : Keeps old new
 
 -- what `limit` answers of the bytes of an instance and of words, and what it writes
-abbrev pub IsLimitAnswer : List ℕ → List (List ℕ) → Options → Beside → (from to before after old new : Option (List ℕ)) → FilesEnd → Type 0
+abbrev pub IsLimitAnswer : List ℕ → List (List ℕ) → Options → Beside → (from to before after old new : Option (List ℕ)) → End → Type 0
 IsLimitAnswer bytes words options beside from to before after old new end =
     IsToldLimit bytes words options beside from to before after old new end ⊎ IsUntold bytes words from to before after old new end

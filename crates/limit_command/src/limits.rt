@@ -1,7 +1,7 @@
 //! What does `limit` say of an instance and the processes that words name?
 
 ghost use Rattle.std.specs.Prelude.{◌≡◌, ◌+◌, IfOk, IfSome, MatchResult};
-ghost use Rattle.command_streams.specs.Limits.{instance_limit};
+ghost use Rattle.command_streams.specs.declared.limits.TheConstants.{INSTANCE_LIMIT};
 ghost use Rattle.command_streams.specs.Streams.{TakesAtMost};
 ghost use Rattle.plan_questions.specs.Ends.{AreThere};
 ghost use Rattle.answer_files.specs.Writing.{IsWritingOf};
@@ -11,10 +11,10 @@ ghost use Rattle.limit_command.specs.Limited.{end_told, IsLimitAnswer, IsLimitBy
 use crate::answer::end_of;
 use crate::names::processes_of;
 use crate::texts::{Beside, texts_of};
-use answer_files::{FilesEnd, Texts, write_texts};
+use answer_files::{Texts, write_texts};
 use command_streams::{End, Fault, read_instance};
 use plan_questions::{EndLimit, Options, least_end};
-use solve_command::fault_of;
+use search_watching::told_as;
 use std::alloc::Global;
 use std::io::{Read, Write};
 use std::marker::Sync;
@@ -47,7 +47,7 @@ fn limit_by<R: Threads + Wait + Sync>(
     let _nodes = instance.nodes();
     let limit = match least_end(rt, alloc, instance, processes, options) {
         Ok(limit) => limit,
-        Err(fault) => return Err(Fault::Search(fault_of(fault))),
+        Err(fault) => return Err(Fault::Search(told_as(fault))),
     };
     match texts_of(alloc, instance, processes, &limit, beside) {
         Ok(texts) => Ok(Limited { limit, texts }),
@@ -84,7 +84,7 @@ fn limited_of_reader<R: Threads + Wait + Sync, I: Read>(
     ensures judged { IfSome (I.remaining instance.old) (λ bytes. MatchResult result
         (IsLimited bytes (texts_of words.now) options beside)
         (IsUnlimited bytes (texts_of words.now))) }
-    ensures most { TakesAtMost (instance_limit + 1) (I.remaining instance.old) (I.remaining instance.new) }
+    ensures most { TakesAtMost (INSTANCE_LIMIT + 1) (I.remaining instance.old) (I.remaining instance.new) }
 {
     let instance = read_instance(alloc, instance)?;
     limited_of(rt, alloc, &instance, words, options, beside)
@@ -96,7 +96,7 @@ fn tell<C: Write, S: Write, W: Write>(
     certificate: &mut C,
     reduced: &mut S,
     out: &mut W,
-) -> FilesEnd
+) -> End
     ensures { IsWritingOf limited.now.texts (end_told limited.now.limit)
         (C.contents certificate.old) (C.contents certificate.new) (S.contents reduced.old) (S.contents reduced.new)
         (W.contents out.old) (W.contents out.new) result }
@@ -119,7 +119,7 @@ fn tell<C: Write, S: Write, W: Write>(
 /// what isn't wanted nothing is. Words are looked up once the instance is read: the first that names no process, or one that a word
 /// before it names, is told. All texts are made before one is written: where memory is refused nothing is written, and where a writer
 /// fails nothing is written to those behind it. Where the text that was made of that instance doesn't read back as it, nothing is
-/// written of it, and the end is `Unreduced` once the answer is written.
+/// written of it, and the end is the fault of that file, once the answer is written.
 pub fn limit_run<R: Threads + Wait + Sync, I: Read, C: Write, S: Write, W: Write>(
     rt: &R,
     alloc: Global,
@@ -130,12 +130,12 @@ pub fn limit_run<R: Threads + Wait + Sync, I: Read, C: Write, S: Write, W: Write
     certificate: &mut C,
     reduced: &mut S,
     out: &mut W,
-) -> FilesEnd
+) -> End
     ensures answer { IfSome (I.remaining instance.old) (λ bytes. IsLimitAnswer bytes (texts_of words.now) options beside
         (C.contents certificate.old) (C.contents certificate.new) (S.contents reduced.old) (S.contents reduced.new)
         (W.contents out.old) (W.contents out.new) result) }
     // No more is taken of the reader than its limit and one byte.
-    ensures most { TakesAtMost (instance_limit + 1) (I.remaining instance.old) (I.remaining instance.new) }
+    ensures most { TakesAtMost (INSTANCE_LIMIT + 1) (I.remaining instance.old) (I.remaining instance.new) }
 {
     match limited_of_reader(rt, alloc, instance, words, options, beside) {
         Ok(limited) => {
@@ -143,6 +143,6 @@ pub fn limit_run<R: Threads + Wait + Sync, I: Read, C: Write, S: Write, W: Write
             drop(limited);
             end
         }
-        Err(fault) => FilesEnd::As(End::Refused(fault)),
+        Err(fault) => End::Refused(fault),
     }
 }

@@ -3,13 +3,13 @@
 ghost use Rattle.std.specs.Prelude.{◌+◌, IfSome};
 ghost use Rattle.std.specs.Io.KnownBytes.{Keeps};
 ghost use Rattle.ttp_model.specs.Plans.{IsValid};
-ghost use Rattle.command_streams.specs.Limits.{instance_limit, plan_limit};
+ghost use Rattle.command_streams.specs.declared.limits.TheConstants.{INSTANCE_LIMIT, PLAN_LIMIT};
 ghost use Rattle.command_streams.specs.Streams.{TakesAtMost};
 ghost use Rattle.command_streams.specs.Instances.{IsOfInstance};
-ghost use Rattle.period_command.specs.Answers.{AreUntold, IfFaulty, IsLoadsOf, IsTablesAnswer, IsTelling};
+ghost use Rattle.command_streams.specs.Outcomes.{IfRefused, IsCommandAnswer, OnDone};
+ghost use Rattle.period_command.specs.Answers.{AreUntold, IsLoadsOf, IsTablesAnswer};
 
-use crate::ending::{Rounds, RoundsEnd};
-use command_streams::{End, Fault, end_with};
+use command_streams::{End, Fault, Rounds, end_with};
 use longer_cycles::{print, too_many_slots};
 use plan_commands::verified_of_readers;
 use std::alloc::Global;
@@ -25,25 +25,25 @@ fn write_loads<W: Write>(
     plan: &Plan,
     rounds: u32,
     out: &mut W,
-) -> RoundsEnd
+) -> End
     requires { IsValid instance.now plan.now }
-    ensures answer { IsTelling (IsLoadsOf rounds instance.now plan.now) (AreUntold rounds instance.now plan.now)
+    ensures answer { IsCommandAnswer (OnDone (IsLoadsOf rounds instance.now plan.now)) (AreUntold rounds instance.now plan.now)
         (W.contents out.old) (W.contents out.new) result }
-    ensures later { IfFaulty result (λ fault. ¬ IsOfInstance fault) }
+    ensures later { IfRefused result (λ fault. ¬ IsOfInstance fault) }
 {
     let needed = cycle_rounds(instance, plan);
     if rounds < needed {
-        return RoundsEnd::ShortTables(Rounds {
+        return End::Refused(Fault::ShortTables(Rounds {
             needed: u64::from(needed),
             held: u64::from(rounds),
-        });
+        }));
     }
     if let Some(slots) = too_many_slots(instance, rounds) {
-        return RoundsEnd::ManySlots(slots);
+        return End::Refused(Fault::LongTables(slots));
     }
     match print(alloc, instance, plan, rounds) {
-        Ok(text) => RoundsEnd::As(end_with(out, text.as_slice())),
-        Err(_) => RoundsEnd::As(End::Refused(Fault::Memory)),
+        Ok(text) => end_with(out, text.as_slice()),
+        Err(_) => End::Refused(Fault::Memory),
     }
 }
 
@@ -56,13 +56,13 @@ pub fn tables_run<I: Read, P: Read, W: Write>(
     plan: &mut P,
     rounds: u32,
     out: &mut W,
-) -> RoundsEnd
+) -> End
     ensures answer { IfSome (I.remaining instance.old) (λ i. IfSome (P.remaining plan.old) (λ p.
         IsTablesAnswer rounds i p (W.contents out.old) (W.contents out.new) result)) }
     // Of a reader no more is taken than its limit and one byte, and of the plan's nothing at a fault of the instance.
-    ensures instance { TakesAtMost (instance_limit + 1) (I.remaining instance.old) (I.remaining instance.new) }
-    ensures plan { TakesAtMost (plan_limit + 1) (P.remaining plan.old) (P.remaining plan.new) }
-    ensures order { IfFaulty result (λ fault. IsOfInstance fault → Keeps (P.remaining plan.old) (P.remaining plan.new)) }
+    ensures instance { TakesAtMost (INSTANCE_LIMIT + 1) (I.remaining instance.old) (I.remaining instance.new) }
+    ensures plan { TakesAtMost (PLAN_LIMIT + 1) (P.remaining plan.old) (P.remaining plan.new) }
+    ensures order { IfRefused result (λ fault. IsOfInstance fault → Keeps (P.remaining plan.old) (P.remaining plan.new)) }
 {
     match verified_of_readers(alloc, instance, plan) {
         Ok(verified) => {
@@ -70,6 +70,6 @@ pub fn tables_run<I: Read, P: Read, W: Write>(
             drop(verified);
             end
         }
-        Err(fault) => RoundsEnd::As(End::Refused(fault)),
+        Err(fault) => End::Refused(fault),
     }
 }

@@ -4,13 +4,13 @@ ghost use Rattle.std.specs.Prelude.{◌+◌, ◌≤◌, IfSome};
 ghost use Rattle.std.specs.Io.KnownBytes.{Keeps};
 ghost use Rattle.ttp_model.specs.declared.limits.TheConstants.{MOST_TICKS};
 ghost use Rattle.ttp_model.specs.Plans.{IsValid};
-ghost use Rattle.command_streams.specs.Limits.{instance_limit, plan_limit};
+ghost use Rattle.command_streams.specs.declared.limits.TheConstants.{INSTANCE_LIMIT, PLAN_LIMIT};
 ghost use Rattle.command_streams.specs.Streams.{TakesAtMost};
 ghost use Rattle.command_streams.specs.Instances.{IsOfInstance};
-ghost use Rattle.period_command.specs.Answers.{IfFaulty, IsHeldText, IsPeriodAnswer, IsShortPeriod, IsTelling};
+ghost use Rattle.command_streams.specs.Outcomes.{IfRefused, IsCommandAnswer, OnDone};
+ghost use Rattle.period_command.specs.Answers.{IsHeldText, IsPeriodAnswer, IsShortPeriod};
 
-use crate::ending::{Rounds, RoundsEnd};
-use command_streams::{End, Fault, end_with};
+use command_streams::{End, Fault, Rounds, end_with};
 use period_rounds::{held_rounds, print};
 use plan_commands::verified_of_readers;
 use std::alloc::Global;
@@ -25,21 +25,21 @@ fn write_period<W: Write>(
     plan: &Plan,
     period: u64,
     out: &mut W,
-) -> RoundsEnd
+) -> End
     requires valid { IsValid instance.now plan.now }
     requires few { period ≤ MOST_TICKS }
-    ensures answer { IsTelling (IsHeldText period instance.now plan.now) (IsShortPeriod period instance.now plan.now)
+    ensures answer { IsCommandAnswer (OnDone (IsHeldText period instance.now plan.now)) (IsShortPeriod period instance.now plan.now)
         (W.contents out.old) (W.contents out.new) result }
-    ensures later { IfFaulty result (λ fault. ¬ IsOfInstance fault) }
+    ensures later { IfRefused result (λ fault. ¬ IsOfInstance fault) }
 {
     let needed = u64::from(cycle_rounds(instance, plan));
     let held = held_rounds(instance, plan, period);
     if held < needed {
-        return RoundsEnd::ShortPeriod(Rounds { needed, held });
+        return End::Refused(Fault::ShortPeriod(Rounds { needed, held }));
     }
     match print(alloc, instance, plan, period) {
-        Ok(text) => RoundsEnd::As(end_with(out, text.as_bytes())),
-        Err(_) => RoundsEnd::As(End::Refused(Fault::Memory)),
+        Ok(text) => end_with(out, text.as_bytes()),
+        Err(_) => End::Refused(Fault::Memory),
     }
 }
 
@@ -52,14 +52,14 @@ pub fn period_run<I: Read, P: Read, W: Write>(
     plan: &mut P,
     period: u64,
     out: &mut W,
-) -> RoundsEnd
+) -> End
     requires { period ≤ MOST_TICKS }
     ensures answer { IfSome (I.remaining instance.old) (λ i. IfSome (P.remaining plan.old) (λ p.
         IsPeriodAnswer period i p (W.contents out.old) (W.contents out.new) result)) }
     // Of a reader no more is taken than its limit and one byte, and of the plan's nothing at a fault of the instance.
-    ensures instance { TakesAtMost (instance_limit + 1) (I.remaining instance.old) (I.remaining instance.new) }
-    ensures plan { TakesAtMost (plan_limit + 1) (P.remaining plan.old) (P.remaining plan.new) }
-    ensures order { IfFaulty result (λ fault. IsOfInstance fault → Keeps (P.remaining plan.old) (P.remaining plan.new)) }
+    ensures instance { TakesAtMost (INSTANCE_LIMIT + 1) (I.remaining instance.old) (I.remaining instance.new) }
+    ensures plan { TakesAtMost (PLAN_LIMIT + 1) (P.remaining plan.old) (P.remaining plan.new) }
+    ensures order { IfRefused result (λ fault. IsOfInstance fault → Keeps (P.remaining plan.old) (P.remaining plan.new)) }
 {
     match verified_of_readers(alloc, instance, plan) {
         Ok(verified) => {
@@ -67,6 +67,6 @@ pub fn period_run<I: Read, P: Read, W: Write>(
             drop(verified);
             end
         }
-        Err(fault) => RoundsEnd::As(End::Refused(fault)),
+        Err(fault) => End::Refused(fault),
     }
 }

@@ -3,7 +3,7 @@ use Rattle.std.proofs.Common.{ℕ, List, Option, None, Some, IfSome, refl}
 use Rattle.ttp_model.specs.Instance.{Instance}
 use Rattle.command_streams.specs.declared.ending.Source.TheVariants as source
 use Rattle.command_streams.specs.declared.ending.Fault.{Fault}
-use Rattle.command_streams.specs.declared.ending.Fault.TheVariants.{NoMark, LossForm, InstanceText, Memory, PlanText, Plan, StatedDelay, CertificateText, Certificate, TooFewNodes, WrongLoss, NoSuchProcess, TooManySlots, Search, TooLong, Unread, Unwritten}
+use Rattle.command_streams.specs.declared.ending.Fault.TheVariants.{Memory, CertificateText, Certificate, TooLong, Unread}
 use Rattle.command_streams.specs.declared.ending.End.{End}
 use Rattle.command_streams.specs.declared.ending.End.TheVariants.{Refused}
 use Rattle.command_streams.specs.Outcomes.{IsWritingUnlessMemory}
@@ -29,22 +29,7 @@ module _ (instance certificate : List ℕ) (i : Instance) (has : HasInstance ins
   refused_here (TooLong source.Certificate) refused = (record { problem = i; has_instance = has; refused = refused }, keeps old)
   refused_here (CertificateText error) refused = (record { problem = i; has_instance = has; refused = refused }, keeps old)
   refused_here (Certificate fault) refused = (record { problem = i; has_instance = has; refused = refused }, keeps old)
-  refused_here NoMark refused = absurd refused
-  refused_here (LossForm k) refused = absurd refused
-  refused_here (InstanceText error) refused = absurd refused
-  refused_here (PlanText error) refused = absurd refused
-  refused_here (Plan fault) refused = absurd refused
-  refused_here (StatedDelay d) refused = absurd refused
-  refused_here TooFewNodes refused = absurd refused
-  refused_here (TooManySlots count) refused = absurd refused
-  refused_here (NoSuchProcess k) refused = absurd refused
-  refused_here (WrongLoss k) refused = absurd refused
-  refused_here (Search fault) refused = absurd refused
-  refused_here (Unread source.Instance) refused = absurd refused
-  refused_here (Unread source.Plan) refused = absurd refused
-  refused_here (TooLong source.Instance) refused = absurd refused
-  refused_here (TooLong source.Plan) refused = absurd refused
-  refused_here (Unwritten sink) refused = absurd refused
+  refused_here fault refused = absurd refused
 
 pub refused_of_readers : (a b : Option (List ℕ)) (i : Instance) (old : Option (List ℕ)) (fault : Fault)
     → IfSome a (λ instance. HasInstance instance i) → IfSome b (λ certificate. IsCertificateFault i certificate fault)

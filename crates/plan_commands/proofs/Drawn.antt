@@ -3,7 +3,7 @@ use Rattle.std.proofs.Common.{ℕ, List, Option, None, Some, IfSome}
 use Rattle.plan_picture.specs.declared.picture.Shown.{Shown}
 use Rattle.plan_commands.specs.declared.verdict.Verified.{Verified}
 use Rattle.command_streams.specs.declared.ending.Fault.{Fault}
-use Rattle.command_streams.specs.declared.ending.Fault.TheVariants.{NoMark, LossForm, InstanceText, Memory, PlanText, Plan, StatedDelay, CertificateText, Certificate, TooFewNodes, WrongLoss, NoSuchProcess, TooManySlots, Search, TooLong, Unread, Unwritten}
+use Rattle.command_streams.specs.declared.ending.Fault.TheVariants.{Memory, TooManySlots}
 use Rattle.command_streams.specs.declared.ending.End.{End}
 use Rattle.command_streams.specs.declared.ending.End.TheVariants.{Refused}
 use Rattle.command_streams.specs.Outcomes.{IsCommandAnswer, OnDone}
@@ -14,23 +14,8 @@ use Rattle.plan_commands.proofs.Tellings.{answered, refused_outcome}
 
 module _ (shown : Shown) (instance plan : List ℕ) where
   as_drawn : (fault : Fault) → IsUnprinted instance plan fault → IsDrawRefused shown instance plan fault
-  as_drawn NoMark refused = refused
-  as_drawn (LossForm k) refused = refused
-  as_drawn (InstanceText error) refused = refused
-  as_drawn Memory refused = refused
-  as_drawn (PlanText error) refused = refused
-  as_drawn (Plan fault) refused = refused
-  as_drawn (StatedDelay d) refused = refused
-  as_drawn (CertificateText error) refused = refused
-  as_drawn (Certificate fault) refused = refused
-  as_drawn TooFewNodes refused = refused
-  as_drawn (WrongLoss k) refused = refused
   as_drawn (TooManySlots count) refused = absurd refused
-  as_drawn (NoSuchProcess k) refused = absurd refused
-  as_drawn (Search fault) refused = refused
-  as_drawn (Unread source) refused = refused
-  as_drawn (TooLong source) refused = refused
-  as_drawn (Unwritten sink) refused = refused
+  as_drawn fault refused = refused
 
 -- so it is of what two readers tell, where they do
 module _ (shown : Shown) (IsTextAt : List ℕ → List ℕ → End → List ℕ → Type 0) (old : Option (List ℕ)) where
@@ -46,21 +31,7 @@ module _ (width : ℕ) (shown : Shown) where
       → IsDrawRefused shown instance plan fault
   too_large instance plan v is Memory why = tt
   too_large instance plan v is (TooManySlots count) why = record { verified = v; is = is; many = why }
-  too_large instance plan v is (NoSuchProcess k) why = absurd why
-  too_large instance plan v is NoMark why = absurd why
-  too_large instance plan v is (LossForm k) why = absurd why
-  too_large instance plan v is (InstanceText error) why = absurd why
-  too_large instance plan v is (PlanText error) why = absurd why
-  too_large instance plan v is (Plan fault) why = absurd why
-  too_large instance plan v is (StatedDelay d) why = absurd why
-  too_large instance plan v is (CertificateText error) why = absurd why
-  too_large instance plan v is (Certificate fault) why = absurd why
-  too_large instance plan v is TooFewNodes why = absurd why
-  too_large instance plan v is (WrongLoss k) why = absurd why
-  too_large instance plan v is (Search fault) why = absurd why
-  too_large instance plan v is (Unread source) why = absurd why
-  too_large instance plan v is (TooLong source) why = absurd why
-  too_large instance plan v is (Unwritten sink) why = absurd why
+  too_large instance plan v is fault why = absurd why
 
   pub drawn_of_readers : (a b : Option (List ℕ)) (v : Verified) (old new : Option (List ℕ)) (end : End)
       → IfSome a (λ instance. IfSome b (λ plan. IsPrinted instance plan v))

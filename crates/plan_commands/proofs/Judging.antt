@@ -4,7 +4,7 @@ use Rattle.std.specs.Io.KnownBytes.{Appends}
 use Rattle.ttp_model.specs.Instance.{Instance}
 use Rattle.command_streams.specs.declared.ending.Source.TheVariants as source
 use Rattle.command_streams.specs.declared.ending.Fault.{Fault}
-use Rattle.command_streams.specs.declared.ending.Fault.TheVariants.{NoMark, LossForm, InstanceText, Memory, PlanText, Plan, StatedDelay, CertificateText, Certificate, TooFewNodes, WrongLoss, NoSuchProcess, TooManySlots, Search, TooLong, Unread, Unwritten}
+use Rattle.command_streams.specs.declared.ending.Fault.TheVariants.{InstanceText, Memory, PlanText, Plan, StatedDelay, CertificateText, Certificate, TooLong, Unread}
 use Rattle.command_streams.specs.declared.ending.End.{End}
 use Rattle.command_streams.specs.declared.ending.End.TheVariants.{Refused}
 use Rattle.command_streams.specs.Instances.{HasInstance}
@@ -68,23 +68,12 @@ module _ (instance plan certificate : List ℕ) (old : Option (List ℕ)) where
   unstanding Memory is = (tt, keeps old)
   unstanding (Unread source.Instance) is = (tt, keeps old)
   unstanding (Unread source.Plan) is = (is, keeps old)
-  unstanding (Unread source.Certificate) is = absurd is
   unstanding (TooLong source.Instance) is = (is, keeps old)
   unstanding (TooLong source.Plan) is = (is, keeps old)
-  unstanding (TooLong source.Certificate) is = absurd is
   unstanding (PlanText error) is = (is, keeps old)
   unstanding (Plan fault) is = (is, keeps old)
   unstanding (StatedDelay d) is = (is, keeps old)
-  unstanding NoMark is = absurd is
-  unstanding (LossForm k) is = absurd is
-  unstanding (CertificateText error) is = absurd is
-  unstanding (Certificate fault) is = absurd is
-  unstanding TooFewNodes is = absurd is
-  unstanding (TooManySlots count) is = absurd is
-  unstanding (NoSuchProcess k) is = absurd is
-  unstanding (WrongLoss k) is = absurd is
-  unstanding (Search fault) is = absurd is
-  unstanding (Unwritten sink) is = absurd is
+  unstanding fault is = absurd is
 
   unbounded : (i : Instance) (best : Option ℕ) → HasInstance instance i → StandsFor i plan best → (fault : Fault) → IsCertificateFault i certificate fault
       → IsJudgeAnswer instance plan certificate old old (Refused fault)
@@ -97,22 +86,7 @@ module _ (instance plan certificate : List ℕ) (old : Option (List ℕ)) where
       (record { problem = i; has_instance = has; best = best; stands = stands; refused = refused }, keeps old)
   unbounded i best has stands (Certificate fault) refused =
       (record { problem = i; has_instance = has; best = best; stands = stands; refused = refused }, keeps old)
-  unbounded i best has stands NoMark refused = absurd refused
-  unbounded i best has stands (LossForm k) refused = absurd refused
-  unbounded i best has stands (InstanceText error) refused = absurd refused
-  unbounded i best has stands (PlanText error) refused = absurd refused
-  unbounded i best has stands (Plan fault) refused = absurd refused
-  unbounded i best has stands (StatedDelay d) refused = absurd refused
-  unbounded i best has stands TooFewNodes refused = absurd refused
-  unbounded i best has stands (TooManySlots count) refused = absurd refused
-  unbounded i best has stands (NoSuchProcess k) refused = absurd refused
-  unbounded i best has stands (WrongLoss k) refused = absurd refused
-  unbounded i best has stands (Search fault) refused = absurd refused
-  unbounded i best has stands (Unread source.Instance) refused = absurd refused
-  unbounded i best has stands (Unread source.Plan) refused = absurd refused
-  unbounded i best has stands (TooLong source.Instance) refused = absurd refused
-  unbounded i best has stands (TooLong source.Plan) refused = absurd refused
-  unbounded i best has stands (Unwritten sink) refused = absurd refused
+  unbounded i best has stands fault refused = absurd refused
 
 -- ---- what three readers tell
 

@@ -15,3 +15,4 @@ pub mod Prints
 pub mod Standings
 pub mod Judging
 pub mod Judgements
+pub mod Compared

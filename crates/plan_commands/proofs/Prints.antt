@@ -9,8 +9,8 @@ use Rattle.plan_format.specs.declared.fault.PlanTextError.{PlanTextError}
 use Rattle.plan_format.specs.declared.fault.PlanTextError.TheVariants.{At, OutOfMemory}
 use Rattle.command_streams.specs.declared.ending.Source.TheVariants as source
 use Rattle.command_streams.specs.declared.ending.Fault.{Fault}
-use Rattle.command_streams.specs.declared.ending.Fault.TheVariants.{NoMark, LossForm, InstanceText, Memory, PlanText, Plan, StatedDelay, CertificateText, Certificate, TooFewNodes, WrongLoss, NoSuchProcess, TooManySlots, Search, TooLong, Unread, Unwritten}
-use Rattle.command_streams.specs.Limits.{plan_limit}
+use Rattle.command_streams.specs.declared.ending.Fault.TheVariants.{PlanText, Plan, StatedDelay}
+use Rattle.command_streams.specs.declared.limits.TheConstants.{PLAN_LIMIT}
 use Rattle.command_streams.specs.Streams.{IsReadFault}
 use Rattle.command_streams.specs.Instances.{HasInstance, StatesSome}
 use Rattle.plan_commands.specs.declared.front.Front.{Front}
@@ -38,40 +38,14 @@ pub by_kind : (Holds : Fault → Type 0) → ((error : PlanTextError) → Holds 
 by_kind Holds text broken misstated (PlanText error) is = text error
 by_kind Holds text broken misstated (Plan fault) is = broken fault
 by_kind Holds text broken misstated (StatedDelay d) is = misstated d
-by_kind Holds text broken misstated NoMark is = absurd is
-by_kind Holds text broken misstated (LossForm k) is = absurd is
-by_kind Holds text broken misstated (InstanceText error) is = absurd is
-by_kind Holds text broken misstated Memory is = absurd is
-by_kind Holds text broken misstated (CertificateText error) is = absurd is
-by_kind Holds text broken misstated (Certificate fault) is = absurd is
-by_kind Holds text broken misstated TooFewNodes is = absurd is
-by_kind Holds text broken misstated (TooManySlots count) is = absurd is
-by_kind Holds text broken misstated (NoSuchProcess k) is = absurd is
-by_kind Holds text broken misstated (WrongLoss k) is = absurd is
-by_kind Holds text broken misstated (Search fault) is = absurd is
-by_kind Holds text broken misstated (Unread source) is = absurd is
-by_kind Holds text broken misstated (TooLong source) is = absurd is
-by_kind Holds text broken misstated (Unwritten sink) is = absurd is
+by_kind Holds text broken misstated fault is = absurd is
 
 module _ (i : Instance) (text : List ℕ) where
   plan_kind : (fault : Fault) → IsPlanFault i text fault → IsOfPlan fault
   plan_kind (PlanText error) refused = tt
   plan_kind (Plan fault) refused = tt
   plan_kind (StatedDelay d) refused = tt
-  plan_kind NoMark refused = refused
-  plan_kind (LossForm k) refused = refused
-  plan_kind (InstanceText error) refused = refused
-  plan_kind Memory refused = refused
-  plan_kind (CertificateText error) refused = refused
-  plan_kind (Certificate fault) refused = refused
-  plan_kind TooFewNodes refused = refused
-  plan_kind (TooManySlots count) refused = refused
-  plan_kind (NoSuchProcess k) refused = refused
-  plan_kind (WrongLoss k) refused = refused
-  plan_kind (Search fault) refused = refused
-  plan_kind (Unread source) refused = refused
-  plan_kind (TooLong source) refused = refused
-  plan_kind (Unwritten sink) refused = refused
+  plan_kind fault refused = refused
 
   text_can_be : IsInstance i → (error : PlanTextError) → IsPlanFault i text (PlanText error) → HasLineBehind error
   text_can_be w (At line fault) refused = line_behind i w text line fault refused.1
@@ -106,7 +80,7 @@ behind_answer : (bytes : List ℕ) (begun : Front) (rest : List ℕ) → BeginsA
 behind_answer bytes begun rest is =
     omega (arith, ap length is.bytes_are, length-append is.line (10 ∷ rest), line_length is.line begun is.is)
 
-long_behind : (bytes : List ℕ) (begun : Front) (rest : List ℕ) → printed_limit < length bytes → BeginsWith bytes begun rest → plan_limit < length rest
+long_behind : (bytes : List ℕ) (begun : Front) (rest : List ℕ) → printed_limit < length bytes → BeginsWith bytes begun rest → PLAN_LIMIT < length rest
 long_behind bytes front.Plan rest long is = omega (arith, long, ap length is.0)
 long_behind bytes front.Headed rest long is = omega (arith, long, behind_answer bytes front.Headed rest is)
 long_behind bytes front.Bare rest long is = omega (arith, long, behind_answer bytes front.Bare rest is)
@@ -117,10 +91,10 @@ pub long_text : (bytes : List ℕ) → printed_limit < length bytes → IsTooLon
 long_text bytes long = λ begun rest is. long_behind bytes begun rest long is
 
 -- and what is too long behind its front is so behind any
-pub too_long : (bytes : List ℕ) (begun : Front) (rest : List ℕ) → BeginsWith bytes begun rest → plan_limit < length rest → IsTooLong bytes
+pub too_long : (bytes : List ℕ) (begun : Front) (rest : List ℕ) → BeginsWith bytes begun rest → PLAN_LIMIT < length rest → IsTooLong bytes
 too_long bytes begun rest begins long = λ other behind is.
     let same = begins_once bytes begun other rest behind begins is in
-    subst (λ (text : List ℕ). plan_limit < length text) same.1 long
+    subst (λ (text : List ℕ). PLAN_LIMIT < length text) same.1 long
 
 -- ---- what readers give
 

@@ -4,7 +4,7 @@ use Rattle.std.proofs.lemmas.List.{get_or_append_left, take-append-le, drop-appe
 use Rattle.command_streams.specs.declared.input.Taken.{Taken}
 use Rattle.command_streams.specs.declared.input.Stop.TheVariants.{AtEnd}
 use Rattle.command_streams.specs.declared.ending.Fault.{Fault}
-use Rattle.command_streams.specs.declared.ending.Fault.TheVariants.{NoMark, LossForm, InstanceText, Memory, PlanText, Plan, StatedDelay, CertificateText, Certificate, TooFewNodes, WrongLoss, NoSuchProcess, TooManySlots, Search, TooLong, Unread, Unwritten}
+use Rattle.command_streams.specs.declared.ending.Fault.TheVariants.{InstanceText, Memory, PlanText, Plan, StatedDelay, TooLong, Unread}
 use Rattle.command_streams.specs.declared.ending.Source.TheVariants as source
 use Rattle.ttp_model.specs.Instance.{Instance}
 use Rattle.command_streams.specs.Streams.{IsTaken}
@@ -60,37 +60,21 @@ split_at bytes rest all at is first =
 
 module _ (limit : ℕ) (taken : Taken) (all : List ℕ) (at : ℕ) (is_taken : IsTaken limit taken all) (first : IsFirstMark taken.bytes.items at) where
   pub refused_front : (fault : Fault) → IsInstanceFault (take at taken.bytes.items) fault → IsRefusedBundle all fault
-  refused_front NoMark refused = absurd refused
-  refused_front (LossForm k) refused = absurd refused
-  refused_front TooFewNodes refused = absurd refused
-  refused_front (TooManySlots count) refused = absurd refused
-  refused_front (NoSuchProcess k) refused = absurd refused
-  refused_front (CertificateText error) refused = absurd refused
-  refused_front (Certificate fault) refused = absurd refused
-  refused_front (WrongLoss k) refused = absurd refused
-  refused_front (Search fault) refused = absurd refused
   refused_front Memory refused = tt
   refused_front (Unread source.Instance) refused = tt
-  refused_front (Unread source.Plan) refused = absurd refused
-  refused_front (Unread source.Certificate) refused = absurd refused
   refused_front (TooLong source.Instance) refused = record {
     instance = take at taken.bytes.items;
     plan = drop (at + 3) all;
     split = split_at taken.bytes.items is_taken.rest all at is_taken.first first;
     refused = refused;
   }
-  refused_front (TooLong source.Plan) refused = absurd refused
-  refused_front (TooLong source.Certificate) refused = absurd refused
-  refused_front (Unwritten sink) refused = absurd refused
-  refused_front (PlanText error) refused = absurd refused
-  refused_front (Plan fault) refused = absurd refused
-  refused_front (StatedDelay delay) refused = absurd refused
   refused_front (InstanceText error) refused = record {
     instance = take at taken.bytes.items;
     plan = drop (at + 3) all;
     split = split_at taken.bytes.items is_taken.rest all at is_taken.first first;
     refused = refused;
   }
+  refused_front fault refused = absurd refused
 
   pub unread_plan : (i : Instance) → HasInstance (take at taken.bytes.items) i → IsRefusedBundle all (Unread source.Plan)
   unread_plan i has_instance = record {
@@ -126,22 +110,7 @@ module _ (limit : ℕ) (taken : Taken) (all : List ℕ) (at : ℕ) (is_taken : I
     }
 
     refused_all : (fault : Fault) → IsPlanFault i (drop (at + 3) taken.bytes.items) fault → IsRefusedBundle all fault
-    refused_all NoMark refused = absurd refused
-    refused_all (LossForm k) refused = absurd refused
-    refused_all TooFewNodes refused = absurd refused
-    refused_all (TooManySlots count) refused = absurd refused
-    refused_all (NoSuchProcess k) refused = absurd refused
-    refused_all (CertificateText error) refused = absurd refused
-    refused_all (Certificate fault) refused = absurd refused
-    refused_all (WrongLoss k) refused = absurd refused
-    refused_all (Search fault) refused = absurd refused
     refused_all Memory refused = tt
-    refused_all (Unread source.Instance) refused = absurd refused
-    refused_all (Unread source.Plan) refused = absurd refused
-    refused_all (Unread source.Certificate) refused = absurd refused
-    refused_all (TooLong source) refused = absurd refused
-    refused_all (Unwritten sink) refused = absurd refused
-    refused_all (InstanceText error) refused = absurd refused
     refused_all (PlanText error) refused = record {
       instance = take at taken.bytes.items;
       plan = drop (at + 3) taken.bytes.items;
@@ -160,6 +129,7 @@ module _ (limit : ℕ) (taken : Taken) (all : List ℕ) (at : ℕ) (is_taken : I
       split = split_all;
       refused = record { problem = i; has_instance = has_instance; refused = refused };
     }
+    refused_all fault refused = absurd refused
 
     pub outcome_all : (result : Result Verified Fault)
         → MatchResult result (IsVerifiedPlan i (drop (at + 3) taken.bytes.items)) (IsPlanFault i (drop (at + 3) taken.bytes.items))

@@ -14,14 +14,14 @@ use Rattle.cert_check.specs.declared.fault.StreamFault.{StreamFault}
 use Rattle.cert_check.specs.declared.fault.StreamFault.TheVariants.{Read, TooLong, Text, Cert as InCert}
 use Rattle.cert_check.specs.Streams.{IsStreamJudged, IsTakenFrom}
 use Rattle.cert_check.proofs.Accepted.{few_taken}
-use Rattle.command_streams.specs.Limits.{certificate_limit}
+use Rattle.command_streams.specs.declared.limits.TheConstants.{CERTIFICATE_LIMIT}
 use Rattle.plan_commands.specs.Certified.{HasBound, IsCertificateFault, fault_of}
 
 -- ---- how many bytes were taken
 
 -- all bytes were taken, and they are within the limit
-all_within : (bytes taken : List ℕ) (next : Option (List ℕ)) → Consumes (Some bytes) next taken → length taken ≤ certificate_limit → IsAtEnd next
-    → length bytes ≤ certificate_limit
+all_within : (bytes taken : List ℕ) (next : Option (List ℕ)) → Consumes (Some bytes) next taken → length taken ≤ CERTIFICATE_LIMIT → IsAtEnd next
+    → length bytes ≤ CERTIFICATE_LIMIT
 all_within bytes taken None consumes few ended = absurd consumes
 all_within bytes taken (Some rest) consumes few ended =
     let whole : bytes ≡ taken = consumes ∙ (ap (λ (r : List ℕ). taken ++ r) ended ∙ append-nil taken) in
@@ -51,8 +51,8 @@ pub fault_of_stream : (i : Instance) (known next : Option (List ℕ)) (fault : S
 fault_of_stream i None next fault judged taken = tt
 fault_of_stream i (Some bytes) next Read judged taken = tt
 fault_of_stream i (Some bytes) next TooLong judged taken =
-    let over : taken.taken ≡ certificate_limit + 1 = taken.all in
-    let long : certificate_limit < length bytes = omega (arith, over, taken.from.count, few_taken bytes taken.from.bytes next taken.from.consumes) in
+    let over : taken.taken ≡ CERTIFICATE_LIMIT + 1 = taken.all in
+    let long : CERTIFICATE_LIMIT < length bytes = omega (arith, over, taken.from.count, few_taken bytes taken.from.bytes next taken.from.consumes) in
     long
 fault_of_stream i (Some bytes) next (Text text.OutOfMemory) judged taken = tt
 fault_of_stream i (Some bytes) next (Text (text.At line fault)) judged taken = (

@@ -7,11 +7,11 @@ use Rattle.plan_commands.specs.declared.verdict.Verified.{Verified}
 use Rattle.command_streams.specs.declared.ending.Sink.TheVariants as sink
 use Rattle.command_streams.specs.declared.ending.Source.TheVariants as source
 use Rattle.command_streams.specs.declared.ending.Fault.{Fault}
-use Rattle.command_streams.specs.declared.ending.Fault.TheVariants.{NoMark, LossForm, InstanceText, Memory, PlanText, Plan, StatedDelay, CertificateText, Certificate, TooFewNodes, WrongLoss, NoSuchProcess, TooManySlots, Search, TooLong, Unread, Unwritten}
+use Rattle.command_streams.specs.declared.ending.Fault.TheVariants.{Memory, PlanText, Plan, StatedDelay, Unwritten}
 use Rattle.command_streams.specs.declared.ending.End.{End}
-use Rattle.command_streams.specs.declared.ending.End.TheVariants.{Done, Absent, Stopped, Refused}
+use Rattle.command_streams.specs.declared.ending.End.TheVariants.{Done, Refused, RefusedOf}
 use Rattle.command_streams.specs.Outcomes.{IfRefused, IsCommandAnswer, IsWriting, IsWritingUnlessMemory, OnDone}
-use Rattle.command_streams.specs.Limits.{plan_limit}
+use Rattle.command_streams.specs.declared.limits.TheConstants.{PLAN_LIMIT}
 use Rattle.command_streams.specs.Streams.{IsReadFault}
 use Rattle.command_streams.specs.Instances.{HasInstance, IsOfInstance, StatesSome}
 use Rattle.command_streams.proofs.Outcomes.{keeps, made_outcome, written_outcome}
@@ -31,23 +31,11 @@ module _ (instance plan : List ℕ) (i : Instance) (has_instance : HasInstance i
   verified_with v is = record { has_instance = rw is.of has_instance; has_plan = rw is.of is.has_plan }
 
   refused_with : (fault : Fault) → IsPlanFault i plan fault → IsRefused instance plan fault
-  refused_with NoMark refused = absurd refused
-  refused_with (LossForm k) refused = absurd refused
   refused_with Memory refused = tt
-  refused_with TooFewNodes refused = absurd refused
-  refused_with (TooManySlots count) refused = absurd refused
-  refused_with (NoSuchProcess k) refused = absurd refused
-  refused_with (CertificateText error) refused = absurd refused
-  refused_with (Certificate fault) refused = absurd refused
-  refused_with (WrongLoss k) refused = absurd refused
-  refused_with (Search fault) refused = absurd refused
-  refused_with (Unread source) refused = absurd refused
-  refused_with (TooLong source) refused = absurd refused
-  refused_with (Unwritten sink) refused = absurd refused
-  refused_with (InstanceText error) refused = absurd refused
   refused_with (PlanText error) refused = record { problem = i; has_instance = has_instance; refused = refused }
   refused_with (Plan fault) refused = record { problem = i; has_instance = has_instance; refused = refused }
   refused_with (StatedDelay d) refused = record { problem = i; has_instance = has_instance; refused = refused }
+  refused_with fault refused = absurd refused
 
   pub judged_with : (result : Result Verified Fault) → MatchResult result (IsVerifiedPlan i plan) (IsPlanFault i plan)
       → MatchResult result (IsVerified instance plan) (IsRefused instance plan)
@@ -65,12 +53,12 @@ judged_of_readers (Some instance) (Some plan) i bytes result has_instance is jud
 
 -- the second reader gave no text
 pub unread_of_readers : (a b : Option (List ℕ)) (i : Instance) (fault : Fault) → IfSome a (λ instance. HasInstance instance i)
-    → IsReadFault source.Plan plan_limit b fault → IfSome a (λ instance. IfSome b (λ plan. IsRefused instance plan fault))
+    → IsReadFault source.Plan PLAN_LIMIT b fault → IfSome a (λ instance. IfSome b (λ plan. IsRefused instance plan fault))
 unread_of_readers None b i fault has is = tt
 unread_of_readers (Some instance) None i fault has is = tt
 unread_of_readers (Some instance) (Some plan) i fault has is =
     let states : StatesSome instance = record { problem = i; has_instance = has } in
-    by_read_fault (IsRefused instance plan) source.Plan plan_limit (Some plan) tt states (λ long. (states, long)) fault is
+    by_read_fault (IsRefused instance plan) source.Plan PLAN_LIMIT (Some plan) tt states (λ long. (states, long)) fault is
 
 pub verdict_of_readers : (a b : Option (List ℕ)) (v : Verified) (old new : Option (List ℕ)) (end : End)
     → IfSome a (λ instance. IfSome b (λ plan. IsVerified instance plan v)) → IsWritingUnlessMemory (valid_line v.delay) old new end
@@ -106,64 +94,26 @@ module _ (IsVerifiedAs : List ℕ → List ℕ → Verified → Type 0) (Tells :
 module _ (IsText Tells : List ℕ → Type 0) (told : (text : List ℕ) → IsText text → Tells text) where
   told_at : (end : End) (text : List ℕ) → OnDone IsText end text → OnDone Tells end text
   told_at Done text is = told text is
-  told_at Absent text is = absurd is
-  told_at Stopped text is = absurd is
-  told_at (Refused fault) text is = absurd is
+  told_at end text is = absurd is
 
   module _ (IsUndone IsRefusedBy : Fault → Type 0) (refused : (fault : Fault) → IsUndone fault → IsRefusedBy fault) (old new : Option (List ℕ)) where
     pub answered : (end : End) → IsCommandAnswer (OnDone IsText) IsUndone old new end → IsCommandAnswer (OnDone Tells) IsRefusedBy old new end
     answered Done written = record { text = written.text; is = told written.text written.is; appends = written.appends }
-    answered Absent written = absurd written.is
-    answered Stopped written = absurd written.is
     answered (Refused (Unwritten sink.Out)) cut = record { at = cut.at; text = cut.text; is = told_at cut.at cut.text cut.is; part = cut.part }
-    answered (Refused (Unwritten sink.Certificate)) why = (refused _ why.0, why.1)
-    answered (Refused (Unwritten sink.Plan)) why = (refused _ why.0, why.1)
-    answered (Refused NoMark) why = (refused _ why.0, why.1)
-    answered (Refused (LossForm k)) why = (refused _ why.0, why.1)
-    answered (Refused (InstanceText error)) why = (refused _ why.0, why.1)
-    answered (Refused Memory) why = (refused _ why.0, why.1)
-    answered (Refused (PlanText error)) why = (refused _ why.0, why.1)
-    answered (Refused (Plan fault)) why = (refused _ why.0, why.1)
-    answered (Refused (StatedDelay d)) why = (refused _ why.0, why.1)
-    answered (Refused (CertificateText error)) why = (refused _ why.0, why.1)
-    answered (Refused (Certificate fault)) why = (refused _ why.0, why.1)
-    answered (Refused TooFewNodes) why = (refused _ why.0, why.1)
-    answered (Refused (TooManySlots count)) why = (refused _ why.0, why.1)
-    answered (Refused (NoSuchProcess k)) why = (refused _ why.0, why.1)
-    answered (Refused (WrongLoss k)) why = (refused _ why.0, why.1)
-    answered (Refused (Search fault)) why = (refused _ why.0, why.1)
-    answered (Refused (Unread source)) why = (refused _ why.0, why.1)
-    answered (Refused (TooLong source)) why = (refused _ why.0, why.1)
+    answered (Refused fault) why = (refused _ why.0, why.1)
+    answered (RefusedOf release fault) never = absurd never
+    answered end written = absurd written.is
 
 -- what is no fault of the instance says nothing of one
 pub never_of_instance : (Holds : Type 0) (end : End) → IfRefused end (λ fault. ¬ IsOfInstance fault) → IfRefused end (λ fault. IsOfInstance fault → Holds)
-never_of_instance Holds Done never = tt
-never_of_instance Holds Absent never = tt
-never_of_instance Holds Stopped never = tt
 never_of_instance Holds (Refused fault) never = λ is. absurd (never is)
+never_of_instance Holds end never = tt
 
 -- a command that is refused has written nothing
 module _ (IsTextAt : End → List ℕ → Type 0) (IsRefusedBy : Fault → Type 0) (never : ¬ IsRefusedBy (Unwritten sink.Out)) (old : Option (List ℕ)) where
   pub refused_outcome : (fault : Fault) → IsRefusedBy fault → IsCommandAnswer IsTextAt IsRefusedBy old old (Refused fault)
   refused_outcome (Unwritten sink.Out) refused = absurd (never refused)
-  refused_outcome NoMark refused = (refused, keeps old)
-  refused_outcome (LossForm k) refused = (refused, keeps old)
-  refused_outcome (InstanceText error) refused = (refused, keeps old)
-  refused_outcome Memory refused = (refused, keeps old)
-  refused_outcome (PlanText error) refused = (refused, keeps old)
-  refused_outcome (Plan fault) refused = (refused, keeps old)
-  refused_outcome (StatedDelay d) refused = (refused, keeps old)
-  refused_outcome (CertificateText error) refused = (refused, keeps old)
-  refused_outcome (Certificate fault) refused = (refused, keeps old)
-  refused_outcome TooFewNodes refused = (refused, keeps old)
-  refused_outcome (TooManySlots count) refused = (refused, keeps old)
-  refused_outcome (NoSuchProcess k) refused = (refused, keeps old)
-  refused_outcome (WrongLoss k) refused = (refused, keeps old)
-  refused_outcome (Search fault) refused = (refused, keeps old)
-  refused_outcome (Unread source) refused = (refused, keeps old)
-  refused_outcome (TooLong source) refused = (refused, keeps old)
-  refused_outcome (Unwritten sink.Certificate) refused = (refused, keeps old)
-  refused_outcome (Unwritten sink.Plan) refused = (refused, keeps old)
+  refused_outcome fault refused = (refused, keeps old)
 
 pub refused_of_readers : (IsTextAt : List ℕ → List ℕ → End → List ℕ → Type 0) (RefusedBy : List ℕ → List ℕ → Fault → Type 0)
     → ((instance plan : List ℕ) → ¬ RefusedBy instance plan (Unwritten sink.Out)) → (a b old : Option (List ℕ)) (fault : Fault)

@@ -1,5 +1,5 @@
 -- What the replay of a verified plan is refused for, once its words are losses.
-use Rattle.std.proofs.Common.{◌≡◌, ℕ, ◌<◌, List, Option, None, Some, IfSome, length, arith}
+use Rattle.std.proofs.Common.{◌≡◌, ℕ, ◌<◌, List, Option, None, Some, IfSome, length, arith, subst}
 use Rattle.ttp_model.specs.declared.plan.Plan.{Plan as Table}
 use Rattle.ttp_model.specs.Instance.{Instance}
 use Rattle.ttp_model.specs.Rules.{IsInstance}
@@ -14,7 +14,7 @@ use Rattle.plan_commands.specs.declared.losses.LossWord.{LossWord}
 use Rattle.plan_commands.specs.declared.verdict.Verified.{Verified}
 use Rattle.command_streams.specs.declared.ending.Source.TheVariants as source
 use Rattle.command_streams.specs.declared.ending.Fault.{Fault}
-use Rattle.command_streams.specs.declared.ending.Fault.TheVariants.{NoMark, LossForm, InstanceText, Memory, PlanText, Plan, StatedDelay, CertificateText, Certificate, TooFewNodes, WrongLoss, NoSuchProcess, TooManySlots, Search, TooLong, Unread, Unwritten}
+use Rattle.command_streams.specs.declared.ending.Fault.TheVariants.{InstanceText, Memory, PlanText, Plan, StatedDelay, TooFewNodes, WrongLoss, TooLong, Unread}
 use Rattle.command_streams.specs.declared.ending.End.TheVariants.{Refused}
 use Rattle.plan_commands.specs.LossWords.{AllSpell, AreLossWords, HasNodes, IsWordOfLoss, losses_of_words}
 use Rattle.plan_commands.specs.Traces.{IsReplayAnswer, IsTraceFault, IsTraceOf}
@@ -34,7 +34,13 @@ module _ (i : Instance) (t : Medl) (w : IsInstance i) (tables : AreTables i t) w
 
   pub traced : (plan : Table) → t ≡ medl_of i plan → (words : List LossWord) (losses : List Loss) (text : List ℕ) → losses ≡ losses_of_words t words
       → CanBeReplayed t losses → text ≡ replay_text i (replay_of t losses) → IsTraceOf words i plan text
-  traced plan of words losses text are can is = record { can_be = rw (← of, ← are) can; is = rw (← of, ← are) is }
+  traced plan of words losses text are can is =
+      let here : text ≡ replay_text i (replay_of t (losses_of_words t words)) =
+      subst (λ (ls : List Loss). text ≡ replay_text i (replay_of t ls)) are is in
+      record {
+        can_be = rw (← of, ← are) can;
+        is = subst (λ (m : Medl). text ≡ replay_text i (replay_of m (losses_of_words m words))) of here;
+      }
 
   pub wrong_word : (plan : Table) → t ≡ medl_of i plan → (words : List LossWord) (losses : List Loss) (loss k : ℕ) → losses ≡ losses_of_words t words
       → IsFault t losses (replay.WrongLoss loss) → IsWordOfLoss t words loss k → IsTraceFault words i plan (WrongLoss k)
@@ -43,49 +49,25 @@ module _ (i : Instance) (t : Medl) (w : IsInstance i) (tables : AreTables i t) w
 
 module _ (words : List (List ℕ)) (instance plan : List ℕ) (old : Option (List ℕ)) where
   as_verdict : (fault : Fault) → AreLossWords words → IsRefused instance plan fault → IsReplayAnswer words instance plan old old (Refused fault)
-  as_verdict NoMark are refused = absurd refused
-  as_verdict (LossForm k) are refused = absurd refused
-  as_verdict TooFewNodes are refused = absurd refused
-  as_verdict (TooManySlots count) are refused = absurd refused
-  as_verdict (NoSuchProcess k) are refused = absurd refused
-  as_verdict (CertificateText error) are refused = absurd refused
-  as_verdict (Certificate fault) are refused = absurd refused
-  as_verdict (WrongLoss k) are refused = absurd refused
-  as_verdict (Search fault) are refused = absurd refused
-  as_verdict (Unwritten sink) are refused = absurd refused
   as_verdict Memory are refused = (tt, keeps old)
   as_verdict (Unread source.Instance) are refused = ((are, refused), keeps old)
   as_verdict (Unread source.Plan) are refused = ((are, refused), keeps old)
-  as_verdict (Unread source.Certificate) are refused = absurd refused
   as_verdict (TooLong source.Instance) are refused = ((are, refused), keeps old)
   as_verdict (TooLong source.Plan) are refused = ((are, refused), keeps old)
-  as_verdict (TooLong source.Certificate) are refused = absurd refused
   as_verdict (InstanceText error) are refused = ((are, refused), keeps old)
   as_verdict (PlanText error) are refused = ((are, refused), keeps old)
   as_verdict (Plan fault) are refused = ((are, refused), keeps old)
   as_verdict (StatedDelay d) are refused = ((are, refused), keeps old)
+  as_verdict fault are refused = absurd refused
 
   as_trace : (losses : List LossWord) (v : Verified) (fault : Fault) → AllSpell words losses → IsVerified instance plan v
       → IsTraceFault losses v.instance v.plan fault → IsReplayAnswer words instance plan old old (Refused fault)
-  as_trace losses v NoMark all is refused = absurd refused
-  as_trace losses v (LossForm k) all is refused = absurd refused
-  as_trace losses v (TooManySlots count) all is refused = absurd refused
-  as_trace losses v (NoSuchProcess k) all is refused = absurd refused
-  as_trace losses v (Search fault) all is refused = absurd refused
-  as_trace losses v (Unwritten sink) all is refused = absurd refused
-  as_trace losses v (Unread source) all is refused = absurd refused
-  as_trace losses v (TooLong source) all is refused = absurd refused
-  as_trace losses v (InstanceText error) all is refused = absurd refused
-  as_trace losses v (PlanText error) all is refused = absurd refused
-  as_trace losses v (Plan fault) all is refused = absurd refused
-  as_trace losses v (StatedDelay d) all is refused = absurd refused
-  as_trace losses v (CertificateText error) all is refused = absurd refused
-  as_trace losses v (Certificate fault) all is refused = absurd refused
   as_trace losses v Memory all is refused = (tt, keeps old)
   as_trace losses v TooFewNodes all is refused =
       (record { losses = losses; spelled = all; verified = v; is = is; refused = refused }, keeps old)
   as_trace losses v (WrongLoss k) all is refused =
       (record { losses = losses; spelled = all; verified = v; is = is; refused = refused }, keeps old)
+  as_trace losses v fault all is refused = absurd refused
 
 -- so it is of what two readers tell, where they do
 module _ (words : List (List ℕ)) (old : Option (List ℕ)) (fault : Fault) where

@@ -1,6 +1,6 @@
 -- Which reader a fault of reading is told of.
 use Rattle.std.proofs.Common.{◌≡◌, ℕ, ◌<◌, List, Result, Ok, Err, IfErr, arith, sym, subst}
-use Rattle.command_streams.specs.Limits.{instance_limit}
+use Rattle.command_streams.specs.declared.limits.TheConstants.{INSTANCE_LIMIT}
 use Rattle.command_streams.specs.declared.ending.Fault.{Fault}
 use Rattle.command_streams.specs.declared.ending.Fault.TheVariants.{Unread}
 use Rattle.command_streams.specs.declared.ending.Source.TheVariants as source
@@ -11,7 +11,7 @@ use Rattle.plan_commands.specs.Bundles.{HasNoMark, IsFirstMark, LacksMark}
 pub lacks_every : (bytes : List ℕ) → HasNoMark bytes → LacksMark bytes
 lacks_every bytes none at within is = none at is
 
-pub lacks_early : (bytes : List ℕ) (at : ℕ) → IsFirstMark bytes at → instance_limit < at → LacksMark bytes
+pub lacks_early : (bytes : List ℕ) (at : ℕ) → IsFirstMark bytes at → INSTANCE_LIMIT < at → LacksMark bytes
 lacks_early bytes at first late earlier within is = first.first earlier (omega (arith, late, within)) is
 
 -- a fault that is none of the instance isn't that it is unread

@@ -1,7 +1,7 @@
 -- How a bundle is split: the instance stands before the first line `%%`, and the plan behind it.
 use Rattle.std.specs.Prelude.{◌≡◌, ℕ, ◌+◌, ◌-◌, ◌<◌, ◌≤◌, List, length, take, drop, slice_index, codes, Option, None, Some, ◌≤◌}
 use Rattle.std.specs.Io.KnownBytes.{Consumes}
-use Rattle.command_streams.specs.Limits.{instance_limit, plan_limit}
+use Rattle.command_streams.specs.declared.limits.TheConstants.{INSTANCE_LIMIT, PLAN_LIMIT}
 use Rattle.command_streams.specs.declared.input.Taken.{Taken}
 use Rattle.command_streams.specs.declared.input.Stop.TheVariants.{AtEnd}
 use Rattle.command_streams.specs.declared.ending.Source.TheVariants as source
@@ -50,9 +50,9 @@ pub record IsBundleOf (bundle instance plan : List ℕ) : Type 0 where
 -- mark, and the plan
 pub record IsTakenWhole (taken : Taken) : Type 0 where
   pub ended : taken.stop ≡ AtEnd
-  pub instance : (at : ℕ) → IsFirstMark taken.bytes.items at → at ≤ instance_limit
-  pub plan : (at : ℕ) → IsFirstMark taken.bytes.items at → length (drop (at + 3) taken.bytes.items) ≤ plan_limit
-  pub alone : HasNoMark taken.bytes.items → length taken.bytes.items ≤ instance_limit
+  pub instance : (at : ℕ) → IsFirstMark taken.bytes.items at → at ≤ INSTANCE_LIMIT
+  pub plan : (at : ℕ) → IsFirstMark taken.bytes.items at → length (drop (at + 3) taken.bytes.items) ≤ PLAN_LIMIT
+  pub alone : HasNoMark taken.bytes.items → length taken.bytes.items ≤ INSTANCE_LIMIT
 
 -- the parts of a bundle are an instance and a valid plan of it that states its own delay
 pub record IsVerifiedBundle (bundle : List ℕ) (v : Verified) : Type 0 where
@@ -70,18 +70,18 @@ pub record IsRefusedSplit (bundle : List ℕ) (fault : Fault) : Type 0 where
 
 -- why a bundle is refused: it has no line `%%`, or for one of its parts
 abbrev pub IsRefusedBundle : List ℕ → Fault → Type 0
-IsRefusedBundle bundle NoMark = HasNoMark bundle × (length bundle ≤ instance_limit)
+IsRefusedBundle bundle NoMark = HasNoMark bundle × (length bundle ≤ INSTANCE_LIMIT)
 IsRefusedBundle bundle Memory = Unit {0}
 IsRefusedBundle bundle (Unread source.Instance) = Unit {0}
 IsRefusedBundle bundle fault = IsRefusedSplit bundle fault
 
 -- the bytes of both parts and of the line between, at most
 abbrev pub bundle_limit : ℕ
-bundle_limit = instance_limit + 3 + plan_limit
+bundle_limit = INSTANCE_LIMIT + 3 + PLAN_LIMIT
 
 -- no line `%%` begins within an instance's limit
 abbrev pub LacksMark : List ℕ → Type 0
-LacksMark bytes = (at : ℕ) → at ≤ instance_limit → ¬ IsMark bytes at
+LacksMark bytes = (at : ℕ) → at ≤ INSTANCE_LIMIT → ¬ IsMark bytes at
 
 -- what was taken of a bundle lacks the line, so that the instance is unread
 pub record IsUnreadInstance (old new : Option (List ℕ)) : Type 0 where

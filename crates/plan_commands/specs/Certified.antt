@@ -10,7 +10,7 @@ use Rattle.cert_check.specs.declared.fault.StreamFault.{StreamFault}
 use Rattle.cert_check.specs.declared.fault.StreamFault.TheVariants as stream
 use Rattle.tree_check.specs.Proofs.{Proves}
 use Rattle.tree_check.specs.Faults as checking
-use Rattle.command_streams.specs.Limits.{certificate_limit, instance_limit}
+use Rattle.command_streams.specs.declared.limits.TheConstants.{CERTIFICATE_LIMIT, INSTANCE_LIMIT}
 use Rattle.command_streams.specs.declared.ending.Source.TheVariants as source
 use Rattle.command_streams.specs.declared.ending.Fault.{Fault}
 use Rattle.command_streams.specs.declared.ending.Fault.TheVariants.{InstanceText, Memory, CertificateText, Certificate, TooLong, Unread}
@@ -20,7 +20,7 @@ use Rattle.command_streams.specs.Instances.{HasInstance, IsInstanceFault}
 
 -- the bytes are within their limit, and spell this certificate
 pub record HasCertificate (bytes : List ℕ) (cert : Cert) : Type 0 where
-  pub within : length bytes ≤ certificate_limit
+  pub within : length bytes ≤ CERTIFICATE_LIMIT
   pub spelled : SpellsCert bytes cert
 
 -- the bytes spell a certificate that proves this bound of the instance, and so no valid plan is shorter
@@ -43,8 +43,8 @@ fault_of (stream.Cert fault) = Certificate fault
 abbrev pub IsCertificateFault : Instance → List ℕ → Fault → Type 0
 IsCertificateFault i bytes Memory = Unit {0}
 IsCertificateFault i bytes (Unread source.Certificate) = Unit {0}
-IsCertificateFault i bytes (TooLong source.Certificate) = certificate_limit < length bytes
-IsCertificateFault i bytes (CertificateText error) = (length bytes ≤ certificate_limit) × reading.IsFaultIn (reading.HasLow bytes) error (reading.Reads bytes)
+IsCertificateFault i bytes (TooLong source.Certificate) = CERTIFICATE_LIMIT < length bytes
+IsCertificateFault i bytes (CertificateText error) = (length bytes ≤ CERTIFICATE_LIMIT) × reading.IsFaultIn (reading.HasLow bytes) error (reading.Reads bytes)
 IsCertificateFault i bytes (Certificate fault) = (cert : Cert) × HasCertificate bytes cert × checking.IsJudged i cert (Err fault)
 IsCertificateFault i bytes _ = ⊥
 
@@ -59,7 +59,7 @@ abbrev pub IsUnproved : List ℕ → List ℕ → Fault → Type 0
 IsUnproved instance certificate (InstanceText error) = IsInstanceFault instance (InstanceText error)
 IsUnproved instance certificate Memory = Unit {0}
 IsUnproved instance certificate (Unread source.Instance) = Unit {0}
-IsUnproved instance certificate (TooLong source.Instance) = instance_limit < length instance
+IsUnproved instance certificate (TooLong source.Instance) = INSTANCE_LIMIT < length instance
 IsUnproved instance certificate fault = IsUncertified instance certificate fault
 
 -- the line of a bound that is proved

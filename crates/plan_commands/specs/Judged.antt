@@ -7,7 +7,7 @@ use Rattle.ttp_model.specs.Plans.{IsValid}
 use Rattle.ttp_model.specs.Delays.{delay}
 use Rattle.plan_format.specs.declared.fault.LineFault.TheVariants.{Trailing}
 use Rattle.plan_format.specs.declared.fault.PlanTextError.TheVariants.{At}
-use Rattle.command_streams.specs.Limits.{plan_limit}
+use Rattle.command_streams.specs.declared.limits.TheConstants.{PLAN_LIMIT}
 use Rattle.command_streams.specs.Streams.{AppendsPart}
 use Rattle.command_streams.specs.declared.ending.Source.TheVariants as source
 use Rattle.command_streams.specs.declared.ending.Sink.TheVariants as sink
@@ -54,7 +54,7 @@ pub record StandsFor (i : Instance) (bytes : List ℕ) (best : Option ℕ) : Typ
 
 -- anything within a plan's limit stands where nothing may
 abbrev pub IsMore : List ℕ → Fault → Type 0
-IsMore rest fault = (rest ≢ []) × ((length rest ≤ plan_limit) × (fault ≡ PlanText (At 2 Trailing)))
+IsMore rest fault = (rest ≢ []) × ((length rest ≤ PLAN_LIMIT) × (fault ≡ PlanText (At 2 Trailing)))
 
 -- why what stands behind such a front stands for nothing: the fault of the plan, or that anything follows where there is none
 abbrev pub IsRefusedBehind : Instance → Front → List ℕ → Fault → Type 0

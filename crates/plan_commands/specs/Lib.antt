@@ -9,3 +9,4 @@ pub mod Certified
 pub mod Fronts
 pub mod Printed
 pub mod Judged
+pub mod Comparisons

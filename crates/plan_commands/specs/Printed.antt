@@ -6,7 +6,7 @@ use Rattle.plan_format.specs.declared.fault.LineFault.{LineFault}
 use Rattle.plan_format.specs.declared.fault.LineFault.TheVariants.{EarlyEnd, Form, Trailing}
 use Rattle.plan_format.specs.declared.fault.PlanTextError.{PlanTextError}
 use Rattle.plan_format.specs.declared.fault.PlanTextError.TheVariants.{At, OutOfMemory}
-use Rattle.command_streams.specs.Limits.{instance_limit, plan_limit}
+use Rattle.command_streams.specs.declared.limits.TheConstants.{INSTANCE_LIMIT, PLAN_LIMIT}
 use Rattle.command_streams.specs.declared.ending.Source.TheVariants as source
 use Rattle.command_streams.specs.declared.ending.Fault.{Fault}
 use Rattle.command_streams.specs.declared.ending.Fault.TheVariants.{InstanceText, Memory, PlanText, Plan, StatedDelay, TooLong, Unread}
@@ -65,7 +65,7 @@ bare_fault (byte ∷ rest) = Trailing
 abbrev pub LacksPlanBehind : Instance → Front → List ℕ → Fault → Type 0
 LacksPlanBehind i front.Plan rest fault = IsPlanFaultBehind i front.Plan rest fault
 LacksPlanBehind i front.Headed rest fault = IsPlanFaultBehind i front.Headed rest fault
-LacksPlanBehind i front.Bare rest fault = (length rest ≤ plan_limit) × (fault ≡ PlanText (At 2 (bare_fault rest)))
+LacksPlanBehind i front.Bare rest fault = (length rest ≤ PLAN_LIMIT) × (fault ≡ PlanText (At 2 (bare_fault rest)))
 LacksPlanBehind i front.NoPlan rest fault = fault ≡ PlanText (At 1 Form)
 
 -- the printed text has no plan, and this is its fault
@@ -79,11 +79,11 @@ pub record LacksPrintedPlan (i : Instance) (bytes : List ℕ) (fault : Fault) : 
 
 -- the bytes of a printed text, at most: a plan's, and those of the longest line in front of one
 abbrev pub printed_limit : ℕ
-printed_limit = plan_limit + longest_answer_line
+printed_limit = PLAN_LIMIT + longest_answer_line
 
 -- more than a plan's limit stands behind the front of the bytes
 abbrev pub IsTooLong : List ℕ → Type 0
-IsTooLong bytes = (begun : Front) (rest : List ℕ) → BeginsWith bytes begun rest → plan_limit < length rest
+IsTooLong bytes = (begun : Front) (rest : List ℕ) → BeginsWith bytes begun rest → PLAN_LIMIT < length rest
 
 -- the instance is stated, and what is printed for it is at this fault
 pub record IsRefusedFor (IsAtFault : Instance → List ℕ → Fault → Type 0) (instance plan : List ℕ) (fault : Fault) : Type 0 where
@@ -97,7 +97,7 @@ IsRefusedAs IsAtFault instance plan (InstanceText error) = IsInstanceFault insta
 IsRefusedAs IsAtFault instance plan Memory = Unit {0}
 IsRefusedAs IsAtFault instance plan (Unread source.Instance) = Unit {0}
 IsRefusedAs IsAtFault instance plan (Unread source.Plan) = StatesSome instance
-IsRefusedAs IsAtFault instance plan (TooLong source.Instance) = instance_limit < length instance
+IsRefusedAs IsAtFault instance plan (TooLong source.Instance) = INSTANCE_LIMIT < length instance
 IsRefusedAs IsAtFault instance plan (TooLong source.Plan) = StatesSome instance × IsTooLong plan
 IsRefusedAs IsAtFault instance plan (PlanText error) = IsRefusedFor IsAtFault instance plan (PlanText error)
 IsRefusedAs IsAtFault instance plan (Plan fault) = IsRefusedFor IsAtFault instance plan (Plan fault)

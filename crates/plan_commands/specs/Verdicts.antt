@@ -8,18 +8,18 @@ use Rattle.ttp_model.specs.declared.fault.PlanFault.{PlanFault}
 use Rattle.ttp_model.specs.declared.plan.Plan.{Plan as Table}
 use Rattle.plan_format.specs.Spelling.{SpellsPlan}
 use Rattle.plan_format.specs.Reading.{HasFront, IsFaultOf, plan_at}
-use Rattle.command_streams.specs.Limits.{instance_limit, plan_limit}
+use Rattle.command_streams.specs.declared.limits.TheConstants.{INSTANCE_LIMIT, PLAN_LIMIT}
 use Rattle.plan_commands.specs.declared.verdict.Verified.{Verified}
 use Rattle.command_streams.specs.declared.ending.Source.TheVariants as source
 use Rattle.command_streams.specs.declared.ending.Fault.{Fault}
-use Rattle.command_streams.specs.declared.ending.Fault.TheVariants.{NoMark, LossForm, InstanceText, Memory, PlanText, Plan, StatedDelay, CertificateText, Certificate, TooFewNodes, WrongLoss, NoSuchProcess, TooManySlots, Search, TooLong, Unread, Unwritten}
+use Rattle.command_streams.specs.declared.ending.Fault.TheVariants.{InstanceText, Memory, PlanText, Plan, StatedDelay, TooLong, Unread}
 use Rattle.command_streams.specs.declared.ending.End.{End}
 use Rattle.command_streams.specs.Outcomes.{IsCommandAnswer, OnDone}
 use Rattle.command_streams.specs.Instances.{HasInstance, IsInstanceFault, StatesSome}
 
 -- the bytes are within their limit, and spell this plan of the instance with this stated delay
 pub record HasPlan (i : Instance) (bytes : List ℕ) (plan : Table) (stated : ℕ) : Type 0 where
-  pub within : length bytes ≤ plan_limit
+  pub within : length bytes ≤ PLAN_LIMIT
   pub spelled : SpellsPlan i bytes plan stated
 
 -- the bytes spell this plan of the instance, which is valid, and state its own delay: so many ticks
@@ -46,7 +46,7 @@ pub record IsMisstated (i : Instance) (bytes : List ℕ) (d : ℕ) : Type 0 wher
 
 -- why bytes within their limit give no valid plan of the instance that states its own delay
 abbrev pub IsPlanFault : Instance → List ℕ → Fault → Type 0
-IsPlanFault i bytes (PlanText error) = (length bytes ≤ plan_limit) × IsFaultOf (HasFront i bytes) error (plan_at i bytes)
+IsPlanFault i bytes (PlanText error) = (length bytes ≤ PLAN_LIMIT) × IsFaultOf (HasFront i bytes) error (plan_at i bytes)
 IsPlanFault i bytes (Plan fault) = IsBroken i bytes fault
 IsPlanFault i bytes (StatedDelay d) = IsMisstated i bytes d
 IsPlanFault i bytes _ = ⊥
@@ -69,25 +69,16 @@ pub record IsPlanRefused (instance plan : List ℕ) (fault : Fault) : Type 0 whe
 
 -- why the bytes of an instance and of a plan are refused: for the instance, or else for the plan
 abbrev pub IsRefused : List ℕ → List ℕ → Fault → Type 0
-IsRefused instance plan NoMark = ⊥
-IsRefused instance plan (LossForm k) = ⊥
 IsRefused instance plan (InstanceText error) = IsInstanceFault instance (InstanceText error)
 IsRefused instance plan Memory = Unit {0}
 IsRefused instance plan (Unread source.Instance) = Unit {0}
 IsRefused instance plan (Unread source.Plan) = StatesSome instance
-IsRefused instance plan (Unread source.Certificate) = ⊥
-IsRefused instance plan (TooLong source.Instance) = instance_limit < length instance
-IsRefused instance plan (TooLong source.Plan) = StatesSome instance × (plan_limit < length plan)
-IsRefused instance plan (TooLong source.Certificate) = ⊥
-IsRefused instance plan (CertificateText error) = ⊥
-IsRefused instance plan (Certificate fault) = ⊥
-IsRefused instance plan TooFewNodes = ⊥
-IsRefused instance plan (TooManySlots count) = ⊥
-IsRefused instance plan (NoSuchProcess k) = ⊥
-IsRefused instance plan (WrongLoss k) = ⊥
-IsRefused instance plan (Search fault) = ⊥
-IsRefused instance plan (Unwritten sink) = ⊥
-IsRefused instance plan fault = IsPlanRefused instance plan fault
+IsRefused instance plan (TooLong source.Instance) = INSTANCE_LIMIT < length instance
+IsRefused instance plan (TooLong source.Plan) = StatesSome instance × (PLAN_LIMIT < length plan)
+IsRefused instance plan (PlanText error) = IsPlanRefused instance plan (PlanText error)
+IsRefused instance plan (Plan fault) = IsPlanRefused instance plan (Plan fault)
+IsRefused instance plan (StatedDelay d) = IsPlanRefused instance plan (StatedDelay d)
+IsRefused instance plan _ = ⊥
 
 -- a text that tells something of an instance and a valid plan, which are verified so
 pub record IsTold (IsVerifiedAs : Verified → Type 0) (Tells : Instance → Table → List ℕ → Type 0) (text : List ℕ) : Type 0 where

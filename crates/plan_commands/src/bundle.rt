@@ -5,9 +5,9 @@ ghost use Rattle.command_streams.specs.Streams.{IsOfReadBytes, IsTaken, TakesAtM
 ghost use Rattle.command_streams.specs.Outcomes.{IfRefused};
 ghost use Rattle.plan_commands.specs.Bundles.{bundle_limit, IsMark, FindsMark, IsTakenWhole, LacksMark, IsUnreadInstance, IsVerifiedBundle, IsRefusedBundle, IsBundleVerdict};
 
-use crate::verdict::{PLAN_LIMIT, Verified, verified_of_text, write_verdict};
+use crate::verdict::{Verified, verified_of_text, write_verdict};
 use command_streams::{
-    End, Fault, INSTANCE_LIMIT, Source, Stop, Taken, instance_of_text, take_input,
+    End, Fault, INSTANCE_LIMIT, PLAN_LIMIT, Source, Stop, Taken, instance_of_text, take_input,
 };
 use std::alloc::Global;
 use std::io::{Read, Write};

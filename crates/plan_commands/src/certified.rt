@@ -6,7 +6,7 @@ ghost use Rattle.tree_check.specs.Proofs.{Proves};
 ghost use Rattle.plan_commands.specs.Certified.{HasBound, HasCertificate, IsCertificateFault, IsCheckAnswer, WritesProvedBound, bound_line, fault_of};
 ghost use Rattle.std.specs.Io.KnownBytes.{Keeps};
 ghost use Rattle.command_streams.specs.Endings.{IsNotOfTexts};
-ghost use Rattle.command_streams.specs.Limits.{certificate_limit, instance_limit};
+ghost use Rattle.command_streams.specs.declared.limits.TheConstants.{CERTIFICATE_LIMIT, INSTANCE_LIMIT};
 ghost use Rattle.command_streams.specs.Streams.{TakesAtMost};
 ghost use Rattle.command_streams.specs.Instances.{IsOfInstance};
 ghost use Rattle.command_streams.specs.Outcomes.{IfRefused, IsWritingUnlessMemory};
@@ -53,7 +53,7 @@ pub fn read_bound<R: Read>(
         → MatchResult result (λ low. low ≡ cert.low) IsNotOfTexts) }
     ensures later { IfErr result (λ fault. ¬ IsOfInstance fault) }
     ensures last { IfErr result (λ fault. ¬ IsBeforeCertificate fault) }
-    ensures most { TakesAtMost (certificate_limit + 1) (R.remaining certificate.old) (R.remaining certificate.new) }
+    ensures most { TakesAtMost (CERTIFICATE_LIMIT + 1) (R.remaining certificate.old) (R.remaining certificate.new) }
 {
     match check_stream(rt, alloc, instance, certificate, BATCH) {
         Ok(low) => Ok(low),
@@ -96,8 +96,8 @@ pub fn check_run<I: Read, C: Read, W: Write>(
         WritesProvedBound i c (W.contents out.old) (W.contents out.new) result)) }
     // Of a reader no more is taken than its limit and one byte, and of the certificate's nothing at a fault of the
     // instance.
-    ensures instance { TakesAtMost (instance_limit + 1) (I.remaining instance.old) (I.remaining instance.new) }
-    ensures certificate { TakesAtMost (certificate_limit + 1) (C.remaining certificate.old) (C.remaining certificate.new) }
+    ensures instance { TakesAtMost (INSTANCE_LIMIT + 1) (I.remaining instance.old) (I.remaining instance.new) }
+    ensures certificate { TakesAtMost (CERTIFICATE_LIMIT + 1) (C.remaining certificate.old) (C.remaining certificate.new) }
     ensures order { IfRefused result (λ fault. IsOfInstance fault → Keeps (C.remaining certificate.old) (C.remaining certificate.new)) }
 {
     let instance = match read_instance(alloc, instance) {

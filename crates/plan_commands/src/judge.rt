@@ -2,7 +2,7 @@
 
 ghost use Rattle.std.specs.Prelude.{◌≡◌, ◌+◌, ◌≤◌, length, string_bytes, Some, IfErr, IfOk, IfSome, MatchResult};
 ghost use Rattle.std.specs.Io.KnownBytes.{Keeps};
-ghost use Rattle.command_streams.specs.Limits.{certificate_limit, instance_limit};
+ghost use Rattle.command_streams.specs.declared.limits.TheConstants.{CERTIFICATE_LIMIT, INSTANCE_LIMIT};
 ghost use Rattle.command_streams.specs.Streams.{TakesAtMost};
 ghost use Rattle.command_streams.specs.Instances.{IsOfInstance};
 ghost use Rattle.command_streams.specs.Outcomes.{IfRefused};
@@ -12,8 +12,7 @@ ghost use Rattle.plan_commands.specs.Judged.{HasNoStanding, HasPlanOf, IsBeforeC
 use crate::certified::read_bound;
 use crate::front::{Front, front_of};
 use crate::printed::{read_printed, verified_behind};
-use crate::verdict::PLAN_LIMIT;
-use command_streams::{End, Fault, Sink, Source, read_instance, write_text};
+use command_streams::{End, Fault, PLAN_LIMIT, Sink, Source, read_instance, write_text};
 use plan_format::{LineFault, PlanTextError};
 use std::alloc::{AllocError, Global};
 use std::fmt;
@@ -132,7 +131,7 @@ fn standing_of_readers<I: Read, P: Read>(
     ensures judged { IfSome (I.remaining instance.old) (λ i. IfSome (P.remaining plan.old) (λ p. MatchResult result
         (IsStanding i p)
         (HasNoStanding i p))) }
-    ensures instance { TakesAtMost (instance_limit + 1) (I.remaining instance.old) (I.remaining instance.new) }
+    ensures instance { TakesAtMost (INSTANCE_LIMIT + 1) (I.remaining instance.old) (I.remaining instance.new) }
     ensures plan { TakesAtMost (printed_limit + 1) (P.remaining plan.old) (P.remaining plan.new) }
     ensures order { IfErr result (λ fault. IsOfInstance fault → Keeps (P.remaining plan.old) (P.remaining plan.new)) }
 {
@@ -216,9 +215,9 @@ pub fn judge_run<I: Read, P: Read, C: Read, W: Write>(
         IsJudgeAnswer i p c (W.contents out.old) (W.contents out.new) result))) }
     // Of a reader no more is taken than its limit and one byte; of the plan's nothing at a fault of the instance, and of the
     // certificate's nothing at a fault of either.
-    ensures instance { TakesAtMost (instance_limit + 1) (I.remaining instance.old) (I.remaining instance.new) }
+    ensures instance { TakesAtMost (INSTANCE_LIMIT + 1) (I.remaining instance.old) (I.remaining instance.new) }
     ensures plan { TakesAtMost (printed_limit + 1) (P.remaining plan.old) (P.remaining plan.new) }
-    ensures certificate { TakesAtMost (certificate_limit + 1) (C.remaining certificate.old) (C.remaining certificate.new) }
+    ensures certificate { TakesAtMost (CERTIFICATE_LIMIT + 1) (C.remaining certificate.old) (C.remaining certificate.new) }
     ensures order { IfRefused result (λ fault. IsOfInstance fault → Keeps (P.remaining plan.old) (P.remaining plan.new)) }
     ensures last { IfRefused result (λ fault. IsBeforeCertificate fault → Keeps (C.remaining certificate.old) (C.remaining certificate.new)) }
 {

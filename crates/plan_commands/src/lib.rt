@@ -1,8 +1,9 @@
-//! The commands that judge what is given: plans, certificates, and what follows of a valid plan.
+//! The commands that judge what is given: plans, certificates, what follows of a valid plan, and two releases.
 #![tactic(auto)]
 
 mod bundle;
 mod certified;
+mod comparing;
 mod front;
 mod judge;
 mod laws;
@@ -16,6 +17,7 @@ mod verdict;
 
 pub use bundle::verify_bundle;
 pub use certified::{check_run, read_bound};
+pub use comparing::compare_run;
 pub use front::{Front, front_of};
 pub use judge::judge_run;
 pub use laws::{
@@ -28,4 +30,4 @@ pub use picture::draw_run;
 pub use printed::{bare_fault, printed_of_readers, read_printed};
 pub use replay::replay_run;
 pub use sheets::schedule_run;
-pub use verdict::{PLAN_LIMIT, Verified, verified_of_readers, verify};
+pub use verdict::{Verified, verified_of_readers, verify};

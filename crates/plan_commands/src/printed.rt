@@ -3,7 +3,7 @@
 ghost use Rattle.std.specs.Prelude.{◌≡◌, ◌+◌, ◌≤◌, length, IfErr, IfOk, IfSome, MatchResult};
 ghost use Rattle.ttp_model.specs.Plans.{IsValid};
 ghost use Rattle.std.specs.Io.KnownBytes.{Keeps};
-ghost use Rattle.command_streams.specs.Limits.{instance_limit};
+ghost use Rattle.command_streams.specs.declared.limits.TheConstants.{INSTANCE_LIMIT};
 ghost use Rattle.command_streams.specs.Streams.{IsReadFault, TakesAtMost};
 ghost use Rattle.command_streams.specs.Instances.{IsOfInstance};
 ghost use Rattle.plan_commands.specs.Printed.{CanBeBehind, HasLineBehind, HasPlanBehind, IsAtFaultOrLong, IsPlanFaultBehind, IsPrinted, IsPrintedFor, IsUnprinted, LacksPlanBehind, LacksPrintedPlan, bare_fault, error_behind_line, printed_limit, told_behind};
@@ -11,8 +11,8 @@ ghost use Rattle.plan_commands.specs.Verdicts.{HasValidPlan};
 ghost use Rattle.command_streams.specs.declared.ending.Source.{Source};
 
 use crate::front::{Front, front_of};
-use crate::verdict::{PLAN_LIMIT, Verified, verified_of_text};
-use command_streams::{Fault, Source, read_all, read_instance};
+use crate::verdict::{Verified, verified_of_text};
+use command_streams::{Fault, PLAN_LIMIT, Source, read_all, read_instance};
 use plan_format::{LineFault, PlanTextError};
 use std::alloc::Global;
 use std::io::Read;
@@ -143,7 +143,7 @@ pub fn printed_of_readers<I: Read, P: Read>(
         (IsPrinted i p)
         (IsUnprinted i p))) }
     ensures valid { IfOk result (λ v. IsValid v.instance v.plan) }
-    ensures instance { TakesAtMost (instance_limit + 1) (I.remaining instance.old) (I.remaining instance.new) }
+    ensures instance { TakesAtMost (INSTANCE_LIMIT + 1) (I.remaining instance.old) (I.remaining instance.new) }
     ensures plan { TakesAtMost (printed_limit + 1) (P.remaining plan.old) (P.remaining plan.new) }
     ensures order { IfErr result (λ fault. IsOfInstance fault → Keeps (P.remaining plan.old) (P.remaining plan.new)) }
 {

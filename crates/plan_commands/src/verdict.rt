@@ -4,18 +4,15 @@ ghost use Rattle.std.specs.Prelude.{◌≡◌, ◌≤◌, ◌+◌, length, strin
 ghost use Rattle.ttp_model.specs.Plans.{IsValid};
 ghost use Rattle.plan_commands.specs.Verdicts.{IsPlanFault, IsRefused, IsVerdict, IsVerified, IsVerifiedPlan, valid_line};
 ghost use Rattle.std.specs.Io.KnownBytes.{Keeps};
-ghost use Rattle.command_streams.specs.Limits.{instance_limit, plan_limit};
+ghost use Rattle.command_streams.specs.declared.limits.TheConstants.{INSTANCE_LIMIT};
 ghost use Rattle.command_streams.specs.Streams.{IsOfReadBytes, TakesAtMost};
 ghost use Rattle.command_streams.specs.Instances.{IsOfInstance};
 ghost use Rattle.command_streams.specs.Outcomes.{IfRefused, IsWritingUnlessMemory};
 
-use command_streams::{End, Fault, Source, end_with, read_all, read_instance};
+use command_streams::{End, Fault, PLAN_LIMIT, Source, end_with, read_all, read_instance};
 use std::alloc::{AllocError, Global};
 use std::io::{Read, Write};
 use ttp_model::{Instance, Plan};
-
-/// The bytes of a plan's text, at most.
-pub const PLAN_LIMIT: usize = 131_072;
 
 /// An instance, and a valid plan of it that states its own delay.
 #[derive(Drop)]
@@ -65,8 +62,8 @@ pub fn verified_of_readers<I: Read, P: Read>(
         (IsVerified i p)
         (IsRefused i p))) }
     ensures valid { IfOk result (λ v. IsValid v.instance v.plan) }
-    ensures instance { TakesAtMost (instance_limit + 1) (I.remaining instance.old) (I.remaining instance.new) }
-    ensures plan { TakesAtMost (plan_limit + 1) (P.remaining plan.old) (P.remaining plan.new) }
+    ensures instance { TakesAtMost (INSTANCE_LIMIT + 1) (I.remaining instance.old) (I.remaining instance.new) }
+    ensures plan { TakesAtMost (PLAN_LIMIT + 1) (P.remaining plan.old) (P.remaining plan.new) }
     ensures order { IfErr result (λ fault. IsOfInstance fault → Keeps (P.remaining plan.old) (P.remaining plan.new)) }
 {
     let instance = read_instance(alloc, instance)?;
@@ -103,8 +100,8 @@ pub fn verify<I: Read, P: Read, W: Write>(
     ensures verdict { IfSome (I.remaining instance.old) (λ i. IfSome (P.remaining plan.old) (λ p.
         IsVerdict i p (W.contents out.old) (W.contents out.new) result)) }
     // Of a reader no more is taken than its limit and one byte, and of the plan's nothing at a fault of the instance.
-    ensures instance { TakesAtMost (instance_limit + 1) (I.remaining instance.old) (I.remaining instance.new) }
-    ensures plan { TakesAtMost (plan_limit + 1) (P.remaining plan.old) (P.remaining plan.new) }
+    ensures instance { TakesAtMost (INSTANCE_LIMIT + 1) (I.remaining instance.old) (I.remaining instance.new) }
+    ensures plan { TakesAtMost (PLAN_LIMIT + 1) (P.remaining plan.old) (P.remaining plan.new) }
     ensures order { IfRefused result (λ fault. IsOfInstance fault → Keeps (P.remaining plan.old) (P.remaining plan.new)) }
 {
     match verified_of_readers(alloc, instance, plan) {

@@ -13,7 +13,7 @@ use std::sync::atomic::{AtomicU64, Ordering};
 use std::test::Fail;
 use std::thread::Threads;
 use std::time::Duration;
-use ttp_model::Instance;
+use ttp_model::{Instance, Plan};
 
 /// A clock that goes on by some seconds each time it is read, and a screen that counts its lines, and those that begin in one
 /// way.
@@ -196,6 +196,8 @@ impl Gate for Weary {
     fn goes_on(&self, _worker: usize) -> bool {
         false
     }
+
+    fn found(&self, _instance: &Instance, _plan: &Plan, _delay: u64) {}
 }
 
 impl Follower for Weary {

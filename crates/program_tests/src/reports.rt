@@ -1,8 +1,8 @@
 //! Which line and status does a refusal have, and what stands on standard error where it isn't written in full?
 
 use certificate::CertTextError;
-use command_streams::End::Refused;
-use command_streams::{End, Fault, SearchFault, Sink, Source, report, status};
+use command_streams::End::{Refused, RefusedOf};
+use command_streams::{End, Fault, Release, Rounds, SearchFault, Sink, Source, report, status};
 use instance_text::TextError;
 use plan_format::PlanTextError;
 use std::alloc::Global;
@@ -126,11 +126,61 @@ fn wrong_line(alloc: Global) -> Option<usize> {
             "write certificate\n",
             6,
         ),
+        (Refused(Fault::Unwritten(Sink::Plan)), "write plan\n", 6),
+        (
+            Refused(Fault::Unwritten(Sink::Reduced)),
+            "write reduced\n",
+            6,
+        ),
         (
             Refused(Fault::Search(SearchFault::Thread)),
             "solve thread\n",
             7,
         ),
+    ];
+    wrong_row(alloc, rows)
+}
+
+/// The first end without a fault, with one of a plan's rounds, or with one of two releases that has another line or another status: want
+/// of memory is told of no release.
+fn wrong_line_of_rounds_and_releases(alloc: Global) -> Option<usize> {
+    let rounds = Rounds {
+        needed: 80,
+        held: u64::MAX,
+    };
+    let unstated = Fault::InstanceText(TextError::OutOfMemory);
+    let rows: &[Row] = &[
+        (End::Done, "", 0),
+        (End::Different, "", 1),
+        (End::Absent, "", 10),
+        (End::Stopped, "", 11),
+        (
+            Refused(Fault::ShortPeriod(rounds)),
+            "period rounds 80 18446744073709551615\n",
+            5,
+        ),
+        (
+            Refused(Fault::ShortTables(rounds)),
+            "tables rounds 80 18446744073709551615\n",
+            5,
+        ),
+        (
+            Refused(Fault::LongTables(1_000_001)),
+            "tables slots 1000001\n",
+            5,
+        ),
+        (
+            RefusedOf(Release::Old, Fault::StatedDelay(9)),
+            "old plan D1 9\n",
+            5,
+        ),
+        (
+            RefusedOf(Release::New, Fault::Unread(Source::Plan)),
+            "new read plan\n",
+            6,
+        ),
+        (RefusedOf(Release::Old, Fault::Memory), "memory\n", 4),
+        (RefusedOf(Release::New, unstated), "memory\n", 4),
     ];
     wrong_row(alloc, rows)
 }
@@ -220,5 +270,7 @@ fn each_fault_beside_those_of_texts_has_its_line(rt: HostRuntime) {
     let wrong = wrong_line(rt.alloc());
     assert!(rt; wrong.is_none(), "{wrong:?}");
     let wrong = wrong_line_of_no_text(rt.alloc());
+    assert!(rt; wrong.is_none(), "{wrong:?}");
+    let wrong = wrong_line_of_rounds_and_releases(rt.alloc());
     assert!(rt; wrong.is_none(), "{wrong:?}");
 }

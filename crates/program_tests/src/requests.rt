@@ -4,7 +4,7 @@ use crate::told::{
     ALL_RECEIVED, FIRST_CERTIFICATE, FIRST_PLAN, FIRST_TABLES, TWO_CHANNELS_BOTH_CERTIFICATE,
     TWO_CHANNELS_PLAN, TWO_CHANNELS_TABLES,
 };
-use command_words::{VERSION, refuse, request_in};
+use command_line::{VERSION, refuse, request_in};
 use std::alloc::{AllocError, Global};
 use std::str::from_utf8;
 use std::test::Fail;

@@ -8,7 +8,7 @@ use Rattle.plan_format.specs.Spelling.{SpellsPlan}
 use Rattle.command_streams.specs.declared.ending.Sink.TheVariants as sink
 use Rattle.command_streams.specs.declared.ending.Fault.TheVariants.{Unwritten}
 use Rattle.command_streams.specs.declared.ending.End.{End}
-use Rattle.command_streams.specs.declared.ending.End.TheVariants.{Done, Absent, Stopped, Refused}
+use Rattle.command_streams.specs.declared.ending.End.TheVariants.{Refused, RefusedOf}
 
 -- the text of a valid plan of the instance that takes so many ticks, and says so
 pub record IsPlanText (i : Instance) (text : List ℕ) (ticks : ℕ) : Type 0 where
@@ -23,7 +23,6 @@ HoldsNoBetter i bytes ticks = (held : ℕ) → IsPlanText i bytes held → ticks
 
 -- the end of a search whose best plan was to be kept: that it couldn't be is told where nothing else is
 abbrev pub kept_end : Bool → End → End
-kept_end failed Done = cond failed (Refused (Unwritten sink.Plan)) Done
-kept_end failed Absent = cond failed (Refused (Unwritten sink.Plan)) Absent
-kept_end failed Stopped = cond failed (Refused (Unwritten sink.Plan)) Stopped
 kept_end failed (Refused fault) = Refused fault
+kept_end failed (RefusedOf release fault) = RefusedOf release fault
+kept_end failed end = cond failed (Refused (Unwritten sink.Plan)) end

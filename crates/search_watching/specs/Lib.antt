@@ -1,3 +1,4 @@
 pub mod Beside
+pub mod Faults
 pub mod Kept
 pub mod Patience

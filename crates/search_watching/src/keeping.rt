@@ -119,12 +119,9 @@ pub fn kept_end(end: End, has_failed: bool) -> End
 {
     match end {
         End::Refused(fault) => End::Refused(fault),
-        End::Done | End::Absent | End::Stopped if has_failed => {
-            End::Refused(Fault::Unwritten(Sink::Plan))
-        }
-        End::Done => End::Done,
-        End::Absent => End::Absent,
-        End::Stopped => End::Stopped,
+        End::RefusedOf(release, fault) => End::RefusedOf(release, fault),
+        _ if has_failed => End::Refused(Fault::Unwritten(Sink::Plan)),
+        end => end,
     }
 }
 
@@ -156,6 +153,10 @@ impl<'a, R: Wait, D: Folder, F: Follower> Keeper<'a, R, D, F> {
 }
 
 impl<'a, R: Wait, D: Folder, F: Follower> Gate for Keeper<'a, R, D, F> {
+    ghost ends = { λ x. F.ends x.follower.now };
+
+    ghost heard = { λ x. F.heard x.follower.now };
+
     fn start(&self, worker: usize) {
         self.follower.start(worker);
     }
@@ -170,6 +171,10 @@ impl<'a, R: Wait, D: Folder, F: Follower> Gate for Keeper<'a, R, D, F> {
 
     fn goes_on(&self, worker: usize) -> bool {
         self.follower.goes_on(worker)
+    }
+
+    fn is_late(&self) -> bool {
+        self.follower.is_late()
     }
 
     fn found(&self, instance: &Instance, plan: &Plan, delay: u64) {

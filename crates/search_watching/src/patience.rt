@@ -1,7 +1,8 @@
 //! When does a search end whose user has waited long enough?
 
 ghost use Rattle.std.specs.Prelude.{◌≡◌};
-ghost use Rattle.search_watching.specs.Patience.{is_enough};
+ghost use Rattle.std.specs.Prelude.{IsTrue, is_some, true};
+ghost use Rattle.search_watching.specs.Patience.{is_enough, MayEnd};
 
 use crate::progress::Follower;
 use planner::{Gate, Name};
@@ -62,7 +63,9 @@ impl<'a, S: Clock, F: Follower> Patient<'a, S, F> {
     }
 
     /// Whether as many seconds have passed as were given.
-    fn is_over(&self) -> bool {
+    fn is_over(&self) -> bool
+        ensures { result ≡ true → IsTrue (is_some self.now.patience.seconds) }
+    {
         match (self.patience.seconds, &self.started) {
             (Some(seconds), Some(started)) => match started.elapsed(self.clock) {
                 Ok(time) => time.as_secs() >= seconds,
@@ -71,9 +74,23 @@ impl<'a, S: Clock, F: Follower> Patient<'a, S, F> {
             _ => false,
         }
     }
+
+    /// Whether the user has waited long enough.
+    fn is_spent(&self) -> bool
+        ensures { result ≡ true → MayEnd self.now.patience.until self.now.patience.seconds }
+    {
+        is_enough(self.patience.until, self.best()) || self.is_over()
+    }
 }
 
 impl<'a, S: Clock, F: Follower> Gate for Patient<'a, S, F> {
+    ghost use Rattle.std.specs.Prelude.{◌⊎◌};
+    ghost use Rattle.search_watching.specs.Patience.{MayEnd};
+
+    ghost ends = { λ x. F.ends x.follower.now ⊎ MayEnd x.patience.until x.patience.seconds };
+
+    ghost heard = { λ x. F.heard x.follower.now };
+
     fn start(&self, worker: usize) {
         self.follower.start(worker);
     }
@@ -87,9 +104,11 @@ impl<'a, S: Clock, F: Follower> Gate for Patient<'a, S, F> {
     }
 
     fn goes_on(&self, worker: usize) -> bool {
-        self.follower.goes_on(worker)
-            && !is_enough(self.patience.until, self.best())
-            && !self.is_over()
+        self.follower.goes_on(worker) && !self.is_spent()
+    }
+
+    fn is_late(&self) -> bool {
+        self.follower.is_late()
     }
 
     fn found(&self, instance: &Instance, plan: &Plan, delay: u64) {

@@ -220,6 +220,8 @@ impl<'a, S: Clock + Eprint> Progress<'a, S> {
 }
 
 impl<'a, S: Clock + Eprint> Gate for Progress<'a, S> {
+    ghost ends = { λ _. ⊥ };
+
     fn start(&self, _worker: usize) {}
 
     fn enter(&self, _worker: usize, _name: &Name) {

@@ -16,7 +16,7 @@ use Rattle.command_streams.specs.declared.ending.SearchFault.TheVariants as sear
 use Rattle.command_streams.specs.declared.ending.Sink.{Sink}
 use Rattle.command_streams.specs.declared.ending.Sink.TheVariants as sink
 use Rattle.command_streams.specs.declared.ending.Fault.{Fault}
-use Rattle.command_streams.specs.declared.ending.Fault.TheVariants.{NoMark, LossForm, InstanceText, Memory, PlanText, Plan, StatedDelay, CertificateText, Certificate, TooFewNodes, WrongLoss, NoSuchProcess, TooManySlots, Search, TooLong, Unread, Unwritten}
+use Rattle.command_streams.specs.declared.ending.Fault.TheVariants.{Memory, Search, Unwritten}
 use Rattle.command_streams.specs.declared.ending.End.{End}
 use Rattle.command_streams.specs.declared.ending.End.TheVariants.{Refused}
 use Rattle.command_streams.specs.Outcomes.{IsCommandAnswer}
@@ -53,43 +53,12 @@ module _ (IsFoundSo : Solved → Type 0) (IsLackingFor : Fault → Type 0) (can 
       → Keeps old new → IsToldOf IsFoundSo IsLackingFor wanted from to old new (Refused fault)
   uncertified solved is asked Memory kept keeps = ((can.memory, kept), keeps)
   uncertified solved is asked (Unwritten sink.Certificate) part keeps = (record { is_wanted = asked; solved = solved; is = is; part = part }, keeps)
-  uncertified solved is asked (Unwritten sink.Plan) never keeps = absurd never
-  uncertified solved is asked (Unwritten sink.Out) never keeps = absurd never
-  uncertified solved is asked NoMark never keeps = absurd never
-  uncertified solved is asked (LossForm k) never keeps = absurd never
-  uncertified solved is asked (InstanceText error) never keeps = absurd never
-  uncertified solved is asked (PlanText error) never keeps = absurd never
-  uncertified solved is asked (Plan fault) never keeps = absurd never
-  uncertified solved is asked (StatedDelay d) never keeps = absurd never
-  uncertified solved is asked (CertificateText error) never keeps = absurd never
-  uncertified solved is asked (Certificate fault) never keeps = absurd never
-  uncertified solved is asked TooFewNodes never keeps = absurd never
-  uncertified solved is asked (TooManySlots count) never keeps = absurd never
-  uncertified solved is asked (NoSuchProcess k) never keeps = absurd never
-  uncertified solved is asked (WrongLoss k) never keeps = absurd never
-  uncertified solved is asked (Search fault) never keeps = absurd never
-  uncertified solved is asked (Unread source) never keeps = absurd never
-  uncertified solved is asked (TooLong source) never keeps = absurd never
+  uncertified solved is asked fault never keeps = absurd never
 
   -- there is none
   untold : (fault : Fault) → IsLackingFor fault → Keeps from to → Keeps old new → IsToldOf IsFoundSo IsLackingFor wanted from to old new (Refused fault)
   untold (Unwritten s) why kept keeps = absurd (can.writers s why)
-  untold Memory why kept keeps = ((why, kept), keeps)
-  untold NoMark why kept keeps = ((why, kept), keeps)
-  untold (LossForm k) why kept keeps = ((why, kept), keeps)
-  untold (InstanceText error) why kept keeps = ((why, kept), keeps)
-  untold (PlanText error) why kept keeps = ((why, kept), keeps)
-  untold (Plan fault) why kept keeps = ((why, kept), keeps)
-  untold (StatedDelay d) why kept keeps = ((why, kept), keeps)
-  untold (CertificateText error) why kept keeps = ((why, kept), keeps)
-  untold (Certificate fault) why kept keeps = ((why, kept), keeps)
-  untold TooFewNodes why kept keeps = ((why, kept), keeps)
-  untold (TooManySlots count) why kept keeps = ((why, kept), keeps)
-  untold (NoSuchProcess k) why kept keeps = ((why, kept), keeps)
-  untold (WrongLoss k) why kept keeps = ((why, kept), keeps)
-  untold (Search fault) why kept keeps = ((why, kept), keeps)
-  untold (Unread source) why kept keeps = ((why, kept), keeps)
-  untold (TooLong source) why kept keeps = ((why, kept), keeps)
+  untold fault why kept keeps = ((why, kept), keeps)
 
   found_told : (found : Result Solved Fault) → MatchResult found IsFoundSo IsLackingFor → (end : End) → IsTellingOf found wanted from to old new end
       → IsToldOf IsFoundSo IsLackingFor wanted from to old new end
@@ -100,65 +69,52 @@ module _ (IsFoundSo : Solved → Type 0) (IsLackingFor : Fault → Type 0) (can 
   ]
 
 -- so it is of what readers give, where they tell
-pub told_of_reader : (a : Option (List ℕ)) (found : Result Solved Fault) (options : Options) (until : Option ℕ) (wanted : Bool) (from to old new : Option (List ℕ)) (end : End)
-    → IfSome a (λ bytes. MatchResult found (IsSolved bytes options until) (IsUnsolved bytes)) → IsTellingOf found wanted from to old new end
-    → IfSome a (λ bytes. IsSolveAnswer bytes options until wanted from to old new end)
+pub told_of_reader : (a : Option (List ℕ)) (found : Result Solved Fault) (options : Options) (until : Option ℕ) (Ends : Type 0) (wanted : Bool) (from to old new : Option (List ℕ)) (end : End)
+    → IfSome a (λ bytes. MatchResult found (IsSolved bytes options until Ends) (IsUnsolved bytes)) → IsTellingOf found wanted from to old new end
+    → IfSome a (λ bytes. IsSolveAnswer bytes options until Ends wanted from to old new end)
 unfolding IsSolveAnswer
-told_of_reader None found options until wanted from to old new end is telling = tt
-told_of_reader (Some bytes) found options until wanted from to old new end is telling =
-    found_told (IsSolved bytes options until) (IsUnsolved bytes) (record { memory = tt; writers = λ s never. absurd never }) wanted from to old new found is end telling
+told_of_reader None found options until Ends wanted from to old new end is telling = tt
+told_of_reader (Some bytes) found options until Ends wanted from to old new end is telling =
+    found_told (IsSolved bytes options until Ends) (IsUnsolved bytes) (record { memory = tt; writers = λ s never. absurd never }) wanted from to old new found is end telling
 
-pub told_of_readers : (a b : Option (List ℕ)) (found : Result Solved Fault) (options : Options) (until : Option ℕ) (wanted : Bool) (from to old new : Option (List ℕ)) (end : End)
-    → IfSome a (λ bytes. IfSome b (λ plan. MatchResult found (IsSolvedFrom bytes plan options until) (IsUnsolvedFrom bytes plan)))
-    → IsTellingOf found wanted from to old new end → IfSome a (λ bytes. IfSome b (λ plan. IsStartedAnswer bytes plan options until wanted from to old new end))
+pub told_of_readers : (a b : Option (List ℕ)) (found : Result Solved Fault) (options : Options) (until : Option ℕ) (Ends : Type 0) (wanted : Bool) (from to old new : Option (List ℕ)) (end : End)
+    → IfSome a (λ bytes. IfSome b (λ plan. MatchResult found (IsSolvedFrom bytes plan options until Ends) (IsUnsolvedFrom bytes plan)))
+    → IsTellingOf found wanted from to old new end → IfSome a (λ bytes. IfSome b (λ plan. IsStartedAnswer bytes plan options until Ends wanted from to old new end))
 unfolding IsStartedAnswer
-told_of_readers None b found options until wanted from to old new end is telling = tt
-told_of_readers (Some bytes) None found options until wanted from to old new end is telling = tt
-told_of_readers (Some bytes) (Some plan) found options until wanted from to old new end is telling =
-    found_told (IsSolvedFrom bytes plan options until) (IsUnsolvedFrom bytes plan) (record { memory = tt; writers = λ s never. absurd never }) wanted from to old new found is end telling
+told_of_readers None b found options until Ends wanted from to old new end is telling = tt
+told_of_readers (Some bytes) None found options until Ends wanted from to old new end is telling = tt
+told_of_readers (Some bytes) (Some plan) found options until Ends wanted from to old new end is telling =
+    found_told (IsSolvedFrom bytes plan options until Ends) (IsUnsolvedFrom bytes plan) (record { memory = tt; writers = λ s never. absurd never }) wanted from to old new found is end telling
 
 -- what is found of an instance is found of the bytes that state it
-solved_bytes : (bytes : List ℕ) (i : Instance) (start : Option Table) (options : Options) (until : Option ℕ) (solved : Solved)
-    → HasInstance bytes i → IsSearchOf i start options until solved → IsSolved bytes options until solved
-solved_bytes bytes i start options until solved has_instance is = record {
+solved_bytes : (bytes : List ℕ) (i : Instance) (start : Option Table) (options : Options) (until : Option ℕ) (Ends : Type 0) (solved : Solved)
+    → HasInstance bytes i → IsSearchOf i start options until Ends solved → IsSolved bytes options until Ends solved
+solved_bytes bytes i start options until Ends solved has_instance is = record {
   has_instance = rw is.of has_instance;
   is_answer = rw is.of is.is_answer;
   shows = rw is.of is.shows;
   tells = rw is.of is.tells;
+  called_off = is.called_off;
 }
 
 unsolved_bytes : (bytes : List ℕ) (i : Instance) (fault : Fault) → HasInstance bytes i → IsNoSearch fault → IsUnsolved bytes fault
 unsolved_bytes bytes i Memory has_instance is = tt
 unsolved_bytes bytes i (Search search.Memory) has_instance is = record { problem = i; has_instance = has_instance }
 unsolved_bytes bytes i (Search search.Thread) has_instance is = record { problem = i; has_instance = has_instance }
-unsolved_bytes bytes i (Unwritten s) has_instance is = absurd is
-unsolved_bytes bytes i NoMark has_instance is = absurd is
-unsolved_bytes bytes i (LossForm k) has_instance is = absurd is
-unsolved_bytes bytes i (InstanceText error) has_instance is = absurd is
-unsolved_bytes bytes i (PlanText error) has_instance is = absurd is
-unsolved_bytes bytes i (Plan fault) has_instance is = absurd is
-unsolved_bytes bytes i (StatedDelay d) has_instance is = absurd is
-unsolved_bytes bytes i (CertificateText error) has_instance is = absurd is
-unsolved_bytes bytes i (Certificate fault) has_instance is = absurd is
-unsolved_bytes bytes i TooFewNodes has_instance is = absurd is
-unsolved_bytes bytes i (TooManySlots count) has_instance is = absurd is
-unsolved_bytes bytes i (NoSuchProcess k) has_instance is = absurd is
-unsolved_bytes bytes i (WrongLoss k) has_instance is = absurd is
-unsolved_bytes bytes i (Unread source) has_instance is = absurd is
-unsolved_bytes bytes i (TooLong source) has_instance is = absurd is
+unsolved_bytes bytes i fault has_instance is = absurd is
 
-pub solved_of_bytes : (a : Option (List ℕ)) (i : Instance) (start : Option Table) (options : Options) (until : Option ℕ) (found : Result Solved Fault)
-    → IfSome a (λ bytes. HasInstance bytes i) → MatchResult found (IsSearchOf i start options until) IsNoSearch
-    → IfSome a (λ bytes. MatchResult found (IsSolved bytes options until) (IsUnsolved bytes))
-solved_of_bytes None i start options until found has_instance is = tt
-solved_of_bytes (Some bytes) i start options until (Ok solved) has_instance is = solved_bytes bytes i start options until solved has_instance is
-solved_of_bytes (Some bytes) i start options until (Err fault) has_instance is = unsolved_bytes bytes i fault has_instance is
+pub solved_of_bytes : (a : Option (List ℕ)) (i : Instance) (start : Option Table) (options : Options) (until : Option ℕ) (Ends : Type 0) (found : Result Solved Fault)
+    → IfSome a (λ bytes. HasInstance bytes i) → MatchResult found (IsSearchOf i start options until Ends) IsNoSearch
+    → IfSome a (λ bytes. MatchResult found (IsSolved bytes options until Ends) (IsUnsolved bytes))
+solved_of_bytes None i start options until Ends found has_instance is = tt
+solved_of_bytes (Some bytes) i start options until Ends (Ok solved) has_instance is = solved_bytes bytes i start options until Ends solved has_instance is
+solved_of_bytes (Some bytes) i start options until Ends (Err fault) has_instance is = unsolved_bytes bytes i fault has_instance is
 
 -- and where it began with a plan, of the bytes that have printed that one
-solved_texts : (bytes plan : List ℕ) (v : Verified) (options : Options) (until : Option ℕ) (solved : Solved)
-    → IsPrinted bytes plan v → IsSearchOf v.instance (Some v.plan) options until solved → IsSolvedFrom bytes plan options until solved
-solved_texts bytes plan v options until solved verified is = record {
-  is = solved_bytes bytes v.instance (Some v.plan) options until solved verified.has_instance is;
+solved_texts : (bytes plan : List ℕ) (v : Verified) (options : Options) (until : Option ℕ) (Ends : Type 0) (solved : Solved)
+    → IsPrinted bytes plan v → IsSearchOf v.instance (Some v.plan) options until Ends solved → IsSolvedFrom bytes plan options until Ends solved
+solved_texts bytes plan v options until Ends solved verified is = record {
+  is = solved_bytes bytes v.instance (Some v.plan) options until Ends solved verified.has_instance is;
   first = v.plan;
   ticks = v.delay;
   begins = rw is.of verified.has_plan;
@@ -169,26 +125,12 @@ solved_texts bytes plan v options until solved verified is = record {
 unsolved_texts : (bytes plan : List ℕ) (v : Verified) (fault : Fault) → IsPrinted bytes plan v → IsNoSearch fault → IsUnsolvedFrom bytes plan fault
 unsolved_texts bytes plan v Memory verified is = tt
 unsolved_texts bytes plan v (Search fault) verified is = record { verified = v; is = verified }
-unsolved_texts bytes plan v (Unwritten s) verified is = absurd is
-unsolved_texts bytes plan v NoMark verified is = absurd is
-unsolved_texts bytes plan v (LossForm k) verified is = absurd is
-unsolved_texts bytes plan v (InstanceText error) verified is = absurd is
-unsolved_texts bytes plan v (PlanText error) verified is = absurd is
-unsolved_texts bytes plan v (Plan fault) verified is = absurd is
-unsolved_texts bytes plan v (StatedDelay d) verified is = absurd is
-unsolved_texts bytes plan v (CertificateText error) verified is = absurd is
-unsolved_texts bytes plan v (Certificate fault) verified is = absurd is
-unsolved_texts bytes plan v TooFewNodes verified is = absurd is
-unsolved_texts bytes plan v (TooManySlots count) verified is = absurd is
-unsolved_texts bytes plan v (NoSuchProcess k) verified is = absurd is
-unsolved_texts bytes plan v (WrongLoss k) verified is = absurd is
-unsolved_texts bytes plan v (Unread source) verified is = absurd is
-unsolved_texts bytes plan v (TooLong source) verified is = absurd is
+unsolved_texts bytes plan v fault verified is = absurd is
 
-pub solved_of_texts : (a b : Option (List ℕ)) (v : Verified) (options : Options) (until : Option ℕ) (found : Result Solved Fault)
-    → IfSome a (λ bytes. IfSome b (λ plan. IsPrinted bytes plan v)) → MatchResult found (IsSearchOf v.instance (Some v.plan) options until) IsNoSearch
-    → IfSome a (λ bytes. IfSome b (λ plan. MatchResult found (IsSolvedFrom bytes plan options until) (IsUnsolvedFrom bytes plan)))
-solved_of_texts None b v options until found verified is = tt
-solved_of_texts (Some bytes) None v options until found verified is = tt
-solved_of_texts (Some bytes) (Some plan) v options until (Ok solved) verified is = solved_texts bytes plan v options until solved verified is
-solved_of_texts (Some bytes) (Some plan) v options until (Err fault) verified is = unsolved_texts bytes plan v fault verified is
+pub solved_of_texts : (a b : Option (List ℕ)) (v : Verified) (options : Options) (until : Option ℕ) (Ends : Type 0) (found : Result Solved Fault)
+    → IfSome a (λ bytes. IfSome b (λ plan. IsPrinted bytes plan v)) → MatchResult found (IsSearchOf v.instance (Some v.plan) options until Ends) IsNoSearch
+    → IfSome a (λ bytes. IfSome b (λ plan. MatchResult found (IsSolvedFrom bytes plan options until Ends) (IsUnsolvedFrom bytes plan)))
+solved_of_texts None b v options until Ends found verified is = tt
+solved_of_texts (Some bytes) None v options until Ends found verified is = tt
+solved_of_texts (Some bytes) (Some plan) v options until Ends (Ok solved) verified is = solved_texts bytes plan v options until Ends solved verified is
+solved_of_texts (Some bytes) (Some plan) v options until Ends (Err fault) verified is = unsolved_texts bytes plan v fault verified is

@@ -10,9 +10,7 @@ use Rattle.planner.specs.outcome.Outcome.TheVariants as answer
 use Rattle.planner.specs.Answers as answers
 use Rattle.command_streams.specs.declared.ending.Source.TheVariants as source
 use Rattle.command_streams.specs.declared.ending.Fault.{Fault}
-use Rattle.command_streams.specs.declared.ending.Fault.TheVariants.{NoMark, LossForm, InstanceText, Memory, PlanText, Plan, StatedDelay, CertificateText}
-use Rattle.command_streams.specs.declared.ending.Fault.TheVariants.{Certificate, TooFewNodes, WrongLoss, NoSuchProcess, TooManySlots}
-use Rattle.command_streams.specs.declared.ending.Fault.TheVariants.{Search, TooLong, Unread, Unwritten}
+use Rattle.command_streams.specs.declared.ending.Fault.TheVariants.{InstanceText, TooLong, Unread}
 use Rattle.command_streams.specs.declared.ending.End.{End}
 use Rattle.command_streams.specs.Instances.{IsOfInstance}
 use Rattle.command_streams.specs.Outcomes.{IfRefused}
@@ -25,35 +23,18 @@ by_instance : (Holds : Fault → Type 0) → ((error : TextError) → Holds (Ins
     → Holds (TooLong source.Instance) → (fault : Fault) → IsOfInstance fault → Holds fault
 by_instance Holds text unread long (InstanceText error) is = text error
 by_instance Holds text unread long (Unread source.Instance) is = unread
-by_instance Holds text unread long (Unread source.Plan) is = absurd is
-by_instance Holds text unread long (Unread source.Certificate) is = absurd is
 by_instance Holds text unread long (TooLong source.Instance) is = long
-by_instance Holds text unread long (TooLong source.Plan) is = absurd is
-by_instance Holds text unread long (TooLong source.Certificate) is = absurd is
-by_instance Holds text unread long NoMark is = absurd is
-by_instance Holds text unread long (LossForm k) is = absurd is
-by_instance Holds text unread long Memory is = absurd is
-by_instance Holds text unread long (PlanText error) is = absurd is
-by_instance Holds text unread long (Plan fault) is = absurd is
-by_instance Holds text unread long (StatedDelay d) is = absurd is
-by_instance Holds text unread long (CertificateText error) is = absurd is
-by_instance Holds text unread long (Certificate fault) is = absurd is
-by_instance Holds text unread long TooFewNodes is = absurd is
-by_instance Holds text unread long (TooManySlots count) is = absurd is
-by_instance Holds text unread long (NoSuchProcess k) is = absurd is
-by_instance Holds text unread long (WrongLoss k) is = absurd is
-by_instance Holds text unread long (Search fault) is = absurd is
-by_instance Holds text unread long (Unwritten sink) is = absurd is
+by_instance Holds text unread long fault is = absurd is
 
 module _ (Kept : Type 0) where
   of_search : (fault : Fault) → IsNoSearch fault → IsOfInstance fault → Kept
   of_search fault is of = absurd (by_instance (λ fault. IsNoSearch fault → ⊥) (λ error never. never) (λ never. never) (λ never. never) fault of is)
 
   -- the search of an instance that is read has none
-  pub unread_searched : (i : Instance) (start : Option Table) (options : Options) (until : Option ℕ) (found : Result Solved Fault)
-      → MatchResult found (IsSearchOf i start options until) IsNoSearch → IfErr found (λ fault. IsOfInstance fault → Kept)
-  unread_searched i start options until (Ok solved) is = tt
-  unread_searched i start options until (Err fault) is = of_search fault is
+  pub unread_searched : (i : Instance) (start : Option Table) (options : Options) (until : Option ℕ) (Ends : Type 0) (found : Result Solved Fault)
+      → MatchResult found (IsSearchOf i start options until Ends) IsNoSearch → IfErr found (λ fault. IsOfInstance fault → Kept)
+  unread_searched i start options until Ends (Ok solved) is = tt
+  unread_searched i start options until Ends (Err fault) is = of_search fault is
 
   answered : (outcome : Outcome) → IfRefused (end_told outcome) (λ fault. IsOfInstance fault → Kept)
   answered (answer.Optimal plan ticks cert) = tt

@@ -10,8 +10,6 @@ use Rattle.planner.specs.outcome.Outcome.{Outcome}
 use Rattle.planner.specs.outcome.Outcome.TheVariants as answer
 use Rattle.planner.specs.outcome.Why.{Why}
 use Rattle.planner.specs.outcome.Why.TheVariants as why
-use Rattle.planner.specs.outcome.SolveFault.{SolveFault}
-use Rattle.planner.specs.outcome.SolveFault.TheVariants as solving
 use Rattle.planner.specs.Answers as answers
 use Rattle.solve_command.specs.declared.solve.Solved.{Solved}
 use Rattle.planner.specs.Searching.{limit_of}
@@ -19,19 +17,13 @@ use Rattle.search_watching.specs.Patience.{is_enough}
 use Rattle.plan_commands.specs.declared.verdict.Verified.{Verified}
 use Rattle.plan_commands.specs.Printed.{HasPrintedPlan, IsPrinted, IsUnprinted}
 use Rattle.command_streams.specs.declared.ending.Source.TheVariants as source
-use Rattle.command_streams.specs.declared.ending.SearchFault.{SearchFault}
 use Rattle.command_streams.specs.declared.ending.SearchFault.TheVariants as search
 use Rattle.command_streams.specs.declared.ending.Fault.{Fault}
 use Rattle.command_streams.specs.declared.ending.Fault.TheVariants.{InstanceText, Memory, Search, TooLong, Unread}
 use Rattle.command_streams.specs.declared.ending.End.{End}
-use Rattle.command_streams.specs.Limits.{instance_limit}
+use Rattle.command_streams.specs.declared.limits.TheConstants.{INSTANCE_LIMIT}
 use Rattle.command_streams.specs.Instances.{HasInstance, IsInstanceFault, StatesSome}
 use Rattle.solve_command.specs.Telling.{IsToldOf}
-
--- what each fault of a search is told as
-abbrev pub fault_of : SolveFault → SearchFault
-fault_of solving.Memory = search.Memory
-fault_of solving.Thread = search.Thread
 
 -- the word for why a search stopped; one that was called off ended for its plan, where that is short enough, and else for its time
 abbrev pub why_word : Why → Bool → List ℕ
@@ -63,13 +55,15 @@ IsAnswerText until i (answer.Optimal plan ticks cert) text = plan_text.SpellsPla
 IsAnswerText until i (answer.Infeasible cert) text = text ≡ codes "none\n"
 IsAnswerText until i (answer.Stopped why low best cert) text = IsStoppedText until i why low best text
 
--- an answer to this instance with its text; it has a plan that takes no longer than the one that the search began with, where there is one
-pub record IsSearchOf (i : Instance) (start : Option Table) (options : Options) (until : Option ℕ) (solved : Solved) : Type 0 where
+-- an answer to this instance with its text; it has a plan that takes no longer than the one that the search began with, where there is one, and says that
+-- it was called off only where the one may end it who follows it
+pub record IsSearchOf (i : Instance) (start : Option Table) (options : Options) (until : Option ℕ) (Ends : Type 0) (solved : Solved) : Type 0 where
   pub of : solved.instance ≡ i
   pub is_answer : answers.IsOutcome i options solved.outcome
   pub shows : answers.Shows i solved.outcome
   pub tells : IsAnswerText until i solved.outcome solved.text.items
   pub no_later : IfSome start (λ plan. limit_of i (answers.best_of solved.outcome) ≤ delay i plan)
+  pub called_off : answers.IsCalledOff solved.outcome → Ends
 
 -- why there is none: there was no memory, or no thread
 abbrev pub IsNoSearch : Fault → Type 0
@@ -78,25 +72,26 @@ IsNoSearch (Search fault) = Unit {0}
 IsNoSearch _ = ⊥
 
 -- the bytes state the instance, and this is an answer to it with its text
-pub record IsSolved (bytes : List ℕ) (options : Options) (until : Option ℕ) (solved : Solved) : Type 0 where
+pub record IsSolved (bytes : List ℕ) (options : Options) (until : Option ℕ) (Ends : Type 0) (solved : Solved) : Type 0 where
   pub has_instance : HasInstance bytes solved.instance
   pub is_answer : answers.IsOutcome solved.instance options solved.outcome
   pub shows : answers.Shows solved.instance solved.outcome
   pub tells : IsAnswerText until solved.instance solved.outcome solved.text.items
+  pub called_off : answers.IsCalledOff solved.outcome → Ends
 
 -- why bytes have no answer: they state no instance, or there was no memory or no thread for a search
 abbrev pub IsUnsolved : List ℕ → Fault → Type 0
 IsUnsolved bytes Memory = Unit {0}
 IsUnsolved bytes (Unread source.Instance) = Unit {0}
-IsUnsolved bytes (TooLong source.Instance) = instance_limit < length bytes
+IsUnsolved bytes (TooLong source.Instance) = INSTANCE_LIMIT < length bytes
 IsUnsolved bytes (InstanceText error) = IsInstanceFault bytes (InstanceText error)
 IsUnsolved bytes (Search search.Memory) = StatesSome bytes
 IsUnsolved bytes (Search search.Thread) = StatesSome bytes
 IsUnsolved bytes _ = ⊥
 
 -- the same of a search that begins with the valid plan that other bytes have printed: the answer has a plan that takes no longer
-pub record IsSolvedFrom (bytes plan : List ℕ) (options : Options) (until : Option ℕ) (solved : Solved) : Type 0 where
-  pub is : IsSolved bytes options until solved
+pub record IsSolvedFrom (bytes plan : List ℕ) (options : Options) (until : Option ℕ) (Ends : Type 0) (solved : Solved) : Type 0 where
+  pub is : IsSolved bytes options until Ends solved
   pub first : Table
   pub ticks : ℕ
   pub begins : HasPrintedPlan solved.instance plan first ticks
@@ -112,10 +107,11 @@ abbrev pub IsUnsolvedFrom : List ℕ → List ℕ → Fault → Type 0
 IsUnsolvedFrom instance plan (Search fault) = AreVerified instance plan
 IsUnsolvedFrom instance plan fault = IsUnprinted instance plan fault
 
--- what `solve` answers of the bytes of an instance, and what it writes; a plan of at most `until` is asked for, if any
-unfoldable pub IsSolveAnswer : (bytes : List ℕ) (options : Options) (until : Option ℕ) (wanted : Bool) (from to old new : Option (List ℕ)) → End → Type 0
-IsSolveAnswer bytes options until = IsToldOf (IsSolved bytes options until) (IsUnsolved bytes)
+-- what `solve` answers of the bytes of an instance, and what it writes; a plan of at most `until` is asked for, if any, and `Ends` says
+-- whether the one who follows the search may end it
+unfoldable pub IsSolveAnswer : (bytes : List ℕ) (options : Options) (until : Option ℕ) (Ends : Type 0) (wanted : Bool) (from to old new : Option (List ℕ)) → End → Type 0
+IsSolveAnswer bytes options until Ends = IsToldOf (IsSolved bytes options until Ends) (IsUnsolved bytes)
 
 -- what it answers where it begins with the plan that other bytes have printed
-unfoldable pub IsStartedAnswer : (bytes plan : List ℕ) (options : Options) (until : Option ℕ) (wanted : Bool) (from to old new : Option (List ℕ)) → End → Type 0
-IsStartedAnswer bytes plan options until = IsToldOf (IsSolvedFrom bytes plan options until) (IsUnsolvedFrom bytes plan)
+unfoldable pub IsStartedAnswer : (bytes plan : List ℕ) (options : Options) (until : Option ℕ) (Ends : Type 0) (wanted : Bool) (from to old new : Option (List ℕ)) → End → Type 0
+IsStartedAnswer bytes plan options until Ends = IsToldOf (IsSolvedFrom bytes plan options until Ends) (IsUnsolvedFrom bytes plan)

@@ -6,21 +6,21 @@ ghost use Rattle.ttp_model.specs.Delays.{delay};
 ghost use Rattle.ttp_model.specs.Plans.{IsValid};
 ghost use Rattle.certificate.specs.Versions.{Allows};
 ghost use Rattle.command_streams.specs.Instances.{IsOfInstance};
-ghost use Rattle.command_streams.specs.Limits.{instance_limit};
+ghost use Rattle.command_streams.specs.declared.limits.TheConstants.{INSTANCE_LIMIT};
 ghost use Rattle.command_streams.specs.Outcomes.{IfRefused};
 ghost use Rattle.command_streams.specs.Streams.{TakesAtMost};
 ghost use Rattle.plan_commands.specs.Printed.{printed_limit};
 ghost use Rattle.planner.specs.Searching.{limit_of};
-ghost use Rattle.planner.specs.Answers.{best_of, cert_of, IsOutcome, Shows};
+ghost use Rattle.planner.specs.Answers.{best_of, cert_of, IsCalledOff, IsOutcome, Shows};
 ghost use Rattle.ttp_model.specs.Answers.{IsBestPlan};
-ghost use Rattle.solve_command.specs.Solved.{best_word, fault_of, stopped_line, why_word, IsAnswerText, IsNoSearch, IsSearchOf, IsSolveAnswer, IsSolved, IsSolvedFrom, IsStartedAnswer, IsStoppedText, IsUnsolved, IsUnsolvedFrom};
+ghost use Rattle.solve_command.specs.Solved.{best_word, stopped_line, why_word, IsAnswerText, IsNoSearch, IsSearchOf, IsSolveAnswer, IsSolved, IsSolvedFrom, IsStartedAnswer, IsStoppedText, IsUnsolved, IsUnsolvedFrom};
 ghost use Rattle.solve_command.specs.Telling.{end_told, held, left, IsCertifying, IsTellingOf, IsWritingTo};
 
 use certificate::Cert;
-use command_streams::{End, Fault, SearchFault, Sink, read_instance, write_text};
+use command_streams::{End, Fault, Sink, read_instance, write_text};
 use plan_commands::{Verified, printed_of_readers};
 use planner::{FreeGate, Options, Outcome, SolveFault, Why, solve_towards};
-use search_watching::{Follower, is_enough};
+use search_watching::{Follower, is_enough, told_as};
 use std::alloc::{AllocError, Global};
 use std::fmt;
 use std::io::{Read, Write};
@@ -161,16 +161,6 @@ fn cert_of(outcome: &Outcome) -> &Cert
     }
 }
 
-/// The fault that the search's own is told as.
-pub fn fault_of(fault: SolveFault) -> SearchFault
-    ensures { result ≡ fault_of fault }
-{
-    match fault {
-        SolveFault::Memory => SearchFault::Memory,
-        SolveFault::Thread => SearchFault::Thread,
-    }
-}
-
 /// Searches an instance from a plan, where one is given, and tells a follower of it.
 fn searched<R: Threads + Wait + Sync, G: Follower + Sync>(
     rt: &R,
@@ -183,6 +173,8 @@ fn searched<R: Threads + Wait + Sync, G: Follower + Sync>(
     requires { IfSome start (IsValid instance.now) }
     ensures answer { IfOk result (IsOutcome instance.now options) }
     ensures shows { IfOk result (Shows instance.now) }
+    ensures called_off { IfOk result (λ outcome. IsCalledOff outcome → G.ends follower.now) }
+    ensures told { IfOk result (λ outcome. IfSome (best_of outcome) (λ best. G.heard follower.now instance.now best.0 best.1)) }
     ensures start { IfOk result (λ outcome. IfSome start (λ plan. limit_of instance.now (best_of outcome) ≤ delay instance.now plan)) }
 {
     follower.begin(alloc, instance);
@@ -202,14 +194,14 @@ fn solved_instance<R: Threads + Wait + Sync, G: Follower + Sync>(
     follower: &G,
 ) -> Result<Solved, Fault>
     requires { IfSome start (IsValid instance) }
-    ensures found { MatchResult result (IsSearchOf instance start options until) IsNoSearch }
+    ensures found { MatchResult result (IsSearchOf instance start options until (G.ends follower.now)) IsNoSearch }
     ensures printable { IfOk result (λ solved.
         Allows (cert_of solved.outcome).version (cert_of solved.outcome).tree) }
 {
     let _nodes = instance.nodes();
     let outcome = match searched(rt, alloc, &instance, start, options, follower) {
         Ok(outcome) => outcome,
-        Err(fault) => return Err(Fault::Search(fault_of(fault))),
+        Err(fault) => return Err(Fault::Search(told_as(fault))),
     };
     match answer_text(alloc, until, &instance, &outcome) {
         Ok(text) => Ok(Solved {
@@ -231,11 +223,11 @@ fn solved_of_reader<R: Threads + Wait + Sync, G: Follower + Sync, I: Read>(
     follower: &G,
 ) -> Result<Solved, Fault>
     ensures judged { IfSome (I.remaining instance.old) (λ bytes. MatchResult result
-        (IsSolved bytes options until)
+        (IsSolved bytes options until (G.ends follower.now))
         (IsUnsolved bytes)) }
     ensures printable { IfOk result (λ solved.
         Allows (cert_of solved.outcome).version (cert_of solved.outcome).tree) }
-    ensures most { TakesAtMost (instance_limit + 1) (I.remaining instance.old) (I.remaining instance.new) }
+    ensures most { TakesAtMost (INSTANCE_LIMIT + 1) (I.remaining instance.old) (I.remaining instance.new) }
 {
     let instance = read_instance(alloc, instance)?;
     solved_instance(rt, alloc, instance, None, options, until, follower)
@@ -252,11 +244,11 @@ fn solved_of_readers<R: Threads + Wait + Sync, G: Follower + Sync, I: Read, P: R
     follower: &G,
 ) -> Result<Solved, Fault>
     ensures judged { IfSome (I.remaining instance.old) (λ bytes. IfSome (P.remaining start.old) (λ plan. MatchResult result
-        (IsSolvedFrom bytes plan options until)
+        (IsSolvedFrom bytes plan options until (G.ends follower.now))
         (IsUnsolvedFrom bytes plan))) }
     ensures printable { IfOk result (λ solved.
         Allows (cert_of solved.outcome).version (cert_of solved.outcome).tree) }
-    ensures instance { TakesAtMost (instance_limit + 1) (I.remaining instance.old) (I.remaining instance.new) }
+    ensures instance { TakesAtMost (INSTANCE_LIMIT + 1) (I.remaining instance.old) (I.remaining instance.new) }
     ensures plan { TakesAtMost (printed_limit + 1) (P.remaining start.old) (P.remaining start.new) }
     ensures unread { IfErr result (λ fault. IsOfInstance fault → Keeps (P.remaining start.old) (P.remaining start.new)) }
 {
@@ -333,10 +325,10 @@ pub fn solve_run_with<R: Threads + Wait + Sync, G: Follower + Sync, I: Read, C: 
     out: &mut W,
 ) -> End
     ensures answer { IfSome (I.remaining instance.old) (λ bytes.
-        IsSolveAnswer bytes options until (is_some certificate.entry)
+        IsSolveAnswer bytes options until (G.ends follower.now) (is_some certificate.entry)
         (held C.contents certificate.entry) (left C.contents certificate.exit)
         (W.contents out.old) (W.contents out.new) result) }
-    ensures most { TakesAtMost (instance_limit + 1) (I.remaining instance.old) (I.remaining instance.new) }
+    ensures most { TakesAtMost (INSTANCE_LIMIT + 1) (I.remaining instance.old) (I.remaining instance.new) }
 {
     let found = solved_of_reader(rt, alloc, instance, options, until, follower);
     match certificate {
@@ -366,10 +358,10 @@ pub fn solve_run_from<
     out: &mut W,
 ) -> End
     ensures answer { IfSome (I.remaining instance.old) (λ bytes. IfSome (P.remaining start.old) (λ plan.
-        IsStartedAnswer bytes plan options until (is_some certificate.entry)
+        IsStartedAnswer bytes plan options until (G.ends follower.now) (is_some certificate.entry)
         (held C.contents certificate.entry) (left C.contents certificate.exit)
         (W.contents out.old) (W.contents out.new) result)) }
-    ensures instance { TakesAtMost (instance_limit + 1) (I.remaining instance.old) (I.remaining instance.new) }
+    ensures instance { TakesAtMost (INSTANCE_LIMIT + 1) (I.remaining instance.old) (I.remaining instance.new) }
     ensures plan { TakesAtMost (printed_limit + 1) (P.remaining start.old) (P.remaining start.new) }
     // Where the instance is refused, the plan is left unread.
     ensures unread { IfRefused result (λ fault. IsOfInstance fault → Keeps (P.remaining start.old) (P.remaining start.new)) }
@@ -383,7 +375,7 @@ pub fn solve_run_from<
 
 /// Reads an instance, searches it, and writes what was found: the text of a plan whose delay is the least; `none`
 /// where no plan is valid, and then the end is `Absent`; or, where the search was stopped, a line `stopped` with the
-/// word `budget` or `memory`, a delay in ticks that no plan is below, and the delay of the best plan found, or the
+/// word `budget` or `memory` or `gap`, a delay in ticks that no plan is below, and the delay of the best plan found, or the
 /// word `none`, followed by that plan's text, and then the end is `Stopped`. The certificate is written first,
 /// whatever was found. Both texts are made before one is written: where memory is refused nothing is written, and
 /// where the certificate's writer fails nothing but a prefix of it is.
@@ -396,11 +388,11 @@ pub fn solve_run<R: Threads + Wait + Sync, I: Read, C: Write, W: Write>(
     out: &mut W,
 ) -> End
     ensures answer { IfSome (I.remaining instance.old) (λ bytes.
-        IsSolveAnswer bytes options None (is_some certificate.entry)
+        IsSolveAnswer bytes options None ⊥ (is_some certificate.entry)
         (held C.contents certificate.entry) (left C.contents certificate.exit)
         (W.contents out.old) (W.contents out.new) result) }
     // No more is taken of the reader than its limit and one byte.
-    ensures most { TakesAtMost (instance_limit + 1) (I.remaining instance.old) (I.remaining instance.new) }
+    ensures most { TakesAtMost (INSTANCE_LIMIT + 1) (I.remaining instance.old) (I.remaining instance.new) }
 {
     let found = solved_of_reader(rt, alloc, instance, options, None, &FreeGate);
     match certificate {

@@ -1,9 +1,8 @@
 //! Which files has a command that searches, and is one that it writes another one of them?
 
-use crate::hints::{Said, hint_at_fault};
-use answer_files::FilesEnd;
-use command_streams::{End, Fault, Sink, Source, report, status};
-use command_words::{Limit, NumberedCommand, Search, Why, emptying_over, keeping_over, refuse};
+use crate::hints::{Said, told};
+use command_line::{Asks, Limit, Search, Why, refuse, written_over};
+use command_streams::{End, Fault, Sink, Source};
 use std::fs::{self, File, OpenOptions};
 use std::io;
 use std::os::unix::fs::{FileTypeExt, MetadataExt};
@@ -11,7 +10,7 @@ use std::os::unix::fs::{FileTypeExt, MetadataExt};
 /// A command that searches, and the names of its files.
 #[derive(Clone, Copy)]
 pub struct Named<'a> {
-    command: NumberedCommand,
+    command: Asks,
     instance: &'a str,
     start: Option<&'a str>,
     certificate: Option<&'a str>,
@@ -23,7 +22,7 @@ impl<'a> Named<'a> {
     /// The names in a request of `solve`.
     pub fn of_search(search: &Search<'a>) -> Self {
         Named {
-            command: NumberedCommand::Solve,
+            command: Asks::Solve,
             instance: search.instance,
             start: search.start,
             certificate: search.certificate,
@@ -35,7 +34,7 @@ impl<'a> Named<'a> {
     /// The names in a request of `why`.
     pub fn of_why(why: &Why<'a>) -> Self {
         Named {
-            command: NumberedCommand::Why,
+            command: Asks::Why,
             instance: why.instance,
             start: None,
             certificate: why.certificate,
@@ -47,7 +46,7 @@ impl<'a> Named<'a> {
     /// The names in a request of `limit`.
     pub fn of_limit(limit: &Limit<'a>) -> Self {
         Named {
-            command: NumberedCommand::Limit,
+            command: Asks::Limit,
             instance: limit.instance,
             start: None,
             certificate: limit.certificate,
@@ -57,36 +56,15 @@ impl<'a> Named<'a> {
     }
 }
 
-/// An option that names a file which a command writes.
-#[derive(Clone, Copy)]
-pub enum Written {
-    Certificate,
-    Reduced,
-    Kept,
-}
-
-impl Written {
-    /// The option's name.
-    fn option(self) -> &'static str {
-        match self {
-            Written::Certificate => "cert",
-            Written::Reduced => "reduced",
-            Written::Kept => "keep",
-        }
-    }
-}
-
 /// Why a command can't have its files.
 #[derive(Clone, Copy)]
 pub enum FileFault<'a> {
     /// When this one can't be opened.
     Unread(Source),
-    /// When the one of this option can't be made.
-    Unwritten(Written),
-    /// When the one of this option, by this name, is one that is read, as which it is told, or another one that is written.
-    Emptied(NumberedCommand, Written, &'a str, Option<Source>),
-    /// When a plan that is kept by this name would take the place of another one.
-    Replaced(&'a str),
+    /// When this one can't be made.
+    Unwritten(Sink),
+    /// When this one, by this name, is one that is read, as which it is told, or another one that is written.
+    Overwriting(Asks, Sink, &'a str, Option<Source>),
     /// When memory was wanted, and refused.
     Memory,
 }
@@ -94,31 +72,16 @@ pub enum FileFault<'a> {
 impl FileFault<'_> {
     /// Says it on standard error, and gives the status.
     pub fn tell(&self, rt: &HostRuntime, said: &Said) -> u8 {
-        let err = &mut rt.stderr();
         let fault = match self {
             FileFault::Unread(source) => Fault::Unread(*source),
-            FileFault::Unwritten(Written::Certificate) => Fault::Unwritten(Sink::Certificate),
-            FileFault::Unwritten(Written::Kept) => Fault::Unwritten(Sink::Plan),
-            FileFault::Unwritten(Written::Reduced) => {
-                let _ = answer_files::report(&FilesEnd::Unreduced, err);
-                return answer_files::status(&FilesEnd::Unreduced);
+            FileFault::Unwritten(sink) => Fault::Unwritten(*sink),
+            FileFault::Overwriting(command, sink, file, over) => {
+                let error = written_over(rt.alloc(), *command, *sink, file, *over);
+                return refuse(&error, &mut rt.stderr());
             }
-            FileFault::Emptied(command, written, file, source) => {
-                let option = written.option();
-                return refuse(
-                    &emptying_over(rt.alloc(), *command, option, file, *source),
-                    err,
-                );
-            }
-            FileFault::Replaced(file) => return refuse(&keeping_over(rt.alloc(), file), err),
             FileFault::Memory => Fault::Memory,
         };
-        let end = End::Refused(fault);
-        let _ = report(&end, err);
-        if let End::Refused(fault) = &end {
-            hint_at_fault(rt, said, fault);
-        }
-        status(&end)
+        told(rt, &End::Refused(fault), said)
     }
 }
 
@@ -160,8 +123,8 @@ impl Files {
             take_back(rt, &opened.reduced);
             return Err(fault);
         }
-        empty(Written::Certificate, &opened.certificate)?;
-        empty(Written::Reduced, &opened.reduced)?;
+        empty(Sink::Certificate, &opened.certificate)?;
+        empty(Sink::Reduced, &opened.reduced)?;
         Ok(Files {
             instance: opened.instance,
             start: opened.start,
@@ -191,8 +154,8 @@ impl<'a> Opened<'a> {
                 Some(name) => Some(file_to_read(rt, Source::Plan, name)?),
                 None => None,
             },
-            certificate: file_to_write(rt, Written::Certificate, named.certificate)?,
-            reduced: file_to_write(rt, Written::Reduced, named.reduced)?,
+            certificate: file_to_write(rt, Sink::Certificate, named.certificate)?,
+            reduced: file_to_write(rt, Sink::Reduced, named.reduced)?,
             kept: match named.kept {
                 Some(name) => kept(rt, name)?,
                 None => None,
@@ -205,23 +168,19 @@ impl<'a> Opened<'a> {
         let command = named.command;
         if let Some(made) = &self.certificate {
             if let Some(source) = self.read_as(&made.file) {
-                let option = Written::Certificate;
-                return Some(FileFault::Emptied(command, option, made.name, Some(source)));
+                let over = Some(source);
+                return Some(FileFault::Overwriting(command, Sink::Certificate, made.name, over));
             }
         }
         if let Some(made) = &self.reduced {
-            let source = self.read_as(&made.file);
-            if source.is_some() || self.is_certificate(&made.file) {
-                let option = Written::Reduced;
-                return Some(FileFault::Emptied(command, option, made.name, source));
+            let over = self.read_as(&made.file);
+            if over.is_some() || self.is_certificate(&made.file) {
+                return Some(FileFault::Overwriting(command, Sink::Reduced, made.name, over));
             }
         }
-        let is_replaced = match &self.kept {
-            Some(file) => is_one(&self.instance, file) || self.is_certificate(file),
-            None => false,
-        };
-        match named.kept {
-            Some(name) if is_replaced => Some(FileFault::Replaced(name)),
+        match (named.kept, &self.kept) {
+            (Some(name), Some(file)) if is_one(&self.instance, file) || self.is_certificate(file) =>
+                { Some(FileFault::Overwriting(command, Sink::Plan, name, None)) }
             _ => None,
         }
     }
@@ -267,7 +226,7 @@ fn kept<'a>(rt: &HostRuntime, name: &str) -> Result<Option<File>, FileFault<'a>>
     };
     match found {
         Ok(file) => Ok(Some(file)),
-        Err(_) => Err(FileFault::Unwritten(Written::Kept)),
+        Err(_) => Err(FileFault::Unwritten(Sink::Plan)),
     }
 }
 
@@ -282,7 +241,7 @@ fn file_to_read<'a>(rt: &HostRuntime, source: Source, name: &str) -> Result<File
 /// The file that an option names, opened to be written: where it is there, as it is.
 fn file_to_write<'a>(
     rt: &HostRuntime,
-    written: Written,
+    sink: Sink,
     name: Option<&'a str>,
 ) -> Result<Option<Made<'a>>, FileFault<'a>> {
     let Some(name) = name else {
@@ -298,7 +257,7 @@ fn file_to_write<'a>(
             let is_new = false;
             Ok(Some(Made { file, name, is_new }))
         }
-        Err(_) => Err(FileFault::Unwritten(written)),
+        Err(_) => Err(FileFault::Unwritten(sink)),
     }
 }
 
@@ -312,7 +271,7 @@ fn take_back(rt: &HostRuntime, made: &Option<Made<'_>>) {
 }
 
 /// Empties a file; a pipe and a device hold nothing.
-fn empty<'a>(written: Written, made: &Option<Made<'a>>) -> Result<(), FileFault<'a>> {
+fn empty<'a>(sink: Sink, made: &Option<Made<'a>>) -> Result<(), FileFault<'a>> {
     let Some(made) = made else {
         return Ok(());
     };
@@ -321,7 +280,7 @@ fn empty<'a>(written: Written, made: &Option<Made<'a>>) -> Result<(), FileFault<
         Err(_) => false,
     };
     if is_plain && made.file.set_len(0).is_err() {
-        return Err(FileFault::Unwritten(written));
+        return Err(FileFault::Unwritten(sink));
     }
     Ok(())
 }

@@ -1,13 +1,13 @@
 //! What is a person at a terminal told beside a line of codes?
 
-use command_streams::{Fault, Source, read_instance, status_of_fault};
-use period_command::RoundsEnd;
+use command_line::{EXPLAINED_CERT, USED};
+use command_streams::{End, Fault, Source, read_instance, report, status, status_of_fault};
+use line_text::Told;
 use std::alloc::Global;
 use std::fmt;
 use std::fs::{self, File};
 use std::io::{self, IsTerminal, Write};
 use text_faults::nearest;
-use line_text::Told;
 use ttp_model::Instance;
 
 /// The status of a command to which memory was refused, whatever text it was for.
@@ -108,8 +108,18 @@ impl<'a, 'w> Said<'a, 'w> {
     }
 }
 
+/// Says on standard error why a command was refused, and what that means at a terminal, and gives the status.
+pub fn told(rt: &HostRuntime, end: &End, said: &Said) -> u8 {
+    let _ = report(end, &mut rt.stderr());
+    match end {
+        End::Refused(fault) | End::RefusedOf(_, fault) => hint_at_fault(rt, said, fault),
+        End::Done | End::Different | End::Absent | End::Stopped => {}
+    }
+    status(end)
+}
+
 /// Says beside the line of a fault which command explains it, or what it means, where standard error is a terminal.
-pub fn hint_at_fault(rt: &HostRuntime, said: &Said, fault: &Fault) {
+fn hint_at_fault(rt: &HostRuntime, said: &Said, fault: &Fault) {
     let mut err = rt.stderr();
     if err.is_terminal() && status_of_fault(fault) != WANT_OF_MEMORY {
         let _ = write_hint(&mut err, said, fault);
@@ -170,35 +180,6 @@ pub fn hint_at_none(rt: &HostRuntime, instance: &str) {
     }
 }
 
-/// Says what the numbers of a refusal mean that tells of too few rounds or too many slots, where standard error is a terminal.
-pub fn hint_at_rounds(rt: &HostRuntime, end: &RoundsEnd) {
-    let mut err = rt.stderr();
-    if err.is_terminal() {
-        let _ = write_of_rounds(&mut err, end);
-    }
-}
-
-/// The line beside that of such a refusal.
-fn write_of_rounds(out: &mut impl Write, end: &RoundsEnd) -> io::Result<()> {
-    match end {
-        RoundsEnd::As(_) => Ok(()),
-        RoundsEnd::ShortPeriod(rounds) => writeln!(
-            out,
-            "the plan's cycle has {} rounds, and the period holds {} whole ones",
-            rounds.needed, rounds.held
-        ),
-        RoundsEnd::ShortTables(rounds) => writeln!(
-            out,
-            "the plan's cycle has {} rounds, and tables of {} would lack some",
-            rounds.needed, rounds.held
-        ),
-        RoundsEnd::ManySlots(slots) => writeln!(
-            out,
-            "so many rounds have {slots} slots, and tables have 1000000 at most"
-        ),
-    }
-}
-
 /// The line beside that of a fault.
 fn write_hint(out: &mut impl Write, said: &Said, fault: &Fault) -> io::Result<()> {
     match fault {
@@ -229,7 +210,21 @@ fn write_hint(out: &mut impl Write, said: &Said, fault: &Fault) -> io::Result<()
         }
         Fault::TooManySlots(slots) => writeln!(
             out,
-            "a picture of each slot of the cycle would show {slots} of them, more than 100000; --used leaves out those that carry nothing"
+            "a picture of each slot of the cycle would show {slots} of them, more than 100000; {USED} leaves out those that carry nothing"
+        ),
+        Fault::ShortPeriod(rounds) => writeln!(
+            out,
+            "the plan's cycle has {} rounds, and the period holds {} whole ones",
+            rounds.needed, rounds.held
+        ),
+        Fault::ShortTables(rounds) => writeln!(
+            out,
+            "the plan's cycle has {} rounds, and tables of {} would lack some",
+            rounds.needed, rounds.held
+        ),
+        Fault::LongTables(slots) => writeln!(
+            out,
+            "so many rounds have {slots} slots, and tables have 1000000 at most"
         ),
         Fault::TooFewNodes => writeln!(out, "membership is defined for three nodes or more"),
         Fault::NoMark => writeln!(
@@ -263,7 +258,7 @@ fn write_explained(
         write!(out, " {}", Word(plan))?;
     }
     if let Some(certificate) = certificate {
-        write!(out, " --cert {}", Word(certificate))?;
+        write!(out, " --{} {}", EXPLAINED_CERT.name, Word(certificate))?;
     }
     writeln!(out)
 }

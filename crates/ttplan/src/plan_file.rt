@@ -1,8 +1,7 @@
 //! Which files of the system does a search make and rename to keep its best plan?
 
-use crate::files::{FileFault, Written};
-use command_streams::{Fault, Source, read_all};
-use plan_commands::PLAN_LIMIT;
+use crate::files::FileFault;
+use command_streams::{Fault, PLAN_LIMIT, Sink, Source, read_all};
 use search_watching::{Folder, MOST_BESIDE, Made, Shelf, name_beside};
 use std::alloc::AllocError;
 use std::fs::{self, File};
@@ -99,7 +98,7 @@ pub fn shelf_of<'s, 'f>(
     let mut folder = SystemFolder::new(rt);
     match folder.has_room_beside(name) {
         Ok(true) => Ok(Shelf::at(rt.alloc(), folder, name, before)),
-        Ok(false) => Err(FileFault::Unwritten(Written::Kept)),
+        Ok(false) => Err(FileFault::Unwritten(Sink::Plan)),
         Err(_) => Err(FileFault::Memory),
     }
 }
@@ -110,6 +109,6 @@ fn held<'a>(rt: &HostRuntime, file: &mut File) -> Result<Vec<u8>, FileFault<'a>>
         Ok(bytes) => Ok(bytes),
         Err(Fault::TooLong(_)) => Ok(Vec::new(rt.alloc())),
         Err(Fault::Memory) => Err(FileFault::Memory),
-        Err(_) => Err(FileFault::Unwritten(Written::Kept)),
+        Err(_) => Err(FileFault::Unwritten(Sink::Plan)),
     }
 }

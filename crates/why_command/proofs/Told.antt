@@ -19,7 +19,7 @@ use Rattle.plan_questions.specs.declared.conflicts.conflict.Conflict.{Conflict}
 use Rattle.plan_questions.specs.declared.conflicts.conflict.Conflict.TheVariants as told
 use Rattle.command_streams.specs.Instances.{HasInstance}
 use Rattle.why_command.specs.declared.texts.Wanted.{Wanted}
-use Rattle.answer_files.specs.declared.ending.FilesEnd.{FilesEnd}
+use Rattle.command_streams.specs.declared.ending.End.{End}
 use Rattle.answer_files.specs.Writing.{IsWritingOf}
 use Rattle.why_command.specs.declared.why.Found.{Found}
 use Rattle.why_command.specs.Words.{AreToldOf, IsOf}
@@ -68,7 +68,7 @@ found_of_bytes bytes i options wanted found has is =
     record { has_instance = subst (HasInstance bytes) (sym is.of) has; answers = is.answers; late = is.late; texts = is.texts }
 
 -- what was found of a reader's bytes is the answer, once it is written
-pub told_found : (known : Option (List ℕ)) (options : Options) (wanted : Wanted) (found : Found) (from to before after old new : Option (List ℕ)) (end : FilesEnd)
+pub told_found : (known : Option (List ℕ)) (options : Options) (wanted : Wanted) (found : Found) (from to before after old new : Option (List ℕ)) (end : End)
     → IfSome known (λ bytes. IsFound bytes options wanted found)
     → IsWritingOf found.texts (end_told found.conflict) from to before after old new end
     → IfSome known (λ bytes. IsWhyAnswer bytes options wanted from to before after old new end)

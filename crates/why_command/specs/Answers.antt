@@ -6,8 +6,6 @@ use Rattle.ttp_model.specs.Instance.{Instance}
 use Rattle.certificate.specs.Spelling.{SpellsCert}
 use Rattle.certificate.specs.Versions.{Allows}
 use Rattle.plan_questions.specs.outcome.Options.{Options}
-use Rattle.plan_questions.specs.outcome.SolveFault.{SolveFault}
-use Rattle.plan_questions.specs.outcome.SolveFault.TheVariants as solving
 use Rattle.instance_variants.specs.Only.{only}
 use Rattle.plan_questions.specs.Conflicts.{Answers}
 use Rattle.plan_questions.specs.declared.conflicts.conflict.Conflict.{Conflict}
@@ -15,16 +13,12 @@ use Rattle.plan_questions.specs.declared.conflicts.conflict.Conflict.TheVariants
 use Rattle.plan_questions.specs.LateAnswers.{IsLateness}
 use Rattle.plan_questions.specs.declared.late.answer.Lateness.{Lateness}
 use Rattle.command_streams.specs.declared.ending.Source.TheVariants as source
-use Rattle.command_streams.specs.declared.ending.SearchFault.{SearchFault}
-use Rattle.command_streams.specs.declared.ending.SearchFault.TheVariants as search
 use Rattle.command_streams.specs.declared.ending.Fault.{Fault}
 use Rattle.command_streams.specs.declared.ending.Fault.TheVariants.{InstanceText, Memory, Search, TooLong, Unread}
 use Rattle.command_streams.specs.declared.ending.End.{End}
 use Rattle.command_streams.specs.declared.ending.End.TheVariants.{Absent, Done, Refused, Stopped}
-use Rattle.command_streams.specs.Limits.{instance_limit}
+use Rattle.command_streams.specs.declared.limits.TheConstants.{INSTANCE_LIMIT}
 use Rattle.command_streams.specs.Instances.{HasInstance, IsInstanceFault, StatesSome}
-use Rattle.answer_files.specs.declared.ending.FilesEnd.{FilesEnd}
-use Rattle.answer_files.specs.declared.ending.FilesEnd.TheVariants.{As}
 use Rattle.answer_files.specs.declared.texts.Texts.{Texts}
 use Rattle.answer_files.specs.Writing.{IsNothing, IsTextOf, IsWritingOf}
 use Rattle.why_command.specs.declared.texts.Wanted.{Wanted}
@@ -36,11 +30,6 @@ abbrev pub end_told : Conflict → End
 end_told (told.Plan ticks plan) = Done
 end_told (told.None needs K cert) = Absent
 end_told told.Unknown = Stopped
-
--- what each fault of a search is told as
-abbrev pub fault_of : SolveFault → SearchFault
-fault_of solving.Memory = search.Memory
-fault_of solving.Thread = search.Thread
 
 -- the certificate, where there is one, has a text
 abbrev pub IsPrintable : Conflict → Type 0
@@ -109,27 +98,27 @@ pub record IsFound (bytes : List ℕ) (options : Options) (wanted : Wanted) (fou
 abbrev pub IsUnexplained : List ℕ → Fault → Type 0
 IsUnexplained bytes Memory = Unit {0}
 IsUnexplained bytes (Unread source.Instance) = Unit {0}
-IsUnexplained bytes (TooLong source.Instance) = instance_limit < length bytes
+IsUnexplained bytes (TooLong source.Instance) = INSTANCE_LIMIT < length bytes
 IsUnexplained bytes (InstanceText error) = IsInstanceFault bytes (InstanceText error)
 IsUnexplained bytes (Search fault) = StatesSome bytes
 IsUnexplained bytes _ = ⊥
 
 -- what was found is told
-pub record IsToldAnswer (bytes : List ℕ) (options : Options) (wanted : Wanted) (from to before after old new : Option (List ℕ)) (end : FilesEnd) : Type 0 where
+pub record IsToldAnswer (bytes : List ℕ) (options : Options) (wanted : Wanted) (from to before after old new : Option (List ℕ)) (end : End) : Type 0 where
   pub found : Found
   pub is : IsFound bytes options wanted found
   pub writing : IsWritingOf found.texts (end_told found.conflict) from to before after old new end
 
 -- nothing is told, for this fault, and nothing is written
-pub record IsUntold (bytes : List ℕ) (from to before after old new : Option (List ℕ)) (end : FilesEnd) : Type 0 where
+pub record IsUntold (bytes : List ℕ) (from to before after old new : Option (List ℕ)) (end : End) : Type 0 where
   pub fault : Fault
   pub lacking : IsUnexplained bytes fault
-  pub ends : end ≡ As (Refused fault)
+  pub ends : end ≡ Refused fault
   pub certificate : Keeps from to
   pub reduced : Keeps before after
   pub answer : Keeps old new
 
 -- what `why` answers, and what it writes
-abbrev pub IsWhyAnswer : List ℕ → Options → Wanted → (from to before after old new : Option (List ℕ)) → FilesEnd → Type 0
+abbrev pub IsWhyAnswer : List ℕ → Options → Wanted → (from to before after old new : Option (List ℕ)) → End → Type 0
 IsWhyAnswer bytes options wanted from to before after old new end =
     IsToldAnswer bytes options wanted from to before after old new end ⊎ IsUntold bytes from to before after old new end

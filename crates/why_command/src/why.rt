@@ -2,15 +2,16 @@
 
 ghost use Rattle.std.specs.Prelude.{◌≡◌, ◌+◌, IfOk, IfSome, MatchResult};
 ghost use Rattle.plan_questions.specs.Conflicts.{Answers};
-ghost use Rattle.command_streams.specs.Limits.{instance_limit};
+ghost use Rattle.command_streams.specs.declared.limits.TheConstants.{INSTANCE_LIMIT};
 ghost use Rattle.command_streams.specs.Streams.{TakesAtMost};
 ghost use Rattle.answer_files.specs.Writing.{IsToldAt, IsWritingOf};
-ghost use Rattle.why_command.specs.Answers.{IsExplained, IsFound, IsLate, IsSearched, IsUnexplained, IsUnsearched, IsWhyAnswer, end_told, fault_of};
+ghost use Rattle.why_command.specs.Answers.{IsExplained, IsFound, IsLate, IsSearched, IsUnexplained, IsUnsearched, IsWhyAnswer, end_told};
 
 use crate::texts::{Wanted, texts_of};
-use answer_files::{FilesEnd, Texts, write_texts};
-use command_streams::{End, Fault, SearchFault, read_instance};
+use answer_files::{Texts, write_texts};
+use command_streams::{End, Fault, read_instance};
 use plan_questions::{Conflict, Lateness, Options, SolveFault, find_conflict, least_lateness};
+use search_watching::told_as;
 use std::alloc::Global;
 use std::io::{Read, Write};
 use std::marker::Sync;
@@ -37,16 +38,6 @@ fn end_of(conflict: &Conflict) -> End
         Conflict::Plan { .. } => End::Done,
         Conflict::None { .. } => End::Absent,
         Conflict::Unknown => End::Stopped,
-    }
-}
-
-/// The fault that the search's own is told as.
-fn fault_of(fault: SolveFault) -> SearchFault
-    ensures { result ≡ fault_of fault }
-{
-    match fault {
-        SolveFault::Memory => SearchFault::Memory,
-        SolveFault::Thread => SearchFault::Thread,
     }
 }
 
@@ -100,7 +91,7 @@ fn found_of<R: Threads + Wait + Sync>(
     let _nodes = instance.nodes();
     let (conflict, late) = match explained(rt, alloc, &instance, options, wanted.late) {
         Ok(told) => told,
-        Err(fault) => return Err(Fault::Search(fault_of(fault))),
+        Err(fault) => return Err(Fault::Search(told_as(fault))),
     };
     match texts_of(alloc, &instance, &conflict, &late, wanted) {
         Ok(texts) => Ok(Found {
@@ -125,7 +116,7 @@ fn found_of_reader<R: Threads + Wait + Sync, I: Read>(
     ensures judged { IfSome (I.remaining instance.old) (λ bytes. MatchResult result
         (IsFound bytes options wanted)
         (IsUnexplained bytes)) }
-    ensures most { TakesAtMost (instance_limit + 1) (I.remaining instance.old) (I.remaining instance.new) }
+    ensures most { TakesAtMost (INSTANCE_LIMIT + 1) (I.remaining instance.old) (I.remaining instance.new) }
 {
     let instance = read_instance(alloc, instance)?;
     found_of(rt, alloc, instance, options, wanted)
@@ -137,7 +128,7 @@ fn tell<C: Write, S: Write, W: Write>(
     certificate: &mut C,
     reduced: &mut S,
     out: &mut W,
-) -> FilesEnd
+) -> End
     ensures { IsWritingOf found.now.texts (end_told found.now.conflict)
         (C.contents certificate.old) (C.contents certificate.new) (S.contents reduced.old) (S.contents reduced.new)
         (W.contents out.old) (W.contents out.new) result }
@@ -158,7 +149,7 @@ fn tell<C: Write, S: Write, W: Write>(
 /// the instance by these constraints alone is written first, and then the text of that instance; to a writer of what isn't wanted
 /// nothing is. All texts are made before one is written: where memory is refused nothing is written, and where a writer fails nothing
 /// is written to those behind it. Where the text that was made of that instance doesn't read back as it, nothing is written of it, and
-/// the end is `Unreduced` once the answer is written.
+/// the end is the fault of that file, once the answer is written.
 pub fn why_run<R: Threads + Wait + Sync, I: Read, C: Write, S: Write, W: Write>(
     rt: &R,
     alloc: Global,
@@ -168,12 +159,12 @@ pub fn why_run<R: Threads + Wait + Sync, I: Read, C: Write, S: Write, W: Write>(
     certificate: &mut C,
     reduced: &mut S,
     out: &mut W,
-) -> FilesEnd
+) -> End
     ensures answer { IfSome (I.remaining instance.old) (λ bytes. IsWhyAnswer bytes options wanted
         (C.contents certificate.old) (C.contents certificate.new) (S.contents reduced.old) (S.contents reduced.new)
         (W.contents out.old) (W.contents out.new) result) }
     // No more is taken of the reader than its limit and one byte.
-    ensures most { TakesAtMost (instance_limit + 1) (I.remaining instance.old) (I.remaining instance.new) }
+    ensures most { TakesAtMost (INSTANCE_LIMIT + 1) (I.remaining instance.old) (I.remaining instance.new) }
 {
     match found_of_reader(rt, alloc, instance, options, wanted) {
         Ok(found) => {
@@ -181,6 +172,6 @@ pub fn why_run<R: Threads + Wait + Sync, I: Read, C: Write, S: Write, W: Write>(
             drop(found);
             end
         }
-        Err(fault) => FilesEnd::As(End::Refused(fault)),
+        Err(fault) => End::Refused(fault),
     }
 }

@@ -1,0 +1,62 @@
+-- What holds of a request.
+use Rattle.std.specs.Prelude.{◌≤◌, ℕ, List, length, IfSome}
+use Rattle.command_line.specs.declared.words.Request.{Request}
+use Rattle.command_line.specs.declared.words.Request.TheVariants.{OfRounds, OnFiles, Solve, Why as Asking, Limit as Limiting}
+use Rattle.command_line.specs.declared.words.Search.{Search}
+use Rattle.command_line.specs.declared.words.Why.{Why}
+use Rattle.command_line.specs.declared.words.Limit.{Limit}
+use Rattle.command_line.specs.declared.words.Task.{Task}
+use Rattle.command_line.specs.declared.words.Task.TheVariants.{Draw}
+use Rattle.command_line.specs.declared.words.RoundsTask.{RoundsTask}
+use Rattle.command_line.specs.declared.words.RoundsTask.TheVariants.{Period, Tables}
+use Rattle.command_line.specs.Names.{IsOtherFile}
+use Rattle.plan_picture.specs.Limits.{least_width, most_width}
+use Rattle.ttp_model.specs.Limits.{most_ticks}
+
+-- a picture is as wide as it may be
+abbrev pub IsSoundTask : Task → Type 0
+IsSoundTask (Draw width shown) = (least_width ≤ width) × (width ≤ most_width)
+IsSoundTask _ = Unit {0}
+
+-- a period is as long as it may be
+abbrev pub IsSoundRounds : RoundsTask → Type 0
+IsSoundRounds (Period ticks) = (1 ≤ ticks) × (ticks ≤ most_ticks)
+IsSoundRounds (Tables rounds) = Unit {0}
+
+-- by its name a file is none that a search reads
+abbrev pub IsApart : Search → List ℕ → Type 0
+IsApart search file = IsOtherFile file search.instance.now × IfSome search.start (λ plan. IsOtherFile file plan.now)
+
+-- a search has 1 to 16 workers; by their names the files that it writes are none that it reads, and not the same, but that a plan may be
+-- kept in the file of the one to begin with
+pub record IsSoundSearch (search : Search) : Type 0 where
+  pub some : 1 ≤ search.workers
+  pub few : search.workers ≤ 16
+  pub certificate : IfSome search.certificate (λ file. IsApart search file.now)
+  pub kept : IfSome search.kept (λ file. IsOtherFile file.now search.instance.now)
+  pub both : IfSome search.kept (λ file. IfSome search.certificate (λ other. IsOtherFile file.now other.now))
+
+-- the same of a search for what leaves no plan: it reads the instance alone
+pub record IsSoundWhy (why : Why) : Type 0 where
+  pub some : 1 ≤ why.workers
+  pub few : why.workers ≤ 16
+  pub certificate : IfSome why.certificate (λ file. IsOtherFile file.now why.instance.now)
+  pub reduced : IfSome why.reduced (λ file. IsOtherFile file.now why.instance.now)
+  pub both : IfSome why.reduced (λ file. IfSome why.certificate (λ other. IsOtherFile file.now other.now))
+
+-- the same of a search for early ends, which names a process at least
+pub record IsSoundLimit (limit : Limit) : Type 0 where
+  pub some : 1 ≤ limit.workers
+  pub few : limit.workers ≤ 16
+  pub named : 1 ≤ length limit.processes.items
+  pub certificate : IfSome limit.certificate (λ file. IsOtherFile file.now limit.instance.now)
+  pub reduced : IfSome limit.reduced (λ file. IsOtherFile file.now limit.instance.now)
+  pub both : IfSome limit.reduced (λ file. IfSome limit.certificate (λ other. IsOtherFile file.now other.now))
+
+abbrev pub IsSound : Request → Type 0
+IsSound (OnFiles instance plan task) = IsSoundTask task
+IsSound (OfRounds instance plan task) = IsSoundRounds task
+IsSound (Solve search) = IsSoundSearch search
+IsSound (Asking why) = IsSoundWhy why
+IsSound (Limiting limit) = IsSoundLimit limit
+IsSound _ = Unit {0}

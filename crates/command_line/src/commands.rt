@@ -1,0 +1,66 @@
+//! How does `clap` know the command line?
+
+use crate::rows::{Place, Row, Takes};
+use crate::table::{COMMANDS, CommandRow, row_of};
+use crate::words::VERSION;
+use clap::{Arg, ArgAction, Command};
+use std::alloc::{AllocError, Global};
+
+/// An option or a word, where its value stands.
+fn placed<'a>(arg: Arg<'a>, row: Row) -> Result<Arg<'a>, AllocError> {
+    match row.place {
+        Place::Flag => Ok(arg.long(row.name).action(ArgAction::SetTrue)),
+        Place::Option(value) => Ok(arg.long(row.name).value_name(value)),
+        Place::InsteadOf(value, word) => {
+            arg.long(row.name).value_name(value).conflicts_with(word)
+        }
+        Place::Word => Ok(arg.required(true)),
+        Place::MaybeWord => Ok(arg),
+        Place::Words => Ok(arg.required(true).num_args(1..)),
+        Place::MaybeWords => Ok(arg.num_args(0..)),
+    }
+}
+
+/// The same, where it isn't given.
+fn by_default<'a>(arg: Arg<'a>, default: Option<&'a str>) -> Arg<'a> {
+    match default {
+        Some(default) => arg.default_value(default),
+        None => arg,
+    }
+}
+
+/// The same with what it takes. What a number is, and which file may be written, isn't left to `clap`.
+fn taking<'a>(arg: Arg<'a>, takes: Takes) -> Arg<'a> {
+    match takes {
+        Takes::Nothing | Takes::Text | Takes::File(_) => arg,
+        Takes::OneOf(texts) => by_default(arg.value_parser(texts), texts.first().copied()),
+        Takes::Number(range) => by_default(arg.allow_negative_numbers(true), range.default),
+    }
+}
+
+/// A command with its words and options.
+pub fn command_of<'a>(alloc: Global, row: CommandRow) -> Result<Command<'a>, AllocError> {
+    let mut command = Command::new(alloc, row.name).about(row.about);
+    if let Some(after) = row.after {
+        command = command.after_help(after);
+    }
+    for row in row.rows {
+        let arg = placed(Arg::new(alloc, row.name).help(row.help), *row)?;
+        command = command.arg(taking(arg, row.takes))?;
+    }
+    Ok(command)
+}
+
+/// The command line that is understood.
+pub fn program<'a>(alloc: Global) -> Result<Command<'a>, AllocError> {
+    let mut program = Command::new(alloc, "ttplan")
+        .about("Plans time-triggered clusters, and checks their plans")
+        .version(VERSION)
+        .after_help(
+            "Without words it reads an instance, a line `%%` and a plan from standard input, and verifies the plan.",
+        );
+    for asks in COMMANDS {
+        program = program.subcommand(command_of(alloc, row_of(*asks))?)?;
+    }
+    Ok(program)
+}

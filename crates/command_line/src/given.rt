@@ -1,0 +1,115 @@
+//! Which values do the words of a command give?
+
+ghost use Rattle.std.specs.Prelude.{◌≡◌, false, IfOk, IfSome};
+ghost use Rattle.command_line.specs.Names.{IsOtherFile};
+ghost use Rattle.command_line.specs.Rows.{IsIn};
+
+use crate::misuse::Misuse;
+use crate::names::name_one_file;
+use crate::rows::{Row, Takes};
+use clap::ArgMatches;
+use std::alloc::{AllocError, Global};
+
+/// The words of a command, as `clap` parts them.
+#[derive(Clone, Copy)]
+pub struct Given<'m, 'a> {
+    pub matches: &'m ArgMatches<'a>,
+}
+
+/// Whether a second word names the same file, where there is one.
+fn is_named_by(alloc: Global, file: &str, other: Option<&str>) -> Result<bool, AllocError>
+    ensures { IfOk result (λ same. same ≡ false → IfSome other.entry (λ name. IsOtherFile file.now name.now)) }
+{
+    match other {
+        Some(other) => name_one_file(alloc, file, other),
+        None => Ok(false),
+    }
+}
+
+impl<'m, 'a> Given<'m, 'a> {
+    /// Whether a flag is used.
+    pub fn flag(&self, row: Row) -> bool {
+        self.matches.get_flag(row.name)
+    }
+
+    /// The text of a row that need not be given.
+    pub fn text_if_any(&self, row: Row) -> Option<&'a str> {
+        self.matches.get_str(row.name)
+    }
+
+    /// The text of a row.
+    pub fn text(&self, row: Row) -> Result<&'a str, Misuse<'a>> {
+        match self.text_if_any(row) {
+            Some(text) => Ok(text),
+            None => Err(Misuse::Missing),
+        }
+    }
+
+    /// The texts of a row, where there are any.
+    pub fn texts(&self, row: Row) -> Option<&[&'a str]> {
+        self.matches.get_strs(row.name)
+    }
+
+    /// The number of a row.
+    pub fn number(&self, row: Row) -> Result<u64, Misuse<'a>>
+        ensures { IfOk result (IsIn row.takes) }
+    {
+        let Takes::Number(range) = row.takes else {
+            return Err(Misuse::Missing);
+        };
+        let word = self.text(row)?;
+        match range.read(word) {
+            Some(number) => Ok(number),
+            None => Err(Misuse::Number(row, range, word)),
+        }
+    }
+
+    /// The number of a row that need not be given.
+    pub fn number_if_any(&self, row: Row) -> Result<Option<u64>, Misuse<'a>>
+        ensures { IfOk result (λ number. IfSome number (IsIn row.takes)) }
+    {
+        match self.text_if_any(row) {
+            Some(_) => Ok(Some(self.number(row)?)),
+            None => Ok(None),
+        }
+    }
+
+    /// The same, where its range is one of 32 bits.
+    pub fn u32_if_any(&self, row: Row) -> Result<Option<u32>, Misuse<'a>>
+        ensures { IfOk result (λ number. IfSome number (IsIn row.takes)) }
+    {
+        let Some(number) = self.number_if_any(row)? else {
+            return Ok(None);
+        };
+        match u32::try_from(number) {
+            Ok(number) => Ok(Some(number)),
+            Err(_) => Err(Misuse::Missing),
+        }
+    }
+
+    /// The name of a file that a row has written, which by its name is neither the instance's nor another one.
+    pub fn written(
+        &self,
+        alloc: Global,
+        row: Row,
+        instance: &str,
+        other: Option<&str>,
+    ) -> Result<Option<&'a str>, Misuse<'a>>
+        ensures instance { IfOk result (λ name. IfSome name (λ file. IsOtherFile file.now instance.now)) }
+        ensures other { IfOk result (λ name. IfSome name (λ file. IfSome other.entry (λ one. IsOtherFile file.now one.now))) }
+    {
+        let Takes::File(written) = row.takes else {
+            return Err(Misuse::Missing);
+        };
+        let Some(file) = self.text_if_any(row) else {
+            return Ok(None);
+        };
+        if name_one_file(alloc, file, instance)? {
+            return Err(Misuse::Overwriting(row, written.over_instance, file));
+        }
+        if is_named_by(alloc, file, other)? {
+            return Err(Misuse::Overwriting(row, written.over_other, file));
+        }
+        Ok(Some(file))
+    }
+}

@@ -1,0 +1,207 @@
+//! Which commands are there, with which words and options, and what does the help say of each?
+
+use crate::options::{
+    ANY_PLAN, BUDGET, CERT, CERT_OF_LAST, CERT_OF_NONE, CERTIFICATE, EXPLAINED_CERT,
+    EXPLAINED_PLAN, GAP, INSTANCE, KEEP, LATE, LOSSES, NEW_INSTANCE, NEW_PLAN, OLD_INSTANCE,
+    OLD_PLAN, PERIOD_TICKS, PLAN, PROCESSES, PROGRESS, REDUCED, ROUNDS, SEARCH_BUDGET, SEARCHED,
+    SECONDS, START, TABLE, UNTIL, USED, WIDTH, WORKERS,
+};
+use crate::rows::Row;
+
+/// What a command is for.
+#[derive(Clone, Copy)]
+pub enum Asks {
+    Solve,
+    Why,
+    Limit,
+    Verify,
+    Check,
+    Judge,
+    Explain,
+    Tables,
+    Period,
+    Replay,
+    Schedule,
+    Draw,
+    Compare,
+}
+
+/// A command, with its words and then its options, in the order of its help.
+#[derive(Clone, Copy)]
+pub struct CommandRow {
+    pub name: &'static str,
+    pub about: &'static str,
+    pub rows: &'static [Row],
+    /// What help says behind them.
+    pub after: Option<&'static str>,
+}
+
+/// Searches for a shortest plan.
+const SOLVE: CommandRow = CommandRow {
+    name: "solve",
+    about: "Prints a valid plan with the least delay, or `none`, or bounds where the search is stopped",
+    rows: &[
+        INSTANCE, WORKERS, BUDGET, UNTIL, GAP, SECONDS, START, CERT, KEEP, PROGRESS,
+    ],
+    after: Some(
+        "It prints one of these, and ends with the status beside it:\n   0  the text of a plan: it is valid, and no valid plan has a smaller delay\n  10  `none`: no plan is valid\n  11  `stopped WHY LOW BEST`, and behind it the text of the best plan found\n\nWHY is `budget`, where the budget is spent, `memory`, where memory ran out, `until`, where the best plan found is as short as was asked for, `gap`, where no plan is shorter by more ticks than were asked for, or `time`, where the seconds have passed. No valid plan has a delay below LOW ticks. BEST is the delay of the best plan found, or `none`, and then no text follows.\n\nA search that is interrupted prints no plan, and its certificate's file is empty; with --keep its best plan so far is left. To go in steps, begin with a small budget, and take ten times as much after each `stopped budget`. Each run begins anew; those before the last work at most a ninth of its budget.\n\nBefore the search a good plan is looked for, where more than 32 are left to choose: nodes to place, capacities, pairs of processes, and binary digits of rounds.",
+    ),
+};
+
+/// Tells why there is no plan.
+const WHY: CommandRow = CommandRow {
+    name: "why",
+    about: "Tells which constraints of an instance leave no plan",
+    rows: &[
+        INSTANCE,
+        WORKERS,
+        SEARCH_BUDGET,
+        LATE,
+        REDUCED,
+        CERT_OF_NONE,
+    ],
+    after: Some(
+        "It prints a line `ttwhy 1`, and behind it one of these, and ends with the status beside it:\n   0  `plan D`: there is a plan, of D ticks; it need not be a shortest\n  10  `none`, and a line for each constraint of a set that leaves no plan by itself: the horizon, deadlines, releases, messages, that one is on both channels, and links\n  11  `unknown`: a search was stopped before that was known\n\nA line begins with `need`, where there is a plan by the others of the set, and with `maybe`, where a search for one was stopped; it is `need nothing`, where the execution times alone leave no plan. With --late a line `late X` follows, where there is a plan once the horizon and all deadlines are X ticks later, and none where they are fewer; `late -`, where there is none within 1000000 ticks, the latest that can be said.\n\nFirst times are left out, then messages, and then links, as long as there is still no plan. Each search is for any plan, and has N subtrees.",
+    ),
+};
+
+/// Tells how early processes can end.
+const LIMIT: CommandRow = CommandRow {
+    name: "limit",
+    about: "Prints the least tick by which all these processes can end, and a plan that does it",
+    rows: &[
+        INSTANCE,
+        PROCESSES,
+        WORKERS,
+        SEARCH_BUDGET,
+        SEARCHED,
+        CERT_OF_LAST,
+    ],
+    after: Some(
+        "It prints one of these, and ends with the status beside it:\n   0  `limit D`, and behind it the text of a plan: the last of these processes ends at D in it, and before D in no valid plan; of the plans that do it none has a smaller delay\n  10  `none`: no plan is valid\n  11  `limit D` and a plan that does it, where the search for the least delay was stopped; `between LOW HIGH` and a plan in which the last of them ends at HIGH, where a search before that was; or `between LOW none`, where no plan is known. It ends before LOW in no valid plan\n\nFirst any plan is looked for, then one that ends these processes half way between the ticks that are known, and so on. The last search is for the least delay. Each has N subtrees.",
+    ),
+};
+
+/// Verifies a plan.
+const VERIFY: CommandRow = CommandRow {
+    name: "verify",
+    about: "Checks a plan, and prints `valid` with its delay in ticks",
+    rows: &[INSTANCE, PLAN],
+    after: None,
+};
+
+/// Checks a certificate.
+const CHECK: CommandRow = CommandRow {
+    name: "check",
+    about: "Checks a certificate, and prints `bound` with the delay that no plan is below",
+    rows: &[INSTANCE, CERTIFICATE],
+    after: None,
+};
+
+/// Judges a plan by a certificate.
+const JUDGE: CommandRow = CommandRow {
+    name: "judge",
+    about: "Checks a plan and a certificate, and prints whether no plan is shorter",
+    rows: &[INSTANCE, ANY_PLAN, CERTIFICATE],
+    after: Some(
+        "It prints one of these, and ends with the status beside it:\n   0  `least D`: the plan is valid and takes D ticks, and no valid plan has a smaller delay\n  10  `none`: no plan is valid\n  11  `between LOW D`, or `between LOW none` where PLAN has no plan: no valid plan has a delay below LOW ticks, which is less than D or than all that the horizon allows\n\nPLAN is a plan's text, or `none`, or what a search printed that was stopped: its line `stopped`, and behind it the plan.",
+    ),
+};
+
+/// Explains an instance, a plan or a certificate.
+const EXPLAIN: CommandRow = CommandRow {
+    name: "explain",
+    about: "Tells in sentences why an instance, a plan or a certificate is refused, and why a valid plan ends when it does",
+    rows: &[INSTANCE, EXPLAINED_PLAN, EXPLAINED_CERT],
+    after: Some(
+        "The first line is the one that `ttplan verify` or `ttplan check` gives, of an instance alone how many nodes, processes, links and messages it has. Sentences follow: of what is refused which two things a rule compares, both numbers, and by how much they fail it; of a valid plan what held its last process back, and what that, down to a release; of a certificate of one leaf each step.\n\nIt ends with status 0 wherever it explained something, a refusal too.",
+    ),
+};
+
+/// Prints what is loaded.
+const TABLES: CommandRow = CommandRow {
+    name: "tables",
+    about: "Prints the node tables of a valid plan, and its guardian windows",
+    rows: &[INSTANCE, PLAN, ROUNDS],
+    after: None,
+};
+
+/// Tells of a plan that repeats.
+const PERIOD: CommandRow = CommandRow {
+    name: "period",
+    about: "Prints how the rounds of a valid plan lie in a period, and which rounds would divide it",
+    rows: &[INSTANCE, PLAN, PERIOD_TICKS],
+    after: Some(
+        "It prints a line `ttperiod 1`, and behind it `period` and `round` with their ticks, `rounds` with how many whole rounds the period holds, and `gap` with the ticks behind the last of them, in which the bus is silent. Where that isn't 0 more lines follow:\n  `near A B`: the longest round of no more ticks than the plan's that divides the period, and the shortest of no fewer\n  `fit TRAIL ROUND`, at most five, by rising trail and then by rising round: with this trail, which is no shorter than the instance's own, some capacities that the nodes offer make a round of so many ticks, and it divides the period\n\nThe plan may begin anew each period as long as that holds the rounds of its cycle: else it says so, and ends with status 5.",
+    ),
+};
+
+/// Replays a cycle.
+const REPLAY: CommandRow = CommandRow {
+    name: "replay",
+    about: "Prints what membership does in one cycle of a valid plan",
+    rows: &[INSTANCE, PLAN, LOSSES],
+    after: None,
+};
+
+/// Prints a table of a plan.
+const SCHEDULE: CommandRow = CommandRow {
+    name: "schedule",
+    about: "Prints a table of a valid plan, as comma-separated values with a head",
+    rows: &[INSTANCE, PLAN, TABLE],
+    after: None,
+};
+
+/// Draws a plan.
+const DRAW: CommandRow = CommandRow {
+    name: "draw",
+    about: "Prints a picture of a valid plan's cycle, as SVG",
+    rows: &[INSTANCE, PLAN, WIDTH, USED],
+    after: None,
+};
+
+/// Compares two releases.
+const COMPARE: CommandRow = CommandRow {
+    name: "compare",
+    about: "Tells which nodes a change of an instance and its plan touches, and what is different of the plan",
+    rows: &[OLD_INSTANCE, OLD_PLAN, NEW_INSTANCE, NEW_PLAN],
+    after: Some(
+        "It prints a line for each node of either instance, by its name: `same`, where in both its table and its guardian's windows are the same bytes and its processes have the same rows in `ttplan schedule` but for their slack; `changed`, where that isn't so; `new` or `gone`. Behind these lines is told what is different of processes and of the plan: `order changed`, and `node`, `wcet`, `cap`, `start`, `round` and `chan`, each with a name, the old value and the new one, or `-` where there is none.\n\nIt ends with status 0 where each node is the same and nothing is different, and else with 1. Both plans have to be valid: else it says so as `ttplan verify` does, behind the word `old` or `new`.",
+    ),
+};
+
+/// All commands, in the order of help.
+pub const COMMANDS: &[Asks] = &[
+    Asks::Solve,
+    Asks::Why,
+    Asks::Limit,
+    Asks::Verify,
+    Asks::Check,
+    Asks::Judge,
+    Asks::Explain,
+    Asks::Tables,
+    Asks::Period,
+    Asks::Replay,
+    Asks::Schedule,
+    Asks::Draw,
+    Asks::Compare,
+];
+
+/// The row of a command. A list of all rows would be more than a proof may unfold at once.
+pub fn row_of(asks: Asks) -> CommandRow {
+    match asks {
+        Asks::Solve => SOLVE,
+        Asks::Why => WHY,
+        Asks::Limit => LIMIT,
+        Asks::Verify => VERIFY,
+        Asks::Check => CHECK,
+        Asks::Judge => JUDGE,
+        Asks::Explain => EXPLAIN,
+        Asks::Tables => TABLES,
+        Asks::Period => PERIOD,
+        Asks::Replay => REPLAY,
+        Asks::Schedule => SCHEDULE,
+        Asks::Draw => DRAW,
+        Asks::Compare => COMPARE,
+    }
+}

@@ -1,0 +1,157 @@
+//! What may the words of the command line ask for?
+
+use plan_picture::Shown;
+use plan_sheets::Table;
+use std::io;
+use std::rt::Env;
+
+/// What to do with an instance and a plan.
+#[derive(Debug, Drop)]
+pub enum Task<'a> {
+    /// Verify the plan for the instance.
+    Verify,
+    /// Write its node tables and guardian windows.
+    Tables,
+    /// Replay its cycle, in which the frames that these words name are lost.
+    Replay(Vec<&'a str>),
+    /// Write one of its tables.
+    Schedule(Table),
+    /// Write a picture of its cycle, so many pixels wide, 200 to 10,000.
+    Draw { width: u32, shown: Shown },
+}
+
+/// What to tell of the rounds of a plan's cycle.
+#[derive(Clone, Copy, Debug, PartialEq, Eq)]
+pub enum RoundsTask {
+    /// How they lie in a period of so many ticks, 1 to 1,000,000.
+    Period(u64),
+    /// The node tables and guardian windows of so many.
+    Tables(u32),
+}
+
+/// What is to be explained.
+#[derive(Clone, Copy, Debug, PartialEq, Eq)]
+pub enum Explained<'a> {
+    /// The instance alone.
+    Instance,
+    /// The plan of this file.
+    Plan(&'a str),
+    /// The certificate of this file.
+    Certificate(&'a str),
+}
+
+/// How an instance is to be searched.
+#[derive(Clone, Copy, Debug, PartialEq, Eq)]
+pub struct Search<'a> {
+    pub instance: &'a str,
+    /// Where the plan stands with which it begins.
+    pub start: Option<&'a str>,
+    /// Where the certificate is written.
+    pub certificate: Option<&'a str>,
+    /// Where the best plan so far is kept.
+    pub kept: Option<&'a str>,
+    /// How many workers search, 1 to 16.
+    pub workers: u32,
+    /// How many subtrees are searched at most.
+    pub budget: u64,
+    /// Whether it is to say how far it is.
+    pub progress: bool,
+    /// It ends once a plan of at most so many ticks is known.
+    pub until: Option<u32>,
+    /// By how many ticks a plan may be longer than the least is known to be, so that it is good enough.
+    pub gap: u32,
+    /// It ends so many seconds after the start.
+    pub seconds: Option<u64>,
+}
+
+/// How it is to be found out why an instance has no plan.
+#[derive(Clone, Copy, Debug, PartialEq, Eq)]
+pub struct Why<'a> {
+    pub instance: &'a str,
+    /// Where the certificate is written.
+    pub certificate: Option<&'a str>,
+    /// Where the instance by the constraints that leave no plan is written.
+    pub reduced: Option<&'a str>,
+    /// How many workers search, 1 to 16.
+    pub workers: u32,
+    /// How many subtrees each search has at most.
+    pub budget: u64,
+    /// Whether it is to be told how late all would have to be.
+    pub late: bool,
+}
+
+/// How early processes of an instance are to end.
+#[derive(Debug, Drop)]
+pub struct Limit<'a> {
+    pub instance: &'a str,
+    /// The names of these processes, in the order of the words.
+    pub processes: Vec<&'a str>,
+    /// Where the certificate is written.
+    pub certificate: Option<&'a str>,
+    /// Where the instance that the certificate is for is written.
+    pub reduced: Option<&'a str>,
+    /// How many workers search, 1 to 16.
+    pub workers: u32,
+    /// How many subtrees each search has at most.
+    pub budget: u64,
+}
+
+/// A command, with the files that it names.
+#[derive(Debug, Drop)]
+pub enum Request<'a> {
+    /// Do something with the plan of one file for the instance of another.
+    OnFiles {
+        instance: &'a str,
+        plan: &'a str,
+        task: Task<'a>,
+    },
+    /// Tell of the rounds of the plan of one file for the instance of another.
+    OfRounds {
+        instance: &'a str,
+        plan: &'a str,
+        task: RoundsTask,
+    },
+    /// Search the instance of a file.
+    Solve(Search<'a>),
+    /// Tell why the instance of a file has no plan.
+    Why(Why<'a>),
+    /// Tell how early processes of the instance of a file can end.
+    Limit(Limit<'a>),
+    /// Check the certificate of one file for the instance of another.
+    Check {
+        instance: &'a str,
+        certificate: &'a str,
+    },
+    /// Judge the plan of one file for the instance of another by the certificate of a third.
+    Judge {
+        instance: &'a str,
+        plan: &'a str,
+        certificate: &'a str,
+    },
+    /// Tell what is different of a second instance and its plan, each in a file, by the names of what is different.
+    Compare {
+        old_instance: &'a str,
+        old_plan: &'a str,
+        new_instance: &'a str,
+        new_plan: &'a str,
+    },
+    /// Tell in sentences why the instance of a file, or a plan or a certificate for it, is refused, or what there is to say of it.
+    Explain {
+        instance: &'a str,
+        explained: Explained<'a>,
+    },
+    /// Verify an instance and a plan in one stream: no words were given.
+    VerifyBundle,
+    /// Say which version this is.
+    Version,
+}
+
+/// The program's version, and those of the texts that it reads and writes.
+pub const VERSION: &str =
+    "ttplan 0.1.0\ntexts: ttplan 1, ttplan 2, ttcert 1, ttcert 2, ttmedl 1, ttmedl 2, ttguard 1, ttreplay 1, ttperiod 1, ttwhy 1\n";
+
+/// The words that the program was called with. The error's kind is `InvalidData` where one is not UTF-8.
+pub fn all(rt: &(impl Env + AllocGlobal)) -> io::Result<Vec<String>> {
+    let words = std::env::args(rt)?.collect(rt.alloc())?;
+    Ok(words)
+}

@@ -1,8 +1,0 @@
-use Rattle.compare_command.proofs.Answering.{new_refused, new_told}
-use Rattle.compare_command.proofs.comparing.compare_with.Goals as goal
-
-pub returns-in-Ok-clause-answer : goal.returns-in-Ok-clause-answer
-returns-in-Ok-clause-answer g c = new_told _ _ c.args.old.now c.in-Ok.new _ _ _ c.in-Ok.ensures.judged c.tell_changes-compared.ensures
-
-pub returns-in-Err-clause-answer : goal.returns-in-Err-clause-answer
-returns-in-Err-clause-answer g c = new_refused _ _ c.args.old.now _ c.in-Err.fault c.in-Err.ensures.judged

@@ -1,0 +1,210 @@
+//! How is an instance of a file searched, and where is it written what was found?
+
+use crate::files::{FileFault, Files, Named};
+use crate::hints::{Said, hint_at_none, told};
+use crate::plan_file::shelf_of;
+use command_line::{Limit, Search, Why};
+use command_streams::End;
+use limit_command::{Beside, limit_run};
+use search_watching::{Follower, Keeper, Patience, Patient, Progress, kept_end};
+use solve_command::{FreeGate, Options, solve_run_from, solve_run_with};
+use std::fs::File;
+use std::io;
+use std::marker::Sync;
+use std::sync::Wait;
+use std::thread::Threads;
+use why_command::{Wanted, why_run};
+
+/// What is written beside an answer: to a file, or nowhere.
+#[derive(Drop)]
+struct Sheet(Option<File>);
+
+impl io::Write for Sheet {
+    fn write(&mut self, buf: &[u8]) -> io::Result<usize> {
+        match &mut self.0 {
+            Some(file) => file.write(buf),
+            None => Ok(buf.len()),
+        }
+    }
+
+    fn flush(&mut self) -> io::Result<()> {
+        match &mut self.0 {
+            Some(file) => file.flush(),
+            None => Ok(()),
+        }
+    }
+}
+
+/// Searches an instance. All files are open before one is read, that of the best plan so far last.
+fn run_solve<'a>(
+    rt: &HostRuntime,
+    threads: &(impl Threads + Wait + Sync),
+    search: &Search<'a>,
+) -> Result<End, FileFault<'a>> {
+    let files = Files::open(rt, &Named::of_search(search))?;
+    if !search.progress {
+        return search_keeping(rt, threads, search, files, &FreeGate);
+    }
+    match Progress::on(rt.alloc(), rt, search.workers) {
+        Ok(progress) => search_keeping(rt, threads, search, files, &progress),
+        Err(_) => Err(FileFault::Memory),
+    }
+}
+
+/// Searches the instance of a file, tells a follower how the search goes on, and keeps the best plan so far where that is asked for.
+fn search_keeping<'a>(
+    rt: &HostRuntime,
+    threads: &(impl Threads + Wait + Sync),
+    search: &Search<'a>,
+    mut files: Files,
+    follower: &(impl Follower + Sync),
+) -> Result<End, FileFault<'a>> {
+    let Some(name) = search.kept else {
+        return Ok(search_files(rt, threads, search, files, follower));
+    };
+    let shelf = shelf_of(rt, name, &mut files.kept)?;
+    let keeper = Keeper::beside(follower, threads, shelf);
+    let end = search_files(rt, threads, search, files, &keeper);
+    Ok(kept_end(end, keeper.has_failed()))
+}
+
+/// Searches the instance of a file, from the plan of another where there is one, and tells a follower how the search goes on.
+fn search_files(
+    rt: &HostRuntime,
+    threads: &(impl Threads + Wait + Sync),
+    search: &Search,
+    files: Files,
+    follower: &(impl Follower + Sync),
+) -> End {
+    let Files {
+        mut instance,
+        start,
+        mut certificate,
+        ..
+    } = files;
+    let options = Options {
+        workers: search.workers,
+        budget: search.budget,
+        gap: search.gap,
+    };
+    let patience = Patience {
+        until: search.until,
+        seconds: search.seconds,
+    };
+    let patient = Patient::beside(follower, rt, patience);
+    let certificate = certificate.as_mut();
+    let out = &mut rt.stdout();
+    match start {
+        None => solve_run_with(
+            threads,
+            rt.alloc(),
+            &mut instance,
+            options,
+            patience.until,
+            &patient,
+            certificate,
+            out,
+        ),
+        Some(mut plan) => solve_run_from(
+            threads,
+            rt.alloc(),
+            &mut instance,
+            &mut plan,
+            options,
+            patience.until,
+            &patient,
+            certificate,
+            out,
+        ),
+    }
+}
+
+/// Searches, says why that was refused, and gives the status.
+pub fn solve(rt: &HostRuntime, threads: &(impl Threads + Wait + Sync), search: &Search) -> u8 {
+    let said = Said::files(search.instance, search.start, None);
+    match run_solve(rt, threads, search) {
+        Ok(end) => {
+            if let End::Absent = end {
+                hint_at_none(rt, search.instance);
+            }
+            told(rt, &end, &said)
+        }
+        Err(fault) => fault.tell(rt, &said),
+    }
+}
+
+/// Tells why the instance of a file has no plan. All files are open before one is read.
+fn run_why<'a>(
+    rt: &HostRuntime,
+    threads: &(impl Threads + Wait + Sync),
+    why: &Why<'a>,
+) -> Result<End, FileFault<'a>> {
+    let mut files = Files::open(rt, &Named::of_why(why))?;
+    let options = Options {
+        workers: why.workers,
+        budget: why.budget,
+        gap: 0,
+    };
+    let wanted = Wanted {
+        certificate: why.certificate.is_some(),
+        reduced: why.reduced.is_some(),
+        late: why.late,
+    };
+    Ok(why_run(
+        threads,
+        rt.alloc(),
+        &mut files.instance,
+        options,
+        wanted,
+        &mut Sheet(files.certificate),
+        &mut Sheet(files.reduced),
+        &mut rt.stdout(),
+    ))
+}
+
+/// Tells why there is no plan, says why that was refused, and gives the status.
+pub fn why(rt: &HostRuntime, threads: &(impl Threads + Wait + Sync), why: &Why) -> u8 {
+    let said = Said::files(why.instance, None, None);
+    match run_why(rt, threads, why) {
+        Ok(end) => told(rt, &end, &said),
+        Err(fault) => fault.tell(rt, &said),
+    }
+}
+
+/// Tells how early processes of the instance of a file can end. All files are open before the instance is read.
+fn run_limit<'a>(
+    rt: &HostRuntime,
+    threads: &(impl Threads + Wait + Sync),
+    limit: &Limit<'a>,
+) -> Result<End, FileFault<'a>> {
+    let mut files = Files::open(rt, &Named::of_limit(limit))?;
+    let options = Options {
+        workers: limit.workers,
+        budget: limit.budget,
+        gap: 0,
+    };
+    let beside = Beside {
+        certificate: limit.certificate.is_some(),
+        reduced: limit.reduced.is_some(),
+    };
+    Ok(limit_run(
+        threads,
+        rt.alloc(),
+        &mut files.instance,
+        limit.processes.as_slice(),
+        options,
+        beside,
+        &mut Sheet(files.certificate),
+        &mut Sheet(files.reduced),
+        &mut rt.stdout(),
+    ))
+}
+
+/// Tells how early processes can end, says why that was refused, and gives the status.
+pub fn limit(rt: &HostRuntime, threads: &(impl Threads + Wait + Sync), limit: &Limit) -> u8 {
+    let said = Said::files(limit.instance, None, None);
+    match run_limit(rt, threads, limit) {
+        Ok(end) => told(rt, &end, &said.with_words(limit.processes.as_slice())),
+        Err(fault) => fault.tell(rt, &said),
+    }
+}
