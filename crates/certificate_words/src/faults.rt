@@ -8,9 +8,9 @@ ghost use Rattle.certificate_words.specs.Faults.{TellsFault, branch_fault_words,
 use crate::branches::{put_child_count, put_not_open};
 use crate::whole::read_whole;
 use certificate::{Branch, Cert, Node};
+use line_text::put_line;
 use std::alloc::{AllocError, Global};
 use step_words::may_say;
-use line_text::put_line;
 use tree_check::{CertFault, NodeFault};
 use ttp_model::{Instance, Leaf, MemoryFault, Step};
 

@@ -5,8 +5,8 @@ ghost use Rattle.certificate_words.specs.Forms.{branch_forms, channel_branch_for
 
 use crate::places::{LinePlace, awaited_at};
 use certificate::{CertTextError, LineFault, MOST_BRANCHES_ABOVE};
-use std::alloc::AllocError;
 use line_text::put_line;
+use std::alloc::AllocError;
 
 /// The forms of the first line.
 #[tactic(auto, unfolding(crate::specs::Forms::first_form))]

@@ -9,3 +9,4 @@ pub mod Transfers
 pub mod ChannelLines
 pub mod FirstSteps
 pub mod SettledFrames
+mod Decided

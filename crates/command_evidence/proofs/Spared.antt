@@ -1,12 +1,12 @@
 -- A request that is sound spares the instance's file.
 use Rattle.std.proofs.Common.{◌≡◌, ◌++◌, ◌∙◌, ℕ, List, Option, None, Some, IfSome, Bor, codes, false, refl, ap, sym}
-use Rattle.command_words.specs.declared.words.Request.{Request}
-use Rattle.command_words.specs.declared.words.Request.TheVariants.{OfRounds, OnFiles, Solve, Why, Check, Judge, Compare, Explain, VerifyBundle, Version}
-use Rattle.command_words.specs.declared.words.Request.TheVariants.{Limit as Limiting}
-use Rattle.command_words.specs.Names.{IsOtherFile, NameOneFile, is_rooted, parts}
-use Rattle.command_words.specs.declared.words.Search.{Search}
-use Rattle.command_words.specs.declared.words.Limit.{Limit}
-use Rattle.command_words.specs.Requests.{IsApart, IsSound}
+use Rattle.command_line.specs.declared.words.Request.{Request}
+use Rattle.command_line.specs.declared.words.Request.TheVariants.{OfRounds, OnFiles, Solve, Why, Check, Judge, Compare, Explain, VerifyBundle, Version}
+use Rattle.command_line.specs.declared.words.Request.TheVariants.{Limit as Limiting}
+use Rattle.command_line.specs.Names.{IsOtherFile, NameOneFile, is_rooted, parts}
+use Rattle.command_line.specs.declared.words.Search.{Search}
+use Rattle.command_line.specs.declared.words.Limit.{Limit}
+use Rattle.command_line.specs.Requests.{IsApart, IsSound}
 use Rattle.command_evidence.specs.Words.{SparesInstance}
 
 here_again : (name : List ℕ) → parts (codes "./" ++ name) ≡ parts name

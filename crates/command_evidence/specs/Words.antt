@@ -1,8 +1,8 @@
 -- Which files a search is to write.
 use Rattle.std.specs.Prelude.{◌≡◌, ◌++◌, IfSome, codes, false}
-use Rattle.command_words.specs.declared.words.Request.{Request}
-use Rattle.command_words.specs.declared.words.Request.TheVariants.{Solve, Limit}
-use Rattle.command_words.specs.Names.{is_rooted}
+use Rattle.command_line.specs.declared.words.Request.{Request}
+use Rattle.command_line.specs.declared.words.Request.TheVariants.{Solve, Limit}
+use Rattle.command_line.specs.Names.{is_rooted}
 
 -- the certificate isn't written to the instance's file, of which the name is given again with `./` before it
 abbrev pub SparesInstance : Request → Type 0

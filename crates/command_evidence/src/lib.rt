@@ -8,6 +8,7 @@ mod checks;
 mod events;
 mod held;
 mod judgements;
+mod limits;
 mod names;
 mod plans;
 mod propagations;
@@ -41,6 +42,7 @@ pub use events::{
 };
 pub use held::{no_more_leaves_wait_than_may, proved_branch_leaves_no_plan};
 pub use judgements::{bounds_are_told_in_order, delay_told_is_the_least, none_is_told_of_no_plan};
+pub use limits::limits_of_texts;
 pub use names::{child_is_told_behind_its_parent, linked_processes_are_no_twins};
 pub use plans::{
     printed_text_spells_the_plan, settled_frames_are_not_turned, settled_frames_fit,

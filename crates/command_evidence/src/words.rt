@@ -3,7 +3,7 @@
 ghost use Rattle.std.specs.Prelude.{IfSome};
 ghost use Rattle.command_evidence.specs.Words.{SparesInstance};
 
-use command_words::{Request, request_in};
+use command_line::{Request, request_in};
 use std::alloc::Global;
 
 /// A search's certificate is written to another file than the instance's, also where that is spelled otherwise.

@@ -10,8 +10,8 @@ ghost use Rattle.entry_words.specs.Stated.{instance_of};
 use crate::lists::excess;
 use crate::places::{Entry, Spot};
 use crate::stated::{Stated, message_name, node_name, process_name};
-use std::alloc::AllocError;
 use line_text::{Told, put_told};
+use std::alloc::AllocError;
 use ttp_model::{MOST_NAME_BYTES, Place};
 
 /// The name at a place, or an empty one where it has none.

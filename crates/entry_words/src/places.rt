@@ -6,8 +6,8 @@ ghost use Rattle.entry_words.specs.Places.{called_text, entry_text, place_text};
 ghost use Rattle.entry_words.specs.Spots.{spot_text};
 
 use crate::stated::{Stated, message_name, node_name, process_name};
-use std::fmt;
 use line_text::Told;
+use std::fmt;
 use ttp_model::Place;
 
 /// An entry of a list, by what it is and its index.

@@ -5,9 +5,9 @@ ghost use Rattle.entry_words.specs.Times.{deadline_text, earliest_text, lacking_
 
 use crate::lists::excess;
 use crate::stated::Times;
+use line_text::Told;
 use std::alloc::AllocError;
 use std::fmt;
-use line_text::Told;
 
 /// A number of ticks.
 #[derive(Clone, Copy)]

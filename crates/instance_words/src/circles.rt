@@ -7,8 +7,8 @@ ghost use Rattle.entry_words.specs.Stated.{instance_of};
 
 use crate::joins::first_place;
 use entry_words::{Stated, process_name};
-use std::alloc::AllocError;
 use line_text::Told;
+use std::alloc::AllocError;
 use ttp_model::{Link, Message};
 
 /// How many steps of a circle are told.

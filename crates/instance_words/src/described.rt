@@ -3,9 +3,9 @@
 ghost use Rattle.std.specs.Prelude.{◌≡◌, ◌++◌, ◌<◌, IfOk, OnOk, Some, length, string_bytes};
 ghost use Rattle.instance_words.specs.Described.{bytes_text, counts_text, description, end_text, has_room, large_text, large_words, message_text, messages_text, offers_text, spaced};
 
+use line_text::Told;
 use std::alloc::{AllocError, Global};
 use std::fmt;
-use line_text::Told;
 use ttp_model::{Instance, MemoryFault};
 
 /// Says how much there is.

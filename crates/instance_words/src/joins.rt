@@ -9,9 +9,9 @@ use entry_words::{
     Stated, link_at, message_name, node_name, node_of, number_at, process_name, receivers_of,
     sender_of,
 };
+use line_text::Told;
 use std::alloc::AllocError;
 use std::fmt;
-use line_text::Told;
 
 /// Where the first of these processes stands that is on a node.
 fn place_there(stated: Stated, processes: &[u32], node: u32) -> Option<usize>

@@ -87,6 +87,7 @@ fn delivery_of(instance: &Instance, plan: &Plan, layout: &Layout, m: usize, q: u
     ensures row { result ≡ delivery_of instance.now plan.now m q }
     ensures there { IsDeliveryRow instance.now result }
 {
+    let _nodes = instance.nodes();
     let message = instance.message_at(m);
     let node = instance.source_of(m);
     let round = plan.rounds.as_slice()[m];

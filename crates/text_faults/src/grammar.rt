@@ -3,10 +3,9 @@
 ghost use Rattle.std.specs.Prelude.{◌≡◌, ◌++◌, OnOk, drop, string_bytes, take};
 ghost use Rattle.text_faults.specs.Grammar.{HasNoTomlText, heading_text, last_line, most_lines, said_line, said_lines};
 
-use line_text::cut;
+use line_text::{MOST_TOLD, Told, cut};
 use std::alloc::{AllocError, Global};
 use std::str;
-use line_text::{MOST_TOLD, Told};
 
 /// How many lines are told of what the reader of TOML says.
 const MOST_LINES: usize = 60;

@@ -8,9 +8,9 @@ ghost use Rattle.text_faults.specs.Words.{entry_word, found_text, kind_fault_tex
 use crate::values::{Found, Kind, Shape};
 use entry_words::{Spot, has_name_bytes};
 use instance_text::Key;
+use line_text::Told;
 use std::alloc::AllocError;
 use std::fmt;
-use line_text::Told;
 
 /// A piece of a text as it is told.
 fn told<'a>(name: &'a str) -> Told<'a>
