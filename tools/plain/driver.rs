@@ -12,7 +12,7 @@ use kit::atomic_table::READS;
 use kit::std::alloc::Global;
 use kit::std::string::String as KitString;
 use kit::std::vec::Vec as KitVec;
-use planner::{Gate, Options, Outcome};
+use planner::{FoundPlan, Gate, Options, Outcome, Site};
 use std::io::Read;
 use std::sync::Mutex;
 use std::sync::atomic::Ordering;
@@ -45,7 +45,7 @@ impl Gate for Phases {
         self.0.lock().unwrap().left = Instant::now();
     }
 
-    fn found(&self, _instance: &Instance, _plan: &Plan, _delay: u64) {}
+    fn found(&self, _instance: &Instance, _found: &FoundPlan) {}
 }
 
 /// The numbers of an instance, one after the other.
@@ -176,7 +176,7 @@ fn said(outcome: &Outcome) -> (std::string::String, &Cert) {
         } => {
             let best = best
                 .as_ref()
-                .map_or("none".to_string(), |(_, delay)| delay.to_string());
+                .map_or("none".to_string(), |best| best.delay.to_string());
             (format!("{low}..{best}"), cert)
         }
     }
@@ -190,19 +190,19 @@ fn steps_of(cert: &Cert) -> usize {
     cert.nodes().iter().map(steps).sum()
 }
 
-fn tell_solved(instance: &Instance, budget: u64, _gap: u32, file: &str) {
+fn tell_solved(instance: &Instance, budget: u64, gap: u32, file: &str) {
     let from = Instant::now();
     let gate = Phases(Mutex::new(Moments {
         began: from,
         left: from,
     }));
-    let options = Options {
-        workers: 1,
-        budget,
-        #[cfg(searches_have_a_gap)]
-        gap: _gap,
+    let site = Site {
+        alloc: Global,
+        instance,
+        gate: &gate,
     };
-    let outcome = planner::solve_with(&Runtime, Global, instance, options, &gate).unwrap();
+    let options = Options { workers: 1, budget };
+    let outcome = planner::solve_towards(&Runtime, &site, options, gap, None).unwrap();
     let solved = Instant::now();
     let (delay, cert) = said(&outcome);
     let text = certificate::print(Global, cert).unwrap();

@@ -29,12 +29,10 @@ def flags_of(files):
     good = "".join(text for name, text in files.items() if name.startswith("good_plan/"))
     head = good[good.index("pub fn good_plan"):].split("{")[0]
     parts = "".join(text for name, text in files.items() if name.startswith("ttp_model/"))
-    turns = "".join(text for name, text in files.items() if name.startswith(("search_turns/", "search_workers/")))
     return [
         *FLAGS,
         *(["--cfg", "good_plan_takes_workers"] if "workers" in head else []),
         *(["--cfg", "clusters_have_channels"] if "pub channels: u32" in parts else []),
-        *(["--cfg", "searches_have_a_gap"] if "pub gap: u32" in turns else []),
     ]
 
 

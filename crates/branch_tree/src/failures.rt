@@ -1,6 +1,6 @@
 //! On which nodes were subtrees closed lately?
 
-use needed_steps::node_of;
+use step_agenda::node_of;
 use ttp_model::{Instance, Leaf, MOST_NODES};
 
 /// How much a closed subtree counts at first.

@@ -28,13 +28,13 @@ stopped_text bytes i has (answer.Stopped why low (Some best) cert) text ends tel
   has_instance = has;
   why = why;
   low = low;
-  is = inr (record { plan = best.0; ticks = best.1; written = tells.0; spelled = tells.1; text_is = tells.2 });
+  is = inr (record { plan = best.plan; ticks = best.delay; written = tells.0; spelled = tells.1; text_is = tells.2 });
 }
 
 module _ (bytes : List ℕ) (options : Options) (wanted : Bool) (from to old new : Option (List ℕ)) (end : End)
-    (told : IsSolveAnswer bytes options None ⊥ wanted from to old new end) where
-  at : (other : End) → end ≡ other → IsSolveAnswer bytes options None ⊥ wanted from to old new other
-  at other is = subst (λ e. IsSolveAnswer bytes options None ⊥ wanted from to old new e) is told
+    (told : IsSolveAnswer bytes options (record { until = None; gap = 0 }) ⊥ wanted from to old new end) where
+  at : (other : End) → end ≡ other → IsSolveAnswer bytes options (record { until = None; gap = 0 }) ⊥ wanted from to old new other
+  at other is = subst (λ e. IsSolveAnswer bytes options (record { until = None; gap = 0 }) ⊥ wanted from to old new e) is told
 
   pub plan_behind : end ≡ Stopped → IsWritten (StopsWithPlan bytes) old new
   unfolding IsSolveAnswer
@@ -54,7 +54,7 @@ module _ (bytes : List ℕ) (options : Options) (wanted : Bool) (from to old new
 
 -- a writer that tells its bytes
 pub certified : (bytes : List ℕ) (options : Options) (wanted : Bool) (before : List ℕ) (to old new : Option (List ℕ)) (end : End)
-    → IsSolveAnswer bytes options None ⊥ wanted (Some before) to old new end → end ≡ Done → IsWritten IsCertificate (Some before) to
+    → IsSolveAnswer bytes options (record { until = None; gap = 0 }) ⊥ wanted (Some before) to old new end → end ≡ Done → IsWritten IsCertificate (Some before) to
 unfolding IsSolveAnswer
 certified bytes options wanted before to old new end told done =
     let said = at bytes options wanted (Some before) to old new end told Done done in

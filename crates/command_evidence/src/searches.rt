@@ -10,7 +10,7 @@ ghost use Rattle.certificate.specs.declared.node.Node.TheVariants.{Leaf as AsLea
 ghost use Rattle.search_trees.specs.Task.{IsTask};
 
 use branch_tree::{Piece, Task, Worked, close_left, work};
-use planner::{FreeGate, Options, Outcome, SolveFault, solve, solve_towards};
+use planner::{FoundPlan, FreeGate, Options, Outcome, Site, SolveFault, solve, solve_towards};
 use std::alloc::Global;
 use std::sync::Wait;
 use std::thread::Threads;
@@ -74,10 +74,15 @@ pub fn answer_is_no_later_than_the_start<R: Threads + Wait + Sync>(
     ensures { IfOk result (λ ticks. ticks ≤ delay instance.now start) }
 {
     let _nodes = instance.nodes();
-    match solve_towards(rt, alloc, instance, options, Some(start), &FreeGate)? {
+    let site = Site {
+        alloc,
+        instance,
+        gate: &FreeGate,
+    };
+    match solve_towards(rt, &site, options, 0, Some(start))? {
         Outcome::Optimal { delay, .. } => Ok(delay),
         Outcome::Stopped {
-            best: Some((_, delay)),
+            best: Some(FoundPlan { delay, .. }),
             ..
         } => Ok(delay),
         Outcome::Stopped { best: None, .. } => unreachable!(),

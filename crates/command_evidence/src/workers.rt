@@ -5,10 +5,10 @@ ghost use Rattle.incumbent.specs.Watch.{IsOther};
 ghost use Rattle.search_workers.specs.Report.{HasAccount};
 ghost use Rattle.search_workers.specs.declared.report.Ending.TheVariants as ending;
 
-use incumbent::{Incumbent, Watch};
-use search_workers::{FreeGate, Report, run_worker};
+use incumbent::Incumbent;
+use search_workers::{FreeGate, Job, Report, Site, run_worker};
 use std::alloc::Global;
-use steal_pool::{Hand, Searched};
+use steal_pool::Searched;
 use ttp_model::Instance;
 
 /// Each task that it took was worked, or is one of those that it says it spared or still holds; and each child that its branches
@@ -16,36 +16,36 @@ use ttp_model::Instance;
 pub fn no_task_is_dropped<J: Searched>(
     alloc: Global,
     instance: &Instance,
-    hand: Hand<J>,
     word: &Incumbent,
-    watch: Watch,
-    budget: u64,
-    workers: usize,
+    job: Job<J>,
 ) -> Report<J>
     requires of { instance.now ≡ J.instance }
-    requires watch { IsOther word.now watch }
-    ensures { HasAccount instance.now hand result.hand result.pieces.items result.spared.items result.rest }
+    requires watch { IsOther word.now job.watch }
+    ensures { HasAccount instance.now job.hand result.hand result.pieces.items result.spared.items result.rest }
 {
-    run_worker(
-        alloc, instance, hand, word, watch, budget, workers, &FreeGate,
-    )
+    let site = Site {
+        alloc,
+        instance,
+        gate: &FreeGate,
+    };
+    run_worker(&site, word, job)
 }
 
 /// Where it says that the budget is spent, it worked so many subtrees.
 pub fn spent_budget_was_worked<J: Searched>(
     alloc: Global,
     instance: &Instance,
-    hand: Hand<J>,
     word: &Incumbent,
-    watch: Watch,
-    budget: u64,
-    workers: usize,
+    job: Job<J>,
 ) -> Report<J>
     requires of { instance.now ≡ J.instance }
-    requires watch { IsOther word.now watch }
-    ensures { result.ending ≡ ending.Budget → result.worked ≡ budget }
+    requires watch { IsOther word.now job.watch }
+    ensures { result.ending ≡ ending.Budget → result.worked ≡ job.budget }
 {
-    run_worker(
-        alloc, instance, hand, word, watch, budget, workers, &FreeGate,
-    )
+    let site = Site {
+        alloc,
+        instance,
+        gate: &FreeGate,
+    };
+    run_worker(&site, word, job)
 }

@@ -55,6 +55,7 @@ fn why_request<'a>(alloc: Global, given: Given<'_, 'a>) -> Result<Request<'a>, M
         workers: given.number(WORKERS)? as u32,
         budget: given.number(SEARCH_BUDGET)?,
         late: given.flag(LATE),
+        seconds: given.number_if_any(SECONDS)?,
     }))
 }
 
@@ -77,6 +78,7 @@ fn limit_request<'a>(alloc: Global, given: Given<'_, 'a>) -> Result<Request<'a>,
     let reduced = given.written(alloc, SEARCHED, instance, certificate)?;
     let workers = given.number(WORKERS)? as u32;
     let budget = given.number(SEARCH_BUDGET)?;
+    let seconds = given.number_if_any(SECONDS)?;
     Ok(Request::Limit(Limit {
         instance,
         processes: processes_of(alloc, given)?,
@@ -84,6 +86,7 @@ fn limit_request<'a>(alloc: Global, given: Given<'_, 'a>) -> Result<Request<'a>,
         reduced,
         workers,
         budget,
+        seconds,
     }))
 }
 

@@ -56,12 +56,13 @@ const WHY: CommandRow = CommandRow {
         INSTANCE,
         WORKERS,
         SEARCH_BUDGET,
+        SECONDS,
         LATE,
         REDUCED,
         CERT_OF_NONE,
     ],
     after: Some(
-        "It prints a line `ttwhy 1`, and behind it one of these, and ends with the status beside it:\n   0  `plan D`: there is a plan, of D ticks; it need not be a shortest\n  10  `none`, and a line for each constraint of a set that leaves no plan by itself: the horizon, deadlines, releases, messages, that one is on both channels, and links\n  11  `unknown`: a search was stopped before that was known\n\nA line begins with `need`, where there is a plan by the others of the set, and with `maybe`, where a search for one was stopped; it is `need nothing`, where the execution times alone leave no plan. With --late a line `late X` follows, where there is a plan once the horizon and all deadlines are X ticks later, and none where they are fewer; `late -`, where there is none within 1000000 ticks, the latest that can be said.\n\nFirst times are left out, then messages, and then links, as long as there is still no plan. Each search is for any plan, and has N subtrees.",
+        "It prints a line `ttwhy 1`, and behind it one of these, and ends with the status beside it:\n   0  `plan D`: there is a plan, of D ticks; it need not be a shortest\n  10  `none`, and a line for each constraint of a set that leaves no plan by itself: the horizon, deadlines, releases, messages, that one is on both channels, and links\n  11  `unknown`: a search was stopped before that was known\n\nA line begins with `need`, where there is a plan by the others of the set, and with `maybe`, where a search for one was stopped; it is `need nothing`, where the execution times alone leave no plan. With --late a line `late X` follows, where there is a plan once the horizon and all deadlines are X ticks later, and none where they are fewer; `late -`, where there is none within 1000000 ticks, the latest that can be said.\n\nFirst times are left out, then messages, and then links, as long as there is still no plan. Each search is for any plan, and has N subtrees. Once the seconds have passed the search at hand is stopped, and so is each further one as it begins.",
     ),
 };
 
@@ -74,11 +75,12 @@ const LIMIT: CommandRow = CommandRow {
         PROCESSES,
         WORKERS,
         SEARCH_BUDGET,
+        SECONDS,
         SEARCHED,
         CERT_OF_LAST,
     ],
     after: Some(
-        "It prints one of these, and ends with the status beside it:\n   0  `limit D`, and behind it the text of a plan: the last of these processes ends at D in it, and before D in no valid plan; of the plans that do it none has a smaller delay\n  10  `none`: no plan is valid\n  11  `limit D` and a plan that does it, where the search for the least delay was stopped; `between LOW HIGH` and a plan in which the last of them ends at HIGH, where a search before that was; or `between LOW none`, where no plan is known. It ends before LOW in no valid plan\n\nFirst any plan is looked for, then one that ends these processes half way between the ticks that are known, and so on. The last search is for the least delay. Each has N subtrees.",
+        "It prints one of these, and ends with the status beside it:\n   0  `limit D`, and behind it the text of a plan: the last of these processes ends at D in it, and before D in no valid plan; of the plans that do it none has a smaller delay\n  10  `none`: no plan is valid\n  11  `limit D` and a plan that does it, where the search for the least delay was stopped; `between LOW HIGH` and a plan in which the last of them ends at HIGH, where a search before that was; or `between LOW none`, where no plan is known. It ends before LOW in no valid plan\n\nFirst any plan is looked for, then one that ends these processes half way between the ticks that are known, and so on. The last search is for the least delay. Each has N subtrees. Once the seconds have passed the search at hand is stopped, and so is each further one as it begins.",
     ),
 };
 

@@ -78,6 +78,8 @@ pub struct Why<'a> {
     pub budget: u64,
     /// Whether it is to be told how late all would have to be.
     pub late: bool,
+    /// The searches end so many seconds after the start.
+    pub seconds: Option<u64>,
 }
 
 /// How early processes of an instance are to end.
@@ -94,6 +96,8 @@ pub struct Limit<'a> {
     pub workers: u32,
     /// How many subtrees each search has at most.
     pub budget: u64,
+    /// The searches end so many seconds after the start.
+    pub seconds: Option<u64>,
 }
 
 /// A command, with the files that it names.

@@ -4,10 +4,10 @@ use Rattle.ttp_model.specs.Instance.{Instance}
 use Rattle.instance_text.specs.declared.error.TextError.{TextError}
 use Rattle.instance_words.specs.Described.{description}
 use Rattle.instance_words.specs.Explained.{IsExplanation}
-use Rattle.path_words.specs.declared.late_lines.LateProcesses.{LateProcesses}
-use Rattle.path_words.specs.declared.lines.PathChain.{PathChain}
-use Rattle.path_words.specs.LateLines.{AreLate}
-use Rattle.path_words.specs.Lines.{IsPathChain}
+use Rattle.cause_chains.specs.declared.late_lines.LateProcesses.{LateProcesses}
+use Rattle.cause_chains.specs.declared.path_lines.PathChain.{PathChain}
+use Rattle.cause_chains.specs.LateLines.{AreLate}
+use Rattle.cause_chains.specs.PathLines.{IsPathChain}
 use Rattle.sentences.specs.Shown.{Gains, IsShown}
 use Rattle.command_streams.specs.Endings.{fault_status}
 use Rattle.command_streams.specs.Instances.{HasInstance, IsInstanceFault}

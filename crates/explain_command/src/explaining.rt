@@ -15,11 +15,11 @@ ghost use Rattle.explain_command.specs.Plans.{IsPlanUnread, TellsPlanBytes};
 use crate::certificates::told_certificate;
 use crate::instances::{Stated, stated_of_bytes};
 use crate::plans::told_printed;
+use cause_chains::{late_reason, path_chain_reason};
 use command_streams::{
     CERTIFICATE_LIMIT, End, Fault, INSTANCE_LIMIT, PLAN_LIMIT, Source, end_with, read_all,
 };
 use instance_words::describe_instance;
-use path_words::{chain_reason, late_reason};
 use plan_commands::{front_of, read_printed};
 use sentences::put;
 use std::alloc::Global;
@@ -42,7 +42,7 @@ fn described(alloc: Global, instance: &Instance) -> Result<String, Fault>
     ensures ok { IfOk result (λ text. TellsSizes instance.now (string_bytes text)) }
     ensures err { IfErr result (λ wrong. wrong ≡ Memory) }
 {
-    let chain = chain_reason(alloc, instance)?;
+    let chain = path_chain_reason(alloc, instance)?;
     let late = late_reason(alloc, instance)?;
     let mut text = describe_instance(alloc, instance)?;
     put(alloc, &mut text, &chain)?;

@@ -11,8 +11,8 @@ ghost use Rattle.explain_command.specs.Plans.{TellsBroken, TellsMisstated, Tells
 
 use crate::mistaken::first_line_words;
 use crate::telling::{put_line, put_valid_line};
+use cause_chains::plan_chain_reason;
 use command_streams::Fault;
-use plan_chain::chain_reason;
 use plan_commands::{Front, bare_fault};
 use plan_format::{LineFault, PlanTextError, read};
 use plan_reasons::{cycle_of, line_reason, other_delay, reason_of};
@@ -68,7 +68,7 @@ fn told_valid(
     requires own { delay instance.now plan.now ≡ stated }
     ensures { IfOk result (λ text. TellsValid instance.now plan.now stated (string_bytes text)) }
 {
-    let reason = chain_reason(alloc, instance, plan)?;
+    let reason = plan_chain_reason(alloc, instance, plan)?;
     let cycle = cycle_of(instance, plan);
     let mut text = String::new(alloc);
     put_valid_line(&mut text, stated)?;

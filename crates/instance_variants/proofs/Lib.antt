@@ -11,6 +11,10 @@ pub mod CutRules
 pub mod LaterProcesses
 pub mod LaterPlans
 pub mod LaterRules
+pub mod Least
+pub mod Allowed
+pub mod GrownProcesses
+pub mod GrownPlans
 pub mod Listed
 pub mod KeptVariants
 pub mod Fewer

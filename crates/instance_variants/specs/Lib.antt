@@ -6,3 +6,5 @@ pub mod Lateness
 pub mod Constraints
 pub mod Only
 pub mod Fewer
+pub mod Grown
+pub mod Slack

@@ -6,11 +6,13 @@ mod copies;
 mod cut;
 mod cut_laws;
 mod ends;
+mod grown_laws;
 mod kept;
 mod late;
 mod later;
 mod later_laws;
 mod laws;
+mod slack;
 
 pub use build::built;
 pub use copies::{copies_of_messages, copies_of_nodes};
@@ -20,6 +22,7 @@ pub use cut_laws::{
     least_delays_are_kept, no_plan_is_a_later_end,
 };
 pub use ends::last_end;
+pub use grown_laws::{all_slack_is_had_at_once, grown_instances_keep_the_rules};
 pub use kept::{
     Constraint, Constraints, Flags, fewer_constraints_keep_the_plans, kept_constraints_are_listed,
     kept_constraints_make_instances, what_is_left_is_fewer, with_only,
@@ -32,3 +35,4 @@ pub use later_laws::{
 pub use laws::{
     instances_are_their_own_variants, plans_are_valid_by_their_times, rules_are_kept_with_windows,
 };
+pub use slack::slack_of;

@@ -7,5 +7,5 @@ mod names;
 mod texts;
 
 pub use limits::limit_run;
-pub use plan_questions::Options;
+pub use plan_questions::{Asking, Options};
 pub use texts::Beside;

@@ -13,9 +13,8 @@ use crate::names::processes_of;
 use crate::texts::{Beside, texts_of};
 use answer_files::{Texts, write_texts};
 use command_streams::{End, Fault, read_instance};
-use plan_questions::{EndLimit, Options, least_end};
+use plan_questions::{Asking, EndLimit, Gate, least_end};
 use search_watching::told_as;
-use std::alloc::Global;
 use std::io::{Read, Write};
 use std::marker::Sync;
 use std::sync::Wait;
@@ -31,63 +30,60 @@ pub struct Limited {
 
 /// How early these processes can end, and the texts that tell it.
 #[tactic(auto, using(crate::proofs::Telling::plan_valid, crate::proofs::Telling::printable, crate::proofs::Telling::can_end))]
-fn limit_by<R: Threads + Wait + Sync>(
+fn limit_by<R: Threads + Wait + Sync, G: Gate + Sync>(
     rt: &R,
-    alloc: Global,
+    asking: &Asking<'_, G>,
     instance: &Instance,
     processes: &[u32],
-    options: Options,
     beside: Beside,
 ) -> Result<Limited, Fault>
     requires { AreThere instance.now processes.now }
     ensures { MatchResult result
-        (IsLimitBy instance.now processes.now options beside)
+        (IsLimitBy instance.now processes.now asking.now.options beside)
         IsUnsearched }
 {
     let _nodes = instance.nodes();
-    let limit = match least_end(rt, alloc, instance, processes, options) {
+    let limit = match least_end(rt, asking, instance, processes) {
         Ok(limit) => limit,
         Err(fault) => return Err(Fault::Search(told_as(fault))),
     };
-    match texts_of(alloc, instance, processes, &limit, beside) {
+    match texts_of(asking.alloc, instance, processes, &limit, beside) {
         Ok(texts) => Ok(Limited { limit, texts }),
         Err(_) => Err(Fault::Memory),
     }
 }
 
 /// How early the processes that words name can end.
-fn limited_of<R: Threads + Wait + Sync>(
+fn limited_of<R: Threads + Wait + Sync, G: Gate + Sync>(
     rt: &R,
-    alloc: Global,
+    asking: &Asking<'_, G>,
     instance: &Instance,
     words: &[&str],
-    options: Options,
     beside: Beside,
 ) -> Result<Limited, Fault>
     ensures { MatchResult result
-        (IsLimitedOf instance.now (texts_of words.now) options beside)
+        (IsLimitedOf instance.now (texts_of words.now) asking.now.options beside)
         (IsNoLimitOf instance.now (texts_of words.now)) }
 {
-    let processes = processes_of(alloc, instance, words)?;
-    limit_by(rt, alloc, instance, processes.as_slice(), options, beside)
+    let processes = processes_of(asking.alloc, instance, words)?;
+    limit_by(rt, asking, instance, processes.as_slice(), beside)
 }
 
 /// How early the processes that words name can end, of the instance that a reader's bytes state.
-fn limited_of_reader<R: Threads + Wait + Sync, I: Read>(
+fn limited_of_reader<R: Threads + Wait + Sync, G: Gate + Sync, I: Read>(
     rt: &R,
-    alloc: Global,
+    asking: &Asking<'_, G>,
     instance: &mut I,
     words: &[&str],
-    options: Options,
     beside: Beside,
 ) -> Result<Limited, Fault>
     ensures judged { IfSome (I.remaining instance.old) (λ bytes. MatchResult result
-        (IsLimited bytes (texts_of words.now) options beside)
+        (IsLimited bytes (texts_of words.now) asking.now.options beside)
         (IsUnlimited bytes (texts_of words.now))) }
     ensures most { TakesAtMost (INSTANCE_LIMIT + 1) (I.remaining instance.old) (I.remaining instance.new) }
 {
-    let instance = read_instance(alloc, instance)?;
-    limited_of(rt, alloc, &instance, words, options, beside)
+    let instance = read_instance(asking.alloc, instance)?;
+    limited_of(rt, asking, &instance, words, beside)
 }
 
 /// Writes an answer behind what is written beside it.
@@ -120,24 +116,23 @@ fn tell<C: Write, S: Write, W: Write>(
 /// before it names, is told. All texts are made before one is written: where memory is refused nothing is written, and where a writer
 /// fails nothing is written to those behind it. Where the text that was made of that instance doesn't read back as it, nothing is
 /// written of it, and the end is the fault of that file, once the answer is written.
-pub fn limit_run<R: Threads + Wait + Sync, I: Read, C: Write, S: Write, W: Write>(
+pub fn limit_run<R: Threads + Wait + Sync, G: Gate + Sync, I: Read, C: Write, S: Write, W: Write>(
     rt: &R,
-    alloc: Global,
+    asking: &Asking<'_, G>,
     instance: &mut I,
     words: &[&str],
-    options: Options,
     beside: Beside,
     certificate: &mut C,
     reduced: &mut S,
     out: &mut W,
 ) -> End
-    ensures answer { IfSome (I.remaining instance.old) (λ bytes. IsLimitAnswer bytes (texts_of words.now) options beside
+    ensures answer { IfSome (I.remaining instance.old) (λ bytes. IsLimitAnswer bytes (texts_of words.now) asking.now.options beside
         (C.contents certificate.old) (C.contents certificate.new) (S.contents reduced.old) (S.contents reduced.new)
         (W.contents out.old) (W.contents out.new) result) }
     // No more is taken of the reader than its limit and one byte.
     ensures most { TakesAtMost (INSTANCE_LIMIT + 1) (I.remaining instance.old) (I.remaining instance.new) }
 {
-    match limited_of_reader(rt, alloc, instance, words, options, beside) {
+    match limited_of_reader(rt, asking, instance, words, beside) {
         Ok(limited) => {
             let end = tell(&limited, certificate, reduced, out);
             drop(limited);

@@ -4,8 +4,8 @@ use Rattle.ttp_model.specs.declared.plan.Plan.{Plan}
 use Rattle.ttp_model.specs.Instance.{Instance, link_at, message_at}
 use Rattle.ttp_model.specs.Plans.{IsValid, end_of, sent_from, start_of}
 use Rattle.plan_facts.specs.Ends.{must_end_by}
-use Rattle.plan_sheets.specs.Slack.{slack}
-use Rattle.plan_sheets.proofs.Exact.{AllAllow, allowed-latest, end-le-latest, latest-allowed, link-allowed, link-allows, message-allowed, message-allows, process-allows}
+use Rattle.instance_variants.specs.Slack.{slack}
+use Rattle.instance_variants.proofs.Allowed.{AllAllow, allowed-latest, end-le-latest, latest-allowed, link-allowed, link-allows, message-allowed, message-allows, process-allows}
 use Rattle.model_evidence.specs.Schedules.{NothingWaits}
 
 module _ (i : Instance) (plan : Plan) (w : IsValid i plan) (p : ℕ) (inside : p < length i.processes) where

@@ -11,8 +11,8 @@ ghost use Rattle.command_streams.specs.Outcomes.{IfRefused, IsCommandAnswer, OnD
 ghost use Rattle.period_command.specs.Answers.{IsHeldText, IsPeriodAnswer, IsShortPeriod};
 
 use command_streams::{End, Fault, Rounds, end_with};
-use period_rounds::{held_rounds, print};
 use plan_commands::verified_of_readers;
+use plan_cycles::{held_rounds, print};
 use std::alloc::Global;
 use std::io::{Read, Write};
 use tt_layout::cycle_rounds;

@@ -7,3 +7,9 @@ pub mod Repeated
 pub mod Behind
 pub mod PairRules
 pub mod PairPlan
+pub mod DividingRounds
+pub mod RoundSums
+pub mod TakenRounds
+pub mod FirstFits
+pub mod TrailFits
+pub mod HeldRounds

@@ -3,4 +3,10 @@ pub mod Frames
 pub mod Guards
 pub mod Repeating
 pub mod Worked
+pub mod Divisors
+pub mod Offered
+pub mod Sums
+pub mod Fits
+pub mod Repetition
+pub mod Text
 pub use Rattle.tt_layout.specs.Cycle

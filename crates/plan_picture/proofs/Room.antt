@@ -9,7 +9,7 @@ use Rattle.ttp_model.specs.Slots.{slot_start}
 use Rattle.ttp_model.specs.Totals.{total}
 use Rattle.ttp_model.proofs.Totals.{total_more}
 use Rattle.plan_sheets.specs.declared.slots.Slot.{Slot}
-use Rattle.plan_sheets.proofs.Least.{least-le}
+use Rattle.instance_variants.proofs.Least.{least-le}
 use Rattle.plan_picture.specs.declared.canvas.Canvas.{Canvas}
 use Rattle.plan_picture.specs.Names.{room_of, ticks_to}
 use Rattle.plan_picture.proofs.Loads.{in-frame}

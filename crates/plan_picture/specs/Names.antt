@@ -5,7 +5,7 @@ use Rattle.ttp_model.specs.declared.plan.Plan.{Plan}
 use Rattle.ttp_model.specs.Instance.{Instance, message_at}
 use Rattle.ttp_model.specs.Plans.{channel_of, is_on, sent_from}
 use Rattle.plan_sheets.specs.declared.slots.Slot.{Slot}
-use Rattle.plan_sheets.specs.Slack.{least}
+use Rattle.instance_variants.specs.Slack.{least}
 use Rattle.plan_picture.specs.declared.canvas.Canvas.{Canvas}
 use Rattle.plan_picture.specs.declared.rectangle.Rectangle.{Rectangle}
 use Rattle.plan_picture.specs.Rectangles.{opening_text}

@@ -1,13 +1,10 @@
 -- Before which tick some processes can't end, and that their ends are small.
 use Rattle.std.proofs.Common.{ℕ, ◌^◌, ◌<◌, ◌≤◌, List, map, slice_index, slice_index_or, arith}
-use Rattle.ttp_model.specs.declared.limits.TheConstants.{MOST_TICKS}
-use Rattle.ttp_model.specs.declared.error.Place.TheVariants.{AtCluster, AtProcess}
-use Rattle.ttp_model.specs.declared.plan.Plan.{Plan}
+use Rattle.ttp_model.specs.declared.error.Place.TheVariants.{AtProcess}
 use Rattle.ttp_model.specs.Limits.{most_ticks}
 use Rattle.ttp_model.specs.Lists.{greatest}
 use Rattle.ttp_model.specs.Instance.{Instance}
 use Rattle.ttp_model.specs.Rules.{IsInstance}
-use Rattle.ttp_model.specs.Plans.{IsValid}
 use Rattle.ttp_model.specs.Chains.{one}
 use Rattle.ttp_model.proofs.PlanNumbers.{chain-le}
 use Rattle.longest_chains.specs.Longest.{AreLongest}

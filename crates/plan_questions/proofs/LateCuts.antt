@@ -1,5 +1,5 @@
 -- An instance without a plan is cut by the number of ticks that all may end later; what is told of the least one.
-use Rattle.std.proofs.Common.{◌≡◌, ℕ, ◌<◌, ◌≤◌, arith}
+use Rattle.std.proofs.Common.{◌≡◌, ℕ, arith}
 use Rattle.ttp_model.specs.declared.plan.Plan.{Plan}
 use Rattle.ttp_model.specs.Limits.{most_ticks}
 use Rattle.ttp_model.specs.Instance.{Instance}

@@ -1,5 +1,5 @@
 -- Nothing is between: the end is the least, and a search with these deadlines cut to it tells which plan is the shortest.
-use Rattle.std.proofs.Common.{◌≡◌, ◌⊎◌, ℕ, ◌<◌, ◌≤◌, List, Option, Some, slice_index_or, arith, inl, inr, sym, subst, ◌∙◌}
+use Rattle.std.proofs.Common.{◌≡◌, ◌⊎◌, ℕ, ◌≤◌, List, Option, Some, slice_index_or, arith, inl, inr, sym, subst, ◌∙◌}
 use Rattle.std.proofs.lemmas.Bool.{cases_lt}
 use Rattle.ttp_model.specs.declared.plan.Plan.{Plan}
 use Rattle.ttp_model.specs.Instance.{Instance}
@@ -8,10 +8,11 @@ use Rattle.ttp_model.specs.Rules.{IsInstance}
 use Rattle.ttp_model.specs.Plans.{IsValid}
 use Rattle.ttp_model.specs.Delays.{delay, HasNoPlan}
 use Rattle.certificate.specs.Cert.{Cert}
+use Rattle.planner.specs.found.FoundPlan.{FoundPlan}
 use Rattle.planner.specs.outcome.Options.{Options}
 use Rattle.planner.specs.outcome.Outcome.TheVariants as outcome
 use Rattle.planner.specs.outcome.Why.{Why}
-use Rattle.planner.specs.Answers.{IsOutcome, Shows}
+use Rattle.planner.specs.Answers.{IsOutcome, Shows, stated}
 use Rattle.ttp_model.specs.Answers.{IsBestPlan}
 use Rattle.instance_variants.specs.Cut.{CanEndBy, cut}
 use Rattle.instance_variants.specs.Ends.{AreThere, IsLeastEnd, IsLowerEnd, last_end}
@@ -78,7 +79,7 @@ module _ (i : Instance) (ps : List ℕ) (are : AreThere i ps) (end : ℕ) (known
       record { valid = valid; at = omega (arith, by, lower plan valid) }
 
   module _ (options : Options) (cert : Cert) where
-    pub is_least : (plan : Plan) (ticks : ℕ) → IsOutcome (cut i ps end) options (outcome.Optimal plan ticks cert)
+    pub is_least : (plan : Plan) (ticks : ℕ) → IsOutcome (cut i ps end) options 0 (outcome.Optimal plan ticks cert)
         → Shows (cut i ps end) (outcome.Optimal plan ticks cert) → IsLeast i ps options end plan cert
     is_least plan ticks answer shows =
         let same : ticks ≡ delay i plan = shows.1 ∙ delay_kept i ps end plan in
@@ -89,19 +90,19 @@ module _ (i : Instance) (ps : List ℕ) (are : AreThere i ps) (end : ℕ) (known
           answer = rw (← same) answer;
         }
 
-    pub is_reached : (why : Why) (low : ℕ) (best : Option (Plan × ℕ)) (plan : Plan)
-        → IsOutcome (cut i ps end) options (outcome.Stopped why low best cert) → EndsAt i ps plan end
+    pub is_reached : (why : Why) (low : ℕ) (best : Option FoundPlan) (plan : Plan)
+        → IsOutcome (cut i ps end) options 0 (outcome.Stopped why low best cert) → EndsAt i ps plan end
         → IsNoLonger (delay i plan) best → IsReached i ps options end plan cert
     is_reached why low best plan answer ends shortest =
         record { least = least; plan_ends = ends; why = why; low = low; best = best; answer = answer; shortest = shortest }
 
     -- of two plans that do it one that is no longer than the other
-    pub is_reached_by : (why : Why) (low : ℕ) (other : Plan) (ticks : ℕ) (plan : Plan)
-        → IsOutcome (cut i ps end) options (outcome.Stopped why low (Some (other, ticks)) cert) → IsBestPlan (cut i ps end) (Some (other, ticks))
-        → (plan ≡ known) ⊎ (plan ≡ other) → delay i plan ≤ delay i other → IsReached i ps options end plan cert
-    is_reached_by why low other ticks plan answer best one shorter =
+    pub is_reached_by : (why : Why) (low : ℕ) (other : FoundPlan) (plan : Plan)
+        → IsOutcome (cut i ps end) options 0 (outcome.Stopped why low (Some other) cert) → IsBestPlan (cut i ps end) (stated (Some other))
+        → (plan ≡ known) ⊎ (plan ≡ other.plan) → delay i plan ≤ delay i other.plan → IsReached i ps options end plan cert
+    is_reached_by why low other plan answer best one shorter =
         let ends : EndsAt i ps plan end = elim one [
           | inl same ↦ subst (λ (p : Plan). EndsAt i ps p end) (sym same) ends
-          | inr same ↦ subst (λ (p : Plan). EndsAt i ps p end) (sym same) (ends_at other best.0)
+          | inr same ↦ subst (λ (p : Plan). EndsAt i ps p end) (sym same) (ends_at other.plan best.0)
         ] in
-        is_reached why low (Some (other, ticks)) plan answer ends (omega (arith, shorter, best.1, delay_kept i ps end other))
+        is_reached why low (Some other) plan answer ends (omega (arith, shorter, best.1, delay_kept i ps end other.plan))

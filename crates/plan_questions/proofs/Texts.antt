@@ -1,6 +1,5 @@
 -- The certificate of an answer has a text: the instance that was searched last keeps all rules.
 use Rattle.std.proofs.Common.{◌≡◌, ℕ, List, None, Some, arith, subst}
-use Rattle.ttp_model.specs.declared.plan.Plan.{Plan}
 use Rattle.ttp_model.specs.Instance.{Instance}
 use Rattle.ttp_model.specs.Rules.{IsInstance}
 use Rattle.ttp_model.specs.Delays.{delay}
@@ -31,9 +30,9 @@ module _ (i : Instance) (ps : List ℕ) (options : Options) (w : IsInstance i) (
   can_end (Infeasible cert) d is at = absurd cc
 
   -- so the certificate of a search of the cut instance
-  cut_allows : (d : ℕ) (outcome : Outcome) → CanEndBy i ps d → answers.IsOutcome (cut i ps d) options outcome
+  cut_allows : (d : ℕ) (outcome : Outcome) → CanEndBy i ps d → answers.IsOutcome (cut i ps d) options 0 outcome
       → Allows (answers.cert_of outcome).version (answers.cert_of outcome).tree
-  cut_allows d outcome can is = answer_allows (cut i ps d) options outcome (keeps_rules i ps d w can) is
+  cut_allows d outcome can is = answer_allows (cut i ps d) options 0 outcome (keeps_rules i ps d w can) is
 
   pub limit_allows : (limit : EndLimit) → IsEndLimit i ps options limit → Allows (cert_of limit).version (cert_of limit).tree
   limit_allows (Least end plan cert) is =
@@ -43,5 +42,5 @@ module _ (i : Instance) (ps : List ℕ) (options : Options) (w : IsInstance i) (
   limit_allows (Between low high plan cert) is =
       let can = room i ps are low (middle low high) is.chains (omega arith) in
       cut_allows (middle low high) (outcome.Stopped is.answer.why is.answer.low None cert) can is.answer.answered
-  limit_allows (Unknown low cert) is = answer_allows i options (outcome.Stopped is.answer.why is.answer.low None cert) w is.answer.answered
-  limit_allows (Infeasible cert) is = answer_allows i options (outcome.Infeasible cert) w is.answered
+  limit_allows (Unknown low cert) is = answer_allows i options 0 (outcome.Stopped is.answer.why is.answer.low None cert) w is.answer.answered
+  limit_allows (Infeasible cert) is = answer_allows i options 0 (outcome.Infeasible cert) w is.answered

@@ -6,6 +6,7 @@ use Rattle.ttp_model.specs.Plans.{IsValid}
 use Rattle.ttp_model.specs.Delays.{delay}
 use Rattle.ttp_model.specs.Chains.{ChainEnds}
 use Rattle.certificate.specs.Cert.{Cert}
+use Rattle.planner.specs.found.FoundPlan.{FoundPlan}
 use Rattle.planner.specs.outcome.Options.{Options}
 use Rattle.planner.specs.outcome.Outcome.TheVariants as outcome
 use Rattle.planner.specs.outcome.Why.{Why}
@@ -52,9 +53,9 @@ pub record EndsAt (i : Instance) (ps : List ℕ) (plan : Plan) (end : ℕ) : Typ
   pub at : last_end i plan ps ≡ end
 
 -- no plan that was found takes fewer ticks
-abbrev pub IsNoLonger : ℕ → Option (Plan × ℕ) → Type 0
+abbrev pub IsNoLonger : ℕ → Option FoundPlan → Type 0
 IsNoLonger ticks None = Unit {0}
-IsNoLonger ticks (Some best) = ticks ≤ best.1
+IsNoLonger ticks (Some best) = ticks ≤ best.delay
 
 -- the instance in which these processes have to end by a tick, plans by when they do, and a tick that they can't end before
 abbrev pub end_cutting : Instance → List ℕ → ℕ → Cutting
@@ -65,7 +66,7 @@ pub record IsLeast (i : Instance) (ps : List ℕ) (options : Options) (end : ℕ
   pub least : IsLeastEnd i ps end
   pub plan_ends : EndsAt i ps plan end
   pub delay_is : IsLeastDelayBy i ps end (delay i plan)
-  pub answer : IsOutcome (cut i ps end) options (outcome.Optimal plan (delay i plan) cert)
+  pub answer : IsOutcome (cut i ps end) options 0 (outcome.Optimal plan (delay i plan) cert)
 
 -- The least end, and a plan that does it; that search was stopped, and found no shorter one.
 pub record IsReached (i : Instance) (ps : List ℕ) (options : Options) (end : ℕ) (plan : Plan) (cert : Cert) : Type 0 where
@@ -73,8 +74,8 @@ pub record IsReached (i : Instance) (ps : List ℕ) (options : Options) (end : �
   pub plan_ends : EndsAt i ps plan end
   pub why : Why
   pub low : ℕ
-  pub best : Option (Plan × ℕ)
-  pub answer : IsOutcome (cut i ps end) options (outcome.Stopped why low best cert)
+  pub best : Option FoundPlan
+  pub answer : IsOutcome (cut i ps end) options 0 (outcome.Stopped why low best cert)
   pub shortest : IsNoLonger (delay i plan) best
 
 -- No valid plan ends them before low, and the plan does at high; a search half way was stopped before it found one.

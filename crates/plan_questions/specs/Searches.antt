@@ -19,13 +19,13 @@ IsPlanOf i ticks plan = IsValid i plan × (ticks ≡ delay i plan)
 -- an instance has no plan, and a search of it answers so with this certificate
 pub record IsShown (i : Instance) (options : Options) (cert : Cert) : Type 0 where
   pub none : HasNoPlan i
-  pub answered : IsOutcome i options (Infeasible cert)
+  pub answered : IsOutcome i options 0 (Infeasible cert)
 
 -- a search of an instance was stopped before it found a plan, and answers so with this certificate
 pub record IsLeftOpen (i : Instance) (options : Options) (cert : Cert) : Type 0 where
   pub why : Why
   pub low : ℕ
-  pub answered : IsOutcome i options (Stopped why low None cert)
+  pub answered : IsOutcome i options 0 (Stopped why low None cert)
 
 -- a search of an instance was stopped before it found a plan
 pub record WasStopped (i : Instance) (options : Options) : Type 0 where

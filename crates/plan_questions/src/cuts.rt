@@ -1,6 +1,6 @@
 //! With which least number does an instance that is cut by it have a plan, and which?
 
-ghost use Rattle.std.specs.Prelude.{◌≡◌, ◌<◌, ◌≤◌, ◌-◌, IfOk, MatchOption};
+ghost use Rattle.std.specs.Prelude.{◌≡◌, ◌<◌, ◌-◌, IfOk, MatchOption};
 ghost use Rattle.ttp_model.specs.declared.plan.Plan.{Plan};
 ghost use Rattle.ttp_model.specs.Instance.{Instance};
 ghost use Rattle.ttp_model.specs.Rules.{IsInstance};
@@ -9,9 +9,10 @@ ghost use Rattle.plan_questions.specs.Searches.{Tells};
 ghost use Rattle.plan_questions.specs.Cuts.{Cutting, IsCutting, IsLeastNumber, middle};
 ghost use Rattle.plan_questions.specs.Halving.{IsKnown, IsOpenAt};
 
+use crate::asking::Asking;
 use crate::sought::{Sought, any_plan};
 use certificate::Cert;
-use planner::{Options, SolveFault};
+use planner::{Gate, SolveFault};
 use std::alloc::Global;
 use std::marker::Sync;
 use std::sync::Wait;
@@ -86,27 +87,25 @@ pub fn middle(low: u32, high: u32) -> u32
 }
 
 /// Looks for any plan of the instance with a number.
-fn any_at<C: Cut, R: Threads + Wait + Sync>(
+fn any_at<C: Cut, R: Threads + Wait + Sync, G: Gate + Sync>(
     rt: &R,
-    alloc: Global,
+    asking: &Asking<'_, G>,
     cut: &C,
     number: u32,
-    options: Options,
 ) -> Result<Sought, SolveFault>
     requires sound { C.is_sound cut.now }
     requires rules { IsInstance ((C.cutting cut.now).at number) }
-    ensures { IfOk result (Tells ((C.cutting cut.now).at number) options) }
+    ensures { IfOk result (Tells ((C.cutting cut.now).at number) asking.now.options) }
 {
-    let other = cut.instance_at(alloc, number)?;
-    any_plan(rt, alloc, &other, options)
+    let other = cut.instance_at(asking.alloc, number)?;
+    any_plan(rt, asking, &other)
 }
 
 /// Searches for a plan half way, and learns from what is found; where the search was stopped without a plan, its certificate.
-fn narrow<C: Cut, R: Threads + Wait + Sync>(
+fn narrow<C: Cut, R: Threads + Wait + Sync, G: Gate + Sync>(
     rt: &R,
-    alloc: Global,
+    asking: &Asking<'_, G>,
     cut: &C,
-    options: Options,
     known: &mut Known,
 ) -> Result<Option<Cert>, SolveFault>
     requires sound { C.is_sound cut.now }
@@ -116,10 +115,10 @@ fn narrow<C: Cut, R: Threads + Wait + Sync>(
     ensures known { IsKnown (C.cutting cut.now) known.new }
     ensures closer { IfOk result (λ stopped. MatchOption stopped
         (known.new.high - known.new.low < known.old.high - known.old.low)
-        (IsOpenAt (C.cutting cut.now) options known.new)) }
+        (IsOpenAt (C.cutting cut.now) asking.now.options known.new)) }
 {
     let number = middle(known.low, known.high);
-    match any_at(rt, alloc, cut, number, options)? {
+    match any_at(rt, asking, cut, number)? {
         Sought::Found { plan, .. } => {
             known.high = cut.measured(&plan, number);
             known.plan = plan;
@@ -134,11 +133,10 @@ fn narrow<C: Cut, R: Threads + Wait + Sync>(
 }
 
 /// Halves what is between until nothing is, or a search is stopped without a plan: its certificate.
-fn halve<C: Cut, R: Threads + Wait + Sync>(
+fn halve<C: Cut, R: Threads + Wait + Sync, G: Gate + Sync>(
     rt: &R,
-    alloc: Global,
+    asking: &Asking<'_, G>,
     cut: &C,
-    options: Options,
     known: &mut Known,
 ) -> Result<Option<Cert>, SolveFault>
     requires sound { C.is_sound cut.now }
@@ -147,10 +145,10 @@ fn halve<C: Cut, R: Threads + Wait + Sync>(
     ensures known { IsKnown (C.cutting cut.now) known.new }
     ensures end { IfOk result (λ stopped. MatchOption stopped
         (known.new.low ≡ known.new.high)
-        (IsOpenAt (C.cutting cut.now) options known.new)) }
+        (IsOpenAt (C.cutting cut.now) asking.now.options known.new)) }
 {
     'halves: while known.low < known.high {
-        let stopped = narrow(rt, alloc, cut, options, known)?;
+        let stopped = narrow(rt, asking, cut, known)?;
         if stopped.is_some() {
             return Ok(stopped);
         }
@@ -159,20 +157,19 @@ fn halve<C: Cut, R: Threads + Wait + Sync>(
 }
 
 /// Searches for plans with smaller numbers than one that is known.
-fn least_below<C: Cut, R: Threads + Wait + Sync>(
+fn least_below<C: Cut, R: Threads + Wait + Sync, G: Gate + Sync>(
     rt: &R,
-    alloc: Global,
+    asking: &Asking<'_, G>,
     cut: &C,
-    options: Options,
     known: Known,
 ) -> Result<LeastNumber, SolveFault>
     requires sound { C.is_sound cut.now }
     requires cutting { IsCutting (C.cutting cut.now) }
     requires known { IsKnown (C.cutting cut.now) known }
-    ensures { IfOk result (IsLeastNumber (C.cutting cut.now) options) }
+    ensures { IfOk result (IsLeastNumber (C.cutting cut.now) asking.now.options) }
 {
     let mut known = known;
-    let stopped = halve(rt, alloc, cut, options, &mut known)?;
+    let stopped = halve(rt, asking, cut, &mut known)?;
     let Known { low, high, plan } = known;
     match stopped {
         Some(cert) => Ok(LeastNumber::Apart {
@@ -188,21 +185,20 @@ fn least_below<C: Cut, R: Threads + Wait + Sync>(
 /// The least number with which there is a plan, and such a plan. Searches first with the greatest number: where there is no plan then,
 /// there is none with a smaller one. Else the plan's own measure is enough, and a search half way tells whether less is, and so on.
 /// Each search ends at its first plan, and has the whole budget; where one is stopped before that, less is answered.
-pub fn least_number<C: Cut, R: Threads + Wait + Sync>(
+pub fn least_number<C: Cut, R: Threads + Wait + Sync, G: Gate + Sync>(
     rt: &R,
-    alloc: Global,
+    asking: &Asking<'_, G>,
     cut: &C,
-    options: Options,
 ) -> Result<LeastNumber, SolveFault>
     requires sound { C.is_sound cut.now }
     requires cutting { IsCutting (C.cutting cut.now) }
-    ensures { IfOk result (IsLeastNumber (C.cutting cut.now) options) }
+    ensures { IfOk result (IsLeastNumber (C.cutting cut.now) asking.now.options) }
 {
-    match any_at(rt, alloc, cut, MOST_TICKS, options)? {
+    match any_at(rt, asking, cut, MOST_TICKS)? {
         Sought::Found { plan, .. } => {
             let low = cut.least();
             let high = cut.measured(&plan, MOST_TICKS);
-            least_below(rt, alloc, cut, options, Known { low, high, plan })
+            least_below(rt, asking, cut, Known { low, high, plan })
         }
         Sought::Absent { cert } => Ok(LeastNumber::Never { cert }),
         Sought::Open { cert } => Ok(LeastNumber::Open { cert }),

@@ -1,36 +1,44 @@
 //! When does a search end that is for any plan?
 
-use planner::{Gate, Name};
+use planner::{FoundPlan, Gate, Name};
 use std::sync::atomic::{AtomicBool, Ordering};
-use ttp_model::{Instance, Plan};
+use ttp_model::Instance;
 
-/// Ends a search once a plan is found.
+/// Ends a search once a plan is found, or another gate says that it doesn't go on, which follows all but the plans.
 #[derive(Drop)]
-pub struct FirstPlan {
+pub struct FirstPlan<'a, G: Gate> {
+    gate: &'a G,
     is_found: AtomicBool,
 }
 
-impl FirstPlan {
+impl<'a, G: Gate> FirstPlan<'a, G> {
     /// None is found yet.
-    pub fn new() -> Self {
+    pub fn beside(gate: &'a G) -> Self {
         FirstPlan {
+            gate,
             is_found: AtomicBool::new(false),
         }
     }
 }
 
-impl Gate for FirstPlan {
-    fn start(&self, _worker: usize) {}
-
-    fn enter(&self, _worker: usize, _name: &Name) {}
-
-    fn leave(&self, _worker: usize, _name: &Name) {}
-
-    fn goes_on(&self, _worker: usize) -> bool {
-        !self.is_found.load(Ordering::SeqCst)
+impl<'a, G: Gate> Gate for FirstPlan<'a, G> {
+    fn start(&self, worker: usize) {
+        self.gate.start(worker);
     }
 
-    fn found(&self, _instance: &Instance, _plan: &Plan, _delay: u64) {
+    fn enter(&self, worker: usize, name: &Name) {
+        self.gate.enter(worker, name);
+    }
+
+    fn leave(&self, worker: usize, name: &Name) {
+        self.gate.leave(worker, name);
+    }
+
+    fn goes_on(&self, worker: usize) -> bool {
+        !self.is_found.load(Ordering::SeqCst) && self.gate.goes_on(worker)
+    }
+
+    fn found(&self, _instance: &Instance, _found: &FoundPlan) {
         self.is_found.store(true, Ordering::SeqCst);
     }
 }

@@ -4,9 +4,10 @@ ghost use Rattle.std.specs.Prelude.{IfOk};
 ghost use Rattle.planner.specs.Answers.{IsOutcome, Shows};
 ghost use Rattle.plan_questions.specs.Searches.{Tells};
 
+use crate::asking::Asking;
 use crate::first_plan::FirstPlan;
 use certificate::Cert;
-use planner::{Options, Outcome, SolveFault, solve_with};
+use planner::{FoundPlan, Gate, Options, Outcome, SolveFault, solve_with};
 use std::alloc::Global;
 use std::marker::Sync;
 use std::sync::Wait;
@@ -26,7 +27,7 @@ pub enum Sought {
 
 /// What an answer says of whether there is a plan.
 fn told(instance: &Instance, options: Options, outcome: Outcome) -> Sought
-    requires answer { IsOutcome instance.now options outcome }
+    requires answer { IsOutcome instance.now options 0 outcome }
     requires shows { Shows instance.now outcome }
     ensures { Tells instance.now options result }
 {
@@ -37,7 +38,7 @@ fn told(instance: &Instance, options: Options, outcome: Outcome) -> Sought
         }
         Outcome::Infeasible { cert } => Sought::Absent { cert },
         Outcome::Stopped { best, cert, .. } => match best {
-            Some((plan, delay)) => {
+            Some(FoundPlan { plan, delay }) => {
                 drop(cert);
                 Sought::Found { delay, plan }
             }
@@ -47,14 +48,14 @@ fn told(instance: &Instance, options: Options, outcome: Outcome) -> Sought
 }
 
 /// Looks for any plan of an instance. The search ends once it has found one: each worker takes no further subtree then.
-pub fn any_plan<R: Threads + Wait + Sync>(
+pub fn any_plan<R: Threads + Wait + Sync, G: Gate + Sync>(
     rt: &R,
-    alloc: Global,
+    asking: &Asking<'_, G>,
     instance: &Instance,
-    options: Options,
 ) -> Result<Sought, SolveFault>
-    ensures { IfOk result (Tells instance.now options) }
+    ensures { IfOk result (Tells instance.now asking.now.options) }
 {
-    let outcome = solve_with(rt, alloc, instance, options, &FirstPlan::new())?;
-    Ok(told(instance, options, outcome))
+    let gate = FirstPlan::beside(asking.gate);
+    let outcome = solve_with(rt, asking.alloc, instance, asking.options, &gate)?;
+    Ok(told(instance, asking.options, outcome))
 }

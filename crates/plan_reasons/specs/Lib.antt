@@ -1,5 +1,4 @@
 pub mod Differences
-pub mod Limits
 pub mod Lists
 pub mod Processes
 pub mod Slots

@@ -6,7 +6,7 @@ ghost use Rattle.ttp_model.specs.Plans.{HasLengths};
 ghost use Rattle.plan_reasons.specs.Delays.{IsOtherDelay};
 
 use crate::differences::{Difference, difference_of};
-use plan_chain::last_to_end;
+use cause_chains::last_to_end;
 use sentences::Ticks;
 use std::fmt;
 use ttp_model::{Instance, Plan, delay};

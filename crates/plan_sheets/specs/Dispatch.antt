@@ -8,7 +8,7 @@ use Rattle.plan_sheets.specs.declared.dispatch.Dispatch.{Dispatch}
 use Rattle.plan_sheets.specs.Lines.{line_of}
 use Rattle.plan_sheets.specs.Order.{order_of}
 use Rattle.plan_facts.specs.Ends.{must_end_by}
-use Rattle.plan_sheets.specs.Slack.{slack}
+use Rattle.instance_variants.specs.Slack.{slack}
 
 -- the row of a process
 abbrev pub dispatch_of : Instance → Plan → ℕ → Dispatch

@@ -1,5 +1,4 @@
 pub mod Lines
-pub mod Slack
 pub mod Order
 pub mod Dispatch
 pub mod Slots

@@ -7,7 +7,7 @@ ghost use Rattle.plan_sheets.specs.Lines.{IsLineStart, IsSheet, text_of};
 
 use crate::order::order_of;
 use crate::sheet::Sheet;
-use crate::slack::slack_of;
+use instance_variants::slack_of;
 use plan_facts::must_end_by;
 use std::alloc::Global;
 use ttp_model::{Instance, MemoryFault, Plan, end_of};

@@ -8,19 +8,21 @@ ghost use Rattle.ttp_model.specs.Instance.{Instance, message_at, node_of};
 ghost use Rattle.ttp_model.specs.Rules.{IsInstance};
 ghost use Rattle.ttp_model.specs.Plans.{EndsBefore, IsValid, start_of};
 ghost use Rattle.ttp_model.specs.Lists.{EachBelow};
+ghost use Rattle.instance_variants.specs.Grown.{alone, grown};
+ghost use Rattle.instance_variants.specs.Slack.{IsWithinSlack, slack};
 ghost use Rattle.plan_sheets.specs.Deliveries.{IsInTime, delivery_of};
 ghost use Rattle.plan_sheets.specs.Order.{order_of};
-ghost use Rattle.plan_sheets.specs.Slack.{longer, slack};
 ghost use Rattle.plan_sheets.specs.Slots.{slot_of};
 
-/// Where a process runs for some ticks more and all else stays, the plan stays valid just where they are no more than
-/// its slack. The eleven rules of a plan are asked, in the instance with that process's worst-case execution time changed;
-/// that one is an instance too, as long as the plan is valid.
+/// Where processes run longer and all else stays, the plan stays valid just where none runs longer by more than its slack: all may use the whole
+/// of it at once, and one alone no more. The instance is one too then.
 pub fn slack_is_exact()
-    ensures exact { (i : Instance) (plan : Plan) (p ticks : ℕ) → IsInstance i → IsValid i plan → p < length i.processes
-        → IsValid (longer i p ticks) plan ↔ (ticks ≤ slack i plan p) }
-    ensures lawful { (i : Instance) (plan : Plan) (p ticks : ℕ) → IsInstance i → IsValid i plan → p < length i.processes
-        → ticks ≤ slack i plan p → IsInstance (longer i p ticks) }
+    ensures at_once { (i : Instance) (plan : Plan) (growth : ℕ → ℕ) → IsInstance i → IsValid i plan
+        → IsValid (grown i growth) plan ↔ IsWithinSlack i plan growth }
+    ensures alone { (i : Instance) (plan : Plan) (p ticks : ℕ) → IsInstance i → IsValid i plan → p < length i.processes
+        → IsValid (grown i (alone p ticks)) plan ↔ (ticks ≤ slack i plan p) }
+    ensures lawful { (i : Instance) (plan : Plan) (growth : ℕ → ℕ) → IsInstance i → IsValid i plan
+        → IsWithinSlack i plan growth → IsInstance (grown i growth) }
 {}
 
 /// The rows of a node's processes are all of these, each once, by rising starts, and each ends before the next starts.

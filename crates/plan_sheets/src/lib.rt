@@ -7,16 +7,15 @@ mod dispatch;
 mod laws;
 mod order;
 mod sheet;
-mod slack;
 mod slots;
 mod table;
 
+pub use instance_variants::slack_of;
 pub use laws::{
     dispatch_has_each_process, frames_are_used_within_capacity, messages_are_in_time,
     slack_is_exact,
 };
 pub use order::order_of;
-pub use slack::slack_of;
 pub use slots::{Slot, slot_of};
 pub use table::{Table, print};
 pub use ttp_model::MemoryFault;

@@ -6,7 +6,7 @@ use Rattle.std.proofs.lemmas.Grind.{flat_map-append}
 use Rattle.std.proofs.lemmas.List.{append-nil, map-append}
 use Rattle.std.proofs.lemmas.List.Elements.{All-append, All-weaker, All-nil, Contains-append_left, Contains-append_right}
 use Rattle.std.proofs.lemmas.List.Sorted.{IsPermutation-refl, IsPermutation-sym, IsPermutation-trans, IsPermutation-append, IsPermutation-append_left, IsPermutation-append_right, IsPermutation-append_comm}
-use Rattle.ttp_model.specs.declared.plan.Plan.{Plan}
+use Rattle.search_workers.specs.declared.found.FoundPlan.{FoundPlan}
 use Rattle.ttp_model.specs.Instance.{Instance}
 use Rattle.ttp_model.specs.Rules.{IsInstance}
 use Rattle.search_workers.specs.piece.Piece.{Piece}
@@ -21,7 +21,7 @@ use Rattle.search_workers.specs.Tasks.{Turn, IsTurn, tasks_of, pieces_of, all_bo
 use Rattle.search_workers.specs.Goals.{goals_of, goals_at, IsReached}
 use Rattle.search_workers.specs.Best.{IsBestOf}
 use Rattle.search_workers.specs.Report.{held, unpushed}
-use Rattle.planner.specs.declared.crew.Job.{Job}
+use Rattle.search_workers.specs.declared.job.Job.{Job}
 use Rattle.planner.specs.declared.crew.Crew.{Crew}
 use Rattle.search_workers.specs.Searching.{limit_of, IsFound}
 use Rattle.planner.specs.Crew.{AreSameHands, AreTogether, Gathers, IsBetter, IsJob, IsReportOfJob, tasks_in, told}
@@ -51,25 +51,25 @@ module _ {J : Type 0} where
 
 -- ---- the best plan
 
-pub none_below : (i : Instance) (found : Option (Plan × ℕ)) → IsInstance i → IsFound i found → limit_of i found ≤ i.cluster.horizon + 1
+pub none_below : (i : Instance) (found : Option FoundPlan) → IsInstance i → IsFound i found → limit_of i found ≤ i.cluster.horizon + 1
 none_below i None w is = omega arith
-none_below i (Some best) w is = let small = found_small i best.0 best.1 w is in omega (arith, small)
+none_below i (Some best) w is = let small = found_small i best.plan best.delay w is in omega (arith, small)
 
-pub better_none : (i : Instance) (a b : Option (Plan × ℕ)) → IsInstance i → a ≡ None → IsFound i b → IsBetter i a b b
+pub better_none : (i : Instance) (a b : Option FoundPlan) → IsInstance i → a ≡ None → IsFound i b → IsBetter i a b b
 better_none i a b w lacks is =
     let low = none_below i b w is in
-    record { found = is; first = subst (λ (x : Option (Plan × ℕ)). limit_of i b ≤ limit_of i x) (sym lacks) low; second = omega arith }
+    record { found = is; first = subst (λ (x : Option FoundPlan). limit_of i b ≤ limit_of i x) (sym lacks) low; second = omega arith }
 
-pub better_first : (i : Instance) (a b : Option (Plan × ℕ)) → IsInstance i → b ≡ None → IsFound i a → IsBetter i a b a
+pub better_first : (i : Instance) (a b : Option FoundPlan) → IsInstance i → b ≡ None → IsFound i a → IsBetter i a b a
 better_first i a b w lacks is =
     let low = none_below i a w is in
-    record { found = is; first = omega arith; second = subst (λ (x : Option (Plan × ℕ)). limit_of i a ≤ limit_of i x) (sym lacks) low }
+    record { found = is; first = omega arith; second = subst (λ (x : Option FoundPlan). limit_of i a ≤ limit_of i x) (sym lacks) low }
 
-pub found_of : (i : Instance) (made : List ℕ) (best : Option (Plan × ℕ)) → IsBestOf i made best → IsFound i best
+pub found_of : (i : Instance) (made : List ℕ) (best : Option FoundPlan) → IsBestOf i made best → IsFound i best
 found_of i made None is = tt
 found_of i made (Some best) is = is.0
 
-above_best : (i : Instance) (made : List ℕ) (best : Option (Plan × ℕ)) → IsBestOf i made best → All (λ value. limit_of i best ≤ value) made
+above_best : (i : Instance) (made : List ℕ) (best : Option FoundPlan) → IsBestOf i made best → All (λ value. limit_of i best ≤ value) made
 above_best i made None is = subst (All (λ value. limit_of i None ≤ value)) (sym is) (All-nil (λ value. limit_of i None ≤ value))
 above_best i made (Some best) is = is.1
 
@@ -198,9 +198,9 @@ module _ {J : Type 0} (i : Instance) (aims : Aims) (word : Incumbent) (count : �
 
 -- ---- nobody yet
 
-pub told_above : (i : Instance) (found : Option (Plan × ℕ)) → All (λ value. limit_of i found ≤ value) (told [] found)
+pub told_above : (i : Instance) (found : Option FoundPlan) → All (λ value. limit_of i found ≤ value) (told [] found)
 told_above i None = All-nil (λ value. limit_of i None ≤ value)
-told_above i (Some best) = one_only (λ value. best.1 ≤ value) best.1 (omega arith)
+told_above i (Some best) = one_only (λ value. best.delay ≤ value) best.delay (omega arith)
 
 pub nobody_yet : {J : Type 0} (i : Instance) (aims : Aims) (word : Incumbent) (count : ℕ) (crew : Crew J) → crew.hands.items ≡ [] → crew.pieces.items ≡ [] → crew.tasks.items ≡ [] → IsOpening word crew.watch → out_count crew.watch ≡ count → IsFound i crew.best
     → offers crew.watch ≡ told [] crew.best → Gathers i aims word count [] crew

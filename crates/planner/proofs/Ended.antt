@@ -1,7 +1,7 @@
 -- What the tree of a search at its end makes of the best plan.
 use Rattle.std.proofs.Common.{◌≡◌, ℕ, ◌+◌, ◌<◌, ◌≤◌, List, [], ◌∷◌, ◌++◌, inl, inr, Option, None, Some, refl, sym, ap, subst, ◌∙◌, arith, All, IfSome, min}
 use Rattle.std.proofs.lemmas.List.Elements.{All-head, All-tail, All-cons, All-nil, All-append, All-contains, All-weaker}
-use Rattle.ttp_model.specs.declared.plan.Plan.{Plan}
+use Rattle.search_workers.specs.declared.found.FoundPlan.{FoundPlan}
 use Rattle.ttp_model.specs.Instance.{Instance}
 use Rattle.ttp_model.specs.Chains.{IsPathBound}
 use Rattle.ttp_model.specs.Rules.{IsInstance}
@@ -76,22 +76,22 @@ leaf_goal : (low : ℕ) (nodes : List Node) (at : ℕ) → All (HasGoal low) nod
 leaf_goal low nodes at all leaf = omega (arith, All-contains (HasGoal low) nodes (node.Leaf leaf.leaf) all leaf.there, leaf.reached)
 
 -- where nothing of the tree is left, nor the bound at the limit, the best plan is within the gap
-near_enough : (i : Instance) (gap own low : ℕ) (best : Option (Plan × ℕ)) → IsExhausted i gap best own → own ≤ low → low < limit_of i best → ¬ IsFar gap low best
+near_enough : (i : Instance) (gap own low : ℕ) (best : Option FoundPlan) → IsExhausted i gap best own → own ≤ low → low < limit_of i best → ¬ IsFar gap low best
 near_enough i gap own low None left le less far = absurd (omega (arith, left, le, less))
 near_enough i gap own low (Some best) left le less far = absurd (omega (arith, left, le, far))
 
-best_above : (i : Instance) (low : ℕ) (best : Option (Plan × ℕ)) → IsFound i best → low < limit_of i best → IsBestAbove i low best
+best_above : (i : Instance) (low : ℕ) (best : Option FoundPlan) → IsFound i best → low < limit_of i best → IsBestAbove i low best
 best_above i low None found less = tt
 best_above i low (Some best) found less = (found, less)
 
-same_stopped : (i : Instance) (options : Options) (cause why : Why) (bound low : ℕ) (found best : Option (Plan × ℕ)) (own cert : Cert)
-    → cause ≡ why → bound ≡ low → found ≡ best → own ≡ cert → IsOutcome i options (Stopped why low best cert) → IsOutcome i options (Stopped cause bound found own)
-same_stopped i options cause why bound low found best own cert e f g h is =
+same_stopped : (i : Instance) (options : Options) (gap : ℕ) (cause why : Why) (bound low : ℕ) (found best : Option FoundPlan) (own cert : Cert)
+    → cause ≡ why → bound ≡ low → found ≡ best → own ≡ cert → IsOutcome i options gap (Stopped why low best cert) → IsOutcome i options gap (Stopped cause bound found own)
+same_stopped i options gap cause why bound low found best own cert e f g h is =
     let same : Stopped why low best cert ≡ Stopped cause bound found own = cc in
-    subst (IsOutcome i options) same is
+    subst (IsOutcome i options gap) same is
 
-module _ (i : Instance) (options : Options) (why cause : Why) (best : Option (Plan × ℕ)) (low : ℕ) (cert : Cert) (w : IsInstance i) (found : IsFound i best)
-    (is : IsEndTree i options why best cert) (lowest : IsLowest (limit_of i best) (preorder cert.tree) low) (told : IsCauseTold why options.gap low best cause) where
+module _ (i : Instance) (options : Options) (gap : ℕ) (why cause : Why) (best : Option FoundPlan) (low : ℕ) (cert : Cert) (w : IsInstance i) (found : IsFound i best)
+    (is : IsEndTree i options gap why best cert) (lowest : IsLowest (limit_of i best) (preorder cert.tree) low) (told : IsCauseTold why gap low best cause) where
   abbrev limit : ℕ
   limit = limit_of i best
 
@@ -119,19 +119,19 @@ module _ (i : Instance) (options : Options) (why cause : Why) (best : Option (Pl
   leaf_below : low < limit → HasLeafAt (preorder cert.tree) low
   leaf_below less = elim lowest.reached [ inl same ↦ absurd (omega (arith, same, less)) | inr other ↦ other.1 ]
 
-  by_reason : low < limit → IsFar options.gap low best → (reason : Why) → IsReason i options best cert reason → IsCause i options low best (from_low low cert) reason
+  by_reason : low < limit → IsFar gap low best → (reason : Why) → IsReason i options gap best cert reason → IsCause i options gap low best (from_low low cert) reason
   by_reason less far Budget all = (far, all)
   by_reason less far Memory all = (far, all)
   by_reason less far CalledOff all = (far, all)
-  by_reason less far Gap all = absurd (near_enough i options.gap cert.low low best all at_least less far)
+  by_reason less far Gap all = absurd (near_enough i gap cert.low low best all at_least less far)
 
-  cause_is : low < limit → IsCause i options low best (from_low low cert) cause
+  cause_is : low < limit → IsCause i options gap low best (from_low low cert) cause
   cause_is less = elim told [
-    | inl near ↦ subst (IsCause i options low best (from_low low cert)) (sym near.1) near.0
-    | inr far ↦ subst (IsCause i options low best (from_low low cert)) (sym far.1) (by_reason less far.0 why is.reason)
+    | inl near ↦ subst (IsCause i options gap low best (from_low low cert)) (sym near.1) near.0
+    | inr far ↦ subst (IsCause i options gap low best (from_low low cert)) (sym far.1) (by_reason less far.0 why is.reason)
   ]
 
-  stopped : low < limit → IsOutcome i options (Stopped cause low best (from_low low cert))
+  stopped : low < limit → IsOutcome i options gap (Stopped cause low best (from_low low cert))
   stopped less =
       let leaf = leaf_below less in
       record {
@@ -148,34 +148,34 @@ module _ (i : Instance) (options : Options) (why cause : Why) (best : Option (Pl
         };
       }
 
-  pub end_answers : (outcome : Outcome) → IsAnswerOf i cause best low (from_low low cert) outcome → IsOutcome i options outcome
+  pub end_answers : (outcome : Outcome) → IsAnswerOf i cause best low (from_low low cert) outcome → IsOutcome i options gap outcome
   end_answers (Optimal plan ticks own) answer =
-      subst (λ (c : Cert). IsOutcome i options (Optimal plan ticks c)) (sym answer.2) (record {
+      subst (λ (c : Cert). IsOutcome i options gap (Optimal plan ticks c)) (sym answer.2) (record {
         proves = proves;
         version = is.version;
         within = is.within;
         says = (subst (IsFound i) answer.0 found, answer.1);
       })
   end_answers (Infeasible own) answer =
-      subst (λ (c : Cert). IsOutcome i options (Infeasible c)) (sym answer.2) (record {
+      subst (λ (c : Cert). IsOutcome i options gap (Infeasible c)) (sym answer.2) (record {
         proves = proves;
         version = is.version;
         within = is.within;
         says = answer.1 ∙ ap (limit_of i) answer.0;
       })
   end_answers (Stopped other bound best_told own) answer =
-      same_stopped i options other cause bound low best_told best own (from_low low cert) answer.1 answer.2 answer.3 answer.4 (stopped answer.0)
+      same_stopped i options gap other cause bound low best_told best own (from_low low cert) answer.1 answer.2 answer.3 answer.4 (stopped answer.0)
 
 -- ---- a tree without what needn't be worked
 
-exhausted : (i : Instance) (aims : Aims) (gap low : ℕ) (best : Option (Plan × ℕ)) → aims.gap ≡ gap → low ≡ aim_of i aims best → IsExhausted i gap best low
-exhausted i aims gap low None is same = omega (arith, same, goal_past i aims (i.cluster.horizon + 1) (omega arith))
-exhausted i aims gap low (Some best) is same = omega (arith, same, is, goal_near i aims best.1)
+exhausted : (i : Instance) (aims : Aims) (low : ℕ) (best : Option FoundPlan) → low ≡ aim_of i aims best → IsExhausted i aims.gap best low
+exhausted i aims low None same = omega (arith, same, goal_past i aims (i.cluster.horizon + 1) (omega arith))
+exhausted i aims low (Some best) same = omega (arith, same, goal_near i aims best.delay)
 
 -- a proof of the goal of a search, in the version of the instance's answers, is its tree at the end
-pub lean_ends : (i : Instance) (options : Options) (aims : Aims) (best : Option (Plan × ℕ)) (cert : Cert) → IsInstance i → AreAims i options.gap aims
+pub lean_ends : (i : Instance) (options : Options) (aims : Aims) (best : Option FoundPlan) (cert : Cert) → IsInstance i → AreAims i aims
     → IsFound i best → Proves i cert → cert.version ≡ answer_version i → cert.low ≡ aim_of i aims best → branches cert.tree ≤ options.budget
-    → IsEndTree i options Gap best cert
+    → IsEndTree i options aims.gap Gap best cert
 lean_ends i options aims best cert w right found proves version same few = record {
   proves = proves;
   version = version;
@@ -185,14 +185,14 @@ lean_ends i options aims best cert w right found proves version same few = recor
       All-weaker (HasGoal cert.low) (HasGoal (min bound (limit_of i best)))
       (λ n. weaker_goal cert.low (min bound (limit_of i best)) (omega (arith, same, right.path bound (limit_of i best) path (limit_small i best w found))) n)
       (preorder cert.tree) (proofs_goals i cert.low (root_choice i ∷ []) cert.tree proves.tree);
-  reason = exhausted i aims options.gap cert.low best right.gap_is same;
+  reason = exhausted i aims cert.low best same;
 }
 
 -- and so is one that may have been found, of a tree with so many pieces
-pub lean_found : (i : Instance) (options : Options) (aims : Aims) (best : Option (Plan × ℕ)) (low most : ℕ) (found : Option Cert) → IsInstance i
-    → AreAims i options.gap aims → IsFound i best → low ≡ aim_of i aims best → most ≤ options.budget → IfSome found (Proves i)
+pub lean_found : (i : Instance) (options : Options) (aims : Aims) (best : Option FoundPlan) (low most : ℕ) (found : Option Cert) → IsInstance i
+    → AreAims i aims → IsFound i best → low ≡ aim_of i aims best → most ≤ options.budget → IfSome found (Proves i)
     → IfSome found (λ cert. cert.version ≡ answer_version i) → IfSome found (λ cert. cert.low ≡ low) → IfSome found (λ cert. branches cert.tree ≤ most)
-    → IfSome found (IsEndTree i options Gap best)
+    → IfSome found (IsEndTree i options aims.gap Gap best)
 lean_found i options aims best low most None w right is same within proves version bound few = tt
 lean_found i options aims best low most (Some cert) w right is same within proves version bound few =
     lean_ends i options aims best cert w right is proves version (bound ∙ same) (omega (arith, few, within))

@@ -2,7 +2,7 @@
 use Rattle.std.proofs.Common.{◌≡◌, ℕ, zero, suc, ◌<◌, ◌≤◌, min, List, [], ◌∷◌, ◌++◌, Option, ◌⊎◌, inl, inr, ⊎_elim, sym, ap, subst, ◌∙◌, arith, length, get_or, All, Contains}
 use Rattle.std.proofs.lemmas.List.{map-append}
 use Rattle.std.proofs.lemmas.List.Elements.{All-append, All-weaker, All-contains, Contains-append_left, Contains-append_right}
-use Rattle.ttp_model.specs.declared.plan.Plan.{Plan}
+use Rattle.search_workers.specs.declared.found.FoundPlan.{FoundPlan}
 use Rattle.ttp_model.specs.declared.step.Leaf.{Leaf}
 use Rattle.ttp_model.specs.Instance.{Instance}
 use Rattle.ttp_model.specs.Chains.{IsPathBound}
@@ -49,7 +49,7 @@ closed_leaves i limit tasks closed each = All-weaker (ClosesOne i tasks limit) I
 
 -- ---- the pieces of a search, and those that close what it left
 
-module _ (i : Instance) (aims : Aims) (made : List Piece) (tasks : List Task) (found : Option (Plan × ℕ)) (low : ℕ) (closed : List Piece)
+module _ (i : Instance) (aims : Aims) (made : List Piece) (tasks : List Task) (found : Option FoundPlan) (low : ℕ) (closed : List Piece)
     (s : IsSearching i aims made tasks found) (c : AreClosed i tasks (aim_of i aims found) closed low) where
   abbrev limit : ℕ
   limit = aim_of i aims found

@@ -6,7 +6,7 @@ use Rattle.incumbent.specs.declared.word.Incumbent.{Incumbent}
 use Rattle.incumbent.specs.Watch.{IsWatchOf}
 use Rattle.search_workers.specs.declared.aims.Aims.{Aims}
 use Rattle.search_workers.specs.declared.report.Report.{Report}
-use Rattle.planner.specs.declared.crew.Job.{Job}
+use Rattle.search_workers.specs.declared.job.Job.{Job}
 use Rattle.planner.specs.Crew.{AreReportsOf, IsJob, IsReportOfJob}
 use Rattle.search_workers.proofs.Searching.{front_of, last_there}
 

@@ -7,7 +7,7 @@ use Rattle.std.proofs.lemmas.List.{map-append}
 use Rattle.std.proofs.lemmas.List.Elements.{All-head, All-tail, All-map, All-append, All-weaker}
 use Rattle.std.proofs.lemmas.List.Sums.{sum_by-cons, sum_by-append}
 use Rattle.std.proofs.lemmas.List.Sorted.{IsPermutation-map, All-permutation, sum_by-IsPermutation}
-use Rattle.ttp_model.specs.declared.plan.Plan.{Plan}
+use Rattle.search_workers.specs.declared.found.FoundPlan.{FoundPlan}
 use Rattle.ttp_model.specs.Instance.{Instance}
 use Rattle.ttp_model.specs.Chains.{IsPathBound}
 use Rattle.ttp_model.specs.Rules.{IsInstance}
@@ -116,24 +116,24 @@ tree_goals low pieces tree is goals =
 
 -- ---- the tree at the end
 
-pub limit_small : (i : Instance) (best : Option (Plan × ℕ)) → IsInstance i → IsFound i best → limit_of i best ≤ i.cluster.horizon + 1
+pub limit_small : (i : Instance) (best : Option FoundPlan) → IsInstance i → IsFound i best → limit_of i best ≤ i.cluster.horizon + 1
 limit_small i None w found = omega arith
-limit_small i (Some best) w found = omega (arith, delay_small i best.0 w found.settled.valid, found.delay_is)
+limit_small i (Some best) w found = omega (arith, delay_small i best.plan w found.settled.valid, found.delay_is)
 
 lower_goals : (high low : ℕ) → low ≤ high → (pieces : List Piece) → HaveGoals high pieces → HaveGoals low pieces
 lower_goals high low le pieces goals =
     All-weaker (λ (q : Piece). HasGoal high q.node) (λ (q : Piece). HasGoal low q.node) (λ q. weaker_goal high low le q.node) pieces goals
 
-goal_is : (i : Instance) (aims : Aims) (gap : ℕ) (best : Option (Plan × ℕ)) → aims.gap ≡ gap → worked_goal i gap best ≤ aim_of i aims best
-goal_is i aims gap None same = omega (arith, goal_past i aims (i.cluster.horizon + 1) (omega arith))
-goal_is i aims gap (Some best) same = omega (arith, same, goal_near i aims best.1)
+goal_is : (i : Instance) (aims : Aims) (best : Option FoundPlan) → worked_goal i aims.gap best ≤ aim_of i aims best
+goal_is i aims None = omega (arith, goal_past i aims (i.cluster.horizon + 1) (omega arith))
+goal_is i aims (Some best) = omega (arith, goal_near i aims best.delay)
 
 leaf_path : (i : Instance) (aim low limit bound : ℕ) → IsPathBound i bound → min bound limit ≤ aim → (p : Piece) → IsClosedLeaf i aim low p
     → HasGoal (min bound limit) p.node
 leaf_path i aim low limit bound is high p leaf = subst (HasGoal (min bound limit)) (sym leaf.is) (omega (arith, leaf.path bound is, high))
 
-module _ (i : Instance) (options : Options) (aims : Aims) (why : Why) (best : Option (Plan × ℕ)) (worked closed : List Piece) (low : ℕ) (cert : Cert)
-    (w : IsInstance i) (right : AreAims i options.gap aims) (is : IsSearched i options aims why best worked closed low)
+module _ (i : Instance) (options : Options) (aims : Aims) (why : Why) (best : Option FoundPlan) (worked closed : List Piece) (low : ℕ) (cert : Cert)
+    (w : IsInstance i) (right : AreAims i aims) (is : IsSearched i options aims why best worked closed low)
     (gathered : IsGathered low (worked ++ closed) cert) where
   abbrev aim : ℕ
   aim = aim_of i aims best
@@ -156,16 +156,16 @@ module _ (i : Instance) (options : Options) (aims : Aims) (why : Why) (best : Op
       All-append (λ (q : Piece). HasGoal (min bound limit) q.node) worked closed (lower_goals aim (min bound limit) high worked is.goals)
       (All-weaker (IsClosedLeaf i aim low) (λ (q : Piece). HasGoal (min bound limit) q.node) (leaf_path i aim low limit bound path high) closed is.leaves)
 
-  near_goals : HaveGoals (worked_goal i options.gap best) worked
-  near_goals = lower_goals aim (worked_goal i options.gap best) (goal_is i aims options.gap best right.gap_is) worked is.goals
+  near_goals : HaveGoals (worked_goal i aims.gap best) worked
+  near_goals = lower_goals aim (worked_goal i aims.gap best) (goal_is i aims best) worked is.goals
 
-  reason_is : (cause : Why) → IsWorkedOut options.budget worked cause → IsReason i options best (in_answer i cert) cause
-  reason_is Budget all = omega (arith, all_worked (worked_goal i options.gap best) worked closed cert.tree gathered.tree near_goals, all)
+  reason_is : (cause : Why) → IsWorkedOut options.budget worked cause → IsReason i options aims.gap best (in_answer i cert) cause
+  reason_is Budget all = omega (arith, all_worked (worked_goal i aims.gap best) worked closed cert.tree gathered.tree near_goals, all)
   reason_is Memory all = omega (arith, within_budget i aim low worked closed cert.tree gathered.tree is.leaves, all)
   reason_is CalledOff all = omega (arith, within_budget i aim low worked closed cert.tree gathered.tree is.leaves, all)
   reason_is Gap all = absurd all
 
-  pub search_ends : IsEndTree i options why best (in_answer i cert)
+  pub search_ends : IsEndTree i options aims.gap why best (in_answer i cert)
   search_ends = record {
     proves = record { low = proved.low; tree = proved.tree };
     version = refl;

@@ -4,6 +4,7 @@ use Rattle.ttp_model.specs.declared.plan.Plan.{Plan}
 use Rattle.ttp_model.specs.Instance.{Instance}
 use Rattle.ttp_model.specs.Delays.{delay}
 use Rattle.certificate.specs.Cert.{Cert}
+use Rattle.search_workers.specs.declared.found.FoundPlan.{FoundPlan}
 use Rattle.search_workers.specs.declared.outcome.Outcome.{Outcome}
 use Rattle.search_workers.specs.declared.outcome.Outcome.TheVariants.{Optimal, Infeasible, Stopped}
 use Rattle.search_workers.specs.declared.outcome.Why.{Why}
@@ -13,7 +14,7 @@ use Rattle.search_workers.specs.Ends.{IsAnswerOf, IsCauseTold}
 use Rattle.planner.specs.Answers.{best_of, certified_by, IsCalledOff}
 
 -- an answer has the best plan that the search knew
-pub answer_best : (i : Instance) (why : Why) (best : Option (Plan × ℕ)) (low : ℕ) (cert : Cert) (outcome : Outcome) → IsAnswerOf i why best low cert outcome → best_of outcome ≡ best
+pub answer_best : (i : Instance) (why : Why) (best : Option FoundPlan) (low : ℕ) (cert : Cert) (outcome : Outcome) → IsAnswerOf i why best low cert outcome → best_of outcome ≡ best
 answer_best i why best low cert (Optimal plan ticks own) is = sym is.0
 answer_best i why best low cert (Infeasible own) is = sym is.0
 answer_best i why best low cert (Stopped cause bound found own) is = is.3
@@ -28,13 +29,13 @@ same_best cert outcome other is = ap best_of is ∙ kept cert outcome
     kept cert (Stopped why low best own) = refl
 
 -- what is no later than a plan that begins no later than the start is no later than that
-pub no_later_than : (i : Instance) (start : Option Plan) (first best : Option (Plan × ℕ)) → limit_of i best ≤ limit_of i first
+pub no_later_than : (i : Instance) (start : Option Plan) (first best : Option FoundPlan) → limit_of i best ≤ limit_of i first
     → IfSome start (λ plan. limit_of i first ≤ delay i plan) → IfSome start (λ plan. limit_of i best ≤ delay i plan)
 no_later_than i None first best later begins = tt
 no_later_than i (Some plan) first best later begins = omega (arith, later, begins)
 
 -- only a search that was called off is told to have been
-pub called_off_only : (i : Instance) (why cause : Why) (gap low : ℕ) (best : Option (Plan × ℕ)) (cert : Cert) (outcome : Outcome)
+pub called_off_only : (i : Instance) (why cause : Why) (gap low : ℕ) (best : Option FoundPlan) (cert : Cert) (outcome : Outcome)
     → IsCauseTold why gap low best cause → IsAnswerOf i cause best low cert outcome → IsCalledOff outcome → why ≡ CalledOff
 called_off_only i why cause gap low best cert (Optimal plan ticks own) told is off = absurd off
 called_off_only i why cause gap low best cert (Infeasible own) told is off = absurd off

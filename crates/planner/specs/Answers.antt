@@ -14,6 +14,7 @@ use Rattle.certificate.specs.Cert.{Cert}
 use Rattle.dropped_decisions.specs.Proofs.{Proves}
 use Rattle.dropped_decisions.specs.Branches.{branches}
 use Rattle.search_workers.specs.Best.{IsPlanFound}
+use Rattle.search_workers.specs.declared.found.FoundPlan.{FoundPlan}
 use Rattle.search_workers.specs.declared.outcome.Options.{Options}
 use Rattle.search_workers.specs.declared.outcome.Outcome.{Outcome}
 use Rattle.search_workers.specs.declared.outcome.Outcome.TheVariants.{Optimal, Infeasible, Stopped}
@@ -33,14 +34,14 @@ abbrev pub worked_at : ℕ → Trees → ℕ
 worked_at limit tree = branches tree + count_by (is_closed_at limit) (preorder tree)
 
 -- no search with this gap works at a lower goal: that of the best plan is less by the gap at most, and where there is none it is past the horizon
-abbrev pub worked_goal : Instance → ℕ → Option (Plan × ℕ) → ℕ
+abbrev pub worked_goal : Instance → ℕ → Option FoundPlan → ℕ
 worked_goal i gap None = i.cluster.horizon + 1
-worked_goal i gap (Some best) = best.1 - gap
+worked_goal i gap (Some best) = best.delay - gap
 
 -- the best plan found, where there is one, is a settled plan with its delay, which is above the bound
-abbrev pub IsBestAbove : Instance → ℕ → Option (Plan × ℕ) → Type 0
+abbrev pub IsBestAbove : Instance → ℕ → Option FoundPlan → Type 0
 IsBestAbove i low None = Unit {0}
-IsBestAbove i low (Some best) = IsPlanFound i best.0 best.1 × (low < best.1)
+IsBestAbove i low (Some best) = IsPlanFound i best.plan best.delay × (low < best.delay)
 
 -- the least goal of a tree's leaves
 pub record IsLeastGoal (tree : Trees) (low : ℕ) : Type 0 where
@@ -50,26 +51,26 @@ pub record IsLeastGoal (tree : Trees) (low : ℕ) : Type 0 where
   pub bound : All (HasGoal low) (preorder tree)
 
 -- the cause of a stop: by the gap, where the best plan is within it; else by what was worked
-abbrev pub IsCause : Instance → Options → ℕ → Option (Plan × ℕ) → Cert → Why → Type 0
-IsCause i options low best cert Budget = IsFar options.gap low best × (options.budget ≤ worked_at (worked_goal i options.gap best) cert.tree)
-IsCause i options low best cert Memory = IsFar options.gap low best × (branches cert.tree < options.budget)
-IsCause i options low best cert CalledOff = IsFar options.gap low best × (branches cert.tree < options.budget)
-IsCause i options low best cert Gap = IsNear options.gap low best
+abbrev pub IsCause : Instance → Options → (gap low : ℕ) → Option FoundPlan → Cert → Why → Type 0
+IsCause i options gap low best cert Budget = IsFar gap low best × (options.budget ≤ worked_at (worked_goal i gap best) cert.tree)
+IsCause i options gap low best cert Memory = IsFar gap low best × (branches cert.tree < options.budget)
+IsCause i options gap low best cert CalledOff = IsFar gap low best × (branches cert.tree < options.budget)
+IsCause i options gap low best cert Gap = IsNear gap low best
 
 -- the search was stopped with a bound and the best plan found
-pub record IsStopped (i : Instance) (options : Options) (why : Why) (low : ℕ) (best : Option (Plan × ℕ)) (cert : Cert) : Type 0 where
+pub record IsStopped (i : Instance) (options : Options) (gap : ℕ) (why : Why) (low : ℕ) (best : Option FoundPlan) (cert : Cert) : Type 0 where
   pub bound : cert.low ≡ low
   pub least : IsLeastGoal cert.tree low
   pub most : low ≤ i.cluster.horizon
   pub path : (bound : ℕ) → IsPathBound i bound → min bound (limit_of i best) ≤ low
   pub above : IsBestAbove i low best
-  pub cause : IsCause i options low best cert why
+  pub cause : IsCause i options gap low best cert why
 
 -- the plan is least, there is none, or the search was stopped
-abbrev pub Says : Instance → Options → Outcome → Type 0
-Says i options (Optimal plan ticks cert) = IsPlanFound i plan ticks × (cert.low ≡ ticks)
-Says i options (Infeasible cert) = cert.low ≡ i.cluster.horizon + 1
-Says i options (Stopped why low best cert) = IsStopped i options why low best cert
+abbrev pub Says : Instance → Options → ℕ → Outcome → Type 0
+Says i options gap (Optimal plan ticks cert) = IsPlanFound i plan ticks × (cert.low ≡ ticks)
+Says i options gap (Infeasible cert) = cert.low ≡ i.cluster.horizon + 1
+Says i options gap (Stopped why low best cert) = IsStopped i options gap why low best cert
 
 -- the certificate of an answer
 abbrev pub cert_of : Outcome → Cert
@@ -78,8 +79,8 @@ cert_of (Infeasible cert) = cert
 cert_of (Stopped why low best cert) = cert
 
 -- the plan that an answer has, with its delay, where it has one
-abbrev pub best_of : Outcome → Option (Plan × ℕ)
-best_of (Optimal plan ticks cert) = Some (plan, ticks)
+abbrev pub best_of : Outcome → Option FoundPlan
+best_of (Optimal plan ticks cert) = Some (record { plan = plan; delay = ticks })
 best_of (Infeasible cert) = None
 best_of (Stopped why low best cert) = best
 
@@ -108,18 +109,23 @@ abbrev pub from_low : ℕ → Cert → Cert
 from_low low cert = record cert { low = low }
 
 -- An answer: its certificate, in the version of the instance's answers, proves its bound by a tree of at most as many branches
--- as the budget, and the answer says what that bound shows.
-pub record IsOutcome (i : Instance) (options : Options) (outcome : Outcome) : Type 0 where
+-- as the budget, and the answer says what that bound shows. A subtree may be left that has no plan better than the best one by more than the gap.
+pub record IsOutcome (i : Instance) (options : Options) (gap : ℕ) (outcome : Outcome) : Type 0 where
   pub proves : Proves i (cert_of outcome)
   pub version : (cert_of outcome).version ≡ answer_version i
   pub within : branches (cert_of outcome).tree ≤ options.budget
-  pub says : Says i options outcome
+  pub says : Says i options gap outcome
+
+-- the best plan with its delay, where there is one, as an answer states it
+abbrev pub stated : Option FoundPlan → Option (Plan × ℕ)
+stated None = None
+stated (Some best) = Some (best.plan, best.delay)
 
 -- what an answer says to the question for a shortest plan, without what shows it
 abbrev pub answer_of : Outcome → Answer
 answer_of (Optimal plan ticks cert) = Least plan ticks
 answer_of (Infeasible cert) = NoPlan
-answer_of (Stopped why low best cert) = Between low best
+answer_of (Stopped why low best cert) = Between low (stated best)
 
 -- and what it says is true
 abbrev pub Shows : Instance → Outcome → Type 0

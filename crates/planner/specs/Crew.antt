@@ -1,6 +1,5 @@
 -- What workers begin with, and what they come to together. Only private contracts ask for it.
 use Rattle.std.specs.Prelude.{◌≡◌, ◌⊎◌, ℕ, ◌+◌, ◌-◌, ◌/◌, ◌≤◌, List, [], ◌∷◌, ◌++◌, map, length, sum_by, All, Option, None, Some, IsPermutation}
-use Rattle.ttp_model.specs.declared.plan.Plan.{Plan}
 use Rattle.ttp_model.specs.Instance.{Instance}
 use Rattle.search_workers.specs.Task.{Task, IsTask, root_task}
 use Rattle.incumbent.specs.declared.word.Incumbent.{Incumbent}
@@ -9,13 +8,14 @@ use Rattle.incumbent.specs.Watch.{first_value, offers, out_count, IsOpening, IsO
 use Rattle.steal_pool.specs.declared.hand.Hand.{Hand}
 use Rattle.steal_pool.specs.Hand.{IsPool, IsSameHand, all_pushed, all_taken}
 use Rattle.search_workers.specs.declared.aims.Aims.{Aims}
+use Rattle.search_workers.specs.declared.found.FoundPlan.{FoundPlan}
 use Rattle.search_workers.specs.declared.report.Report.{Report}
 use Rattle.search_workers.specs.Tasks.{Turn, IsTurn, tasks_of, pieces_of, all_born}
 use Rattle.search_workers.specs.Goals.{goals_of, AreGoals, IsReached}
 use Rattle.search_workers.specs.Best.{OffersBest}
 use Rattle.search_workers.specs.declared.report.Rest.{Rest}
 use Rattle.search_workers.specs.Report.{HasAccount, held, unpushed}
-use Rattle.planner.specs.declared.crew.Job.{Job}
+use Rattle.search_workers.specs.declared.job.Job.{Job}
 use Rattle.planner.specs.declared.crew.Crew.{Crew}
 use Rattle.search_workers.specs.Searching.{limit_of, IsFound}
 use Rattle.search_workers.specs.manner.Manner.{Manner}
@@ -70,13 +70,13 @@ abbrev pub AreTogether : {X : Type 0} → List X → List X → List X → Type 
 AreTogether a b all = (all ≡ a ++ b) ⊎ (all ≡ b ++ a)
 
 -- the better of two plans that may have been found
-pub record IsBetter (i : Instance) (a b best : Option (Plan × ℕ)) : Type 0 where
+pub record IsBetter (i : Instance) (a b best : Option FoundPlan) : Type 0 where
   pub found : IsFound i best
   pub first : limit_of i best ≤ limit_of i a
   pub second : limit_of i best ≤ limit_of i b
 
 -- a plan that may have been found, which is no later than one before it
-pub record IsNoLater (i : Instance) (old new : Option (Plan × ℕ)) : Type 0 where
+pub record IsNoLater (i : Instance) (old new : Option FoundPlan) : Type 0 where
   pub found : IsFound i new
   pub limit : limit_of i new ≤ limit_of i old
 
@@ -101,9 +101,9 @@ pub record Gathers {J : Type 0} (i : Instance) (aims : Aims) (word : Incumbent) 
   pub reached : All (IsReached i aims crew.watch) (goals_of crew.pieces.items)
 
 -- the offers, with the delay of the plan that is known, where there is one
-abbrev pub told : List ℕ → Option (Plan × ℕ) → List ℕ
+abbrev pub told : List ℕ → Option FoundPlan → List ℕ
 told values None = values
-told values (Some best) = values ++ best.1 ∷ []
+told values (Some best) = values ++ best.delay ∷ []
 
 -- the tasks that are left: these, and then those that were pushed and not taken
 pub record HasLeft {J : Type 0} (hands : List (Hand J)) (tasks all : List Task) : Type 0 where

@@ -1,6 +1,5 @@
 -- What a search leaves at its end: pieces that were worked, and pieces that closed what was left.
-use Rattle.std.specs.Prelude.{◌≡◌, ℕ, ◌+◌, ◌-◌, ◌<◌, ◌≤◌, ◌++◌, ◌⊎◌, min, List, [], length, All, Contains, Option, None, Some}
-use Rattle.ttp_model.specs.declared.plan.Plan.{Plan}
+use Rattle.std.specs.Prelude.{◌≡◌, ℕ, ◌+◌, ◌<◌, ◌≤◌, ◌++◌, ◌⊎◌, min, List, [], length, All, Contains, Option, None, Some}
 use Rattle.ttp_model.specs.declared.step.Leaf.{Leaf}
 use Rattle.ttp_model.specs.Instance.{Instance}
 use Rattle.ttp_model.specs.Chains.{IsPathBound}
@@ -13,6 +12,7 @@ use Rattle.dropped_decisions.specs.Branches.{branches}
 use Rattle.search_workers.specs.piece.Piece.{Piece}
 use Rattle.search_workers.specs.Pieces.{AreRight}
 use Rattle.search_workers.specs.Account.{IsWholeTree}
+use Rattle.search_workers.specs.declared.found.FoundPlan.{FoundPlan}
 use Rattle.search_workers.specs.declared.outcome.Options.{Options}
 use Rattle.search_workers.specs.declared.outcome.Why.{Why}
 use Rattle.search_workers.specs.declared.outcome.Why.TheVariants.{Budget, Memory, CalledOff, Gap}
@@ -26,9 +26,8 @@ use Rattle.planner.specs.Answers.{answer_version, worked_at, worked_goal}
 abbrev pub IsFloor : Instance → ℕ → Type 0
 IsFloor i floor = (bound : ℕ) → IsPathBound i bound → min bound (i.cluster.horizon + 1) ≤ floor
 
--- aims with this gap, by which no goal is below the lesser of the path bound and the delay that was seen
-pub record AreAims (i : Instance) (gap : ℕ) (aims : Aims) : Type 0 where
-  pub gap_is : aims.gap ≡ gap
+-- aims by which no goal is below the lesser of the path bound and the delay that was seen
+pub record AreAims (i : Instance) (aims : Aims) : Type 0 where
   pub path : (bound seen : ℕ) → IsPathBound i bound → seen ≤ i.cluster.horizon + 1 → min bound seen ≤ goal_of i aims seen
 
 -- a leaf that closes what was left: no lower than the bound, and than the lesser of the path bound and the goal of the search
@@ -47,7 +46,7 @@ pub record ReachesGoal (low : ℕ) (pieces : List Piece) : Type 0 where
   pub goal : leaf.goal ≡ low
 
 -- A search at its end, whose tree has a bound of at most the goal at which it worked.
-pub record IsSearched (i : Instance) (options : Options) (aims : Aims) (why : Why) (best : Option (Plan × ℕ)) (worked closed : List Piece) (low : ℕ) : Type 0 where
+pub record IsSearched (i : Instance) (options : Options) (aims : Aims) (why : Why) (best : Option FoundPlan) (worked closed : List Piece) (low : ℕ) : Type 0 where
   pub whole : IsWholeTree (worked ++ closed) []
   pub right : AreRight i (worked ++ closed)
   pub found : IsFound i best
@@ -69,23 +68,23 @@ pub record IsLowest (limit : ℕ) (nodes : List Node) (low : ℕ) : Type 0 where
   pub reached : (low ≡ limit) ⊎ ((low < limit) × HasLeafAt nodes low)
 
 -- nothing of a tree with this bound is left at a goal of the search: there is no plan, or the best one is within the gap
-abbrev pub IsExhausted : Instance → ℕ → Option (Plan × ℕ) → ℕ → Type 0
+abbrev pub IsExhausted : Instance → ℕ → Option FoundPlan → ℕ → Type 0
 IsExhausted i gap None low = i.cluster.horizon + 1 ≤ low
-IsExhausted i gap (Some best) low = best.1 ≤ low + gap
+IsExhausted i gap (Some best) low = best.delay ≤ low + gap
 
 -- how much a tree shows was worked where a search ended for a reason
-abbrev pub IsReason : Instance → Options → Option (Plan × ℕ) → Cert → Why → Type 0
-IsReason i options best cert Budget = options.budget ≤ worked_at (worked_goal i options.gap best) cert.tree
-IsReason i options best cert Memory = branches cert.tree < options.budget
-IsReason i options best cert CalledOff = branches cert.tree < options.budget
-IsReason i options best cert Gap = IsExhausted i options.gap best cert.low
+abbrev pub IsReason : Instance → Options → ℕ → Option FoundPlan → Cert → Why → Type 0
+IsReason i options gap best cert Budget = options.budget ≤ worked_at (worked_goal i gap best) cert.tree
+IsReason i options gap best cert Memory = branches cert.tree < options.budget
+IsReason i options gap best cert CalledOff = branches cert.tree < options.budget
+IsReason i options gap best cert Gap = IsExhausted i gap best cert.low
 
 -- The tree of a search at its end, in the version of the instance's answers: it proves a bound of at most the delay that had to be beaten, and no leaf's
 -- goal is below the lesser of that and the path bound.
-pub record IsEndTree (i : Instance) (options : Options) (why : Why) (best : Option (Plan × ℕ)) (cert : Cert) : Type 0 where
+pub record IsEndTree (i : Instance) (options : Options) (gap : ℕ) (why : Why) (best : Option FoundPlan) (cert : Cert) : Type 0 where
   pub proves : Proves i cert
   pub version : cert.version ≡ answer_version i
   pub within : branches cert.tree ≤ options.budget
   pub most : cert.low ≤ limit_of i best
   pub path : (bound : ℕ) → IsPathBound i bound → All (HasGoal (min bound (limit_of i best))) (preorder cert.tree)
-  pub reason : IsReason i options best cert why
+  pub reason : IsReason i options gap best cert why

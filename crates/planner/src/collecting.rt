@@ -1,24 +1,26 @@
 //! How do workers begin, and what is left of the tree once all have ended?
 
-ghost use Rattle.std.specs.Prelude.{◌≡◌, ◌≤◌, ◌+◌, [], ◌∷◌, ◌++◌, IfOk, OnOk, IfErr, IsPermutation, length, vec_len, All};
+ghost use Rattle.std.specs.Prelude.{◌≡◌, ◌≤◌, ◌+◌, [], ◌∷◌, ◌++◌, IfOk, OnOk, IsPermutation, length, vec_len, All};
 ghost use Rattle.ttp_model.specs.Rules.{IsInstance};
 ghost use Rattle.search_workers.specs.Task.{root_task, IsTask};
-ghost use Rattle.incumbent.specs.Watch.{first_value, offers, out_count, IsOpening, IsWatchOf};
+ghost use Rattle.incumbent.specs.Watch.{offers, out_count, IsOpening};
 ghost use Rattle.steal_pool.specs.Hand.{all_pushed, all_taken, IsPool};
 ghost use Rattle.search_workers.specs.Searching.{limit_of, IsFound, IsSearching};
 ghost use Rattle.search_workers.specs.declared.aims.Aims.{Aims};
 ghost use Rattle.planner.specs.Crew.{budget_of, hands_of, told, AreDealt, AreReportsOf, HasLeft, HaveEnded, IsJob, IsNobody};
 
-use crate::crew::{Crew, Job, run_all};
+use crate::crew::{Crew, run_all};
 use crate::reserve::Reserve;
 use incumbent::{Incumbent, Watch};
-use search_workers::{Aims, Gate, Manner, Options, Report, Search, SolveFault, Task};
+use search_workers::{
+    Course, FoundPlan, Gate, Job, Options, Report, Search, Site, SolveFault, Task,
+};
 use std::alloc::Global;
 use std::marker::{Send, Sync};
 use std::sync::Wait;
 use std::thread::Threads;
 use steal_pool::{Hand, Searched, drain, pool};
-use ttp_model::{Instance, MemoryFault, Plan};
+use ttp_model::{Instance, MemoryFault};
 
 /// A pool whose first hand has the whole tree.
 fn planted<J: Searched>(
@@ -43,7 +45,7 @@ fn planted<J: Searched>(
 }
 
 /// Offers the delay of the plan that is known, where there is one.
-fn tell(word: &Incumbent, watch: &mut Watch, first: &Option<(Plan, u64)>, instance: &Instance)
+fn tell(word: &Incumbent, watch: &mut Watch, first: &Option<FoundPlan>, instance: &Instance)
     requires opening { IsOpening word.now watch.old }
     requires found { IsFound instance.now first.now }
     ensures opening { IsOpening word.now watch.new }
@@ -51,8 +53,8 @@ fn tell(word: &Incumbent, watch: &mut Watch, first: &Option<(Plan, u64)>, instan
     ensures offers { offers watch.new ≡ told (offers watch.old) first.now }
 {
     let _nodes = instance.nodes();
-    if let Some((_, delay)) = first {
-        word.offer(watch, *delay as u32);
+    if let Some(known) = first {
+        word.offer(watch, known.delay as u32);
     }
 }
 
@@ -185,20 +187,17 @@ fn collected<J: Searched>(word: Incumbent, crew: Crew<J>) -> Result<Search, Memo
 /// Lets workers do jobs in threads of their own: what they report, in order. Memory that is kept meanwhile is given back once they have ended.
 fn reported<J: Searched + Send + Sync, G: Gate + Sync, R: Threads + Wait>(
     rt: &R,
-    alloc: Global,
-    instance: &Instance,
+    site: &Site<'_, G>,
     word: &Incumbent,
-    gate: &G,
-    manner: Manner,
-    aims: Aims,
+    course: Course,
     jobs: Vec<Job<J>>,
 ) -> Result<Vec<Report<J>>, SolveFault>
-    requires of { instance.now ≡ J.instance }
+    requires of { site.now.instance.now ≡ J.instance }
     requires jobs { All (IsJob word.now) jobs.items }
-    ensures reports { IfOk result (λ all. AreReportsOf J.instance aims jobs.items all.items) }
+    ensures reports { IfOk result (λ all. AreReportsOf J.instance course.aims jobs.items all.items) }
 {
-    let reserve = Reserve::begin(alloc, instance)?;
-    let reports = run_all(rt, alloc, instance, word, gate, manner, aims, jobs);
+    let reserve = Reserve::begin(site.alloc, site.instance)?;
+    let reports = run_all(rt, site, word, course, jobs);
     reserve.give_back();
     reports
 }
@@ -206,25 +205,22 @@ fn reported<J: Searched + Send + Sync, G: Gate + Sync, R: Threads + Wait>(
 /// Lets workers work the tree, and adds what they come to to a crew of nobody.
 fn crewed<J: Searched + Send + Sync, G: Gate + Sync, R: Threads + Wait>(
     rt: &R,
-    alloc: Global,
-    instance: &Instance,
-    options: Options,
-    manner: Manner,
-    aims: Aims,
+    site: &Site<'_, G>,
     word: &Incumbent,
-    gate: &G,
+    options: Options,
+    course: Course,
     crew: &mut Crew<J>,
 ) -> Result<(), SolveFault>
-    requires of { instance.now ≡ J.instance }
+    requires of { site.now.instance.now ≡ J.instance }
     requires instance { IsInstance J.instance }
     requires nobody { IsNobody J.instance word.now crew.old }
-    ensures ended { OnOk result (HaveEnded J.instance aims word.now crew.new) }
+    ensures ended { OnOk result (HaveEnded J.instance course.aims word.now crew.new) }
     ensures within { OnOk result (length crew.new.pieces.items ≤ options.budget) }
     ensures no_later { OnOk result (limit_of J.instance crew.new.best ≤ limit_of J.instance crew.old.best) }
 {
-    let hands = planted::<J>(alloc, instance, options.crew() as usize)?;
-    let jobs = deal(alloc, word, &mut crew.watch, hands, options.budget)?;
-    let reports = reported(rt, alloc, instance, word, gate, manner, aims, jobs)?;
+    let hands = planted::<J>(site.alloc, site.instance, options.crew() as usize)?;
+    let jobs = deal(site.alloc, word, &mut crew.watch, hands, options.budget)?;
+    let reports = reported(rt, site, word, course, jobs)?;
     crew.add_all(word, reports)?;
     Ok(())
 }
@@ -234,7 +230,7 @@ fn begun<J: Searched>(
     alloc: Global,
     instance: &Instance,
     workers: usize,
-    first: Option<(Plan, u64)>,
+    first: Option<FoundPlan>,
 ) -> Result<(Incumbent, Crew<J>), MemoryFault>
     requires { IsFound instance.now first }
     ensures nobody { IfOk result (λ r. IsNobody instance.now r.0 r.1) }
@@ -250,26 +246,23 @@ fn begun<J: Searched>(
 /// What workers make of the tree in threads of their own, and what they leave of it.
 pub fn searched<J: Searched + Send + Sync, G: Gate + Sync, R: Threads + Wait>(
     rt: &R,
-    alloc: Global,
-    instance: &Instance,
+    site: &Site<'_, G>,
     options: Options,
-    manner: Manner,
-    aims: Aims,
-    first: Option<(Plan, u64)>,
-    gate: &G,
+    course: Course,
+    first: Option<FoundPlan>,
 ) -> Result<Search, SolveFault>
-    requires of { instance.now ≡ J.instance }
-    requires found { IsFound instance.now first }
-    ensures searching { IfOk result (λ s. IsSearching instance.now aims s.pieces.items s.tasks.items s.best) }
+    requires of { site.now.instance.now ≡ J.instance }
+    requires found { IsFound site.now.instance.now first }
+    ensures searching { IfOk result (λ s. IsSearching site.now.instance.now course.aims s.pieces.items s.tasks.items s.best) }
     ensures within { IfOk result (λ s. length s.pieces.items ≤ options.budget) }
-    ensures no_later { IfOk result (λ s. limit_of instance.now s.best ≤ limit_of instance.now first) }
+    ensures no_later { IfOk result (λ s. limit_of site.now.instance.now s.best ≤ limit_of site.now.instance.now first) }
 {
+    let alloc = site.alloc;
+    let instance = site.instance;
     let _nodes = instance.nodes();
     let (word, crew) = begun::<J>(alloc, instance, options.crew() as usize, first)?;
     let mut crew = crew;
-    crewed(
-        rt, alloc, instance, options, manner, aims, &word, gate, &mut crew,
-    )?;
+    crewed(rt, site, &word, options, course, &mut crew)?;
     let search = collected(word, crew)?;
     Ok(search)
 }

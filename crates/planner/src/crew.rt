@@ -6,7 +6,7 @@ ghost use Rattle.ttp_model.specs.Rules.{IsInstance};
 ghost use Rattle.incumbent.specs.Watch.{IsOpening, IsWatchOf};
 ghost use Rattle.steal_pool.specs.declared.hand.Hand.{Hand};
 ghost use Rattle.search_workers.specs.declared.aims.Aims.{Aims};
-ghost use Rattle.planner.specs.declared.crew.Job.{Job};
+ghost use Rattle.search_workers.specs.declared.job.Job.{Job};
 ghost use Rattle.search_workers.specs.declared.outcome.SolveFault.TheVariants as fault;
 ghost use Rattle.search_workers.specs.Searching.{IsFound};
 ghost use Rattle.planner.specs.Crew.{IsBetter, IsNoLater, IsReportOfJob, AreReportsOf, IsJob, hands_of, budget_of, tasks_in, Gathers};
@@ -15,7 +15,9 @@ use crate::joining::{keep_roomier, take_in};
 use crate::muster::Muster;
 use certificate::Node;
 use incumbent::{Incumbent, Watch};
-use search_workers::{Aims, Gate, Manner, Piece, Report, Rest, SolveFault, Task, run_worker_in};
+use search_workers::{
+    Aims, Course, FoundPlan, Gate, Job, Piece, Report, Rest, Site, SolveFault, Task, run_worker_in,
+};
 use std::alloc::Global;
 use std::marker::{Send, Sync};
 use std::snapshot::Snapshot;
@@ -23,17 +25,7 @@ use std::sync::Wait;
 use std::thread::{Promise, Scope, Threads};
 use std::{mem, thread};
 use steal_pool::{Hand, Searched};
-use ttp_model::{Instance, MemoryFault, Plan};
-
-/// What a worker begins with.
-#[derive(Drop)]
-pub struct Job<J: Searched> {
-    pub hand: Hand<J>,
-    pub watch: Watch,
-    pub budget: u64,
-    /// How many jobs there are.
-    pub workers: usize,
-}
+use ttp_model::MemoryFault;
 
 /// The promise that the report is one of this job with these aims.
 #[derive(Drop)]
@@ -48,35 +40,24 @@ impl<J: Searched> Promise<Report<J>> for ReportOf<J> {
 
 /// Works a job.
 fn done<J: Searched, G: Gate>(
-    alloc: Global,
-    instance: &Instance,
+    site: &Site<'_, G>,
     word: &Incumbent,
-    gate: &G,
-    manner: Manner,
-    aims: Aims,
+    course: Course,
     job: Job<J>,
 ) -> Report<J>
-    requires of { instance.now ≡ J.instance }
+    requires of { site.now.instance.now ≡ J.instance }
     requires job { IsJob word.now job }
-    ensures { IsReportOfJob J.instance aims job result }
+    ensures { IsReportOfJob J.instance course.aims job result }
 {
-    let Job {
-        hand,
-        watch,
-        budget,
-        workers,
-    } = job;
-    run_worker_in(
-        alloc, instance, hand, word, watch, budget, workers, manner, aims, gate,
-    )
+    run_worker_in(site, word, course, job)
 }
 
-/// The better of two plans with their delays, where there is one.
-pub fn better(a: Option<(Plan, u64)>, b: Option<(Plan, u64)>) -> Option<(Plan, u64)>
+/// The better of two plans, where there is one.
+pub fn better(a: Option<FoundPlan>, b: Option<FoundPlan>) -> Option<FoundPlan>
     ensures { (i : Instance) → IsInstance i → IsFound i a → IsFound i b → IsBetter i a b result }
 {
     match (a, b) {
-        (Some(a), Some(b)) if b.1 < a.1 => Some(b),
+        (Some(a), Some(b)) if b.delay < a.delay => Some(b),
         (Some(a), Some(_)) => Some(a),
         (Some(a), None) => Some(a),
         (None, b) => b,
@@ -84,7 +65,7 @@ pub fn better(a: Option<(Plan, u64)>, b: Option<(Plan, u64)>) -> Option<(Plan, u
 }
 
 /// Of two plans that may be known the better takes the place of the first.
-fn keep_better(best: &mut Option<(Plan, u64)>, other: Option<(Plan, u64)>)
+fn keep_better(best: &mut Option<FoundPlan>, other: Option<FoundPlan>)
     ensures { (i : Instance) → IsInstance i → IsFound i best.old → IsFound i other → IsBetter i best.old other best.new }
 {
     *best = better(mem::replace(best, None), other);
@@ -101,7 +82,7 @@ pub struct Crew<J: Searched> {
     pub tasks: Vec<Task>,
     /// How many of them needn't be worked, as far as was seen.
     pub spared: usize,
-    pub best: Option<(Plan, u64)>,
+    pub best: Option<FoundPlan>,
 }
 
 /// Adds what a worker that ended didn't work: what it left, and what it had in hand.
@@ -138,7 +119,7 @@ impl<J: Searched> Crew<J> {
         alloc: Global,
         workers: usize,
         watch: Watch,
-        best: Option<(Plan, u64)>,
+        best: Option<FoundPlan>,
     ) -> Result<Self, MemoryFault>
         ensures hands { IfOk result (λ crew. crew.hands.items ≡ []) }
         ensures watch { IfOk result (λ crew. crew.watch ≡ watch) }
@@ -216,20 +197,17 @@ impl<J: Searched> Crew<J> {
 fn start_all<'s, E, J: Searched + Send + Sync + 's, G: Gate + Sync, R: Threads>(
     rt: &R,
     scope: &'s Scope<'s, E>,
-    alloc: Global,
-    instance: &'s Instance,
+    site: &'s Site<'s, Muster<'s, G>>,
     word: &'s Incumbent,
-    muster: &'s Muster<'s, G>,
-    manner: Manner,
-    aims: Aims,
+    course: Course,
     jobs: &mut Vec<Job<J>>,
     reports: &mut Vec<Report<J>>,
 ) -> Result<(), SolveFault>
-    requires of { instance.now ≡ J.instance }
+    requires of { site.now.instance.now ≡ J.instance }
     requires jobs { All (IsJob word.now) jobs.old.items }
     requires none { reports.old.items ≡ [] }
     requires room { vec_len jobs.old ≤ vec_capacity reports.old }
-    ensures reports { OnOk result (AreReportsOf J.instance aims jobs.old.items reports.new.items) }
+    ensures reports { OnOk result (AreReportsOf J.instance course.aims jobs.old.items reports.new.items) }
     ensures many { vec_len reports.new ≤ vec_len jobs.old }
     ensures room { vec_capacity reports.new ≡ vec_capacity reports.old }
     ensures err { IfErr result (λ e. e ≡ fault.Thread) }
@@ -239,21 +217,19 @@ fn start_all<'s, E, J: Searched + Send + Sync + 's, G: Gate + Sync, R: Threads>(
     };
     let promise = ReportOf {
         job: Snapshot::of(&job),
-        aims,
+        aims: course.aims,
     };
     let Ok(child) = scope.spawn_with(
         promise,
         move || -> Report<J>
-            requires { (instance.now ≡ J.instance) × IsJob word.now job }
-            ensures { IsReportOfJob J.instance aims job result }
-        { done(alloc, instance, word, muster, manner, aims, job) },
+            requires { (site.now.instance.now ≡ J.instance) × IsJob word.now job }
+            ensures { IsReportOfJob J.instance course.aims job result }
+        { done(site, word, course, job) },
     ) else {
-        muster.call_off();
+        site.gate.call_off();
         return Err(SolveFault::Thread);
     };
-    let others = start_all(
-        rt, scope, alloc, instance, word, muster, manner, aims, jobs, reports,
-    );
+    let others = start_all(rt, scope, site, word, course, jobs, reports);
     let report = child.join(rt);
     reports.push_reserved(report);
     others
@@ -263,33 +239,19 @@ fn start_all<'s, E, J: Searched + Send + Sync + 's, G: Gate + Sync, R: Threads>(
 fn run_in<'s, E, J: Searched + Send + Sync + 's, G: Gate + Sync, R: Threads>(
     rt: &R,
     scope: &'s Scope<'s, E>,
-    alloc: Global,
-    instance: &'s Instance,
+    site: &'s Site<'s, Muster<'s, G>>,
     word: &'s Incumbent,
-    muster: &'s Muster<'s, G>,
-    manner: Manner,
-    aims: Aims,
+    course: Course,
     mut jobs: Vec<Job<J>>,
     mut reports: Vec<Report<J>>,
 ) -> Result<Vec<Report<J>>, SolveFault>
-    requires of { instance.now ≡ J.instance }
+    requires of { site.now.instance.now ≡ J.instance }
     requires jobs { All (IsJob word.now) jobs.items }
     requires none { reports.items ≡ [] }
     requires room { vec_len jobs ≤ vec_capacity reports }
-    ensures reports { IfOk result (λ all. AreReportsOf J.instance aims jobs.items all.items) }
+    ensures reports { IfOk result (λ all. AreReportsOf J.instance course.aims jobs.items all.items) }
 {
-    let ended = start_all(
-        rt,
-        scope,
-        alloc,
-        instance,
-        word,
-        muster,
-        manner,
-        aims,
-        &mut jobs,
-        &mut reports,
-    );
+    let ended = start_all(rt, scope, site, word, course, &mut jobs, &mut reports);
     drop(jobs);
     ended?;
     Ok(reports)
@@ -299,33 +261,31 @@ fn run_in<'s, E, J: Searched + Send + Sync + 's, G: Gate + Sync, R: Threads>(
 /// its next turn. The list of reports is made before a thread is started: as they end no memory is taken.
 pub fn run_all<J: Searched + Send + Sync, G: Gate + Sync, R: Threads + Wait>(
     rt: &R,
-    alloc: Global,
-    instance: &Instance,
+    site: &Site<'_, G>,
     word: &Incumbent,
-    gate: &G,
-    manner: Manner,
-    aims: Aims,
+    course: Course,
     jobs: Vec<Job<J>>,
 ) -> Result<Vec<Report<J>>, SolveFault>
-    requires of { instance.now ≡ J.instance }
+    requires of { site.now.instance.now ≡ J.instance }
     requires jobs { All (IsJob word.now) jobs.items }
-    ensures reports { IfOk result (λ all. AreReportsOf J.instance aims jobs.items all.items) }
+    ensures reports { IfOk result (λ all. AreReportsOf J.instance course.aims jobs.items all.items) }
 {
-    let Ok(reports) = Vec::with_capacity(alloc, jobs.len()) else {
+    let Ok(reports) = Vec::with_capacity(site.alloc, jobs.len()) else {
         return Err(SolveFault::Memory);
     };
-    let muster = Muster::beside(gate);
-    let muster = &muster;
+    let muster = Muster::beside(site.gate);
+    let mustered = Site {
+        alloc: site.alloc,
+        instance: site.instance,
+        gate: &muster,
+    };
+    let site = &mustered;
     thread::scope(
         thread::scope_env(),
         rt,
         move |scope| -> Result<Vec<Report<J>>, SolveFault>
-            requires { (instance.now ≡ J.instance) × All (IsJob word.now) jobs.items × (reports.items ≡ []) × (vec_len jobs ≤ vec_capacity reports) }
-            ensures reports { IfOk result (λ all. AreReportsOf J.instance aims jobs.items all.items) }
-        {
-            run_in(
-                rt, scope, alloc, instance, word, muster, manner, aims, jobs, reports,
-            )
-        },
+            requires { (site.now.instance.now ≡ J.instance) × All (IsJob word.now) jobs.items × (reports.items ≡ []) × (vec_len jobs ≤ vec_capacity reports) }
+            ensures reports { IfOk result (λ all. AreReportsOf J.instance course.aims jobs.items all.items) }
+        { run_in(rt, scope, site, word, course, jobs, reports) },
     )
 }

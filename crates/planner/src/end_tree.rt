@@ -7,8 +7,8 @@ ghost use Rattle.planner.specs.Answers.{best_of, IsCalledOff, IsOutcome};
 ghost use Rattle.planner.specs.Searched.{IsEndTree, IsLowest};
 
 use certificate::{Cert, Node};
-use search_workers::{Options, Outcome, Why, answer, cause, limit};
-use ttp_model::{Instance, Plan};
+use search_workers::{FoundPlan, Options, Outcome, Why, answer, cause, limit};
+use ttp_model::Instance;
 
 /// The lesser of a limit and the least goal of the leaves among nodes, in ticks.
 fn lowest(nodes: &[Node], limit: u32) -> u32
@@ -29,19 +29,20 @@ fn lowest(nodes: &[Node], limit: u32) -> u32
 pub fn ended(
     instance: &Instance,
     options: Options,
+    gap: u32,
     why: Why,
-    best: Option<(Plan, u64)>,
+    best: Option<FoundPlan>,
     cert: Cert,
 ) -> Outcome
     requires found { IsFound instance.now best }
-    requires tree { IsEndTree instance.now options why best cert }
-    ensures answer { IsOutcome instance.now options result }
+    requires tree { IsEndTree instance.now options gap why best cert }
+    ensures answer { IsOutcome instance.now options gap result }
     ensures best { best_of result ≡ best }
     ensures called_off { IsCalledOff result → why ≡ causes.CalledOff }
 {
     let _nodes = instance.nodes();
     let limit = limit(instance, &best);
     let low = lowest(cert.nodes(), limit);
-    let cause = cause(why, &best, low, options.gap);
+    let cause = cause(why, &best, low, gap);
     answer(cause, best, limit, low, cert.with_low(low))
 }

@@ -1,6 +1,6 @@
 //! Which branches can an answer's certificate do without?
 
-ghost use Rattle.std.specs.Prelude.{◌≡◌, ◌≤◌, IfOk, IfSome, length};
+ghost use Rattle.std.specs.Prelude.{◌≡◌, ℕ, ◌≤◌, IfSome, length};
 ghost use Rattle.certificate.specs.Cert.{Cert};
 ghost use Rattle.search_workers.specs.declared.outcome.Options.{Options};
 ghost use Rattle.search_workers.specs.declared.outcome.Why.TheVariants.{Gap};
@@ -11,7 +11,7 @@ ghost use Rattle.search_workers.specs.Searching.{IsFound};
 use crate::versions::answer_version;
 use certificate::Cert;
 use dropped_decisions::{Standing, proof_of, without_unused};
-use search_workers::{Aims, Manner, Options, Outcome, Search, aim};
+use search_workers::{Course, Manner, Options, Outcome, Search, aim};
 use std::alloc::Global;
 use ttp_model::{Instance, MemoryFault};
 
@@ -40,20 +40,19 @@ pub fn lean_proof(
     alloc: Global,
     instance: &Instance,
     options: Options,
-    manner: Manner,
-    aims: Aims,
+    course: Course,
     search: &Search,
 ) -> Option<Cert>
     requires found { IsFound instance.now search.now.best }
-    requires aims { AreAims instance.now options.gap aims }
+    requires aims { AreAims instance.now course.aims }
     requires within { length search.now.pieces.items ≤ options.budget }
-    ensures { IfSome result (IsEndTree instance.now options Gap search.now.best) }
+    ensures { IfSome result (IsEndTree instance.now options course.aims.gap Gap search.now.best) }
 {
     let _nodes = instance.nodes();
-    if manner == Manner::Plain || search.tasks.len() > search.spared {
+    if course.manner == Manner::Plain || search.tasks.len() > search.spared {
         return None;
     }
-    let low = aim(instance, aims, &search.best);
+    let low = aim(instance, course.aims, &search.best);
     let standing = standing(alloc, search).ok()?;
     let version = answer_version(instance);
     let most = search.pieces.len();
@@ -66,8 +65,8 @@ pub fn lean_proof(
 /// The same answer, with a certificate without the branches that nothing below one of their children uses. What is said of a
 /// search that was stopped counts the nodes of its tree, so that one stays as it is.
 pub fn leaner(alloc: Global, instance: &Instance, outcome: Outcome) -> Outcome
-    requires { (options : Options) × IsOutcome instance.now options outcome }
-    ensures answer { (options : Options) → IsOutcome instance.now options outcome → IsOutcome instance.now options result }
+    requires { (options : Options) × (gap : ℕ) × IsOutcome instance.now options gap outcome }
+    ensures answer { (options : Options) (gap : ℕ) → IsOutcome instance.now options gap outcome → IsOutcome instance.now options gap result }
     ensures same { (cert : Cert) × (result ≡ certified_by cert outcome) }
 {
     match outcome {

@@ -16,8 +16,8 @@ mod versions;
 
 pub use laws::{answers_have_certificate_texts, answers_show, searches_answer};
 pub use search_workers::{
-    FreeGate, Gate, GatherFault, Manner, Name, Options, Outcome, SolveFault, Why, gather,
-    gathered_certificates_have_texts, leaves_close_a_tree, names_make_one_tree, root_bound,
+    FoundPlan, FreeGate, Gate, GatherFault, Manner, Name, Options, Outcome, Site, SolveFault, Why,
+    gather, gathered_certificates_have_texts, leaves_close_a_tree, names_make_one_tree, root_bound,
     whole_trees_prove,
 };
-pub use solving::{solve, solve_in, solve_towards, solve_with};
+pub use solving::{solve, solve_towards, solve_with};

@@ -1,8 +1,8 @@
 //! When do workers end who can't all begin?
 
-use search_workers::{Gate, Name};
+use search_workers::{FoundPlan, Gate, Name};
 use std::sync::atomic::{AtomicBool, Ordering};
-use ttp_model::{Instance, Plan};
+use ttp_model::Instance;
 
 /// Follows workers as another gate does, which is told of all, and calls all of them off once a thread can't be started for one.
 #[derive(Drop)]
@@ -49,7 +49,7 @@ impl<'a, G: Gate> Gate for Muster<'a, G> {
         self.gate.is_late()
     }
 
-    fn found(&self, instance: &Instance, plan: &Plan, delay: u64) {
-        self.gate.found(instance, plan, delay);
+    fn found(&self, instance: &Instance, found: &FoundPlan) {
+        self.gate.found(instance, found);
     }
 }

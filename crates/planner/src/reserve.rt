@@ -1,6 +1,6 @@
 //! What is kept so that a search can end where memory runs out?
 
-ghost use Rattle.std.specs.Prelude.{◌≡◌, ◌*◌, ◌^◌, ◌-◌, length, min, IfOk, vec_capacity};
+ghost use Rattle.std.specs.Prelude.{◌≡◌, ◌^◌, ◌-◌, min, IfOk, vec_capacity};
 ghost use Rattle.planner.specs.Held.{held_back, receivers_in};
 
 use std::alloc::Global;

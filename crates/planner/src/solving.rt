@@ -1,6 +1,6 @@
 //! The shortest plan of an instance, or how short it can be at best.
 
-ghost use Rattle.std.specs.Prelude.{◌≡◌, ◌≤◌, ◌+◌, ℕ, IfOk, IfErr, IfSome, All, length, []};
+ghost use Rattle.std.specs.Prelude.{◌≡◌, ◌≤◌, ◌+◌, IfOk, IfErr, IfSome, All, length, []};
 ghost use Rattle.ttp_model.specs.Delays.{delay};
 ghost use Rattle.ttp_model.specs.Instance.{Instance};
 ghost use Rattle.ttp_model.specs.Plans.{IsValid};
@@ -15,7 +15,7 @@ ghost use Rattle.planner.specs.Crew.{workers_part};
 ghost use Rattle.planner.specs.Searched.{AreAims};
 ghost use Rattle.search_workers.specs.Searching.{aim_of, limit_of, IsFound, IsWorkedOut, IsSearching};
 
-use crate::aiming::aims_of;
+use crate::aiming::course_of;
 use crate::closing::close_all;
 use crate::collecting::searched;
 use crate::crew::better;
@@ -27,8 +27,8 @@ use crate::versions::answer_version;
 use certificate::{Cert, Node};
 use good_plan::good_plan;
 use search_workers::{
-    Aims, FreeGate, Gate, Manner, Options, Outcome, Piece, Search, SolveFault, Task, Why, aim,
-    gather_whole, usual_manner,
+    Aims, Course, FoundPlan, FreeGate, Gate, Manner, Options, Outcome, Piece, Search, Site,
+    SolveFault, Task, Why, aim, gather_whole,
 };
 use std::alloc::Global;
 use std::marker::{Brand, Sync};
@@ -37,28 +37,30 @@ use std::thread::Threads;
 use tt_settle::settle;
 use ttp_model::{Instance, MemoryFault, Plan, delay};
 
-/// A plan to begin with; none is looked for with a budget of 0, or in a plain search.
-fn first_plan<R: Threads + Sync>(
+/// A plan to begin with; none is looked for with a budget of 0, in a plain search, or where who follows the search doesn't let it go on.
+fn first_plan<R: Threads + Sync, G: Gate>(
     rt: &R,
-    alloc: Global,
-    instance: &Instance,
+    site: &Site<'_, G>,
     options: Options,
     manner: Manner,
-) -> Result<Option<(Plan, u64)>, MemoryFault>
-    ensures { IfOk result (IsFound instance.now) }
+) -> Result<Option<FoundPlan>, MemoryFault>
+    ensures { IfOk result (IsFound site.now.instance.now) }
 {
-    match manner {
-        Manner::Sparing if options.budget > 0 => good_plan(rt, alloc, instance, options.crew()),
-        _ => Ok(None),
+    if manner == Manner::Plain || options.budget == 0 || !site.gate.goes_on(0) {
+        return Ok(None);
+    }
+    match good_plan(rt, site.alloc, site.instance, options.crew())? {
+        Some((plan, delay)) => Ok(Some(FoundPlan { plan, delay })),
+        None => Ok(None),
     }
 }
 
-/// A settled plan with its delay, to which moves lead from a plan that is known, where one is.
+/// A settled plan to which moves lead from a plan that is known, where one is.
 fn known_plan(
     alloc: Global,
     instance: &Instance,
     start: Option<Plan>,
-) -> Result<Option<(Plan, u64)>, MemoryFault>
+) -> Result<Option<FoundPlan>, MemoryFault>
     requires { IfSome start (IsValid instance.now) }
     ensures found { IfOk result (IsFound instance.now) }
     ensures no_later { IfOk result (λ known. IfSome start (λ plan. limit_of instance.now known ≤ delay instance.now plan)) }
@@ -68,39 +70,38 @@ fn known_plan(
     };
     match settle(alloc, instance, plan) {
         Ok(plan) => {
-            let ticks = delay(instance, &plan);
-            Ok(Some((plan, ticks)))
+            let delay = delay(instance, &plan);
+            Ok(Some(FoundPlan { plan, delay }))
         }
         Err((_, fault)) => Err(fault),
     }
 }
 
 /// The better of a plan that is known and of one that is looked for at once, where there is one.
-fn begun_with<R: Threads + Sync>(
+fn begun_with<R: Threads + Sync, G: Gate>(
     rt: &R,
-    alloc: Global,
-    instance: &Instance,
+    site: &Site<'_, G>,
     options: Options,
     manner: Manner,
     start: Option<Plan>,
-) -> Result<Option<(Plan, u64)>, MemoryFault>
-    requires { IfSome start (IsValid instance.now) }
-    ensures found { IfOk result (IsFound instance.now) }
-    ensures no_later { IfOk result (λ first. IfSome start (λ plan. limit_of instance.now first ≤ delay instance.now plan)) }
+) -> Result<Option<FoundPlan>, MemoryFault>
+    requires { IfSome start (IsValid site.now.instance.now) }
+    ensures found { IfOk result (IsFound site.now.instance.now) }
+    ensures no_later { IfOk result (λ first. IfSome start (λ plan. limit_of site.now.instance.now first ≤ delay site.now.instance.now plan)) }
 {
-    let _nodes = instance.nodes();
-    let known = known_plan(alloc, instance, start)?;
-    let good = first_plan(rt, alloc, instance, options, manner)?;
+    let _nodes = site.instance.nodes();
+    let known = known_plan(site.alloc, site.instance, start)?;
+    let good = first_plan(rt, site, options, manner)?;
     Ok(better(known, good))
 }
 
 /// Tells a gate of a plan, where there is one.
-fn tell<G: Gate>(instance: &Instance, best: &Option<(Plan, u64)>, gate: &G)
-    requires { IsFound instance.now best.now }
-    ensures { IfSome best.now (λ best. G.heard gate.now instance.now best.0 best.1) }
+fn tell<G: Gate>(site: &Site<'_, G>, best: &Option<FoundPlan>)
+    requires { IsFound site.now.instance.now best.now }
+    ensures { IfSome best.now (λ best. G.heard site.now.gate.now site.now.instance.now best) }
 {
-    if let Some((plan, delay)) = best {
-        gate.found(instance, plan, *delay);
+    if let Some(found) = best {
+        site.gate.found(site.instance, found);
     }
 }
 
@@ -144,7 +145,7 @@ fn closed_tree(
     room: Vec<Node>,
     pieces: Vec<Piece>,
     tasks: Vec<Task>,
-    best: &Option<(Plan, u64)>,
+    best: &Option<FoundPlan>,
 ) -> Result<Cert, SolveFault>
     requires { IsSearching instance.now aims pieces.items tasks.items best.now }
     ensures ok { IfOk result (IsClosedTree instance.now pieces.items tasks.items (aim_of instance.now aims best.now)) }
@@ -166,10 +167,10 @@ fn concluded(
     why: Why,
 ) -> Result<Outcome, SolveFault>
     requires searching { IsSearching instance.now aims search.pieces.items search.tasks.items search.best }
-    requires aims { AreAims instance.now options.gap aims }
+    requires aims { AreAims instance.now aims }
     requires within { length search.pieces.items ≤ options.budget }
     requires cause { IsWorkedOut options.budget search.pieces.items why }
-    ensures answer { IfOk result (IsOutcome instance.now options) }
+    ensures answer { IfOk result (IsOutcome instance.now options aims.gap) }
     ensures best { IfOk result (λ outcome. best_of outcome ≡ search.best) }
     ensures called_off { IfOk result (λ outcome. IsCalledOff outcome → why ≡ causes.CalledOff) }
     ensures err { IfErr result (λ e. e ≡ fault.Memory) }
@@ -183,8 +184,8 @@ fn concluded(
         ..
     } = search;
     let cert = closed_tree(alloc, instance, aims, room, pieces, tasks, &best)?;
-    let version = answer_version(instance);
-    Ok(ended(instance, options, why, best, cert.with_version(version)))
+    let cert = cert.with_version(answer_version(instance));
+    Ok(ended(instance, options, aims.gap, why, best, cert))
 }
 
 /// What of a budget the workers have: in a search that isn't plain the last quarter is for the bound. Another share
@@ -201,100 +202,82 @@ fn workers_part(budget: u64, manner: Manner) -> u64
 
 /// Works what workers left of a tree, and tells what it shows.
 fn worked_out<G: Gate>(
-    alloc: Global,
-    instance: &Instance,
+    site: &Site<'_, G>,
     options: Options,
-    aims: Aims,
+    course: Course,
     search: Search,
     part: u64,
     reserve: Reserve,
-    manner: Manner,
-    gate: &G,
 ) -> Result<Outcome, SolveFault>
-    requires searching { IsSearching instance.now aims search.pieces.items search.tasks.items search.best }
-    requires aims { AreAims instance.now options.gap aims }
+    requires searching { IsSearching site.now.instance.now course.aims search.pieces.items search.tasks.items search.best }
+    requires aims { AreAims site.now.instance.now course.aims }
     requires within { length search.pieces.items ≤ part }
     requires part { part ≤ options.budget }
-    ensures answer { IfOk result (IsOutcome instance.now options) }
-    ensures shows { IfOk result (Shows instance.now) }
-    ensures called_off { IfOk result (λ outcome. IsCalledOff outcome → G.ends gate.now) }
-    ensures told { IfOk result (λ outcome. IfSome (best_of outcome) (λ best. G.heard gate.now instance.now best.0 best.1)) }
-    ensures no_later { IfOk result (λ outcome. limit_of instance.now (best_of outcome) ≤ limit_of instance.now search.best) }
+    ensures answer { IfOk result (IsOutcome site.now.instance.now options course.aims.gap) }
+    ensures shows { IfOk result (Shows site.now.instance.now) }
+    ensures called_off { IfOk result (λ outcome. IsCalledOff outcome → G.ends site.now.gate.now) }
+    ensures told { IfOk result (λ outcome. IfSome (best_of outcome) (λ best. G.heard site.now.gate.now site.now.instance.now best)) }
+    ensures no_later { IfOk result (λ outcome. limit_of site.now.instance.now (best_of outcome) ≤ limit_of site.now.instance.now search.best) }
     ensures err { IfErr result (λ e. e ≡ fault.Memory) }
 {
+    let alloc = site.alloc;
+    let instance = site.instance;
     let _nodes = instance.nodes();
     let mut search = search;
     let budget = options.budget;
-    let why = search.go(alloc, instance, part, budget, aims, gate);
+    let why = search.go(site, part, budget, course.aims);
     reserve.give_back();
-    tell(instance, &search.best, gate);
-    let outcome = concluded(alloc, instance, options, aims, search, why)?;
-    match manner {
+    tell(site, &search.best);
+    let outcome = concluded(alloc, instance, options, course.aims, search, why)?;
+    match course.manner {
         Manner::Plain => Ok(outcome),
         Manner::Sparing => Ok(leaner(alloc, instance, outcome)),
     }
 }
 
-/// Searches for the shortest plan of an instance in this manner, which changes nothing of what is promised, and else as `solve_with` does.
-pub fn solve_in<R: Threads + Wait + Sync, G: Gate + Sync>(
+/// Searches for the shortest plan of an instance, as `solve_with` does, and begins with a plan that is known, where one is: the plan that is
+/// answered takes no longer. None is looked for with a budget of 0 all the same. A subtree is left as soon as no plan in it is better than the
+/// best one by more than `gap` ticks; with 0 all are sought.
+pub fn solve_towards<R: Threads + Wait + Sync, G: Gate + Sync>(
     rt: &R,
-    alloc: Global,
-    instance: &Instance,
+    site: &Site<'_, G>,
     options: Options,
-    manner: Manner,
-    gate: &G,
-) -> Result<Outcome, SolveFault>
-    ensures answer { IfOk result (IsOutcome instance.now options) }
-    ensures shows { IfOk result (Shows instance.now) }
-    ensures called_off { IfOk result (λ outcome. IsCalledOff outcome → G.ends gate.now) }
-    ensures told { IfOk result (λ outcome. IfSome (best_of outcome) (λ best. G.heard gate.now instance.now best.0 best.1)) }
-{
-    solve_from(rt, alloc, instance, options, manner, None, gate)
-}
-
-/// Searches in this manner, and begins with the better of a plan that is known, where one is, and of one that is looked for at once.
-fn solve_from<R: Threads + Wait + Sync, G: Gate + Sync>(
-    rt: &R,
-    alloc: Global,
-    instance: &Instance,
-    options: Options,
-    manner: Manner,
+    gap: u32,
     start: Option<Plan>,
-    gate: &G,
 ) -> Result<Outcome, SolveFault>
-    requires { IfSome start (IsValid instance.now) }
-    ensures answer { IfOk result (IsOutcome instance.now options) }
-    ensures shows { IfOk result (Shows instance.now) }
-    ensures called_off { IfOk result (λ outcome. IsCalledOff outcome → G.ends gate.now) }
-    ensures told { IfOk result (λ outcome. IfSome (best_of outcome) (λ best. G.heard gate.now instance.now best.0 best.1)) }
-    ensures start { IfOk result (λ outcome. IfSome start (λ plan. limit_of instance.now (best_of outcome) ≤ delay instance.now plan)) }
+    requires { IfSome start (IsValid site.now.instance.now) }
+    ensures answer { IfOk result (IsOutcome site.now.instance.now options gap) }
+    ensures shows { IfOk result (Shows site.now.instance.now) }
+    ensures called_off { IfOk result (λ outcome. IsCalledOff outcome → G.ends site.now.gate.now) }
+    ensures told { IfOk result (λ outcome. IfSome (best_of outcome) (λ best. G.heard site.now.gate.now site.now.instance.now best)) }
+    ensures start { IfOk result (λ outcome. IfSome start (λ plan. limit_of site.now.instance.now (best_of outcome) ≤ delay site.now.instance.now plan)) }
 {
+    let alloc = site.alloc;
+    let instance = site.instance;
     let _nodes = instance.nodes();
-    let aims = aims_of(alloc, instance, options.gap)?;
+    let course = course_of(alloc, instance, gap)?;
     let reserve = Reserve::begin(alloc, instance)?;
-    let first = begun_with(rt, alloc, instance, options, manner, start)?;
-    tell(instance, &first, gate);
-    let part = workers_part(options.budget, manner);
+    let first = begun_with(rt, site, options, course.manner, start)?;
+    tell(site, &first);
+    let part = workers_part(options.budget, course.manner);
     let theirs = Options {
         budget: part,
         ..options
     };
-    let search = searched::<Brand, G, R>(rt, alloc, instance, theirs, manner, aims, first, gate)?;
-    match lean_proof(alloc, instance, options, manner, aims, &search) {
+    let search = searched::<Brand, G, R>(rt, site, theirs, course, first)?;
+    match lean_proof(alloc, instance, options, course, &search) {
         Some(cert) => {
-            tell(instance, &search.best, gate);
-            Ok(ended(instance, options, Why::Gap, search.best, cert))
+            tell(site, &search.best);
+            Ok(ended(instance, options, gap, Why::Gap, search.best, cert))
         }
-        None => worked_out(
-            alloc, instance, options, aims, search, part, reserve, manner, gate,
-        ),
+        None => worked_out(site, options, course, search, part, reserve),
     }
 }
 
 /// Searches for the shortest plan of an instance, as `solve` does, and calls a gate as workers go on: `start` once for each,
 /// first, and `enter` and `leave` for each task that they work. The caller's thread calls none of these. Both tell the gate of each plan that
-/// they find by `found`, and ask it by `goes_on` before they take a task. The plan that is answered is told last. Where it says no to all, no further subtree is worked, and what is left is closed
-/// as with a spent budget. Whatever it says, the answer's bounds hold.
+/// they find by `found`, and ask it by `goes_on` before they take a task. The plan that is answered is told last. Where it says no to all, no
+/// further subtree is worked, and what is left is closed as with a spent budget. Whatever it says, the answer's bounds hold.
 pub fn solve_with<R: Threads + Wait + Sync, G: Gate + Sync>(
     rt: &R,
     alloc: Global,
@@ -302,34 +285,17 @@ pub fn solve_with<R: Threads + Wait + Sync, G: Gate + Sync>(
     options: Options,
     gate: &G,
 ) -> Result<Outcome, SolveFault>
-    ensures answer { IfOk result (IsOutcome instance.now options) }
+    ensures answer { IfOk result (IsOutcome instance.now options 0) }
     ensures shows { IfOk result (Shows instance.now) }
     ensures called_off { IfOk result (λ outcome. IsCalledOff outcome → G.ends gate.now) }
-    ensures told { IfOk result (λ outcome. IfSome (best_of outcome) (λ best. G.heard gate.now instance.now best.0 best.1)) }
+    ensures told { IfOk result (λ outcome. IfSome (best_of outcome) (λ best. G.heard gate.now instance.now best)) }
 {
-    let manner = usual_manner(alloc, instance)?;
-    solve_in(rt, alloc, instance, options, manner, gate)
-}
-
-/// Searches for the shortest plan of an instance, as `solve_with` does, and begins with a plan that is known, where one is: the plan that is
-/// answered takes no longer. None is looked for with a budget of 0 all the same.
-pub fn solve_towards<R: Threads + Wait + Sync, G: Gate + Sync>(
-    rt: &R,
-    alloc: Global,
-    instance: &Instance,
-    options: Options,
-    start: Option<Plan>,
-    gate: &G,
-) -> Result<Outcome, SolveFault>
-    requires { IfSome start (IsValid instance.now) }
-    ensures answer { IfOk result (IsOutcome instance.now options) }
-    ensures shows { IfOk result (Shows instance.now) }
-    ensures called_off { IfOk result (λ outcome. IsCalledOff outcome → G.ends gate.now) }
-    ensures told { IfOk result (λ outcome. IfSome (best_of outcome) (λ best. G.heard gate.now instance.now best.0 best.1)) }
-    ensures start { IfOk result (λ outcome. IfSome start (λ plan. limit_of instance.now (best_of outcome) ≤ delay instance.now plan)) }
-{
-    let manner = usual_manner(alloc, instance)?;
-    solve_from(rt, alloc, instance, options, manner, start, gate)
+    let site = Site {
+        alloc,
+        instance,
+        gate,
+    };
+    solve_towards(rt, &site, options, 0, None)
 }
 
 /// Searches for the shortest plan of an instance, by workers in threads of their own: works at most `budget` subtrees, what the
@@ -345,7 +311,7 @@ pub fn solve<R: Threads + Wait + Sync>(
     instance: &Instance,
     options: Options,
 ) -> Result<Outcome, SolveFault>
-    ensures answer { IfOk result (IsOutcome instance.now options) }
+    ensures answer { IfOk result (IsOutcome instance.now options 0) }
     ensures shows { IfOk result (Shows instance.now) }
     ensures called_off { IfOk result (λ outcome. ¬ IsCalledOff outcome) }
 {

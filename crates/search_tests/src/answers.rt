@@ -3,7 +3,7 @@
 use crate::books::Books;
 use crate::instances::Sample;
 use certificate::{Cert, Version};
-use planner::{Manner, Options, Outcome, SolveFault, Why, solve, solve_in, solve_with};
+use planner::{FoundPlan, Options, Outcome, Why, solve, solve_with};
 use std::alloc::Global;
 use std::sync::Wait;
 use std::test::Fail;
@@ -81,7 +81,7 @@ pub fn read(alloc: Global, instance: &Instance, outcome: &Outcome) -> Result<Ans
                 return Err("the certificate proves another bound".into());
             }
             let delay = match best {
-                Some((plan, delay)) => Some(judged(instance, plan, *delay)?),
+                Some(FoundPlan { plan, delay }) => Some(judged(instance, plan, *delay)?),
                 None => None,
             };
             Ok(Answer {
@@ -95,47 +95,27 @@ pub fn read(alloc: Global, instance: &Instance, outcome: &Outcome) -> Result<Ans
     }
 }
 
-/// Both manners of a search.
-pub const MANNERS: &[Manner] = &[Manner::Plain, Manner::Sparing];
-
-/// What a search in this manner comes to, by whichever call; an error where its workers tell a gate of anything out of turn, or
-/// where they work something and tell of nothing. The instances of these tests are small, so that a plain search is what is
-/// made of them by itself.
+/// What a search comes to, by whichever call; an error where its workers tell a gate of anything out of turn, or where they work
+/// something and tell of nothing.
 fn searched<R: Threads + Wait + Sync>(
     rt: &R,
     alloc: Global,
     instance: &Instance,
     options: Options,
-    manner: Manner,
-) -> Result<Result<Outcome, SolveFault>, Fail> {
+) -> Result<Outcome, Fail> {
+    if options.workers == 1 {
+        return Ok(solve(rt, alloc, instance, options)?);
+    }
     let books = Books::new(alloc, options.workers as usize)?;
-    let outcome = match manner {
-        Manner::Plain if options.workers == 1 => return Ok(solve(rt, alloc, instance, options)),
-        Manner::Plain => solve_with(rt, alloc, instance, options, &books),
-        Manner::Sparing => solve_in(rt, alloc, instance, options, manner, &books),
-    };
+    let outcome = solve_with(rt, alloc, instance, options, &books)?;
     let is_whole = matches!(
         &outcome,
-        Ok(Outcome::Optimal { .. } | Outcome::Infeasible { .. })
+        Outcome::Optimal { .. } | Outcome::Infeasible { .. }
     );
     if !books.are_right() || is_whole && books.left() == 0 {
         return Err("a gate was told out of turn, or of nothing".into());
     }
     Ok(outcome)
-}
-
-/// What is answered for an instance by a search in this manner, or why there is no answer.
-pub fn solved<R: Threads + Wait + Sync>(
-    rt: &R,
-    alloc: Global,
-    instance: &Instance,
-    options: Options,
-    manner: Manner,
-) -> Result<Result<Answer, SolveFault>, Fail> {
-    match searched(rt, alloc, instance, options, manner)? {
-        Ok(outcome) => Ok(Ok(read(alloc, instance, &outcome)?)),
-        Err(fault) => Ok(Err(fault)),
-    }
 }
 
 /// What is answered for an instance that is named.
@@ -144,8 +124,8 @@ pub fn solved_sample<R: Threads + Wait + Sync>(
     alloc: Global,
     sample: &Sample,
     options: Options,
-    manner: Manner,
 ) -> Result<Answer, Fail> {
     let instance = sample.build(alloc)?;
-    Ok(solved(rt, alloc, &instance, options, manner)??)
+    let outcome = searched(rt, alloc, &instance, options)?;
+    read(alloc, &instance, &outcome)
 }

@@ -1,10 +1,10 @@
 //! A gate that keeps the books of what workers tell: who began, and who works what.
 
 use branch_tree::Name;
-use planner::Gate;
+use planner::{FoundPlan, Gate};
 use std::alloc::{AllocError, Global};
 use std::sync::atomic::{AtomicU64, Ordering};
-use ttp_model::{Instance, Plan};
+use ttp_model::Instance;
 
 /// A number by which the names of small trees are told apart; 0 of no name.
 fn mark_of(name: &Name) -> u64 {
@@ -125,5 +125,5 @@ impl Gate for Books {
         });
     }
 
-    fn found(&self, _instance: &Instance, _plan: &Plan, _delay: u64) {}
+    fn found(&self, _instance: &Instance, _found: &FoundPlan) {}
 }

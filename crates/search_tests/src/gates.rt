@@ -2,10 +2,10 @@
 
 use branch_tree::Name;
 use crossbeam_utils::Backoff;
-use planner::Gate;
+use planner::{FoundPlan, Gate};
 use std::alloc::{AllocError, Global};
 use std::sync::atomic::{AtomicU64, Ordering};
-use ttp_model::{Instance, Plan};
+use ttp_model::Instance;
 
 /// How many turns a wait has at most.
 const TURNS: u32 = 20_000_000;
@@ -88,7 +88,7 @@ impl Gate for LeftBelow {
         }
     }
 
-    fn found(&self, _instance: &Instance, _plan: &Plan, _delay: u64) {}
+    fn found(&self, _instance: &Instance, _found: &FoundPlan) {}
 }
 
 /// Has two workers search one after the other: the first one the subtree of the root's second child, and then the second
@@ -148,7 +148,7 @@ impl Gate for InTurn {
         }
     }
 
-    fn found(&self, _instance: &Instance, _plan: &Plan, _delay: u64) {}
+    fn found(&self, _instance: &Instance, _found: &FoundPlan) {}
 }
 
 /// Has two workers meet: the second one begins once the root was left, and who enters a child of the root first waits
@@ -208,7 +208,7 @@ impl Gate for Meeting {
         }
     }
 
-    fn found(&self, _instance: &Instance, _plan: &Plan, _delay: u64) {}
+    fn found(&self, _instance: &Instance, _found: &FoundPlan) {}
 }
 
 /// The names that a worker left, and those of them that stand below the root.
@@ -287,5 +287,5 @@ impl Gate for Assembly {
         }
     }
 
-    fn found(&self, _instance: &Instance, _plan: &Plan, _delay: u64) {}
+    fn found(&self, _instance: &Instance, _found: &FoundPlan) {}
 }

@@ -1,4 +1,4 @@
-//! Tests of good plans, of the core of a search, and of the search for the shortest plan.
+//! Tests of good plans, of the core of a search, of the search for the shortest plan, and of how the program is asked and tells.
 #![tactic(auto)]
 
 #[cfg(test)]
@@ -22,7 +22,15 @@ mod many_workers;
 #[cfg(test)]
 mod one_thread;
 #[cfg(test)]
+mod progress;
+#[cfg(test)]
+mod reports;
+#[cfg(test)]
+mod requests;
+#[cfg(test)]
 mod subtrees;
+#[cfg(test)]
+mod told;
 #[cfg(test)]
 mod trees;
 #[cfg(test)]

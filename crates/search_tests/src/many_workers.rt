@@ -1,11 +1,11 @@
 //! Searches by one worker, and by many.
 
-use crate::answers::{Answer, MANNERS, read, solved_sample};
+use crate::answers::{Answer, read, solved_sample};
 use crate::gates::Assembly;
 use crate::instances::{
     LEAST_DELAYS, ONE_OF_FOUR, ONE_OF_SIXTEEN, ONE_OF_THREE, SIX_FRAMES, Sample,
 };
-use planner::{Manner, Options, Why, solve_in};
+use planner::{Options, Why, solve_with};
 use std::alloc::Global;
 use std::process::Abort;
 use std::sync::Wait;
@@ -17,26 +17,11 @@ fn find_least<R: Abort + Threads + Wait + Sync>(
     rt: &R,
     alloc: Global,
     workers: u32,
-    manner: Manner,
 ) -> Result<(), Fail> {
     let budget = 1_000;
     for (sample, least) in LEAST_DELAYS {
-        let answer = solved_sample(
-            rt,
-            alloc,
-            sample,
-            Options {
-                workers,
-                budget,
-                gap: 0,
-            },
-            manner,
-        )?;
-        assert!(rt;
-            answer.is_least(*least),
-            "{} by {workers}, {manner:?}",
-            sample.name
-        );
+        let answer = solved_sample(rt, alloc, sample, Options { workers, budget })?;
+        assert!(rt; answer.is_least(*least), "{} by {workers}", sample.name);
     }
     Ok(())
 }
@@ -44,14 +29,12 @@ fn find_least<R: Abort + Threads + Wait + Sync>(
 #[test]
 fn many_workers_find_the_least_delay(rt: HostRuntime) -> Result<(), Fail> {
     for workers in &[1, 3] {
-        for manner in MANNERS {
-            find_least(&rt, rt.alloc(), *workers, *manner)?;
-        }
+        find_least(&rt, rt.alloc(), *workers)?;
     }
     Ok(())
 }
 
-/// What a plain search comes to whose workers this gate holds up.
+/// What a search comes to whose workers this gate holds up.
 fn held<R: Threads + Wait + Sync>(
     rt: &R,
     alloc: Global,
@@ -60,7 +43,7 @@ fn held<R: Threads + Wait + Sync>(
     gate: &Assembly,
 ) -> Result<Answer, Fail> {
     let instance = sample.build(alloc)?;
-    let outcome = solve_in(rt, alloc, &instance, options, Manner::Plain, gate)?;
+    let outcome = solve_with(rt, alloc, &instance, options, gate)?;
     read(alloc, &instance, &outcome)
 }
 
@@ -76,17 +59,7 @@ fn meet<R: Threads + Wait + Sync>(
 ) -> Result<bool, Fail> {
     let budget = 100_000;
     let gate = Assembly::new(alloc, workers as usize)?;
-    let answer = held(
-        rt,
-        alloc,
-        sample,
-        Options {
-            workers,
-            budget,
-            gap: 0,
-        },
-        &gate,
-    )?;
+    let answer = held(rt, alloc, sample, Options { workers, budget }, &gate)?;
     Ok(gate.is_met() && answer.is_least(Some(5)))
 }
 
@@ -98,12 +71,16 @@ fn many_workers_work_at_the_same_time(rt: HostRuntime) -> Result<(), Fail> {
     Ok(())
 }
 
-/// How many of ten thousand subtrees each worker works: equally many, and one more the first of them.
+/// More subtrees by a third than the workers have: the last quarter is for the bound.
+const BUDGET: u64 = 1_333;
+
+/// How many of a thousand subtrees each worker works: equally many, and one more the first of them.
+#[rattlefmt::skip]
 const SHARES: &[&[u64]] = &[
-    &[3_334, 3_333, 3_333],
-    &[2_500, 2_500, 2_500, 2_500],
-    &[1_667, 1_667, 1_667, 1_667, 1_666, 1_666],
-    &[625; 16],
+    &[334, 333, 333],
+    &[250, 250, 250, 250],
+    &[167, 167, 167, 167, 166, 166],
+    &[63, 63, 63, 63, 63, 63, 63, 63, 62, 62, 62, 62, 62, 62, 62, 62],
 ];
 
 /// Whether workers who meet work just these shares of a search that has more to work.
@@ -113,20 +90,13 @@ fn work_shares<R: Threads + Wait + Sync>(
     shares: &[u64],
 ) -> Result<bool, Fail> {
     let workers = u32::try_from(shares.len())?;
-    let budget = 10_000;
     let gate = Assembly::new(alloc, shares.len())?;
-    let answer = held(
-        rt,
-        alloc,
-        &SIX_FRAMES,
-        Options {
-            workers,
-            budget,
-            gap: 0,
-        },
-        &gate,
-    )?;
-    let is_stopped = answer.stopped == Some(Why::Budget) && budget < answer.nodes;
+    let options = Options {
+        workers,
+        budget: BUDGET,
+    };
+    let answer = held(rt, alloc, &SIX_FRAMES, options, &gate)?;
+    let is_stopped = answer.stopped == Some(Why::Budget) && BUDGET < answer.nodes;
     Ok(is_stopped && gate.is_met() && gate.shares(alloc)?.as_slice() == shares)
 }
 
@@ -146,17 +116,7 @@ fn is_of_all_worked<R: Threads + Wait + Sync>(
 ) -> Result<bool, Fail> {
     let (workers, budget) = (1, 1_000);
     let gate = Assembly::new(alloc, 1)?;
-    let answer = held(
-        rt,
-        alloc,
-        sample,
-        Options {
-            workers,
-            budget,
-            gap: 0,
-        },
-        &gate,
-    )?;
+    let answer = held(rt, alloc, sample, Options { workers, budget }, &gate)?;
     Ok(answer.stopped.is_none() && gate.shares(alloc)?.as_slice() == [answer.nodes].as_slice())
 }
 

@@ -8,8 +8,7 @@ use crate::instances::{ONE_MESSAGE, ONE_OF_THREE, Sample};
 use branch_tree::{Piece, Task, Worked, work};
 use certificate::Node;
 use incumbent::Incumbent;
-use planner::Manner;
-use search_workers::{Aims, Ending, Report, run_worker, run_worker_in};
+use search_workers::{Aims, Course, Ending, Job, Manner, Report, Site, run_worker, run_worker_in};
 use std::alloc::Global;
 use std::marker::Brand;
 use std::test::Fail;
@@ -160,22 +159,22 @@ pub fn lone_report<J: Searched>(
     let mut first = opening;
     let second = word.split(alloc, &mut first)?;
     word.offer(&mut first, offer);
-    let budget = 1_000_000;
+    let job = Job {
+        hand,
+        watch: second,
+        budget: 1_000_000,
+        workers: 1,
+    };
     let books = Books::new(alloc, 1)?;
+    let site = Site {
+        alloc,
+        instance,
+        gate: &books,
+    };
+    let aims = Aims::all();
     let report = match manner {
-        Manner::Plain => run_worker(alloc, instance, hand, &word, second, budget, 1, &books),
-        Manner::Sparing => run_worker_in(
-            alloc,
-            instance,
-            hand,
-            &word,
-            second,
-            budget,
-            1,
-            manner,
-            Aims::all(),
-            &books,
-        ),
+        Manner::Plain => run_worker(&site, &word, job),
+        Manner::Sparing => run_worker_in(&site, &word, Course { manner, aims }, job),
     };
     if !books.are_right() || !tells_of_work(books.left(), &report) {
         return Err("a gate was told out of turn, or of other than what was worked".into());

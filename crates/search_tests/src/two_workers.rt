@@ -16,13 +16,11 @@ const BUDGET: u64 = 1_000;
 const ONE: Options = Options {
     workers: 1,
     budget: BUDGET,
-    gap: 0,
 };
 
 const TWO: Options = Options {
     workers: 2,
     budget: BUDGET,
-    gap: 0,
 };
 
 /// What comes of an instance where this gate holds workers up.

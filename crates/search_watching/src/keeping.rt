@@ -9,11 +9,11 @@ use crate::folder::{Folder, replaced};
 use crate::progress::Follower;
 use command_streams::{End, Fault, Sink};
 use plan_format::PlanTextError;
-use planner::{Gate, Name};
+use planner::{FoundPlan, Gate, Name};
 use std::alloc::{AllocError, Global};
 use std::sync::atomic::{AtomicBool, Ordering};
 use std::sync::{Mutex, Wait};
-use ttp_model::{Instance, Plan};
+use ttp_model::Instance;
 
 /// The file of the best plan so far.
 #[derive(Drop)]
@@ -92,23 +92,21 @@ impl<'a, D: Folder> Shelf<'a, D> {
     }
 }
 
-/// Puts the text of a plan that takes so many ticks in place of the one before it, where it is better: whether the better of both stands
-/// there now.
+/// Puts the text of a plan in place of the one before it, where it is better: whether the better of both stands there now.
 fn put_better<'a, D: Folder>(
     shelf: &mut Shelf<'a, D>,
     instance: &Instance,
-    plan: &Plan,
-    ticks: u64,
+    found: &FoundPlan,
 ) -> bool
-    requires valid { IsValid instance.now plan.now }
-    requires takes { ticks ≡ delay instance.now plan.now }
-    ensures { shelf.new.ticks ≡ cond result (min shelf.old.ticks ticks) shelf.old.ticks }
+    requires valid { IsValid instance.now found.now.plan }
+    requires takes { found.now.delay ≡ delay instance.now found.now.plan }
+    ensures { shelf.new.ticks ≡ cond result (min shelf.old.ticks found.now.delay) shelf.old.ticks }
 {
-    if shelf.ticks <= ticks {
+    if shelf.ticks <= found.delay {
         return true;
     }
-    match plan_format::print(shelf.alloc, instance, plan) {
-        Ok(text) => shelf.put(instance, text.as_slice(), ticks),
+    match plan_format::print(shelf.alloc, instance, &found.plan) {
+        Ok(text) => shelf.put(instance, text.as_slice(), found.delay),
         Err(_) => false,
     }
 }
@@ -177,10 +175,10 @@ impl<'a, R: Wait, D: Folder, F: Follower> Gate for Keeper<'a, R, D, F> {
         self.follower.is_late()
     }
 
-    fn found(&self, instance: &Instance, plan: &Plan, delay: u64) {
-        self.follower.found(instance, plan, delay);
+    fn found(&self, instance: &Instance, found: &FoundPlan) {
+        self.follower.found(instance, found);
         let mut shelf = self.shelf.lock(self.rt);
-        if !put_better(&mut *shelf, instance, plan, delay) {
+        if !put_better(&mut *shelf, instance, found) {
             self.failed.store(true, Ordering::SeqCst);
         }
     }

@@ -5,12 +5,18 @@ ghost use Rattle.std.specs.Prelude.{IsTrue, is_some, true};
 ghost use Rattle.search_watching.specs.Patience.{is_enough, MayEnd};
 
 use crate::progress::Follower;
-use planner::{Gate, Name};
+use planner::{FoundPlan, Gate, Name};
 use std::alloc::Global;
 use std::rt::Clock;
 use std::sync::atomic::{AtomicU64, Ordering};
 use std::time::Instant;
-use ttp_model::{Instance, Plan};
+use ttp_model::Instance;
+
+/// Thousandths of the seconds that a search is given: all of them, and those after which its bound is to rise, as it does in the last quarter of a
+/// budget.
+const WHOLE: u64 = 1000;
+
+const LATE: u64 = 750;
 
 /// Whether the best plan found takes at most as long as was asked for.
 pub fn is_enough(until: Option<u32>, best: Option<u64>) -> bool
@@ -62,13 +68,13 @@ impl<'a, S: Clock, F: Follower> Patient<'a, S, F> {
         }
     }
 
-    /// Whether as many seconds have passed as were given.
-    fn is_over(&self) -> bool
+    /// Whether as many thousandths of the seconds that were given have passed.
+    fn has_passed(&self, thousandths: u64) -> bool
         ensures { result ≡ true → IsTrue (is_some self.now.patience.seconds) }
     {
         match (self.patience.seconds, &self.started) {
             (Some(seconds), Some(started)) => match started.elapsed(self.clock) {
-                Ok(time) => time.as_secs() >= seconds,
+                Ok(time) => time.as_millis() >= u128::from(seconds.saturating_mul(thousandths)),
                 Err(_) => false,
             },
             _ => false,
@@ -79,7 +85,7 @@ impl<'a, S: Clock, F: Follower> Patient<'a, S, F> {
     fn is_spent(&self) -> bool
         ensures { result ≡ true → MayEnd self.now.patience.until self.now.patience.seconds }
     {
-        is_enough(self.patience.until, self.best()) || self.is_over()
+        is_enough(self.patience.until, self.best()) || self.has_passed(WHOLE)
     }
 }
 
@@ -108,12 +114,12 @@ impl<'a, S: Clock, F: Follower> Gate for Patient<'a, S, F> {
     }
 
     fn is_late(&self) -> bool {
-        self.follower.is_late()
+        self.follower.is_late() || self.has_passed(LATE)
     }
 
-    fn found(&self, instance: &Instance, plan: &Plan, delay: u64) {
-        self.best.fetch_min(delay, Ordering::SeqCst);
-        self.follower.found(instance, plan, delay);
+    fn found(&self, instance: &Instance, found: &FoundPlan) {
+        self.best.fetch_min(found.delay, Ordering::SeqCst);
+        self.follower.found(instance, found);
     }
 }
 

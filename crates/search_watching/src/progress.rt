@@ -1,12 +1,12 @@
 //! How far is a search?
 
-use planner::{FreeGate, Gate, Name, root_bound};
+use planner::{FoundPlan, FreeGate, Gate, Name, root_bound};
 use std::alloc::{AllocError, Global};
 use std::fmt;
 use std::rt::Clock;
 use std::sync::atomic::{AtomicU64, Ordering};
 use std::time::Instant;
-use ttp_model::{Instance, Plan};
+use ttp_model::Instance;
 
 /// Who follows a search: a gate of its workers, which hears of the instance before they begin, and that the search has ended.
 pub trait Follower: Gate {
@@ -248,8 +248,8 @@ impl<'a, S: Clock + Eprint> Gate for Progress<'a, S> {
         }
     }
 
-    fn found(&self, _instance: &Instance, _plan: &Plan, delay: u64) {
-        self.best.fetch_min(delay, Ordering::SeqCst);
+    fn found(&self, _instance: &Instance, found: &FoundPlan) {
+        self.best.fetch_min(found.delay, Ordering::SeqCst);
     }
 }
 

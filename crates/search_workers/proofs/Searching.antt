@@ -16,6 +16,7 @@ use Rattle.search_workers.specs.piece.Piece.{Piece}
 use Rattle.search_workers.specs.Task.{Task, IsTask, root_task}
 use Rattle.search_workers.specs.Best.{IsPlanFound}
 use Rattle.search_workers.specs.declared.aims.Aims.{Aims}
+use Rattle.search_workers.specs.declared.found.FoundPlan.{FoundPlan}
 use Rattle.search_workers.specs.Goals.{goals_at}
 use Rattle.search_workers.specs.Tasks.{Turn, IsTurn, tasks_of, born, all_born}
 use Rattle.search_workers.specs.Searching.{aim_of, limit_of, IsFound, IsSearching}
@@ -61,7 +62,7 @@ pub weaker_goal : (limit lower : ℕ) → lower ≤ limit → (n : Node) → Has
 weaker_goal limit lower le (node.Branch branch) h = tt
 weaker_goal limit lower le (node.Leaf leaf) h = omega (arith, h, le)
 
-pub works : (i : Instance) (aims : Aims) (made : List Piece) (front : List Task) (turn : Turn) (old new : Option (Plan × ℕ)) (kids : List Task)
+pub works : (i : Instance) (aims : Aims) (made : List Piece) (front : List Task) (turn : Turn) (old new : Option FoundPlan) (kids : List Task)
     → IsSearching i aims made (front ++ turn.task ∷ []) old → IsTurn i turn → kids ≡ born i turn → All (IsTask i) kids
     → limit_of i new ≤ limit_of i old → HasGoal (aim_of i aims new) turn.piece.node → IsFound i new
     → IsSearching i aims (made ++ turn.piece ∷ []) (front ++ kids) new
@@ -82,14 +83,14 @@ works i aims made front turn old new kids s is same each lower goal found =
     }
 
 -- a search works at most at the delay that it has to beat
-pub aim_below : (i : Instance) (aims : Aims) (best : Option (Plan × ℕ)) → aim_of i aims best ≤ limit_of i best
+pub aim_below : (i : Instance) (aims : Aims) (best : Option FoundPlan) → aim_of i aims best ≤ limit_of i best
 aim_below i aims best = goal_below i aims (limit_of i best)
 
 pub found_small : (i : Instance) (plan : Plan) (ticks : ℕ) → IsInstance i → IsPlanFound i plan ticks → ticks ≤ i.cluster.horizon
 found_small i plan ticks w is = omega (arith, is.delay_is, delay_small i plan w is.settled.valid)
 
 -- the open tasks may stand in any order
-pub in_any_order : (i : Instance) (aims : Aims) (made : List Piece) (tasks others : List Task) (best : Option (Plan × ℕ)) → IsPermutation tasks others → IsSearching i aims made tasks best → IsSearching i aims made others best
+pub in_any_order : (i : Instance) (aims : Aims) (made : List Piece) (tasks others : List Task) (best : Option FoundPlan) → IsPermutation tasks others → IsSearching i aims made tasks best → IsSearching i aims made others best
 in_any_order i aims made tasks others best moved s = record {
   turns = s.turns;
   each = s.each;

@@ -158,13 +158,13 @@ module _ {J : Type 0} (i : Instance) (begun : Watch) (old new : Run J) where
 
   pub best_found : FindsBest i old new → OffersBest i begun old.watch old.best → OffersBest i begun new.watch new.best
   best_found f h =
-      let P : ℕ → Type 0 = λ value. f.ticks ≤ value in
+      let P : ℕ → Type 0 = λ value. f.found.delay ≤ value in
       let all : All P (offers begun ++ h.made) = subst (All P) h.offered f.least in
-      let own : All P h.made = contains_below f.ticks h.made (offers begun ++ h.made) (λ x there. Contains-append_right (offers begun) h.made x there) all in
-      let is : IsBestOf i (h.made ++ f.ticks ∷ []) (Some (f.plan, f.ticks)) = (f.found, All-push P h.made f.ticks own (omega arith)) in
+      let own : All P h.made = contains_below f.found.delay h.made (offers begun ++ h.made) (λ x there. Contains-append_right (offers begun) h.made x there) all in
+      let is : IsBestOf i (h.made ++ f.found.delay ∷ []) (Some f.found) = (f.is, All-push P h.made f.found.delay own (omega arith)) in
       record {
-        made = h.made ++ f.ticks ∷ [];
-        offered = f.offered ∙ (ap (λ (l : List ℕ). l ++ f.ticks ∷ []) h.offered ∙ append_assoc (offers begun) h.made (f.ticks ∷ []));
-        plans = All-push (IsFoundDelay i) h.made f.ticks h.plans (record { plan = f.plan; is = f.found });
-        best = subst (IsBestOf i (h.made ++ f.ticks ∷ [])) (sym f.best) is;
+        made = h.made ++ f.found.delay ∷ [];
+        offered = f.offered ∙ (ap (λ (l : List ℕ). l ++ f.found.delay ∷ []) h.offered ∙ append_assoc (offers begun) h.made (f.found.delay ∷ []));
+        plans = All-push (IsFoundDelay i) h.made f.found.delay h.plans (record { plan = f.found.plan; is = f.is });
+        best = subst (IsBestOf i (h.made ++ f.found.delay ∷ [])) (sym f.best) is;
       }

@@ -1,6 +1,5 @@
 -- A run of a worker between two turns, and what a turn changes. Only private contracts ask for it.
 use Rattle.std.specs.Prelude.{◌≡◌, ◌≢◌, ℕ, ◌+◌, ◌-◌, ◌*◌, ◌^◌, min, ◌≤◌, ◌⊎◌, List, [], ◌∷◌, ◌++◌, All, Some, IsPermutation}
-use Rattle.ttp_model.specs.declared.plan.Plan.{Plan}
 use Rattle.ttp_model.specs.Instance.{Instance}
 use Rattle.branch_tree.specs.Task.{Task, IsTask}
 use Rattle.incumbent.specs.declared.word.Watch.{Watch}
@@ -8,6 +7,7 @@ use Rattle.incumbent.specs.Watch.{offers}
 use Rattle.steal_pool.specs.declared.hand.Hand.{Hand}
 use Rattle.steal_pool.specs.Hand.{pushed, taken, IsSameHand}
 use Rattle.search_workers.specs.declared.aims.Aims.{Aims}
+use Rattle.search_workers.specs.declared.found.FoundPlan.{FoundPlan}
 use Rattle.search_workers.specs.declared.report.Rest.{Rest}
 use Rattle.search_workers.specs.declared.report.Rest.TheVariants as hold
 use Rattle.search_workers.specs.declared.run.Run.{Run}
@@ -37,12 +37,11 @@ pub record KeepsBest {J : Type 0} (old new : Run J) : Type 0 where
 
 -- a plan was found that is better than all that were offered
 pub record FindsBest {J : Type 0} (i : Instance) (old new : Run J) : Type 0 where
-  pub plan : Plan
-  pub ticks : ℕ
-  pub found : IsPlanFound i plan ticks
-  pub best : new.best ≡ Some (plan, ticks)
-  pub offered : offers new.watch ≡ offers old.watch ++ ticks ∷ []
-  pub least : All (λ value. ticks ≤ value) (offers old.watch)
+  pub found : FoundPlan
+  pub is : IsPlanFound i found.plan found.delay
+  pub best : new.best ≡ Some found
+  pub offered : offers new.watch ≡ offers old.watch ++ found.delay ∷ []
+  pub least : All (λ value. found.delay ≤ value) (offers old.watch)
 
 -- of tasks some were pushed behind those that were before, and the others are left
 pub record Pushes (before after tasks left : List Task) : Type 0 where

@@ -1,12 +1,12 @@
 -- A search as it stands: what was made of the tree so far, what is left, and the best plan found.
 use Rattle.std.specs.Prelude.{◌≡◌, ℕ, ◌+◌, ◌<◌, List, ◌∷◌, ◌++◌, map, length, All, Option, None, Some, IsPermutation}
-use Rattle.ttp_model.specs.declared.plan.Plan.{Plan}
 use Rattle.ttp_model.specs.Instance.{Instance}
 use Rattle.search_workers.specs.piece.Piece.{Piece}
 use Rattle.search_workers.specs.Name.{Name}
 use Rattle.search_workers.specs.Task.{Task, IsTask, root_task}
 use Rattle.search_workers.specs.Best.{IsPlanFound}
 use Rattle.search_workers.specs.declared.aims.Aims.{Aims}
+use Rattle.search_workers.specs.declared.found.FoundPlan.{FoundPlan}
 use Rattle.search_workers.specs.Goals.{goal_of}
 use Rattle.search_workers.specs.Tasks.{Turn, IsTurn, tasks_of, pieces_of, all_born}
 use Rattle.search_trees.specs.Gathering.{HaveGoals}
@@ -14,25 +14,25 @@ use Rattle.search_workers.specs.declared.outcome.Why.{Why}
 use Rattle.search_workers.specs.declared.outcome.Why.TheVariants.{Budget, Memory, CalledOff, Gap}
 
 -- the delay that the search had to beat: that of the best plan found, or one tick past the horizon
-abbrev pub limit_of : Instance → Option (Plan × ℕ) → ℕ
+abbrev pub limit_of : Instance → Option FoundPlan → ℕ
 limit_of i None = i.cluster.horizon + 1
-limit_of i (Some best) = best.1
+limit_of i (Some best) = best.delay
 
 -- the goal at which it works then
-abbrev pub aim_of : Instance → Aims → Option (Plan × ℕ) → ℕ
+abbrev pub aim_of : Instance → Aims → Option FoundPlan → ℕ
 aim_of i aims best = goal_of i aims (limit_of i best)
 
 -- the plan that was found, where one was, is settled and has its delay
-abbrev pub IsFound : Instance → Option (Plan × ℕ) → Type 0
+abbrev pub IsFound : Instance → Option FoundPlan → Type 0
 IsFound i None = Unit {0}
-IsFound i (Some best) = IsPlanFound i best.0 best.1
+IsFound i (Some best) = IsPlanFound i best.plan best.delay
 
 abbrev pub task_names : List Task → List Name
 task_names tasks = map (λ (t : Task). t.name) tasks
 
 -- Each piece is right for a task of the instance. These tasks and the open ones are the root and the children of all
 -- branches, each as often. No leaf's goal is below the one at which the search works.
-pub record IsSearching (i : Instance) (aims : Aims) (made : List Piece) (tasks : List Task) (best : Option (Plan × ℕ)) : Type 0 where
+pub record IsSearching (i : Instance) (aims : Aims) (made : List Piece) (tasks : List Task) (best : Option FoundPlan) : Type 0 where
   pub turns : List Turn
   pub each : All (IsTurn i) turns
   pub pieces : pieces_of turns ≡ made

@@ -3,13 +3,16 @@
 
 mod aims;
 mod ends;
+mod found;
 mod gate;
+mod job;
 mod laws;
 mod outcome;
 mod report;
 mod rising;
 mod run;
 mod search;
+mod site;
 mod turn;
 mod worker;
 
@@ -19,7 +22,9 @@ pub use branch_tree::{
     work_on,
 };
 pub use ends::{answer, cause};
+pub use found::FoundPlan;
 pub use gate::{FreeGate, Gate};
+pub use job::Job;
 pub use laws::spared_tasks_have_no_plan;
 pub use outcome::{MOST_WORKERS, Options, Outcome, SolveFault, Why};
 pub use report::{Ending, Report, Rest};
@@ -28,5 +33,6 @@ pub use search_trees::{
     GatherFault, gather, gather_whole, gathered_certificates_have_texts, leaves_close_a_tree,
     names_make_one_tree, whole_trees_prove,
 };
+pub use site::{Course, Site};
 pub use used_decisions::{Manner, usual_manner};
 pub use worker::{run_worker, run_worker_in};

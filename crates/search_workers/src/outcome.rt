@@ -4,6 +4,7 @@ ghost use Rattle.std.specs.Prelude.{◌≡◌};
 ghost use Rattle.search_workers.specs.Workers.{workers_of};
 ghost use Rattle.search_workers.specs.declared.outcome.SolveFault.TheVariants as fault;
 
+use crate::found::FoundPlan;
 use certificate::Cert;
 use thiserror::Error;
 use ttp_model::{MemoryFault, Plan};
@@ -18,8 +19,6 @@ pub struct Options {
     pub workers: u32,
     /// How many subtrees are worked at most.
     pub budget: u64,
-    /// A subtree is left as soon as no plan in it is better than the best one by more ticks. With 0 all are sought.
-    pub gap: u32,
 }
 
 impl Options {
@@ -57,11 +56,11 @@ pub enum Outcome {
     Infeasible {
         cert: Cert,
     },
-    /// No plan has a delay below `low`; the best plan found, settled, with its delay, where one was.
+    /// No plan has a delay below `low`; the best plan found, settled, where one was.
     Stopped {
         why: Why,
         low: u32,
-        best: Option<(Plan, u64)>,
+        best: Option<FoundPlan>,
         cert: Cert,
     },
 }

@@ -1,10 +1,10 @@
 //! What does a worker report?
 
+use crate::found::FoundPlan;
 use branch_tree::{Piece, Task};
 use certificate::Node;
 use incumbent::Watch;
 use steal_pool::{Hand, Searched};
-use ttp_model::Plan;
 
 /// What a worker that ended had in hand.
 #[derive(Drop)]
@@ -40,8 +40,8 @@ pub struct Report<J: Searched> {
     pub pieces: Vec<Piece>,
     /// Room for the nodes of a certificate; nothing is in it.
     pub room: Vec<Node>,
-    /// The best plan that it found, with its delay in ticks.
-    pub best: Option<(Plan, u64)>,
+    /// The best plan that it found.
+    pub best: Option<FoundPlan>,
     pub rest: Rest,
     /// Tasks that it took and didn't work, since a branch above them is proved without them; none in a plain search.
     pub spared: Vec<Task>,

@@ -4,7 +4,8 @@ ghost use Rattle.std.specs.Prelude.{◌≡◌, All};
 ghost use Rattle.search_workers.specs.Task.{IsTask};
 ghost use Rattle.search_workers.specs.Workbench.{IsWorkbenchOf};
 
-use crate::{Task, Workbench, is_closed_below, root_bound};
+use crate::site::Site;
+use crate::{Gate, Task, Workbench, is_closed_below, root_bound};
 use std::alloc::Global;
 use ttp_model::{Instance, MemoryFault};
 
@@ -71,6 +72,16 @@ impl<'a> Rising<'a> {
             .min(self.most as u64) as u32
     }
 
+    /// Whether one task more may be tried: none once who follows the search has said that it doesn't go on.
+    fn may_try<G: Gate>(&mut self, gate: &G) -> bool
+        ensures { self.new.bench ≡ self.old.bench }
+    {
+        if !gate.goes_on(0) {
+            self.tries = 0;
+        }
+        self.tries > 0
+    }
+
     /// Whether propagation closes a task at the goal of a step.
     fn closes(
         &mut self,
@@ -106,20 +117,19 @@ impl<'a> Rising<'a> {
     }
 
     /// The newest task that propagation doesn't close at the goal of a step.
-    fn newest_open(
+    fn newest_open<G: Gate>(
         &mut self,
-        alloc: Global,
-        instance: &'a Instance,
+        site: &Site<'a, G>,
         tasks: &[Task],
         step: u32,
     ) -> Result<Option<usize>, MemoryFault>
-        requires tasks { All (IsTask instance.now) tasks.now }
-        requires bench { IsWorkbenchOf instance.now self.old.bench }
-        ensures { IsWorkbenchOf instance.now self.new.bench }
+        requires tasks { All (IsTask site.now.instance.now) tasks.now }
+        requires bench { IsWorkbenchOf site.now.instance.now self.old.bench }
+        ensures { IsWorkbenchOf site.now.instance.now self.new.bench }
     {
         for at in (0..tasks.len()).rev() {
-            if self.tries > 0 && !self.is_closed(at, step) {
-                if !self.closes(alloc, instance, &tasks[at], step)? {
+            if !self.is_closed(at, step) && self.may_try(site.gate) {
+                if !self.closes(site.alloc, site.instance, &tasks[at], step)? {
                     return Ok(Some(at));
                 }
                 self.note(at, step);
@@ -129,20 +139,19 @@ impl<'a> Rising<'a> {
     }
 
     /// The newest task that isn't closed at the goal, which rises as long as all are.
-    fn open_task(
+    fn open_task<G: Gate>(
         &mut self,
-        alloc: Global,
-        instance: &'a Instance,
+        site: &Site<'a, G>,
         tasks: &[Task],
     ) -> Result<Option<usize>, MemoryFault>
-        requires tasks { All (IsTask instance.now) tasks.now }
-        requires bench { IsWorkbenchOf instance.now self.old.bench }
-        ensures { IsWorkbenchOf instance.now self.new.bench }
+        requires tasks { All (IsTask site.now.instance.now) tasks.now }
+        requires bench { IsWorkbenchOf site.now.instance.now self.old.bench }
+        ensures { IsWorkbenchOf site.now.instance.now self.new.bench }
     {
         self.closed.resize(tasks.len(), 0)?;
         for step in self.step..STEPS {
             self.step = step;
-            let found = self.newest_open(alloc, instance, tasks, step)?;
+            let found = self.newest_open(site, tasks, step)?;
             if found.is_some() {
                 return Ok(found);
             }
@@ -153,17 +162,18 @@ impl<'a> Rising<'a> {
 
     /// The place of the task that is to be worked next: the newest that propagation doesn't close at the goal, which rises as long as
     /// all are closed there. It is the newest of all where the goal has come to the delay that has to be beaten, where no more may be
-    /// tried, or where memory is refused. The last task takes the place of this one, which is no longer left.
-    pub fn pick(&mut self, alloc: Global, instance: &'a Instance, tasks: &[Task]) -> usize
-        requires tasks { All (IsTask instance.now) tasks.now }
-        requires bench { IsWorkbenchOf instance.now self.old.bench }
-        ensures { IsWorkbenchOf instance.now self.new.bench }
+    /// tried, or where memory is refused. Who follows the search is asked before each try. The last task takes the place of this one, which is
+    /// no longer left.
+    pub fn pick<G: Gate>(&mut self, site: &Site<'a, G>, tasks: &[Task]) -> usize
+        requires tasks { All (IsTask site.now.instance.now) tasks.now }
+        requires bench { IsWorkbenchOf site.now.instance.now self.old.bench }
+        ensures { IsWorkbenchOf site.now.instance.now self.new.bench }
     {
         let newest = tasks.len().saturating_sub(1);
         if self.tries == 0 {
             return newest;
         }
-        let at = match self.open_task(alloc, instance, tasks) {
+        let at = match self.open_task(site, tasks) {
             Ok(Some(at)) => at,
             Ok(None) | Err(_) => newest,
         };

@@ -1,6 +1,6 @@
 //! What does a worker do in one turn?
 
-ghost use Rattle.std.specs.Prelude.{◌≡◌, ◌≢◌, false, ◌<◌, ◌≤◌, ◌+◌, ◌++◌, ℕ, List, All, IsTrue, IfOk, OnOk, OnErr, IfErr, IsPermutation, length, vec_len, vec_capacity};
+ghost use Rattle.std.specs.Prelude.{◌≡◌, false, ◌<◌, ◌≤◌, ◌+◌, ◌++◌, ℕ, List, All, IsTrue, IfOk, OnOk, OnErr, IfErr, IsPermutation, vec_len, vec_capacity};
 ghost use Rattle.branch_tree.specs.Pieces.{IsRight, IsSharp};
 ghost use Rattle.branch_tree.specs.Task.{Task, choice_of, IsTask};
 ghost use Rattle.branch_tree.specs.Workbench.{IsWorkbenchOf};
@@ -17,8 +17,10 @@ ghost use Rattle.search_workers.specs.Report.{IsReachedBy, IsSpared, AreSpared};
 ghost use Rattle.search_workers.specs.Run.{GoesOn, Pushes, Refuses, Spares, Works, rest_after, room_kept};
 
 use crate::aims::{Aims, goal_of};
+use crate::found::FoundPlan;
 use crate::gate::Gate;
 use crate::report::Rest;
+use crate::site::{Course, Site};
 use crate::turn::{Gain, work_task};
 use branch_tree::{Piece, Task, Workbench};
 use certificate::Node;
@@ -26,7 +28,7 @@ use incumbent::{Incumbent, Watch};
 use std::alloc::Global;
 use steal_pool::{Hand, Searched};
 use tt_choice::{Decision, is_of_places};
-use ttp_model::{Instance, Kind, MemoryFault, Plan};
+use ttp_model::{Instance, Kind, MemoryFault};
 use used_decisions::{Manner, Needs};
 
 /// For how many pieces there is room beside those that are made, at least: the leaves that close what is open in the end.
@@ -43,7 +45,7 @@ pub struct Run<J: Searched> {
     pub room: Vec<Node>,
     /// How many workers there are.
     pub workers: usize,
-    pub best: Option<(Plan, u64)>,
+    pub best: Option<FoundPlan>,
 }
 
 /// What a turn came to.
@@ -194,29 +196,29 @@ impl<J: Searched> Run<J> {
     /// task is worked, that for the end too; where it is refused, the task comes back.
     fn make<'a, G: Gate>(
         &mut self,
-        alloc: Global,
-        instance: &'a Instance,
+        site: &Site<'a, G>,
+        word: &Incumbent,
         bench: &mut Workbench<'a>,
         needs: &mut Needs<'a>,
-        word: &Incumbent,
         aims: Aims,
-        gate: &G,
         task: Task,
     ) -> Result<(Piece, Vec<Task>), Task>
-        requires of { instance.now ≡ J.instance }
-        requires task { IsTask instance.now task }
+        requires of { site.now.instance.now ≡ J.instance }
+        requires task { IsTask site.now.instance.now task }
         requires watch { IsOther word.now self.old.watch }
-        requires bench { IsWorkbenchOf instance.now bench.old }
-        requires needs { HoldUpTo instance.now 0 needs.old }
-        ensures holds { IfOk result (λ made. (low : ℕ) → low ≤ instance.now.cluster.horizon + 1 → All (λ goal. low ≤ goal) (goals_at made.0.node)
-            → HoldUpTo instance.now low needs.old → HoldUpTo instance.now low needs.new) }
-        ensures holds_still { OnErr result ((low : ℕ) → low ≤ instance.now.cluster.horizon + 1
-            → HoldUpTo instance.now low needs.old → HoldUpTo instance.now low needs.new) }
-        ensures made { IfOk result (λ made. Works instance.now aims self.old self.new (record { task = task; piece = made.0 }) made.1.items) }
+        requires bench { IsWorkbenchOf site.now.instance.now bench.old }
+        requires needs { HoldUpTo site.now.instance.now 0 needs.old }
+        ensures holds { IfOk result (λ made. (low : ℕ) → low ≤ site.now.instance.now.cluster.horizon + 1 → All (λ goal. low ≤ goal) (goals_at made.0.node)
+            → HoldUpTo site.now.instance.now low needs.old → HoldUpTo site.now.instance.now low needs.new) }
+        ensures holds_still { OnErr result ((low : ℕ) → low ≤ site.now.instance.now.cluster.horizon + 1
+            → HoldUpTo site.now.instance.now low needs.old → HoldUpTo site.now.instance.now low needs.new) }
+        ensures made { IfOk result (λ made. Works site.now.instance.now aims self.old self.new (record { task = task; piece = made.0 }) made.1.items) }
         ensures room { OnOk result (vec_len self.new.pieces < vec_capacity self.new.pieces) }
         ensures back { IfErr result (λ back. (back ≡ task) × Refuses self.old self.new) }
-        ensures bench { IsWorkbenchOf instance.now bench.new }
+        ensures bench { IsWorkbenchOf site.now.instance.now bench.new }
     {
+        let alloc = site.alloc;
+        let instance = site.instance;
         let seen = word.look(&mut self.watch);
         let goal = goal_of(instance, aims, seen);
         let left = self.spared.len();
@@ -232,10 +234,10 @@ impl<J: Searched> Run<J> {
                 Ok((piece, left))
             }
             Gain::Nothing => Ok((piece, Vec::new(alloc))),
-            Gain::Found(plan, delay) => {
-                word.offer(&mut self.watch, delay as u32);
-                gate.found(instance, &plan, delay);
-                self.best = Some((plan, delay));
+            Gain::Found(found) => {
+                word.offer(&mut self.watch, found.delay as u32);
+                site.gate.found(instance, &found);
+                self.best = Some(found);
                 Ok((piece, Vec::new(alloc)))
             }
         }
@@ -259,40 +261,37 @@ impl<J: Searched> Run<J> {
     /// Takes a task, where one is found, and works it, if that is needed. The gate is told of work and of plans.
     pub fn turn<'a, G: Gate>(
         &mut self,
-        alloc: Global,
-        instance: &'a Instance,
+        site: &Site<'a, G>,
+        word: &Incumbent,
         bench: &mut Workbench<'a>,
         needs: &mut Needs<'a>,
-        word: &Incumbent,
-        manner: Manner,
-        aims: Aims,
-        gate: &G,
+        course: Course,
     ) -> Sweep
-        requires of { instance.now ≡ J.instance }
+        requires of { site.now.instance.now ≡ J.instance }
         requires watch { IsOther word.now self.old.watch }
-        requires bench { IsWorkbenchOf instance.now bench.old }
-        requires spared { AreSpared instance.now self.old.pieces.items self.old.spared.items needs.old }
-        ensures spared { AreSpared instance.now self.new.pieces.items self.new.spared.items needs.new }
-        ensures goes_on { GoesOn instance.now aims self.old self.new (rest_after result) }
+        requires bench { IsWorkbenchOf site.now.instance.now bench.old }
+        requires spared { AreSpared site.now.instance.now self.old.pieces.items self.old.spared.items needs.old }
+        ensures spared { AreSpared site.now.instance.now self.new.pieces.items self.new.spared.items needs.new }
+        ensures goes_on { GoesOn site.now.instance.now course.aims self.old self.new (rest_after result) }
         ensures watch { IsOther word.now self.new.watch }
         ensures idle { result ≡ sweep.Idle → vec_len self.new.pieces ≡ vec_len self.old.pieces }
         ensures left { result ≡ sweep.Spared → vec_len self.new.pieces ≡ vec_len self.old.pieces }
         ensures worked { result ≡ sweep.Worked → vec_len self.new.pieces ≡ vec_len self.old.pieces + 1 }
-        ensures plain { manner ≡ Plain → self.new.spared.items ≡ self.old.spared.items }
+        ensures plain { course.manner ≡ Plain → self.new.spared.items ≡ self.old.spared.items }
         ensures most { vec_len self.new.pieces ≤ vec_len self.old.pieces + 1 }
-        ensures bench { IsWorkbenchOf instance.now bench.new }
+        ensures bench { IsWorkbenchOf site.now.instance.now bench.new }
     {
         let Some(task) = self.hand.take() else {
             return Sweep::Idle;
         };
-        if is_left(alloc, manner, needs, &task) {
+        if is_left(site.alloc, course.manner, needs, &task) {
             return self.spare(task);
         }
         let worker = self.hand.number();
-        gate.enter(worker, task.name());
-        match self.make(alloc, instance, bench, needs, word, aims, gate, task) {
+        site.gate.enter(worker, task.name());
+        match self.make(site, word, bench, needs, course.aims, task) {
             Ok((piece, left)) => {
-                gate.leave(worker, &piece.name);
+                site.gate.leave(worker, &piece.name);
                 self.pieces.push_reserved(piece);
                 if left.is_empty() {
                     Sweep::Worked
@@ -301,7 +300,7 @@ impl<J: Searched> Run<J> {
                 }
             }
             Err(task) => {
-                gate.leave(worker, task.name());
+                site.gate.leave(worker, task.name());
                 Sweep::Ended(Rest::One(task))
             }
         }

@@ -10,15 +10,17 @@ ghost use Rattle.search_workers.specs.Searching.{aim_of, limit_of, IsCutShort, I
 ghost use Rattle.search_workers.specs.declared.outcome.Why.TheVariants as why;
 ghost use Rattle.search_workers.specs.declared.rising.Order.TheVariants as orders;
 
+use crate::found::FoundPlan;
 use crate::outcome::Why;
 use crate::rising::{Order, Rising};
+use crate::site::Site;
 use crate::turn::{Gain, work_task};
 use crate::{Aims, Gate, Piece, Task, Workbench, goal_of};
 use certificate::Node;
 use std::alloc::Global;
-use ttp_model::{Instance, MOST_NODES, MemoryFault, Plan};
+use ttp_model::{Instance, MOST_NODES, MemoryFault};
 
-/// What is worked, room for its nodes, and what is still open; the best plan that was found, settled, with its delay in ticks.
+/// What is worked, room for its nodes, and what is still open; the best plan that was found, settled.
 #[derive(Drop)]
 pub struct Search {
     pub pieces: Vec<Piece>,
@@ -26,23 +28,23 @@ pub struct Search {
     pub tasks: Vec<Task>,
     /// How many of them needn't be worked, as far as was seen.
     pub spared: usize,
-    pub best: Option<(Plan, u64)>,
+    pub best: Option<FoundPlan>,
 }
 
 /// The delay that has to be beaten.
-pub fn limit(instance: &Instance, best: &Option<(Plan, u64)>) -> u32
+pub fn limit(instance: &Instance, best: &Option<FoundPlan>) -> u32
     requires { IsFound instance.now best.now }
     ensures { result ≡ limit_of instance.now best.now }
 {
     let _nodes = instance.nodes();
     match best {
-        Some((_, delay)) => *delay as u32,
+        Some(found) => found.delay as u32,
         None => instance.past_horizon(),
     }
 }
 
 /// The goal at which it works then, in ticks.
-pub fn aim(instance: &Instance, aims: Aims, best: &Option<(Plan, u64)>) -> u32
+pub fn aim(instance: &Instance, aims: Aims, best: &Option<FoundPlan>) -> u32
     requires { IsFound instance.now best.now }
     ensures { result ≡ aim_of instance.now aims best.now }
 {
@@ -95,9 +97,9 @@ impl Search {
         match gain {
             Gain::Children(_, tasks) => open_all(&mut self.tasks, tasks),
             Gain::Nothing => {}
-            Gain::Found(plan, delay) => {
-                gate.found(instance, &plan, delay);
-                self.best = Some((plan, delay));
+            Gain::Found(found) => {
+                gate.found(instance, &found);
+                self.best = Some(found);
             }
         }
     }
@@ -106,18 +108,16 @@ impl Search {
     /// left. A gate is told of the plan that was found.
     fn turn<'a, G: Gate>(
         &mut self,
-        alloc: Global,
-        instance: &'a Instance,
+        site: &Site<'a, G>,
         bench: &mut Workbench<'a>,
         aims: Aims,
-        gate: &G,
     ) -> bool
-        requires searching { IsSearching instance.now aims self.old.pieces.items self.old.tasks.items self.old.best }
-        requires bench { IsWorkbenchOf instance.now bench.old }
-        ensures searching { IsSearching instance.now aims self.new.pieces.items self.new.tasks.items self.new.best }
+        requires searching { IsSearching site.now.instance.now aims self.old.pieces.items self.old.tasks.items self.old.best }
+        requires bench { IsWorkbenchOf site.now.instance.now bench.old }
+        ensures searching { IsSearching site.now.instance.now aims self.new.pieces.items self.new.tasks.items self.new.best }
         ensures one { length self.new.pieces.items ≡ length self.old.pieces.items + cond result 1 0 }
-        ensures no_later { limit_of instance.now self.new.best ≤ limit_of instance.now self.old.best }
-        ensures bench { IsWorkbenchOf instance.now bench.new }
+        ensures no_later { limit_of site.now.instance.now self.new.best ≤ limit_of site.now.instance.now self.old.best }
+        ensures bench { IsWorkbenchOf site.now.instance.now bench.new }
     {
         if self.make_room().is_err() {
             return false;
@@ -125,10 +125,10 @@ impl Search {
         let Some(task) = self.tasks.pop() else {
             return false;
         };
-        let goal = aim(instance, aims, &self.best);
-        match work_task(alloc, instance, bench, task, goal) {
+        let goal = aim(site.instance, aims, &self.best);
+        match work_task(site.alloc, site.instance, bench, task, goal) {
             Ok((piece, gain)) => {
-                self.add(instance, piece, gain, gate);
+                self.add(site.instance, piece, gain, site.gate);
                 true
             }
             Err(task) => {
@@ -139,16 +139,16 @@ impl Search {
     }
 
     /// Makes the task that is to be worked next the newest.
-    fn bring<'a>(&mut self, alloc: Global, instance: &'a Instance, rising: &mut Rising<'a>)
-        requires tasks { All (IsTask instance.now) self.old.tasks.items }
-        requires bench { IsWorkbenchOf instance.now rising.old.bench }
-        ensures searching { (aims : Aims) → IsSearching instance.now aims self.old.pieces.items self.old.tasks.items self.old.best
-            → IsSearching instance.now aims self.new.pieces.items self.new.tasks.items self.new.best }
+    fn bring<'a, G: Gate>(&mut self, site: &Site<'a, G>, rising: &mut Rising<'a>)
+        requires tasks { All (IsTask site.now.instance.now) self.old.tasks.items }
+        requires bench { IsWorkbenchOf site.now.instance.now rising.old.bench }
+        ensures searching { (aims : Aims) → IsSearching site.now.instance.now aims self.old.pieces.items self.old.tasks.items self.old.best
+            → IsSearching site.now.instance.now aims self.new.pieces.items self.new.tasks.items self.new.best }
         ensures pieces { self.new.pieces.items ≡ self.old.pieces.items }
         ensures best { self.new.best ≡ self.old.best }
-        ensures bench { IsWorkbenchOf instance.now rising.new.bench }
+        ensures bench { IsWorkbenchOf site.now.instance.now rising.new.bench }
     {
-        let at = rising.pick(alloc, instance, self.tasks.as_slice());
+        let at = rising.pick(site, self.tasks.as_slice());
         let count = self.tasks.len();
         if at < count {
             self.tasks.swap(at, count - 1);
@@ -159,34 +159,32 @@ impl Search {
     /// doesn't go on; where it is late the newest aren't worked any more.
     fn take_turns<'a, G: Gate>(
         &mut self,
-        alloc: Global,
-        instance: &'a Instance,
+        site: &Site<'a, G>,
         bench: &mut Workbench<'a>,
         rising: &mut Rising<'a>,
         turns: u64,
         order: Order,
         aims: Aims,
-        gate: &G,
     ) -> Option<Why>
-        requires searching { IsSearching instance.now aims self.old.pieces.items self.old.tasks.items self.old.best }
-        requires bench { IsWorkbenchOf instance.now bench.old }
-        requires rising { IsWorkbenchOf instance.now rising.old.bench }
-        ensures searching { IsSearching instance.now aims self.new.pieces.items self.new.tasks.items self.new.best }
+        requires searching { IsSearching site.now.instance.now aims self.old.pieces.items self.old.tasks.items self.old.best }
+        requires bench { IsWorkbenchOf site.now.instance.now bench.old }
+        requires rising { IsWorkbenchOf site.now.instance.now rising.old.bench }
+        ensures searching { IsSearching site.now.instance.now aims self.new.pieces.items self.new.tasks.items self.new.best }
         ensures within { length self.new.pieces.items ≤ length self.old.pieces.items + turns }
         ensures cut { IfSome result (IsCutShort (length self.old.pieces.items + turns) self.new.pieces.items) }
         ensures all { result ≡ None → order ≡ orders.Rising → length self.new.pieces.items ≡ length self.old.pieces.items + turns }
-        ensures called_off { result ≡ Some why.CalledOff → G.ends gate.now }
-        ensures no_later { limit_of instance.now self.new.best ≤ limit_of instance.now self.old.best }
+        ensures called_off { result ≡ Some why.CalledOff → G.ends site.now.gate.now }
+        ensures no_later { limit_of site.now.instance.now self.new.best ≤ limit_of site.now.instance.now self.old.best }
     {
         for _turn in 0..turns {
-            if !gate.goes_on(0) {
+            if !site.gate.goes_on(0) {
                 return Some(Why::CalledOff);
             }
-            if order == Order::Newest && gate.is_late() {
+            if order == Order::Newest && site.gate.is_late() {
                 return None;
             }
-            self.bring(alloc, instance, rising);
-            if !self.turn(alloc, instance, bench, aims, gate) {
+            self.bring(site, rising);
+            if !self.turn(site, bench, aims) {
                 return Some(Why::Memory);
             }
         }
@@ -196,62 +194,43 @@ impl Search {
     /// Works tasks in this order until `budget` pieces are made, or it is late for it. Why it ended before.
     fn work<G: Gate>(
         &mut self,
-        alloc: Global,
-        instance: &Instance,
+        site: &Site<'_, G>,
         budget: u64,
         order: Order,
         aims: Aims,
-        gate: &G,
     ) -> Option<Why>
-        requires searching { IsSearching instance.now aims self.old.pieces.items self.old.tasks.items self.old.best }
+        requires searching { IsSearching site.now.instance.now aims self.old.pieces.items self.old.tasks.items self.old.best }
         requires within { length self.old.pieces.items ≤ budget }
-        ensures searching { IsSearching instance.now aims self.new.pieces.items self.new.tasks.items self.new.best }
+        ensures searching { IsSearching site.now.instance.now aims self.new.pieces.items self.new.tasks.items self.new.best }
         ensures within { length self.new.pieces.items ≤ budget }
         ensures cut { IfSome result (IsCutShort budget self.new.pieces.items) }
         ensures all { result ≡ None → order ≡ orders.Rising → length self.new.pieces.items ≡ budget }
-        ensures called_off { result ≡ Some why.CalledOff → G.ends gate.now }
-        ensures no_later { limit_of instance.now self.new.best ≤ limit_of instance.now self.old.best }
+        ensures called_off { result ≡ Some why.CalledOff → G.ends site.now.gate.now }
+        ensures no_later { limit_of site.now.instance.now self.new.best ≤ limit_of site.now.instance.now self.old.best }
     {
         let mut bench = Workbench::new();
         let turns = budget - self.pieces.len() as u64;
-        let most = aim(instance, aims, &self.best);
-        let mut rising = Rising::new(alloc, instance, order, most, turns);
-        self.take_turns(
-            alloc,
-            instance,
-            &mut bench,
-            &mut rising,
-            turns,
-            order,
-            aims,
-            gate,
-        )
+        let most = aim(site.instance, aims, &self.best);
+        let mut rising = Rising::new(site.alloc, site.instance, order, most, turns);
+        self.take_turns(site, &mut bench, &mut rising, turns, order, aims)
     }
 
     /// Works tasks, the newest first until `part` pieces are made or the gate says that it is late, and then so that the bound rises. It ends where
     /// `budget` pieces are made, memory is refused, or the gate says that it doesn't go on. Why it ended, where tasks are left.
-    pub fn go<G: Gate>(
-        &mut self,
-        alloc: Global,
-        instance: &Instance,
-        part: u64,
-        budget: u64,
-        aims: Aims,
-        gate: &G,
-    ) -> Why
-        requires searching { IsSearching instance.now aims self.old.pieces.items self.old.tasks.items self.old.best }
+    pub fn go<G: Gate>(&mut self, site: &Site<'_, G>, part: u64, budget: u64, aims: Aims) -> Why
+        requires searching { IsSearching site.now.instance.now aims self.old.pieces.items self.old.tasks.items self.old.best }
         requires within { length self.old.pieces.items ≤ part }
         requires part { part ≤ budget }
-        ensures searching { IsSearching instance.now aims self.new.pieces.items self.new.tasks.items self.new.best }
+        ensures searching { IsSearching site.now.instance.now aims self.new.pieces.items self.new.tasks.items self.new.best }
         ensures within { length self.new.pieces.items ≤ budget }
         ensures cause { IsWorkedOut budget self.new.pieces.items result }
-        ensures called_off { result ≡ why.CalledOff → G.ends gate.now }
-        ensures no_later { limit_of instance.now self.new.best ≤ limit_of instance.now self.old.best }
+        ensures called_off { result ≡ why.CalledOff → G.ends site.now.gate.now }
+        ensures no_later { limit_of site.now.instance.now self.new.best ≤ limit_of site.now.instance.now self.old.best }
     {
-        if let Some(why) = self.work(alloc, instance, part, Order::Newest, aims, gate) {
+        if let Some(why) = self.work(site, part, Order::Newest, aims) {
             return why;
         }
-        match self.work(alloc, instance, budget, Order::Rising, aims, gate) {
+        match self.work(site, budget, Order::Rising, aims) {
             Some(why) => why,
             None => Why::Budget,
         }

@@ -5,10 +5,11 @@ ghost use Rattle.branch_tree.specs.Task.{IsTask};
 ghost use Rattle.branch_tree.specs.Workbench.{IsWorkbenchOf};
 ghost use Rattle.search_workers.specs.Gains.{IsGain};
 
+use crate::found::FoundPlan;
 use branch_tree::{Piece, Task, Workbench, Worked, work_on};
 use certificate::{Branch, Node};
 use std::alloc::Global;
-use ttp_model::{Instance, Kind, Plan};
+use ttp_model::{Instance, Kind};
 
 /// What is gained where a task is worked, beside its piece.
 #[derive(Drop)]
@@ -17,8 +18,8 @@ pub enum Gain {
     Children(Kind, Vec<Task>),
     /// Nothing: a leaf closes it.
     Nothing,
-    /// A settled plan, with its delay in ticks.
-    Found(Plan, u64),
+    /// A settled plan.
+    Found(FoundPlan),
 }
 
 /// Works a task at a goal, on from the last one: what became of it, and what is gained. Where memory is refused, it comes back.
@@ -50,7 +51,7 @@ pub fn work_task<'a>(
         }
         Ok(Worked::Found(plan, delay, leaf)) => {
             let node = Node::Leaf(leaf);
-            Ok((Piece { name, node }, Gain::Found(plan, delay)))
+            Ok((Piece { name, node }, Gain::Found(FoundPlan { plan, delay })))
         }
         Err((task, _)) => Err(task),
     }

@@ -14,14 +14,14 @@ ghost use Rattle.used_decisions.specs.declared.manner.Manner.TheVariants.{Plain}
 
 use crate::aims::Aims;
 use crate::gate::Gate;
+use crate::job::Job;
 use crate::report::{Ending, Report, Rest};
 use crate::run::{Run, Sweep};
+use crate::site::{Course, Site};
 use branch_tree::Workbench;
 use crossbeam_utils::Backoff;
-use incumbent::{Incumbent, Watch};
-use std::alloc::Global;
-use steal_pool::{Hand, Searched};
-use ttp_model::Instance;
+use incumbent::Incumbent;
+use steal_pool::Searched;
 use used_decisions::{Manner, Needs, usual_manner};
 
 /// How many sweeps one after another find no task before a worker ends.
@@ -71,38 +71,35 @@ impl<J: Searched> Run<J> {
     /// another, or the gate says so: what is in hand then, and why it ended.
     fn turns<'a, G: Gate>(
         &mut self,
-        alloc: Global,
-        instance: &'a Instance,
+        site: &Site<'a, G>,
+        word: &Incumbent,
         bench: &mut Workbench<'a>,
         needs: &mut Needs<'a>,
-        word: &Incumbent,
         budget: u64,
-        manner: Manner,
-        aims: Aims,
-        gate: &G,
+        course: Course,
     ) -> (Rest, Ending)
-        requires of { instance.now ≡ J.instance }
+        requires of { site.now.instance.now ≡ J.instance }
         requires watch { IsOther word.now self.old.watch }
-        requires bench { IsWorkbenchOf instance.now bench.old }
+        requires bench { IsWorkbenchOf site.now.instance.now bench.old }
         requires within { vec_len self.old.pieces ≤ budget }
-        requires spared { AreSpared instance.now self.old.pieces.items self.old.spared.items needs.old }
-        ensures spared { AreSpared instance.now self.new.pieces.items self.new.spared.items needs.new }
-        ensures goes_on { GoesOn instance.now aims self.old self.new result.0 }
-        ensures plain { manner ≡ Plain → self.new.spared.items ≡ self.old.spared.items }
+        requires spared { AreSpared site.now.instance.now self.old.pieces.items self.old.spared.items needs.old }
+        ensures spared { AreSpared site.now.instance.now self.new.pieces.items self.new.spared.items needs.new }
+        ensures goes_on { GoesOn site.now.instance.now course.aims self.old self.new result.0 }
+        ensures plain { course.manner ≡ Plain → self.new.spared.items ≡ self.old.spared.items }
         ensures within { vec_len self.new.pieces ≤ budget }
         ensures ending { result.1 ≡ ending.Budget → vec_len self.new.pieces ≡ budget }
-        ensures called_off { result.1 ≡ ending.CalledOff → G.ends gate.now }
+        ensures called_off { result.1 ≡ ending.CalledOff → G.ends site.now.gate.now }
     {
         let (mut idle, mut spared) = (0, 0);
         let backoff = Backoff::new();
         while (self.pieces.len() as u64) < budget && idle < SWEEPS && spared < MOST_SPARED {
-            if !gate.goes_on(self.hand.number()) {
+            if !site.gate.goes_on(self.hand.number()) {
                 return (Rest::Nothing, Ending::CalledOff);
             }
-            if gate.is_late() {
+            if site.gate.is_late() {
                 return (Rest::Nothing, Ending::Late);
             }
-            match self.turn(alloc, instance, bench, needs, word, manner, aims, gate) {
+            match self.turn(site, word, bench, needs, course) {
                 Sweep::Idle => {
                     idle += 1;
                     wait(&backoff);
@@ -131,32 +128,33 @@ impl<J: Searched> Run<J> {
 /// Takes tasks of a pool and works them as `run_worker` does, in this manner and with these aims: each at the goal of the best delay that is known by
 /// then.
 pub fn run_worker_in<J: Searched, G: Gate>(
-    alloc: Global,
-    instance: &Instance,
-    hand: Hand<J>,
+    site: &Site<'_, G>,
     word: &Incumbent,
-    watch: Watch,
-    budget: u64,
-    workers: usize,
-    manner: Manner,
-    aims: Aims,
-    gate: &G,
+    course: Course,
+    job: Job<J>,
 ) -> Report<J>
-    requires of { instance.now ≡ J.instance }
-    requires watch { IsOther word.now watch }
-    ensures hand { IsSameHand hand result.hand }
-    ensures watch { IsSameWatch watch result.watch }
-    ensures account { HasAccount instance.now hand result.hand result.pieces.items result.spared.items result.rest }
-    ensures spared { All (IsSpared instance.now result.pieces.items) result.spared.items }
-    ensures plain { manner ≡ Plain → result.spared.items ≡ [] }
-    ensures goals { AreGoals instance.now aims watch result.watch (goals_of result.pieces.items) }
-    ensures best { OffersBest instance.now watch result.watch result.best }
+    requires of { site.now.instance.now ≡ J.instance }
+    requires watch { IsOther word.now job.watch }
+    ensures hand { IsSameHand job.hand result.hand }
+    ensures watch { IsSameWatch job.watch result.watch }
+    ensures account { HasAccount site.now.instance.now job.hand result.hand result.pieces.items result.spared.items result.rest }
+    ensures spared { All (IsSpared site.now.instance.now result.pieces.items) result.spared.items }
+    ensures plain { course.manner ≡ Plain → result.spared.items ≡ [] }
+    ensures goals { AreGoals site.now.instance.now course.aims job.watch result.watch (goals_of result.pieces.items) }
+    ensures best { OffersBest site.now.instance.now job.watch result.watch result.best }
     ensures worked { result.worked ≡ vec_len result.pieces }
-    ensures within { result.worked ≤ budget }
-    ensures ending { result.ending ≡ ending.Budget → result.worked ≡ budget }
-    ensures called_off { result.ending ≡ ending.CalledOff → G.ends gate.now }
+    ensures within { result.worked ≤ job.budget }
+    ensures ending { result.ending ≡ ending.Budget → result.worked ≡ job.budget }
+    ensures called_off { result.ending ≡ ending.CalledOff → G.ends site.now.gate.now }
 {
-    gate.start(hand.number());
+    let Job {
+        hand,
+        watch,
+        budget,
+        workers,
+    } = job;
+    let alloc = site.alloc;
+    site.gate.start(hand.number());
     let mut run = Run {
         hand,
         watch,
@@ -168,9 +166,7 @@ pub fn run_worker_in<J: Searched, G: Gate>(
     };
     let mut bench = Workbench::new();
     let mut needs = Needs::new();
-    let (rest, ending) = run.turns(
-        alloc, instance, &mut bench, &mut needs, word, budget, manner, aims, gate,
-    );
+    let (rest, ending) = run.turns(site, word, &mut bench, &mut needs, budget, course);
     let worked = run.pieces.len() as u64;
     run.report(rest, worked, ending)
 }
@@ -181,32 +177,27 @@ pub fn run_worker_in<J: Searched, G: Gate>(
 /// It never waits for another worker. Where memory is refused, the lists that
 /// it reports have room for what so many workers come to that make no more than it did.
 pub fn run_worker<J: Searched, G: Gate>(
-    alloc: Global,
-    instance: &Instance,
-    hand: Hand<J>,
+    site: &Site<'_, G>,
     word: &Incumbent,
-    watch: Watch,
-    budget: u64,
-    workers: usize,
-    gate: &G,
+    job: Job<J>,
 ) -> Report<J>
-    requires of { instance.now ≡ J.instance }
-    requires watch { IsOther word.now watch }
-    ensures hand { IsSameHand hand result.hand }
-    ensures watch { IsSameWatch watch result.watch }
-    ensures account { HasAccount instance.now hand result.hand result.pieces.items result.spared.items result.rest }
-    ensures spared { All (IsSpared instance.now result.pieces.items) result.spared.items }
-    ensures plain { usual_manner instance.now ≡ Plain → result.spared.items ≡ [] }
-    ensures goals { AreGoals instance.now (record { gap = 0; floor = 0 }) watch result.watch (goals_of result.pieces.items) }
-    ensures best { OffersBest instance.now watch result.watch result.best }
+    requires of { site.now.instance.now ≡ J.instance }
+    requires watch { IsOther word.now job.watch }
+    ensures hand { IsSameHand job.hand result.hand }
+    ensures watch { IsSameWatch job.watch result.watch }
+    ensures account { HasAccount site.now.instance.now job.hand result.hand result.pieces.items result.spared.items result.rest }
+    ensures spared { All (IsSpared site.now.instance.now result.pieces.items) result.spared.items }
+    ensures plain { usual_manner site.now.instance.now ≡ Plain → result.spared.items ≡ [] }
+    ensures goals { AreGoals site.now.instance.now (record { gap = 0; floor = 0 }) job.watch result.watch (goals_of result.pieces.items) }
+    ensures best { OffersBest site.now.instance.now job.watch result.watch result.best }
     ensures worked { result.worked ≡ vec_len result.pieces }
-    ensures within { result.worked ≤ budget }
-    ensures ending { result.ending ≡ ending.Budget → result.worked ≡ budget }
-    ensures called_off { result.ending ≡ ending.CalledOff → G.ends gate.now }
+    ensures within { result.worked ≤ job.budget }
+    ensures ending { result.ending ≡ ending.Budget → result.worked ≡ job.budget }
+    ensures called_off { result.ending ≡ ending.CalledOff → G.ends site.now.gate.now }
 {
-    let manner = usual_manner(alloc, instance).unwrap_or(Manner::Plain);
-    let aims = Aims::all();
-    run_worker_in(
-        alloc, instance, hand, word, watch, budget, workers, manner, aims, gate,
-    )
+    let course = Course {
+        manner: usual_manner(site.alloc, site.instance).unwrap_or(Manner::Plain),
+        aims: Aims::all(),
+    };
+    run_worker_in(site, word, course, job)
 }

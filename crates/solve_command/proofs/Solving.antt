@@ -11,6 +11,7 @@ use Rattle.planner.specs.Answers as answers
 use Rattle.plan_commands.specs.declared.verdict.Verified.{Verified}
 use Rattle.plan_commands.specs.Printed.{IsPrinted}
 use Rattle.plan_commands.proofs.Prints.{delay_of_printed}
+use Rattle.solve_command.specs.declared.solve.Enough.{Enough}
 use Rattle.solve_command.specs.declared.solve.Solved.{Solved}
 use Rattle.command_streams.specs.declared.ending.SearchFault.TheVariants as search
 use Rattle.command_streams.specs.declared.ending.Sink.{Sink}
@@ -69,27 +70,27 @@ module _ (IsFoundSo : Solved → Type 0) (IsLackingFor : Fault → Type 0) (can 
   ]
 
 -- so it is of what readers give, where they tell
-pub told_of_reader : (a : Option (List ℕ)) (found : Result Solved Fault) (options : Options) (until : Option ℕ) (Ends : Type 0) (wanted : Bool) (from to old new : Option (List ℕ)) (end : End)
-    → IfSome a (λ bytes. MatchResult found (IsSolved bytes options until Ends) (IsUnsolved bytes)) → IsTellingOf found wanted from to old new end
-    → IfSome a (λ bytes. IsSolveAnswer bytes options until Ends wanted from to old new end)
+pub told_of_reader : (a : Option (List ℕ)) (found : Result Solved Fault) (options : Options) (enough : Enough) (Ends : Type 0) (wanted : Bool) (from to old new : Option (List ℕ)) (end : End)
+    → IfSome a (λ bytes. MatchResult found (IsSolved bytes options enough Ends) (IsUnsolved bytes)) → IsTellingOf found wanted from to old new end
+    → IfSome a (λ bytes. IsSolveAnswer bytes options enough Ends wanted from to old new end)
 unfolding IsSolveAnswer
-told_of_reader None found options until Ends wanted from to old new end is telling = tt
-told_of_reader (Some bytes) found options until Ends wanted from to old new end is telling =
-    found_told (IsSolved bytes options until Ends) (IsUnsolved bytes) (record { memory = tt; writers = λ s never. absurd never }) wanted from to old new found is end telling
+told_of_reader None found options enough Ends wanted from to old new end is telling = tt
+told_of_reader (Some bytes) found options enough Ends wanted from to old new end is telling =
+    found_told (IsSolved bytes options enough Ends) (IsUnsolved bytes) (record { memory = tt; writers = λ s never. absurd never }) wanted from to old new found is end telling
 
-pub told_of_readers : (a b : Option (List ℕ)) (found : Result Solved Fault) (options : Options) (until : Option ℕ) (Ends : Type 0) (wanted : Bool) (from to old new : Option (List ℕ)) (end : End)
-    → IfSome a (λ bytes. IfSome b (λ plan. MatchResult found (IsSolvedFrom bytes plan options until Ends) (IsUnsolvedFrom bytes plan)))
-    → IsTellingOf found wanted from to old new end → IfSome a (λ bytes. IfSome b (λ plan. IsStartedAnswer bytes plan options until Ends wanted from to old new end))
+pub told_of_readers : (a b : Option (List ℕ)) (found : Result Solved Fault) (options : Options) (enough : Enough) (Ends : Type 0) (wanted : Bool) (from to old new : Option (List ℕ)) (end : End)
+    → IfSome a (λ bytes. IfSome b (λ plan. MatchResult found (IsSolvedFrom bytes plan options enough Ends) (IsUnsolvedFrom bytes plan)))
+    → IsTellingOf found wanted from to old new end → IfSome a (λ bytes. IfSome b (λ plan. IsStartedAnswer bytes plan options enough Ends wanted from to old new end))
 unfolding IsStartedAnswer
-told_of_readers None b found options until Ends wanted from to old new end is telling = tt
-told_of_readers (Some bytes) None found options until Ends wanted from to old new end is telling = tt
-told_of_readers (Some bytes) (Some plan) found options until Ends wanted from to old new end is telling =
-    found_told (IsSolvedFrom bytes plan options until Ends) (IsUnsolvedFrom bytes plan) (record { memory = tt; writers = λ s never. absurd never }) wanted from to old new found is end telling
+told_of_readers None b found options enough Ends wanted from to old new end is telling = tt
+told_of_readers (Some bytes) None found options enough Ends wanted from to old new end is telling = tt
+told_of_readers (Some bytes) (Some plan) found options enough Ends wanted from to old new end is telling =
+    found_told (IsSolvedFrom bytes plan options enough Ends) (IsUnsolvedFrom bytes plan) (record { memory = tt; writers = λ s never. absurd never }) wanted from to old new found is end telling
 
 -- what is found of an instance is found of the bytes that state it
-solved_bytes : (bytes : List ℕ) (i : Instance) (start : Option Table) (options : Options) (until : Option ℕ) (Ends : Type 0) (solved : Solved)
-    → HasInstance bytes i → IsSearchOf i start options until Ends solved → IsSolved bytes options until Ends solved
-solved_bytes bytes i start options until Ends solved has_instance is = record {
+solved_bytes : (bytes : List ℕ) (i : Instance) (start : Option Table) (options : Options) (enough : Enough) (Ends : Type 0) (solved : Solved)
+    → HasInstance bytes i → IsSearchOf i start options enough Ends solved → IsSolved bytes options enough Ends solved
+solved_bytes bytes i start options enough Ends solved has_instance is = record {
   has_instance = rw is.of has_instance;
   is_answer = rw is.of is.is_answer;
   shows = rw is.of is.shows;
@@ -103,18 +104,18 @@ unsolved_bytes bytes i (Search search.Memory) has_instance is = record { problem
 unsolved_bytes bytes i (Search search.Thread) has_instance is = record { problem = i; has_instance = has_instance }
 unsolved_bytes bytes i fault has_instance is = absurd is
 
-pub solved_of_bytes : (a : Option (List ℕ)) (i : Instance) (start : Option Table) (options : Options) (until : Option ℕ) (Ends : Type 0) (found : Result Solved Fault)
-    → IfSome a (λ bytes. HasInstance bytes i) → MatchResult found (IsSearchOf i start options until Ends) IsNoSearch
-    → IfSome a (λ bytes. MatchResult found (IsSolved bytes options until Ends) (IsUnsolved bytes))
-solved_of_bytes None i start options until Ends found has_instance is = tt
-solved_of_bytes (Some bytes) i start options until Ends (Ok solved) has_instance is = solved_bytes bytes i start options until Ends solved has_instance is
-solved_of_bytes (Some bytes) i start options until Ends (Err fault) has_instance is = unsolved_bytes bytes i fault has_instance is
+pub solved_of_bytes : (a : Option (List ℕ)) (i : Instance) (start : Option Table) (options : Options) (enough : Enough) (Ends : Type 0) (found : Result Solved Fault)
+    → IfSome a (λ bytes. HasInstance bytes i) → MatchResult found (IsSearchOf i start options enough Ends) IsNoSearch
+    → IfSome a (λ bytes. MatchResult found (IsSolved bytes options enough Ends) (IsUnsolved bytes))
+solved_of_bytes None i start options enough Ends found has_instance is = tt
+solved_of_bytes (Some bytes) i start options enough Ends (Ok solved) has_instance is = solved_bytes bytes i start options enough Ends solved has_instance is
+solved_of_bytes (Some bytes) i start options enough Ends (Err fault) has_instance is = unsolved_bytes bytes i fault has_instance is
 
 -- and where it began with a plan, of the bytes that have printed that one
-solved_texts : (bytes plan : List ℕ) (v : Verified) (options : Options) (until : Option ℕ) (Ends : Type 0) (solved : Solved)
-    → IsPrinted bytes plan v → IsSearchOf v.instance (Some v.plan) options until Ends solved → IsSolvedFrom bytes plan options until Ends solved
-solved_texts bytes plan v options until Ends solved verified is = record {
-  is = solved_bytes bytes v.instance (Some v.plan) options until Ends solved verified.has_instance is;
+solved_texts : (bytes plan : List ℕ) (v : Verified) (options : Options) (enough : Enough) (Ends : Type 0) (solved : Solved)
+    → IsPrinted bytes plan v → IsSearchOf v.instance (Some v.plan) options enough Ends solved → IsSolvedFrom bytes plan options enough Ends solved
+solved_texts bytes plan v options enough Ends solved verified is = record {
+  is = solved_bytes bytes v.instance (Some v.plan) options enough Ends solved verified.has_instance is;
   first = v.plan;
   ticks = v.delay;
   begins = rw is.of verified.has_plan;
@@ -127,10 +128,10 @@ unsolved_texts bytes plan v Memory verified is = tt
 unsolved_texts bytes plan v (Search fault) verified is = record { verified = v; is = verified }
 unsolved_texts bytes plan v fault verified is = absurd is
 
-pub solved_of_texts : (a b : Option (List ℕ)) (v : Verified) (options : Options) (until : Option ℕ) (Ends : Type 0) (found : Result Solved Fault)
-    → IfSome a (λ bytes. IfSome b (λ plan. IsPrinted bytes plan v)) → MatchResult found (IsSearchOf v.instance (Some v.plan) options until Ends) IsNoSearch
-    → IfSome a (λ bytes. IfSome b (λ plan. MatchResult found (IsSolvedFrom bytes plan options until Ends) (IsUnsolvedFrom bytes plan)))
-solved_of_texts None b v options until Ends found verified is = tt
-solved_of_texts (Some bytes) None v options until Ends found verified is = tt
-solved_of_texts (Some bytes) (Some plan) v options until Ends (Ok solved) verified is = solved_texts bytes plan v options until Ends solved verified is
-solved_of_texts (Some bytes) (Some plan) v options until Ends (Err fault) verified is = unsolved_texts bytes plan v fault verified is
+pub solved_of_texts : (a b : Option (List ℕ)) (v : Verified) (options : Options) (enough : Enough) (Ends : Type 0) (found : Result Solved Fault)
+    → IfSome a (λ bytes. IfSome b (λ plan. IsPrinted bytes plan v)) → MatchResult found (IsSearchOf v.instance (Some v.plan) options enough Ends) IsNoSearch
+    → IfSome a (λ bytes. IfSome b (λ plan. MatchResult found (IsSolvedFrom bytes plan options enough Ends) (IsUnsolvedFrom bytes plan)))
+solved_of_texts None b v options enough Ends found verified is = tt
+solved_of_texts (Some bytes) None v options enough Ends found verified is = tt
+solved_of_texts (Some bytes) (Some plan) v options enough Ends (Ok solved) verified is = solved_texts bytes plan v options enough Ends solved verified is
+solved_of_texts (Some bytes) (Some plan) v options enough Ends (Err fault) verified is = unsolved_texts bytes plan v fault verified is

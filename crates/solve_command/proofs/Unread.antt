@@ -14,6 +14,7 @@ use Rattle.command_streams.specs.declared.ending.Fault.TheVariants.{InstanceText
 use Rattle.command_streams.specs.declared.ending.End.{End}
 use Rattle.command_streams.specs.Instances.{IsOfInstance}
 use Rattle.command_streams.specs.Outcomes.{IfRefused}
+use Rattle.solve_command.specs.declared.solve.Enough.{Enough}
 use Rattle.solve_command.specs.declared.solve.Solved.{Solved}
 use Rattle.solve_command.specs.Solved.{IsNoSearch, IsSearchOf}
 use Rattle.solve_command.specs.Telling.{end_told, IsCertifying, IsTellingOf}
@@ -31,10 +32,10 @@ module _ (Kept : Type 0) where
   of_search fault is of = absurd (by_instance (λ fault. IsNoSearch fault → ⊥) (λ error never. never) (λ never. never) (λ never. never) fault of is)
 
   -- the search of an instance that is read has none
-  pub unread_searched : (i : Instance) (start : Option Table) (options : Options) (until : Option ℕ) (Ends : Type 0) (found : Result Solved Fault)
-      → MatchResult found (IsSearchOf i start options until Ends) IsNoSearch → IfErr found (λ fault. IsOfInstance fault → Kept)
-  unread_searched i start options until Ends (Ok solved) is = tt
-  unread_searched i start options until Ends (Err fault) is = of_search fault is
+  pub unread_searched : (i : Instance) (start : Option Table) (options : Options) (enough : Enough) (Ends : Type 0) (found : Result Solved Fault)
+      → MatchResult found (IsSearchOf i start options enough Ends) IsNoSearch → IfErr found (λ fault. IsOfInstance fault → Kept)
+  unread_searched i start options enough Ends (Ok solved) is = tt
+  unread_searched i start options enough Ends (Err fault) is = of_search fault is
 
   answered : (outcome : Outcome) → IfRefused (end_told outcome) (λ fault. IsOfInstance fault → Kept)
   answered (answer.Optimal plan ticks cert) = tt

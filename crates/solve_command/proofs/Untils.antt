@@ -1,9 +1,9 @@
 -- The word `until` stands only where the best plan is short enough, and the word `gap` only where the bound is near.
 use Rattle.std.proofs.Common.{◌≡◌, ℕ, Bool, true, false, Option, None, Some, codes, length, refl, ap, subst, arith}
 use Rattle.std.proofs.lemmas.Bool.{leb-true}
-use Rattle.ttp_model.specs.declared.plan.Plan.{Plan}
 use Rattle.ttp_model.specs.Instance.{Instance}
 use Rattle.certificate.specs.Cert.{Cert}
+use Rattle.planner.specs.found.FoundPlan.{FoundPlan}
 use Rattle.planner.specs.outcome.Options.{Options}
 use Rattle.planner.specs.outcome.Outcome.TheVariants as answer
 use Rattle.planner.specs.outcome.Why.{Why}
@@ -37,10 +37,10 @@ only_gap why.CalledOff true is = let many : 5 ≡ 3 = ap length is in absurd (om
 only_gap why.CalledOff false is = let many : 4 ≡ 3 = ap length is in absurd (omega (arith, many))
 only_gap why.Gap enough is = refl
 
-near_by_gap : (i : Instance) (options : Options) (cause : Why) (low : ℕ) (best : Option (Plan × ℕ)) (cert : Cert) → cause ≡ why.Gap
-    → IsOutcome i options (answer.Stopped cause low best cert) → IsNear options.gap low best
-near_by_gap i options cause low best cert same is = subst (IsCause i options low best cert) same is.says.cause
+near_by_gap : (i : Instance) (options : Options) (gap : ℕ) (cause : Why) (low : ℕ) (best : Option FoundPlan) (cert : Cert) → cause ≡ why.Gap
+    → IsOutcome i options gap (answer.Stopped cause low best cert) → IsNear gap low best
+near_by_gap i options gap cause low best cert same is = subst (IsCause i options gap low best cert) same is.says.cause
 
-pub gap_met : (i : Instance) (options : Options) (enough : Bool) (cause : Why) (low : ℕ) (best : Option (Plan × ℕ)) (cert : Cert)
-    → IsOutcome i options (answer.Stopped cause low best cert) → why_word cause enough ≡ codes "gap" → IsNear options.gap low best
-gap_met i options enough cause low best cert is word = near_by_gap i options cause low best cert (only_gap cause enough word) is
+pub gap_met : (i : Instance) (options : Options) (gap : ℕ) (enough : Bool) (cause : Why) (low : ℕ) (best : Option FoundPlan) (cert : Cert)
+    → IsOutcome i options gap (answer.Stopped cause low best cert) → why_word cause enough ≡ codes "gap" → IsNear gap low best
+gap_met i options gap enough cause low best cert is word = near_by_gap i options gap cause low best cert (only_gap cause enough word) is

@@ -5,12 +5,14 @@ use Rattle.ttp_model.specs.declared.plan.Plan.{Plan as Table}
 use Rattle.ttp_model.specs.Instance.{Instance}
 use Rattle.ttp_model.specs.Delays.{delay}
 use Rattle.plan_format.specs.Spelling as plan_text
+use Rattle.planner.specs.found.FoundPlan.{FoundPlan}
 use Rattle.planner.specs.outcome.Options.{Options}
 use Rattle.planner.specs.outcome.Outcome.{Outcome}
 use Rattle.planner.specs.outcome.Outcome.TheVariants as answer
 use Rattle.planner.specs.outcome.Why.{Why}
 use Rattle.planner.specs.outcome.Why.TheVariants as why
 use Rattle.planner.specs.Answers as answers
+use Rattle.solve_command.specs.declared.solve.Enough.{Enough}
 use Rattle.solve_command.specs.declared.solve.Solved.{Solved}
 use Rattle.planner.specs.Searching.{limit_of}
 use Rattle.search_watching.specs.Patience.{is_enough}
@@ -44,10 +46,10 @@ stopped_line until why low best =
     codes "stopped " ++ (why_word why (is_enough until best) ++ (codes " " ++ (decimal low ++ (codes " " ++ (best_word best ++ 10 ∷ [])))))
 
 -- the text of a search that stopped: its line, and then the best plan found, where one was
-abbrev pub IsStoppedText : Option ℕ → Instance → Why → ℕ → Option (Table × ℕ) → List ℕ → Type 0
+abbrev pub IsStoppedText : Option ℕ → Instance → Why → ℕ → Option FoundPlan → List ℕ → Type 0
 IsStoppedText until i why low None text = text ≡ stopped_line until why low None
 IsStoppedText until i why low (Some best) text =
-    (plan : List ℕ) × plan_text.SpellsPlan i plan best.0 best.1 × (text ≡ stopped_line until why low (Some best.1) ++ plan)
+    (plan : List ℕ) × plan_text.SpellsPlan i plan best.plan best.delay × (text ≡ stopped_line until why low (Some best.delay) ++ plan)
 
 -- what is written of each answer
 abbrev pub IsAnswerText : Option ℕ → Instance → Outcome → List ℕ → Type 0
@@ -57,11 +59,11 @@ IsAnswerText until i (answer.Stopped why low best cert) text = IsStoppedText unt
 
 -- an answer to this instance with its text; it has a plan that takes no longer than the one that the search began with, where there is one, and says that
 -- it was called off only where the one may end it who follows it
-pub record IsSearchOf (i : Instance) (start : Option Table) (options : Options) (until : Option ℕ) (Ends : Type 0) (solved : Solved) : Type 0 where
+pub record IsSearchOf (i : Instance) (start : Option Table) (options : Options) (enough : Enough) (Ends : Type 0) (solved : Solved) : Type 0 where
   pub of : solved.instance ≡ i
-  pub is_answer : answers.IsOutcome i options solved.outcome
+  pub is_answer : answers.IsOutcome i options enough.gap solved.outcome
   pub shows : answers.Shows i solved.outcome
-  pub tells : IsAnswerText until i solved.outcome solved.text.items
+  pub tells : IsAnswerText enough.until i solved.outcome solved.text.items
   pub no_later : IfSome start (λ plan. limit_of i (answers.best_of solved.outcome) ≤ delay i plan)
   pub called_off : answers.IsCalledOff solved.outcome → Ends
 
@@ -72,11 +74,11 @@ IsNoSearch (Search fault) = Unit {0}
 IsNoSearch _ = ⊥
 
 -- the bytes state the instance, and this is an answer to it with its text
-pub record IsSolved (bytes : List ℕ) (options : Options) (until : Option ℕ) (Ends : Type 0) (solved : Solved) : Type 0 where
+pub record IsSolved (bytes : List ℕ) (options : Options) (enough : Enough) (Ends : Type 0) (solved : Solved) : Type 0 where
   pub has_instance : HasInstance bytes solved.instance
-  pub is_answer : answers.IsOutcome solved.instance options solved.outcome
+  pub is_answer : answers.IsOutcome solved.instance options enough.gap solved.outcome
   pub shows : answers.Shows solved.instance solved.outcome
-  pub tells : IsAnswerText until solved.instance solved.outcome solved.text.items
+  pub tells : IsAnswerText enough.until solved.instance solved.outcome solved.text.items
   pub called_off : answers.IsCalledOff solved.outcome → Ends
 
 -- why bytes have no answer: they state no instance, or there was no memory or no thread for a search
@@ -90,8 +92,8 @@ IsUnsolved bytes (Search search.Thread) = StatesSome bytes
 IsUnsolved bytes _ = ⊥
 
 -- the same of a search that begins with the valid plan that other bytes have printed: the answer has a plan that takes no longer
-pub record IsSolvedFrom (bytes plan : List ℕ) (options : Options) (until : Option ℕ) (Ends : Type 0) (solved : Solved) : Type 0 where
-  pub is : IsSolved bytes options until Ends solved
+pub record IsSolvedFrom (bytes plan : List ℕ) (options : Options) (enough : Enough) (Ends : Type 0) (solved : Solved) : Type 0 where
+  pub is : IsSolved bytes options enough Ends solved
   pub first : Table
   pub ticks : ℕ
   pub begins : HasPrintedPlan solved.instance plan first ticks
@@ -107,11 +109,11 @@ abbrev pub IsUnsolvedFrom : List ℕ → List ℕ → Fault → Type 0
 IsUnsolvedFrom instance plan (Search fault) = AreVerified instance plan
 IsUnsolvedFrom instance plan fault = IsUnprinted instance plan fault
 
--- what `solve` answers of the bytes of an instance, and what it writes; a plan of at most `until` is asked for, if any, and `Ends` says
+-- what `solve` answers of the bytes of an instance, and what it writes; `enough` says which plan is short enough, and `Ends`
 -- whether the one who follows the search may end it
-unfoldable pub IsSolveAnswer : (bytes : List ℕ) (options : Options) (until : Option ℕ) (Ends : Type 0) (wanted : Bool) (from to old new : Option (List ℕ)) → End → Type 0
-IsSolveAnswer bytes options until Ends = IsToldOf (IsSolved bytes options until Ends) (IsUnsolved bytes)
+unfoldable pub IsSolveAnswer : (bytes : List ℕ) (options : Options) (enough : Enough) (Ends : Type 0) (wanted : Bool) (from to old new : Option (List ℕ)) → End → Type 0
+IsSolveAnswer bytes options enough Ends = IsToldOf (IsSolved bytes options enough Ends) (IsUnsolved bytes)
 
 -- what it answers where it begins with the plan that other bytes have printed
-unfoldable pub IsStartedAnswer : (bytes plan : List ℕ) (options : Options) (until : Option ℕ) (Ends : Type 0) (wanted : Bool) (from to old new : Option (List ℕ)) → End → Type 0
-IsStartedAnswer bytes plan options until Ends = IsToldOf (IsSolvedFrom bytes plan options until Ends) (IsUnsolvedFrom bytes plan)
+unfoldable pub IsStartedAnswer : (bytes plan : List ℕ) (options : Options) (enough : Enough) (Ends : Type 0) (wanted : Bool) (from to old new : Option (List ℕ)) → End → Type 0
+IsStartedAnswer bytes plan options enough Ends = IsToldOf (IsSolvedFrom bytes plan options enough Ends) (IsUnsolvedFrom bytes plan)

@@ -1,9 +1,9 @@
 //! What holds of what is told? These functions do nothing: their contracts are laws.
 
 ghost use Rattle.std.specs.Prelude.{◌≡◌, ℕ, Bool, Option, codes};
-ghost use Rattle.ttp_model.specs.declared.plan.Plan.{Plan};
 ghost use Rattle.ttp_model.specs.Instance.{Instance};
 ghost use Rattle.certificate.specs.Cert.{Cert};
+ghost use Rattle.planner.specs.found.FoundPlan.{FoundPlan};
 ghost use Rattle.planner.specs.outcome.Options.{Options};
 ghost use Rattle.planner.specs.outcome.Outcome.TheVariants.{Stopped};
 ghost use Rattle.planner.specs.outcome.Why.{Why};
@@ -20,6 +20,6 @@ pub fn untils_are_met()
 
 /// Where a search stopped by the word `gap`, it has a plan that takes at most as many ticks more than the bound as the gap is.
 pub fn gaps_are_met()
-    ensures { (i : Instance) (options : Options) (enough : Bool) (why : Why) (low : ℕ) (best : Option (Plan × ℕ)) (cert : Cert)
-        → IsOutcome i options (Stopped why low best cert) → why_word why enough ≡ codes "gap" → IsNear options.gap low best }
+    ensures { (i : Instance) (options : Options) (gap : ℕ) (enough : Bool) (why : Why) (low : ℕ) (best : Option FoundPlan) (cert : Cert)
+        → IsOutcome i options gap (Stopped why low best cert) → why_word why enough ≡ codes "gap" → IsNear gap low best }
 {}

@@ -11,7 +11,7 @@ ghost use Rattle.command_streams.specs.Outcomes.{IfRefused};
 ghost use Rattle.command_streams.specs.Streams.{TakesAtMost};
 ghost use Rattle.plan_commands.specs.Printed.{printed_limit};
 ghost use Rattle.planner.specs.Searching.{limit_of};
-ghost use Rattle.planner.specs.Answers.{best_of, cert_of, IsCalledOff, IsOutcome, Shows};
+ghost use Rattle.planner.specs.Answers.{best_of, cert_of, stated, IsCalledOff, IsOutcome, Shows};
 ghost use Rattle.ttp_model.specs.Answers.{IsBestPlan};
 ghost use Rattle.solve_command.specs.Solved.{best_word, stopped_line, why_word, IsAnswerText, IsNoSearch, IsSearchOf, IsSolveAnswer, IsSolved, IsSolvedFrom, IsStartedAnswer, IsStoppedText, IsUnsolved, IsUnsolvedFrom};
 ghost use Rattle.solve_command.specs.Telling.{end_told, held, left, IsCertifying, IsTellingOf, IsWritingTo};
@@ -19,7 +19,7 @@ ghost use Rattle.solve_command.specs.Telling.{end_told, held, left, IsCertifying
 use certificate::Cert;
 use command_streams::{End, Fault, Sink, read_instance, write_text};
 use plan_commands::{Verified, printed_of_readers};
-use planner::{FreeGate, Options, Outcome, SolveFault, Why, solve_towards};
+use planner::{FoundPlan, FreeGate, Options, Outcome, Site, SolveFault, Why, solve_towards};
 use search_watching::{Follower, is_enough, told_as};
 use std::alloc::{AllocError, Global};
 use std::fmt;
@@ -28,6 +28,15 @@ use std::marker::Sync;
 use std::sync::Wait;
 use std::thread::Threads;
 use ttp_model::{Instance, MemoryFault, Plan};
+
+/// When a plan is short enough that isn't known to be a shortest one.
+#[derive(Clone, Copy, PartialEq, Eq)]
+pub struct Enough {
+    /// Where it takes at most so many ticks: as `until` it is told that a search was called off that has such a plan.
+    pub until: Option<u32>,
+    /// Where none is shorter by more than so many ticks.
+    pub gap: u32,
+}
 
 /// An instance, and what a search of it found.
 #[derive(Drop)]
@@ -100,9 +109,9 @@ fn stopped_text(
     instance: &Instance,
     why: Why,
     low: u32,
-    best: &Option<(Plan, u64)>,
+    best: &Option<FoundPlan>,
 ) -> Result<Vec<u8>, MemoryFault>
-    requires { IsBestPlan instance.now best.now }
+    requires { IsBestPlan instance.now (stated best.now) }
     ensures { IfOk result (λ text. IsStoppedText until instance.now why low best.now text.items) }
 {
     match best {
@@ -110,10 +119,10 @@ fn stopped_text(
             let line = stopped_line(alloc, until, why, low, None)?;
             Ok(Vec::from_slice(alloc, line.as_bytes())?)
         }
-        Some((plan, delay)) => {
-            let line = stopped_line(alloc, until, why, low, Some(*delay))?;
+        Some(found) => {
+            let line = stopped_line(alloc, until, why, low, Some(found.delay))?;
             let mut text = Vec::from_slice(alloc, line.as_bytes())?;
-            let plan = plan_format::print(alloc, instance, plan)?;
+            let plan = plan_format::print(alloc, instance, &found.plan)?;
             text.extend_from_slice(plan.as_slice())?;
             Ok(text)
         }
@@ -168,17 +177,23 @@ fn searched<R: Threads + Wait + Sync, G: Follower + Sync>(
     instance: &Instance,
     start: Option<Plan>,
     options: Options,
+    gap: u32,
     follower: &G,
 ) -> Result<Outcome, SolveFault>
     requires { IfSome start (IsValid instance.now) }
-    ensures answer { IfOk result (IsOutcome instance.now options) }
+    ensures answer { IfOk result (IsOutcome instance.now options gap) }
     ensures shows { IfOk result (Shows instance.now) }
     ensures called_off { IfOk result (λ outcome. IsCalledOff outcome → G.ends follower.now) }
-    ensures told { IfOk result (λ outcome. IfSome (best_of outcome) (λ best. G.heard follower.now instance.now best.0 best.1)) }
+    ensures told { IfOk result (λ outcome. IfSome (best_of outcome) (λ best. G.heard follower.now instance.now best)) }
     ensures start { IfOk result (λ outcome. IfSome start (λ plan. limit_of instance.now (best_of outcome) ≤ delay instance.now plan)) }
 {
+    let site = Site {
+        alloc,
+        instance,
+        gate: follower,
+    };
     follower.begin(alloc, instance);
-    let searched = solve_towards(rt, alloc, instance, options, start, follower);
+    let searched = solve_towards(rt, &site, options, gap, start);
     follower.end();
     searched
 }
@@ -190,20 +205,20 @@ fn solved_instance<R: Threads + Wait + Sync, G: Follower + Sync>(
     instance: Instance,
     start: Option<Plan>,
     options: Options,
-    until: Option<u32>,
+    enough: Enough,
     follower: &G,
 ) -> Result<Solved, Fault>
     requires { IfSome start (IsValid instance) }
-    ensures found { MatchResult result (IsSearchOf instance start options until (G.ends follower.now)) IsNoSearch }
+    ensures found { MatchResult result (IsSearchOf instance start options enough (G.ends follower.now)) IsNoSearch }
     ensures printable { IfOk result (λ solved.
         Allows (cert_of solved.outcome).version (cert_of solved.outcome).tree) }
 {
     let _nodes = instance.nodes();
-    let outcome = match searched(rt, alloc, &instance, start, options, follower) {
+    let outcome = match searched(rt, alloc, &instance, start, options, enough.gap, follower) {
         Ok(outcome) => outcome,
         Err(fault) => return Err(Fault::Search(told_as(fault))),
     };
-    match answer_text(alloc, until, &instance, &outcome) {
+    match answer_text(alloc, enough.until, &instance, &outcome) {
         Ok(text) => Ok(Solved {
             instance,
             outcome,
@@ -219,18 +234,18 @@ fn solved_of_reader<R: Threads + Wait + Sync, G: Follower + Sync, I: Read>(
     alloc: Global,
     instance: &mut I,
     options: Options,
-    until: Option<u32>,
+    enough: Enough,
     follower: &G,
 ) -> Result<Solved, Fault>
     ensures judged { IfSome (I.remaining instance.old) (λ bytes. MatchResult result
-        (IsSolved bytes options until (G.ends follower.now))
+        (IsSolved bytes options enough (G.ends follower.now))
         (IsUnsolved bytes)) }
     ensures printable { IfOk result (λ solved.
         Allows (cert_of solved.outcome).version (cert_of solved.outcome).tree) }
     ensures most { TakesAtMost (INSTANCE_LIMIT + 1) (I.remaining instance.old) (I.remaining instance.new) }
 {
     let instance = read_instance(alloc, instance)?;
-    solved_instance(rt, alloc, instance, None, options, until, follower)
+    solved_instance(rt, alloc, instance, None, options, enough, follower)
 }
 
 /// Searches the instance that a reader's bytes state, from the valid plan that another's have printed.
@@ -240,11 +255,11 @@ fn solved_of_readers<R: Threads + Wait + Sync, G: Follower + Sync, I: Read, P: R
     instance: &mut I,
     start: &mut P,
     options: Options,
-    until: Option<u32>,
+    enough: Enough,
     follower: &G,
 ) -> Result<Solved, Fault>
     ensures judged { IfSome (I.remaining instance.old) (λ bytes. IfSome (P.remaining start.old) (λ plan. MatchResult result
-        (IsSolvedFrom bytes plan options until (G.ends follower.now))
+        (IsSolvedFrom bytes plan options enough (G.ends follower.now))
         (IsUnsolvedFrom bytes plan))) }
     ensures printable { IfOk result (λ solved.
         Allows (cert_of solved.outcome).version (cert_of solved.outcome).tree) }
@@ -253,7 +268,7 @@ fn solved_of_readers<R: Threads + Wait + Sync, G: Follower + Sync, I: Read, P: R
     ensures unread { IfErr result (λ fault. IsOfInstance fault → Keeps (P.remaining start.old) (P.remaining start.new)) }
 {
     let Verified { instance, plan, .. } = printed_of_readers(alloc, instance, start)?;
-    solved_instance(rt, alloc, instance, Some(plan), options, until, follower)
+    solved_instance(rt, alloc, instance, Some(plan), options, enough, follower)
 }
 
 /// Writes a certificate whose version allows all its lines.
@@ -319,18 +334,18 @@ pub fn solve_run_with<R: Threads + Wait + Sync, G: Follower + Sync, I: Read, C: 
     alloc: Global,
     instance: &mut I,
     options: Options,
-    until: Option<u32>,
+    enough: Enough,
     follower: &G,
     certificate: Option<&mut C>,
     out: &mut W,
 ) -> End
     ensures answer { IfSome (I.remaining instance.old) (λ bytes.
-        IsSolveAnswer bytes options until (G.ends follower.now) (is_some certificate.entry)
+        IsSolveAnswer bytes options enough (G.ends follower.now) (is_some certificate.entry)
         (held C.contents certificate.entry) (left C.contents certificate.exit)
         (W.contents out.old) (W.contents out.new) result) }
     ensures most { TakesAtMost (INSTANCE_LIMIT + 1) (I.remaining instance.old) (I.remaining instance.new) }
 {
-    let found = solved_of_reader(rt, alloc, instance, options, until, follower);
+    let found = solved_of_reader(rt, alloc, instance, options, enough, follower);
     match certificate {
         None => tell(found, out),
         Some(writer) => tell_certified(alloc, found, writer, out),
@@ -352,13 +367,13 @@ pub fn solve_run_from<
     instance: &mut I,
     start: &mut P,
     options: Options,
-    until: Option<u32>,
+    enough: Enough,
     follower: &G,
     certificate: Option<&mut C>,
     out: &mut W,
 ) -> End
     ensures answer { IfSome (I.remaining instance.old) (λ bytes. IfSome (P.remaining start.old) (λ plan.
-        IsStartedAnswer bytes plan options until (G.ends follower.now) (is_some certificate.entry)
+        IsStartedAnswer bytes plan options enough (G.ends follower.now) (is_some certificate.entry)
         (held C.contents certificate.entry) (left C.contents certificate.exit)
         (W.contents out.old) (W.contents out.new) result)) }
     ensures instance { TakesAtMost (INSTANCE_LIMIT + 1) (I.remaining instance.old) (I.remaining instance.new) }
@@ -366,7 +381,7 @@ pub fn solve_run_from<
     // Where the instance is refused, the plan is left unread.
     ensures unread { IfRefused result (λ fault. IsOfInstance fault → Keeps (P.remaining start.old) (P.remaining start.new)) }
 {
-    let found = solved_of_readers(rt, alloc, instance, start, options, until, follower);
+    let found = solved_of_readers(rt, alloc, instance, start, options, enough, follower);
     match certificate {
         None => tell(found, out),
         Some(writer) => tell_certified(alloc, found, writer, out),
@@ -388,13 +403,17 @@ pub fn solve_run<R: Threads + Wait + Sync, I: Read, C: Write, W: Write>(
     out: &mut W,
 ) -> End
     ensures answer { IfSome (I.remaining instance.old) (λ bytes.
-        IsSolveAnswer bytes options None ⊥ (is_some certificate.entry)
+        IsSolveAnswer bytes options (record { until = None; gap = 0 }) ⊥ (is_some certificate.entry)
         (held C.contents certificate.entry) (left C.contents certificate.exit)
         (W.contents out.old) (W.contents out.new) result) }
     // No more is taken of the reader than its limit and one byte.
     ensures most { TakesAtMost (INSTANCE_LIMIT + 1) (I.remaining instance.old) (I.remaining instance.new) }
 {
-    let found = solved_of_reader(rt, alloc, instance, options, None, &FreeGate);
+    let enough = Enough {
+        until: None,
+        gap: 0,
+    };
+    let found = solved_of_reader(rt, alloc, instance, options, enough, &FreeGate);
     match certificate {
         None => tell(found, out),
         Some(writer) => tell_certified(alloc, found, writer, out),

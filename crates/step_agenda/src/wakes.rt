@@ -2,7 +2,7 @@
 
 ghost use Rattle.std.specs.Prelude.{◌<◌, length};
 
-use needed_steps::may_say_more;
+use crate::asking::may_say_more;
 use std::alloc::Global;
 use tt_choice::Decision;
 use tt_infer::{

@@ -4,21 +4,23 @@ use Rattle.ttp_model.specs.Chains.{least_transfer}
 use Rattle.ttp_model.specs.Instance.{Instance, source_of}
 use Rattle.ttp_model.specs.Names.{message_name}
 use Rattle.sentences.specs.Lists.{AreTold}
-use Rattle.path_words.specs.declared.chain.Cause.{Cause}
-use Rattle.path_words.specs.declared.chain.Cause.TheVariants.{Arrival, Link, Release}
-use Rattle.path_words.specs.declared.chain.ChainPart.{ChainPart}
-use Rattle.path_words.specs.declared.lines.PathChain.{PathChain}
-use Rattle.path_words.specs.declared.lines.PathPart.{PathPart}
-use Rattle.path_words.specs.declared.lines.Transfer.{Transfer}
-use Rattle.path_words.specs.Lines.{IsAbove, IsPathChain, IsPathPart}
+use Rattle.cause_chains.specs.declared.runs.StartCause.{StartCause}
+use Rattle.cause_chains.specs.declared.runs.StartCause.TheVariants.{Arrival, Behind, CouldStart, Link, Release}
+use Rattle.cause_chains.specs.declared.path_parts.ChainPart.{ChainPart}
+use Rattle.cause_chains.specs.declared.path_lines.PathChain.{PathChain}
+use Rattle.cause_chains.specs.declared.path_lines.PathPart.{PathPart}
+use Rattle.cause_chains.specs.declared.path_lines.Transfer.{Transfer}
+use Rattle.cause_chains.specs.PathLines.{IsAbove, IsPathChain, IsPathPart}
 
 -- all ticks of a message
 abbrev HasAllTicks : Instance → Transfer → Type 0
 HasAllTicks i x = (m : ℕ) × (x.message.now ≡ message_name i m) × (x.ticks ≡ least_transfer i (source_of i m))
 
-above : (i : Instance) (from : ℕ) (cause : Cause) (x : Transfer) → IsAbove i from cause (Some x) → HasAllTicks i x
+above : (i : Instance) (from : ℕ) (cause : StartCause) (x : Transfer) → IsAbove i from cause (Some x) → HasAllTicks i x
 above i from Release x is = absurd is
 above i from (Link l) x is = absurd is
+above i from (Behind q) x is = absurd is
+above i from (CouldStart time) x is = absurd is
 above i from (Arrival m) x is = (m, is.message_is, is.ticks_are)
 
 first : (i : Instance) (chain : List ChainPart) (part : PathPart) (others : List PathPart) (x : Transfer)

@@ -4,10 +4,10 @@ ghost use Rattle.std.specs.Prelude.{◌≡◌, ℕ, ◌∷◌, IfOk, List, Some}
 ghost use Rattle.ttp_model.specs.Chains.{least_transfer};
 ghost use Rattle.ttp_model.specs.Instance.{source_of};
 ghost use Rattle.ttp_model.specs.Names.{message_name};
-ghost use Rattle.path_words.specs.declared.lines.PathPart.{PathPart};
-ghost use Rattle.path_words.specs.declared.lines.Transfer.{Transfer};
+ghost use Rattle.cause_chains.specs.declared.path_lines.PathPart.{PathPart};
+ghost use Rattle.cause_chains.specs.declared.path_lines.Transfer.{Transfer};
 
-use path_words::{MemoryFault, PathChain, chain_reason};
+use cause_chains::{MemoryFault, PathChain, path_chain_reason};
 use std::alloc::Global;
 use ttp_model::Instance;
 
@@ -19,5 +19,5 @@ pub fn all_ticks_of_a_transfer_are_told(
     ensures { IfOk result (λ r. (part : PathPart) (others : List PathPart) (x : Transfer) → r.parts.items ≡ part ∷ others → part.transfer ≡ Some x
         → (m : ℕ) × (x.message.now ≡ message_name instance.now m) × (x.ticks ≡ least_transfer instance.now (source_of instance.now m))) }
 {
-    chain_reason(alloc, instance)
+    path_chain_reason(alloc, instance)
 }

@@ -6,12 +6,13 @@ ghost use Rattle.ttp_model.specs.Faults.{IsFirstFault};
 ghost use Rattle.ttp_model.specs.Instance.{link_at, process_at};
 ghost use Rattle.ttp_model.specs.Names.{process_name};
 ghost use Rattle.ttp_model.specs.Plans.{end_of, start_of};
-ghost use Rattle.plan_reasons.specs.declared.limits.Limit.TheVariants.{Deadline};
+ghost use Rattle.cause_chains.specs.declared.limits.Limit.TheVariants.{Deadline};
 ghost use Rattle.plan_reasons.specs.declared.processes.BrokenLink.{BrokenLink};
 ghost use Rattle.plan_reasons.specs.declared.processes.Overlap.{Overlap};
 ghost use Rattle.plan_reasons.specs.declared.reason.PlanReason.TheVariants as reason;
 
-use plan_reasons::{Limit, PlanReason, limit_of, reason_of};
+use cause_chains::{Limit, limit_of};
+use plan_reasons::{PlanReason, reason_of};
 use std::alloc::Global;
 use ttp_model::{Instance, MemoryFault, Plan, PlanFault};
 

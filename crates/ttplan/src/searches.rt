@@ -7,13 +7,13 @@ use command_line::{Limit, Search, Why};
 use command_streams::End;
 use limit_command::{Beside, limit_run};
 use search_watching::{Follower, Keeper, Patience, Patient, Progress, kept_end};
-use solve_command::{FreeGate, Options, solve_run_from, solve_run_with};
+use solve_command::{Enough, FreeGate, Options, solve_run_from, solve_run_with};
 use std::fs::File;
 use std::io;
 use std::marker::Sync;
 use std::sync::Wait;
 use std::thread::Threads;
-use why_command::{Wanted, why_run};
+use why_command::{Asking, Wanted, why_run};
 
 /// What is written beside an answer: to a file, or nowhere.
 #[derive(Drop)]
@@ -85,6 +85,9 @@ fn search_files(
     let options = Options {
         workers: search.workers,
         budget: search.budget,
+    };
+    let enough = Enough {
+        until: search.until,
         gap: search.gap,
     };
     let patience = Patience {
@@ -100,7 +103,7 @@ fn search_files(
             rt.alloc(),
             &mut instance,
             options,
-            patience.until,
+            enough,
             &patient,
             certificate,
             out,
@@ -111,7 +114,7 @@ fn search_files(
             &mut instance,
             &mut plan,
             options,
-            patience.until,
+            enough,
             &patient,
             certificate,
             out,
@@ -133,6 +136,15 @@ pub fn solve(rt: &HostRuntime, threads: &(impl Threads + Wait + Sync), search: &
     }
 }
 
+/// What ends the searches of a question so many seconds after the start.
+fn patient_for(rt: &HostRuntime, seconds: Option<u64>) -> Patient<'_, HostRuntime, FreeGate> {
+    let patience = Patience {
+        until: None,
+        seconds,
+    };
+    Patient::beside(&FreeGate, rt, patience)
+}
+
 /// Tells why the instance of a file has no plan. All files are open before one is read.
 fn run_why<'a>(
     rt: &HostRuntime,
@@ -143,18 +155,21 @@ fn run_why<'a>(
     let options = Options {
         workers: why.workers,
         budget: why.budget,
-        gap: 0,
     };
     let wanted = Wanted {
         certificate: why.certificate.is_some(),
         reduced: why.reduced.is_some(),
         late: why.late,
     };
+    let asking = Asking {
+        alloc: rt.alloc(),
+        options,
+        gate: &patient_for(rt, why.seconds),
+    };
     Ok(why_run(
         threads,
-        rt.alloc(),
+        &asking,
         &mut files.instance,
-        options,
         wanted,
         &mut Sheet(files.certificate),
         &mut Sheet(files.reduced),
@@ -181,18 +196,21 @@ fn run_limit<'a>(
     let options = Options {
         workers: limit.workers,
         budget: limit.budget,
-        gap: 0,
     };
     let beside = Beside {
         certificate: limit.certificate.is_some(),
         reduced: limit.reduced.is_some(),
     };
+    let asking = Asking {
+        alloc: rt.alloc(),
+        options,
+        gate: &patient_for(rt, limit.seconds),
+    };
     Ok(limit_run(
         threads,
-        rt.alloc(),
+        &asking,
         &mut files.instance,
         limit.processes.as_slice(),
-        options,
         beside,
         &mut Sheet(files.certificate),
         &mut Sheet(files.reduced),

@@ -5,9 +5,9 @@ use Rattle.std.specs.List.{range_with_len, list_any, position, position_or_len}
 use Rattle.std.specs.Option.{is_some}
 use Rattle.std.proofs.lemmas.Bool.{false≢true, cases_Bool, lt-ltb, le-ltb, ltb-true, ltb-false}
 use Rattle.std.proofs.lemmas.List.Elements.{filter-append}
-use Rattle.decision_paths.specs.declared.turn.Turn.{Turn}
-use Rattle.decision_paths.specs.declared.turn.Placed.{Placed}
-use Rattle.decision_paths.specs.Turns.{placed_of, nodes_of}
+use Rattle.used_decisions.specs.declared.turn.Turn.{Turn}
+use Rattle.used_decisions.specs.declared.turn.Placed.{Placed}
+use Rattle.used_decisions.specs.Turns.{placed_of, nodes_of}
 use Rattle.used_decisions.specs.Children.{is_free}
 
 one_later : (a b : ℕ) → nat_lt (1 + a) (suc b) ≡ nat_lt a b

@@ -11,8 +11,8 @@ use Rattle.sought_plans.specs.Known.{first_facts}
 use Rattle.tt_infer.specs.Leaves.{ClosesSharply}
 use Rattle.step_reads.specs.Uses.{UseKept}
 use Rattle.step_reads.specs.RuledOut.IsRuledOut.{by_leaf}
-use Rattle.decision_paths.specs.declared.turn.Turn.{Turn}
-use Rattle.decision_paths.specs.Marks.{KeepsLevels}
+use Rattle.used_decisions.specs.declared.turn.Turn.{Turn}
+use Rattle.used_decisions.specs.Marks.{KeepsLevels}
 use Rattle.used_decisions.specs.Proved.{levelled, IsProvedBy}
 use Rattle.used_decisions.proofs.Marks.{all_of_is, levels_below}
 

@@ -8,12 +8,12 @@ use Rattle.tt_choice.specs.declared.decision.Decision.{Decision}
 use Rattle.tt_choice.specs.declared.decision.Decision.TheVariants.{Place, Cap, Before, AtMost, AtLeast, Channel}
 use Rattle.tt_choice.specs.Decisions.{chosen}
 use Rattle.tt_choice.specs.Kept.{Marked, keep, drop, all_of, takes_place, KeepsPlaces, places_kept}
-use Rattle.decision_paths.specs.declared.turn.Turn.{Turn}
-use Rattle.decision_paths.specs.declared.turn.Placed.{Placed}
-use Rattle.decision_paths.specs.Levels.{has_level}
-use Rattle.decision_paths.specs.Turns.{placed_by, placed_of, nodes_of}
-use Rattle.decision_paths.specs.Marks.{KeepsLevels}
-use Rattle.decision_paths.proofs.Places.{order_is}
+use Rattle.used_decisions.specs.declared.turn.Turn.{Turn}
+use Rattle.used_decisions.specs.declared.turn.Placed.{Placed}
+use Rattle.used_decisions.specs.Levels.{has_level}
+use Rattle.used_decisions.specs.Turns.{placed_by, placed_of, nodes_of}
+use Rattle.used_decisions.specs.Marks.{KeepsLevels}
+use Rattle.used_decisions.proofs.Places.{order_is}
 use Rattle.used_decisions.specs.Proved.{all_kept, levelled}
 
 -- all that are marked are the decisions

@@ -10,11 +10,11 @@ use Rattle.tt_choice.specs.Decisions.{chosen, decision_of}
 use Rattle.tt_choice.specs.Kinds.{is_of_places}
 use Rattle.tt_choice.specs.Kept.{keep, drop, all_of, places_kept}
 use Rattle.step_reads.specs.RuledOut.IsRuledOut.{by_children, by_one}
-use Rattle.decision_paths.specs.declared.turn.Turn.{Turn}
-use Rattle.decision_paths.specs.declared.turn.Placed.{Placed}
-use Rattle.decision_paths.specs.Levels.{has_level}
-use Rattle.decision_paths.specs.Turns.{placed_of}
-use Rattle.leaf_decisions.proofs.Marked.{placed_hold}
+use Rattle.used_decisions.specs.declared.turn.Turn.{Turn}
+use Rattle.used_decisions.specs.declared.turn.Placed.{Placed}
+use Rattle.used_decisions.specs.Levels.{has_level}
+use Rattle.used_decisions.specs.Turns.{placed_of}
+use Rattle.used_decisions.proofs.Marked.{placed_hold}
 use Rattle.used_decisions.specs.Proved.{levelled, IsProvedBy}
 use Rattle.used_decisions.specs.Ways.{HasClosed}
 use Rattle.used_decisions.proofs.Marks.{all_of_is, keeps_fewer, keeps_drop, keeps_keep, levels_below, places_are_kept}

@@ -5,9 +5,9 @@ use Rattle.std.specs.Global.{Vec}
 use Rattle.std.proofs.lemmas.List.{map-append, append-nil, length-map, get_or-map, take_more, length-take-le}
 use Rattle.ttp_model.specs.Instance.{Instance}
 use Rattle.tt_choice.specs.declared.decision.Decision.{Decision}
-use Rattle.decision_paths.specs.declared.turn.Turn.{Turn}
-use Rattle.decision_paths.specs.Turns.{Path, path_after, path_above}
-use Rattle.decision_paths.proofs.Told.{without_last}
+use Rattle.used_decisions.specs.declared.turn.Turn.{Turn}
+use Rattle.used_decisions.specs.Turns.{Path, path_after, path_above}
+use Rattle.used_decisions.proofs.Told.{without_last}
 use Rattle.step_reads.specs.RuledOut.{IsRuledOut}
 use Rattle.used_decisions.specs.Proved.{all_kept, levelled}
 use Rattle.used_decisions.specs.Ways.{decisions_of, IsOpenBranch, AreBranches, AreKnown, IsWay}

@@ -1,8 +1,8 @@
 -- The children of a branch by what leads to them. Only private contracts ask for it.
 use Rattle.std.specs.Prelude.{ℕ, ◌==◌, not, List, length, filter, Bool}
 use Rattle.std.specs.List.{range_with_len, list_any}
-use Rattle.decision_paths.specs.declared.turn.Turn.{Turn}
-use Rattle.decision_paths.specs.Turns.{Path, placed_of, nodes_of}
+use Rattle.used_decisions.specs.declared.turn.Turn.{Turn}
+use Rattle.used_decisions.specs.Turns.{Path, placed_of, nodes_of}
 
 -- a node isn't placed by these decisions
 abbrev pub is_free : List Turn → ℕ → Bool

@@ -1,3 +1,11 @@
+pub mod Levels
+pub mod Turns
+pub mod Tables
+pub mod Marks
+pub mod Flags
+pub mod Given
+pub mod Uses
+pub mod Steps
 pub mod Manners
 pub mod Children
 pub mod Proved

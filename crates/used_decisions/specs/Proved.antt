@@ -4,8 +4,8 @@ use Rattle.ttp_model.specs.Instance.{Instance}
 use Rattle.tt_choice.specs.declared.decision.Decision.{Decision}
 use Rattle.tt_choice.specs.Kept.{Marked, keep}
 use Rattle.step_reads.specs.RuledOut.{IsRuledOut}
-use Rattle.decision_paths.specs.declared.turn.Turn.{Turn}
-use Rattle.decision_paths.specs.Marks.{KeepsLevels}
+use Rattle.used_decisions.specs.declared.turn.Turn.{Turn}
+use Rattle.used_decisions.specs.Marks.{KeepsLevels}
 
 -- each of these decisions is kept
 abbrev pub all_kept : List Decision → List Marked

@@ -8,9 +8,9 @@ use Rattle.tt_choice.specs.Branches.{IsBranch}
 use Rattle.tt_choice.specs.Decisions.{chosen, decision_of}
 use Rattle.tt_choice.specs.Kept.{Marked, keep}
 use Rattle.step_reads.specs.RuledOut.{IsRuledOut}
-use Rattle.decision_paths.specs.Levels.{has_level}
-use Rattle.decision_paths.specs.Marks.{KeepsLevels}
-use Rattle.decision_paths.specs.Turns.{Path}
+use Rattle.used_decisions.specs.Levels.{has_level}
+use Rattle.used_decisions.specs.Marks.{KeepsLevels}
+use Rattle.used_decisions.specs.Turns.{Path}
 use Rattle.used_decisions.specs.Proved.{all_kept, levelled}
 use Rattle.used_decisions.specs.declared.branch.OpenBranch.{OpenBranch}
 use Rattle.used_decisions.specs.declared.way.Taken.{Taken}

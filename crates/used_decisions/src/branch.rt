@@ -1,9 +1,9 @@
 //! A branch of which some children aren't closed.
 
 ghost use Rattle.std.specs.Prelude.{◌≡◌, ◌<◌, ℕ, IfOk, IsTrue, length, slice_set, true, false, ◌≤◌};
-ghost use Rattle.decision_paths.specs.Levels.{has_level};
+ghost use Rattle.used_decisions.specs.Levels.{has_level};
 
-use decision_paths::Levels;
+use crate::levels::Levels;
 use std::alloc::Global;
 use ttp_model::{Kind, MemoryFault};
 

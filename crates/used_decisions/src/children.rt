@@ -6,12 +6,14 @@ ghost use Rattle.ttp_model.specs.Instance.{Instance};
 ghost use Rattle.tt_choice.specs.Choice.{Choice};
 ghost use Rattle.tt_choice.specs.Changes.{unplaced};
 ghost use Rattle.tt_choice.specs.Kinds.{decision_of, is_of_places};
-ghost use Rattle.decision_paths.specs.Levels.{has_level};
-ghost use Rattle.decision_paths.specs.Turns.{placed_of, nodes_of};
-ghost use Rattle.leaf_decisions.specs.Uses.{HaveMarked};
+ghost use Rattle.used_decisions.specs.Levels.{has_level};
+ghost use Rattle.used_decisions.specs.Turns.{placed_of, nodes_of};
+ghost use Rattle.used_decisions.specs.Uses.{HaveMarked};
 ghost use Rattle.used_decisions.specs.Children.{is_free, free_nodes};
 
-use decision_paths::{Levels, Path, Placed};
+use crate::levels::Levels;
+use crate::path::Path;
+use crate::turn::Placed;
 use tt_choice::{Decision, decision_at, is_of_places};
 use ttp_model::Kind;
 

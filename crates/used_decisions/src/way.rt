@@ -5,14 +5,15 @@ ghost use Rattle.tt_choice.specs.Branches.{IsBranch, root_choice};
 ghost use Rattle.tt_choice.specs.Decisions.{AreOpenDecisions, chosen, decision_of};
 ghost use Rattle.tt_infer.specs.Leaves.{ClosesSharply};
 ghost use Rattle.step_reads.specs.RuledOut.{IsRuledOut};
-ghost use Rattle.decision_paths.specs.Levels.{has_level};
+ghost use Rattle.used_decisions.specs.Levels.{has_level};
 ghost use Rattle.used_decisions.specs.Proved.{all_kept, IsProvedBy};
 ghost use Rattle.used_decisions.specs.Ways.{decisions_of, IsOpenBranch};
 
 use crate::branch::OpenBranch;
 use crate::children::{child_of, used_with};
-use decision_paths::{Levels, Path};
-use leaf_decisions::Reader;
+use crate::levels::Levels;
+use crate::path::Path;
+use crate::reader::Reader;
 use std::alloc::Global;
 use std::marker::Model;
 use tt_choice::Decision;

@@ -58,7 +58,7 @@ are_told i options told.Unknown is = tt
 -- the certificate has a text
 pub printable : (i : Instance) (options : Options) (conflict : Conflict) → IsInstance i → Answers i options conflict → IsPrintable conflict
 printable i options (told.Plan ticks plan) good is = tt
-printable i options (told.None needs K cert) good is = answer_allows _ options _ (rules_kept i K good) is.shown.answered
+printable i options (told.None needs K cert) good is = answer_allows _ options 0 _ (rules_kept i K good) is.shown.answered
 printable i options told.Unknown good is = tt
 
 -- what was found of the instance that bytes state was found of the bytes

@@ -5,6 +5,6 @@ mod texts;
 mod why;
 mod words;
 
-pub use plan_questions::Options;
+pub use plan_questions::{Asking, Options};
 pub use texts::Wanted;
 pub use why::why_run;

@@ -10,9 +10,8 @@ ghost use Rattle.why_command.specs.Answers.{IsExplained, IsFound, IsLate, IsSear
 use crate::texts::{Wanted, texts_of};
 use answer_files::{Texts, write_texts};
 use command_streams::{End, Fault, read_instance};
-use plan_questions::{Conflict, Lateness, Options, SolveFault, find_conflict, least_lateness};
+use plan_questions::{Asking, Conflict, Gate, Lateness, SolveFault, find_conflict, least_lateness};
 use search_watching::told_as;
-use std::alloc::Global;
 use std::io::{Read, Write};
 use std::marker::Sync;
 use std::sync::Wait;
@@ -42,58 +41,53 @@ fn end_of(conflict: &Conflict) -> End
 }
 
 /// How many ticks later all has to end, where it is asked for of an instance without a plan.
-fn late_of<R: Threads + Wait + Sync>(
+fn late_of<R: Threads + Wait + Sync, G: Gate + Sync>(
     rt: &R,
-    alloc: Global,
+    asking: &Asking<'_, G>,
     instance: &Instance,
-    options: Options,
     conflict: &Conflict,
     wanted: bool,
 ) -> Result<Option<Lateness>, SolveFault>
-    requires { Answers instance.now options conflict.now }
-    ensures { IfOk result (IsLate wanted instance.now options conflict.now) }
+    requires { Answers instance.now asking.now.options conflict.now }
+    ensures { IfOk result (IsLate wanted instance.now asking.now.options conflict.now) }
 {
     let _nodes = instance.nodes();
     match conflict {
-        Conflict::None { .. } if wanted => {
-            Ok(Some(least_lateness(rt, alloc, instance, options)?))
-        }
+        Conflict::None { .. } if wanted => { Ok(Some(least_lateness(rt, asking, instance)?)) }
         Conflict::Plan { .. } | Conflict::None { .. } | Conflict::Unknown => Ok(None),
     }
 }
 
 /// Which constraints of an instance leave no plan, and how many ticks later all has to end where that is asked for.
-fn explained<R: Threads + Wait + Sync>(
+fn explained<R: Threads + Wait + Sync, G: Gate + Sync>(
     rt: &R,
-    alloc: Global,
+    asking: &Asking<'_, G>,
     instance: &Instance,
-    options: Options,
     wanted: bool,
 ) -> Result<(Conflict, Option<Lateness>), SolveFault>
-    ensures { IfOk result (IsExplained wanted instance.now options) }
+    ensures { IfOk result (IsExplained wanted instance.now asking.now.options) }
 {
-    let conflict = find_conflict(rt, alloc, instance, options)?;
-    let late = late_of(rt, alloc, instance, options, &conflict, wanted)?;
+    let conflict = find_conflict(rt, asking, instance)?;
+    let late = late_of(rt, asking, instance, &conflict, wanted)?;
     Ok((conflict, late))
 }
 
 /// Looks for constraints of an instance that leave no plan, and makes the texts that tell them.
 #[tactic(auto, using(crate::proofs::Told::are_told, crate::proofs::Told::printable))]
-fn found_of<R: Threads + Wait + Sync>(
+fn found_of<R: Threads + Wait + Sync, G: Gate + Sync>(
     rt: &R,
-    alloc: Global,
+    asking: &Asking<'_, G>,
     instance: Instance,
-    options: Options,
     wanted: Wanted,
 ) -> Result<Found, Fault>
-    ensures { MatchResult result (IsSearched instance options wanted) IsUnsearched }
+    ensures { MatchResult result (IsSearched instance asking.now.options wanted) IsUnsearched }
 {
     let _nodes = instance.nodes();
-    let (conflict, late) = match explained(rt, alloc, &instance, options, wanted.late) {
+    let (conflict, late) = match explained(rt, asking, &instance, wanted.late) {
         Ok(told) => told,
         Err(fault) => return Err(Fault::Search(told_as(fault))),
     };
-    match texts_of(alloc, &instance, &conflict, &late, wanted) {
+    match texts_of(asking.alloc, &instance, &conflict, &late, wanted) {
         Ok(texts) => Ok(Found {
             instance,
             conflict,
@@ -106,20 +100,19 @@ fn found_of<R: Threads + Wait + Sync>(
 
 /// The same of the instance that a reader's bytes state.
 #[tactic(auto, using(crate::proofs::Told::found_of_bytes))]
-fn found_of_reader<R: Threads + Wait + Sync, I: Read>(
+fn found_of_reader<R: Threads + Wait + Sync, G: Gate + Sync, I: Read>(
     rt: &R,
-    alloc: Global,
+    asking: &Asking<'_, G>,
     instance: &mut I,
-    options: Options,
     wanted: Wanted,
 ) -> Result<Found, Fault>
     ensures judged { IfSome (I.remaining instance.old) (λ bytes. MatchResult result
-        (IsFound bytes options wanted)
+        (IsFound bytes asking.now.options wanted)
         (IsUnexplained bytes)) }
     ensures most { TakesAtMost (INSTANCE_LIMIT + 1) (I.remaining instance.old) (I.remaining instance.new) }
 {
-    let instance = read_instance(alloc, instance)?;
-    found_of(rt, alloc, instance, options, wanted)
+    let instance = read_instance(asking.alloc, instance)?;
+    found_of(rt, asking, instance, wanted)
 }
 
 /// Writes an answer behind what is written beside it.
@@ -150,23 +143,22 @@ fn tell<C: Write, S: Write, W: Write>(
 /// nothing is. All texts are made before one is written: where memory is refused nothing is written, and where a writer fails nothing
 /// is written to those behind it. Where the text that was made of that instance doesn't read back as it, nothing is written of it, and
 /// the end is the fault of that file, once the answer is written.
-pub fn why_run<R: Threads + Wait + Sync, I: Read, C: Write, S: Write, W: Write>(
+pub fn why_run<R: Threads + Wait + Sync, G: Gate + Sync, I: Read, C: Write, S: Write, W: Write>(
     rt: &R,
-    alloc: Global,
+    asking: &Asking<'_, G>,
     instance: &mut I,
-    options: Options,
     wanted: Wanted,
     certificate: &mut C,
     reduced: &mut S,
     out: &mut W,
 ) -> End
-    ensures answer { IfSome (I.remaining instance.old) (λ bytes. IsWhyAnswer bytes options wanted
+    ensures answer { IfSome (I.remaining instance.old) (λ bytes. IsWhyAnswer bytes asking.now.options wanted
         (C.contents certificate.old) (C.contents certificate.new) (S.contents reduced.old) (S.contents reduced.new)
         (W.contents out.old) (W.contents out.new) result) }
     // No more is taken of the reader than its limit and one byte.
     ensures most { TakesAtMost (INSTANCE_LIMIT + 1) (I.remaining instance.old) (I.remaining instance.new) }
 {
-    match found_of_reader(rt, alloc, instance, options, wanted) {
+    match found_of_reader(rt, asking, instance, wanted) {
         Ok(found) => {
             let end = tell(&found, certificate, reduced, out);
             drop(found);

@@ -10,10 +10,11 @@ ghost use Rattle.plan_questions.specs.LeavingOut.{Decides, IsHalving, IsMarked};
 
 use super::halving::{Halving, narrow};
 use super::searched::searched;
+use crate::asking::Asking;
 use crate::sought::Sought;
 use certificate::Cert;
 use instance_variants::{Constraint, Constraints};
-use planner::{Options, SolveFault};
+use planner::{Gate, SolveFault};
 use std::alloc::Global;
 use std::marker::Sync;
 use std::sync::Wait;
@@ -97,42 +98,40 @@ fn last_first(list: Vec<Constraint>) -> Vec<Constraint>
 }
 
 /// Which of an instance's constraints leave no plan by themselves, where it has none.
-fn narrowed<R: Threads + Wait + Sync>(
+fn narrowed<R: Threads + Wait + Sync, G: Gate + Sync>(
     rt: &R,
-    alloc: Global,
+    asking: &Asking<'_, G>,
     instance: &Instance,
-    options: Options,
     halving: Halving,
 ) -> Result<Conflict, SolveFault>
-    requires { IsHalving instance.now options halving }
-    ensures { IfOk result (Answers instance.now options) }
+    requires { IsHalving instance.now asking.now.options halving }
+    ensures { IfOk result (Answers instance.now asking.now.options) }
 {
-    let list = last_first(halving.kept.list(alloc)?);
+    let list = last_first(halving.kept.list(asking.alloc)?);
     let mut halving = halving;
-    narrow(rt, alloc, instance, options, &mut halving, list.as_slice())?;
-    Ok(told(alloc, halving)?)
+    narrow(rt, asking, instance, &mut halving, list.as_slice())?;
+    Ok(told(asking.alloc, halving)?)
 }
 
 /// Looks for constraints of an instance that leave no plan by themselves, and leaves out what it can of them, half by half: of times,
 /// messages and links in this order the later ones rather than the earlier ones, so that what is kept is the first such set (QuickXplain;
 /// Junker, AAAI 2004). Each search has the budget, and ends once it has found a plan.
-pub fn find_conflict<R: Threads + Wait + Sync>(
+pub fn find_conflict<R: Threads + Wait + Sync, G: Gate + Sync>(
     rt: &R,
-    alloc: Global,
+    asking: &Asking<'_, G>,
     instance: &Instance,
-    options: Options,
 ) -> Result<Conflict, SolveFault>
-    ensures { IfOk result (Answers instance.now options) }
+    ensures { IfOk result (Answers instance.now asking.now.options) }
 {
     let _nodes = instance.nodes();
-    let kept = Constraints::of(alloc, instance)?;
-    match searched(rt, alloc, instance, &kept, options)? {
+    let kept = Constraints::of(asking.alloc, instance)?;
+    match searched(rt, asking, instance, &kept)? {
         Sought::Found { delay, plan } => Ok(Conflict::Plan { delay, plan }),
         Sought::Open { .. } => Ok(Conflict::Unknown),
         Sought::Absent { cert } => {
-            let needed = Vec::new(alloc);
+            let needed = Vec::new(asking.alloc);
             let halving = Halving { kept, cert, needed };
-            narrowed(rt, alloc, instance, options, halving)
+            narrowed(rt, asking, instance, halving)
         }
     }
 }

@@ -4,10 +4,11 @@ ghost use Rattle.std.specs.Prelude.{◌≡◌, ◌<◌, ◌++◌, IfOk, OnOk, le
 ghost use Rattle.plan_questions.specs.LeavingOut.{needed_of, Decides, IsHalving, IsWithout, LeavesOut};
 
 use super::searched::searched;
+use crate::asking::Asking;
 use crate::sought::Sought;
 use certificate::Cert;
 use instance_variants::{Constraint, Constraints};
-use planner::{Options, SolveFault};
+use planner::{Gate, SolveFault};
 use std::alloc::Global;
 use std::marker::Sync;
 use std::sync::Wait;
@@ -32,22 +33,21 @@ pub enum Without {
 }
 
 /// Leaves constraints out, where there is no plan without them either; else what there is without them.
-fn leave_out<R: Threads + Wait + Sync>(
+fn leave_out<R: Threads + Wait + Sync, G: Gate + Sync>(
     rt: &R,
-    alloc: Global,
+    asking: &Asking<'_, G>,
     instance: &Instance,
-    options: Options,
     halving: &mut Halving,
     part: &[Constraint],
 ) -> Result<Option<Without>, SolveFault>
-    requires { IsHalving instance.now options halving.old }
-    ensures halving { OnOk result (IsHalving instance.now options halving.new) }
-    ensures left { IfOk result (LeavesOut instance.now options halving.old part.now halving.new) }
+    requires { IsHalving instance.now asking.now.options halving.old }
+    ensures halving { OnOk result (IsHalving instance.now asking.now.options halving.new) }
+    ensures left { IfOk result (LeavesOut instance.now asking.now.options halving.old part.now halving.new) }
 {
     let _nodes = instance.nodes();
-    let mut fewer = halving.kept.copy(alloc)?;
+    let mut fewer = halving.kept.copy(asking.alloc)?;
     fewer.leave_all_out(part);
-    match searched(rt, alloc, instance, &fewer, options)? {
+    match searched(rt, asking, instance, &fewer)? {
         Sought::Absent { cert } => {
             halving.kept = fewer;
             halving.cert = cert;
@@ -72,52 +72,48 @@ fn tell(halving: &mut Halving, part: &[Constraint], without: Without) -> Result<
 }
 
 /// Leaves out what can be of constraints of which it is known what there is without all of them.
-fn halve<R: Threads + Wait + Sync>(
+fn halve<R: Threads + Wait + Sync, G: Gate + Sync>(
     rt: &R,
-    alloc: Global,
+    asking: &Asking<'_, G>,
     instance: &Instance,
-    options: Options,
     halving: &mut Halving,
     part: &[Constraint],
     without: Without,
 ) -> Result<(), SolveFault>
-    requires halving { IsHalving instance.now options halving.old }
-    requires without { IsWithout instance.now options halving.old.kept part.now without }
-    ensures { OnOk result (Decides instance.now options halving.old part.now halving.new) }
+    requires halving { IsHalving instance.now asking.now.options halving.old }
+    requires without { IsWithout instance.now asking.now.options halving.old.kept part.now without }
+    ensures { OnOk result (Decides instance.now asking.now.options halving.old part.now halving.new) }
 {
     if part.len() < 2 {
         tell(halving, part, without)?;
         return Ok(());
     }
     let (front, back) = part.split_at(part.len() / 2);
-    match leave_out(rt, alloc, instance, options, halving, front)? {
-        None => halve(rt, alloc, instance, options, halving, back, without),
+    match leave_out(rt, asking, instance, halving, front)? {
+        None => halve(rt, asking, instance, halving, back, without),
         Some(without_front) => {
-            halve(rt, alloc, instance, options, halving, front, without_front)?;
-            match leave_out(rt, alloc, instance, options, halving, back)? {
+            halve(rt, asking, instance, halving, front, without_front)?;
+            match leave_out(rt, asking, instance, halving, back)? {
                 None => Ok(()),
-                Some(without_back) => {
-                    halve(rt, alloc, instance, options, halving, back, without_back)
-                }
+                Some(without_back) => { halve(rt, asking, instance, halving, back, without_back) }
             }
         }
     }
 }
 
 /// Leaves out what can be of constraints.
-pub fn narrow<R: Threads + Wait + Sync>(
+pub fn narrow<R: Threads + Wait + Sync, G: Gate + Sync>(
     rt: &R,
-    alloc: Global,
+    asking: &Asking<'_, G>,
     instance: &Instance,
-    options: Options,
     halving: &mut Halving,
     list: &[Constraint],
 ) -> Result<(), SolveFault>
-    requires { IsHalving instance.now options halving.old }
-    ensures { OnOk result (Decides instance.now options halving.old list.now halving.new) }
+    requires { IsHalving instance.now asking.now.options halving.old }
+    ensures { OnOk result (Decides instance.now asking.now.options halving.old list.now halving.new) }
 {
-    match leave_out(rt, alloc, instance, options, halving, list)? {
+    match leave_out(rt, asking, instance, halving, list)? {
         None => Ok(()),
-        Some(without) => halve(rt, alloc, instance, options, halving, list, without),
+        Some(without) => halve(rt, asking, instance, halving, list, without),
     }
 }

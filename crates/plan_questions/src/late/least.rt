@@ -6,8 +6,9 @@ ghost use Rattle.plan_questions.specs.LateAnswers.{IsLateness};
 
 use super::answer::Lateness;
 use super::late_cut::LateCut;
+use crate::asking::Asking;
 use crate::cuts::{LeastNumber, least_number};
-use planner::{Options, SolveFault};
+use planner::{Gate, SolveFault};
 use std::alloc::Global;
 use std::marker::Sync;
 use std::sync::Wait;
@@ -16,17 +17,16 @@ use ttp_model::Instance;
 
 /// How many ticks later all has to end for there to be a plan of an instance that has none. Searches first with all ends as late as
 /// an instance can state: where there is no plan then, none is told, however many ticks later.
-pub fn least_lateness<R: Threads + Wait + Sync>(
+pub fn least_lateness<R: Threads + Wait + Sync, G: Gate + Sync>(
     rt: &R,
-    alloc: Global,
+    asking: &Asking<'_, G>,
     instance: &Instance,
-    options: Options,
 ) -> Result<Lateness, SolveFault>
     requires { HasNoPlan instance.now }
-    ensures { IfOk result (IsLateness instance.now options) }
+    ensures { IfOk result (IsLateness instance.now asking.now.options) }
 {
     let _nodes = instance.nodes();
-    let least = least_number(rt, alloc, &LateCut { instance }, options)?;
+    let least = least_number(rt, asking, &LateCut { instance })?;
     match least {
         LeastNumber::Exact { number, plan } => Ok(Lateness::Least { late: number, plan }),
         LeastNumber::Apart {

@@ -1,6 +1,6 @@
 //! Before which tick can some processes not have ended, whatever the plan?
 
-ghost use Rattle.std.specs.Prelude.{◌≡◌, ◌<◌, ◌^◌, All, IfOk, length, map, slice_index};
+ghost use Rattle.std.specs.Prelude.{◌≡◌, ◌<◌, All, IfOk, length, map, slice_index};
 ghost use Rattle.ttp_model.specs.Lists.{greatest};
 ghost use Rattle.instance_variants.specs.Ends.{AreThere, IsLowerEnd};
 ghost use Rattle.plan_questions.specs.EndAnswers.{IsBehindChains};

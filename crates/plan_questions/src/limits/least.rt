@@ -11,9 +11,10 @@ ghost use Rattle.plan_questions.specs.EndAnswers.{EndsAt, IsEndLimit};
 use super::chains::longest_to;
 use super::end_cut::EndCut;
 use super::limit::EndLimit;
+use crate::asking::Asking;
 use crate::cuts::{LeastNumber, least_number};
 use instance_variants::with_deadlines;
-use planner::{Options, Outcome, SolveFault, solve};
+use planner::{Gate, Options, Outcome, SolveFault, solve_with};
 use std::alloc::Global;
 use std::marker::Sync;
 use std::sync::Wait;
@@ -21,20 +22,19 @@ use std::thread::Threads;
 use ttp_model::{Instance, Plan, delay};
 
 /// Searches for the plan of the least delay among those that end these processes by `end`.
-fn shortest_by<R: Threads + Wait + Sync>(
+fn shortest_by<R: Threads + Wait + Sync, G: Gate + Sync>(
     rt: &R,
-    alloc: Global,
+    asking: &Asking<'_, G>,
     instance: &Instance,
     processes: &[u32],
     end: u32,
-    options: Options,
 ) -> Result<Outcome, SolveFault>
     requires { CanEndBy instance.now processes.now end }
-    ensures answer { IfOk result (IsOutcome (cut instance.now processes.now end) options) }
+    ensures answer { IfOk result (IsOutcome (cut instance.now processes.now end) asking.now.options 0) }
     ensures shows { IfOk result (Shows (cut instance.now processes.now end)) }
 {
-    let earlier = with_deadlines(alloc, instance, processes, end)?;
-    solve(rt, alloc, &earlier, options)
+    let earlier = with_deadlines(asking.alloc, instance, processes, end)?;
+    solve_with(rt, asking.alloc, &earlier, asking.options, asking.gate)
 }
 
 /// The plan of the smaller delay: the first where these are the same.
@@ -64,7 +64,7 @@ fn told(
     requires there { AreThere instance.now processes.now }
     requires ends { EndsAt instance.now processes.now plan end }
     requires lower { IsLowerEnd instance.now processes.now end }
-    requires answer { IsOutcome (cut instance.now processes.now end) options outcome }
+    requires answer { IsOutcome (cut instance.now processes.now end) options 0 outcome }
     requires shows { Shows (cut instance.now processes.now end) outcome }
     ensures { IsEndLimit instance.now processes.now options result }
 {
@@ -72,8 +72,8 @@ fn told(
         Outcome::Optimal { plan, cert, .. } => EndLimit::Least { end, plan, cert },
         Outcome::Infeasible { .. } => unreachable!(),
         Outcome::Stopped { best, cert, .. } => match best {
-            Some((other, _)) => {
-                let plan = shorter(instance, plan, other);
+            Some(other) => {
+                let plan = shorter(instance, plan, other.plan);
                 EndLimit::Reached { end, plan, cert }
             }
             None => EndLimit::Reached { end, plan, cert },
@@ -85,28 +85,27 @@ fn told(
 /// then for one that ends them half way between what its end is and the longest chain to them, and so on; each of these searches
 /// ends at its first plan, and the last one is for the shortest. Each has the whole budget. Where one is stopped without a plan
 /// less is answered; where the last one is, the end is still the least.
-pub fn least_end<R: Threads + Wait + Sync>(
+pub fn least_end<R: Threads + Wait + Sync, G: Gate + Sync>(
     rt: &R,
-    alloc: Global,
+    asking: &Asking<'_, G>,
     instance: &Instance,
     processes: &[u32],
-    options: Options,
 ) -> Result<EndLimit, SolveFault>
     requires { AreThere instance.now processes.now }
-    ensures { IfOk result (IsEndLimit instance.now processes.now options) }
+    ensures { IfOk result (IsEndLimit instance.now processes.now asking.now.options) }
 {
     let _nodes = instance.nodes();
-    let low = longest_to(alloc, instance, processes)?;
+    let low = longest_to(asking.alloc, instance, processes)?;
     let cut = EndCut {
         instance,
         processes,
         low,
     };
-    let least = least_number(rt, alloc, &cut, options)?;
+    let least = least_number(rt, asking, &cut)?;
     match least {
         LeastNumber::Exact { number: end, plan } => {
-            let outcome = shortest_by(rt, alloc, instance, processes, end, options)?;
-            Ok(told(instance, processes, options, end, plan, outcome))
+            let outcome = shortest_by(rt, asking, instance, processes, end)?;
+            Ok(told(instance, processes, asking.options, end, plan, outcome))
         }
         LeastNumber::Apart {
             low,

@@ -1,5 +1,5 @@
 use Rattle.std.proofs.Common.{◌≡◌}
-use Rattle.plan_sheets.specs.Slack.{least}
+use Rattle.instance_variants.specs.Slack.{least}
 use Rattle.plan_picture.specs.Names.{ticks_to}
 use Rattle.plan_picture.proofs.names.room_of.Given as goal
 

@@ -1,10 +1,9 @@
-use Rattle.std.proofs.Common.{refl, arith}
+use Rattle.std.proofs.Common.{arith}
 use Rattle.search_workers.proofs.Goals.{goal_above}
 use Rattle.planner.proofs.aiming.aims_of.Goals as goal
 
-pub returns : goal.returns
-returns c = record {
-  gap_is = refl;
+pub returns-clause-aims : goal.returns-clause-aims
+returns-clause-aims c = record {
   path = λ bound seen path small.
       omega (
         arith,

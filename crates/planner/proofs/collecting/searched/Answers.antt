@@ -18,7 +18,7 @@ returns-clause-within g c =
 
 pub returns-clause-no_later : goal.returns-clause-no_later
 returns-clause-no_later g c =
-    let i = c.args.instance.now in
+    let i = c.args.site.now.instance.now in
     let began = ap (limit_of i) c.in_ok-word.ensures.best in
     let ended = ap (limit_of i) c.in_ok-search.ensures.best in
     let crewed = subst (λ (x : Instance). limit_of x c.crewed.new.crew.best ≤ limit_of x c.in_ok-word.crew.best) (sym c.requires.of) c.in_ok-crewed.ensures.no_later in

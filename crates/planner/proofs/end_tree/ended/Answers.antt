@@ -18,7 +18,7 @@ returns-clause-answer c =
     let least = below_limit (limit_of i c.args.best) (preorder cert.tree) low lowest in
     let answer : IsAnswerOf i c.cause-cause.result c.args.best low c.with_low.result c.answer.result =
     c.answer.ensures i c.limit-limit.ensures (subst (λ n. low ≤ n) (sym c.limit-limit.ensures) least) in
-    end_answers i c.args.options c.args.why c.cause-cause.result c.args.best low cert c.nodes-nodes.ensures.instance c.requires.found c.requires.tree lowest
+    end_answers i c.args.options c.args.gap c.args.why c.cause-cause.result c.args.best low cert c.nodes-nodes.ensures.instance c.requires.found c.requires.tree lowest
     c.cause-cause.ensures c.answer.result
     (subst (λ (x : Cert). IsAnswerOf i c.cause-cause.result c.args.best low x c.answer.result) c.with_low.ensures answer)
 
@@ -37,5 +37,5 @@ returns-clause-called_off c =
     let low = c.lowest-low.result in
     let lowest : IsLowest (limit_of i c.args.best) (preorder c.args.cert.tree) low = rw (← c.limit-limit.ensures, ← c.nodes.ensures.nodes) c.lowest-low.ensures in
     let least = below_limit (limit_of i c.args.best) (preorder c.args.cert.tree) low lowest in
-    called_off_only i c.args.why c.cause-cause.result c.args.options.gap low c.args.best c.with_low.result c.answer.result c.cause-cause.ensures
+    called_off_only i c.args.why c.cause-cause.result c.args.gap low c.args.best c.with_low.result c.answer.result c.cause-cause.ensures
     (c.answer.ensures i c.limit-limit.ensures (subst (λ n. low ≤ n) (sym c.limit-limit.ensures) least))

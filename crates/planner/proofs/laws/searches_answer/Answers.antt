@@ -7,5 +7,5 @@ returns-clause-tree c = λ i options why best aims worked closed low cert w righ
     search_ends i options aims why best worked closed low cert w right is gathered
 
 pub returns-clause-answer : goal.returns-clause-answer
-returns-clause-answer c = λ i options why cause best low cert outcome w found is lowest told answer.
-    end_answers i options why cause best low cert w found is lowest told outcome answer
+returns-clause-answer c = λ i options gap why cause best low cert outcome w found is lowest told answer.
+    end_answers i options gap why cause best low cert w found is lowest told outcome answer

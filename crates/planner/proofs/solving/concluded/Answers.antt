@@ -10,10 +10,10 @@ ended-requires-clause-tree c =
     let i = c.args.instance.now in
     let s = c.args.search in
     let tree = c.in_ok-cert.ensures.ok in
-    let told : c.with_version.result ≡ in_answer i c.in_ok-cert.cert = rw (c.with_version.ensures, c.answer_version-version.ensures) refl in
+    let told : c.with_version-cert.result ≡ in_answer i c.in_ok-cert.cert = rw (c.with_version-cert.ensures, c.answer_version.ensures) refl in
     let searched =
     ends i c.args.aims s.pieces.items s.tasks.items s.best tree.low tree.closed c.requires.searching tree.are c.args.options c.args.why c.requires.within
     c.requires.cause in
-    subst (IsEndTree i c.args.options c.args.why s.best) (sym told)
+    subst (IsEndTree i c.args.options c.args.aims.gap c.args.why s.best) (sym told)
     (search_ends i c.args.options c.args.aims c.args.why s.best s.pieces.items tree.closed tree.low c.in_ok-cert.cert c.nodes-nodes.ensures.instance
     c.requires.aims searched tree.gathered)

@@ -8,4 +8,4 @@ pub overflow_cast-result : goal.overflow_cast-result
 overflow_cast-result c =
     let i = c.args.instance.now in
     let found = subst (IsFound i) c.in-Some.is c.requires in
-    omega (arith, found_small i _ c.in-Some.delay c.nodes-nodes.ensures.instance found, (c.nodes-nodes.ensures.instance.ranges AtCluster).horizon)
+    omega (arith, found_small i _ c.in-Some.found.delay c.nodes-nodes.ensures.instance found, (c.nodes-nodes.ensures.instance.ranges AtCluster).horizon)

@@ -1,7 +1,7 @@
 use Rattle.std.proofs.Common.{take, get_or}
 use Rattle.std.proofs.lemmas.List.{take_more}
-use Rattle.decision_paths.specs.declared.turn.Placed.{Placed}
-use Rattle.leaf_decisions.proofs.More.{marked_more}
+use Rattle.used_decisions.specs.declared.turn.Placed.{Placed}
+use Rattle.used_decisions.proofs.More.{marked_more}
 use Rattle.used_decisions.proofs.children.insert_all.Goals as goal
 
 pub loop-one-preserved : goal.loop-one-preserved

@@ -1,5 +1,5 @@
 use Rattle.std.proofs.Common.{take}
-use Rattle.leaf_decisions.specs.Uses.{HaveMarked}
+use Rattle.used_decisions.specs.Uses.{HaveMarked}
 use Rattle.used_decisions.proofs.children.insert_all.Given as goal
 
 abbrev pub invariant-loop-one : goal.invariant-loop-one

@@ -13,10 +13,10 @@ returns g c =
     let turned : IsPermutation (listed old.kept) c.last_first-list.result.items =
     subst (λ (list : List Constraint). IsPermutation list c.last_first-list.result.items) c.in_ok-list.ensures
     (subst (IsPermutation _) (sym c.last_first-list.ensures) (IsPermutation-reverse _)) in
-    let done = subst (λ (part : List Constraint). Decides i c.args.options old part new) c.as_slice.ensures.value c.in_ok-narrow.ensures in
-    c.in_ok-told.ensures i c.args.options old (record {
+    let done = subst (λ (part : List Constraint). Decides i c.args.asking.now.options old part new) c.as_slice.ensures.value c.in_ok-narrow.ensures in
+    c.in_ok-told.ensures i c.args.asking.now.options old (record {
       halving = done.halving;
       fewer = done.fewer;
       needed = done.needed;
-      decided = All-permutation (IsDecided i c.args.options new.kept new.needed.items) _ _ (IsPermutation-sym _ _ turned) done.decided;
+      decided = All-permutation (IsDecided i c.args.asking.now.options new.kept new.needed.items) _ _ (IsPermutation-sym _ _ turned) done.decided;
     })

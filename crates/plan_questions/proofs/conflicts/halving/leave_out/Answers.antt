@@ -13,6 +13,6 @@ returns-in-Absent-clause-halving g c =
     let old : Halving = c.args.halving.now in
     let new : Halving = record { kept = c.leave_all_out.new.self; cert = c.in-Absent.cert; needed = old.needed } in
     let kept : new.kept ≡ without_all old.kept c.args.part.now = search rules in
-    let shown : IsShown (only i new.kept) c.args.options new.cert =
-    subst (λ (sought : Sought). Tells (only i new.kept) c.args.options sought) c.in-Absent.is c.in_ok-cert.ensures in
-    halving_left i c.args.options old new c.args.part.now c.nodes-nodes.ensures.instance c.requires kept refl shown
+    let shown : IsShown (only i new.kept) c.args.asking.now.options new.cert =
+    subst (λ (sought : Sought). Tells (only i new.kept) c.args.asking.now.options sought) c.in-Absent.is c.in_ok-cert.ensures in
+    halving_left i c.args.asking.now.options old new c.args.part.now c.nodes-nodes.ensures.instance c.requires kept refl shown

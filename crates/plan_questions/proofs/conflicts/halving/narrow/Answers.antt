@@ -8,5 +8,5 @@ pub returns-in-None : goal.returns-in-None
 returns-in-None g c =
     let i = c.args.instance.now in
     let new = c.leave_out.new.halving in
-    let left = subst (λ (o : Option Without). LeavesOut i c.args.options c.args.halving.now c.args.list.now new o) c.in-None.is c.in_ok-leave_out.ensures.left in
-    decides_gone i c.args.options c.args.halving.now new c.args.list.now c.in_ok-leave_out.ensures.halving left
+    let left = subst (λ (o : Option Without). LeavesOut i c.args.asking.now.options c.args.halving.now c.args.list.now new o) c.in-None.is c.in_ok-leave_out.ensures.left in
+    decides_gone i c.args.asking.now.options c.args.halving.now new c.args.list.now c.in_ok-leave_out.ensures.halving left

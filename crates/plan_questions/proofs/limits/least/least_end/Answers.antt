@@ -25,15 +25,15 @@ told-requires-clause-lower g c =
 
 pub returns-in-Apart : goal.returns-in-Apart
 returns-in-Apart g c =
-    end_apart c.args.instance.now c.args.processes.now c.requires c.args.options c.in_ok-low.low c.in-Apart.low c.in-Apart.high c.in-Apart.plan c.in-Apart.cert
+    end_apart c.args.instance.now c.args.processes.now c.requires c.args.asking.now.options c.in_ok-low.low c.in-Apart.low c.in-Apart.high c.in-Apart.plan c.in-Apart.cert
     c.in_ok-low.ensures.chains (rw c.in-Apart.is at c.in_ok-least.ensures)
 
 pub returns-in-Open : goal.returns-in-Open
 returns-in-Open g c =
-    end_unknown c.args.instance.now c.args.processes.now c.requires c.nodes-nodes.ensures.instance c.args.options c.in-Open.cert c.in_ok-low.low
+    end_unknown c.args.instance.now c.args.processes.now c.requires c.nodes-nodes.ensures.instance c.args.asking.now.options c.in-Open.cert c.in_ok-low.low
     c.in_ok-low.ensures.lower c.in_ok-low.ensures.chains (rw c.in-Open.is at c.in_ok-least.ensures)
 
 pub returns-in-Never : goal.returns-in-Never
 returns-in-Never g c =
-    end_never c.args.instance.now c.args.processes.now c.requires c.nodes-nodes.ensures.instance c.args.options c.in-Never.cert
+    end_never c.args.instance.now c.args.processes.now c.requires c.nodes-nodes.ensures.instance c.args.asking.now.options c.in-Never.cert
     (rw c.in-Never.is at c.in_ok-least.ensures)

@@ -10,7 +10,7 @@ unreachable-requires c =
 pub shorter-plan-requires-clause-other : goal.shorter-plan-requires-clause-other
 shorter-plan-requires-clause-other c =
     let best = rw c.in-Some.is at (rw c.in-Stopped.is at c.requires.shows).1 in
-    valid_of_cut c.args.instance.now c.args.processes.now c.args.end c.in-Some.other best.0
+    valid_of_cut c.args.instance.now c.args.processes.now c.args.end c.in-Some.other.plan best.0
 
 pub returns-in-Optimal : goal.returns-in-Optimal
 returns-in-Optimal c =
@@ -22,5 +22,5 @@ returns-in-Some c =
     let best = rw c.in-Some.is at (rw c.in-Stopped.is at c.requires.shows).1 in
     let answer = rw c.in-Some.is at (rw c.in-Stopped.is at c.requires.answer) in
     is_reached_by c.args.instance.now c.args.processes.now c.requires.there c.args.end c.args.plan c.requires.ends c.requires.lower c.args.options
-    c.in-Stopped.cert c.in-Stopped.why c.in-Stopped.low c.in-Some.other c.in-Some.field-0-1 c.shorter-plan.result answer best
+    c.in-Stopped.cert c.in-Stopped.why c.in-Stopped.low c.in-Some.other c.shorter-plan.result answer best
     c.shorter-plan.ensures.one c.shorter-plan.ensures.second

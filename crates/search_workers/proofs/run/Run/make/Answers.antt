@@ -1,4 +1,4 @@
-use Rattle.std.proofs.Common.{arith, ℕ, ◌≡◌, ◌≤◌, ◌++◌, All, List, [], ◌∷◌, inl, inr, refl, sym, ap, ◌∙◌, subst}
+use Rattle.std.proofs.Common.{arith, ℕ, ◌≤◌, ◌++◌, All, List, [], ◌∷◌, inl, inr, refl, sym, ap, ◌∙◌, subst}
 use Rattle.std.proofs.lemmas.Result.{err_from_is_err_and}
 use Rattle.std.proofs.lemmas.List.Elements.{All-nil}
 use Rattle.branch_tree.specs.Task.{Task, IsTask}
@@ -16,7 +16,7 @@ use Rattle.search_workers.proofs.run.Run.make.Goals as goal
 
 pub push_all-left-requires : goal.push_all-left-requires
 push_all-left-requires g c =
-    let i = c.args.instance.now in
+    let i = c.args.site.now.instance.now in
     let made = c.in_ok-piece.ensures.made in
     let turn : Turn = record { task = c.args.task; piece = c.in_ok-piece.piece } in
     let kids : HasChildren i turn c.in-Children.tasks.items = subst (Gains i c.goal_of-goal.result turn) c.in-Children.is made.gains in
@@ -25,7 +25,7 @@ push_all-left-requires g c =
 pub note-requires : goal.note-requires
 note-requires g c =
     let made = c.in_ok-piece.ensures.made in
-    (c.args.instance.now, c.args.task, c.requires.task, c.begin.ensures.at, made.right.sharp, made.right.right)
+    (c.args.site.now.instance.now, c.args.task, c.requires.task, c.begin.ensures.at, made.right.sharp, made.right.right)
 
 pub returns-then-is_err-clause-back : goal.returns-then-is_err-clause-back
 returns-then-is_err-clause-back g c = (
@@ -62,7 +62,7 @@ returns-in_err-piece-clause-back g c =
 -- The children are those of a branch that is open at the task, and each of them is pushed, or left.
 pub returns-in-Children-clause-made : goal.returns-in-Children-clause-made
 returns-in-Children-clause-made g c =
-    let i = c.args.instance.now in
+    let i = c.args.site.now.instance.now in
     let old = c.args.self.now.watch in
     let made = c.in_ok-piece.ensures.made in
     let turn : Turn = record { task = c.args.task; piece = c.in_ok-piece.piece } in
@@ -85,7 +85,7 @@ returns-in-Children-clause-made g c =
 
 pub returns-in-Nothing-clause-made : goal.returns-in-Nothing-clause-made
 returns-in-Nothing-clause-made g c =
-    let i = c.args.instance.now in
+    let i = c.args.site.now.instance.now in
     let old = c.args.self.now.watch in
     let new = c.look-seen.new.watch in
     let made = c.in_ok-piece.ensures.made in
@@ -116,18 +116,18 @@ returns-in-Nothing-clause-made g c =
 
 pub returns-in-Found-clause-made : goal.returns-in-Found-clause-made
 returns-in-Found-clause-made g c =
-    let i = c.args.instance.now in
+    let i = c.args.site.now.instance.now in
     let old = c.args.self.now.watch in
     let mid = c.look-seen.new.watch in
     let new = c.offer.new.watch in
     let made = c.in_ok-piece.ensures.made in
     let turn : Turn = record { task = c.args.task; piece = c.in_ok-piece.piece } in
-    let find : HasPlan i c.goal_of-goal.result turn c.in-Found.plan c.in-Found.delay = subst (Gains i c.goal_of-goal.result turn) c.in-Found.is made.gains in
+    let find : HasPlan i c.goal_of-goal.result turn c.in-Found.found = subst (Gains i c.goal_of-goal.result turn) c.in-Found.is made.gains in
     let at = find.leaf in
     let looks = looked old mid c.look-seen.result c.look-seen.ensures.same c.look-seen.ensures.seen c.look-seen.ensures.offers in
-    let offers_one = offered mid new c.offer.result c.in-Found.delay c.offer.ensures.same c.offer.ensures.seen c.offer.ensures.offers in
+    let offers_one = offered mid new c.offer.result c.in-Found.found.delay c.offer.ensures.same c.offer.ensures.seen c.offer.ensures.offers in
     let lower_goal = goal_below i c.args.aims c.look-seen.result in
-    let later : c.in-Found.delay ≤ c.look-seen.result = omega (arith, find.below, find.no_later, c.goal_of-goal.ensures, lower_goal) in
+    let later : c.in-Found.found.delay ≤ c.look-seen.result = omega (arith, find.below, find.no_later, c.goal_of-goal.ensures, lower_goal) in
     record {
       same = record { number = refl; own = refl; deques = refl; out = refl };
       takes = refl;
@@ -144,32 +144,31 @@ returns-in-Found-clause-made g c =
       reached =
           subst (λ n. All (IsReached i c.args.aims new) (goals_at n)) (sym at.is)
           (one (IsReached i c.args.aims new) at.leaf.goal (record {
-            value = c.in-Found.delay;
-            known = inr (last _ _ c.in-Found.delay c.offer.ensures.offers);
-            at_most = omega (arith, at.at, find.no_later, goal_below i c.args.aims c.in-Found.delay);
+            value = c.in-Found.found.delay;
+            known = inr (last _ _ c.in-Found.found.delay c.offer.ensures.offers);
+            at_most = omega (arith, at.at, find.no_later, goal_below i c.args.aims c.in-Found.found.delay);
           }));
       best = inr (record {
-        plan = c.in-Found.plan;
-        ticks = c.in-Found.delay;
-        found = find.found;
+        found = c.in-Found.found;
+        is = find.found;
         best = refl;
-        offered = c.offer.ensures.offers ∙ ap (λ (l : List ℕ). l ++ c.in-Found.delay ∷ []) c.look-seen.ensures.offers;
-        least = lower c.look-seen.result c.in-Found.delay (offers old) later c.look-seen.ensures.below.1;
+        offered = c.offer.ensures.offers ∙ ap (λ (l : List ℕ). l ++ c.in-Found.found.delay ∷ []) c.look-seen.ensures.offers;
+        least = lower c.look-seen.result c.in-Found.found.delay (offers old) later c.look-seen.ensures.below.1;
       });
     }
 
 pub found-requires : goal.found-requires
 found-requires g c =
-    let i = c.args.instance.now in
+    let i = c.args.site.now.instance.now in
     let turn : Turn = record { task = c.args.task; piece = c.in_ok-piece.piece } in
-    let find : HasPlan i c.goal_of-goal.result turn c.in-Found.plan c.in-Found.delay = subst (Gains i c.goal_of-goal.result turn) c.in-Found.is c.in_ok-piece.ensures.made.gains in
+    let find : HasPlan i c.goal_of-goal.result turn c.in-Found.found = subst (Gains i c.goal_of-goal.result turn) c.in-Found.is c.in_ok-piece.ensures.made.gains in
     find.found
 
 pub returns-in-Children-clause-holds : goal.returns-in-Children-clause-holds
-returns-in-Children-clause-holds g c = λ low top all before. c.note.ensures c.args.instance.now low all (c.begin.ensures.holds low top before)
+returns-in-Children-clause-holds g c = λ low top all before. c.note.ensures c.args.site.now.instance.now low all (c.begin.ensures.holds low top before)
 
 pub returns-in-Nothing-clause-holds : goal.returns-in-Nothing-clause-holds
-returns-in-Nothing-clause-holds g c = λ low top all before. c.note.ensures c.args.instance.now low all (c.begin.ensures.holds low top before)
+returns-in-Nothing-clause-holds g c = λ low top all before. c.note.ensures c.args.site.now.instance.now low all (c.begin.ensures.holds low top before)
 
 pub returns-in-Found-clause-holds : goal.returns-in-Found-clause-holds
-returns-in-Found-clause-holds g c = λ low top all before. c.note.ensures c.args.instance.now low all (c.begin.ensures.holds low top before)
+returns-in-Found-clause-holds g c = λ low top all before. c.note.ensures c.args.site.now.instance.now low all (c.begin.ensures.holds low top before)

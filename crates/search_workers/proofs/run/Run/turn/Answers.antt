@@ -21,7 +21,7 @@ make-requires-clause-task g c = subst (λ (j : Instance). IsTask j c.in-Some.tas
 
 pub returns-else-is_empty-clause-goes_on : goal.returns-else-is_empty-clause-goes_on
 returns-else-is_empty-clause-goes_on g c = λ hand watch run.
-    let i = c.args.instance.now in
+    let i = c.args.site.now.instance.now in
     let old = c.args.self.now in
     let made = c.in-Ok.ensures.made in
     let pieces = c.push_reserved.ensures.items ∙ ap (λ (l : List Piece). l ++ c.in-Ok.piece ∷ []) made.pieces in
@@ -42,7 +42,7 @@ returns-else-is_empty-clause-goes_on g c = λ hand watch run.
       follows = follows_still watch old.watch c.make.new.self.watch run.follows made.follows;
       account = rw pieces (rw made.spared account);
       goals =
-          goals_more i c.args.aims watch old.watch c.make.new.self.watch run.follows made.follows old.pieces.items c.push_reserved.new.self.items c.in-Ok.piece
+          goals_more i c.args.course.aims watch old.watch c.make.new.self.watch run.follows made.follows old.pieces.items c.push_reserved.new.self.items c.in-Ok.piece
           pieces run.goals made.below made.reached;
       best =
           ⊎_elim (λ (k : KeepsBest mid c.make.new.self). best_still i watch mid c.make.new.self k run.best)
@@ -51,7 +51,7 @@ returns-else-is_empty-clause-goes_on g c = λ hand watch run.
 
 pub returns-then-is_empty-clause-goes_on : goal.returns-then-is_empty-clause-goes_on
 returns-then-is_empty-clause-goes_on g c = λ hand watch run.
-    let i = c.args.instance.now in
+    let i = c.args.site.now.instance.now in
     let old = c.args.self.now in
     let made = c.in-Ok.ensures.made in
     let pieces = c.push_reserved.ensures.items ∙ ap (λ (l : List Piece). l ++ c.in-Ok.piece ∷ []) made.pieces in
@@ -74,7 +74,7 @@ returns-then-is_empty-clause-goes_on g c = λ hand watch run.
       follows = follows_still watch old.watch c.make.new.self.watch run.follows made.follows;
       account = rw pieces (rw made.spared account);
       goals =
-          goals_more i c.args.aims watch old.watch c.make.new.self.watch run.follows made.follows old.pieces.items c.push_reserved.new.self.items c.in-Ok.piece
+          goals_more i c.args.course.aims watch old.watch c.make.new.self.watch run.follows made.follows old.pieces.items c.push_reserved.new.self.items c.in-Ok.piece
           pieces run.goals made.below made.reached;
       best =
           ⊎_elim (λ (k : KeepsBest mid c.make.new.self). best_still i watch mid c.make.new.self k run.best)
@@ -83,7 +83,7 @@ returns-then-is_empty-clause-goes_on g c = λ hand watch run.
 
 pub returns-in-Err-clause-goes_on : goal.returns-in-Err-clause-goes_on
 returns-in-Err-clause-goes_on g c = λ hand watch run.
-    let i = c.args.instance.now in
+    let i = c.args.site.now.instance.now in
     let old = c.args.self.now in
     let back = c.in-Err.ensures.back in
     let mid : Run g.row.J.Denot = record {
@@ -105,14 +105,14 @@ returns-in-Err-clause-goes_on g c = λ hand watch run.
       follows = follows_still watch old.watch c.make.new.self.watch run.follows back.1.follows;
       account = rw back.1.pieces (rw back.1.spared same);
       goals =
-          subst (λ (l : List Piece). AreGoals i c.args.aims watch c.make.new.self.watch (goals_of l)) (sym back.1.pieces)
-          (goals_still i c.args.aims watch old.watch c.make.new.self.watch run.follows back.1.follows (goals_of old.pieces.items) run.goals);
+          subst (λ (l : List Piece). AreGoals i c.args.course.aims watch c.make.new.self.watch (goals_of l)) (sym back.1.pieces)
+          (goals_still i c.args.course.aims watch old.watch c.make.new.self.watch run.follows back.1.follows (goals_of old.pieces.items) run.goals);
       best = best_still i watch mid c.make.new.self back.1.best run.best;
     }
 
 pub returns-then-is_left-clause-goes_on : goal.returns-then-is_left-clause-goes_on
 returns-then-is_left-clause-goes_on g c = λ hand watch run.
-    let i = c.args.instance.now in
+    let i = c.args.site.now.instance.now in
     let old = c.args.self.now in
     let spares = c.spare.ensures.spares in
     let is : IsTask i c.in-Some.task = subst (λ (j : Instance). IsTask j c.in-Some.task) (sym c.requires.of) c.in-Some.ensures.task in
@@ -134,7 +134,7 @@ returns-then-is_empty-clause-spared g c =
     let old = c.args.self.now in
     let made = c.in-Ok.ensures.made in
     let pieces = c.push_reserved.ensures.items ∙ ap (λ (l : List Piece). l ++ c.in-Ok.piece ∷ []) made.pieces in
-    rw pieces (rw made.spared (spared_more c.args.instance.now old.pieces.items c.in-Ok.piece old.spared.items c.args.needs.now c.make.new.needs
+    rw pieces (rw made.spared (spared_more c.args.site.now.instance.now old.pieces.items c.in-Ok.piece old.spared.items c.args.needs.now c.make.new.needs
     c.requires.spared c.in-Ok.ensures.holds))
 
 pub returns-else-is_empty-clause-spared : goal.returns-else-is_empty-clause-spared
@@ -142,5 +142,5 @@ returns-else-is_empty-clause-spared g c =
     let old = c.args.self.now in
     let made = c.in-Ok.ensures.made in
     let pieces = c.push_reserved.ensures.items ∙ ap (λ (l : List Piece). l ++ c.in-Ok.piece ∷ []) made.pieces in
-    rw pieces (rw made.spared (spared_more c.args.instance.now old.pieces.items c.in-Ok.piece old.spared.items c.args.needs.now c.make.new.needs
+    rw pieces (rw made.spared (spared_more c.args.site.now.instance.now old.pieces.items c.in-Ok.piece old.spared.items c.args.needs.now c.make.new.needs
     c.requires.spared c.in-Ok.ensures.holds))

@@ -1,7 +1,7 @@
-use Rattle.std.proofs.Common.{arith, ◌≡◌, ◌≤◌, ℕ, ◌++◌, Option, Some, All, List, [], ◌∷◌, refl, sym, ◌∙◌, subst}
+use Rattle.std.proofs.Common.{arith, ◌≤◌, ◌++◌, Option, Some, List, [], ◌∷◌, sym, subst}
 use Rattle.std.proofs.lemmas.List.{append-nil}
 use Rattle.std.proofs.lemmas.List.Elements.{All-nil}
-use Rattle.ttp_model.specs.declared.plan.Plan.{Plan}
+use Rattle.search_workers.specs.declared.found.FoundPlan.{FoundPlan}
 use Rattle.search_workers.specs.Task.{Task, IsTask}
 use Rattle.search_workers.specs.Gains.{Gains, HasChildren, HasPlan, IsLeafOf}
 use Rattle.search_workers.specs.Tasks.{Turn}
@@ -44,10 +44,10 @@ returns-in-Found-clause-searching g c = λ aims task made searching.
     let i = c.args.instance.now in
     let old = c.args.self.now in
     let turn : Turn = record { task = task; piece = c.args.piece } in
-    let best : Option (Plan × ℕ) = Some (c.in-Found.plan, c.in-Found.delay) in
-    let find : HasPlan i (aim_of i aims old.best) turn c.in-Found.plan c.in-Found.delay = subst (Gains i (aim_of i aims old.best) turn) c.in-Found.is made.gains in
-    let lower : c.in-Found.delay ≤ limit_of i old.best = omega (arith, find.no_later, find.below, goal_below i aims (limit_of i old.best)) in
-    let reached : aim_of i aims best ≤ find.leaf.leaf.goal = omega (arith, find.no_later, find.leaf.at, goal_below i aims c.in-Found.delay) in
+    let best : Option FoundPlan = Some c.in-Found.found in
+    let find : HasPlan i (aim_of i aims old.best) turn c.in-Found.found = subst (Gains i (aim_of i aims old.best) turn) c.in-Found.is made.gains in
+    let lower : c.in-Found.found.delay ≤ limit_of i old.best = omega (arith, find.no_later, find.below, goal_below i aims (limit_of i old.best)) in
+    let reached : aim_of i aims best ≤ find.leaf.leaf.goal = omega (arith, find.no_later, find.leaf.at, goal_below i aims c.in-Found.found.delay) in
     let after = works i aims old.pieces.items old.tasks.items turn old.best best [] searching made.right (sym find.leaf.none) (All-nil (IsTask i)) lower
     (leaf_goal (aim_of i aims best) c.args.piece.node find.leaf.leaf find.leaf.is reached) find.found in
     rw c.push_reserved.ensures.items (subst (λ (l : List Task). IsSearching i aims (old.pieces.items ++ c.args.piece ∷ []) l best) (append-nil old.tasks.items) after)
@@ -56,7 +56,7 @@ pub found-requires : goal.found-requires
 found-requires g c =
     let i = c.args.instance.now in
     let turn : Turn = record { task = c.requires.worked.1; piece = c.args.piece } in
-    let find : HasPlan i (aim_of i c.requires.worked.0 c.args.self.now.best) turn c.in-Found.plan c.in-Found.delay =
+    let find : HasPlan i (aim_of i c.requires.worked.0 c.args.self.now.best) turn c.in-Found.found =
     subst (Gains i (aim_of i c.requires.worked.0 c.args.self.now.best) turn) c.in-Found.is c.requires.worked.2.gains in
     find.found
 
@@ -64,6 +64,6 @@ pub returns-in-Found-clause-no_later : goal.returns-in-Found-clause-no_later
 returns-in-Found-clause-no_later g c =
     let i = c.args.instance.now in
     let turn : Turn = record { task = c.requires.worked.1; piece = c.args.piece } in
-    let find : HasPlan i (aim_of i c.requires.worked.0 c.args.self.now.best) turn c.in-Found.plan c.in-Found.delay =
+    let find : HasPlan i (aim_of i c.requires.worked.0 c.args.self.now.best) turn c.in-Found.found =
     subst (Gains i (aim_of i c.requires.worked.0 c.args.self.now.best) turn) c.in-Found.is c.requires.worked.2.gains in
     omega (arith, find.no_later, find.below, goal_below i c.requires.worked.0 (limit_of i c.args.self.now.best))

@@ -2,13 +2,13 @@ use Rattle.std.proofs.Common.{rules, ℕ, ◌≡◌, ◌++◌, All, List, [], �
 use Rattle.std.proofs.lemmas.List.Elements.{All-contains}
 use Rattle.search_workers.specs.Task.{Task, IsTask}
 use Rattle.search_workers.specs.Gains.{IsGain}
-use Rattle.search_workers.specs.Searching.{aim_of, limit_of, IsSearching}
+use Rattle.search_workers.specs.Searching.{limit_of, IsSearching}
 use Rattle.search_workers.proofs.Searching.{last_there}
 use Rattle.search_workers.proofs.search.Search.turn.Goals as goal
 
 pub work_task-requires-clause-task : goal.work_task-requires-clause-task
 work_task-requires-clause-task g c =
-    let i = c.args.instance.now in
+    let i = c.args.site.now.instance.now in
     let t = c.in-Some.task in
     let front = c.pop.new.self.items in
     let popped : c.args.self.now.tasks.items ≡ front ++ t ∷ [] = sym c.make_room.ensures.tasks ∙ (search rules) in
@@ -16,11 +16,11 @@ work_task-requires-clause-task g c =
 
 pub add-requires-clause-worked : goal.add-requires-clause-worked
 add-requires-clause-worked g c =
-    (c.args.aims, c.in-Some.task, subst (λ (n : ℕ). IsGain c.args.instance.now n (record { task = c.in-Some.task; piece = c.in-Ok.piece }) c.in-Ok.gain) c.aim-goal.ensures c.in-Ok.ensures.made)
+    (c.args.aims, c.in-Some.task, subst (λ (n : ℕ). IsGain c.args.site.now.instance.now n (record { task = c.in-Some.task; piece = c.in-Ok.piece }) c.in-Ok.gain) c.aim-goal.ensures c.in-Ok.ensures.made)
 
 pub returns-in-Ok-clause-searching : goal.returns-in-Ok-clause-searching
 returns-in-Ok-clause-searching g c =
-    let i = c.args.instance.now in
+    let i = c.args.site.now.instance.now in
     let s = c.make_room.new.self in
     let t = c.in-Some.task in
     let front = c.pop.new.self.items in
@@ -32,5 +32,5 @@ returns-in-Ok-clause-searching g c =
 
 pub returns-in-Ok-clause-no_later : goal.returns-in-Ok-clause-no_later
 returns-in-Ok-clause-no_later g c =
-    let same = ap (limit_of c.args.instance.now) c.make_room.ensures.best in
+    let same = ap (limit_of c.args.site.now.instance.now) c.make_room.ensures.best in
     omega (arith, same, c.add.ensures.no_later)

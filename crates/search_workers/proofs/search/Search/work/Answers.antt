@@ -1,4 +1,4 @@
-use Rattle.std.proofs.Common.{ℕ, ◌≡◌, ◌+◌, ◌-◌, arith, length, subst, ◌∙◌, IfSome}
+use Rattle.std.proofs.Common.{ℕ, ◌≡◌, ◌+◌, ◌-◌, arith, length, subst, IfSome}
 use Rattle.search_workers.specs.Searching.{IsCutShort}
 use Rattle.search_workers.proofs.search.Search.work.Goals as goal
 

@@ -1,5 +1,5 @@
 use Rattle.std.proofs.Common.{ℕ, ◌<◌, IsTrue}
-use Rattle.decision_paths.specs.Levels.{has_level}
+use Rattle.used_decisions.specs.Levels.{has_level}
 use Rattle.used_decisions.proofs.branch.OpenBranch.is_closed.Given as goal
 
 abbrev pub invariant-loop-k : goal.invariant-loop-k

@@ -2,8 +2,8 @@ use Rattle.std.proofs.Common.{◌≡◌, ◌≤◌, List, ◌∷◌, [], ◌++�
 use Rattle.ttp_model.specs.Instance.{Instance}
 use Rattle.tt_choice.specs.declared.decision.Decision.{Decision}
 use Rattle.tt_choice.specs.Decisions.{chosen, decision_of}
-use Rattle.decision_paths.specs.declared.turn.Turn.{Turn}
-use Rattle.decision_paths.specs.Turns.{placed_of, nodes_of}
+use Rattle.used_decisions.specs.declared.turn.Turn.{Turn}
+use Rattle.used_decisions.specs.Turns.{placed_of, nodes_of}
 use Rattle.used_decisions.specs.Proved.{IsProvedBy}
 use Rattle.used_decisions.specs.Ways.{Way, decisions_of}
 use Rattle.used_decisions.proofs.Marks.{prefix_is}

@@ -1,5 +1,5 @@
 use Rattle.std.proofs.Common.{ℕ, ◌≤◌, length, IsFalse, sym, ap, subst, ◌∙◌}
-use Rattle.decision_paths.specs.Levels.{has_level}
+use Rattle.used_decisions.specs.Levels.{has_level}
 use Rattle.used_decisions.specs.Proved.{all_kept, IsProvedBy}
 use Rattle.used_decisions.specs.Ways.{Way}
 use Rattle.used_decisions.proofs.Marks.{keeps_all}

@@ -1,5 +1,5 @@
 use Rattle.std.proofs.Common.{◌≡◌, List, [], ◌∷◌, ◌++◌, arith, subst}
-use Rattle.decision_paths.specs.Turns.{path_above}
+use Rattle.used_decisions.specs.Turns.{path_above}
 use Rattle.used_decisions.specs.Ways.{decisions_of, IsOpenBranch, IsWay}
 use Rattle.used_decisions.specs.declared.way.Taken.{Taken}
 use Rattle.used_decisions.proofs.Ways.{way_up, way_without, each_bound}

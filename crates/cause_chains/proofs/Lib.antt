@@ -1,0 +1,14 @@
+pub mod AllLate
+pub mod Growing
+pub mod Holding
+pub mod OneChain
+pub mod PathFalling
+pub mod PathLeading
+pub mod PathShort
+pub mod PlanFalling
+pub mod PlanLeading
+pub mod PlanShort
+pub mod Rooms
+pub mod Settled
+pub mod TooLate
+pub mod Waiting

@@ -1,5 +1,0 @@
-use Rattle.decision_paths.proofs.Places.{order_is, places_are_kept}
-use Rattle.decision_paths.proofs.laws.told_places_are_kept.Goals as goal
-
-pub returns : goal.returns
-returns c = record { order = order_is; places = places_are_kept }

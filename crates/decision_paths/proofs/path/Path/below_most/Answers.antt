@@ -1,5 +1,0 @@
-use Rattle.std.proofs.Common.{◌∙◌}
-use Rattle.decision_paths.proofs.path.Path.below_most.Goals as goal
-
-pub returns : goal.returns
-returns c = rw (← c.self.view_is) (λ inside. rw c.as_slice.ensures.value at c.item_at.ensures ∙ c.self.invariant.tables.fixed_below.told c.args.n inside)

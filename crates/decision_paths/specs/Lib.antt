@@ -1,4 +1,0 @@
-pub mod Levels
-pub mod Turns
-pub mod Tables
-pub mod Marks

@@ -1,8 +1,0 @@
-use Rattle.std.proofs.Common.{◌<◌, length}
-use Rattle.leaf_decisions.specs.Steps.{TellsAside}
-use Rattle.leaf_decisions.proofs.Each.{AreTold}
-use Rattle.leaf_decisions.proofs.mirrors.each_lower.Given as goal
-
-abbrev pub invariant-loop-k : goal.invariant-loop-k
-invariant-loop-k l =
-    AreTold l.path (l.m < length l.path.instance.messages) (λ uses k. k < l.m → TellsAside l.path l.given uses l.m k) l.k-items l.fn.uses l.uses l.k-index

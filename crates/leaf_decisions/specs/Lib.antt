@@ -1,4 +1,0 @@
-pub mod Flags
-pub mod Given
-pub mod Uses
-pub mod Steps

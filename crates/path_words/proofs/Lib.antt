@@ -1,8 +1,0 @@
-pub mod Holding
-pub mod Falling
-pub mod Leading
-pub mod OneChain
-pub mod Short
-mod Growing
-mod AllLate
-mod TooLate

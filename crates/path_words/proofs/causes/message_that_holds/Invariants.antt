@@ -1,6 +1,0 @@
-use Rattle.ttp_model.specs.Lists.{EachBelow}
-use Rattle.path_words.specs.Chain.{MessageHolds}
-use Rattle.path_words.proofs.causes.message_that_holds.Given as goal
-
-abbrev pub invariant-loop-m : goal.invariant-loop-m
-invariant-loop-m l = EachBelow l.m (λ k. ¬ MessageHolds l.instance l.ends l.p l.from k)

@@ -1,5 +1,0 @@
-use Rattle.period_rounds.specs.Divisors.{AreDivisors}
-use Rattle.period_rounds.proofs.divisors.divisors.Given as goal
-
-abbrev pub invariant-loop-ticks : goal.invariant-loop-ticks
-invariant-loop-ticks l = AreDivisors l.period l.ticks l.rounds.items

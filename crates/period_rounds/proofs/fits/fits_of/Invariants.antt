@@ -1,5 +1,0 @@
-use Rattle.period_rounds.specs.Fits.{AreFirst, IsFitBefore}
-use Rattle.period_rounds.proofs.fits.fits_of.Given as goal
-
-abbrev pub invariant-loop-trail : goal.invariant-loop-trail
-invariant-loop-trail l = AreFirst (IsFitBefore l.instance l.period l.trail) l.fits.items

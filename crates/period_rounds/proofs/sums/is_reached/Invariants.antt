@@ -1,6 +1,0 @@
-use Rattle.std.proofs.Common.{ℕ, ◌<◌, slice_index}
-use Rattle.period_rounds.specs.Sums.{IsReachedBy}
-use Rattle.period_rounds.proofs.sums.is_reached.Given as goal
-
-abbrev pub invariant-loop-capacity : goal.invariant-loop-capacity
-invariant-loop-capacity l = (k : ℕ) → k < l.capacity-index → ¬ IsReachedBy l.before l.bytes (slice_index l.capacities k)

@@ -1,7 +1,0 @@
-use Rattle.period_rounds.proofs.RoundSums.{reached_more}
-use Rattle.period_rounds.proofs.sums.with_node.Goals as goal
-
-pub loop-bytes-preserved : goal.loop-bytes-preserved
-loop-bytes-preserved c =
-    rw c.in_ok-push.ensures.items (reached_more c.args.before.now c.args.capacities.now c.loop-bytes.bytes c.loop-bytes.sums.items c.is_reached.result
-    c.loop-bytes.invariant c.is_reached.ensures)

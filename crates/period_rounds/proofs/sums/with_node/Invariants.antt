@@ -1,5 +1,0 @@
-use Rattle.period_rounds.specs.Sums.{AreReached}
-use Rattle.period_rounds.proofs.sums.with_node.Given as goal
-
-abbrev pub invariant-loop-bytes : goal.invariant-loop-bytes
-invariant-loop-bytes l = AreReached l.before l.capacities l.bytes l.sums.items

@@ -1,6 +1,0 @@
-use Rattle.ttp_model.specs.Lists.{EachBelow}
-use Rattle.plan_chain.specs.Causes.{MessageHolds}
-use Rattle.plan_chain.proofs.starts.message_that_holds.Given as goal
-
-abbrev pub invariant-loop-m : goal.invariant-loop-m
-invariant-loop-m l = EachBelow l.m (λ k. ¬ MessageHolds l.instance l.plan l.p k)

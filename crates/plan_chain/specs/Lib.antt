@@ -1,4 +1,0 @@
-pub mod Causes
-pub mod Chain
-pub mod Lines
-pub mod There

@@ -1,6 +1,0 @@
-use Rattle.std.proofs.Common.{◌≡◌}
-use Rattle.plan_sheets.specs.Slack.{least, limit_of_message}
-use Rattle.plan_sheets.proofs.slack.least_of_messages.Given as goal
-
-abbrev pub invariant-loop-m : goal.invariant-loop-m
-invariant-loop-m l = l.least ≡ least (limit_of_message l.instance l.plan l.p) l.top l.m

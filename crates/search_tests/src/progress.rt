@@ -1,0 +1,222 @@
+//! How a search says how far it is, and that its answer is the same.
+
+use crate::told::{FIRST, FIRST_PLAN, Told, joined};
+use planner::{FoundPlan, Gate, Name};
+use search_watching::{Follower, Patience, Patient, Progress, Reading, Summary};
+use solve_command::{Enough, FreeGate, Options, solve_run_with};
+use std::alloc::{Alloc, AllocError, Global};
+use std::fmt::Display;
+use std::io;
+use std::rt::Clock;
+use std::sync::Wait;
+use std::sync::atomic::{AtomicU64, Ordering};
+use std::test::Fail;
+use std::thread::Threads;
+use std::time::Duration;
+use ttp_model::Instance;
+
+/// A clock that goes on by some seconds each time it is read, and a screen that counts its lines, and those that begin in one
+/// way.
+#[derive(Drop)]
+struct Screen {
+    alloc: Global,
+    step: u64,
+    time: AtomicU64,
+    front: &'static str,
+    lines: AtomicU64,
+    found: AtomicU64,
+}
+
+impl Screen {
+    fn new(alloc: Global, step: u64, front: &'static str) -> Screen {
+        Screen {
+            alloc,
+            step,
+            time: AtomicU64::new(0),
+            front,
+            lines: AtomicU64::new(0),
+            found: AtomicU64::new(0),
+        }
+    }
+
+    /// How many lines there are, and how many begin as is looked for.
+    fn counts(&self) -> (u64, u64) {
+        let lines = self.lines.load(Ordering::SeqCst);
+        (lines, self.found.load(Ordering::SeqCst))
+    }
+}
+
+impl Clock for Screen {
+    fn monotonic(&self) -> io::Result<Duration> {
+        let time = self.time.fetch_add(self.step, Ordering::SeqCst);
+        Ok(Duration::from_secs(time))
+    }
+
+    fn since_1970(&self) -> io::Result<Duration> {
+        self.monotonic()
+    }
+}
+
+impl Eprint for Screen {
+    fn eprint<D: Display + Drop>(&self, _value: D) -> io::Result<()> {
+        Ok(())
+    }
+
+    fn eprintln<D: Display + Drop>(&self, value: D) -> io::Result<()> {
+        let line = format!(in self.alloc; "{value}")?;
+        self.lines.fetch_add(1, Ordering::SeqCst);
+        if line.as_str().starts_with(self.front) {
+            self.found.fetch_add(1, Ordering::SeqCst);
+        }
+        Ok(())
+    }
+}
+
+/// How many lines the search of the first example writes by a clock with this step, and how many begin so. None where its
+/// answer isn't the plan.
+fn counts(
+    rt: &(impl Alloc<A = Global> + Threads + Wait + Sync),
+    workers: u32,
+    step: u64,
+    front: &'static str,
+) -> Result<Option<(u64, u64)>, AllocError> {
+    let alloc = rt.alloc();
+    let instance = joined(alloc, FIRST)?;
+    let options = Options {
+        workers,
+        budget: 1000,
+    };
+    let enough = Enough {
+        until: None,
+        gap: 0,
+    };
+    let screen = Screen::new(alloc, step, front);
+    let follower = Progress::on(alloc, &screen, workers)?;
+    let mut out = Vec::new(alloc);
+    let end = solve_run_with(
+        rt,
+        alloc,
+        &mut instance.as_bytes(),
+        options,
+        enough,
+        &follower,
+        None::<&mut Vec<u8>>,
+        &mut out,
+    );
+    let told = Told::at(alloc, &end, out);
+    Ok(told.is(FIRST_PLAN, 0).then_some(screen.counts()))
+}
+
+/// The line before the search, which knows the bound of a search that works nothing.
+const BEFORE: &str =
+    "0 s: 0 subtrees worked, 0 or more by each worker, 0 a second, 0 in work, no plan below 9, no plan yet";
+
+/// The line of the second subtree, where each look at the clock is a second later: as the first is taken, and as one is left.
+const SECOND: &str =
+    "4 s: 1 subtrees worked, 1 or more by each worker, 1 a second, 1 in work, no plan below 9";
+
+/// How the line at the end begins, by a clock that stands still.
+const AFTER: &str = "searched for 0 ms: ";
+
+/// How many workers search, the clock's step, how a line begins, how many lines there are and how many begin so; a number that is
+/// left out isn't looked at.
+type Row = (u32, u64, &'static str, Option<u64>, Option<u64>);
+
+/// A line is written before the search, then one a second, and one at the end; and the answer of many workers is the same.
+static ROWS: &[Row] = &[
+    (1, 0, BEFORE, Some(2), Some(1)),
+    (1, 0, AFTER, Some(2), Some(1)),
+    (1, 1, SECOND, None, Some(1)),
+    (4, 1, BEFORE, None, None),
+];
+
+/// Whether a number is the one that is wanted, if one is.
+fn is_wanted(number: u64, wanted: Option<u64>) -> bool {
+    match wanted {
+        Some(wanted) => number == wanted,
+        None => true,
+    }
+}
+
+/// Whether a search has the answer and these lines.
+fn has_lines(
+    rt: &(impl Alloc<A = Global> + Threads + Wait + Sync),
+    (workers, step, front, lines, found): &Row,
+) -> Result<bool, AllocError> {
+    match counts(rt, *workers, *step, *front)? {
+        Some(counts) => Ok(is_wanted(counts.0, *lines) && is_wanted(counts.1, *found)),
+        None => Ok(false),
+    }
+}
+
+#[test]
+fn a_line_is_written_before_the_search_then_one_a_second_and_one_at_the_end(
+    rt: HostRuntime,
+) -> Result<(), Fail> {
+    for (k, row) in ROWS.iter().enumerate() {
+        assert!(rt; has_lines(&rt, row)?, "row {k}");
+    }
+    Ok(())
+}
+
+const READING: Reading = Reading {
+    seconds: 12,
+    worked: 2400,
+    fewest: 590,
+    rate: 210,
+    open: 4,
+    low: 120,
+    best: Some(144),
+};
+
+const SUMMARY: Summary = Summary {
+    millis: 1500,
+    worked: 2400,
+    fewest: 590,
+};
+
+const TOLD: &str =
+    "12 s: 2400 subtrees worked, 590 or more by each worker, 210 a second, 4 in work, no plan below 120, best plan 144, gap 24\nsearched for 1500 ms: 2400 subtrees worked, 590 or more by each worker, 1600 a second";
+
+#[test]
+fn a_reading_and_a_summary_say_what_their_numbers_are(rt: HostRuntime) -> Result<(), Fail> {
+    let lines = format!(in rt.alloc(); "{READING}\n{SUMMARY}")?;
+    assert!(rt; lines.as_str() == TOLD, "{lines}");
+    Ok(())
+}
+
+/// A follower who lets no worker go on.
+#[derive(Clone, Copy, Debug)]
+struct Weary;
+
+impl Gate for Weary {
+    fn start(&self, _worker: usize) {}
+
+    fn enter(&self, _worker: usize, _name: &Name) {}
+
+    fn leave(&self, _worker: usize, _name: &Name) {}
+
+    fn goes_on(&self, _worker: usize) -> bool {
+        false
+    }
+
+    fn found(&self, _instance: &Instance, _found: &FoundPlan) {}
+}
+
+impl Follower for Weary {
+    fn begin(&self, _alloc: Global, _instance: &Instance) {}
+
+    fn end(&self) {}
+}
+
+#[test]
+fn a_worker_goes_on_where_who_follows_beside_lets_it(rt: HostRuntime) -> Result<(), Fail> {
+    let screen = Screen::new(rt.alloc(), 0, "");
+    let patience = Patience {
+        until: None,
+        seconds: None,
+    };
+    assert!(rt; !Patient::beside(&Weary, &screen, patience).goes_on(0));
+    assert!(rt; Patient::beside(&FreeGate, &screen, patience).goes_on(0));
+    Ok(())
+}

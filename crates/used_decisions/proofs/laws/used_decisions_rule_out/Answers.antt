@@ -1,0 +1,10 @@
+use Rattle.step_reads.specs.RuledOut.{by_leaf}
+use Rattle.step_reads.proofs.shared.RuledOut.{none_left}
+use Rattle.step_reads.proofs.shared.Uses.{leaf_kept}
+use Rattle.used_decisions.proofs.laws.used_decisions_rule_out.Goals as goal
+
+pub returns : goal.returns
+returns c = record {
+  closes = leaf_kept;
+  none_left = λ i low ms leaf w are places within uses closes. none_left i low w ms (by_leaf ms leaf within closes uses) are places;
+}

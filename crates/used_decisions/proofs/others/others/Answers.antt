@@ -1,0 +1,34 @@
+use Rattle.std.proofs.Common.{◌≢◌, ℕ, ◌<◌, length}
+use Rattle.std.proofs.lemmas.List.Elements.{All-get_or}
+use Rattle.used_decisions.specs.declared.uses.Uses.{Uses}
+use Rattle.used_decisions.specs.Steps.{TellsKeptOut}
+use Rattle.used_decisions.proofs.Each.{told_first, told_next, told_all}
+use Rattle.used_decisions.proofs.KeptOut.{other_stays}
+use Rattle.used_decisions.proofs.others.others.Goals as goal
+
+pub loop-k-init : goal.loop-k-init
+loop-k-init c =
+    let path = c.args.path.now in
+    told_first path (Unit {0}) (λ (uses : Uses) (k : ℕ). k ≢ c.args.m → TellsKeptOut path c.args.given.now uses c.args.r k)
+    c.messages_of-k-items.result.now c.args.uses.now
+
+pub loop-k-preserved : goal.loop-k-preserved
+loop-k-preserved c =
+    let path = c.args.path.now in
+    let list = c.messages_of-k-items.result.now in
+    let inside = rw c.instance.ensures at c.messages_of-k-items.ensures.inside in
+    let there = All-get_or (λ (k : ℕ). k < length path.instance.messages) list c.loop-k.k-index 0 c.loop-k-test.true inside in
+    told_next path (Unit {0}) (λ (uses : Uses) (k : ℕ). k ≢ c.args.m → TellsKeptOut path c.args.given.now uses c.args.r k) list c.args.uses.now
+    c.loop-k.uses c.other.new.uses c.loop-k.k-index
+    (other_stays path c.args.given.now c.args.m c.args.r) c.loop-k.invariant c.other.ensures.more (λ read so. c.other.ensures.told read there)
+
+pub returns : goal.returns
+returns c =
+    let path = c.args.path.now in
+    let list = c.messages_of-k-items.result.now in record {
+      more = c.loop-k.invariant.more;
+      told = λ read.
+          let all = told_all path (Unit {0}) (λ (uses : Uses) (k : ℕ). k ≢ c.args.m → TellsKeptOut path c.args.given.now uses c.args.r k) list
+          c.args.uses.now c.loop-k.uses c.loop-k.k-index c.loop-k-test.false c.loop-k.invariant read tt in
+          rw (c.messages_of-k-items.ensures.value, c.instance.ensures) at all;
+    }

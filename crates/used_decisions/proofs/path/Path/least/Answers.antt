@@ -1,0 +1,5 @@
+use Rattle.std.proofs.Common.{◌∙◌}
+use Rattle.used_decisions.proofs.path.Path.least.Goals as goal
+
+pub returns : goal.returns
+returns c = rw (← c.self.view_is) (λ inside. rw c.as_slice.ensures.value at c.item_at.ensures ∙ c.self.invariant.tables.from.told c.args.m inside)
