@@ -14,12 +14,13 @@ use crate::runs::RunLine;
 use longest_chains::longest_chains;
 use plan_facts::must_end_by;
 use sentences::{MOST_ITEMS, Ticks};
+use serde::Serialize;
 use std::alloc::Global;
 use std::fmt;
 use ttp_model::{Instance, MemoryFault};
 
 /// A process that ends too late even at the earliest; in ticks.
-#[derive(Clone, Copy)]
+#[derive(Clone, Copy, Serialize)]
 pub struct LateProcess<'a> {
     pub run: RunLine<'a>,
     pub limit: Limit,
@@ -29,7 +30,7 @@ pub struct LateProcess<'a> {
 }
 
 /// Those that do, of which each leaves no plan.
-#[derive(Drop)]
+#[derive(Drop, Serialize)]
 pub struct LateProcesses<'a> {
     pub processes: Vec<LateProcess<'a>>,
 }

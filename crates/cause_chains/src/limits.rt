@@ -3,11 +3,13 @@
 ghost use Rattle.std.specs.Prelude.{◌<◌, length};
 ghost use Rattle.cause_chains.specs.Limits.{IsLimit};
 
+use serde::Serialize;
 use std::fmt;
 use ttp_model::Instance;
 
 /// What a process has to end by. Where its deadline and the horizon are one tick it is the deadline.
-#[derive(Clone, Copy)]
+#[derive(Clone, Copy, Serialize)]
+#[serde(rename_all = "snake_case")]
 pub enum Limit {
     Deadline,
     Horizon,

@@ -10,12 +10,13 @@ use crate::path_parts::{ChainPart, path_parts_of};
 use crate::runs::{RunLine, StartCause, run_line};
 use longest_chains::least_transfer;
 use sentences::Ticks;
+use serde::Serialize;
 use std::alloc::Global;
 use std::fmt;
 use ttp_model::{Instance, MemoryFault};
 
 /// A message on its way, from the end of its sender until it is there; in ticks.
-#[derive(Clone, Copy)]
+#[derive(Clone, Copy, Serialize)]
 pub struct Transfer<'a> {
     pub from: u64,
     pub until: u64,
@@ -27,14 +28,14 @@ pub struct Transfer<'a> {
 }
 
 /// A process of the chain, and the message before it that it waits for.
-#[derive(Clone, Copy)]
+#[derive(Clone, Copy, Serialize)]
 pub struct PathPart<'a> {
     pub transfer: Option<Transfer<'a>>,
     pub run: RunLine<'a>,
 }
 
 /// Why no plan ends before the path bound.
-#[derive(Drop)]
+#[derive(Drop, Serialize)]
 pub struct PathChain<'a> {
     /// The path bound, in ticks.
     pub bound: u64,

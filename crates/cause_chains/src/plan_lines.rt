@@ -9,12 +9,13 @@ ghost use Rattle.cause_chains.specs.PlanThere.{IsLinkThere};
 use crate::plan_links::{ChainLink, RoundCause, plan_links_of};
 use crate::runs::{RunLine, run_line};
 use plan_facts::ready_at;
+use serde::Serialize;
 use std::alloc::Global;
 use std::fmt;
 use ttp_model::{Instance, MemoryFault, Plan, delay};
 
 /// A message in its slot; in ticks.
-#[derive(Clone, Copy)]
+#[derive(Clone, Copy, Serialize)]
 pub struct SendingLine<'a> {
     pub from: u64,
     pub until: u64,
@@ -27,14 +28,15 @@ pub struct SendingLine<'a> {
 }
 
 /// What is told of a link of a chain.
-#[derive(Clone, Copy)]
+#[derive(Clone, Copy, Serialize)]
+#[serde(tag = "kind", rename_all = "snake_case")]
 pub enum ChainLine<'a> {
     Run(RunLine<'a>),
     Sending(SendingLine<'a>),
 }
 
 /// Why a valid plan ends when it does.
-#[derive(Drop)]
+#[derive(Drop, Serialize)]
 pub struct PlanChain<'a> {
     /// The plan's delay, in ticks.
     pub delay: u64,

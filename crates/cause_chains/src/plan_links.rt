@@ -10,12 +10,14 @@ ghost use Rattle.cause_chains.specs.Runs.{HasCause};
 use crate::plan_rounds::round_cause;
 use crate::plan_starts::start_cause;
 use crate::runs::StartCause;
+use serde::Serialize;
 use std::alloc::Global;
 use tt_layout::Layout;
 use ttp_model::{Instance, MemoryFault, Plan, delay, end_of};
 
 /// What holds a message back, in its round.
-#[derive(Clone, Copy)]
+#[derive(Clone, Copy, Serialize)]
+#[serde(rename_all = "snake_case")]
 pub enum RoundCause {
     /// It is the first that begins once the message is ready.
     First,

@@ -3,6 +3,7 @@
 ghost use Rattle.std.specs.Prelude.{◌<◌, length};
 ghost use Rattle.cause_chains.specs.Runs.{HasCause, IsRunLine, IsStartReason};
 
+use serde::Serialize;
 use std::fmt;
 use ttp_model::Instance;
 
@@ -22,7 +23,8 @@ pub enum StartCause {
 }
 
 /// Why a process starts at its tick.
-#[derive(Clone, Copy)]
+#[derive(Clone, Copy, Serialize)]
+#[serde(rename_all = "snake_case")]
 pub enum StartReason<'a> {
     /// It is released then.
     Release,
@@ -37,7 +39,7 @@ pub enum StartReason<'a> {
 }
 
 /// A process that runs; in ticks.
-#[derive(Clone, Copy)]
+#[derive(Clone, Copy, Serialize)]
 pub struct RunLine<'a> {
     pub from: u64,
     pub until: u64,

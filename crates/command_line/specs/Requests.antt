@@ -2,6 +2,7 @@
 use Rattle.std.specs.Prelude.{◌≤◌, ℕ, List, length, IfSome}
 use Rattle.command_line.specs.declared.words.Request.{Request}
 use Rattle.command_line.specs.declared.words.Request.TheVariants.{OfRounds, OnFiles, Solve, Why as Asking, Limit as Limiting}
+use Rattle.command_line.specs.declared.words.Effort.{Effort}
 use Rattle.command_line.specs.declared.words.Search.{Search}
 use Rattle.command_line.specs.declared.words.Why.{Why}
 use Rattle.command_line.specs.declared.words.Limit.{Limit}
@@ -23,31 +24,33 @@ abbrev pub IsSoundRounds : RoundsTask → Type 0
 IsSoundRounds (Period ticks) = (1 ≤ ticks) × (ticks ≤ most_ticks)
 IsSoundRounds (Tables rounds) = Unit {0}
 
+-- searches have 1 to 16 workers
+pub record IsSoundEffort (effort : Effort) : Type 0 where
+  pub some : 1 ≤ effort.workers
+  pub few : effort.workers ≤ 16
+
 -- by its name a file is none that a search reads
 abbrev pub IsApart : Search → List ℕ → Type 0
 IsApart search file = IsOtherFile file search.instance.now × IfSome search.start (λ plan. IsOtherFile file plan.now)
 
--- a search has 1 to 16 workers; by their names the files that it writes are none that it reads, and not the same, but that a plan may be
+-- the numbers of a search are sound; by their names the files that it writes are none that it reads, and not the same, but that a plan may be
 -- kept in the file of the one to begin with
 pub record IsSoundSearch (search : Search) : Type 0 where
-  pub some : 1 ≤ search.workers
-  pub few : search.workers ≤ 16
+  pub effort : IsSoundEffort search.effort
   pub certificate : IfSome search.certificate (λ file. IsApart search file.now)
   pub kept : IfSome search.kept (λ file. IsOtherFile file.now search.instance.now)
   pub both : IfSome search.kept (λ file. IfSome search.certificate (λ other. IsOtherFile file.now other.now))
 
 -- the same of a search for what leaves no plan: it reads the instance alone
 pub record IsSoundWhy (why : Why) : Type 0 where
-  pub some : 1 ≤ why.workers
-  pub few : why.workers ≤ 16
+  pub effort : IsSoundEffort why.effort
   pub certificate : IfSome why.certificate (λ file. IsOtherFile file.now why.instance.now)
   pub reduced : IfSome why.reduced (λ file. IsOtherFile file.now why.instance.now)
   pub both : IfSome why.reduced (λ file. IfSome why.certificate (λ other. IsOtherFile file.now other.now))
 
 -- the same of a search for early ends, which names a process at least
 pub record IsSoundLimit (limit : Limit) : Type 0 where
-  pub some : 1 ≤ limit.workers
-  pub few : limit.workers ≤ 16
+  pub effort : IsSoundEffort limit.effort
   pub named : 1 ≤ length limit.processes.items
   pub certificate : IfSome limit.certificate (λ file. IsOtherFile file.now limit.instance.now)
   pub reduced : IfSome limit.reduced (λ file. IsOtherFile file.now limit.instance.now)

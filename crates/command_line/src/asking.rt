@@ -1,24 +1,38 @@
 //! What do the words of the command line ask for?
 
 ghost use Rattle.std.specs.Prelude.{◌≤◌, length, IfOk};
-ghost use Rattle.command_line.specs.Requests.{IsSound, IsSoundRounds, IsSoundTask};
+ghost use Rattle.command_line.specs.Requests.{IsSound, IsSoundEffort, IsSoundRounds, IsSoundTask};
 
 use crate::commands::program;
 use crate::given::Given;
 use crate::misuse::Misuse;
 use crate::options::{
     ANY_PLAN, BUDGET, CERT, CERT_OF_LAST, CERT_OF_NONE, CERTIFICATE, EXPLAINED_CERT,
-    EXPLAINED_PLAN, GAP, INSTANCE, KEEP, LATE, LOSSES, NEW_INSTANCE, NEW_PLAN, OLD_INSTANCE,
-    OLD_PLAN, PERIOD_TICKS, PLAN, PROCESSES, PROGRESS, REDUCED, ROUNDS, SEARCH_BUDGET, SEARCHED,
-    SECONDS, START, TABLE, UNTIL, USED, WIDTH, WORKERS,
+    EXPLAINED_PLAN, FORMAT, GAP, INSTANCE, KEEP, LATE, LOSSES, NEW_INSTANCE, NEW_PLAN, NODE,
+    OLD_INSTANCE, OLD_PLAN, PERIOD_TICKS, PLAN, PROCESSES, PROGRESS, REDUCED, ROUNDS,
+    SCHEDULE_FORMAT, SEARCH_BUDGET, SEARCHED, SECONDS, START, TABLE, UNTIL, USED, WIDTH, WORKERS,
 };
+use crate::rows::Row;
 use crate::table::{Asks, COMMANDS, row_of};
-use crate::words::{Explained, Limit, Request, RoundsTask, Search, Task, Why};
+use crate::words::{Effort, Explained, Limit, Request, RoundsTask, Search, Task, Why};
 use clap::error::ErrorKind;
 use clap::{ArgMatches, Error};
 use plan_picture::Shown;
 use plan_sheets::Table;
+use schedule_exports::Export;
 use std::alloc::Global;
+
+/// How much searches may take, of which each has the budget of this row.
+fn effort_of<'a>(given: Given<'_, 'a>, budget: Row) -> Result<Effort, Misuse<'a>>
+    ensures { IfOk result IsSoundEffort }
+{
+    Ok(Effort {
+        workers: given.number(WORKERS)? as u32,
+        budget: given.number(budget)?,
+        seconds: given.number_if_any(SECONDS)?,
+        progress: given.flag(PROGRESS),
+    })
+}
 
 /// A search with its numbers, each in its range, and files to be written that aren't those which it reads, but that a plan may be kept in
 /// the file of the one to begin with.
@@ -33,12 +47,9 @@ fn solve_request<'a>(alloc: Global, given: Given<'_, 'a>) -> Result<Request<'a>,
         start,
         certificate,
         kept: given.written(alloc, KEEP, instance, certificate)?,
-        workers: given.number(WORKERS)? as u32,
-        budget: given.number(BUDGET)?,
-        progress: given.flag(PROGRESS),
+        effort: effort_of(given, BUDGET)?,
         until: given.u32_if_any(UNTIL)?,
         gap: given.number(GAP)? as u32,
-        seconds: given.number_if_any(SECONDS)?,
     }))
 }
 
@@ -52,10 +63,9 @@ fn why_request<'a>(alloc: Global, given: Given<'_, 'a>) -> Result<Request<'a>, M
         instance,
         certificate,
         reduced: given.written(alloc, REDUCED, instance, certificate)?,
-        workers: given.number(WORKERS)? as u32,
-        budget: given.number(SEARCH_BUDGET)?,
+        effort: effort_of(given, SEARCH_BUDGET)?,
         late: given.flag(LATE),
-        seconds: given.number_if_any(SECONDS)?,
+        form: given.form(FORMAT)?,
     }))
 }
 
@@ -75,18 +85,13 @@ fn limit_request<'a>(alloc: Global, given: Given<'_, 'a>) -> Result<Request<'a>,
 {
     let instance = given.text(INSTANCE)?;
     let certificate = given.written(alloc, CERT_OF_LAST, instance, None)?;
-    let reduced = given.written(alloc, SEARCHED, instance, certificate)?;
-    let workers = given.number(WORKERS)? as u32;
-    let budget = given.number(SEARCH_BUDGET)?;
-    let seconds = given.number_if_any(SECONDS)?;
     Ok(Request::Limit(Limit {
         instance,
-        processes: processes_of(alloc, given)?,
         certificate,
-        reduced,
-        workers,
-        budget,
-        seconds,
+        reduced: given.written(alloc, SEARCHED, instance, certificate)?,
+        effort: effort_of(given, SEARCH_BUDGET)?,
+        form: given.form(FORMAT)?,
+        processes: processes_of(alloc, given)?,
     }))
 }
 
@@ -103,6 +108,7 @@ fn explain_request<'a>(given: Given<'_, 'a>) -> Result<Request<'a>, Misuse<'a>>
     Ok(Request::Explain {
         instance: given.text(INSTANCE)?,
         explained,
+        form: given.form(FORMAT)?,
     })
 }
 
@@ -140,14 +146,46 @@ fn tables_request<'a>(given: Given<'_, 'a>) -> Result<Request<'a>, Misuse<'a>>
     }
 }
 
-/// The task of writing the table that is named.
+/// The table that is named, or that of processes.
+fn table_of<'a>(given: Given<'_, 'a>) -> Result<Table, Misuse<'a>> {
+    match given.text_if_any(TABLE) {
+        None | Some("processes") => Ok(Table::Processes),
+        Some("slots") => Ok(Table::Slots),
+        Some("messages") => Ok(Table::Messages),
+        Some(_) => Err(Misuse::Missing),
+    }
+}
+
+/// That an option isn't used, of which this is said where it is.
+fn unused<'a>(given: Given<'_, 'a>, row: Row, why: &'static str) -> Result<(), Misuse<'a>> {
+    match given.text_if_any(row) {
+        Some(word) => Err(Misuse::Unserved(row, why, word)),
+        None => Ok(()),
+    }
+}
+
+/// The task of writing a schedule in a form. A table by itself is served in `csv` alone, and a node by itself in what nodes are loaded with.
 fn schedule_task<'a>(given: Given<'_, 'a>) -> Result<Task<'a>, Misuse<'a>>
     ensures { IfOk result IsSoundTask }
 {
-    match given.text(TABLE)? {
-        "processes" => Ok(Task::Schedule(Table::Processes)),
-        "slots" => Ok(Task::Schedule(Table::Slots)),
-        "messages" => Ok(Task::Schedule(Table::Messages)),
+    let format = given.text(SCHEDULE_FORMAT)?;
+    if format != "csv" {
+        unused(given, TABLE, "a table is served in `--format csv` alone")?;
+    }
+    let node = given.text_if_any(NODE);
+    match format {
+        "c" => return Ok(Task::Export(Export::C(node))),
+        "json" => return Ok(Task::Export(Export::Json(node))),
+        _ => {}
+    }
+    unused(
+        given,
+        NODE,
+        "a node by itself is served in `--format c` and `--format json` alone",
+    )?;
+    match format {
+        "csv" => Ok(Task::Schedule(table_of(given)?)),
+        "trace" => Ok(Task::Export(Export::Trace)),
         _ => Err(Misuse::Missing),
     }
 }
@@ -177,7 +215,7 @@ fn request_of<'a>(
         Asks::Solve => solve_request(alloc, given),
         Asks::Why => why_request(alloc, given),
         Asks::Limit => limit_request(alloc, given),
-        Asks::Verify => request_on_files(given, Task::Verify),
+        Asks::Verify => request_on_files(given, Task::Verify(given.form(FORMAT)?)),
         Asks::Check => Ok(Request::Check {
             instance: given.text(INSTANCE)?,
             certificate: given.text(CERTIFICATE)?,
@@ -186,6 +224,7 @@ fn request_of<'a>(
             instance: given.text(INSTANCE)?,
             plan: given.text(ANY_PLAN)?,
             certificate: given.text(CERTIFICATE)?,
+            form: given.form(FORMAT)?,
         }),
         Asks::Explain => explain_request(given),
         Asks::Tables => tables_request(given),
@@ -201,6 +240,7 @@ fn request_of<'a>(
             old_plan: given.text(OLD_PLAN)?,
             new_instance: given.text(NEW_INSTANCE)?,
             new_plan: given.text(NEW_PLAN)?,
+            form: given.form(FORMAT)?,
         }),
     }
 }

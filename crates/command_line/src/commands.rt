@@ -34,6 +34,7 @@ fn taking<'a>(arg: Arg<'a>, takes: Takes) -> Arg<'a> {
     match takes {
         Takes::Nothing | Takes::Text | Takes::File(_) => arg,
         Takes::OneOf(texts) => by_default(arg.value_parser(texts), texts.first().copied()),
+        Takes::AnyOf(texts) => arg.value_parser(texts),
         Takes::Number(range) => by_default(arg.allow_negative_numbers(true), range.default),
     }
 }

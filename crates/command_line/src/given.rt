@@ -7,6 +7,7 @@ ghost use Rattle.command_line.specs.Rows.{IsIn};
 use crate::misuse::Misuse;
 use crate::names::name_one_file;
 use crate::rows::{Row, Takes};
+use crate::words::AnswerForm;
 use clap::ArgMatches;
 use std::alloc::{AllocError, Global};
 
@@ -84,6 +85,15 @@ impl<'m, 'a> Given<'m, 'a> {
         match u32::try_from(number) {
             Ok(number) => Ok(Some(number)),
             Err(_) => Err(Misuse::Missing),
+        }
+    }
+
+    /// The form that a row names.
+    pub fn form(&self, row: Row) -> Result<AnswerForm, Misuse<'a>> {
+        match self.text(row)? {
+            "text" => Ok(AnswerForm::Text),
+            "json" => Ok(AnswerForm::Json),
+            _ => Err(Misuse::Missing),
         }
     }
 

@@ -18,4 +18,6 @@ pub use options::{EXPLAINED_CERT, USED};
 pub use refusal::refuse;
 pub use rows::Row;
 pub use table::Asks;
-pub use words::{Explained, Limit, Request, RoundsTask, Search, Task, VERSION, Why, all};
+pub use words::{
+    AnswerForm, Effort, Explained, Limit, Request, RoundsTask, Search, Task, VERSION, Why, all,
+};

@@ -20,6 +20,8 @@ pub enum Misuse<'a> {
     Number(Row, Range, &'a str),
     /// When a file would be written by this row over another one of the command; this is said of it.
     Overwriting(Row, &'static str, &'a str),
+    /// When the value of this row doesn't go with another one; this is said of it.
+    Unserved(Row, &'static str, &'a str),
     /// When memory was wanted, and refused.
     Memory,
 }
@@ -46,7 +48,7 @@ impl Misuse<'_> {
                     "invalid value '{word}' for '{row}': a whole number from {least} to {most} is expected"
                 )
             }
-            Misuse::Overwriting(row, why, word) => {
+            Misuse::Overwriting(row, why, word) | Misuse::Unserved(row, why, word) => {
                 format!(in alloc; "invalid value '{word}' for '{row}': {why}")
             }
             Misuse::Memory => Err(AllocError),

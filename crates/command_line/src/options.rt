@@ -263,6 +263,14 @@ pub const PROGRESS: Row = Row {
     help: "Says once a second on standard error how far the search is: seconds, subtrees worked, how many a second, how many are in work, the bound that is known before the search, and the best plan's delay with its gap from that",
 };
 
+/// Whether a question says how far its searches are.
+pub const SEARCHES_PROGRESS: Row = Row {
+    name: "progress",
+    place: Place::Flag,
+    takes: Takes::Nothing,
+    help: "Says once a second on standard error how far it is: seconds, which search is at work, how many subtrees are worked in all of them, and how many a second",
+};
+
 /// Whether it is told how late all would have to be.
 pub const LATE: Row = Row {
     name: "late",
@@ -295,6 +303,14 @@ pub const SEARCHED: Row = Row {
     help: "Also writes the instance that the certificate is for to this file, in TOML: of `limit D` the one in which the deadlines of these processes are D, or earlier. A file that is there is emptied first; INSTANCE itself is refused, and the certificate's file",
 };
 
+/// In which form an answer is written.
+pub const FORMAT: Row = Row {
+    name: "format",
+    place: Place::Option("FORMAT"),
+    takes: Takes::OneOf(&["text", "json"]),
+    help: "As which it is written: as text; or as one JSON object with the status, the code and the place of what is refused, and the names and numbers of the text. A refusal stands there too, beside its line on standard error",
+};
+
 /// Of how many rounds tables are.
 pub const ROUNDS: Row = Row {
     name: "rounds",
@@ -311,8 +327,24 @@ pub const ROUNDS: Row = Row {
 pub const TABLE: Row = Row {
     name: "table",
     place: Place::Option("TABLE"),
-    takes: Takes::OneOf(&["processes", "slots", "messages"]),
-    help: "Which table: each process in the order of starts, with the ticks by which it may run longer; each slot of the cycle; or each message and receiver",
+    takes: Takes::AnyOf(&["processes", "slots", "messages"]),
+    help: "Which table `csv` has: each process in the order of starts, with the ticks by which it may run longer, which is so where none is named; each slot of the cycle; or each message and receiver",
+};
+
+/// In which form the schedule of a plan is written.
+pub const SCHEDULE_FORMAT: Row = Row {
+    name: "format",
+    place: Place::Option("FORMAT"),
+    takes: Takes::OneOf(&["csv", "c", "json", "trace"]),
+    help: "How it is written: a table of comma-separated values; what nodes are loaded with, as constant arrays in C or as one object of JSON; or the cycle as events of a trace, which Perfetto and chrome://tracing open, a tick as a microsecond",
+};
+
+/// Whose loads are written.
+pub const NODE: Row = Row {
+    name: "node",
+    place: Place::Option("NODE"),
+    takes: Takes::Text,
+    help: "In `c` and `json` the loads of the node of this name alone, in place of all",
 };
 
 /// How wide a picture is, in pixels.

@@ -50,6 +50,8 @@ pub enum Takes {
     Text,
     /// One of these texts, the first where none is given.
     OneOf(&'static [&'static str]),
+    /// One of these texts, or none.
+    AnyOf(&'static [&'static str]),
     Number(Range),
     File(Written),
 }

@@ -2,9 +2,10 @@
 
 use crate::options::{
     ANY_PLAN, BUDGET, CERT, CERT_OF_LAST, CERT_OF_NONE, CERTIFICATE, EXPLAINED_CERT,
-    EXPLAINED_PLAN, GAP, INSTANCE, KEEP, LATE, LOSSES, NEW_INSTANCE, NEW_PLAN, OLD_INSTANCE,
-    OLD_PLAN, PERIOD_TICKS, PLAN, PROCESSES, PROGRESS, REDUCED, ROUNDS, SEARCH_BUDGET, SEARCHED,
-    SECONDS, START, TABLE, UNTIL, USED, WIDTH, WORKERS,
+    EXPLAINED_PLAN, FORMAT, GAP, INSTANCE, KEEP, LATE, LOSSES, NEW_INSTANCE, NEW_PLAN, NODE,
+    OLD_INSTANCE, OLD_PLAN, PERIOD_TICKS, PLAN, PROCESSES, PROGRESS, REDUCED, ROUNDS,
+    SCHEDULE_FORMAT, SEARCH_BUDGET, SEARCHED, SEARCHES_PROGRESS, SECONDS, START, TABLE, UNTIL,
+    USED, WIDTH, WORKERS,
 };
 use crate::rows::Row;
 
@@ -60,6 +61,8 @@ const WHY: CommandRow = CommandRow {
         LATE,
         REDUCED,
         CERT_OF_NONE,
+        FORMAT,
+        SEARCHES_PROGRESS,
     ],
     after: Some(
         "It prints a line `ttwhy 1`, and behind it one of these, and ends with the status beside it:\n   0  `plan D`: there is a plan, of D ticks; it need not be a shortest\n  10  `none`, and a line for each constraint of a set that leaves no plan by itself: the horizon, deadlines, releases, messages, that one is on both channels, and links\n  11  `unknown`: a search was stopped before that was known\n\nA line begins with `need`, where there is a plan by the others of the set, and with `maybe`, where a search for one was stopped; it is `need nothing`, where the execution times alone leave no plan. With --late a line `late X` follows, where there is a plan once the horizon and all deadlines are X ticks later, and none where they are fewer; `late -`, where there is none within 1000000 ticks, the latest that can be said.\n\nFirst times are left out, then messages, and then links, as long as there is still no plan. Each search is for any plan, and has N subtrees. Once the seconds have passed the search at hand is stopped, and so is each further one as it begins.",
@@ -78,6 +81,8 @@ const LIMIT: CommandRow = CommandRow {
         SECONDS,
         SEARCHED,
         CERT_OF_LAST,
+        FORMAT,
+        SEARCHES_PROGRESS,
     ],
     after: Some(
         "It prints one of these, and ends with the status beside it:\n   0  `limit D`, and behind it the text of a plan: the last of these processes ends at D in it, and before D in no valid plan; of the plans that do it none has a smaller delay\n  10  `none`: no plan is valid\n  11  `limit D` and a plan that does it, where the search for the least delay was stopped; `between LOW HIGH` and a plan in which the last of them ends at HIGH, where a search before that was; or `between LOW none`, where no plan is known. It ends before LOW in no valid plan\n\nFirst any plan is looked for, then one that ends these processes half way between the ticks that are known, and so on. The last search is for the least delay. Each has N subtrees. Once the seconds have passed the search at hand is stopped, and so is each further one as it begins.",
@@ -88,7 +93,7 @@ const LIMIT: CommandRow = CommandRow {
 const VERIFY: CommandRow = CommandRow {
     name: "verify",
     about: "Checks a plan, and prints `valid` with its delay in ticks",
-    rows: &[INSTANCE, PLAN],
+    rows: &[INSTANCE, PLAN, FORMAT],
     after: None,
 };
 
@@ -104,7 +109,7 @@ const CHECK: CommandRow = CommandRow {
 const JUDGE: CommandRow = CommandRow {
     name: "judge",
     about: "Checks a plan and a certificate, and prints whether no plan is shorter",
-    rows: &[INSTANCE, ANY_PLAN, CERTIFICATE],
+    rows: &[INSTANCE, ANY_PLAN, CERTIFICATE, FORMAT],
     after: Some(
         "It prints one of these, and ends with the status beside it:\n   0  `least D`: the plan is valid and takes D ticks, and no valid plan has a smaller delay\n  10  `none`: no plan is valid\n  11  `between LOW D`, or `between LOW none` where PLAN has no plan: no valid plan has a delay below LOW ticks, which is less than D or than all that the horizon allows\n\nPLAN is a plan's text, or `none`, or what a search printed that was stopped: its line `stopped`, and behind it the plan.",
     ),
@@ -114,7 +119,7 @@ const JUDGE: CommandRow = CommandRow {
 const EXPLAIN: CommandRow = CommandRow {
     name: "explain",
     about: "Tells in sentences why an instance, a plan or a certificate is refused, and why a valid plan ends when it does",
-    rows: &[INSTANCE, EXPLAINED_PLAN, EXPLAINED_CERT],
+    rows: &[INSTANCE, EXPLAINED_PLAN, EXPLAINED_CERT, FORMAT],
     after: Some(
         "The first line is the one that `ttplan verify` or `ttplan check` gives, of an instance alone how many nodes, processes, links and messages it has. Sentences follow: of what is refused which two things a rule compares, both numbers, and by how much they fail it; of a valid plan what held its last process back, and what that, down to a release; of a certificate of one leaf each step.\n\nIt ends with status 0 wherever it explained something, a refusal too.",
     ),
@@ -149,9 +154,11 @@ const REPLAY: CommandRow = CommandRow {
 /// Prints a table of a plan.
 const SCHEDULE: CommandRow = CommandRow {
     name: "schedule",
-    about: "Prints a table of a valid plan, as comma-separated values with a head",
-    rows: &[INSTANCE, PLAN, TABLE],
-    after: None,
+    about: "Prints the schedule of a valid plan: a table of comma-separated values, what nodes are loaded with, or a trace",
+    rows: &[INSTANCE, PLAN, TABLE, SCHEDULE_FORMAT, NODE],
+    after: Some(
+        "In `c` and `json` stand of each node its processes with start and end, and each slot of the cycle with its sender, its ticks and the messages that the frame has for the node, at their offsets; beside them the cycle, the delay, and the SHA-256 of both files as they were read. The text of `c` is a source; where TT_DECLARATIONS is defined it is a header. They have no --table; --node goes with these two. `c` and `json` tell each slot for each node that they tell of, and `trace` on each channel: 100000 at most.",
+    ),
 };
 
 /// Draws a plan.
@@ -166,7 +173,7 @@ const DRAW: CommandRow = CommandRow {
 const COMPARE: CommandRow = CommandRow {
     name: "compare",
     about: "Tells which nodes a change of an instance and its plan touches, and what is different of the plan",
-    rows: &[OLD_INSTANCE, OLD_PLAN, NEW_INSTANCE, NEW_PLAN],
+    rows: &[OLD_INSTANCE, OLD_PLAN, NEW_INSTANCE, NEW_PLAN, FORMAT],
     after: Some(
         "It prints a line for each node of either instance, by its name: `same`, where in both its table and its guardian's windows are the same bytes and its processes have the same rows in `ttplan schedule` but for their slack; `changed`, where that isn't so; `new` or `gone`. Behind these lines is told what is different of processes and of the plan: `order changed`, and `node`, `wcet`, `cap`, `start`, `round` and `chan`, each with a name, the old value and the new one, or `-` where there is none.\n\nIt ends with status 0 where each node is the same and nothing is different, and else with 1. Both plans have to be valid: else it says so as `ttplan verify` does, behind the word `old` or `new`.",
     ),

@@ -2,20 +2,31 @@
 
 use plan_picture::Shown;
 use plan_sheets::Table;
+use schedule_exports::Export;
 use std::io;
 use std::rt::Env;
+
+/// In which form an answer is written.
+#[derive(Clone, Copy, Debug, PartialEq, Eq)]
+pub enum AnswerForm {
+    Text,
+    /// As one JSON object.
+    Json,
+}
 
 /// What to do with an instance and a plan.
 #[derive(Debug, Drop)]
 pub enum Task<'a> {
     /// Verify the plan for the instance.
-    Verify,
+    Verify(AnswerForm),
     /// Write its node tables and guardian windows.
     Tables,
     /// Replay its cycle, in which the frames that these words name are lost.
     Replay(Vec<&'a str>),
     /// Write one of its tables.
     Schedule(Table),
+    /// Write what nodes are loaded with, or the cycle as a trace.
+    Export(Export<'a>),
     /// Write a picture of its cycle, so many pixels wide, 200 to 10,000.
     Draw { width: u32, shown: Shown },
 }
@@ -40,6 +51,19 @@ pub enum Explained<'a> {
     Certificate(&'a str),
 }
 
+/// How much the searches of a command may take.
+#[derive(Clone, Copy, Debug, PartialEq, Eq)]
+pub struct Effort {
+    /// How many workers search, 1 to 16.
+    pub workers: u32,
+    /// How many subtrees each search has at most.
+    pub budget: u64,
+    /// They end so many seconds after the start.
+    pub seconds: Option<u64>,
+    /// Whether it is to be said how far they are.
+    pub progress: bool,
+}
+
 /// How an instance is to be searched.
 #[derive(Clone, Copy, Debug, PartialEq, Eq)]
 pub struct Search<'a> {
@@ -50,18 +74,11 @@ pub struct Search<'a> {
     pub certificate: Option<&'a str>,
     /// Where the best plan so far is kept.
     pub kept: Option<&'a str>,
-    /// How many workers search, 1 to 16.
-    pub workers: u32,
-    /// How many subtrees are searched at most.
-    pub budget: u64,
-    /// Whether it is to say how far it is.
-    pub progress: bool,
+    pub effort: Effort,
     /// It ends once a plan of at most so many ticks is known.
     pub until: Option<u32>,
     /// By how many ticks a plan may be longer than the least is known to be, so that it is good enough.
     pub gap: u32,
-    /// It ends so many seconds after the start.
-    pub seconds: Option<u64>,
 }
 
 /// How it is to be found out why an instance has no plan.
@@ -72,14 +89,10 @@ pub struct Why<'a> {
     pub certificate: Option<&'a str>,
     /// Where the instance by the constraints that leave no plan is written.
     pub reduced: Option<&'a str>,
-    /// How many workers search, 1 to 16.
-    pub workers: u32,
-    /// How many subtrees each search has at most.
-    pub budget: u64,
+    pub effort: Effort,
     /// Whether it is to be told how late all would have to be.
     pub late: bool,
-    /// The searches end so many seconds after the start.
-    pub seconds: Option<u64>,
+    pub form: AnswerForm,
 }
 
 /// How early processes of an instance are to end.
@@ -92,12 +105,8 @@ pub struct Limit<'a> {
     pub certificate: Option<&'a str>,
     /// Where the instance that the certificate is for is written.
     pub reduced: Option<&'a str>,
-    /// How many workers search, 1 to 16.
-    pub workers: u32,
-    /// How many subtrees each search has at most.
-    pub budget: u64,
-    /// The searches end so many seconds after the start.
-    pub seconds: Option<u64>,
+    pub effort: Effort,
+    pub form: AnswerForm,
 }
 
 /// A command, with the files that it names.
@@ -131,6 +140,7 @@ pub enum Request<'a> {
         instance: &'a str,
         plan: &'a str,
         certificate: &'a str,
+        form: AnswerForm,
     },
     /// Tell what is different of a second instance and its plan, each in a file, by the names of what is different.
     Compare {
@@ -138,11 +148,13 @@ pub enum Request<'a> {
         old_plan: &'a str,
         new_instance: &'a str,
         new_plan: &'a str,
+        form: AnswerForm,
     },
     /// Tell in sentences why the instance of a file, or a plan or a certificate for it, is refused, or what there is to say of it.
     Explain {
         instance: &'a str,
         explained: Explained<'a>,
+        form: AnswerForm,
     },
     /// Verify an instance and a plan in one stream: no words were given.
     VerifyBundle,

@@ -2,3 +2,4 @@ pub mod Written
 pub mod Consumed
 pub mod StatedOnce
 pub mod Outcomes
+mod WrittenBeside

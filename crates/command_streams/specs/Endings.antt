@@ -7,7 +7,7 @@ use Rattle.certificate.specs.declared.fault.CertTextError.TheVariants as certifi
 use Rattle.tree_check.specs.declared.fault.CertFault.TheVariants as certificate
 use Rattle.command_streams.specs.declared.ending.SearchFault.TheVariants as search
 use Rattle.command_streams.specs.declared.ending.Fault.{Fault}
-use Rattle.command_streams.specs.declared.ending.Fault.TheVariants.{NoMark, LossForm, InstanceText, Memory, PlanText, Plan, StatedDelay, CertificateText, Certificate, TooFewNodes, WrongLoss, NoSuchProcess, TooManySlots, ShortPeriod, ShortTables, LongTables, Search, TooLong, Unread, Unwritten}
+use Rattle.command_streams.specs.declared.ending.Fault.TheVariants.{NoMark, LossForm, InstanceText, Memory, PlanText, Plan, StatedDelay, CertificateText, Certificate, TooFewNodes, WrongLoss, NoSuchProcess, TooManySlots, LongSchedule, NoSuchNode, ShortPeriod, ShortTables, LongTables, Search, TooLong, Unread, Unwritten}
 use Rattle.command_streams.specs.declared.ending.End.{End}
 use Rattle.command_streams.specs.declared.ending.End.TheVariants.{Done, Different, Absent, Stopped, Refused, RefusedOf}
 
@@ -29,6 +29,8 @@ fault_status (Certificate certificate.OutOfMemory) = 4
 fault_status (Certificate _) = 5
 fault_status TooFewNodes = 5
 fault_status (TooManySlots count) = 5
+fault_status (LongSchedule count) = 5
+fault_status NoSuchNode = 5
 fault_status (ShortPeriod rounds) = 5
 fault_status (ShortTables rounds) = 5
 fault_status (LongTables count) = 5

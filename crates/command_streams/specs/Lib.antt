@@ -3,3 +3,4 @@ pub mod Endings
 pub mod Lines
 pub mod Outcomes
 pub mod Instances
+pub mod Writing

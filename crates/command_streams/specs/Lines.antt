@@ -35,7 +35,7 @@ use Rattle.command_streams.specs.declared.ending.Sink.TheVariants as sink
 use Rattle.command_streams.specs.declared.ending.SearchFault.{SearchFault}
 use Rattle.command_streams.specs.declared.ending.SearchFault.TheVariants as search
 use Rattle.command_streams.specs.declared.ending.Fault.{Fault}
-use Rattle.command_streams.specs.declared.ending.Fault.TheVariants.{NoMark, LossForm, InstanceText, Memory, PlanText, Plan, StatedDelay, CertificateText, Certificate, TooFewNodes, WrongLoss, NoSuchProcess, TooManySlots, ShortPeriod, ShortTables, LongTables, Search, TooLong, Unread, Unwritten}
+use Rattle.command_streams.specs.declared.ending.Fault.TheVariants.{NoMark, LossForm, InstanceText, Memory, PlanText, Plan, StatedDelay, CertificateText, Certificate, TooFewNodes, WrongLoss, NoSuchProcess, TooManySlots, LongSchedule, NoSuchNode, ShortPeriod, ShortTables, LongTables, Search, TooLong, Unread, Unwritten}
 use Rattle.command_streams.specs.declared.ending.End.{End}
 use Rattle.command_streams.specs.declared.ending.End.TheVariants.{Done, Different, Absent, Stopped, Refused, RefusedOf}
 use Rattle.command_streams.specs.declared.ending.Release.{Release}
@@ -201,6 +201,8 @@ fault_line (CertificateText error) = certificate_text_line error
 fault_line (Certificate fault) = certificate_line fault
 fault_line TooFewNodes = codes "replay N1"
 fault_line (TooManySlots count) = codes "draw slots " ++ decimal count
+fault_line (LongSchedule count) = codes "schedule slots " ++ decimal count
+fault_line NoSuchNode = codes "schedule node"
 fault_line (ShortPeriod rounds) = codes "period rounds " ++ rounds_words rounds
 fault_line (ShortTables rounds) = codes "tables rounds " ++ rounds_words rounds
 fault_line (LongTables count) = codes "tables slots " ++ decimal count

@@ -83,6 +83,10 @@ pub enum Fault {
     NoSuchProcess(usize),
     /// When a picture would show this many slots, more than it may.
     TooManySlots(u64),
+    /// When what is loaded, or a trace, would tell this many slots, more than it may.
+    LongSchedule(u64),
+    /// When no node has the name of the one whose loads were asked for.
+    NoSuchNode,
     /// When a period holds fewer rounds than the cycle has.
     ShortPeriod(Rounds),
     /// When tables of fewer rounds than the cycle has were asked for.
@@ -164,6 +168,8 @@ pub fn status_of_fault(fault: &Fault) -> u8
         Fault::WrongLoss(_) => 5,
         Fault::NoSuchProcess(_) => 5,
         Fault::TooManySlots(_) => 5,
+        Fault::LongSchedule(_) => 5,
+        Fault::NoSuchNode => 5,
         Fault::ShortPeriod(_) => 5,
         Fault::ShortTables(_) => 5,
         Fault::LongTables(_) => 5,

@@ -344,6 +344,8 @@ impl fmt::Display for Fault {
             Fault::WrongLoss(k) => write!(f, "replay N2 {k}"),
             Fault::NoSuchProcess(k) => write!(f, "limit name {k}"),
             Fault::TooManySlots(count) => write!(f, "draw slots {count}"),
+            Fault::LongSchedule(count) => write!(f, "schedule slots {count}"),
+            Fault::NoSuchNode => write!(f, "schedule node"),
             Fault::ShortPeriod(rounds) => write!(f, "period rounds {}", RoundsWords(*rounds)),
             Fault::ShortTables(rounds) => write!(f, "tables rounds {}", RoundsWords(*rounds)),
             Fault::LongTables(count) => write!(f, "tables slots {count}"),

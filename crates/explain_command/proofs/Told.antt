@@ -17,7 +17,7 @@ use Rattle.command_streams.proofs.Outcomes.{written_outcome}
 use Rattle.plan_commands.proofs.Tellings.{refused_outcome}
 use Rattle.explain_command.specs.declared.instances.Stated.{Stated}
 use Rattle.explain_command.specs.declared.instances.Stated.TheVariants.{Instance as Of}
-use Rattle.explain_command.specs.Instances.{IsStatedOf}
+use Rattle.explain_command.specs.Instances.{IsStatedOf, TellsInstance, TellsSizes}
 use Rattle.explain_command.specs.Certificates.{IsUnreadable}
 use Rattle.explain_command.specs.Explained.{IsCertificateUntold, IsPlanUntold, TellsBoth}
 use Rattle.explain_command.specs.Plans.{IsPlanUnread}
@@ -119,3 +119,10 @@ stated_at (Some bytes) stated problem is of = subst (IsStatedOf bytes) is of
 pub never_asked : (Asked : Type 0) (a : Option (List ℕ)) (problem : Instance) → IfSome a (λ i. HasInstance i problem) → IfSome a (λ i. ¬ StatesSome i → Asked)
 never_asked Asked None problem has = tt
 never_asked Asked (Some i) problem has = λ none. absurd (none (record { problem = problem; has_instance = has }))
+
+-- what is told of the instance that was read
+pub good_told : {S : Type 0} (a : Option (List ℕ)) (problem : Instance) (text_of : S → List ℕ) (result : Result S Fault) → IfSome a (λ i. HasInstance i problem)
+    → IfOk result (λ text. TellsSizes problem (text_of text)) → IfSome a (λ i. IfOk result (λ text. TellsInstance i (text_of text)))
+good_told None problem text_of result has told = tt
+good_told (Some i) problem text_of (Ok text) has told = inr (record { problem = problem; has_instance = has; tells = told })
+good_told (Some i) problem text_of (Err fault) has told = tt

@@ -1,11 +1,17 @@
 -- What is told of a certificate's bytes, for an instance.
 use Rattle.std.specs.Prelude.{◌≡◌, ◌⊎◌, ℕ, ◌<◌, List, ◌++◌, length}
 use Rattle.ttp_model.specs.Instance.{Instance}
-use Rattle.certificate.specs.declared.fault.CertTextError.{CertTextError}
-use Rattle.certificate_words.specs.Faults.{TellsFault}
-use Rattle.certificate_words.specs.Forms.{text_fault_words}
-use Rattle.certificate_words.specs.Proofs.{TellsProof}
+use Rattle.certificate.specs.declared.fault.CertTextError.TheVariants.{At}
+use Rattle.certificate.specs.declared.fault.LineFault.{LineFault}
+use Rattle.certificate_reasons.specs.declared.certs.CertReason.{CertReason}
+use Rattle.certificate_reasons.specs.declared.proof.ProofReason.{ProofReason}
+use Rattle.certificate_reasons.specs.declared.texts.TextReason.{TextReason}
+use Rattle.certificate_reasons.specs.Certs.{IsCertReason}
+use Rattle.certificate_reasons.specs.Proofs.{IsProofReason}
+use Rattle.certificate_reasons.specs.Texts.{IsTextReason}
+use Rattle.sentences.specs.Shown.{Gains, IsShown}
 use Rattle.plan_commands.specs.Certified.{HasBound, IsCertificateFault, bound_line}
+use Rattle.command_streams.specs.Endings.{fault_status}
 use Rattle.command_streams.specs.declared.limits.TheConstants.{CERTIFICATE_LIMIT}
 use Rattle.command_streams.specs.declared.ending.Source.TheVariants as source
 use Rattle.command_streams.specs.declared.ending.Fault.{Fault}
@@ -13,27 +19,31 @@ use Rattle.command_streams.specs.declared.ending.Fault.TheVariants as fault
 use Rattle.tree_check.specs.declared.fault.CertFault.{CertFault}
 use Rattle.explain_command.specs.Telling.{line_of}
 
--- bytes that spell none: the line at fault, and the form that it has to have
+-- bytes that spell none, which is no want of memory: the line that reading them tells, and sentences on the reason
 pub record TellsUnwritten (i : Instance) (bytes text : List ℕ) : Type 0 where
-  pub wrong : CertTextError
-  pub first : IsCertificateFault i bytes (fault.CertificateText wrong)
-  pub told : text ≡ line_of (fault.CertificateText wrong) ++ text_fault_words bytes wrong
+  pub line : ℕ
+  pub wrong : LineFault
+  pub first : IsCertificateFault i bytes (fault.CertificateText (At line wrong))
+  pub reason : TextReason
+  pub is : IsTextReason bytes line wrong reason
+  pub told : Gains IsShown (line_of (fault.CertificateText (At line wrong))) text
 
--- a certificate that doesn't prove its bound: the line at fault, and what is wrong there
+-- a certificate that doesn't prove its bound, which is no want of memory: the line of its first fault, and sentences on the reason
 pub record TellsUnproved (i : Instance) (bytes text : List ℕ) : Type 0 where
   pub wrong : CertFault
   pub first : IsCertificateFault i bytes (fault.Certificate wrong)
-  pub words : List ℕ
-  pub are : TellsFault i bytes wrong words
-  pub told : text ≡ line_of (fault.Certificate wrong) ++ words
+  pub status : fault_status (fault.Certificate wrong) ≡ 5
+  pub reason : CertReason
+  pub is : IsCertReason i bytes wrong reason
+  pub told : Gains IsShown (line_of (fault.Certificate wrong)) text
 
 -- one that does: its steps where it is one leaf, and else how large it is
 pub record TellsProved (i : Instance) (bytes text : List ℕ) : Type 0 where
   pub low : ℕ
   pub bound : HasBound i bytes low
-  pub words : List ℕ
-  pub are : TellsProof i bytes words
-  pub told : text ≡ bound_line low ++ words
+  pub reason : ProofReason
+  pub is : IsProofReason i bytes reason
+  pub told : Gains IsShown (bound_line low) text
 
 -- the bytes of a certificate
 abbrev pub TellsCertificateBytes : Instance → List ℕ → List ℕ → Type 0

@@ -2,8 +2,10 @@
 use Rattle.std.specs.Prelude.{◌≡◌, ◌⊎◌, ℕ, List, ◌++◌, string_bytes}
 use Rattle.ttp_model.specs.Instance.{Instance}
 use Rattle.instance_text.specs.declared.error.TextError.{TextError}
-use Rattle.instance_words.specs.Described.{description}
-use Rattle.instance_words.specs.Explained.{IsExplanation}
+use Rattle.instance_reasons.specs.declared.described.Sizes.{Sizes}
+use Rattle.instance_reasons.specs.declared.reason.InstanceReason.{InstanceReason}
+use Rattle.instance_reasons.specs.Described.{AreSizes}
+use Rattle.instance_reasons.specs.Reasons.{IsInstanceReason}
 use Rattle.cause_chains.specs.declared.late_lines.LateProcesses.{LateProcesses}
 use Rattle.cause_chains.specs.declared.path_lines.PathChain.{PathChain}
 use Rattle.cause_chains.specs.LateLines.{AreLate}
@@ -17,23 +19,27 @@ use Rattle.explain_command.specs.declared.instances.Stated.TheVariants.{Instance
 use Rattle.explain_command.specs.Mistaken.{in_place_of_instance}
 use Rattle.explain_command.specs.Telling.{line_of}
 
--- bytes that state none: why, which is no want of memory, and what they are like
+-- bytes that state none: the line of their first fault, which is no want of memory, sentences on the reason, and what they are like
 pub record TellsRefused (bytes text : List ℕ) : Type 0 where
   pub wrong : TextError
   pub first : IsInstanceFault bytes (fault.InstanceText wrong)
   pub status : fault_status (fault.InstanceText wrong) ≡ 3
+  pub reason : InstanceReason
+  pub is : IsInstanceReason bytes wrong reason
   pub words : List ℕ
-  pub are : IsExplanation bytes wrong words
-  pub told : text ≡ (line_of (fault.InstanceText wrong) ++ words) ++ in_place_of_instance bytes
+  pub are : Gains IsShown (line_of (fault.InstanceText wrong)) words
+  pub told : text ≡ words ++ in_place_of_instance bytes
 
 -- an instance that keeps its rules: how large it is, which messages fit into no frame, why no plan ends before its path bound, and which
 -- processes end too late whatever the plan
 pub record TellsSizes (i : Instance) (text : List ℕ) : Type 0 where
+  pub sizes : Sizes
+  pub are_sizes : AreSizes i sizes
   pub chain : PathChain
   pub is_chain : IsPathChain i chain
   pub late : LateProcesses
   pub are_late : AreLate i late
-  pub told : Gains IsShown (description i) text
+  pub shown : IsShown text
 
 -- bytes that state one
 pub record TellsGood (bytes text : List ℕ) : Type 0 where

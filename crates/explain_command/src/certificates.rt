@@ -1,49 +1,59 @@
 //! What is told of a certificate?
 
-ghost use Rattle.std.specs.Prelude.{◌≡◌, ◌++◌, IfErr, IfOk, OnOk, string_bytes};
+ghost use Rattle.std.specs.Prelude.{◌≡◌, ◌≢◌, ◌++◌, IfErr, IfOk, OnOk, string_bytes};
+ghost use Rattle.certificate.specs.declared.fault.CertTextError.TheVariants as text;
 ghost use Rattle.command_streams.specs.declared.ending.Fault.TheVariants as fault;
 ghost use Rattle.plan_commands.specs.Certified.{HasBound, IsCertificateFault, bound_line};
-ghost use Rattle.sentences.specs.Shown.{Gains};
+ghost use Rattle.tree_check.specs.declared.fault.CertFault.TheVariants as cert;
 ghost use Rattle.explain_command.specs.Certificates.{IsUnreadable, TellsCertificateBytes, TellsProved, TellsUnproved, TellsUnwritten};
 
 use crate::telling::put_line;
-use certificate::CertTextError;
-use certificate_words::{put_fault, put_proof, put_text_fault};
+use certificate::{CertTextError, LineFault};
+use certificate_reasons::{cert_reason, proof_reason, text_reason};
 use command_streams::Fault;
 use plan_commands::read_bound;
+use sentences::put;
 use std::alloc::{AllocError, Global};
 use std::thread::Threads;
 use tree_check::CertFault;
 use ttp_model::{Instance, MemoryFault};
 
-/// Tells which line of a certificate's text is at fault.
-fn put_unwritten(
-    text: &mut String,
+/// What is told of a line at fault of a certificate's text.
+fn told_unwritten(
+    alloc: Global,
     instance: &Instance,
     bytes: &[u8],
-    wrong: CertTextError,
-) -> Result<(), MemoryFault>
-    requires { IsCertificateFault instance.now bytes.now (fault.CertificateText wrong) }
-    ensures { OnOk result (Gains (TellsUnwritten instance.now bytes.now) (string_bytes text.old) (string_bytes text.new)) }
+    line: u64,
+    wrong: LineFault,
+) -> Result<String, MemoryFault>
+    requires { IsCertificateFault instance.now bytes.now (fault.CertificateText (text.At line wrong)) }
+    ensures { IfOk result (λ text. TellsUnwritten instance.now bytes.now (string_bytes text)) }
 {
-    put_line(text, &Fault::CertificateText(wrong))?;
-    put_text_fault(text, bytes, wrong)?;
-    Ok(())
+    let reason = text_reason(bytes, line, wrong);
+    let mut text = String::new(alloc);
+    let error = CertTextError::At { line, fault: wrong };
+    put_line(&mut text, &Fault::CertificateText(error))?;
+    put(alloc, &mut text, &reason)?;
+    Ok(text)
 }
 
-/// Tells why a certificate doesn't prove its bound.
-fn put_unproved(
+/// What is told of a certificate that doesn't prove its bound.
+#[tactic(auto, using(crate::proofs::Certified::no_memory))]
+fn told_unproved(
     alloc: Global,
-    text: &mut String,
     instance: &Instance,
     bytes: &[u8],
     wrong: CertFault,
-) -> Result<(), MemoryFault>
-    requires { IsCertificateFault instance.now bytes.now (fault.Certificate wrong) }
-    ensures { OnOk result (Gains (TellsUnproved instance.now bytes.now) (string_bytes text.old) (string_bytes text.new)) }
+) -> Result<String, MemoryFault>
+    requires fault { IsCertificateFault instance.now bytes.now (fault.Certificate wrong) }
+    requires told { wrong ≢ cert.OutOfMemory }
+    ensures { IfOk result (λ text. TellsUnproved instance.now bytes.now (string_bytes text)) }
 {
-    put_line(text, &Fault::Certificate(wrong))?;
-    put_fault(alloc, text, instance, bytes, wrong)
+    let reason = cert_reason(alloc, instance, bytes, wrong)?;
+    let mut text = String::new(alloc);
+    put_line(&mut text, &Fault::Certificate(wrong))?;
+    put(alloc, &mut text, &reason)?;
+    Ok(text)
 }
 
 /// Adds the line of a bound that is proved, in ticks.
@@ -53,38 +63,41 @@ fn put_bound_line(text: &mut String, low: u32) -> Result<(), AllocError>
     writeln!(text, "bound {low}")
 }
 
-/// Tells how a certificate proves its bound, in ticks.
-fn put_proved(
+/// What is told of a certificate that proves its bound, in ticks.
+fn told_proved(
     alloc: Global,
-    text: &mut String,
     instance: &Instance,
     bytes: &[u8],
     low: u32,
-) -> Result<(), MemoryFault>
+) -> Result<String, MemoryFault>
     requires { HasBound instance.now bytes.now low }
-    ensures { OnOk result (Gains (TellsProved instance.now bytes.now) (string_bytes text.old) (string_bytes text.new)) }
+    ensures { IfOk result (λ text. TellsProved instance.now bytes.now (string_bytes text)) }
 {
-    put_bound_line(text, low)?;
-    put_proof(alloc, text, instance, bytes)
+    let reason = proof_reason(alloc, instance, bytes)?;
+    let mut text = String::new(alloc);
+    put_bound_line(&mut text, low)?;
+    put(alloc, &mut text, &reason)?;
+    Ok(text)
 }
 
-/// Tells what there is to say of a fault of a certificate's bytes.
-fn put_refused(
+/// What there is to say of a fault of a certificate's bytes: of want of memory nothing.
+fn told_refused(
     alloc: Global,
-    text: &mut String,
     instance: &Instance,
     bytes: &[u8],
     wrong: Fault,
-) -> Result<(), Fault>
+) -> Result<String, Fault>
     requires { IsCertificateFault instance.now bytes.now wrong }
-    ensures told { OnOk result (Gains (TellsCertificateBytes instance.now bytes.now) (string_bytes text.old) (string_bytes text.new)) }
+    ensures told { IfOk result (λ text. TellsCertificateBytes instance.now bytes.now (string_bytes text)) }
     ensures err { IfErr result (IsUnreadable bytes.now) }
 {
     match wrong {
         Fault::CertificateText(CertTextError::OutOfMemory) => Err(Fault::Memory),
         Fault::Certificate(CertFault::OutOfMemory) => Err(Fault::Memory),
-        Fault::CertificateText(wrong) => Ok(put_unwritten(text, instance, bytes, wrong)?),
-        Fault::Certificate(wrong) => Ok(put_unproved(alloc, text, instance, bytes, wrong)?),
+        Fault::CertificateText(CertTextError::At { line, fault }) => {
+            Ok(told_unwritten(alloc, instance, bytes, line, fault)?)
+        }
+        Fault::Certificate(wrong) => Ok(told_unproved(alloc, instance, bytes, wrong)?),
         other => Err(other),
     }
 }
@@ -99,11 +112,9 @@ pub fn told_certificate(
     ensures told { IfOk result (λ text. TellsCertificateBytes instance.now bytes.now (string_bytes text)) }
     ensures err { IfErr result (IsUnreadable bytes.now) }
 {
-    let mut text = String::new(alloc);
     let mut reader = bytes;
     match read_bound(rt, alloc, instance, &mut reader) {
-        Ok(low) => put_proved(alloc, &mut text, instance, bytes, low)?,
-        Err(wrong) => put_refused(alloc, &mut text, instance, bytes, wrong)?,
+        Ok(low) => Ok(told_proved(alloc, instance, bytes, low)?),
+        Err(wrong) => told_refused(alloc, instance, bytes, wrong),
     }
-    Ok(text)
 }

@@ -19,7 +19,8 @@ use cause_chains::{late_reason, path_chain_reason};
 use command_streams::{
     CERTIFICATE_LIMIT, End, Fault, INSTANCE_LIMIT, PLAN_LIMIT, Source, end_with, read_all,
 };
-use instance_words::describe_instance;
+use instance_reasons::sizes_of;
+use json_answers::Reasons;
 use plan_commands::{front_of, read_printed};
 use sentences::put;
 use std::alloc::Global;
@@ -28,38 +29,60 @@ use std::thread::Threads;
 use ttp_model::Instance;
 
 /// What came of the bytes of an instance's reader.
-fn stated_of_reader<I: Read>(alloc: Global, instance: &mut I) -> Result<Stated, Fault>
+fn stated_of_reader<I: Read>(
+    alloc: Global,
+    instance: &mut I,
+    reasons: &mut Reasons,
+) -> Result<Stated, Fault>
     ensures ok { IfSome (I.remaining instance.old) (λ bytes. IfOk result (IsStatedOf bytes)) }
     ensures err { IfSome (I.remaining instance.old) (λ bytes. IfErr result (IsUntold bytes)) }
     ensures most { TakesAtMost (INSTANCE_LIMIT + 1) (I.remaining instance.old) (I.remaining instance.new) }
 {
     let bytes = read_all(alloc, instance, INSTANCE_LIMIT, Source::Instance)?;
-    stated_of_bytes(alloc, bytes.as_slice())
+    stated_of_bytes(alloc, bytes.as_slice(), reasons)
+}
+
+/// The same where no reason is asked for.
+fn stated_alone<I: Read>(alloc: Global, instance: &mut I) -> Result<Stated, Fault>
+    ensures ok { IfSome (I.remaining instance.old) (λ bytes. IfOk result (IsStatedOf bytes)) }
+    ensures err { IfSome (I.remaining instance.old) (λ bytes. IfErr result (IsUntold bytes)) }
+    ensures most { TakesAtMost (INSTANCE_LIMIT + 1) (I.remaining instance.old) (I.remaining instance.new) }
+{
+    let mut unasked = Reasons::unasked();
+    stated_of_reader(alloc, instance, &mut unasked)
 }
 
 /// What is told of an instance that keeps its rules.
-fn described(alloc: Global, instance: &Instance) -> Result<String, Fault>
+fn described(alloc: Global, instance: &Instance, reasons: &mut Reasons) -> Result<String, Fault>
     ensures ok { IfOk result (λ text. TellsSizes instance.now (string_bytes text)) }
     ensures err { IfErr result (λ wrong. wrong ≡ Memory) }
 {
+    let sizes = sizes_of(alloc, instance)?;
     let chain = path_chain_reason(alloc, instance)?;
     let late = late_reason(alloc, instance)?;
-    let mut text = describe_instance(alloc, instance)?;
+    reasons.push(alloc, "chain", &chain)?;
+    reasons.push(alloc, "late", &late)?;
+    let mut text = String::new(alloc);
+    put(alloc, &mut text, &sizes)?;
     put(alloc, &mut text, &chain)?;
     put(alloc, &mut text, &late)?;
     Ok(text)
 }
 
 /// What is told of an instance.
-fn instance_told<I: Read>(alloc: Global, instance: &mut I) -> Result<String, Fault>
+fn instance_told<I: Read>(
+    alloc: Global,
+    instance: &mut I,
+    reasons: &mut Reasons,
+) -> Result<String, Fault>
     ensures ok { IfSome (I.remaining instance.old) (λ bytes. IfOk result (λ text. TellsInstance bytes (string_bytes text))) }
     ensures err { IfSome (I.remaining instance.old) (λ bytes. IfErr result (IsUntold bytes)) }
     ensures most { TakesAtMost (INSTANCE_LIMIT + 1) (I.remaining instance.old) (I.remaining instance.new) }
 {
-    match stated_of_reader(alloc, instance)? {
+    match stated_of_reader(alloc, instance, reasons)? {
         Stated::Refused(text) => Ok(text),
         Stated::Instance(instance) => {
-            let told = described(alloc, &instance);
+            let told = described(alloc, &instance, reasons);
             drop(instance);
             told
         }
@@ -69,18 +92,28 @@ fn instance_told<I: Read>(alloc: Global, instance: &mut I) -> Result<String, Fau
 /// Tells an instance: `instance` with its sizes, each message that fits into no frame, why no plan ends before its path bound, and
 /// which processes end too late whatever the plan; or the line of `verify` where it is refused, and behind it why, in sentences. Where
 /// anything else ends the command nothing is written, and after a failed write a prefix of the text stands.
-pub fn explain_instance<I: Read, W: Write>(alloc: Global, instance: &mut I, out: &mut W) -> End
+pub fn explain_instance<I: Read, W: Write>(
+    alloc: Global,
+    instance: &mut I,
+    reasons: &mut Reasons,
+    out: &mut W,
+) -> End
     ensures answer { IfSome (I.remaining instance.old) (λ i. IsInstanceExplained i (W.contents out.old) (W.contents out.new) result) }
     ensures instance { TakesAtMost (INSTANCE_LIMIT + 1) (I.remaining instance.old) (I.remaining instance.new) }
 {
-    match instance_told(alloc, instance) {
+    match instance_told(alloc, instance, reasons) {
         Ok(text) => end_with(out, text.as_bytes()),
         Err(fault) => End::Refused(fault),
     }
 }
 
 /// What is told of the bytes of a printed plan.
-fn told_of_text(alloc: Global, instance: &Instance, bytes: &[u8]) -> Result<String, Fault>
+fn told_of_text(
+    alloc: Global,
+    instance: &Instance,
+    bytes: &[u8],
+    reasons: &mut Reasons,
+) -> Result<String, Fault>
     ensures ok { IfOk result (λ text. TellsPlanBytes instance.now bytes.now (string_bytes text)) }
     ensures err { IfErr result (IsPlanUnread bytes.now) }
     ensures later { IfErr result (λ fault. ¬ IsOfInstance fault) }
@@ -89,19 +122,24 @@ fn told_of_text(alloc: Global, instance: &Instance, bytes: &[u8]) -> Result<Stri
     if rest.len() > PLAN_LIMIT {
         return Err(Fault::TooLong(Source::Plan));
     }
-    let text = told_printed(alloc, instance, bytes, front, rest)?;
+    let text = told_printed(alloc, instance, bytes, front, rest, reasons)?;
     Ok(text)
 }
 
 /// What is told of the bytes of a plan's reader.
-fn told_of_plan<P: Read>(alloc: Global, instance: &Instance, plan: &mut P) -> Result<String, Fault>
+fn told_of_plan<P: Read>(
+    alloc: Global,
+    instance: &Instance,
+    plan: &mut P,
+    reasons: &mut Reasons,
+) -> Result<String, Fault>
     ensures ok { IfSome (P.remaining plan.old) (λ p. IfOk result (λ text. TellsPlanBytes instance.now p (string_bytes text))) }
     ensures err { IfSome (P.remaining plan.old) (λ p. IfErr result (IsPlanUnread p)) }
     ensures later { IfErr result (λ fault. ¬ IsOfInstance fault) }
     ensures plan { TakesAtMost (printed_limit + 1) (P.remaining plan.old) (P.remaining plan.new) }
 {
     let bytes = read_printed(alloc, plan)?;
-    told_of_text(alloc, instance, bytes.as_slice())
+    told_of_text(alloc, instance, bytes.as_slice(), reasons)
 }
 
 /// What is told of an instance and a plan.
@@ -109,6 +147,7 @@ fn plan_told<I: Read, P: Read>(
     alloc: Global,
     instance: &mut I,
     plan: &mut P,
+    reasons: &mut Reasons,
 ) -> Result<String, Fault>
     ensures ok { IfSome (I.remaining instance.old) (λ i. IfSome (P.remaining plan.old) (λ p.
         IfOk result (λ text. TellsBoth TellsPlanBytes i p (string_bytes text)))) }
@@ -118,10 +157,10 @@ fn plan_told<I: Read, P: Read>(
     ensures order { IfErr result (λ fault. IsOfInstance fault → Keeps (P.remaining plan.old) (P.remaining plan.new)) }
     ensures unread { IfSome (I.remaining instance.old) (λ i. ¬ StatesSome i → Keeps (P.remaining plan.old) (P.remaining plan.new)) }
 {
-    match stated_of_reader(alloc, instance)? {
+    match stated_of_reader(alloc, instance, reasons)? {
         Stated::Refused(text) => Ok(text),
         Stated::Instance(instance) => {
-            let told = told_of_plan(alloc, &instance, plan);
+            let told = told_of_plan(alloc, &instance, plan, reasons);
             drop(instance);
             told
         }
@@ -135,6 +174,7 @@ pub fn explain_plan<I: Read, P: Read, W: Write>(
     alloc: Global,
     instance: &mut I,
     plan: &mut P,
+    reasons: &mut Reasons,
     out: &mut W,
 ) -> End
     ensures answer { IfSome (I.remaining instance.old) (λ i. IfSome (P.remaining plan.old) (λ p.
@@ -144,7 +184,7 @@ pub fn explain_plan<I: Read, P: Read, W: Write>(
     ensures order { IfRefused result (λ fault. IsOfInstance fault → Keeps (P.remaining plan.old) (P.remaining plan.new)) }
     ensures unread { IfSome (I.remaining instance.old) (λ i. ¬ StatesSome i → Keeps (P.remaining plan.old) (P.remaining plan.new)) }
 {
-    match plan_told(alloc, instance, plan) {
+    match plan_told(alloc, instance, plan, reasons) {
         Ok(text) => end_with(out, text.as_bytes()),
         Err(fault) => End::Refused(fault),
     }
@@ -181,7 +221,7 @@ fn certificate_told<I: Read, C: Read>(
     ensures order { IfErr result (λ fault. IsOfInstance fault → Keeps (C.remaining certificate.old) (C.remaining certificate.new)) }
     ensures unread { IfSome (I.remaining instance.old) (λ i. ¬ StatesSome i → Keeps (C.remaining certificate.old) (C.remaining certificate.new)) }
 {
-    match stated_of_reader(alloc, instance)? {
+    match stated_alone(alloc, instance)? {
         Stated::Refused(text) => Ok(text),
         Stated::Instance(instance) => {
             let told = told_of_certificate(rt, alloc, &instance, certificate);

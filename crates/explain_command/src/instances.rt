@@ -10,8 +10,10 @@ ghost use Rattle.explain_command.specs.Instances.{IsStatedOf, TellsRefused};
 use crate::mistaken::in_place_of_instance;
 use crate::telling::put_line;
 use command_streams::{Fault, INSTANCE_LIMIT, instance_of_text};
+use instance_reasons::{reason_of, reread};
 use instance_text::TextError;
-use instance_words::explain_instance;
+use json_answers::Reasons;
+use sentences::put;
 use std::alloc::Global;
 use ttp_model::{Instance, MemoryFault, ModelError};
 
@@ -36,27 +38,39 @@ fn is_of_text(error: &TextError) -> bool
 }
 
 /// Why bytes state no instance.
-fn told_refusal(alloc: Global, bytes: &[u8], wrong: TextError) -> Result<String, MemoryFault>
+fn told_refusal(
+    alloc: Global,
+    bytes: &[u8],
+    wrong: TextError,
+    reasons: &mut Reasons,
+) -> Result<String, MemoryFault>
     requires first { IsInstanceFault bytes.now (fault.InstanceText wrong) }
     requires status { fault_status (fault.InstanceText wrong) ≡ 3 }
     ensures { IfOk result (λ text. TellsRefused bytes.now (string_bytes text)) }
 {
-    let words = explain_instance(alloc, bytes, &wrong)?;
+    let again = reread(alloc, bytes, &wrong)?;
+    let reason = reason_of(alloc, &again, &wrong)?;
+    reasons.push(alloc, "reason", &reason)?;
     let mut text = String::new(alloc);
     put_line(&mut text, &Fault::InstanceText(wrong))?;
-    text.push_str(words.as_str())?;
+    put(alloc, &mut text, &reason)?;
     text.push_str(in_place_of_instance(bytes))?;
     Ok(text)
 }
 
 /// What is told of an error of bytes.
-fn refused(alloc: Global, bytes: &[u8], error: TextError) -> Result<Stated, Fault>
+fn refused(
+    alloc: Global,
+    bytes: &[u8],
+    error: TextError,
+    reasons: &mut Reasons,
+) -> Result<Stated, Fault>
     requires { IsInstanceFault bytes.now (fault.InstanceText error) }
     ensures ok { IfOk result (IsStatedOf bytes.now) }
     ensures err { IfErr result (λ wrong. wrong ≡ fault.Memory) }
 {
     if is_of_text(&error) {
-        let text = told_refusal(alloc, bytes, error)?;
+        let text = told_refusal(alloc, bytes, error, reasons)?;
         Ok(Stated::Refused(text))
     } else {
         Err(Fault::Memory)
@@ -64,14 +78,14 @@ fn refused(alloc: Global, bytes: &[u8], error: TextError) -> Result<Stated, Faul
 }
 
 /// The instance that bytes state, or what is told of them.
-pub fn stated_of_bytes(alloc: Global, bytes: &[u8]) -> Result<Stated, Fault>
+pub fn stated_of_bytes(alloc: Global, bytes: &[u8], reasons: &mut Reasons) -> Result<Stated, Fault>
     requires { length bytes.now ≤ INSTANCE_LIMIT }
     ensures ok { IfOk result (IsStatedOf bytes.now) }
     ensures err { IfErr result (IsUntold bytes.now) }
 {
     match instance_of_text(alloc, bytes) {
         Ok(instance) => Ok(Stated::Instance(instance)),
-        Err(Fault::InstanceText(error)) => refused(alloc, bytes, error),
+        Err(Fault::InstanceText(error)) => refused(alloc, bytes, error, reasons),
         Err(other) => Err(other),
     }
 }

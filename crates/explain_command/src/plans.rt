@@ -13,6 +13,7 @@ use crate::mistaken::first_line_words;
 use crate::telling::{put_line, put_valid_line};
 use cause_chains::plan_chain_reason;
 use command_streams::Fault;
+use json_answers::Reasons;
 use plan_commands::{Front, bare_fault};
 use plan_format::{LineFault, PlanTextError, read};
 use plan_reasons::{cycle_of, line_reason, other_delay, reason_of};
@@ -26,11 +27,13 @@ fn told_broken(
     instance: &Instance,
     plan: &Plan,
     broken: PlanFault,
+    reasons: &mut Reasons,
 ) -> Result<String, MemoryFault>
     requires { IsFirstFault instance.now plan.now broken }
     ensures { IfOk result (λ text. TellsBroken instance.now plan.now (string_bytes text)) }
 {
     let reason = reason_of(alloc, instance, plan, broken)?;
+    reasons.push(alloc, "reason", &reason)?;
     let mut text = String::new(alloc);
     put_line(&mut text, &Fault::Plan(broken))?;
     put(alloc, &mut text, &reason)?;
@@ -44,6 +47,7 @@ fn told_misstated(
     plan: &Plan,
     own: u64,
     stated: u32,
+    reasons: &mut Reasons,
 ) -> Result<String, MemoryFault>
     requires valid { IsValid instance.now plan.now }
     requires own { own ≡ delay instance.now plan.now }
@@ -51,6 +55,7 @@ fn told_misstated(
     ensures { IfOk result (λ text. TellsMisstated instance.now plan.now stated (string_bytes text)) }
 {
     let reason = other_delay(instance, plan, stated);
+    reasons.push(alloc, "reason", &reason)?;
     let mut text = String::new(alloc);
     put_line(&mut text, &Fault::StatedDelay(own))?;
     put(alloc, &mut text, &reason)?;
@@ -63,6 +68,7 @@ fn told_valid(
     instance: &Instance,
     plan: &Plan,
     stated: u32,
+    reasons: &mut Reasons,
 ) -> Result<String, MemoryFault>
     requires valid { IsValid instance.now plan.now }
     requires own { delay instance.now plan.now ≡ stated }
@@ -70,6 +76,8 @@ fn told_valid(
 {
     let reason = plan_chain_reason(alloc, instance, plan)?;
     let cycle = cycle_of(instance, plan);
+    reasons.push(alloc, "chain", &reason)?;
+    reasons.push(alloc, "cycle", &cycle)?;
     let mut text = String::new(alloc);
     put_valid_line(&mut text, stated)?;
     put(alloc, &mut text, &reason)?;
@@ -83,16 +91,17 @@ fn told_judged(
     instance: &Instance,
     plan: &Plan,
     stated: u32,
+    reasons: &mut Reasons,
 ) -> Result<String, MemoryFault>
     ensures { IfOk result (λ text. TellsPlan instance.now plan.now stated (string_bytes text)) }
 {
     match plan_check::check(instance, plan) {
-        Err(broken) => told_broken(alloc, instance, plan, broken),
+        Err(broken) => told_broken(alloc, instance, plan, broken, reasons),
         Ok(own) => {
             if own == u64::from(stated) {
-                told_valid(alloc, instance, plan, stated)
+                told_valid(alloc, instance, plan, stated, reasons)
             } else {
-                told_misstated(alloc, instance, plan, own, stated)
+                told_misstated(alloc, instance, plan, own, stated, reasons)
             }
         }
     }
@@ -106,6 +115,7 @@ fn told_unspelled(
     before: u32,
     line: u32,
     wrong: LineFault,
+    reasons: &mut Reasons,
 ) -> Result<String, MemoryFault>
     requires at { plan_at instance.now bytes.now ≡ Err (At line wrong) }
     requires most { before ≤ 1 }
@@ -118,6 +128,7 @@ fn told_unspelled(
         fault: wrong,
     };
     let reason = line_reason(instance, bytes, before, line, wrong);
+    reasons.push(alloc, "reason", &reason)?;
     let mut text = String::new(alloc);
     put_line(&mut text, &Fault::PlanText(error))?;
     put(alloc, &mut text, &reason)?;
@@ -131,18 +142,19 @@ fn told_plan(
     instance: &Instance,
     bytes: &[u8],
     before: u32,
+    reasons: &mut Reasons,
 ) -> Result<String, MemoryFault>
     requires { before ≤ 1 }
     ensures { IfOk result (λ text. TellsPlanText instance.now before bytes.now (string_bytes text)) }
 {
     match read(alloc, instance, bytes) {
         Ok((plan, stated)) => {
-            let told = told_judged(alloc, instance, &plan, stated);
+            let told = told_judged(alloc, instance, &plan, stated, reasons);
             drop(plan);
             told
         }
         Err(PlanTextError::At { line, fault }) => {
-            told_unspelled(alloc, instance, bytes, before, line, fault)
+            told_unspelled(alloc, instance, bytes, before, line, fault, reasons)
         }
         Err(PlanTextError::OutOfMemory) => Err(MemoryFault),
     }
@@ -169,14 +181,15 @@ pub fn told_printed(
     bytes: &[u8],
     front: Front,
     rest: &[u8],
+    reasons: &mut Reasons,
 ) -> Result<String, MemoryFault>
     requires { BeginsWith bytes.now front rest.now }
     ensures { IfOk result (λ text. TellsPrinted instance.now front rest.now (string_bytes text)) }
 {
     match front {
-        Front::Plan => told_plan(alloc, instance, rest, 0),
-        Front::Headed => told_plan(alloc, instance, rest, 1),
+        Front::Plan => told_plan(alloc, instance, rest, 0, reasons),
+        Front::Headed => told_plan(alloc, instance, rest, 1, reasons),
         Front::Bare => told_bare(alloc, rest),
-        Front::NoPlan => told_plan(alloc, instance, bytes, 0),
+        Front::NoPlan => told_plan(alloc, instance, bytes, 0, reasons),
     }
 }

@@ -7,6 +7,7 @@ ghost use Rattle.plan_picture.specs.Limits.{least_width, most_width};
 
 use command_streams::{End, report, status, take_input, write_text};
 use explain_command::{explain_certificate, explain_instance, explain_plan};
+use json_answers::Reasons;
 use line_text::{NumberWord, cut, number_word, push_number, push_number_word};
 use period_command::{period_run, tables_run};
 use plan_commands::{
@@ -293,8 +294,16 @@ fn end_of<W: Write>(
             shown_of(words),
             out,
         ),
-        Command::ExplainInstance => explain_instance(alloc, &mut first, out),
-        Command::ExplainPlan => explain_plan(alloc, &mut first, &mut second, out),
+        Command::ExplainInstance => {
+            explain_instance(alloc, &mut first, &mut Reasons::unasked(), out)
+        }
+        Command::ExplainPlan => explain_plan(
+            alloc,
+            &mut first,
+            &mut second,
+            &mut Reasons::unasked(),
+            out,
+        ),
         Command::ExplainCertificate => {
             explain_certificate(rt, alloc, &mut first, &mut second, out)
         }

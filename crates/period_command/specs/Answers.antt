@@ -5,7 +5,7 @@ use Rattle.ttp_model.specs.Instance.{Instance}
 use Rattle.tt_layout.specs.Cycle.{cycle_rounds}
 use Rattle.plan_cycles.specs.Cycles.{whole_rounds}
 use Rattle.plan_cycles.specs.Text.{IsPeriodText}
-use Rattle.longer_cycles.specs.Rounds.{loads_in, too_many_slots}
+use Rattle.plan_cycles.specs.Rounds.{loads_in, too_many_slots}
 use Rattle.command_streams.specs.declared.ending.Fault.{Fault}
 use Rattle.command_streams.specs.declared.ending.Fault.TheVariants.{LongTables, Memory, ShortPeriod, ShortTables}
 use Rattle.command_streams.specs.declared.ending.Rounds.{Rounds}

@@ -10,8 +10,8 @@ ghost use Rattle.command_streams.specs.Outcomes.{IfRefused, IsCommandAnswer, OnD
 ghost use Rattle.period_command.specs.Answers.{AreUntold, IsLoadsOf, IsTablesAnswer};
 
 use command_streams::{End, Fault, Rounds, end_with};
-use longer_cycles::{print, too_many_slots};
 use plan_commands::verified_of_readers;
+use plan_cycles::longer::{print, too_many_slots};
 use std::alloc::Global;
 use std::io::{Read, Write};
 use tt_layout::cycle_rounds;

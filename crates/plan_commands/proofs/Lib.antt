@@ -1,5 +1,6 @@
 pub mod Tellings
 pub mod Drawn
+pub mod Exporting
 pub mod Splits
 pub mod LossSpelling
 pub mod LossPlaces

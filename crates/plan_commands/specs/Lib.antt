@@ -3,6 +3,7 @@ pub mod Bundles
 pub mod NodeTables
 pub mod Schedules
 pub mod Drawings
+pub mod Exported
 pub mod LossWords
 pub mod Traces
 pub mod Certified

@@ -4,6 +4,7 @@
 mod bundle;
 mod certified;
 mod comparing;
+mod exports;
 mod front;
 mod judge;
 mod laws;
@@ -18,6 +19,7 @@ mod verdict;
 pub use bundle::verify_bundle;
 pub use certified::{check_run, read_bound};
 pub use comparing::compare_run;
+pub use exports::export_run;
 pub use front::{Front, front_of};
 pub use judge::judge_run;
 pub use laws::{

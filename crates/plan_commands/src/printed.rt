@@ -118,7 +118,7 @@ fn printed_behind(
 }
 
 /// The valid plan of a printed text.
-fn printed_of_text(alloc: Global, instance: Instance, bytes: &[u8]) -> Result<Verified, Fault>
+pub fn printed_of_text(alloc: Global, instance: Instance, bytes: &[u8]) -> Result<Verified, Fault>
     ensures judged { MatchResult result
         (IsPrintedFor instance bytes.now)
         (IsAtFaultOrLong LacksPrintedPlan instance bytes.now) }

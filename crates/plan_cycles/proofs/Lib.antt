@@ -13,3 +13,5 @@ pub mod TakenRounds
 pub mod FirstFits
 pub mod TrailFits
 pub mod HeldRounds
+pub mod BehindCycle
+pub mod LaterWindows

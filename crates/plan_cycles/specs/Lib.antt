@@ -10,3 +10,5 @@ pub mod Fits
 pub mod Repetition
 pub mod Text
 pub use Rattle.tt_layout.specs.Cycle
+pub mod Rounds
+pub use Rattle.plan_cycles.specs.Cycles

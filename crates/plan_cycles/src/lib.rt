@@ -1,10 +1,11 @@
 //! Plans that begin anew each period: what holds of all their cycles and of what clocks read in them, how the rounds of a plan lie in a
-//! period, and which rounds would divide it.
+//! period, which rounds would divide it, and which tables and windows so many rounds have.
 #![tactic(auto)]
 
 mod divisors;
 mod fits;
 mod laws;
+pub mod longer;
 mod repetition;
 mod sums;
 mod text;

@@ -3,12 +3,13 @@
 ghost use Rattle.ttp_model.specs.Plans.{IsValid};
 ghost use Rattle.plan_reasons.specs.Cycles.{IsCycle};
 
+use serde::Serialize;
 use std::fmt;
 use tt_layout::{Layout, cycle_rounds};
 use ttp_model::{Instance, Plan};
 
 /// The cycle of a plan; in ticks.
-#[derive(Clone, Copy)]
+#[derive(Clone, Copy, Serialize)]
 pub struct Cycle {
     /// How long a round is.
     pub round: u64,

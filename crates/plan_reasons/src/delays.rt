@@ -8,11 +8,12 @@ ghost use Rattle.plan_reasons.specs.Delays.{IsOtherDelay};
 use crate::differences::{Difference, difference_of};
 use cause_chains::last_to_end;
 use sentences::Ticks;
+use serde::Serialize;
 use std::fmt;
 use ttp_model::{Instance, Plan, delay};
 
 /// A stated delay that isn't the plan's own; in ticks.
-#[derive(Clone, Copy)]
+#[derive(Clone, Copy, Serialize)]
 pub struct OtherDelay<'a> {
     pub stated: u32,
     pub own: u64,

@@ -3,10 +3,12 @@
 ghost use Rattle.std.specs.Prelude.{◌≢◌};
 ghost use Rattle.plan_reasons.specs.Differences.{IsDifference};
 
+use serde::Serialize;
 use std::fmt;
 
 /// By how much a number is too large or too small: by 1 at least.
-#[derive(Clone, Copy)]
+#[derive(Clone, Copy, Serialize)]
+#[serde(rename_all = "snake_case")]
 pub enum Difference {
     TooMany(u64),
     TooFew(u64),

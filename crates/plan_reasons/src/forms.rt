@@ -5,11 +5,13 @@ ghost use Rattle.plan_format.specs.Channels.{has_two_channels};
 ghost use Rattle.plan_format.specs.Reading.{end_line};
 ghost use Rattle.plan_reasons.specs.Forms.{IsFormOf};
 
+use serde::Serialize;
 use std::fmt;
 use ttp_model::Instance;
 
 /// What has to stand in a line.
-#[derive(Clone, Copy)]
+#[derive(Clone, Copy, Serialize)]
+#[serde(rename_all = "snake_case")]
 pub enum Form<'a> {
     /// The format's name with this version.
     Version(u32),

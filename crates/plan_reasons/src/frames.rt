@@ -7,12 +7,13 @@ ghost use Rattle.plan_reasons.specs.Frames.{IsFrameMessage, IsOverfull, channel_
 
 use plan_facts::{load_on, messages_on};
 use sentences::{Bytes, Listed};
+use serde::Serialize;
 use std::alloc::Global;
 use std::fmt;
 use ttp_model::{Instance, MemoryFault, Plan};
 
 /// A message with its bytes.
-#[derive(Clone, Copy)]
+#[derive(Clone, Copy, Serialize)]
 pub struct FrameMessage<'a> {
     pub message: &'a str,
     pub bytes: u32,
@@ -26,7 +27,7 @@ impl<'a> fmt::Display for FrameMessage<'a> {
 }
 
 /// A frame whose messages exceed its capacity; in bytes.
-#[derive(Drop)]
+#[derive(Drop, Serialize)]
 pub struct Overfull<'a> {
     pub node: &'a str,
     pub round: u32,

@@ -11,6 +11,7 @@ use crate::orders::{TimesNamed, stranger, uneven};
 use line_text::numbered_line;
 use plan_format::LineFault;
 use sentences::Told;
+use serde::{Serialize, Serializer};
 use std::fmt;
 use ttp_model::Instance;
 
@@ -18,18 +19,21 @@ use ttp_model::Instance;
 const ORDER_LINE: u32 = 3;
 
 /// A line of a plan's text that is at fault.
-#[derive(Clone, Copy)]
+#[derive(Clone, Copy, Serialize)]
 pub struct LineReason<'a> {
     /// Its number, from 1, with the lines that stand in front of that text.
     pub line: u32,
+    #[serde(skip_serializing)]
     pub fault: LineFault,
     /// What stands there.
+    #[serde(serialize_with = "write_piece")]
     pub text: &'a [u8],
     /// What has to stand there.
     pub form: Form<'a>,
     /// How many lines there have to be, with those in front, where the text ends too early.
     pub lines: Option<u32>,
     /// The first name of an order line that is no node's, where there is one.
+    #[serde(serialize_with = "write_piece_if_any")]
     pub stranger: Option<&'a [u8]>,
     /// The first node that an order line names not once, where it names nodes alone.
     pub uneven: Option<TimesNamed<'a>>,
@@ -57,6 +61,19 @@ pub fn line_reason<'a>(
         lines: lines_of(instance, before, fault),
         stranger: stranger_of(instance, text, line, fault),
         uneven: uneven_at(instance, text, fault),
+    }
+}
+
+/// Writes a piece of the text, as it is told.
+fn write_piece<S: Serializer>(piece: &&[u8], out: &mut S) -> Result<(), S::Error> {
+    out.collect_str(&Told { bytes: *piece })
+}
+
+/// The same, where there is one.
+fn write_piece_if_any<S: Serializer>(piece: &Option<&[u8]>, out: &mut S) -> Result<(), S::Error> {
+    match piece {
+        Some(piece) => write_piece(piece, out),
+        None => out.unit(),
     }
 }
 

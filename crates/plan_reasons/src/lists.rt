@@ -7,12 +7,14 @@ ghost use Rattle.plan_reasons.specs.Lists.{IsFirstPosition, IsWrongCapacity, IsW
 
 use crate::differences::{Difference, difference_of};
 use sentences::Counted;
+use serde::{Serialize, Serializer};
 use std::fmt;
 use ttp_model::{Instance, Plan, PlanPart};
 
 /// A list that hasn't one entry for each node, process or message.
-#[derive(Clone, Copy)]
+#[derive(Clone, Copy, Serialize)]
 pub struct WrongLength {
+    #[serde(serialize_with = "write_list")]
     pub list: PlanPart,
     /// How many entries it has.
     pub entries: u64,
@@ -70,6 +72,12 @@ fn entry_words(list: PlanPart) -> (&'static str, &'static str) {
     }
 }
 
+/// Writes which list it is.
+fn write_list<S: Serializer>(list: &PlanPart, out: &mut S) -> Result<(), S::Error> {
+    let (_, many) = entry_words(*list);
+    out.str(many)
+}
+
 /// The words for one of what has an entry there and for more.
 fn owner_words(list: PlanPart) -> (&'static str, &'static str) {
     match list {
@@ -99,7 +107,8 @@ impl fmt::Display for WrongLength {
 }
 
 /// A position of the order, from 0, whose node isn't a new one.
-#[derive(Clone, Copy)]
+#[derive(Clone, Copy, Serialize)]
+#[serde(tag = "case", rename_all = "snake_case")]
 pub enum WrongPosition<'a> {
     /// When its node stands before it, there for the first time.
     Again {
@@ -186,7 +195,7 @@ impl<'a> fmt::Display for WrongPosition<'a> {
 }
 
 /// A capacity, in bytes, that its node doesn't offer.
-#[derive(Clone, Copy)]
+#[derive(Clone, Copy, Serialize)]
 pub struct WrongCapacity<'a> {
     pub node: &'a str,
     pub capacity: u32,

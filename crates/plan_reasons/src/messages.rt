@@ -9,12 +9,13 @@ ghost use Rattle.plan_reasons.specs.Messages.{IsAllowed, IsNotArrived, IsNotRead
 
 use plan_facts::{arrival, first_in_time, ready_at};
 use sentences::Ticks;
+use serde::Serialize;
 use std::fmt;
 use tt_layout::Layout;
 use ttp_model::{BOTH_CHANNELS, Instance, Plan, end_of};
 
 /// A message whose slot begins before it is copied out; in ticks.
-#[derive(Clone, Copy)]
+#[derive(Clone, Copy, Serialize)]
 pub struct NotReady<'a> {
     pub message: &'a str,
     pub sender: &'a str,
@@ -98,7 +99,7 @@ impl<'a> fmt::Display for NotReady<'a> {
 }
 
 /// A receiver that starts before a message is copied in; in ticks.
-#[derive(Clone, Copy)]
+#[derive(Clone, Copy, Serialize)]
 pub struct NotArrived<'a> {
     pub message: &'a str,
     /// The node that sends it.
@@ -159,7 +160,8 @@ impl<'a> fmt::Display for NotArrived<'a> {
 }
 
 /// The channels that a message may be on.
-#[derive(Clone, Copy)]
+#[derive(Clone, Copy, Serialize)]
+#[serde(rename_all = "snake_case")]
 pub enum AllowedChannels {
     /// The only one.
     Only,
@@ -170,7 +172,7 @@ pub enum AllowedChannels {
 }
 
 /// A message that is on another channel than it may be on.
-#[derive(Clone, Copy)]
+#[derive(Clone, Copy, Serialize)]
 pub struct WrongChannel<'a> {
     pub message: &'a str,
     pub allowed: AllowedChannels,

@@ -9,13 +9,14 @@ ghost use Rattle.plan_format.specs.Words.{words_with};
 ghost use Rattle.plan_reasons.specs.Orders.{first_stranger, first_uneven, is_stranger, seen_times, times_named, uneven_of};
 
 use line_text::cut;
+use serde::Serialize;
 use ttp_model::{Instance, Part};
 
 /// How many bytes the keyword of an order line has, with the space behind it.
 const KEYWORD: usize = 6;
 
 /// How often an order line names a node: another time than once.
-#[derive(Clone, Copy)]
+#[derive(Clone, Copy, Serialize)]
 pub struct TimesNamed<'a> {
     pub node: &'a str,
     pub times: u64,

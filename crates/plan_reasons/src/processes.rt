@@ -9,11 +9,12 @@ ghost use Rattle.plan_reasons.specs.Processes.{IsBrokenLink, IsOverlap, IsTooEar
 use cause_chains::{Limit, limit_of};
 use plan_facts::{late_by, must_end_by};
 use sentences::Ticks;
+use serde::Serialize;
 use std::fmt;
 use ttp_model::{Instance, Plan, end_of};
 
 /// A process that starts before its release; in ticks.
-#[derive(Clone, Copy)]
+#[derive(Clone, Copy, Serialize)]
 pub struct TooEarly<'a> {
     pub process: &'a str,
     pub node: &'a str,
@@ -52,7 +53,7 @@ impl<'a> fmt::Display for TooEarly<'a> {
 }
 
 /// A process that ends after its deadline or the horizon; in ticks.
-#[derive(Clone, Copy)]
+#[derive(Clone, Copy, Serialize)]
 pub struct TooLate<'a> {
     pub process: &'a str,
     pub node: &'a str,
@@ -99,7 +100,7 @@ impl<'a> fmt::Display for TooLate<'a> {
 }
 
 /// Two processes of one node that run together; in ticks.
-#[derive(Clone, Copy)]
+#[derive(Clone, Copy, Serialize)]
 pub struct Overlap<'a> {
     pub node: &'a str,
     pub process: &'a str,
@@ -152,7 +153,7 @@ impl<'a> fmt::Display for Overlap<'a> {
 }
 
 /// A link whose second process starts before its first has ended; in ticks.
-#[derive(Clone, Copy)]
+#[derive(Clone, Copy, Serialize)]
 pub struct BrokenLink<'a> {
     /// The link's index, from 0.
     pub link: u64,

@@ -12,12 +12,14 @@ use crate::messages::{NotArrived, NotReady, WrongChannel, not_arrived, not_ready
 use crate::processes::{
     BrokenLink, Overlap, TooEarly, TooLate, broken_link, overlap_of, too_early, too_late,
 };
+use serde::Serialize;
 use std::alloc::Global;
 use std::fmt;
 use ttp_model::{Instance, MemoryFault, Plan, PlanFault};
 
 /// What two things the rule compares that a plan breaks, both numbers with their names, and by how much the plan fails it.
-#[derive(Drop)]
+#[derive(Drop, Serialize)]
+#[serde(tag = "kind", rename_all = "snake_case")]
 pub enum PlanReason<'a> {
     WrongLength(WrongLength),
     WrongPosition(WrongPosition<'a>),

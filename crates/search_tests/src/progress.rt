@@ -2,7 +2,7 @@
 
 use crate::told::{FIRST, FIRST_PLAN, Told, joined};
 use planner::{FoundPlan, Gate, Name};
-use search_watching::{Follower, Patience, Patient, Progress, Reading, Summary};
+use search_watching::{Follower, Lines, Patience, Patient, Progress, Reading, Searches, Summary};
 use solve_command::{Enough, FreeGate, Options, solve_run_with};
 use std::alloc::{Alloc, AllocError, Global};
 use std::fmt::Display;
@@ -58,8 +58,8 @@ impl Clock for Screen {
 }
 
 impl Eprint for Screen {
-    fn eprint<D: Display + Drop>(&self, _value: D) -> io::Result<()> {
-        Ok(())
+    fn eprint<D: Display + Drop>(&self, value: D) -> io::Result<()> {
+        self.eprintln(value)
     }
 
     fn eprintln<D: Display + Drop>(&self, value: D) -> io::Result<()> {
@@ -72,14 +72,12 @@ impl Eprint for Screen {
     }
 }
 
-/// How many lines the search of the first example writes by a clock with this step, and how many begin so. None where its
-/// answer isn't the plan.
-fn counts(
+/// Whether the search of the first example, which this follower follows, answers its plan.
+fn has_plan(
     rt: &(impl Alloc<A = Global> + Threads + Wait + Sync),
     workers: u32,
-    step: u64,
-    front: &'static str,
-) -> Result<Option<(u64, u64)>, AllocError> {
+    follower: &(impl Follower + Sync),
+) -> Result<bool, AllocError> {
     let alloc = rt.alloc();
     let instance = joined(alloc, FIRST)?;
     let options = Options {
@@ -90,8 +88,6 @@ fn counts(
         until: None,
         gap: 0,
     };
-    let screen = Screen::new(alloc, step, front);
-    let follower = Progress::on(alloc, &screen, workers)?;
     let mut out = Vec::new(alloc);
     let end = solve_run_with(
         rt,
@@ -99,12 +95,37 @@ fn counts(
         &mut instance.as_bytes(),
         options,
         enough,
-        &follower,
+        follower,
         None::<&mut Vec<u8>>,
         &mut out,
     );
-    let told = Told::at(alloc, &end, out);
-    Ok(told.is(FIRST_PLAN, 0).then_some(screen.counts()))
+    Ok(Told::at(alloc, &end, out).is(FIRST_PLAN, 0))
+}
+
+/// Who says how far it is.
+#[derive(Clone, Copy)]
+enum By {
+    Search(Lines),
+    Question(Lines),
+}
+
+/// How many lines that search writes by a clock with this step, and how many begin so. None where its answer isn't the plan.
+fn counts(
+    rt: &(impl Alloc<A = Global> + Threads + Wait + Sync),
+    by: By,
+    workers: u32,
+    step: u64,
+    front: &'static str,
+) -> Result<Option<(u64, u64)>, AllocError> {
+    let screen = Screen::new(rt.alloc(), step, front);
+    let is_well = match by {
+        By::Search(lines) => {
+            let progress = Progress::on(rt.alloc(), &screen, lines, workers)?;
+            has_plan(rt, workers, &progress)?
+        }
+        By::Question(lines) => has_plan(rt, workers, &Searches::on(&screen, lines))?,
+    };
+    Ok(is_well.then_some(screen.counts()))
 }
 
 /// The line before the search, which knows the bound of a search that works nothing.
@@ -118,16 +139,38 @@ const SECOND: &str =
 /// How the line at the end begins, by a clock that stands still.
 const AFTER: &str = "searched for 0 ms: ";
 
-/// How many workers search, the clock's step, how a line begins, how many lines there are and how many begin so; a number that is
-/// left out isn't looked at.
-type Row = (u32, u64, &'static str, Option<u64>, Option<u64>);
+/// How the line before the search begins at a terminal.
+const OVER: &str = "\r0 s: 0 subtrees worked, ";
 
-/// A line is written before the search, then one a second, and one at the end; and the answer of many workers is the same.
+/// The line of a question's first subtree, where each look at the clock is a second later.
+const FIRST_OF_ALL: &str = "1 s: search 1, 1 subtrees worked in all, 1 a second";
+
+/// The same at a terminal.
+const FIRST_OVER: &str = "\r1 s: search 1, 1 subtrees worked in all, 1 a second\x1b[K";
+
+/// Who writes lines, how many workers search, the clock's step, how a line begins, how many lines there are and how many begin so; a
+/// number that is left out isn't looked at.
+type Row = (By, u32, u64, &'static str, Option<u64>, Option<u64>);
+
+/// A line is written before the search, then one a second, and one at the end, of a question one a second alone; at a terminal each over
+/// the one before, but for the last; and the answer of many workers is the same.
 static ROWS: &[Row] = &[
-    (1, 0, BEFORE, Some(2), Some(1)),
-    (1, 0, AFTER, Some(2), Some(1)),
-    (1, 1, SECOND, None, Some(1)),
-    (4, 1, BEFORE, None, None),
+    (By::Search(Lines::Apart), 1, 0, BEFORE, Some(2), Some(1)),
+    (By::Search(Lines::Apart), 1, 0, AFTER, Some(2), Some(1)),
+    (By::Search(Lines::Apart), 1, 1, SECOND, None, Some(1)),
+    (By::Search(Lines::Apart), 4, 1, BEFORE, None, None),
+    (By::Search(Lines::Over), 1, 0, OVER, Some(3), Some(1)),
+    (By::Search(Lines::Over), 1, 0, AFTER, Some(3), Some(1)),
+    (By::Question(Lines::Apart), 1, 0, "", Some(0), None),
+    (
+        By::Question(Lines::Apart),
+        1,
+        1,
+        FIRST_OF_ALL,
+        None,
+        Some(1),
+    ),
+    (By::Question(Lines::Over), 1, 1, FIRST_OVER, None, Some(1)),
 ];
 
 /// Whether a number is the one that is wanted, if one is.
@@ -141,9 +184,9 @@ fn is_wanted(number: u64, wanted: Option<u64>) -> bool {
 /// Whether a search has the answer and these lines.
 fn has_lines(
     rt: &(impl Alloc<A = Global> + Threads + Wait + Sync),
-    (workers, step, front, lines, found): &Row,
+    (by, workers, step, front, lines, found): &Row,
 ) -> Result<bool, AllocError> {
-    match counts(rt, *workers, *step, *front)? {
+    match counts(rt, *by, *workers, *step, *front)? {
         Some(counts) => Ok(is_wanted(counts.0, *lines) && is_wanted(counts.1, *found)),
         None => Ok(false),
     }

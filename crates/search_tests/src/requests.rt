@@ -53,7 +53,7 @@ const EMPTYING_REDUCED: &str =
 #[rattlefmt::skip]
 static ROWS: &[Row] = &[
     (&["ttplan"], Ok("VerifyBundle")),
-    (&["ttplan", "verify", "a", "b"], Ok("OnFiles { instance: \"a\", plan: \"b\", task: Verify }")),
+    (&["ttplan", "verify", "a", "b"], Ok("OnFiles { instance: \"a\", plan: \"b\", task: Verify(Text) }")),
     (&["ttplan", "tables", "a", "b"], Ok("OnFiles { instance: \"a\", plan: \"b\", task: Tables }")),
     (&["ttplan", "replay", "a", "b"], Ok("OnFiles { instance: \"a\", plan: \"b\", task: Replay([]) }")),
     (
@@ -61,6 +61,18 @@ static ROWS: &[Row] = &[
         Ok("OnFiles { instance: \"a\", plan: \"b\", task: Replay([\"0/1/*\", \"x\"]) }"),
     ),
     (&["ttplan", "schedule", "a", "b"], Ok("OnFiles { instance: \"a\", plan: \"b\", task: Schedule(Processes) }")),
+    (
+        &["ttplan", "schedule", "a", "b", "--format", "c"],
+        Ok("OnFiles { instance: \"a\", plan: \"b\", task: Export(C(None)) }"),
+    ),
+    (
+        &["ttplan", "schedule", "a", "b", "--node=N", "--format=json"],
+        Ok("OnFiles { instance: \"a\", plan: \"b\", task: Export(Json(Some(\"N\"))) }"),
+    ),
+    (
+        &["ttplan", "schedule", "a", "b", "--format", "trace"],
+        Ok("OnFiles { instance: \"a\", plan: \"b\", task: Export(Trace) }"),
+    ),
     (
         &["ttplan", "schedule", "a", "b", "--table", "slots"],
         Ok("OnFiles { instance: \"a\", plan: \"b\", task: Schedule(Slots) }"),
@@ -82,58 +94,58 @@ static ROWS: &[Row] = &[
         Ok("OnFiles { instance: \"a\", plan: \"b\", task: Draw { width: 10000, shown: All } }"),
     ),
     (&["ttplan", "check", "a", "c"], Ok("Check { instance: \"a\", certificate: \"c\" }")),
-    (&["ttplan", "judge", "a", "b", "c"], Ok("Judge { instance: \"a\", plan: \"b\", certificate: \"c\" }")),
+    (&["ttplan", "judge", "a", "b", "c"], Ok("Judge { instance: \"a\", plan: \"b\", certificate: \"c\", form: Text }")),
     (
         &["ttplan", "compare", "a", "b", "c", "d"],
-        Ok("Compare { old_instance: \"a\", old_plan: \"b\", new_instance: \"c\", new_plan: \"d\" }"),
+        Ok("Compare { old_instance: \"a\", old_plan: \"b\", new_instance: \"c\", new_plan: \"d\", form: Text }"),
     ),
-    (&["ttplan", "explain", "a"], Ok("Explain { instance: \"a\", explained: Instance }")),
-    (&["ttplan", "explain", "a", "b"], Ok("Explain { instance: \"a\", explained: Plan(\"b\") }")),
-    (&["ttplan", "explain", "a", "--cert", "c"], Ok("Explain { instance: \"a\", explained: Certificate(\"c\") }")),
-    (&["ttplan", "explain", "--cert=a", "a"], Ok("Explain { instance: \"a\", explained: Certificate(\"a\") }")),
+    (&["ttplan", "explain", "a"], Ok("Explain { instance: \"a\", explained: Instance, form: Text }")),
+    (&["ttplan", "explain", "a", "b"], Ok("Explain { instance: \"a\", explained: Plan(\"b\"), form: Text }")),
+    (&["ttplan", "explain", "a", "--cert", "c"], Ok("Explain { instance: \"a\", explained: Certificate(\"c\"), form: Text }")),
+    (&["ttplan", "explain", "--cert=a", "a"], Ok("Explain { instance: \"a\", explained: Certificate(\"a\"), form: Text }")),
     (
         &["ttplan", "solve", "a"],
-        Ok("Solve(Search { instance: \"a\", start: None, certificate: None, kept: None, workers: 4, budget: 1000000, progress: false, until: None, gap: 0, seconds: None })"),
+        Ok("Solve(Search { instance: \"a\", start: None, certificate: None, kept: None, effort: Effort { workers: 4, budget: 1000000, seconds: None, progress: false }, until: None, gap: 0 })"),
     ),
     (
         &["ttplan", "solve", "a", "--cert", "c", "--workers", "1", "--budget", "0"],
-        Ok("Solve(Search { instance: \"a\", start: None, certificate: Some(\"c\"), kept: None, workers: 1, budget: 0, progress: false, until: None, gap: 0, seconds: None })"),
+        Ok("Solve(Search { instance: \"a\", start: None, certificate: Some(\"c\"), kept: None, effort: Effort { workers: 1, budget: 0, seconds: None, progress: false }, until: None, gap: 0 })"),
     ),
     (
         &["ttplan", "solve", "a", "--workers", "16", "--budget", "18446744073709551615"],
-        Ok("Solve(Search { instance: \"a\", start: None, certificate: None, kept: None, workers: 16, budget: 18446744073709551615, progress: false, until: None, gap: 0, seconds: None })"),
+        Ok("Solve(Search { instance: \"a\", start: None, certificate: None, kept: None, effort: Effort { workers: 16, budget: 18446744073709551615, seconds: None, progress: false }, until: None, gap: 0 })"),
     ),
     (
         &["ttplan", "solve", "a", "--progress", "--cert", "b/a"],
-        Ok("Solve(Search { instance: \"a\", start: None, certificate: Some(\"b/a\"), kept: None, workers: 4, budget: 1000000, progress: true, until: None, gap: 0, seconds: None })"),
+        Ok("Solve(Search { instance: \"a\", start: None, certificate: Some(\"b/a\"), kept: None, effort: Effort { workers: 4, budget: 1000000, seconds: None, progress: true }, until: None, gap: 0 })"),
     ),
     (
         &["ttplan", "solve", "/a", "--cert", "a"],
-        Ok("Solve(Search { instance: \"/a\", start: None, certificate: Some(\"a\"), kept: None, workers: 4, budget: 1000000, progress: false, until: None, gap: 0, seconds: None })"),
+        Ok("Solve(Search { instance: \"/a\", start: None, certificate: Some(\"a\"), kept: None, effort: Effort { workers: 4, budget: 1000000, seconds: None, progress: false }, until: None, gap: 0 })"),
     ),
     (
         &["ttplan", "solve", "a", "--until", "4294967295"],
-        Ok("Solve(Search { instance: \"a\", start: None, certificate: None, kept: None, workers: 4, budget: 1000000, progress: false, until: Some(4294967295), gap: 0, seconds: None })"),
+        Ok("Solve(Search { instance: \"a\", start: None, certificate: None, kept: None, effort: Effort { workers: 4, budget: 1000000, seconds: None, progress: false }, until: Some(4294967295), gap: 0 })"),
     ),
     (
         &["ttplan", "solve", "--gap", "4294967295", "a"],
-        Ok("Solve(Search { instance: \"a\", start: None, certificate: None, kept: None, workers: 4, budget: 1000000, progress: false, until: None, gap: 4294967295, seconds: None })"),
+        Ok("Solve(Search { instance: \"a\", start: None, certificate: None, kept: None, effort: Effort { workers: 4, budget: 1000000, seconds: None, progress: false }, until: None, gap: 4294967295 })"),
     ),
     (
         &["ttplan", "solve", "a", "--seconds", "1"],
-        Ok("Solve(Search { instance: \"a\", start: None, certificate: None, kept: None, workers: 4, budget: 1000000, progress: false, until: None, gap: 0, seconds: Some(1) })"),
+        Ok("Solve(Search { instance: \"a\", start: None, certificate: None, kept: None, effort: Effort { workers: 4, budget: 1000000, seconds: Some(1), progress: false }, until: None, gap: 0 })"),
     ),
     (
         &["ttplan", "solve", "a", "--keep", "b", "--cert", "a.new"],
-        Ok("Solve(Search { instance: \"a\", start: None, certificate: Some(\"a.new\"), kept: Some(\"b\"), workers: 4, budget: 1000000, progress: false, until: None, gap: 0, seconds: None })"),
+        Ok("Solve(Search { instance: \"a\", start: None, certificate: Some(\"a.new\"), kept: Some(\"b\"), effort: Effort { workers: 4, budget: 1000000, seconds: None, progress: false }, until: None, gap: 0 })"),
     ),
     (
         &["ttplan", "solve", "a", "--start", "b"],
-        Ok("Solve(Search { instance: \"a\", start: Some(\"b\"), certificate: None, kept: None, workers: 4, budget: 1000000, progress: false, until: None, gap: 0, seconds: None })"),
+        Ok("Solve(Search { instance: \"a\", start: Some(\"b\"), certificate: None, kept: None, effort: Effort { workers: 4, budget: 1000000, seconds: None, progress: false }, until: None, gap: 0 })"),
     ),
     (
         &["ttplan", "solve", "a", "--start", "b", "--keep", "b"],
-        Ok("Solve(Search { instance: \"a\", start: Some(\"b\"), certificate: None, kept: Some(\"b\"), workers: 4, budget: 1000000, progress: false, until: None, gap: 0, seconds: None })"),
+        Ok("Solve(Search { instance: \"a\", start: Some(\"b\"), certificate: None, kept: Some(\"b\"), effort: Effort { workers: 4, budget: 1000000, seconds: None, progress: false }, until: None, gap: 0 })"),
     ),
     (&["ttplan", "--version"], Ok("Version")),
     (&["ttplan", "-V"], Ok("Version")),
@@ -144,19 +156,19 @@ static ROWS: &[Row] = &[
 static QUESTIONS: &[Row] = &[
     (
         &["ttplan", "why", "a"],
-        Ok("Why(Why { instance: \"a\", certificate: None, reduced: None, workers: 4, budget: 1000000, late: false, seconds: None })"),
+        Ok("Why(Why { instance: \"a\", certificate: None, reduced: None, effort: Effort { workers: 4, budget: 1000000, seconds: None, progress: false }, late: false, form: Text })"),
     ),
     (
         &["ttplan", "why", "--workers", "2", "a", "--reduced", "b", "--cert=c", "--budget", "7"],
-        Ok("Why(Why { instance: \"a\", certificate: Some(\"c\"), reduced: Some(\"b\"), workers: 2, budget: 7, late: false, seconds: None })"),
+        Ok("Why(Why { instance: \"a\", certificate: Some(\"c\"), reduced: Some(\"b\"), effort: Effort { workers: 2, budget: 7, seconds: None, progress: false }, late: false, form: Text })"),
     ),
     (
         &["ttplan", "why", "--late", "a"],
-        Ok("Why(Why { instance: \"a\", certificate: None, reduced: None, workers: 4, budget: 1000000, late: true, seconds: None })"),
+        Ok("Why(Why { instance: \"a\", certificate: None, reduced: None, effort: Effort { workers: 4, budget: 1000000, seconds: None, progress: false }, late: true, form: Text })"),
     ),
     (
         &["ttplan", "why", "a", "--seconds", "30"],
-        Ok("Why(Why { instance: \"a\", certificate: None, reduced: None, workers: 4, budget: 1000000, late: false, seconds: Some(30) })"),
+        Ok("Why(Why { instance: \"a\", certificate: None, reduced: None, effort: Effort { workers: 4, budget: 1000000, seconds: Some(30), progress: false }, late: false, form: Text })"),
     ),
     (&["ttplan", "why", "a", "--seconds", "0"], Err(NO_SECONDS)),
     (&["ttplan", "why", "a", "--workers", "0"], Err(NO_WORKERS)),
@@ -164,23 +176,23 @@ static QUESTIONS: &[Row] = &[
     (&["ttplan", "why", "a", "--reduced", "b", "--cert", "b"], Err(EMPTYING_REDUCED)),
     (
         &["ttplan", "limit", "a", "q"],
-        Ok("Limit(Limit { instance: \"a\", processes: [\"q\"], certificate: None, reduced: None, workers: 4, budget: 1000000, seconds: None })"),
+        Ok("Limit(Limit { instance: \"a\", processes: [\"q\"], certificate: None, reduced: None, effort: Effort { workers: 4, budget: 1000000, seconds: None, progress: false }, form: Text })"),
     ),
     (
         &["ttplan", "limit", "--workers", "2", "a", "--cert=c", "q", "a", "q", "--budget", "7"],
-        Ok("Limit(Limit { instance: \"a\", processes: [\"q\", \"a\", \"q\"], certificate: Some(\"c\"), reduced: None, workers: 2, budget: 7, seconds: None })"),
+        Ok("Limit(Limit { instance: \"a\", processes: [\"q\", \"a\", \"q\"], certificate: Some(\"c\"), reduced: None, effort: Effort { workers: 2, budget: 7, seconds: None, progress: false }, form: Text })"),
     ),
     (
         &["ttplan", "limit", "a", "q", "--cert", "q"],
-        Ok("Limit(Limit { instance: \"a\", processes: [\"q\"], certificate: Some(\"q\"), reduced: None, workers: 4, budget: 1000000, seconds: None })"),
+        Ok("Limit(Limit { instance: \"a\", processes: [\"q\"], certificate: Some(\"q\"), reduced: None, effort: Effort { workers: 4, budget: 1000000, seconds: None, progress: false }, form: Text })"),
     ),
     (
         &["ttplan", "limit", "a", "q", "--cert", "c", "--reduced", "b"],
-        Ok("Limit(Limit { instance: \"a\", processes: [\"q\"], certificate: Some(\"c\"), reduced: Some(\"b\"), workers: 4, budget: 1000000, seconds: None })"),
+        Ok("Limit(Limit { instance: \"a\", processes: [\"q\"], certificate: Some(\"c\"), reduced: Some(\"b\"), effort: Effort { workers: 4, budget: 1000000, seconds: None, progress: false }, form: Text })"),
     ),
     (
         &["ttplan", "limit", "a", "q", "--seconds", "1"],
-        Ok("Limit(Limit { instance: \"a\", processes: [\"q\"], certificate: None, reduced: None, workers: 4, budget: 1000000, seconds: Some(1) })"),
+        Ok("Limit(Limit { instance: \"a\", processes: [\"q\"], certificate: None, reduced: None, effort: Effort { workers: 4, budget: 1000000, seconds: Some(1), progress: false }, form: Text })"),
     ),
     (&["ttplan", "limit", "a", "q", "--reduced", "b", "--cert", "b"], Err(EMPTYING_REDUCED)),
     (&["ttplan", "limit", "b", "q", "--reduced", "b"], Err(EMPTYING_REDUCED)),
@@ -208,6 +220,15 @@ static REFUSED: &[Row] = &[
     (&["ttplan", "tables", "a", "b", "c"], Err("unexpected argument 'c'")),
     (&["ttplan", "schedule", "a"], Err("<PLAN>")),
     (&["ttplan", "schedule", "a", "b", "--table", "x"], Err("invalid value 'x' for '--table <TABLE>'")),
+    (&["ttplan", "schedule", "a", "b", "--format", "x"], Err("invalid value 'x' for '--format <FORMAT>'")),
+    (
+        &["ttplan", "schedule", "a", "b", "--format", "c", "--table", "slots"],
+        Err("a table is served in `--format csv` alone"),
+    ),
+    (
+        &["ttplan", "schedule", "a", "b", "--format", "trace", "--node", "N"],
+        Err("a node by itself is served in `--format c` and `--format json` alone"),
+    ),
     (&["ttplan", "draw", "a"], Err("<PLAN>")),
     (&["ttplan", "draw", "a", "b", "--width", "199"], Err(NO_WIDTH)),
     (&["ttplan", "draw", "a", "b", "--width", "10001"], Err(NO_WIDTH)),

@@ -6,9 +6,13 @@ mod folder;
 mod keeping;
 mod patience;
 mod progress;
+mod searches;
+mod ticker;
 
 pub use faults::told_as;
 pub use folder::{Folder, MOST_BESIDE, Made, name_beside};
 pub use keeping::{Keeper, Shelf, kept_end};
 pub use patience::{Patience, Patient, is_enough};
 pub use progress::{Follower, Progress, Reading, Summary};
+pub use searches::{Searches, SearchesReading};
+pub use ticker::Lines;

@@ -1,11 +1,11 @@
 //! How far is a search?
 
+use crate::ticker::{Lines, Ticker};
 use planner::{FoundPlan, FreeGate, Gate, Name, root_bound};
 use std::alloc::{AllocError, Global};
 use std::fmt;
 use std::rt::Clock;
 use std::sync::atomic::{AtomicU64, Ordering};
-use std::time::Instant;
 use ttp_model::Instance;
 
 /// Who follows a search: a gate of its workers, which hears of the instance before they begin, and that the search has ended.
@@ -118,16 +118,14 @@ impl fmt::Display for Summary {
 /// subtree writes those of seconds, and no other waits for that.
 #[derive(Drop)]
 pub struct Progress<'a, S: Clock + Eprint> {
-    screen: &'a S,
-    started: Option<Instant>,
+    ticker: Ticker<'a, S>,
     low: AtomicU64,
     /// The delay of the best plan found, in ticks; the greatest number where none is.
     best: AtomicU64,
     taken: AtomicU64,
     /// How many subtrees each worker is done with.
     shares: Vec<AtomicU64>,
-    /// The second of the last line, and what was worked by then.
-    told: AtomicU64,
+    /// What was worked by the last line.
     told_worked: AtomicU64,
     /// The milliseconds at which the first subtree was taken, and at which a worker was done with the last.
     first: AtomicU64,
@@ -145,15 +143,18 @@ fn no_shares(alloc: Global, workers: u32) -> Result<Vec<AtomicU64>, AllocError> 
 
 impl<'a, S: Clock + Eprint> Progress<'a, S> {
     /// So many workers have done nothing yet. Where the clock can't be read, the first line is the only one.
-    pub fn on(alloc: Global, screen: &'a S, workers: u32) -> Result<Self, AllocError> {
+    pub fn on(
+        alloc: Global,
+        screen: &'a S,
+        lines: Lines,
+        workers: u32,
+    ) -> Result<Self, AllocError> {
         Ok(Progress {
-            screen,
-            started: Instant::now(screen).ok(),
+            ticker: Ticker::on(screen, lines),
             low: AtomicU64::new(0),
             best: AtomicU64::new(u64::MAX),
             taken: AtomicU64::new(0),
             shares: no_shares(alloc, workers)?,
-            told: AtomicU64::new(0),
             told_worked: AtomicU64::new(0),
             first: AtomicU64::new(u64::MAX),
             last: AtomicU64::new(0),
@@ -169,17 +170,6 @@ impl<'a, S: Clock + Eprint> Progress<'a, S> {
             fewest = fewest.min(count);
         }
         (all, fewest.min(all))
-    }
-
-    /// The milliseconds that have passed; 0 where the clock can't be read.
-    fn millis(&self) -> u64 {
-        match &self.started {
-            Some(started) => match started.elapsed(self.screen) {
-                Ok(time) => time.as_millis().min(u128::from(u64::MAX)) as u64,
-                Err(_) => 0,
-            },
-            None => 0,
-        }
     }
 
     /// What the workers have done so far.
@@ -215,7 +205,7 @@ impl<'a, S: Clock + Eprint> Progress<'a, S> {
             low: self.low.load(Ordering::SeqCst),
             best: self.best(),
         };
-        let _ = self.screen.eprintln(reading);
+        self.ticker.write(reading);
     }
 }
 
@@ -226,22 +216,16 @@ impl<'a, S: Clock + Eprint> Gate for Progress<'a, S> {
 
     fn enter(&self, _worker: usize, _name: &Name) {
         if self.taken.fetch_add(1, Ordering::SeqCst) == 0 {
-            self.first.store(self.millis(), Ordering::SeqCst);
+            self.first.store(self.ticker.millis(), Ordering::SeqCst);
         }
     }
 
     fn leave(&self, worker: usize, _name: &Name) {
         let order = Ordering::SeqCst;
-        let millis = self.millis();
+        let millis = self.ticker.millis();
         self.last.fetch_max(millis, order);
-        let (seconds, last) = (millis / 1000, self.told.load(order));
-        if seconds > last
-            && self
-                .told
-                .compare_exchange(last, seconds, order, order)
-                .is_ok()
-        {
-            self.tell(seconds, seconds - last);
+        if let Some((seconds, passed)) = self.ticker.due(millis) {
+            self.tell(seconds, passed);
         }
         if let Some(share) = self.shares.get(worker) {
             share.fetch_add(1, order);
@@ -257,12 +241,12 @@ impl<'a, S: Clock + Eprint> Follower for Progress<'a, S> {
     fn begin(&self, alloc: Global, instance: &Instance) {
         let low = root_bound(alloc, instance, instance.past_horizon()).unwrap_or(0);
         self.low.store(u64::from(low), Ordering::SeqCst);
-        let seconds = self.millis() / 1000;
-        self.told.store(seconds, Ordering::SeqCst);
+        let seconds = self.ticker.begin();
         self.tell(seconds, 0);
     }
 
     fn end(&self) {
-        let _ = self.screen.eprintln(self.summary());
+        self.ticker.end();
+        self.ticker.write_line(self.summary());
     }
 }

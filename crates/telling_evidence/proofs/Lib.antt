@@ -1,6 +1,4 @@
 mod ChainLines
-mod EntryLines
-mod Joined
 mod Refused
 mod StepLines
 mod TextFaults

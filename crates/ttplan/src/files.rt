@@ -1,8 +1,10 @@
 //! Which files has a command that searches, and is one that it writes another one of them?
 
 use crate::hints::{Said, told};
+use crate::judging::refused;
 use command_line::{Asks, Limit, Search, Why, refuse, written_over};
 use command_streams::{End, Fault, Sink, Source};
+use json_commands::CommandLines;
 use std::fs::{self, File, OpenOptions};
 use std::io;
 use std::os::unix::fs::{FileTypeExt, MetadataExt};
@@ -70,8 +72,8 @@ pub enum FileFault<'a> {
 }
 
 impl FileFault<'_> {
-    /// Says it on standard error, and gives the status.
-    pub fn tell(&self, rt: &HostRuntime, said: &Said) -> u8 {
+    /// Says it on standard error, and by an object where a command answers by one, and gives the status.
+    pub fn tell(&self, rt: &HostRuntime, said: &Said, as_json: Option<&CommandLines>) -> u8 {
         let fault = match self {
             FileFault::Unread(source) => Fault::Unread(*source),
             FileFault::Unwritten(sink) => Fault::Unwritten(*sink),
@@ -81,7 +83,7 @@ impl FileFault<'_> {
             }
             FileFault::Memory => Fault::Memory,
         };
-        told(rt, &End::Refused(fault), said)
+        told(rt, &refused(rt, as_json, End::Refused(fault)), said)
     }
 }
 

@@ -2,12 +2,12 @@
 
 use command_line::{EXPLAINED_CERT, USED};
 use command_streams::{End, Fault, Source, read_instance, report, status, status_of_fault};
+use instance_reasons::nearest;
 use line_text::Told;
 use std::alloc::Global;
 use std::fmt;
 use std::fs::{self, File};
 use std::io::{self, IsTerminal, Write};
-use text_faults::nearest;
 use ttp_model::Instance;
 
 /// The status of a command to which memory was refused, whatever text it was for.
@@ -212,6 +212,11 @@ fn write_hint(out: &mut impl Write, said: &Said, fault: &Fault) -> io::Result<()
             out,
             "a picture of each slot of the cycle would show {slots} of them, more than 100000; {USED} leaves out those that carry nothing"
         ),
+        Fault::LongSchedule(slots) => writeln!(
+            out,
+            "this text would tell {slots} slots, more than 100000; of one node's loads it tells fewer"
+        ),
+        Fault::NoSuchNode => writeln!(out, "no node has this name"),
         Fault::ShortPeriod(rounds) => writeln!(
             out,
             "the plan's cycle has {} rounds, and the period holds {} whole ones",

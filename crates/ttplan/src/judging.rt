@@ -3,12 +3,17 @@
 ghost use Rattle.command_line.specs.Requests.{IsSoundRounds, IsSoundTask};
 
 use crate::hints::{Said, told};
-use command_line::{Explained, RoundsTask, Task};
+use command_line::{AnswerForm, Explained, RoundsTask, Task};
 use command_streams::{End, Fault, Release, Source};
-use explain_command::{explain_certificate, explain_instance, explain_plan};
+use json_commands::{
+    COMPARE, CommandLines, EXPLAIN, JUDGE, Reasons, VERIFY, compare_json, explain_certificate,
+    explain_certificate_json, explain_instance, explain_instance_json, explain_plan,
+    explain_plan_json, judge_json, tell, verify_json,
+};
 use period_command::{period_run, tables_run};
 use plan_commands::{
-    check_run, compare_run, draw_run, judge_run, replay_run, schedule_run, tables, verify,
+    check_run, compare_run, draw_run, export_run, judge_run, replay_run, schedule_run, tables,
+    verify,
 };
 use std::fs::File;
 use std::marker::Sync;
@@ -30,17 +35,56 @@ fn open_both(
     Ok((instance, second))
 }
 
+/// The command where it answers by an object.
+pub fn as_json(form: AnswerForm, command: &'static CommandLines) -> Option<&'static CommandLines> {
+    match form {
+        AnswerForm::Text => None,
+        AnswerForm::Json => Some(command),
+    }
+}
+
+/// Ends a command that is refused before it reads. An object tells so too, where it answers by one.
+pub fn refused(rt: &HostRuntime, as_json: Option<&CommandLines>, end: End) -> End {
+    match as_json {
+        None => end,
+        Some(command) => {
+            let nothing = Reasons::unasked();
+            tell(rt.alloc(), command, end, &[], &nothing, &mut rt.stdout())
+        }
+    }
+}
+
+/// Ends a command of which a file can't be opened.
+fn unopened(rt: &HostRuntime, as_json: Option<&CommandLines>, source: Source) -> End {
+    refused(rt, as_json, End::Refused(Fault::Unread(source)))
+}
+
+/// The form of a task's answer.
+fn form_of(task: &Task) -> AnswerForm {
+    match task {
+        Task::Verify(form) => *form,
+        Task::Tables | Task::Replay(_) | Task::Schedule(_) | Task::Export(_) | Task::Draw { .. } =>
+            AnswerForm::Text,
+    }
+}
+
 /// Does what is asked for on two files.
 fn run_on_files(rt: &HostRuntime, instance: &str, plan: &str, task: &Task) -> End
     requires { IsSoundTask task.now }
 {
     let (mut instance, mut plan) = match open_both(rt, instance, plan, Source::Plan) {
         Ok(files) => files,
-        Err(source) => return End::Refused(Fault::Unread(source)),
+        Err(source) => return unopened(rt, as_json(form_of(task), &VERIFY), source),
     };
     let mut out = rt.stdout();
     match task {
-        Task::Verify => verify(rt.alloc(), &mut instance, &mut plan, &mut out),
+        Task::Verify(AnswerForm::Text) => verify(rt.alloc(), &mut instance, &mut plan, &mut out),
+        Task::Verify(AnswerForm::Json) => verify_json(
+            rt.alloc(),
+            &mut instance,
+            &mut plan,
+            &mut out,
+        ),
         Task::Tables => tables(rt.alloc(), &mut instance, &mut plan, &mut out),
         Task::Replay(losses) => replay_run(
             rt.alloc(),
@@ -51,6 +95,9 @@ fn run_on_files(rt: &HostRuntime, instance: &str, plan: &str, task: &Task) -> En
         ),
         Task::Schedule(table) => {
             schedule_run(rt.alloc(), &mut instance, &mut plan, *table, &mut out)
+        }
+        Task::Export(export) => {
+            export_run(rt.alloc(), &mut instance, &mut plan, *export, &mut out)
         }
         Task::Draw { width, shown } => draw_run(
             rt.alloc(),
@@ -67,7 +114,8 @@ fn run_on_files(rt: &HostRuntime, instance: &str, plan: &str, task: &Task) -> En
 fn words_of<'t, 'n>(task: &'t Task<'n>) -> &'t [&'n str] {
     match task {
         Task::Replay(losses) => losses.as_slice(),
-        Task::Verify | Task::Tables | Task::Schedule(_) | Task::Draw { .. } => &[],
+        Task::Verify(_) | Task::Tables | Task::Schedule(_) | Task::Export(_) | Task::Draw { .. } =>
+            &[],
     }
 }
 
@@ -146,22 +194,21 @@ fn run_judge(
     instance: &str,
     plan: &str,
     certificate: &str,
+    form: AnswerForm,
 ) -> End {
     let (mut instance, mut plan) = match open_both(rt, instance, plan, Source::Plan) {
         Ok(files) => files,
-        Err(source) => return End::Refused(Fault::Unread(source)),
+        Err(source) => return unopened(rt, as_json(form, &JUDGE), source),
     };
     let Ok(mut certificate) = File::open(rt, certificate) else {
-        return End::Refused(Fault::Unread(Source::Certificate));
+        return unopened(rt, as_json(form, &JUDGE), Source::Certificate);
     };
-    judge_run(
-        threads,
-        rt.alloc(),
-        &mut instance,
-        &mut plan,
-        &mut certificate,
-        &mut rt.stdout(),
-    )
+    let (alloc, mut out) = (rt.alloc(), rt.stdout());
+    let (instance, plan, certificate) = (&mut instance, &mut plan, &mut certificate);
+    match form {
+        AnswerForm::Text => judge_run(threads, alloc, instance, plan, certificate, &mut out),
+        AnswerForm::Json => judge_json(threads, alloc, instance, plan, certificate, &mut out),
+    }
 }
 
 /// Judges a plan by a certificate, says why that was refused, and gives the status.
@@ -171,13 +218,72 @@ pub fn judge<'n>(
     instance: &'n str,
     plan: &'n str,
     certificate: &'n str,
+    form: AnswerForm,
 ) -> u8 {
-    let end = run_judge(rt, threads, instance, plan, certificate);
+    let end = run_judge(rt, threads, instance, plan, certificate, form);
     told(
         rt,
         &end,
         &Said::files(instance, Some(plan), Some(certificate)),
     )
+}
+
+/// Explains an instance.
+fn run_explain_instance(rt: &HostRuntime, instance: &str, form: AnswerForm) -> End {
+    let Ok(mut instance) = File::open(rt, instance) else {
+        return unopened(rt, as_json(form, &EXPLAIN), Source::Instance);
+    };
+    let (alloc, mut out) = (rt.alloc(), rt.stdout());
+    match form {
+        AnswerForm::Text => explain_instance(
+            alloc,
+            &mut instance,
+            &mut Reasons::unasked(),
+            &mut out,
+        ),
+        AnswerForm::Json => explain_instance_json(alloc, &mut instance, &mut out),
+    }
+}
+
+/// Explains a plan.
+fn run_explain_plan(rt: &HostRuntime, instance: &str, plan: &str, form: AnswerForm) -> End {
+    let (mut instance, mut plan) = match open_both(rt, instance, plan, Source::Plan) {
+        Ok(files) => files,
+        Err(source) => return unopened(rt, as_json(form, &EXPLAIN), source),
+    };
+    let (alloc, mut out) = (rt.alloc(), rt.stdout());
+    let (instance, plan) = (&mut instance, &mut plan);
+    match form {
+        AnswerForm::Text => explain_plan(alloc, instance, plan, &mut Reasons::unasked(), &mut out),
+        AnswerForm::Json => explain_plan_json(alloc, instance, plan, &mut out),
+    }
+}
+
+/// Explains a certificate.
+fn run_explain_certificate(
+    rt: &HostRuntime,
+    threads: &(impl Threads + Sync),
+    instance: &str,
+    certificate: &str,
+    form: AnswerForm,
+) -> End {
+    let files = open_both(rt, instance, certificate, Source::Certificate);
+    let (mut instance, mut certificate) = match files {
+        Ok(files) => files,
+        Err(source) => return unopened(rt, as_json(form, &EXPLAIN), source),
+    };
+    let (alloc, mut out) = (rt.alloc(), rt.stdout());
+    let (instance, certificate) = (&mut instance, &mut certificate);
+    match form {
+        AnswerForm::Text => explain_certificate(threads, alloc, instance, certificate, &mut out),
+        AnswerForm::Json => explain_certificate_json(
+            threads,
+            alloc,
+            instance,
+            certificate,
+            &mut out,
+        ),
+    }
 }
 
 /// Explains an instance, or a plan or a certificate for it.
@@ -186,29 +292,13 @@ fn run_explain(
     threads: &(impl Threads + Sync),
     instance: &str,
     explained: Explained,
+    form: AnswerForm,
 ) -> End {
     match explained {
-        Explained::Instance => match File::open(rt, instance) {
-            Ok(mut instance) => explain_instance(rt.alloc(), &mut instance, &mut rt.stdout()),
-            Err(_) => End::Refused(Fault::Unread(Source::Instance)),
-        },
-        Explained::Plan(plan) => match open_both(rt, instance, plan, Source::Plan) {
-            Ok((mut instance, mut plan)) => {
-                explain_plan(rt.alloc(), &mut instance, &mut plan, &mut rt.stdout())
-            }
-            Err(source) => End::Refused(Fault::Unread(source)),
-        },
+        Explained::Instance => run_explain_instance(rt, instance, form),
+        Explained::Plan(plan) => run_explain_plan(rt, instance, plan, form),
         Explained::Certificate(certificate) => {
-            match open_both(rt, instance, certificate, Source::Certificate) {
-                Ok((mut instance, mut certificate)) => explain_certificate(
-                    threads,
-                    rt.alloc(),
-                    &mut instance,
-                    &mut certificate,
-                    &mut rt.stdout(),
-                ),
-                Err(source) => End::Refused(Fault::Unread(source)),
-            }
+            run_explain_certificate(rt, threads, instance, certificate, form)
         }
     }
 }
@@ -219,38 +309,53 @@ pub fn explain<'n>(
     threads: &(impl Threads + Sync),
     instance: &'n str,
     explained: Explained<'n>,
+    form: AnswerForm,
 ) -> u8 {
     let said = match explained {
         Explained::Instance => Said::files(instance, None, None),
         Explained::Plan(plan) => Said::files(instance, Some(plan), None),
         Explained::Certificate(certificate) => Said::files(instance, None, Some(certificate)),
     };
-    told(rt, &run_explain(rt, threads, instance, explained), &said)
-}
-
-/// Compares two instances, each with a plan of it.
-fn run_compare(rt: &HostRuntime, old: (&str, &str), new: (&str, &str)) -> End {
-    let (mut old_instance, mut old_plan) = match open_both(rt, old.0, old.1, Source::Plan) {
-        Ok(files) => files,
-        Err(source) => return End::RefusedOf(Release::Old, Fault::Unread(source)),
-    };
-    let (mut new_instance, mut new_plan) = match open_both(rt, new.0, new.1, Source::Plan) {
-        Ok(files) => files,
-        Err(source) => return End::RefusedOf(Release::New, Fault::Unread(source)),
-    };
-    compare_run(
-        rt.alloc(),
-        &mut old_instance,
-        &mut old_plan,
-        &mut new_instance,
-        &mut new_plan,
-        &mut rt.stdout(),
+    told(
+        rt,
+        &run_explain(rt, threads, instance, explained, form),
+        &said,
     )
 }
 
+/// Compares two instances, each with a plan of it.
+fn run_compare(rt: &HostRuntime, old: (&str, &str), new: (&str, &str), form: AnswerForm) -> End {
+    let (mut old_instance, mut old_plan) = match open_both(rt, old.0, old.1, Source::Plan) {
+        Ok(files) => files,
+        Err(source) => return unopened_release(rt, form, Release::Old, source),
+    };
+    let (mut new_instance, mut new_plan) = match open_both(rt, new.0, new.1, Source::Plan) {
+        Ok(files) => files,
+        Err(source) => return unopened_release(rt, form, Release::New, source),
+    };
+    let (alloc, mut out) = (rt.alloc(), rt.stdout());
+    let (old, old_plan) = (&mut old_instance, &mut old_plan);
+    let (new, new_plan) = (&mut new_instance, &mut new_plan);
+    match form {
+        AnswerForm::Text => compare_run(alloc, old, old_plan, new, new_plan, &mut out),
+        AnswerForm::Json => compare_json(alloc, old, old_plan, new, new_plan, &mut out),
+    }
+}
+
+/// Ends a comparison of which a file of this release can't be opened.
+fn unopened_release(rt: &HostRuntime, form: AnswerForm, release: Release, source: Source) -> End {
+    let end = End::RefusedOf(release, Fault::Unread(source));
+    refused(rt, as_json(form, &COMPARE), end)
+}
+
 /// Compares two instances, each with a plan of it, says why that was refused, and gives the status.
-pub fn compare<'n>(rt: &HostRuntime, old: (&'n str, &'n str), new: (&'n str, &'n str)) -> u8 {
-    let end = run_compare(rt, old, new);
+pub fn compare<'n>(
+    rt: &HostRuntime,
+    old: (&'n str, &'n str),
+    new: (&'n str, &'n str),
+    form: AnswerForm,
+) -> u8 {
+    let end = run_compare(rt, old, new, form);
     let said = match &end {
         End::RefusedOf(Release::Old, _) => Said::files(old.0, Some(old.1), None),
         _ => Said::files(new.0, Some(new.1), None),

@@ -8,17 +8,20 @@ mod hints;
 mod judging;
 mod plan_file;
 mod searches;
+mod version;
 
 use crate::hints::{Said, told};
-use command_line::{Request, VERSION, refuse, request_in};
-use command_streams::end_with;
+use command_line::{Request, refuse, request_in};
 pub use command_streams::{End, Fault, Release, SearchFault, Sink, Source, report, status};
-pub use explain_command::{explain_certificate, explain_instance, explain_plan};
-pub use limit_command::{Beside, limit_run};
+pub use json_commands::{
+    Beside, Wanted, compare_json, explain_certificate, explain_certificate_json, explain_instance,
+    explain_instance_json, explain_plan, explain_plan_json, judge_json, limit_json, limit_run,
+    verify_json, why_json, why_run,
+};
 pub use period_command::{period_run, tables_run};
 pub use plan_commands::{
-    check_run, compare_run, draw_run, judge_run, replay_run, schedule_run, tables, verify,
-    verify_bundle,
+    check_run, compare_run, draw_run, export_run, judge_run, replay_run, schedule_run, tables,
+    verify, verify_bundle,
 };
 pub use solve_command::{Options, solve_run};
 use std::io;
@@ -26,7 +29,6 @@ use std::marker::Sync;
 use std::process::ExitCode;
 use std::sync::Wait;
 use std::thread::Threads;
-pub use why_command::{Wanted, why_run};
 
 /// Does what is asked for, says on standard error why it was refused, and gives the status. A search starts threads and waits for
 /// them, and so does the check of a certificate.
@@ -55,25 +57,25 @@ fn run(rt: &HostRuntime, threads: &(impl Threads + Wait + Sync), request: Reques
             instance,
             plan,
             certificate,
-        } => judging::judge(rt, threads, instance, plan, certificate),
+            form,
+        } => judging::judge(rt, threads, instance, plan, certificate, form),
         Request::Explain {
             instance,
             explained,
-        } => judging::explain(rt, threads, instance, explained),
+            form,
+        } => judging::explain(rt, threads, instance, explained, form),
         Request::Compare {
             old_instance,
             old_plan,
             new_instance,
             new_plan,
-        } => judging::compare(rt, (old_instance, old_plan), (new_instance, new_plan)),
+            form,
+        } => judging::compare(rt, (old_instance, old_plan), (new_instance, new_plan), form),
         Request::VerifyBundle => {
             let end = verify_bundle(rt.alloc(), &mut rt.stdin(), &mut rt.stdout());
             told(rt, &end, &Said::nothing())
         }
-        Request::Version => {
-            let end = end_with(&mut rt.stdout(), VERSION.as_bytes());
-            told(rt, &end, &Said::nothing())
-        }
+        Request::Version => told(rt, &version::version(rt), &Said::nothing()),
     }
 }
 

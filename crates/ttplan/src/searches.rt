@@ -2,18 +2,18 @@
 
 use crate::files::{FileFault, Files, Named};
 use crate::hints::{Said, hint_at_none, told};
+use crate::judging::as_json;
 use crate::plan_file::shelf_of;
-use command_line::{Limit, Search, Why};
+use command_line::{AnswerForm, Limit, Search, Why};
 use command_streams::End;
-use limit_command::{Beside, limit_run};
-use search_watching::{Follower, Keeper, Patience, Patient, Progress, kept_end};
+use json_commands::{Asking, Beside, LIMIT, WHY, Wanted, limit_json, limit_run, why_json, why_run};
+use search_watching::{Follower, Keeper, Lines, Patience, Patient, Progress, Searches, kept_end};
 use solve_command::{Enough, FreeGate, Options, solve_run_from, solve_run_with};
 use std::fs::File;
-use std::io;
+use std::io::{self, IsTerminal};
 use std::marker::Sync;
 use std::sync::Wait;
 use std::thread::Threads;
-use why_command::{Asking, Wanted, why_run};
 
 /// What is written beside an answer: to a file, or nowhere.
 #[derive(Drop)]
@@ -35,6 +35,15 @@ impl io::Write for Sheet {
     }
 }
 
+/// How lines of progress are written.
+fn lines_for(rt: &HostRuntime) -> Lines {
+    if rt.stderr().is_terminal() {
+        Lines::Over
+    } else {
+        Lines::Apart
+    }
+}
+
 /// Searches an instance. All files are open before one is read, that of the best plan so far last.
 fn run_solve<'a>(
     rt: &HostRuntime,
@@ -42,10 +51,10 @@ fn run_solve<'a>(
     search: &Search<'a>,
 ) -> Result<End, FileFault<'a>> {
     let files = Files::open(rt, &Named::of_search(search))?;
-    if !search.progress {
+    if !search.effort.progress {
         return search_keeping(rt, threads, search, files, &FreeGate);
     }
-    match Progress::on(rt.alloc(), rt, search.workers) {
+    match Progress::on(rt.alloc(), rt, lines_for(rt), search.effort.workers) {
         Ok(progress) => search_keeping(rt, threads, search, files, &progress),
         Err(_) => Err(FileFault::Memory),
     }
@@ -83,8 +92,8 @@ fn search_files(
         ..
     } = files;
     let options = Options {
-        workers: search.workers,
-        budget: search.budget,
+        workers: search.effort.workers,
+        budget: search.effort.budget,
     };
     let enough = Enough {
         until: search.until,
@@ -92,7 +101,7 @@ fn search_files(
     };
     let patience = Patience {
         until: search.until,
-        seconds: search.seconds,
+        seconds: search.effort.seconds,
     };
     let patient = Patient::beside(follower, rt, patience);
     let certificate = certificate.as_mut();
@@ -132,29 +141,49 @@ pub fn solve(rt: &HostRuntime, threads: &(impl Threads + Wait + Sync), search: &
             }
             told(rt, &end, &said)
         }
-        Err(fault) => fault.tell(rt, &said),
+        Err(fault) => fault.tell(rt, &said, None),
     }
 }
 
-/// What ends the searches of a question so many seconds after the start.
-fn patient_for(rt: &HostRuntime, seconds: Option<u64>) -> Patient<'_, HostRuntime, FreeGate> {
+/// What ends the searches of a question so many seconds after the start, and tells a follower how they go on.
+fn patient_for<'a, F: Follower>(
+    rt: &'a HostRuntime,
+    seconds: Option<u64>,
+    follower: &'a F,
+) -> Patient<'a, HostRuntime, F> {
     let patience = Patience {
         until: None,
         seconds,
     };
-    Patient::beside(&FreeGate, rt, patience)
+    Patient::beside(follower, rt, patience)
 }
 
-/// Tells why the instance of a file has no plan. All files are open before one is read.
+/// Tells why the instance of a file has no plan, and says how far it is where that is asked for.
 fn run_why<'a>(
     rt: &HostRuntime,
     threads: &(impl Threads + Wait + Sync),
     why: &Why<'a>,
 ) -> Result<End, FileFault<'a>> {
+    if !why.effort.progress {
+        return follow_why(rt, threads, why, &FreeGate);
+    }
+    let searches = Searches::on(rt, lines_for(rt));
+    let end = follow_why(rt, threads, why, &searches);
+    searches.end();
+    end
+}
+
+/// Tells it, and a follower how the searches go on. All files are open before one is read.
+fn follow_why<'a>(
+    rt: &HostRuntime,
+    threads: &(impl Threads + Wait + Sync),
+    why: &Why<'a>,
+    follower: &(impl Follower + Sync),
+) -> Result<End, FileFault<'a>> {
     let mut files = Files::open(rt, &Named::of_why(why))?;
     let options = Options {
-        workers: why.workers,
-        budget: why.budget,
+        workers: why.effort.workers,
+        budget: why.effort.budget,
     };
     let wanted = Wanted {
         certificate: why.certificate.is_some(),
@@ -164,17 +193,30 @@ fn run_why<'a>(
     let asking = Asking {
         alloc: rt.alloc(),
         options,
-        gate: &patient_for(rt, why.seconds),
+        gate: &patient_for(rt, why.effort.seconds, follower),
     };
-    Ok(why_run(
-        threads,
-        &asking,
-        &mut files.instance,
-        wanted,
-        &mut Sheet(files.certificate),
-        &mut Sheet(files.reduced),
-        &mut rt.stdout(),
-    ))
+    let (instance, mut out) = (&mut files.instance, rt.stdout());
+    let (certificate, reduced) = (&mut Sheet(files.certificate), &mut Sheet(files.reduced));
+    Ok(match why.form {
+        AnswerForm::Text => why_run(
+            threads,
+            &asking,
+            instance,
+            wanted,
+            certificate,
+            reduced,
+            &mut out,
+        ),
+        AnswerForm::Json => why_json(
+            threads,
+            &asking,
+            instance,
+            wanted,
+            certificate,
+            reduced,
+            &mut out,
+        ),
+    })
 }
 
 /// Tells why there is no plan, says why that was refused, and gives the status.
@@ -182,20 +224,36 @@ pub fn why(rt: &HostRuntime, threads: &(impl Threads + Wait + Sync), why: &Why) 
     let said = Said::files(why.instance, None, None);
     match run_why(rt, threads, why) {
         Ok(end) => told(rt, &end, &said),
-        Err(fault) => fault.tell(rt, &said),
+        Err(fault) => fault.tell(rt, &said, as_json(why.form, &WHY)),
     }
 }
 
-/// Tells how early processes of the instance of a file can end. All files are open before the instance is read.
+/// Tells how early processes of the instance of a file can end, and says how far it is where that is asked for.
 fn run_limit<'a>(
     rt: &HostRuntime,
     threads: &(impl Threads + Wait + Sync),
     limit: &Limit<'a>,
 ) -> Result<End, FileFault<'a>> {
+    if !limit.effort.progress {
+        return follow_limit(rt, threads, limit, &FreeGate);
+    }
+    let searches = Searches::on(rt, lines_for(rt));
+    let end = follow_limit(rt, threads, limit, &searches);
+    searches.end();
+    end
+}
+
+/// Tells it, and a follower how the searches go on. All files are open before the instance is read.
+fn follow_limit<'a>(
+    rt: &HostRuntime,
+    threads: &(impl Threads + Wait + Sync),
+    limit: &Limit<'a>,
+    follower: &(impl Follower + Sync),
+) -> Result<End, FileFault<'a>> {
     let mut files = Files::open(rt, &Named::of_limit(limit))?;
     let options = Options {
-        workers: limit.workers,
-        budget: limit.budget,
+        workers: limit.effort.workers,
+        budget: limit.effort.budget,
     };
     let beside = Beside {
         certificate: limit.certificate.is_some(),
@@ -204,18 +262,33 @@ fn run_limit<'a>(
     let asking = Asking {
         alloc: rt.alloc(),
         options,
-        gate: &patient_for(rt, limit.seconds),
+        gate: &patient_for(rt, limit.effort.seconds, follower),
     };
-    Ok(limit_run(
-        threads,
-        &asking,
-        &mut files.instance,
-        limit.processes.as_slice(),
-        beside,
-        &mut Sheet(files.certificate),
-        &mut Sheet(files.reduced),
-        &mut rt.stdout(),
-    ))
+    let words = limit.processes.as_slice();
+    let (instance, mut out) = (&mut files.instance, rt.stdout());
+    let (certificate, reduced) = (&mut Sheet(files.certificate), &mut Sheet(files.reduced));
+    Ok(match limit.form {
+        AnswerForm::Text => limit_run(
+            threads,
+            &asking,
+            instance,
+            words,
+            beside,
+            certificate,
+            reduced,
+            &mut out,
+        ),
+        AnswerForm::Json => limit_json(
+            threads,
+            &asking,
+            instance,
+            words,
+            beside,
+            certificate,
+            reduced,
+            &mut out,
+        ),
+    })
 }
 
 /// Tells how early processes can end, says why that was refused, and gives the status.
@@ -223,6 +296,6 @@ pub fn limit(rt: &HostRuntime, threads: &(impl Threads + Wait + Sync), limit: &L
     let said = Said::files(limit.instance, None, None);
     match run_limit(rt, threads, limit) {
         Ok(end) => told(rt, &end, &said.with_words(limit.processes.as_slice())),
-        Err(fault) => fault.tell(rt, &said),
+        Err(fault) => fault.tell(rt, &said, as_json(limit.form, &LIMIT)),
     }
 }

@@ -1,0 +1,13 @@
+pub mod Failing
+pub mod FirstFaults
+pub mod Heights
+pub mod Judged
+pub mod FirstLacking
+pub mod LineCounts
+pub mod Named
+pub mod Reached
+pub mod Refusals
+pub mod SlotTimes
+pub mod StepCounts
+pub mod Telling
+pub mod Tops

@@ -1,0 +1,66 @@
+//! What does a certificate say, and what is wrong with one? The answer is a value, whose numbers are the model's and whose names are the
+//! instance's; `Display` tells it in sentences.
+#![tactic(auto)]
+
+mod absent;
+mod branches;
+mod certs;
+mod closers;
+mod conclusions;
+mod depth;
+mod dominance;
+mod ends;
+mod laws;
+mod leaves;
+mod lines;
+mod load_lacks;
+mod loads;
+mod move_lacks;
+mod names;
+mod nodes;
+mod order_lacks;
+mod orders;
+mod places;
+mod premises;
+mod proof;
+mod refused;
+mod rings;
+mod rounds;
+mod rules;
+mod sizes;
+mod slots;
+mod starts;
+mod steps;
+mod sums;
+mod texts;
+mod time_lacks;
+mod times;
+mod whole;
+
+pub use absent::{Absent, NoPart};
+pub use branches::{ChildCount, NotOpen};
+pub use certs::{CertReason, GreatLow, NoProof, cert_reason};
+pub use closers::CloserReason;
+pub use conclusions::Conclusion;
+pub use dominance::DominanceReason;
+pub use ends::LatestEnd;
+pub use laws::lines_name_their_steps;
+pub use leaves::{LeafReason, MOST_STEPS, leaf_reason};
+pub use lines::CertLine;
+pub use load_lacks::LoadLack;
+pub use loads::LoadReason;
+pub use move_lacks::MoveLack;
+pub use nodes::{LowGoal, NodeReason};
+pub use order_lacks::OrderLack;
+pub use orders::OrderReason;
+pub use places::LinePlace;
+pub use premises::Lacking;
+pub use proof::{ProofReason, proof_reason};
+pub use refused::{Refusal, RefusedStep};
+pub use rounds::RoundReason;
+pub use rules::Rule;
+pub use sizes::TreeSize;
+pub use starts::{EarliestStart, UnderWay};
+pub use steps::{StepReason, ToldStep, told_step};
+pub use texts::{TextReason, text_reason};
+pub use time_lacks::TimeLack;

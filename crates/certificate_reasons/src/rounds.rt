@@ -1,0 +1,81 @@
+//! Why is a message sent in some round or later, or before one?
+
+ghost use Rattle.std.specs.Prelude.{◌<◌, length};
+ghost use Rattle.certificate_reasons.specs.Rounds.{IsArriveRound, IsSendRound};
+
+use crate::times::least_ready;
+use std::fmt;
+use tt_infer::Facts;
+
+/// Why a message is sent in some round or later, or before one; in ticks.
+#[derive(Clone, Copy)]
+pub enum RoundReason<'a> {
+    /// It is copied out at this tick or later.
+    Send {
+        message: &'a str,
+        ready: u64,
+        node: &'a str,
+    },
+    /// Its receiver ends at this tick or earlier.
+    Arrive {
+        receiver: &'a str,
+        wcet: u32,
+        end: u32,
+        message: &'a str,
+        copy_in: u32,
+    },
+}
+
+/// Message `m` is copied out so late.
+pub fn send_round<'a>(facts: &Facts<'a>, m: u32) -> RoundReason<'a>
+    requires { m < length facts.now.instance.messages }
+    ensures { IsSendRound facts.now.instance facts.now.known m result }
+{
+    let instance = facts.instance();
+    RoundReason::Send {
+        message: instance.message_name(m as usize),
+        ready: least_ready(facts, m),
+        node: instance.source_name(m as usize),
+    }
+}
+
+/// Receiver `q` of message `m` has to end so early.
+pub fn arrive_round<'a>(facts: &Facts<'a>, m: u32, q: u32) -> RoundReason<'a>
+    requires message { m < length facts.now.instance.messages }
+    requires process { q < length facts.now.instance.processes }
+    ensures { IsArriveRound facts.now.instance facts.now.known m q result }
+{
+    let instance = facts.instance();
+    RoundReason::Arrive {
+        receiver: instance.process_name(q as usize),
+        wcet: instance.process_at(q as usize).wcet,
+        end: facts.le(q),
+        message: instance.message_name(m as usize),
+        copy_in: instance.cluster().copy_in,
+    }
+}
+
+impl<'a> fmt::Display for RoundReason<'a> {
+    fn fmt<W: fmt::Write>(&self, f: &mut fmt::Formatter<W>) -> fmt::Result {
+        match *self {
+            RoundReason::Send {
+                message,
+                ready,
+                node,
+            } => {
+                write!(f, "{message} is copied out at {ready} or later")?;
+                write!(f, " and earlier slots of {node} begin before that")
+            }
+            RoundReason::Arrive {
+                receiver,
+                wcet,
+                end,
+                message,
+                copy_in,
+            } => {
+                write!(f, "{receiver} takes {wcet} and ends at {end} or earlier")?;
+                write!(f, ", and copying {message} in takes {copy_in}")
+            }
+        }
+    }
+}

@@ -1,0 +1,113 @@
+//! Why does a text spell no certificate?
+
+ghost use Rattle.certificate_reasons.specs.Texts.{IsTextReason};
+
+use crate::lines::{CertLine, cert_line};
+use crate::places::{LinePlace, awaited_at};
+use certificate::{LineFault, MOST_BRANCHES_ABOVE};
+use std::fmt;
+
+/// The line of a text that is at fault, and what has to stand there.
+#[derive(Clone, Copy)]
+pub struct TextReason<'a> {
+    pub line: CertLine<'a>,
+    pub fault: LineFault,
+    /// What has to stand there.
+    pub place: LinePlace,
+}
+
+/// Why a text spells no certificate, by the line and the fault that reading it answered. A pass over the text.
+pub fn text_reason(certificate: &[u8], line: u64, fault: LineFault) -> TextReason<'_>
+    ensures { IsTextReason certificate.now line fault result }
+{
+    TextReason {
+        line: cert_line(certificate, line),
+        fault,
+        place: awaited_at(certificate, line),
+    }
+}
+
+/// Writes the forms of a node's line.
+fn write_node_forms<W: fmt::Write>(f: &mut fmt::Formatter<W>) -> fmt::Result {
+    writeln!(f, "It has to be a node:")?;
+    write!(
+        f,
+        "  place CHILDREN, cap NODE CHILDREN, pair PROCESS PROCESS"
+    )?;
+    writeln!(f, ", round MESSAGE ROUND, leaf GOAL STEPS,")?;
+    writeln!(f, "  or below ttcert 2 chan MESSAGE 3")
+}
+
+/// Writes the forms of a step's line.
+fn write_step_forms<W: fmt::Write>(f: &mut fmt::Formatter<W>) -> fmt::Result {
+    writeln!(f, "It has to be a step:")?;
+    write!(
+        f,
+        "  es-release PROCESS, es-link LINK, es-before PROCESS PROCESS"
+    )?;
+    writeln!(
+        f,
+        ", es-arrive MESSAGE PROCESS, es-message MESSAGE PROCESS, us-settled PROCESS,"
+    )?;
+    write!(
+        f,
+        "  le-own PROCESS, le-link LINK, le-before PROCESS PROCESS"
+    )?;
+    writeln!(f, ", le-message MESSAGE PROCESS, le-send MESSAGE,")?;
+    write!(f, "  lo-send MESSAGE, hi-arrive MESSAGE PROCESS")?;
+    writeln!(f, ", ord-window PROCESS PROCESS, ord-twin PROCESS PROCESS,")?;
+    write!(
+        f,
+        "  x-window PROCESS, x-round MESSAGE, x-cycle PROCESS PROCESS .."
+    )?;
+    writeln!(f, ", x-late MESSAGE ROUND, x-silent NODE NODE,")?;
+    writeln!(
+        f,
+        "  x-load NODE FROM UNTIL, x-frame MESSAGE, x-frames NODE FROM UNTIL,"
+    )?;
+    writeln!(
+        f,
+        "  or below ttcert 2 x-channel CHANNEL NODE FROM UNTIL, x-mirror MESSAGE"
+    )
+}
+
+/// Writes what has to stand there.
+fn write_form<W: fmt::Write>(f: &mut fmt::Formatter<W>, place: LinePlace) -> fmt::Result {
+    match place {
+        LinePlace::First => writeln!(f, "It has to be: ttcert 1, or ttcert 2"),
+        LinePlace::Low => writeln!(f, "It has to be: low TICKS"),
+        LinePlace::Node => write_node_forms(f),
+        LinePlace::Step => write_step_forms(f),
+    }
+}
+
+impl<'a> fmt::Display for TextReason<'a> {
+    fn fmt<W: fmt::Write>(&self, f: &mut fmt::Formatter<W>) -> fmt::Result {
+        let (line, place) = (self.line, self.place);
+        write!(f, "{line}")?;
+        match self.fault {
+            LineFault::FirstLine | LineFault::Form => {
+                writeln!(f, "  {}", self.fault)?;
+                write_form(f, place)
+            }
+            LineFault::Number => {
+                writeln!(f, "A number of it is larger than 4294967295.")?;
+                write_form(f, place)
+            }
+            LineFault::Depth => {
+                writeln!(
+                    f,
+                    "More than {MOST_BRANCHES_ABOVE} branches stand above it."
+                )
+            }
+            LineFault::EarlyEnd => {
+                writeln!(f, "The text ends there, before the line's end.")?;
+                write_form(f, place)
+            }
+            LineFault::Trailing => {
+                write!(f, "The certificate ends before it")?;
+                writeln!(f, ", and nothing may stand behind that.")
+            }
+        }
+    }
+}

@@ -1,6 +1,0 @@
-use Rattle.std.proofs.Common.{◌≡◌, take}
-use Rattle.certificate_words.specs.Counts.{told_steps}
-use Rattle.certificate_words.proofs.counts.steps_in.Given as goal
-
-abbrev pub invariant-loop-node : goal.invariant-loop-node
-invariant-loop-node l = l.count ≡ told_steps (take l.node-index l.nodes)

@@ -1,9 +1,0 @@
-use Rattle.std.proofs.Common.{◌≡◌, drop, reverse, take}
-use Rattle.certificate_words.specs.Heights.{highest}
-use Rattle.certificate_words.proofs.depth.take_highest.Given as goal
-
-abbrev pub invariant-loop-k : goal.invariant-loop-k
-invariant-loop-k l = record {
-  greatest : l.greatest ≡ highest (take l._k (reverse l.initial.heights.items));
-  rest : reverse l.heights.items ≡ drop l._k (reverse l.initial.heights.items);
-}

@@ -1,5 +1,0 @@
-use Rattle.command_evidence.proofs.PartedBundles.{lacks_line}
-use Rattle.command_evidence.proofs.bundles.instance_is_unread_only_before_the_mark.Goals as goal
-
-pub returns : goal.returns
-returns g c = lacks_line _ _ _ c.verify_bundle.ensures.unread

@@ -1,5 +1,0 @@
-use Rattle.command_evidence.proofs.PartedBundles.{split_at_line}
-use Rattle.command_evidence.proofs.bundles.mark_is_a_line.Goals as goal
-
-pub returns : goal.returns
-returns g c = split_at_line _ _ _ _ c.verify_bundle.ensures.verdict

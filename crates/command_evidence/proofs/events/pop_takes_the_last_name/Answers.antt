@@ -1,5 +1,0 @@
-use Rattle.command_evidence.proofs.WorkersAfter.{takes_last}
-use Rattle.command_evidence.proofs.events.pop_takes_the_last_name.Goals as goal
-
-pub returns : goal.returns
-returns c = takes_last _ _ _ _ c.step.ensures

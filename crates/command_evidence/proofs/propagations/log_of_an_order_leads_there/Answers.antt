@@ -1,5 +1,0 @@
-use Rattle.command_evidence.proofs.Decided.{led_there}
-use Rattle.command_evidence.proofs.propagations.log_of_an_order_leads_there.Goals as goal
-
-pub returns : goal.returns
-returns c = led_there c.args.propagator.now _ _ c.in_ok-decide.ensures.ok c.log-log.ensures.is

@@ -1,5 +1,0 @@
-use Rattle.command_evidence.proofs.BoundsAndTraces.{its_bound}
-use Rattle.command_evidence.proofs.tellings.bound_told_is_the_certificates.Goals as goal
-
-pub returns : goal.returns
-returns g c = its_bound _ _ _ _ _ c.check_run.ensures.answer

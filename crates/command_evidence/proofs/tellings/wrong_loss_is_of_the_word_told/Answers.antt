@@ -1,5 +1,0 @@
-use Rattle.command_evidence.proofs.BoundsAndTraces.{wrong}
-use Rattle.command_evidence.proofs.tellings.wrong_loss_is_of_the_word_told.Goals as goal
-
-pub returns : goal.returns
-returns g c = wrong _ _ _ _ _ _ c.replay_run.ensures.answer

@@ -1,5 +1,0 @@
-use Rattle.command_evidence.proofs.PlansTold.{behind_instance}
-use Rattle.command_evidence.proofs.verdicts.plan_is_unread_only_behind_an_instance.Goals as goal
-
-pub returns : goal.returns
-returns g c = behind_instance _ _ _ _ _ c.verify.ensures.verdict

@@ -1,8 +1,0 @@
-pub mod Events
-pub mod Channels
-pub mod Verdicts
-pub mod Bundles
-pub mod Tellings
-pub mod Answers
-pub mod Words
-pub mod Judgements

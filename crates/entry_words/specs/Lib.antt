@@ -1,9 +1,0 @@
-pub mod Stated
-pub mod Places
-pub mod Spots
-pub mod Lists
-pub mod Numbers
-pub mod Capacities
-pub mod Names
-pub mod Ranges
-pub mod Times

@@ -1,0 +1,15 @@
+pub mod Answers
+pub mod Parts
+pub mod NodeTables
+pub mod Pictures
+pub mod Schedules
+pub mod Membership
+pub mod Edges
+pub mod Events
+pub mod Channels
+pub mod Verdicts
+pub mod Bundles
+pub mod Tellings
+pub mod SearchAnswers
+pub mod Words
+pub mod Judgements

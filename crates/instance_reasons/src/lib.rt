@@ -1,0 +1,47 @@
+//! Why is an instance refused, or its text? The reason is a value, whose numbers are the model's or the text's own and whose names
+//! stand there; `Display` tells it in sentences.
+#![tactic(auto)]
+
+mod capacities;
+mod circles;
+mod counts;
+mod described;
+mod grammar;
+mod joins;
+mod keys;
+mod known;
+mod laws;
+mod malformed;
+mod near;
+mod parts;
+mod ranges;
+mod reason;
+mod rules;
+mod shared;
+mod spots;
+mod tables;
+mod texts;
+mod times;
+mod values;
+mod written;
+
+pub use capacities::{CapacityFault, WrongCapacities};
+pub use circles::{Circle, CircleStep, Join};
+pub use counts::{NoReceiver, WrongCount};
+pub use described::{LargeMessage, Sizes, sizes_of};
+pub use grammar::NotToml;
+pub use joins::{BothOfOne, ReceiverThere, ReceiverTwice, WrongLink};
+pub use laws::{
+    large_messages_leave_no_plan, near_names_are_there, odd_keys_are_unknown,
+    odd_names_are_unknown, what_is_wanted_is_read,
+};
+pub use malformed::{MalformedName, NameFault};
+pub use near::{NearName, nearest};
+pub use ranges::{Outside, OutsideRange};
+pub use reason::{InstanceReason, ReadAgain, reason_of, reread};
+pub use rules::{NoSuchIndex, RuleReason, rule_reason};
+pub use shared::SharedName;
+pub use spots::Spot;
+pub use texts::{MissingKey, OddKey, OddName, TextReason, UnfitNumber, WrongKind, text_reason};
+pub use times::{NoTime, ShortLead, ShortTrail};
+pub use values::{Found, Kind, Shape};

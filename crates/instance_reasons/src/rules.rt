@@ -1,0 +1,124 @@
+//! Why does an instance break a rule of the model?
+
+ghost use Rattle.std.specs.Prelude.{◌≡◌, ◌≢◌, IfOk};
+ghost use Rattle.ttp_model.specs.Refusals.{IsRefusal};
+ghost use Rattle.ttp_model.specs.declared.error.ModelError.TheVariants as model;
+ghost use Rattle.instance_text.specs.Views.{instance_of};
+ghost use Rattle.instance_reasons.specs.Rules.{IsNoSuchIndex, IsRuleReason};
+
+use crate::capacities::{WrongCapacities, wrong_capacities};
+use crate::circles::{Circle, circle_of};
+use crate::counts::{NoReceiver, WrongCount, no_receiver, wrong_count};
+use crate::joins::{
+    BothOfOne, ReceiverThere, ReceiverTwice, WrongLink, both_of_one, receiver_there,
+    receiver_twice, wrong_link,
+};
+use crate::malformed::{MalformedName, malformed_name};
+use crate::ranges::{OutsideRange, outside_range};
+use crate::shared::{SharedName, shared_name};
+use crate::spots::{Spot, spot_at};
+use crate::times::{NoTime, ShortLead, ShortTrail, no_time, short_lead, short_trail};
+use crate::written::write_spot;
+use instance_text::Parts;
+use serde::Serialize;
+use std::alloc::{AllocError, Global};
+use std::fmt;
+use ttp_model::{ModelError, Place};
+
+/// What names an index that isn't there, as no text can.
+#[derive(Clone, Copy, Serialize)]
+pub struct NoSuchIndex<'a> {
+    #[serde(serialize_with = "write_spot")]
+    pub spot: Spot<'a>,
+}
+
+/// Why a place is refused that names an index.
+fn no_such_index(parts: &Parts, place: Place) -> NoSuchIndex<'_>
+    ensures { IsNoSuchIndex (instance_of parts.now) place result }
+{
+    NoSuchIndex {
+        spot: spot_at(parts, place),
+    }
+}
+
+impl<'a> fmt::Display for NoSuchIndex<'a> {
+    fn fmt<W: fmt::Write>(&self, f: &mut fmt::Formatter<W>) -> fmt::Result {
+        let spot = self.spot;
+        writeln!(f, "In {spot}: what it names isn't there.")
+    }
+}
+
+/// What two things the rule compares that an instance breaks, with their names, and by how much it fails it.
+#[derive(Drop, Serialize)]
+#[serde(tag = "kind", rename_all = "snake_case")]
+pub enum RuleReason<'a> {
+    WrongCount(WrongCount),
+    NoReceiver(NoReceiver<'a>),
+    MalformedName(MalformedName<'a>),
+    SharedName(SharedName<'a>),
+    NoSuchIndex(NoSuchIndex<'a>),
+    OutsideRange(OutsideRange<'a>),
+    WrongCapacities(WrongCapacities<'a>),
+    ReceiverThere(ReceiverThere<'a>),
+    ShortLead(ShortLead),
+    ShortTrail(ShortTrail),
+    NoTime(NoTime<'a>),
+    WrongLink(WrongLink<'a>),
+    ReceiverTwice(ReceiverTwice<'a>),
+    Circle(Circle<'a>),
+    BothOfOne(BothOfOne<'a>),
+}
+
+/// Why parts are refused that break this rule first. Takes memory for a name that may stand, and for a circle.
+pub fn rule_reason<'a>(
+    alloc: Global,
+    parts: &'a Parts,
+    error: &ModelError,
+) -> Result<RuleReason<'a>, AllocError>
+    requires refusal { IsRefusal (instance_of parts.now) error.now }
+    requires other { error.now ≢ model.OutOfMemory }
+    ensures { IfOk result (IsRuleReason (instance_of parts.now) error.now) }
+{
+    Ok(match error {
+        ModelError::Length(list) => RuleReason::WrongCount(wrong_count(parts, *list)),
+        ModelError::NoReceiver(m) => RuleReason::NoReceiver(no_receiver(parts, *m)),
+        ModelError::NameForm(at) => RuleReason::MalformedName(malformed_name(alloc, parts, *at)?),
+        ModelError::NameRepeated(at) => RuleReason::SharedName(shared_name(parts, *at)),
+        ModelError::NoSuchIndex(at) => RuleReason::NoSuchIndex(no_such_index(parts, *at)),
+        ModelError::OutOfRange(at) => RuleReason::OutsideRange(outside_range(parts, *at)),
+        ModelError::Capacities(n) => RuleReason::WrongCapacities(wrong_capacities(parts, *n)),
+        ModelError::ReceiverOnSender(m) => RuleReason::ReceiverThere(receiver_there(parts, *m)),
+        ModelError::ShortLead => RuleReason::ShortLead(short_lead(parts)),
+        ModelError::ShortTrail => RuleReason::ShortTrail(short_trail(parts)),
+        ModelError::Deadline(p) => RuleReason::NoTime(no_time(parts, *p)),
+        ModelError::LinkAcross(l) => RuleReason::WrongLink(wrong_link(parts, *l)),
+        ModelError::ReceiverTwice(m) => RuleReason::ReceiverTwice(receiver_twice(parts, *m)),
+        ModelError::Cycle(processes) => {
+            RuleReason::Circle(circle_of(alloc, parts, processes.as_slice())?)
+        }
+        ModelError::BothOfOne(m) => RuleReason::BothOfOne(both_of_one(parts, *m)),
+        ModelError::OutOfMemory => unreachable!(),
+    })
+}
+
+impl<'a> fmt::Display for RuleReason<'a> {
+    fn fmt<W: fmt::Write>(&self, f: &mut fmt::Formatter<W>) -> fmt::Result {
+        match self {
+            RuleReason::WrongCount(reason) => write!(f, "{reason}"),
+            RuleReason::NoReceiver(reason) => write!(f, "{reason}"),
+            RuleReason::MalformedName(reason) => write!(f, "{reason}"),
+            RuleReason::SharedName(reason) => write!(f, "{reason}"),
+            RuleReason::NoSuchIndex(reason) => write!(f, "{reason}"),
+            RuleReason::OutsideRange(reason) => write!(f, "{reason}"),
+            RuleReason::WrongCapacities(reason) => write!(f, "{reason}"),
+            RuleReason::ReceiverThere(reason) => write!(f, "{reason}"),
+            RuleReason::ShortLead(reason) => write!(f, "{reason}"),
+            RuleReason::ShortTrail(reason) => write!(f, "{reason}"),
+            RuleReason::NoTime(reason) => write!(f, "{reason}"),
+            RuleReason::WrongLink(reason) => write!(f, "{reason}"),
+            RuleReason::ReceiverTwice(reason) => write!(f, "{reason}"),
+            RuleReason::Circle(reason) => write!(f, "{reason}"),
+            RuleReason::BothOfOne(reason) => write!(f, "{reason}"),
+        }
+    }
+}

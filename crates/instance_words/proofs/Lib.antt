@@ -1,3 +1,0 @@
-pub mod Growing
-mod Large
-mod AsStated

@@ -1,5 +1,0 @@
-use Rattle.instance_words.proofs.Large.{none_valid}
-use Rattle.instance_words.proofs.laws.large_messages_leave_no_plan.Goals as goal
-
-pub returns : goal.returns
-returns c = none_valid

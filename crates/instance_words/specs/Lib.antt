@@ -1,5 +1,0 @@
-pub mod Joins
-pub mod Circles
-pub mod Refusals
-pub mod Explained
-pub mod Described

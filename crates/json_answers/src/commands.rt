@@ -1,0 +1,239 @@
+//! Which lines does each command write, and what are their words called?
+
+use crate::rows::LineRow;
+
+/// A command, with the lines of its text.
+#[derive(Clone, Copy)]
+pub struct CommandLines {
+    pub name: &'static str,
+    /// What stands in front of its first line.
+    pub head: &'static str,
+    /// What its first line may be; where it has none all lines are items.
+    pub answers: &'static [LineRow],
+    /// What its other lines are, each of which is an item of a list.
+    pub items: &'static [LineRow],
+    /// What this list is called.
+    pub list: &'static str,
+    /// Of a line behind these.
+    pub late: &'static [LineRow],
+    /// The word that stands for nothing, in the place of a number or a name.
+    pub nothing: &'static str,
+}
+
+/// `verify`: one line.
+pub const VERIFY: CommandLines = CommandLines {
+    name: "verify",
+    head: "",
+    answers: &[LineRow {
+        begins: "valid",
+        keys: &["delay"],
+    }],
+    items: &[],
+    list: "",
+    late: &[],
+    nothing: "-",
+};
+
+/// `judge`: one line.
+pub const JUDGE: CommandLines = CommandLines {
+    name: "judge",
+    head: "",
+    answers: &[
+        LineRow {
+            begins: "least",
+            keys: &["delay"],
+        },
+        LineRow {
+            begins: "none",
+            keys: &[],
+        },
+        LineRow {
+            begins: "between",
+            keys: &["low", "best"],
+        },
+    ],
+    items: &[],
+    list: "",
+    late: &[],
+    nothing: "none",
+};
+
+/// `explain`: a line, and sentences behind it.
+pub const EXPLAIN: CommandLines = CommandLines {
+    name: "explain",
+    head: "",
+    answers: &[
+        LineRow {
+            begins: "valid",
+            keys: &["delay"],
+        },
+        LineRow {
+            begins: "bound",
+            keys: &["low"],
+        },
+        LineRow {
+            begins: "instance",
+            keys: &["nodes", "_", "processes", "_", "links", "_", "messages"],
+        },
+    ],
+    items: &[],
+    list: "",
+    late: &[],
+    nothing: "-",
+};
+
+/// `limit`: a line, and a plan behind it.
+pub const LIMIT: CommandLines = CommandLines {
+    name: "limit",
+    head: "",
+    answers: &[
+        LineRow {
+            begins: "limit",
+            keys: &["end"],
+        },
+        LineRow {
+            begins: "between",
+            keys: &["low", "high"],
+        },
+        LineRow {
+            begins: "none",
+            keys: &[],
+        },
+    ],
+    items: &[],
+    list: "",
+    late: &[],
+    nothing: "none",
+};
+
+/// `why`: what was found, and the constraints of a set that leaves no plan.
+pub const WHY: CommandLines = CommandLines {
+    name: "why",
+    head: "ttwhy 1\n",
+    answers: &[
+        LineRow {
+            begins: "plan",
+            keys: &["delay"],
+        },
+        LineRow {
+            begins: "none",
+            keys: &[],
+        },
+        LineRow {
+            begins: "unknown",
+            keys: &[],
+        },
+    ],
+    items: &[
+        LineRow {
+            begins: "need horizon",
+            keys: &["ticks"],
+        },
+        LineRow {
+            begins: "need deadline",
+            keys: &["process", "ticks"],
+        },
+        LineRow {
+            begins: "need release",
+            keys: &["process", "ticks"],
+        },
+        LineRow {
+            begins: "need link",
+            keys: &["before", "after"],
+        },
+        LineRow {
+            begins: "need message",
+            keys: &["message"],
+        },
+        LineRow {
+            begins: "need both",
+            keys: &["message"],
+        },
+        LineRow {
+            begins: "maybe horizon",
+            keys: &["ticks"],
+        },
+        LineRow {
+            begins: "maybe deadline",
+            keys: &["process", "ticks"],
+        },
+        LineRow {
+            begins: "maybe release",
+            keys: &["process", "ticks"],
+        },
+        LineRow {
+            begins: "maybe link",
+            keys: &["before", "after"],
+        },
+        LineRow {
+            begins: "maybe message",
+            keys: &["message"],
+        },
+        LineRow {
+            begins: "maybe both",
+            keys: &["message"],
+        },
+    ],
+    list: "set",
+    late: &[LineRow {
+        begins: "late",
+        keys: &["low", "high"],
+    }],
+    nothing: "-",
+};
+
+/// `compare`: a line for each node, and one for each difference.
+pub const COMPARE: CommandLines = CommandLines {
+    name: "compare",
+    head: "",
+    answers: &[],
+    items: &[
+        LineRow {
+            begins: "same",
+            keys: &["node"],
+        },
+        LineRow {
+            begins: "changed",
+            keys: &["node"],
+        },
+        LineRow {
+            begins: "new",
+            keys: &["node"],
+        },
+        LineRow {
+            begins: "gone",
+            keys: &["node"],
+        },
+        LineRow {
+            begins: "order",
+            keys: &[],
+        },
+        LineRow {
+            begins: "node",
+            keys: &["process", "old", "new"],
+        },
+        LineRow {
+            begins: "wcet",
+            keys: &["process", "old", "new"],
+        },
+        LineRow {
+            begins: "cap",
+            keys: &["node", "old", "new"],
+        },
+        LineRow {
+            begins: "start",
+            keys: &["process", "old", "new"],
+        },
+        LineRow {
+            begins: "round",
+            keys: &["message", "old", "new"],
+        },
+        LineRow {
+            begins: "chan",
+            keys: &["message", "old", "new"],
+        },
+    ],
+    list: "differences",
+    late: &[],
+    nothing: "-",
+};

@@ -1,5 +1,0 @@
-use Rattle.limit_command.proofs.Telling.{judged_of_bytes}
-use Rattle.limit_command.proofs.limits.limited_of_reader.Goals as goal
-
-pub returns-clause-judged : goal.returns-clause-judged
-returns-clause-judged g c = judged_of_bytes _ _ _ _ c.in_ok-instance.instance _ c.in_ok-instance.ensures.judged c.limited_of.ensures

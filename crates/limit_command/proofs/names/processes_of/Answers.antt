@@ -1,9 +1,0 @@
-use Rattle.std.proofs.Common.{arith}
-use Rattle.limit_command.specs.Names.{texts_of}
-use Rattle.limit_command.proofs.Naming.{count_is, first_wrong}
-use Rattle.limit_command.proofs.names.processes_of.Goals as goal
-
-pub returns-in-None : goal.returns-in-None
-returns-in-None c =
-    first_wrong c.args.instance.now (texts_of c.args.words.now) c.loop-k.processes.items c.loop-k.k
-    (omega (arith, c.loop-k-test.true, count_is c.args.words.now)) c.loop-k.invariant.each c.loop-k.invariant.once c.in-None.ensures

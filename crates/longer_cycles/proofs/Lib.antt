@@ -1,2 +1,0 @@
-pub mod BehindCycle
-pub mod LaterWindows

@@ -1,8 +1,0 @@
-use Rattle.medl_tables.specs.Text.{row_line}
-use Rattle.longer_cycles.specs.Rounds.{empty_row}
-use Rattle.longer_cycles.proofs.BehindCycle.{line_grows}
-use Rattle.longer_cycles.proofs.tables.push_round.Goals as goal
-
-pub loop-k-preserved : goal.loop-k-preserved
-loop-k-preserved c =
-    line_grows _ _ _ (row_line c.args.instance.now) (empty_row c.args.plan.now c.args.round) c.loop-k.k c.loop-k.invariant c.in_ok-push_row.ensures

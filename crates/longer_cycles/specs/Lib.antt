@@ -1,2 +1,0 @@
-pub mod Rounds
-pub use Rattle.plan_cycles.specs.Cycles

@@ -1,5 +1,0 @@
-use Rattle.model_evidence.proofs.Intervals.{too_short}
-use Rattle.model_evidence.proofs.loads.interval_that_is_too_short.Goals as goal
-
-pub returns : goal.returns
-returns c = λ a b there span load. too_short c.args.facts.now c.args.node a b _ c.node_load.ensures.answer there span load

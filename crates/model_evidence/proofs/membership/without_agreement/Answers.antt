@@ -1,5 +1,0 @@
-use Rattle.model_evidence.proofs.Lost.{none_delivered}
-use Rattle.model_evidence.proofs.membership.without_agreement.Goals as goal
-
-pub returns : goal.returns
-returns c = λ slot i m inside differ. none_delivered m i c.args.medl.now c.args.losses.now _ slot c.replay.ensures.ok inside differ

@@ -1,7 +1,0 @@
-use Rattle.model_evidence.proofs.Drawn.{slot-drawn}
-use Rattle.model_evidence.proofs.pictures.picture_with_empty_slots.Goals as goal
-
-pub returns : goal.returns
-returns c =
-    λ r k channel round inside there none. rw c.in_ok-text.ensures
-    (slot-drawn c.args.instance.now c.args.plan.now c.args.width r k channel round inside there none)

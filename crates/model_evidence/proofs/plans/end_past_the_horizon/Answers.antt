@@ -1,7 +1,0 @@
-use Rattle.std.proofs.Common.{arith}
-use Rattle.model_evidence.proofs.Judged.{refused}
-use Rattle.model_evidence.proofs.plans.end_past_the_horizon.Goals as goal
-
-pub returns : goal.returns
-returns c =
-    λ here past. refused c.args.instance.now c.args.plan.now _ c.check.ensures.ok (λ valid. absurd (omega (arith, past, (valid.in_time c.args.p here).1)))

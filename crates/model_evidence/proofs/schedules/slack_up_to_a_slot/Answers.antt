@@ -1,9 +1,0 @@
-use Rattle.std.proofs.Common.{◌<◌, length, ap, arith}
-use Rattle.model_evidence.proofs.Allowed.{to-slot}
-use Rattle.model_evidence.proofs.schedules.slack_up_to_a_slot.Goals as goal
-
-pub returns : goal.returns
-returns c =
-    let i = c.args.instance.now in
-    let inside : c.args.p < length i.processes = omega (arith, c.if-p-processes.false, ap length c.processes.ensures.value) in
-    λ m lt sends. rw c.slack_of.ensures (to-slot i c.args.plan.now c.in-Ok.ensures.ok c.args.p inside m lt sends)

@@ -1,5 +1,0 @@
-use Rattle.model_evidence.proofs.Earliest.{no_clash}
-use Rattle.model_evidence.proofs.starts.plan_of_choice_with_plans.Goals as goal
-
-pub returns : goal.returns
-returns c = λ plan valid inside. no_clash _ _ _ plan c.in_ok-earliest.ensures valid inside

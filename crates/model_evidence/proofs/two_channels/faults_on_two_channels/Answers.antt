@@ -1,5 +1,0 @@
-use Rattle.model_evidence.proofs.TwoChannels.{together, doubled, unknown, not_alone, on_both}
-use Rattle.model_evidence.proofs.two_channels.faults_on_two_channels.Goals as goal
-
-pub returns : goal.returns
-returns c = record { first = together; second = doubled; unknown = unknown; alone = not_alone; both = on_both }

@@ -1,9 +1,0 @@
-use Rattle.model_evidence.proofs.TwoChannels.{one_on_each}
-use Rattle.model_evidence.proofs.TwoMessages.{is_instance}
-use Rattle.model_evidence.proofs.two_channels.frames_on_two_channels.Goals as goal
-
-pub returns-clause-instance : goal.returns-clause-instance
-returns-clause-instance c = is_instance
-
-pub returns-clause-valid : goal.returns-clause-valid
-returns-clause-valid c = one_on_each

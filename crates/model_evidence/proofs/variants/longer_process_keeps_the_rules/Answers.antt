@@ -1,5 +1,0 @@
-use Rattle.model_evidence.proofs.LongerProcess.{longer_keeps_rules}
-use Rattle.model_evidence.proofs.variants.longer_process_keeps_the_rules.Goals as goal
-
-pub returns : goal.returns
-returns c = longer_keeps_rules

@@ -1,0 +1,3 @@
+pub mod Told
+mod Naming
+mod Telling

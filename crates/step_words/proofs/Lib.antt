@@ -1,4 +1,0 @@
-pub mod Telling
-pub mod There
-pub mod SlotTimes
-pub mod Listing

@@ -1,8 +1,0 @@
-use Rattle.std.proofs.Common.{◌≡◌}
-use Rattle.toml.specs.View.{table_view}
-use Rattle.text_faults.specs.Unknown.{first_unknown}
-use Rattle.text_faults.proofs.Filling.{first_among}
-use Rattle.text_faults.proofs.keys.first_unknown.Given as goal
-
-abbrev pub invariant-loop-text : goal.invariant-loop-text
-invariant-loop-text l = first_unknown l.keys (table_view l.table) ≡ first_among l.keys l.text-iterator

@@ -1,6 +1,0 @@
-use Rattle.std.proofs.Common.{map}
-use Rattle.instance_text.proofs.IndexLaws.{HasFrom}
-use Rattle.text_faults.proofs.names.Known.of.Given as goal
-
-abbrev pub invariant-loop-index : goal.invariant-loop-index
-invariant-loop-index l = HasFrom l.places l.index (map (λ s. s.now) l.names)

@@ -1,7 +1,0 @@
-use Rattle.std.proofs.Common.{◌≡◌, drop, map}
-use Rattle.toml.specs.View.{view}
-use Rattle.text_faults.specs.Values.{first_unfit}
-use Rattle.text_faults.proofs.values.first_unfit.Given as goal
-
-abbrev pub invariant-loop-item : goal.invariant-loop-item
-invariant-loop-item l = first_unfit (map view l.items) ≡ first_unfit (map view (drop l.item-index l.items))
