@@ -1,11 +1,13 @@
 """What the scripts share that build a program: where it goes, what it stands on, and how they say what they do."""
 
+import hashlib
 import pathlib
 import shutil
 import sys
 
 ROOT = pathlib.Path(__file__).resolve().parent.parent
 BUILD = ROOT / "build"
+STAMP_BYTES = 128  # behind a program that was proved, as crates/ttplan/src/version.rt reads them
 
 
 def say(text):
@@ -37,3 +39,14 @@ def crates_of(program):
             wanted.add(name)
             more += below[name]
     return {line.split(":")[0]: line for line in lines if line.split(":")[0] in wanted}
+
+
+def sum_of_sources():
+    """A sum of all that the program is compiled of but the toolchain."""
+    told = hashlib.sha256()
+    for name, line in crates_of("ttplan").items():
+        told.update(f"{line}\n".encode())
+        for file in sorted((ROOT / "crates" / name / "src").rglob("*.rt")):
+            text = file.read_bytes()
+            told.update(f"{file.relative_to(ROOT)} {len(text)}\n".encode() + text)
+    return told.hexdigest()[:16]
