@@ -147,7 +147,12 @@ fn seconds(from: Instant, to: Instant) -> f64 {
     to.saturating_duration_since(from).as_secs_f64()
 }
 
-#[cfg(good_plan_takes_workers)]
+#[cfg(good_plan_takes_enough)]
+fn good(instance: &Instance) -> Option<(Plan, u64)> {
+    good_plan::good_plan(&Runtime, Global, instance, 1, 0).unwrap()
+}
+
+#[cfg(all(good_plan_takes_workers, not(good_plan_takes_enough)))]
 fn good(instance: &Instance) -> Option<(Plan, u64)> {
     good_plan::good_plan(&Runtime, Global, instance, 1).unwrap()
 }

@@ -32,6 +32,7 @@ def flags_of(files):
     return [
         *FLAGS,
         *(["--cfg", "good_plan_takes_workers"] if "workers" in head else []),
+        *(["--cfg", "good_plan_takes_enough"] if "enough" in head else []),
         *(["--cfg", "clusters_have_channels"] if "pub channels: u32" in parts else []),
     ]
 

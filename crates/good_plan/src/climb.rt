@@ -19,6 +19,8 @@ pub struct Pace {
     pub heat: u64,
     /// Whether messages may be made to wait.
     pub holds: bool,
+    /// A delay in ticks that is short enough: the climb ends with a schedule of no more in which nothing is late.
+    pub enough: u64,
 }
 
 /// The best draft that a climb has come to.
@@ -34,6 +36,11 @@ impl Summit {
     /// What is to be least: what is late, and then the delay.
     pub fn rank(&self) -> (u64, u64) {
         (self.lateness, self.delay)
+    }
+
+    /// Whether nothing is late in its schedule, which takes at most so many ticks.
+    pub fn is_enough(&self, enough: u64) -> bool {
+        self.lateness == 0 && self.delay <= enough
     }
 
     pub fn into_draft(self) -> Draft {
@@ -79,12 +86,15 @@ impl Climb {
 
     /// Tries changes of the draft, and keeps those that don't make its schedule much longer, with
     /// less and less leeway: threshold accepting (Dueck and Scheuer, Journal of Computational
-    /// Physics 1990).
+    /// Physics 1990). It ends before where its best schedule is short enough.
     pub fn run(&mut self, network: &Network, pace: Pace) {
         self.make(network, u64::MAX);
         self.stay();
         let most = self.timetable.delay.saturating_mul(pace.heat) / 1000;
         for left in (0..pace.turns).rev() {
+            if self.best.is_enough(pace.enough) {
+                break;
+            }
             let leeway = (most.saturating_mul(left) / pace.turns.max(1)).saturating_add(1);
             self.step(network, leeway, pace.holds);
         }

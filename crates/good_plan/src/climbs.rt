@@ -44,56 +44,77 @@ const PARTS_OF_LARGE: u64 = 10_000_000;
 /// them.
 const SEED: u64 = 11_000;
 
+/// What is asked of climbs.
+#[derive(Clone, Copy)]
+pub struct Asked {
+    /// In how many threads they go at most.
+    pub workers: u32,
+    /// A delay in ticks that is short enough: none is looked for that is shorter.
+    pub enough: u64,
+}
+
 /// The plan of the best schedule of all climbs, which isn't valid where something is late.
 pub fn best_plan<R: Threads + Sync>(
     rt: &R,
     alloc: Global,
     instance: &Instance,
-    workers: u32,
+    asked: Asked,
 ) -> Result<Plan, AllocError> {
     let mut shelf = Shelf::of(alloc, NETWORK_TABLES + DRAFT_TABLES)?;
     let network = Network::new(&mut shelf, instance);
     let first = Draft::new(&mut shelf, &network);
-    let best = best_draft(rt, alloc, workers, &network, first)?;
+    let best = best_draft(rt, alloc, asked, &network, first)?;
     plan_of(alloc, &network, &best)
 }
 
-/// The draft that the last party comes to.
+/// The draft that the last party comes to, or the first one whose schedule is short enough.
 fn best_draft<R: Threads + Sync>(
     rt: &R,
     alloc: Global,
-    workers: u32,
+    asked: Asked,
     network: &Network,
     first: Draft,
 ) -> Result<Draft, AllocError> {
-    let mut best = summit(rt, alloc, workers, network, &first, 0..FIRST)?;
+    let mut best = summit(rt, alloc, asked, network, &first, 0..FIRST)?;
     for party in 0..PARTIES {
+        if best.is_enough(asked.enough) {
+            break;
+        }
         let number = FIRST + party * PARTY;
-        best = summit(rt, alloc, workers, network, &best, number..number + PARTY)?;
+        best = summit(
+            rt,
+            alloc,
+            asked,
+            network,
+            &best.draft,
+            number..number + PARTY,
+        )?;
     }
-    Ok(best)
+    Ok(best.into_draft())
 }
 
-/// The draft of the best summit that climbs come to, of equal ones that of the first. They go side by side in as many pieces as there
+/// The best summit that climbs come to, of equal ones that of the first. They go side by side in as many pieces as there
 /// are workers at most, each piece in turn. Workers change nothing of it, since a climb rests on its number and on where it sets
 /// out. A fault of memory where one of the climbs had no lists, which counts as the best.
 fn summit<R: Threads + Sync>(
     rt: &R,
     alloc: Global,
-    workers: u32,
+    asked: Asked,
     network: &Network,
     best: &Draft,
     numbers: Range<u64>,
-) -> Result<Draft, AllocError> {
-    let least = least_piece(&numbers, workers);
+) -> Result<Summit, AllocError> {
+    let least = least_piece(&numbers, asked.workers);
     let summit = numbers
         .into_par_iter()
         .with_min_len(least)
-        .map(|number: u64| -> Option<Summit> { climbed(alloc, network, best, number) })
+        .map(|number: u64| -> Option<Summit> {
+            climbed(alloc, network, best, number, asked.enough)
+        })
         .min_by_key(rt, |summit: &Option<Summit>| -> (u64, u64) { rank(summit) })
         .flatten();
     match summit {
-        Some(summit) => Ok(summit.into_draft()),
+        Some(summit) => Ok(summit),
         None => Err(AllocError),
     }
 }
@@ -113,14 +134,20 @@ fn rank(summit: &Option<Summit>) -> (u64, u64) {
 }
 
 /// The summit of the climb with this number; none where there is no memory for its lists.
-fn climbed(alloc: Global, network: &Network, best: &Draft, number: u64) -> Option<Summit> {
+fn climbed(
+    alloc: Global,
+    network: &Network,
+    best: &Draft,
+    number: u64,
+    enough: u64,
+) -> Option<Summit> {
     let Ok(mut shelf) = Shelf::of(alloc, CLIMB_TABLES + DRAFT_TABLES) else {
         return None;
     };
     let mut chance = Chance::new(SEED.saturating_add(number));
     let draft = beginning(&mut shelf, network, best, number, &mut chance);
     let mut climb = Climb::new(&mut shelf, network, draft, chance);
-    climb.run(network, pace(network.instance, number));
+    climb.run(network, pace(network.instance, number, enough));
     Some(climb.into_summit())
 }
 
@@ -146,11 +173,12 @@ fn beginning(
 }
 
 /// How a climb goes. Messages may wait in every second one, and in those that set out from the best schedule.
-fn pace(instance: &Instance, number: u64) -> Pace {
+fn pace(instance: &Instance, number: u64, enough: u64) -> Pace {
     Pace {
         turns: turns(instance),
         heat: heat(number),
         holds: number % 2 == 1 || number >= FIRST,
+        enough,
     }
 }
 

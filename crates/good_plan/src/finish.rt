@@ -4,14 +4,15 @@ ghost use Rattle.std.specs.Prelude.{◌≡◌, IfOk, IfSome};
 ghost use Rattle.ttp_model.specs.Delays.{delay};
 ghost use Rattle.ttp_model.specs.Moves.{IsSettled};
 
-use crate::climbs::best_plan;
+use crate::climbs::{Asked, best_plan};
 use std::alloc::Global;
 use std::thread::Threads;
 use tt_settle::settle;
 use ttp_model::{Instance, MemoryFault, Plan, delay};
 
 /// A settled plan with its delay in ticks, if a climb leads to one: often a good one, at times
-/// one of the shortest. Takes some tenths of a second, of a large instance some three. That none is found says nothing. Climbs go side
+/// one of the shortest. Takes some tenths of a second, of a large instance some three, and less where a schedule of at most `enough` ticks
+/// is met: a climb ends with it. That none is found says nothing. Climbs go side
 /// by side where there are several workers, which changes nothing of what is found. A fault of memory where one of the lists that all
 /// this is done in got none.
 pub fn good_plan<R: Threads + Sync>(
@@ -19,11 +20,12 @@ pub fn good_plan<R: Threads + Sync>(
     alloc: Global,
     instance: &Instance,
     workers: u32,
+    enough: u64,
 ) -> Result<Option<(Plan, u64)>, MemoryFault>
     ensures { IfOk result (λ found. IfSome found (λ f.
         IsSettled instance.now f.0 × (f.1 ≡ delay instance.now f.0))) }
 {
-    let plan = best_plan(rt, alloc, instance, workers)?;
+    let plan = best_plan(rt, alloc, instance, Asked { workers, enough })?;
     Ok(settled(alloc, instance, plan))
 }
 

@@ -34,8 +34,16 @@ impl<'a, G: Gate> Gate for FirstPlan<'a, G> {
         self.gate.leave(worker, name);
     }
 
+    fn worked(&self, worker: usize, children: u32) {
+        self.gate.worked(worker, children);
+    }
+
     fn goes_on(&self, worker: usize) -> bool {
         !self.is_found.load(Ordering::SeqCst) && self.gate.goes_on(worker)
+    }
+
+    fn enough(&self) -> u64 {
+        u64::MAX
     }
 
     fn found(&self, _instance: &Instance, _found: &FoundPlan) {

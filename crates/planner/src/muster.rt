@@ -41,12 +41,20 @@ impl<'a, G: Gate> Gate for Muster<'a, G> {
         self.gate.leave(worker, name);
     }
 
+    fn worked(&self, worker: usize, children: u32) {
+        self.gate.worked(worker, children);
+    }
+
     fn goes_on(&self, worker: usize) -> bool {
         !self.lacks_one.load(Ordering::SeqCst) && self.gate.goes_on(worker)
     }
 
     fn is_late(&self) -> bool {
         self.gate.is_late()
+    }
+
+    fn enough(&self) -> u64 {
+        self.gate.enough()
     }
 
     fn found(&self, instance: &Instance, found: &FoundPlan) {

@@ -28,7 +28,7 @@ use certificate::{Cert, Node};
 use good_plan::good_plan;
 use search_workers::{
     Aims, Course, FoundPlan, FreeGate, Gate, Manner, Options, Outcome, Piece, Search, Site,
-    SolveFault, Task, Why, aim, gather_whole,
+    SolveFault, Task, Why, aim, gather_whole, root_bound,
 };
 use std::alloc::Global;
 use std::marker::{Brand, Sync};
@@ -37,7 +37,8 @@ use std::thread::Threads;
 use tt_settle::settle;
 use ttp_model::{Instance, MemoryFault, Plan, delay};
 
-/// A plan to begin with; none is looked for with a budget of 0, in a plain search, or where who follows the search doesn't let it go on.
+/// A plan to begin with, and no shorter one than propagation leaves of the whole tree, or than is enough to who follows the search. None is
+/// looked for with a budget of 0, in a plain search, where propagation leaves none, or where who follows the search doesn't let it go on.
 fn first_plan<R: Threads + Sync, G: Gate>(
     rt: &R,
     site: &Site<'_, G>,
@@ -49,7 +50,13 @@ fn first_plan<R: Threads + Sync, G: Gate>(
     if manner == Manner::Plain || options.budget == 0 || !site.gate.goes_on(0) {
         return Ok(None);
     }
-    match good_plan(rt, site.alloc, site.instance, options.crew())? {
+    let top = site.instance.past_horizon();
+    let low = root_bound(site.alloc, site.instance, top)?;
+    if low == top {
+        return Ok(None);
+    }
+    let enough = site.gate.enough().max(u64::from(low));
+    match good_plan(rt, site.alloc, site.instance, options.crew(), enough)? {
         Some((plan, delay)) => Ok(Some(FoundPlan { plan, delay })),
         None => Ok(None),
     }
@@ -275,8 +282,8 @@ pub fn solve_towards<R: Threads + Wait + Sync, G: Gate + Sync>(
 }
 
 /// Searches for the shortest plan of an instance, as `solve` does, and calls a gate as workers go on: `start` once for each,
-/// first, and `enter` and `leave` for each task that they work. The caller's thread calls none of these. Both tell the gate of each plan that
-/// they find by `found`, and ask it by `goes_on` before they take a task. The plan that is answered is told last. Where it says no to all, no
+/// first, and `enter` and `leave` for each task that they work. The caller's thread calls none of these. Both tell the gate of each task that is
+/// worked by `worked`, and of each plan that they find by `found`, and ask it by `goes_on` before they take a task. The plan that is answered is told last. Where it says no to all, no
 /// further subtree is worked, and what is left is closed as with a spent budget. Whatever it says, the answer's bounds hold.
 pub fn solve_with<R: Threads + Wait + Sync, G: Gate + Sync>(
     rt: &R,

@@ -130,11 +130,11 @@ fn counts(
 
 /// The line before the search, which knows the bound of a search that works nothing.
 const BEFORE: &str =
-    "0 s: 0 subtrees worked, 0 or more by each worker, 0 a second, 0 in work, no plan below 9, no plan yet";
+    "0 s: 0 subtrees worked, 0 or more by each worker, 0 a second, 0 in work, 1 open, no plan below 9, no plan yet";
 
 /// The line of the second subtree, where each look at the clock is a second later: as the first is taken, and as one is left.
 const SECOND: &str =
-    "4 s: 1 subtrees worked, 1 or more by each worker, 1 a second, 1 in work, no plan below 9";
+    "4 s: 1 subtrees worked, 1 or more by each worker, 1 a second, 1 in work, 2 open, no plan below 9";
 
 /// How the line at the end begins, by a clock that stands still.
 const AFTER: &str = "searched for 0 ms: ";
@@ -143,10 +143,10 @@ const AFTER: &str = "searched for 0 ms: ";
 const OVER: &str = "\r0 s: 0 subtrees worked, ";
 
 /// The line of a question's first subtree, where each look at the clock is a second later.
-const FIRST_OF_ALL: &str = "1 s: search 1, 1 subtrees worked in all, 1 a second";
+const FIRST_OF_ALL: &str = "1 s: search 1, 1 subtrees worked in all, 1 a second, 2 open";
 
 /// The same at a terminal.
-const FIRST_OVER: &str = "\r1 s: search 1, 1 subtrees worked in all, 1 a second\x1b[K";
+const FIRST_OVER: &str = "\r1 s: search 1, 1 subtrees worked in all, 1 a second, 2 open\x1b[K";
 
 /// Who writes lines, how many workers search, the clock's step, how a line begins, how many lines there are and how many begin so; a
 /// number that is left out isn't looked at.
@@ -207,7 +207,8 @@ const READING: Reading = Reading {
     worked: 2400,
     fewest: 590,
     rate: 210,
-    open: 4,
+    held: 4,
+    open: 310,
     low: 120,
     best: Some(144),
 };
@@ -219,7 +220,7 @@ const SUMMARY: Summary = Summary {
 };
 
 const TOLD: &str =
-    "12 s: 2400 subtrees worked, 590 or more by each worker, 210 a second, 4 in work, no plan below 120, best plan 144, gap 24\nsearched for 1500 ms: 2400 subtrees worked, 590 or more by each worker, 1600 a second";
+    "12 s: 2400 subtrees worked, 590 or more by each worker, 210 a second, 4 in work, 310 open, no plan below 120, best plan 144, gap 24\nsearched for 1500 ms: 2400 subtrees worked, 590 or more by each worker, 1600 a second";
 
 #[test]
 fn a_reading_and_a_summary_say_what_their_numbers_are(rt: HostRuntime) -> Result<(), Fail> {

@@ -167,12 +167,20 @@ impl<'a, R: Wait, D: Folder, F: Follower> Gate for Keeper<'a, R, D, F> {
         self.follower.leave(worker, name);
     }
 
+    fn worked(&self, worker: usize, children: u32) {
+        self.follower.worked(worker, children);
+    }
+
     fn goes_on(&self, worker: usize) -> bool {
         self.follower.goes_on(worker)
     }
 
     fn is_late(&self) -> bool {
         self.follower.is_late()
+    }
+
+    fn enough(&self) -> u64 {
+        self.follower.enough()
     }
 
     fn found(&self, instance: &Instance, found: &FoundPlan) {

@@ -7,6 +7,7 @@ mod keeping;
 mod patience;
 mod progress;
 mod searches;
+mod subtrees;
 mod ticker;
 
 pub use faults::told_as;

@@ -109,12 +109,21 @@ impl<'a, S: Clock, F: Follower> Gate for Patient<'a, S, F> {
         self.follower.leave(worker, name);
     }
 
+    fn worked(&self, worker: usize, children: u32) {
+        self.follower.worked(worker, children);
+    }
+
     fn goes_on(&self, worker: usize) -> bool {
         self.follower.goes_on(worker) && !self.is_spent()
     }
 
     fn is_late(&self) -> bool {
         self.follower.is_late() || self.has_passed(LATE)
+    }
+
+    fn enough(&self) -> u64 {
+        let until = self.patience.until.unwrap_or(0);
+        self.follower.enough().max(u64::from(until))
     }
 
     fn found(&self, instance: &Instance, found: &FoundPlan) {

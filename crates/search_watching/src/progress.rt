@@ -1,5 +1,6 @@
 //! How far is a search?
 
+use crate::subtrees::Subtrees;
 use crate::ticker::{Lines, Ticker};
 use planner::{FoundPlan, FreeGate, Gate, Name, root_bound};
 use std::alloc::{AllocError, Global};
@@ -28,13 +29,15 @@ impl Follower for FreeGate {
 pub struct Reading {
     /// How long the program has been at work.
     pub seconds: u64,
-    /// How many subtrees the workers are done with.
+    /// How many subtrees are worked.
     pub worked: u64,
     /// How many of these the worker with the fewest has worked.
     pub fewest: u64,
     /// How many of these a second, since the last reading.
     pub rate: u64,
-    /// How many are in their hands.
+    /// How many workers have in hand.
+    pub held: u64,
+    /// How many are known and not worked yet.
     pub open: u64,
     /// No plan has a delay below so many ticks, which is known before the search.
     pub low: u64,
@@ -65,6 +68,7 @@ impl fmt::Display for Reading {
             worked,
             fewest,
             rate,
+            held,
             open,
             low,
             best,
@@ -75,7 +79,7 @@ impl fmt::Display for Reading {
         };
         write!(
             f,
-            "{seconds} s: {worked} subtrees worked, {fewest} or more by each worker, {rate} a second, {open} in work, no plan below {low}, {above}"
+            "{seconds} s: {worked} subtrees worked, {fewest} or more by each worker, {rate} a second, {held} in work, {open} open, no plan below {low}, {above}"
         )
     }
 }
@@ -114,21 +118,24 @@ impl fmt::Display for Summary {
     }
 }
 
-/// Says how far a search is: a line before it begins, then one a second, and one when it has ended. A worker that is done with a
-/// subtree writes those of seconds, and no other waits for that.
+/// Says how far a search is: a line before it begins, then one a second, and one when it has ended. Who has worked a subtree writes those of
+/// seconds, and no other waits for that.
 #[derive(Drop)]
 pub struct Progress<'a, S: Clock + Eprint> {
     ticker: Ticker<'a, S>,
     low: AtomicU64,
     /// The delay of the best plan found, in ticks; the greatest number where none is.
     best: AtomicU64,
+    subtrees: Subtrees,
+    /// How many subtrees workers took.
     taken: AtomicU64,
     /// How many subtrees each worker is done with.
     shares: Vec<AtomicU64>,
     /// What was worked by the last line.
     told_worked: AtomicU64,
-    /// The milliseconds at which the first subtree was taken, and at which a worker was done with the last.
+    /// The milliseconds at which the first subtree was taken, at which the last was worked, and at which a worker was done with the last of its own.
     first: AtomicU64,
+    now: AtomicU64,
     last: AtomicU64,
 }
 
@@ -153,16 +160,18 @@ impl<'a, S: Clock + Eprint> Progress<'a, S> {
             ticker: Ticker::on(screen, lines),
             low: AtomicU64::new(0),
             best: AtomicU64::new(u64::MAX),
+            subtrees: Subtrees::begin(),
             taken: AtomicU64::new(0),
             shares: no_shares(alloc, workers)?,
             told_worked: AtomicU64::new(0),
             first: AtomicU64::new(u64::MAX),
+            now: AtomicU64::new(0),
             last: AtomicU64::new(0),
         })
     }
 
     /// How many subtrees all workers are done with, and how many the one with the fewest.
-    fn worked(&self) -> (u64, u64) {
+    fn done(&self) -> (u64, u64) {
         let (mut all, mut fewest) = (0u64, u64::MAX);
         for share in &self.shares {
             let count = share.load(Ordering::SeqCst);
@@ -174,7 +183,7 @@ impl<'a, S: Clock + Eprint> Progress<'a, S> {
 
     /// What the workers have done so far.
     fn summary(&self) -> Summary {
-        let (worked, fewest) = self.worked();
+        let (worked, fewest) = self.done();
         let first = self.first.load(Ordering::SeqCst);
         Summary {
             millis: self.last.load(Ordering::SeqCst).saturating_sub(first),
@@ -193,7 +202,8 @@ impl<'a, S: Clock + Eprint> Progress<'a, S> {
 
     /// Writes the line of a second, so many seconds after the last one.
     fn tell(&self, seconds: u64, passed: u64) {
-        let (worked, fewest) = self.worked();
+        let (done, fewest) = self.done();
+        let worked = self.subtrees.worked();
         let newly = worked.saturating_sub(self.told_worked.swap(worked, Ordering::SeqCst));
         let taken = self.taken.load(Ordering::SeqCst);
         let reading = Reading {
@@ -201,7 +211,8 @@ impl<'a, S: Clock + Eprint> Progress<'a, S> {
             worked,
             fewest,
             rate: newly.checked_div(passed).unwrap_or(0),
-            open: taken.saturating_sub(worked),
+            held: taken.saturating_sub(done),
+            open: self.subtrees.open(),
             low: self.low.load(Ordering::SeqCst),
             best: self.best(),
         };
@@ -222,14 +233,19 @@ impl<'a, S: Clock + Eprint> Gate for Progress<'a, S> {
 
     fn leave(&self, worker: usize, _name: &Name) {
         let order = Ordering::SeqCst;
-        let millis = self.ticker.millis();
-        self.last.fetch_max(millis, order);
-        if let Some((seconds, passed)) = self.ticker.due(millis) {
-            self.tell(seconds, passed);
-        }
+        self.last.fetch_max(self.now.load(order), order);
         if let Some(share) = self.shares.get(worker) {
             share.fetch_add(1, order);
         }
+    }
+
+    fn worked(&self, _worker: usize, children: u32) {
+        let millis = self.ticker.millis();
+        self.now.fetch_max(millis, Ordering::SeqCst);
+        if let Some((seconds, passed)) = self.ticker.due(millis) {
+            self.tell(seconds, passed);
+        }
+        self.subtrees.work(children);
     }
 
     fn found(&self, _instance: &Instance, found: &FoundPlan) {

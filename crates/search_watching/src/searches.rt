@@ -1,6 +1,7 @@
 //! How far are the searches of a question?
 
 use crate::progress::Follower;
+use crate::subtrees::Subtrees;
 use crate::ticker::{Lines, Ticker};
 use planner::{FoundPlan, Gate, Name};
 use std::alloc::Global;
@@ -20,6 +21,8 @@ pub struct SearchesReading {
     pub worked: u64,
     /// How many of these a second, since the last reading.
     pub rate: u64,
+    /// How many of the last search are known and not worked yet.
+    pub open: u64,
 }
 
 impl fmt::Display for SearchesReading {
@@ -29,20 +32,23 @@ impl fmt::Display for SearchesReading {
             searches,
             worked,
             rate,
+            open,
         } = self;
         write!(
             f,
-            "{seconds} s: search {searches}, {worked} subtrees worked in all, {rate} a second"
+            "{seconds} s: search {searches}, {worked} subtrees worked in all, {rate} a second, {open} open"
         )
     }
 }
 
-/// Says how far the searches of a question are: a line a second, which a worker that is done with a subtree writes.
+/// Says how far the searches of a question are: a line a second, which who has worked a subtree writes.
 #[derive(Drop)]
 pub struct Searches<'a, S: Clock + Eprint> {
     ticker: Ticker<'a, S>,
     searches: AtomicU64,
     worked: AtomicU64,
+    /// Those of the last search.
+    subtrees: Subtrees,
     /// What was worked by the last line.
     told_worked: AtomicU64,
 }
@@ -54,6 +60,7 @@ impl<'a, S: Clock + Eprint> Searches<'a, S> {
             ticker: Ticker::on(screen, lines),
             searches: AtomicU64::new(0),
             worked: AtomicU64::new(0),
+            subtrees: Subtrees::begin(),
             told_worked: AtomicU64::new(0),
         }
     }
@@ -67,6 +74,7 @@ impl<'a, S: Clock + Eprint> Searches<'a, S> {
             searches: self.searches.load(Ordering::SeqCst),
             worked,
             rate: newly.checked_div(passed).unwrap_or(0),
+            open: self.subtrees.open(),
         });
     }
 }
@@ -80,9 +88,16 @@ impl<'a, S: Clock + Eprint> Gate for Searches<'a, S> {
         }
     }
 
-    fn enter(&self, _worker: usize, _name: &Name) {}
+    fn enter(&self, _worker: usize, name: &Name) {
+        if name.is_root() {
+            self.subtrees.begin_again();
+        }
+    }
 
-    fn leave(&self, _worker: usize, _name: &Name) {
+    fn leave(&self, _worker: usize, _name: &Name) {}
+
+    fn worked(&self, _worker: usize, children: u32) {
+        self.subtrees.work(children);
         self.worked.fetch_add(1, Ordering::SeqCst);
         if let Some((seconds, passed)) = self.ticker.due(self.ticker.millis()) {
             self.tell(seconds, passed);

@@ -23,8 +23,12 @@ pub trait Gate {
     /// A worker begins to work the task of this name.
     fn enter(&self, worker: usize, name: &Name);
 
-    /// A worker is done with the task of this name, of which it was told before: it is worked and its children are pushed, or memory was refused.
+    /// A worker is done with the task of this name, of which it was told before: it is worked, or memory was refused.
     fn leave(&self, worker: usize, name: &Name);
+
+    /// A task is worked, by this worker or, as the first of them, by the caller's thread: it has so many children, which are known from now on,
+    /// and none where a leaf closes it. A worker has pushed them, and then says that it is done.
+    fn worked(&self, _worker: usize, _children: u32) {}
 
     /// Whether a worker goes on. It is asked before each task that it may take, and ends where it doesn't. The caller's thread asks as the first of
     /// them: before a plan is looked for, before it works what workers left, and before each task that is tried so that the bound rises.
@@ -38,6 +42,12 @@ pub trait Gate {
     /// works from then on so that the bound rises.
     fn is_late(&self) -> bool {
         false
+    }
+
+    /// A delay in ticks that is short enough for a plan to begin with: once one takes no more, none is looked for that is shorter. It is asked once,
+    /// before a plan is looked for.
+    fn enough(&self) -> u64 {
+        0
     }
 
     /// A settled plan was found: a shorter one than all that who found it knew of. The plan that is answered is told again before the search ends.

@@ -291,6 +291,7 @@ impl<J: Searched> Run<J> {
         site.gate.enter(worker, task.name());
         match self.make(site, word, bench, needs, course.aims, task) {
             Ok((piece, left)) => {
+                site.gate.worked(worker, piece.node.children());
                 site.gate.leave(worker, &piece.name);
                 self.pieces.push_reserved(piece);
                 if left.is_empty() {

@@ -105,7 +105,7 @@ impl Search {
     }
 
     /// Works the newest task, where there is one, on from the last one: whether it was worked. Where memory is refused, it is
-    /// left. A gate is told of the plan that was found.
+    /// left. A gate is told of that, and of the plan that was found.
     fn turn<'a, G: Gate>(
         &mut self,
         site: &Site<'a, G>,
@@ -128,6 +128,7 @@ impl Search {
         let goal = aim(site.instance, aims, &self.best);
         match work_task(site.alloc, site.instance, bench, task, goal) {
             Ok((piece, gain)) => {
+                site.gate.worked(0, piece.node.children());
                 self.add(site.instance, piece, gain, site.gate);
                 true
             }
